@@ -1,0 +1,6 @@
+# make check: everything is proved from nothing, and each test is run.
+check:
+	rt ci
+	tools/refused.sh
+
+.PHONY: check

@@ -1,0 +1,12 @@
+use Rattle.hdr_base.specs.Classes.{grain_of}
+use Rattle.hdr_base.proofs.Digits.{digits-pos-of}
+use Rattle.hdr_base.proofs.Finer.{finer-bin}
+use Rattle.hdr_base.proofs.Intervals.{equivalent-bin, bin-equivalent}
+use Rattle.hdr_base.proofs.laws.finer_classes.Goals as goal
+
+pub returns : goal.returns
+returns c = λ low sigfig scale base kept other fine a b e.
+    let f = grain_of low sigfig in
+    let g = grain_of base kept in
+    bin-equivalent g a b (digits-pos-of base kept)
+    (finer-bin f g fine (digits-pos-of low sigfig) (digits-pos-of base kept) a b (equivalent-bin f a b (digits-pos-of low sigfig) e))

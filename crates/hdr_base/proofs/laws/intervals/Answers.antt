@@ -1,0 +1,33 @@
+use Rattle.std.proofs.Common.{◌+◌, ◌≤◌, arith}
+use Rattle.hdr_base.specs.Classes.{grain_of, top_of}
+use Rattle.hdr_base.proofs.ClassLaws.{lowest-le, top-of-value, bin-mono, width-pos}
+use Rattle.hdr_base.proofs.ScaleLaws.{class-end}
+use Rattle.hdr_base.proofs.Digits.{digits-pos-of}
+use Rattle.hdr_base.proofs.Finer.{bin-value_of, lowest-value_of}
+use Rattle.hdr_base.proofs.Intervals.{lowest-first, bin-first, inside-class, next-class}
+use Rattle.hdr_base.proofs.laws.intervals.Goals as goal
+
+pub returns-clause-first : goal.returns-clause-first
+returns-clause-first c = λ g. (lowest-first g, bin-first g)
+
+pub returns-clause-member : goal.returns-clause-member
+returns-clause-member c = λ g v. (lowest-le g v, top-of-value g v)
+
+pub returns-clause-whole : goal.returns-clause-whole
+returns-clause-whole c = λ low sigfig scale v x. inside-class (grain_of low sigfig) v x (digits-pos-of low sigfig)
+
+pub returns-clause-next : goal.returns-clause-next
+returns-clause-next c = λ low sigfig scale v. next-class (grain_of low sigfig) v (digits-pos-of low sigfig)
+
+pub returns-clause-ends : goal.returns-clause-ends
+unfolding top_of grain_of
+returns-clause-ends c = λ low sigfig scale v small.
+    let fits : (grain_of low sigfig).unit + (grain_of low sigfig).digits ≤ 63 = scale.fits in
+    omega (arith, class-end (grain_of low sigfig) v small fits, width-pos (grain_of low sigfig) v)
+
+pub returns-clause-order : goal.returns-clause-order
+returns-clause-order c = λ low sigfig scale a b. bin-mono (grain_of low sigfig) a b (digits-pos-of low sigfig)
+
+pub returns-clause-numbers : goal.returns-clause-numbers
+returns-clause-numbers c = λ low sigfig scale i.
+    (bin-value_of (grain_of low sigfig) i (digits-pos-of low sigfig), lowest-value_of (grain_of low sigfig) i (digits-pos-of low sigfig))

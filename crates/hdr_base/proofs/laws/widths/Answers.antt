@@ -1,0 +1,13 @@
+use Rattle.std.proofs.Common.{◌^◌}
+use Rattle.hdr_base.specs.Classes.{grain_of}
+use Rattle.hdr_base.proofs.ClassLaws.{width-of-units, width-bound}
+use Rattle.hdr_base.proofs.Digits.{digits-pos-of, digits-enough}
+use Rattle.hdr_base.proofs.laws.widths.Goals as goal
+
+pub returns-clause-unit : goal.returns-clause-unit
+returns-clause-unit c = width-of-units
+
+pub returns-clause-digits : goal.returns-clause-digits
+unfolding grain_of
+returns-clause-digits c = λ low sigfig scale v from.
+    width-bound (grain_of low sigfig) v (10 ^ sigfig) (digits-pos-of low sigfig) (digits-enough sigfig) from

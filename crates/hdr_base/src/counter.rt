@@ -1,0 +1,251 @@
+//! The types that a histogram may count in.
+
+ghost use Rattle.std.specs.Prelude.{◌≡◌, ℕ, ◌+◌, ◌-◌, ◌^◌, ◌<◌, ◌≤◌, min, MatchOption, nat_eq, refl};
+ghost use Rattle.std.specs.Ordering.{nat_cmp};
+
+/// A counter of samples, spoken of by the number that it stands for. Own types may implement it: all that a histogram
+/// uses of a counter is said here.
+pub trait Counter: Copy + Ord {
+    /// The number that a counter stands for.
+    ghost number: { Self → ℕ };
+
+    /// The greatest number that a counter of this type can stand for.
+    ghost greatest: { ℕ };
+
+    /// The counter of 0.
+    fn zero() -> Self
+        ensures { number result ≡ 0 };
+
+    /// The counter of 1.
+    fn one() -> Self
+        ensures { number result ≡ 1 };
+
+    /// The counter of the greatest number.
+    fn max_value() -> Self
+        ensures { number result ≡ greatest };
+
+    /// The number of a counter.
+    fn as_u64(self) -> u64
+        ensures value { result ≡ number self }
+        ensures bound { number self ≤ greatest };
+
+    /// The counter of a number; `None` exactly where the number is above the greatest.
+    fn from_u64(n: u64) -> Option<Self>
+        ensures { MatchOption result (greatest < n) (λ c. (n ≤ greatest) × (number c ≡ n)) };
+
+    /// The counter of the sum, or the greatest where the sum is above it.
+    fn saturating_add(self, other: Self) -> Self
+        ensures { number result ≡ min (number self + number other) greatest };
+
+    /// The counter of the sum; `None` exactly where the sum is above the greatest.
+    fn checked_add(self, other: Self) -> Option<Self>
+        ensures { MatchOption result (greatest < number self + number other) (λ c. number c ≡ number self + number other) };
+
+    /// The counter of the difference; `None` exactly where `other` is the greater.
+    fn checked_sub(self, other: Self) -> Option<Self>
+        ensures { MatchOption result (number self < number other) (λ c. number c + number other ≡ number self) };
+
+    /// Every number fits in 64 bits.
+    ghost fits: { greatest < 2 ^ 64 };
+
+    /// One is a counter.
+    ghost one_fits: { 1 ≤ greatest };
+
+    /// Counters are ordered as their numbers are.
+    ghost ordered: { (a b : Self) → Self.cmp a b ≡ nat_cmp (number a) (number b) };
+
+    /// Counters are equal where their numbers are.
+    ghost compared: { (a b : Self) → Self.eq a b ≡ nat_eq (number a) (number b) };
+}
+
+impl Counter for u8 {
+    ghost use Rattle.std.proofs.Common.{lit≤, lit<};
+
+    ghost number = { λ n. n };
+
+    ghost greatest = { 255 };
+
+    ghost fits = { lit< tt };
+
+    ghost one_fits = { lit≤ tt };
+
+    ghost ordered = { λ a b. refl };
+
+    ghost compared = { λ a b. refl };
+
+    fn zero() -> u8 {
+        0
+    }
+
+    fn one() -> u8 {
+        1
+    }
+
+    fn max_value() -> u8 {
+        u8::MAX
+    }
+
+    fn as_u64(self) -> u64 {
+        u64::from(self)
+    }
+
+    fn from_u64(n: u64) -> Option<u8> {
+        u8::try_from(n).ok()
+    }
+
+    fn saturating_add(self, other: u8) -> u8 {
+        u8::saturating_add(self, other)
+    }
+
+    fn checked_add(self, other: u8) -> Option<u8> {
+        u8::checked_add(self, other)
+    }
+
+    fn checked_sub(self, other: u8) -> Option<u8> {
+        u8::checked_sub(self, other)
+    }
+}
+
+impl Counter for u16 {
+    ghost use Rattle.std.proofs.Common.{lit≤, lit<};
+
+    ghost number = { λ n. n };
+
+    ghost greatest = { 2 ^ 16 - 1 };
+
+    ghost fits = { lit< tt };
+
+    ghost one_fits = { lit≤ tt };
+
+    ghost ordered = { λ a b. refl };
+
+    ghost compared = { λ a b. refl };
+
+    fn zero() -> u16 {
+        0
+    }
+
+    fn one() -> u16 {
+        1
+    }
+
+    fn max_value() -> u16 {
+        u16::MAX
+    }
+
+    fn as_u64(self) -> u64 {
+        u64::from(self)
+    }
+
+    fn from_u64(n: u64) -> Option<u16> {
+        u16::try_from(n).ok()
+    }
+
+    fn saturating_add(self, other: u16) -> u16 {
+        u16::saturating_add(self, other)
+    }
+
+    fn checked_add(self, other: u16) -> Option<u16> {
+        u16::checked_add(self, other)
+    }
+
+    fn checked_sub(self, other: u16) -> Option<u16> {
+        u16::checked_sub(self, other)
+    }
+}
+
+impl Counter for u32 {
+    ghost use Rattle.std.proofs.Common.{lit≤, lit<};
+
+    ghost number = { λ n. n };
+
+    ghost greatest = { 2 ^ 32 - 1 };
+
+    ghost fits = { lit< tt };
+
+    ghost one_fits = { lit≤ tt };
+
+    ghost ordered = { λ a b. refl };
+
+    ghost compared = { λ a b. refl };
+
+    fn zero() -> u32 {
+        0
+    }
+
+    fn one() -> u32 {
+        1
+    }
+
+    fn max_value() -> u32 {
+        u32::MAX
+    }
+
+    fn as_u64(self) -> u64 {
+        u64::from(self)
+    }
+
+    fn from_u64(n: u64) -> Option<u32> {
+        u32::try_from(n).ok()
+    }
+
+    fn saturating_add(self, other: u32) -> u32 {
+        u32::saturating_add(self, other)
+    }
+
+    fn checked_add(self, other: u32) -> Option<u32> {
+        u32::checked_add(self, other)
+    }
+
+    fn checked_sub(self, other: u32) -> Option<u32> {
+        u32::checked_sub(self, other)
+    }
+}
+
+impl Counter for u64 {
+    ghost use Rattle.std.proofs.Common.{lit≤, lit<};
+
+    ghost number = { λ n. n };
+
+    ghost greatest = { 2 ^ 64 - 1 };
+
+    ghost fits = { lit< tt };
+
+    ghost one_fits = { lit≤ tt };
+
+    ghost ordered = { λ a b. refl };
+
+    ghost compared = { λ a b. refl };
+
+    fn zero() -> u64 {
+        0
+    }
+
+    fn one() -> u64 {
+        1
+    }
+
+    fn max_value() -> u64 {
+        u64::MAX
+    }
+
+    fn as_u64(self) -> u64 {
+        self
+    }
+
+    fn from_u64(n: u64) -> Option<u64> {
+        Some(n)
+    }
+
+    fn saturating_add(self, other: u64) -> u64 {
+        u64::saturating_add(self, other)
+    }
+
+    fn checked_add(self, other: u64) -> Option<u64> {
+        u64::checked_add(self, other)
+    }
+
+    fn checked_sub(self, other: u64) -> Option<u64> {
+        u64::checked_sub(self, other)
+    }
+}

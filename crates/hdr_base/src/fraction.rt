@@ -1,0 +1,59 @@
+//! Fractions of whole numbers: exact quantiles, and what is read from a histogram.
+
+ghost use Rattle.std.specs.Prelude.{◌≡◌, ◌<◌, ℕ, SomeIff};
+
+use std::marker::Model;
+
+/// A share of the samples: the fraction `num / den`, with `den` at least 1.
+#[derive(Debug, PartialEq, Clone, Copy)]
+pub struct Quantile {
+    num: u64,
+    den: u64,
+}
+
+impl Model for Quantile {
+    ghost use Rattle.std.specs.Prelude.{◌<◌};
+    ghost use Rattle.hdr_base.specs.Fractions.{Ratio};
+
+    ghost Value = { Ratio };
+
+    ghost view = { λ q. record { num = q.num; den = q.den } };
+
+    ghost invariant = { λ q. 0 < q.den };
+
+    ghost inverse = { λ r. record { num = r.num; den = r.den } };
+}
+
+impl Quantile {
+    /// The quantile `num / den`; `None` where `den` is 0. A quantile above 1 counts as 1 wherever one is asked for.
+    pub fn new(num: u64, den: u64) -> Option<Quantile>
+        ensures { SomeIff result (0 < den) (record { num = num; den = den }) }
+    {
+        if den == 0 {
+            return None;
+        }
+        Some(Quantile { num, den })
+    }
+
+    /// The number above the line.
+    pub fn num(self) -> u64
+        ensures { result ≡ self.num }
+    {
+        self.num
+    }
+
+    /// The number below the line, at least 1.
+    pub fn den(self) -> u64
+        ensures value { result ≡ self.den }
+        ensures not_zero { 0 < self.den }
+    {
+        self.den
+    }
+}
+
+/// The fraction `num / den`, as it was computed: not reduced, and compared as a pair.
+#[derive(Debug, PartialEq, Clone, Copy)]
+pub struct Fraction {
+    pub num: u128,
+    pub den: u128,
+}

@@ -1,0 +1,16 @@
+//! Counters, fractions, steps, and the classes of values that a histogram counts together.
+#![tactic(auto)]
+
+pub mod counter;
+pub mod fraction;
+pub mod laws;
+pub mod scale;
+pub mod ticks;
+
+pub use counter::Counter;
+pub use fraction::{Fraction, Quantile};
+pub use scale::Scale;
+pub use ticks::Ticks;
+
+#[cfg(test)]
+mod tests;

@@ -1,0 +1,170 @@
+//! The classes of values, from a lowest value and a number of significant digits.
+
+ghost use Rattle.std.specs.Prelude.{◌≡◌, ℕ, ◌+◌, ◌-◌, ◌*◌, ◌^◌, ◌<◌, ◌≤◌, MatchOption, SomeIff, IfSome};
+ghost use Rattle.hdr_base.specs.Classes.{IsLeast, grain_of, digits_of, bucket, width_of, lowest_of, top_of, bin_of, value_of, reach_of, HasScale};
+
+use std::marker::Model;
+
+/// The arithmetic of classes: the exponent of the unit, and the exponent of how many classes of one unit there are.
+///
+/// Values lie in buckets, each of which reaches twice as far as the one before, and whose classes are twice as wide.
+/// All of it is whole numbers and shifts, exact for every `u64`.
+#[derive(Clone, Copy)]
+pub struct Scale {
+    unit: u8,
+    digits: u8,
+}
+
+impl Model for Scale {
+    ghost use Rattle.std.specs.Prelude.{◌+◌, ◌≤◌, ◌<◌};
+    ghost use Rattle.hdr_base.specs.Classes.{Grain};
+
+    ghost Value = { Grain };
+
+    ghost view = { λ s. record { unit = s.unit; digits = s.digits } };
+
+    ghost invariant = { λ s. (0 < s.digits) × (s.digits ≤ 18) × (s.unit + s.digits ≤ 63) };
+
+    ghost inverse = { λ g. record { unit = g.unit; digits = g.digits } };
+}
+
+impl Scale {
+    /// The scale whose classes keep `sigfig` digits of values that are at least `low`. `None` where `low` is 0, where
+    /// `sigfig` is above 5, and where unit and digits together would pass 63 bits.
+    pub fn new(low: u64, sigfig: u8) -> Option<Scale>
+        ensures scale { SomeIff result (HasScale low sigfig) (grain_of low sigfig) }
+        ensures unit { IfSome result (λ s. IsLeast (λ u. low < 2 ^ (u + 1)) s.unit) }
+        ensures digits { IfSome result (λ s. IsLeast (λ m. 2 * 10 ^ sigfig ≤ 2 ^ m) s.digits) }
+    {
+        let digits = digits_for(sigfig)?;
+        if low == 0 {
+            return None;
+        }
+        let unit = low.ilog2() as u8;
+        if unit + digits > 63 {
+            return None;
+        }
+        Some(Scale { unit, digits })
+    }
+
+    /// The exponent of the unit.
+    pub fn unit(self) -> u8
+        ensures value { result ≡ self.unit }
+        ensures bound { self.unit + self.digits ≤ 63 }
+    {
+        self.unit
+    }
+
+    /// The exponent of the number of classes in the first bucket.
+    pub fn digits(self) -> u8
+        ensures value { result ≡ self.digits }
+        ensures at_least_one { 0 < self.digits }
+        ensures bound { self.digits ≤ 18 }
+    {
+        self.digits
+    }
+
+    /// The bucket of a value.
+    fn bucket(self, value: u64) -> u8
+        ensures value { result ≡ bucket self value }
+        ensures least { IsLeast (λ k. value < 2 ^ (self.unit + self.digits + k)) result }
+        ensures bound { self.unit + self.digits + result ≤ 64 }
+        ensures digits { (0 < self.digits) × (self.digits ≤ 18) }
+    {
+        let shift = self.unit + self.digits;
+        (64 - (value >> shift).leading_zeros()) as u8
+    }
+
+    /// The number of the class of a value, from 0.
+    pub fn bin(self, value: u64) -> usize
+        ensures value { result ≡ bin_of self value }
+        ensures bound { result < 2 ^ 24 }
+    {
+        let bucket = self.bucket(value);
+        let first = (bucket as usize) << (self.digits - 1);
+        first + (value >> (self.unit + bucket)) as usize
+    }
+
+    /// The width of the class of a value: the least power of two from the unit on that keeps the digits.
+    pub fn width(self, value: u64) -> u64
+        ensures value { result ≡ width_of self value }
+        ensures least { IsLeast (λ w. (k : ℕ) × (w ≡ 2 ^ (self.unit + k)) × (value < 2 ^ (self.unit + self.digits + k))) result }
+        ensures at_least_one { 1 ≤ result }
+    {
+        1 << (self.unit + self.bucket(value))
+    }
+
+    /// The lowest value of the class of a value.
+    pub fn lowest(self, value: u64) -> u64
+        ensures value { result ≡ lowest_of self value }
+        ensures class_fits { lowest_of self value + width_of self value ≤ 2 ^ 64 }
+    {
+        let shift = self.unit + self.bucket(value);
+        value >> shift << shift
+    }
+
+    /// The greatest value of the class of a value.
+    pub fn top(self, value: u64) -> u64
+        ensures { result ≡ top_of self value }
+    {
+        self.lowest(value) + (self.width(value) - 1)
+    }
+
+    /// The greatest value of the bucket of a value: how far bins reach that were made for it.
+    pub fn reach(self, value: u64) -> u64
+        ensures value { result ≡ reach_of self value }
+        ensures least { IsLeast (λ r. (k : ℕ) × (r ≡ 2 ^ (self.unit + self.digits + k) - 1) × (value ≤ r)) result }
+        ensures at_least { value ≤ result }
+    {
+        let exponent = self.unit + self.digits + self.bucket(value);
+        u64::MAX >> (64 - exponent)
+    }
+
+    /// How many buckets there are up to that of a value.
+    pub fn buckets(self, value: u64) -> usize
+        ensures value { result ≡ bucket self value + 1 }
+        ensures bound { result ≤ 64 }
+        ensures few { (result + 1) * 2 ^ (self.digits - 1) ≤ 6291456 }
+    {
+        self.bucket(value) as usize + 1
+    }
+
+    /// The number of classes in a block: half of those in the first bucket, and all that each further bucket adds.
+    pub fn block(self) -> usize
+        ensures value { result ≡ 2 ^ (self.digits - 1) }
+        ensures at_least_one { 1 ≤ result }
+        ensures bound { result ≤ 2 ^ 17 }
+    {
+        1 << (self.digits - 1)
+    }
+
+    /// The lowest value of the class of a number; `None` past the class of the greatest `u64`.
+    pub fn bin_value(self, index: usize) -> Option<u64>
+        ensures value { MatchOption result (bin_of self (2 ^ 64 - 1) < index) (λ v. (bin_of self v ≡ index) × (lowest_of self v ≡ v)) }
+        ensures formula { IfSome result (λ v. v ≡ value_of self index) }
+    {
+        let half = self.digits - 1;
+        let bucket = (index >> half).saturating_sub(1);
+        if bucket > (64 - (self.unit + self.digits)) as usize {
+            return None;
+        }
+        let place = index - (bucket << half);
+        Some((place as u64) << (self.unit + bucket as u8))
+    }
+}
+
+/// The exponent of the least power of two at or above twice that power of ten.
+fn digits_for(sigfig: u8) -> Option<u8>
+    ensures value { SomeIff result (sigfig ≤ 5) (digits_of sigfig) }
+    ensures bounds { IfSome result (λ m. (0 < m) × (m ≤ 18)) }
+{
+    match sigfig {
+        0 => Some(1),
+        1 => Some(5),
+        2 => Some(8),
+        3 => Some(11),
+        4 => Some(15),
+        5 => Some(18),
+        _ => None,
+    }
+}

@@ -1,0 +1,45 @@
+use Rattle.std.proofs.Common.{◌≡◌, ℕ, ◌+◌, ◌-◌, ◌*◌, ◌/◌, ◌<◌, ◌≤◌, List, [], ◌∷◌, ◌++◌, length, get_or, set, take, drop, map, replicate, sum, sym, refl, ap, ◌∙◌, cond, arith, rules, None, Some, true, is_ok, vec_len}
+use Rattle.std.proofs.lemmas.List.Elements.{All-append, All-replicate}
+use Rattle.std.proofs.lemmas.List.{get_or_read, map-set, get_or-map, length-map, map-append, map_more, take_all, length-replicate, length-take, length-drop}
+use Rattle.hdr_counts.specs.Blocks.{sum_below, AreSums}
+use Rattle.hdr_counts.proofs.BlockSums.{sum_below_map_more, sum_below-le, sum_below-le-sum, sum_below_all, sum_below-add, sum-fits, block_of, block_in, ok_only, grown, sums_grown, AreSums-set, AreSums-grow, part_sum, part_whole, blocks_sum_more, number-le-sum_below, rest_of_block}
+use Rattle.hdr_counts.proofs.Counts.grow.Goals as goal
+
+pub invariant_of-self-2 : goal.invariant_of-self-2
+invariant_of-self-2 g c =
+    let n = g.T.Counter.number in
+    let s = c.self.inside in
+    let len : ℕ = c.args.blocks * s.block in
+    let same : length (map n s.counters.items) ≡ length c.args.self.now.numbers = ap (λ v. length v.numbers) c.self.view_is in
+    let block : s.block ≡ c.args.self.now.block = ap (λ v. v.block) c.self.view_is in
+    let blocks : len ≡ c.args.blocks * c.args.self.now.block = ap (λ q. c.args.blocks * q) block in
+    let at : length (map n s.counters.items) ≤ len = omega (arith, same, blocks, c.requires.more) in
+    let at_xs : length s.counters.items ≤ len = rw length-map at at in
+    let ok : is_ok c.resize-2.result ≡ true = c.resize-2.ensures.succeeds (omega (arith, c.in_ok-reserve.ensures.ok, c.reserve.ensures.len, c.len.ensures)) in
+    let room : vec_len c.reserve.new.self ≡ length s.counters.items = omega (arith, c.reserve.ensures.len, s.counters.ok.0) in
+    let items = rw ok at c.resize-2.ensures.items in
+    let map_is : map n c.resize-2.new.self.items ≡ map n s.counters.items ++ replicate (len - length (map n s.counters.items)) 0 = grown n s.counters.items c.resize-2.new.self.items c.reserve.new.self.items c.zero.result len (vec_len c.reserve.new.self) c.reserve.ensures.items room at_xs c.zero.ensures items in
+    let sums_room : vec_len s.sums ≡ length s.sums.items = omega (arith, s.sums.ok.0) in
+    let sums_is : c.resize.new.self.items ≡ s.sums.items ++ replicate (c.args.blocks - length s.sums.items) 0 = sums_grown s.block (map n s.counters.items) s.sums.items c.resize.new.self.items c.args.blocks (vec_len s.sums) c.self.invariant.sums_are at sums_room c.in_ok-resize.ensures.items in
+    let few : c.args.blocks * s.block ≤ 6291456 = omega (arith, blocks, c.requires.few) in
+    record {
+        sums_are = rw (map_is, sums_is) (AreSums-grow s.block (map n s.counters.items) s.sums.items c.args.blocks c.self.invariant.sums_are at few);
+        shift_is = c.self.invariant.shift_is;
+        fit = rw map_is (All-append (λ n. n ≤ g.T.Counter.greatest) (map n s.counters.items) _ c.self.invariant.fit (All-replicate (λ n. n ≤ g.T.Counter.greatest) _ 0 (omega arith)))
+    }
+
+pub returns : goal.returns
+returns g c =
+    let n = g.T.Counter.number in
+    let s = c.self.inside in
+    let len : ℕ = c.args.blocks * s.block in
+    let same : length (map n s.counters.items) ≡ length c.args.self.now.numbers = ap (λ v. length v.numbers) c.self.view_is in
+    let block : s.block ≡ c.args.self.now.block = ap (λ v. v.block) c.self.view_is in
+    let blocks : len ≡ c.args.blocks * c.args.self.now.block = ap (λ q. c.args.blocks * q) block in
+    let at : length (map n s.counters.items) ≤ len = omega (arith, same, blocks, c.requires.more) in
+    let at_xs : length s.counters.items ≤ len = rw length-map at at in
+    let ok : is_ok c.resize-2.result ≡ true = c.resize-2.ensures.succeeds (omega (arith, c.in_ok-reserve.ensures.ok, c.reserve.ensures.len, c.len.ensures)) in
+    let room : vec_len c.reserve.new.self ≡ length s.counters.items = omega (arith, c.reserve.ensures.len, s.counters.ok.0) in
+    let items = rw ok at c.resize-2.ensures.items in
+    let map_is : map n c.resize-2.new.self.items ≡ map n s.counters.items ++ replicate (len - length (map n s.counters.items)) 0 = grown n s.counters.items c.resize-2.new.self.items c.reserve.new.self.items c.zero.result len (vec_len c.reserve.new.self) c.reserve.ensures.items room at_xs c.zero.ensures items in
+    ok_only c.resize-2.result _ _ ok (λ _. rw (← c.self.view_is) (ap (λ l. record { block = s.block; numbers = l }) map_is))

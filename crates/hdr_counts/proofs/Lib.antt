@@ -1,0 +1,3 @@
+pub mod BlockSums
+pub mod Places
+pub mod CappedSums

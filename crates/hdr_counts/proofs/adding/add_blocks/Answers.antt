@@ -1,0 +1,86 @@
+use Rattle.std.proofs.Common.{◌≡◌, ◌∙◌, ◌+◌, ◌-◌, ◌*◌, ◌^◌, ◌<◌, ◌≤◌, ◌++◌, ℕ, List, length, get_or, set, take, drop, map, sum, ap, sym, subst, arith}
+use Rattle.std.specs.List.{All}
+use Rattle.std.proofs.lemmas.List.{length-map, length-set, length-take, length-drop, drop-drop, take_all}
+use Rattle.std.proofs.lemmas.List.Elements.{All-take, All-drop}
+use Rattle.hdr_counts.specs.Blocks.{sum_below, capped_sums, AreSums}
+use Rattle.hdr_counts.proofs.BlockSums.{block-sum, block_past, blocks_more, sum_below-le-sum, sum-fits, AreSums-written}
+use Rattle.hdr_counts.proofs.CappedSums.{capped-length, capped-fit, capped-fit-under, capped-step, map-part, map-middle}
+use Rattle.hdr_counts.proofs.adding.add_blocks.Goals as goal
+
+pub add_block-requires-clause-sum : goal.add_block-requires-clause-sum
+add_block-requires-clause-sum g c =
+    let n = g.T.Counter.number in
+    let a = c.loop-k.k * c.args.block in
+    let wide : c.args.block ≡ a + c.args.block - a = omega arith in
+    block-sum n c.loop-k.counters c.args.block c.loop-k.k c.loop-k.sums c.loop-k.invariant.sums (omega arith) ∙ ap (λ w. sum (map n (take w (drop a c.loop-k.counters)))) wide
+
+pub add_block-requires-clause-more : goal.add_block-requires-clause-more
+add_block-requires-clause-more g c =
+    let n = g.F.Counter.number in
+    let a = c.loop-k.k * c.args.block in
+    let wide : c.args.block ≡ a + c.args.block - a = omega arith in
+    let blocks = blocks_more c.args.block (length c.args.sums.now) (length c.args.more.now) c.requires.more.some (omega (arith, c.requires.sums.whole, c.requires.more.whole, c.requires.len, length-map c.args.counters.now g.T.Counter.number, length-map c.args.source.now n)) in
+    block-sum n c.args.source.now c.args.block c.loop-k.k c.args.more.now c.requires.more (omega (arith, blocks)) ∙ ap (λ w. sum (map n (take w (drop a c.args.source.now)))) wide
+
+pub add_block-requires-clause-fits : goal.add_block-requires-clause-fits
+add_block-requires-clause-fits g c =
+    let k = c.loop-k.k in
+    let had = c.loop-k.invariant.sums in
+    let more = c.requires.more in
+    let blocks = blocks_more c.args.block (length c.args.sums.now) (length c.args.more.now) c.requires.more.some (omega (arith, c.requires.sums.whole, c.requires.more.whole, c.requires.len, length-map c.args.counters.now g.T.Counter.number, length-map c.args.source.now g.F.Counter.number)) in
+    omega (arith, had.each k (omega arith), sum_below-le-sum (map g.T.Counter.number c.loop-k.counters) ((k + 1) * c.args.block), sum-fits (map g.T.Counter.number c.loop-k.counters) had.few had.fits,
+        more.each k (omega (arith, blocks)), sum_below-le-sum (map g.F.Counter.number c.args.source.now) ((k + 1) * c.args.block), sum-fits (map g.F.Counter.number c.args.source.now) more.few more.fits)
+
+pub add_block-requires-clause-fit : goal.add_block-requires-clause-fit
+add_block-requires-clause-fit g c =
+    let n = g.T.Counter.number in
+    let P = λ (m : ℕ). m ≤ g.T.Counter.greatest in
+    let a = c.loop-k.k * c.args.block in
+    let w = a + c.args.block - a in
+    let all : All P (map n c.loop-k.counters) = subst (λ l. All P l) (sym c.loop-k.invariant.numbers) (capped-fit g.T.Counter.greatest (map n c.args.counters.now) (take a (map g.F.Counter.number c.args.source.now)) c.requires.fit) in
+    subst (λ l. All P l) (sym (map-middle n c.loop-k.counters a w)) (All-take P w (drop a (map n c.loop-k.counters)) (All-drop P a (map n c.loop-k.counters) all))
+
+pub loop-k-preserved : goal.loop-k-preserved
+loop-k-preserved g c =
+    let n = g.T.Counter.number in
+    let greatest = g.T.Counter.greatest in
+    let xs = c.loop-k.counters in
+    let new = c.add_block.new.counters in
+    let ms = map n c.args.counters.now in
+    let b = c.args.block in
+    let k = c.loop-k.k in
+    let a = k * b in
+    let w = a + b - a in
+    let wide : w ≡ b = omega arith in
+    let len_m = length-map c.args.counters.now n in
+    let len_x = length-map xs n in
+    let k_in : k < length c.loop-k.sums = omega arith in
+    let past = block_past b k (length c.loop-k.sums) k_in in
+    let room : a + b ≤ length xs = omega (arith, past, c.loop-k.invariant.sums.whole, len_x) in
+    let fit : (m : ℕ) → m ≤ greatest → m ≤ 18446744073709551615 = λ m le. omega (arith, g.met.T.Counter.fits) in
+    let part_len : length (map n new) ≡ b =
+        (let e = ap length c.add_block.ensures.numbers ∙ capped-length greatest (map n (take w (drop a xs))) (map g.F.Counter.number (take w (drop a c.args.source.now))) in
+        omega (arith, e, length-map (take w (drop a xs)) n, length-take w (drop a xs), length-drop a xs)) in
+    let U = λ (m : ℕ). m ≤ 18446744073709551615 in
+    let part_fit : All U (map n new) =
+        subst (λ l. All U l) (sym c.add_block.ensures.numbers)
+            (capped-fit-under greatest 18446744073709551615 (map n (take w (drop a xs))) (map g.F.Counter.number (take w (drop a c.args.source.now))) (omega (arith, g.met.T.Counter.fits))
+                (subst (λ l. All U l) (sym (map-middle n xs a w)) (All-take U w (drop a (map n xs)) (All-drop U a (map n xs) c.loop-k.invariant.sums.fits)))) in
+    let put : map n (take a xs ++ (new ++ drop w (drop a xs))) ≡ take a (map n xs) ++ (map n new ++ drop (a + b) (map n xs)) =
+        ap (λ l. map n (take a xs ++ (new ++ l))) (drop-drop w a xs) ∙ map-part n xs new a (a + w) ∙ ap (λ v. take a (map n xs) ++ (map n new ++ drop (a + v) (map n xs))) wide in
+    record {
+        numbers = capped-step n g.F.Counter.number xs new c.args.source.now greatest a w b ((k + 1) * b) ms wide (omega arith) (omega (arith, room, len_m)) (omega (arith, len_m, c.requires.len)) c.loop-k.invariant.numbers c.add_block.ensures.numbers;
+        sums = subst (λ l. AreSums b l (set c.loop-k.sums k c.add_block.result)) (sym put) (AreSums-written b k (map n xs) (map n new) c.loop-k.sums c.add_block.result c.loop-k.invariant.sums k_in part_len c.add_block.ensures.sum part_fit);
+        same = length-set c.loop-k.sums k c.add_block.result ∙ c.loop-k.invariant.same
+    }
+
+pub returns-clause-numbers : goal.returns-clause-numbers
+returns-clause-numbers g c =
+    let ns = map g.F.Counter.number c.args.source.now in
+    let end : length ns ≤ c.loop-k.k * c.args.block = omega (arith, c.requires.sums.whole, length-map c.args.source.now g.F.Counter.number, length-map c.args.counters.now g.T.Counter.number, c.requires.len, ap (λ n. n * c.args.block) (let e : c.loop-k.k ≡ length c.args.sums.now = omega arith in e)) in
+    c.loop-k.invariant.numbers ∙ ap (λ l. capped_sums g.T.Counter.greatest (map g.T.Counter.number c.args.counters.now) l) (take_all (c.loop-k.k * c.args.block) ns end)
+
+pub returns-clause-fit : goal.returns-clause-fit
+returns-clause-fit g c =
+    let P = λ (m : ℕ). m ≤ g.T.Counter.greatest in
+    subst (λ l. All P l) (sym c.loop-k.invariant.numbers) (capped-fit g.T.Counter.greatest (map g.T.Counter.number c.args.counters.now) (take (c.loop-k.k * c.args.block) (map g.F.Counter.number c.args.source.now)) c.requires.fit)

@@ -1,0 +1,47 @@
+-- A list of numbers in blocks of one length: its sums, the first place where they reach a rank, and the capped sums of
+-- two lists. (No item of the Rust crate: it keeps its counters in one vector and adds them up wherever a sum is asked for.)
+use Rattle.std.specs.Prelude.{◌≡◌, ℕ, ◌+◌, ◌*◌, ◌/◌, ◌%◌, ◌^◌, ◌<◌, ◌≤◌, min, List, ◌∷◌, length, take, sum, slice_index, All, Option, Some, None, IfSome}
+
+-- how long a block is, and the numbers of all blocks in order
+pub record Blocks : Type 0 where
+  pub block : ℕ
+  pub numbers : List ℕ
+
+-- the sum of the numbers before place i
+abbrev pub sum_below : List ℕ → ℕ → ℕ
+sum_below numbers i = sum (take i numbers)
+
+-- i is the first place where the sum up to and with it reaches the rank
+abbrev pub IsFirstToReach : List ℕ → ℕ → ℕ → Type 0
+IsFirstToReach numbers rank i =
+    (i < length numbers) × (sum_below numbers i < rank) × (rank ≤ sum_below numbers (i + 1))
+
+-- how many sums and numbers are looked at to find a place: the sum of each block up to and with the place's, and each
+-- number of that block up to and with the place; the sum of each block where there is no place
+abbrev pub looks : ℕ → ℕ → Option ℕ → ℕ
+looks block places None = places / block
+looks block places (Some i) = i / block + 1 + (i % block + 1)
+
+-- two lists added place by place, each sum at most the greatest; numbers behind the end of the second count as 0
+abbrev pub capped_sums : ℕ → List ℕ → List ℕ → List ℕ
+capped_sums greatest (m ∷ ms) (n ∷ ns) = min (m + n) greatest ∷ capped_sums greatest ms ns
+capped_sums greatest ms ns = ms
+
+-- the sums are those of the numbers' blocks: each one is what its block adds to the sum before it
+pub record AreSums (block : ℕ) (numbers sums : List ℕ) : Type 0 where
+  pub some : 1 ≤ block
+  pub few : length numbers ≤ 6291456
+  pub whole : length numbers ≡ length sums * block
+  pub each : (k : ℕ) → k < length sums → sum_below numbers (k * block) + slice_index sums k ≡ sum_below numbers ((k + 1) * block)
+  pub fits : All (λ n. n ≤ 18446744073709551615) numbers
+
+-- the exponent of a block that is a power of two, where it is kept
+abbrev pub IsShift : ℕ → Option ℕ → Type 0
+IsShift block shift = IfSome shift (λ s. (s < 64) × (block ≡ 2 ^ s))
+
+-- what is true of counters in blocks: their sums are those of the blocks, the exponent is the block's, and no number is
+-- above the greatest counter
+pub record AreHeld (greatest block : ℕ) (numbers sums : List ℕ) (shift : Option ℕ) : Type 0 where
+  pub sums_are : AreSums block numbers sums
+  pub shift_is : IsShift block shift
+  pub fit : All (λ n. n ≤ greatest) numbers

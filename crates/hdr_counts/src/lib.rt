@@ -1,0 +1,207 @@
+//! A list of counters in blocks of one length, with the exact sum of each block beside it.
+#![tactic(auto)]
+
+mod adding;
+mod search;
+
+ghost use Rattle.std.specs.Prelude.{◌≡◌, ℕ, ◌+◌, ◌-◌, ◌*◌, ◌/◌, ◌%◌, ◌^◌, ◌<◌, ◌≤◌, length, take, map, sum, replicate, slice_index, slice_set, MatchOption, MatchResult, IfOk, IfSome, [], ◌++◌, All};
+ghost use Rattle.hdr_counts.specs.Blocks.{Blocks, sum_below, IsFirstToReach, looks, capped_sums, IsShift};
+
+use adding::{add_blocks, sum_of};
+use hdr_base::{Counter, Ticks};
+use search::{first_reaching, first_reaching_looked, look};
+use std::alloc::{AllocError, Global};
+use std::marker::Model;
+
+/// Counters in blocks of one length, seen as that length and the list of their numbers.
+///
+/// It takes the room of its counters, and 16 bytes a block for the sums. At most 6,291,456 counters are held, as many
+/// as the largest histogram has bins.
+#[derive(Drop)]
+pub struct Counts<T: Counter> {
+    counters: Vec<T>,
+    sums: Vec<u128>,
+    block: usize,
+    shift: Option<u32>,
+}
+
+impl<T: Counter> Model for Counts<T> {
+    ghost use Rattle.std.specs.Prelude.{map};
+    ghost use Rattle.hdr_counts.specs.Blocks.{Blocks, AreHeld};
+
+    ghost Value = { Blocks };
+
+    ghost view = { λ c. record { block = c.block; numbers = map T.number c.counters.items } };
+
+    ghost invariant = { λ c. AreHeld T.greatest c.block (map T.number c.counters.items) c.sums.items c.shift };
+}
+
+impl<T: Counter> Counts<T> {
+    /// Counters of 0, `blocks` times `block` of them. Refused for want of memory alone.
+    pub fn new(alloc: Global, blocks: usize, block: usize) -> Result<Counts<T>, AllocError>
+        requires some { 1 ≤ block }
+        requires few { blocks * block ≤ 6291456 }
+        ensures { IfOk result (λ c. c ≡ record { block = block; numbers = replicate (blocks * block) 0 }) }
+    {
+        let mut counts = Counts {
+            counters: Vec::new(alloc),
+            sums: Vec::new(alloc),
+            block,
+            shift: exponent(block),
+        };
+        counts.grow(blocks)?;
+        Ok(counts)
+    }
+
+    /// As many blocks as `blocks`, the new ones all zero. Refused for want of memory alone, and then unchanged.
+    pub fn grow(&mut self, blocks: usize) -> Result<(), AllocError>
+        requires more { length self.old.numbers ≤ blocks * self.old.block }
+        requires few { blocks * self.old.block ≤ 6291456 }
+        ensures { MatchResult result (λ _. self.new ≡ record { block = self.old.block; numbers = self.old.numbers ++ replicate (blocks * self.old.block - length self.old.numbers) 0 }) (λ _. self.new ≡ self.old) }
+    {
+        let len = blocks * self.block;
+        self.counters.reserve(len - self.counters.len())?;
+        self.sums.resize(blocks, 0)?;
+        self.counters.resize(len, T::zero())
+    }
+
+    /// How many counters there are.
+    pub fn len(&self) -> usize
+        ensures value { result ≡ length self.now.numbers }
+        ensures few { length self.now.numbers ≤ 6291456 }
+        ensures fit { All (λ n. n ≤ T.greatest) self.now.numbers }
+    {
+        self.counters.len()
+    }
+
+    /// The counter at place `i`.
+    pub fn get(&self, i: usize) -> T
+        requires { i < length self.now.numbers }
+        ensures { T.number result ≡ slice_index self.now.numbers i }
+    {
+        self.counters[i]
+    }
+
+    /// Puts `value` at place `i`.
+    pub fn set(&mut self, i: usize, value: T)
+        requires { i < length self.old.numbers }
+        ensures { self.new ≡ record { block = self.old.block; numbers = slice_set self.old.numbers i (T.number value) } }
+    {
+        let k = quotient(i, self.block, self.shift);
+        let old = u128::from(self.counters[i].as_u64());
+        let new = u128::from(value.as_u64());
+        self.sums[k] = self.sums[k] - old + new;
+        self.counters[i] = value;
+    }
+
+    /// Makes each counter 0.
+    pub fn clear(&mut self)
+        ensures { self.new ≡ record { block = self.old.block; numbers = replicate (length self.old.numbers) 0 } }
+    {
+        for counter in self.counters.iter_mut() {
+            *counter = T::zero();
+        }
+        self.sums.fill(0);
+    }
+
+    /// The exact sum of the counters up to and with place `i`, by the sums of the blocks before its own.
+    pub fn sum_to(&self, i: usize) -> u128
+        requires { i < length self.now.numbers }
+        ensures { result ≡ sum_below self.now.numbers (i + 1) }
+    {
+        let k = quotient(i, self.block, self.shift);
+        let mut total: u128 = 0;
+        for sum in &self.sums[..k] {
+            total += *sum;
+        }
+        total + sum_of(&self.counters[k * self.block..=i])
+    }
+
+    /// The first place where the sum up to and with it reaches `rank`, with a tick for each look at a block's sum or at
+    /// a counter: at the sums up to and with that of the place's block, and then at that block's counters up to and
+    /// with the place. Where no place reaches the rank, each block's sum was looked at.
+    pub fn find(&self, rank: u64, ticks: &mut Ticks) -> Option<usize>
+        requires some { 1 ≤ rank }
+        requires room { ticks.old ≤ 2 ^ 63 }
+        ensures place { MatchOption result (sum self.now.numbers < rank) (IsFirstToReach self.now.numbers rank) }
+        ensures ticks { ticks.new ≡ ticks.old + looks self.now.block (length self.now.numbers) result }
+    {
+        let mut rest = rank;
+        for (k, sum) in self.sums.iter().enumerate() {
+            let sum = look(*sum, ticks);
+            if sum >= u128::from(rest) {
+                let from = k * self.block;
+                let place = first_reaching_looked(&self.counters[from..from + self.block], rest, ticks)?;
+                return Some(from + place);
+            }
+            rest -= sum as u64;
+        }
+        None
+    }
+
+    /// The first place where the sum up to and with it reaches `rank`: the answer of `find`, without counting looks.
+    pub fn first_reaching(&self, rank: u64) -> Option<usize>
+        requires { 1 ≤ rank }
+        ensures { MatchOption result (sum self.now.numbers < rank) (IsFirstToReach self.now.numbers rank) }
+    {
+        let mut rest = rank;
+        for (k, sum) in self.sums.iter().enumerate() {
+            if *sum >= u128::from(rest) {
+                let from = k * self.block;
+                let place = first_reaching(&self.counters[from..from + self.block], rest, *sum)?;
+                return Some(from + place);
+            }
+            rest -= *sum as u64;
+        }
+        None
+    }
+
+    /// The last place of a counter above 0.
+    pub fn last_nonzero(&self) -> Option<usize>
+        ensures within { IfSome result (λ m. m < 6291456) }
+        ensures place { MatchOption result ((i : ℕ) → slice_index self.now.numbers i ≡ 0) (λ m. (0 < slice_index self.now.numbers m) × ((i : ℕ) → m < i → slice_index self.now.numbers i ≡ 0)) }
+    {
+        let len = self.counters.len();
+        for passed in 0..len {
+            let i = len - 1 - passed;
+            if self.counters[i].as_u64() > 0 {
+                return Some(i);
+            }
+        }
+        None
+    }
+
+    /// Adds the counters of a list of the same shape place by place, each sum up to the greatest counter. A block that
+    /// adds nothing is passed over.
+    pub fn add_capped<F: Counter>(&mut self, source: &Counts<F>)
+        requires block { self.old.block ≡ source.now.block }
+        requires len { length self.old.numbers ≡ length source.now.numbers }
+        ensures { self.new ≡ record { block = self.old.block; numbers = capped_sums T.greatest self.old.numbers source.now.numbers } }
+    {
+        add_blocks(&mut self.counters, &mut self.sums, &source.counters, &source.sums, self.block);
+    }
+}
+
+/// The exponent of a power of two, `None` for other numbers.
+fn exponent(n: usize) -> Option<u32>
+    requires { 1 ≤ n }
+    ensures { IsShift n result }
+{
+    let exponent = n.ilog2();
+    if 1usize << exponent == n { Some(exponent) } else { None }
+}
+
+/// The quotient of a place and a block, by a shift where the block is a power of two.
+fn quotient(place: usize, block: usize, shift: Option<u32>) -> usize
+    requires some { 1 ≤ block }
+    requires shift { IsShift block shift }
+    ensures { result ≡ place / block }
+{
+    match shift {
+        Some(shift) => place >> shift,
+        None => place / block,
+    }
+}
+
+#[cfg(test)]
+mod tests;

@@ -1,0 +1,98 @@
+//! The first place of a block where its counters reach a rank.
+
+ghost use Rattle.std.specs.Prelude.{◌≡◌, ℕ, ◌+◌, ◌-◌, ◌*◌, ◌^◌, ◌<◌, ◌≤◌, length, take, drop, map, sum, MatchOption};
+ghost use Rattle.hdr_counts.specs.Blocks.{sum_below, IsFirstToReach};
+
+use hdr_base::{Counter, Ticks};
+
+/// How many counters are added up at once.
+const FEW: usize = 16;
+
+/// Looks at a sum or at a counter's number: the one step that is counted.
+pub(crate) fn look(number: u128, ticks: &mut Ticks) -> u128
+    requires { ticks.old < 2 ^ 64 - 1 }
+    ensures value { result ≡ number }
+    ensures tick { ticks.new ≡ ticks.old + 1 }
+{
+    ticks.tick();
+    number
+}
+
+/// The first place where the sum up to and with it reaches `rest`, with a look at each counter on the way.
+pub(crate) fn first_reaching_looked<T: Counter>(counters: &[T], mut rest: u64, ticks: &mut Ticks) -> Option<usize>
+    requires some { 1 ≤ rest }
+    requires room { ticks.old + length counters.now < 2 ^ 64 }
+    ensures place { MatchOption result (sum (map T.number counters.now) < rest) (IsFirstToReach (map T.number counters.now) rest) }
+    ensures ticks { MatchOption result (ticks.new ≡ ticks.old + length counters.now) (λ i. ticks.new ≡ ticks.old + i + 1) }
+{
+    for (i, counter) in counters.iter().enumerate() {
+        let number = look(u128::from(counter.as_u64()), ticks) as u64;
+        if number >= rest {
+            return Some(i);
+        }
+        rest -= number;
+    }
+    None
+}
+
+/// The first place where the sum up to and with it reaches `rest`; `whole` is the sum of all. Where that fits a `u64`,
+/// a few counters are added up at once.
+pub(crate) fn first_reaching<T: Counter>(counters: &[T], rest: u64, whole: u128) -> Option<usize>
+    requires some { 1 ≤ rest }
+    requires few { length counters.now ≤ 6291456 }
+    requires whole { whole ≡ sum (map T.number counters.now) }
+    ensures { MatchOption result (sum (map T.number counters.now) < rest) (IsFirstToReach (map T.number counters.now) rest) }
+{
+    if whole <= u128::from(u64::MAX) {
+        by_few(counters, rest)
+    } else {
+        one_by_one(counters, rest)
+    }
+}
+
+fn by_few<T: Counter>(counters: &[T], mut rest: u64) -> Option<usize>
+    requires some { 1 ≤ rest }
+    requires few { length counters.now ≤ 6291456 }
+    requires fits { sum (map T.number counters.now) < 2 ^ 64 }
+    ensures { MatchOption result (sum (map T.number counters.now) < rest) (IsFirstToReach (map T.number counters.now) rest) }
+{
+    let mut from = 0usize;
+    while from < counters.len() {
+        let to = counters.len().min(from + FEW);
+        let few = &counters[from..to];
+        let sum = short_sum(few);
+        if sum >= rest {
+            let place = one_by_one(few, rest)?;
+            return Some(from + place);
+        }
+        rest -= sum;
+        from = to;
+    }
+    None
+}
+
+fn one_by_one<T: Counter>(counters: &[T], mut rest: u64) -> Option<usize>
+    requires { 1 ≤ rest }
+    ensures { MatchOption result (sum (map T.number counters.now) < rest) (IsFirstToReach (map T.number counters.now) rest) }
+{
+    for (i, counter) in counters.iter().enumerate() {
+        let number = counter.as_u64();
+        if number >= rest {
+            return Some(i);
+        }
+        rest -= number;
+    }
+    None
+}
+
+/// The sum of counters, where it fits a `u64`.
+fn short_sum<T: Counter>(counters: &[T]) -> u64
+    requires { sum (map T.number counters.now) < 2 ^ 64 }
+    ensures { result ≡ sum (map T.number counters.now) }
+{
+    let mut total = 0;
+    for counter in counters {
+        total += counter.as_u64();
+    }
+    total
+}

@@ -1,0 +1,32 @@
+#!/bin/sh
+# For each test below a module `refused`, as the gate built and proved it: runs it with the first, second, .. request for
+# memory refused, until a run meets no refusal. Each run has to pass, and to print 'no memory' exactly where a request
+# was refused. Fails where there is no such test.
+set -eu
+cd "$(dirname "$0")/.."
+room=$(mktemp -d)
+trap 'rm -rf "$room"' EXIT
+rustc --edition 2024 -O -C panic=abort --crate-type cdylib -o "$room/refuse.so" tools/refuse.rs
+runs=0 failed=0 tests=0
+for program in crates/*/out/*_tests; do
+    [ -x "$program" ] || continue
+    for name in $("$program" --list | sed -n 's/^\(.*refused::[a-z0-9_:]*\): test$/\1/p'); do
+        n=0 refused=1 tests=$((tests + 1))
+        while [ "$refused" = 1 ]; do
+            n=$((n + 1)) runs=$((runs + 1)) status=0
+            REFUSE=$n LD_PRELOAD="$room/refuse.so" "$program" "$name" >"$room/out" 2>"$room/err" || status=$?
+            refused=0 told=0
+            grep -q '^refused' "$room/err" && refused=1
+            grep -q '^no memory$' "$room/out" && told=1
+            if [ "$status" != 0 ] || [ "$refused" != "$told" ]; then
+                echo "$program $name: request $n: status $status, refused $refused, told $told" >&2
+                cat "$room/err" >&2
+                failed=$((failed + 1))
+            fi
+            [ "$n" -lt 1000 ] || { echo "$program $name: no end" >&2; exit 1; }
+        done
+        echo "$name: $((n - 1)) requests refused in turn"
+    done
+done
+echo "refused: $tests tests, $runs runs, $failed failures"
+[ "$failed" = 0 ] && [ "$tests" -gt 0 ]
