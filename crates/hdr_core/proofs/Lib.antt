@@ -1,0 +1,17 @@
+pub mod Kept
+pub mod Stands
+pub mod Runs
+pub mod Order
+pub mod RankedAnswers
+pub mod Firsts
+pub mod Trimmed
+pub mod Merged
+pub mod Spread
+pub mod Held
+pub mod Missing
+pub mod Fills
+pub mod ClassesHeld
+pub mod ByClass
+pub mod Between
+pub mod WidenedMarks
+pub mod Cleared

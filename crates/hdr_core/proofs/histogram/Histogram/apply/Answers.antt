@@ -1,0 +1,86 @@
+use Rattle.std.proofs.Common.{◌≡◌, ◌∙◌, ◌++◌, ◌∷◌, [], ℕ, List, cond, eqb, length, ap, sym, subst, replicate}
+use Rattle.hdr_base.specs.Classes.{reach_of}
+use Rattle.hdr_core.specs.Plain.{Plain, grain, max_of}
+use Rattle.hdr_core.specs.Recording.{clamped, recorded_each}
+use Rattle.hdr_core.specs.Samples.{StandsFor, Fits}
+use Rattle.hdr_core.specs.Missing.{missing, each}
+use Rattle.hdr_core.specs.Calls.{high_with, clamp}
+use Rattle.hdr_core.proofs.Kept.{grain-recorded}
+use Rattle.hdr_core.proofs.Spread.{grain-each}
+use Rattle.hdr_core.proofs.Cleared.{grain-cleared, grain-restarted, high-cleared, high-restarted, high-clamped, clamped-is, stands-cleared, stands-restarted}
+use Rattle.hdr_core.proofs.ByClass.{grain-corrected}
+use Rattle.hdr_core.proofs.histogram.Histogram.apply.Goals as goal
+
+pub returns-in-Ok-clause-same_classes : goal.returns-in-Ok-clause-same_classes
+returns-in-Ok-clause-same_classes g c =
+    ap (λ (h : Plain). grain h) c.in-Ok.ensures.ok ∙ grain-recorded _ _ _ _
+
+pub returns-in-Ok-clause-samples : goal.returns-in-Ok-clause-samples
+returns-in-Ok-clause-samples g c = λ s t stands to fits.
+    let h = c.args.self.now in
+    let v = c.in-Record.value in
+    let to = rw c.in-Record.is at to in (
+      subst (λ N. StandsFor c.record_n.new.self N) (sym to.0) (c.in-Ok.ensures.samples s.samples stands.0 (subst (λ N. Fits g.T.Counter.greatest (grain h) N) to.0 fits)),
+      c.in-Ok.ensures.high ∙ ap (λ x. high_with (grain h) x v (reach_of (grain h) v)) stands.1 ∙ sym to.1,
+    )
+
+pub returns-in-Clamp-clause-same_classes : goal.returns-in-Clamp-clause-same_classes
+returns-in-Clamp-clause-same_classes g c =
+    ap (λ (h : Plain). grain h) c.saturating_record_n.ensures.state ∙ grain-recorded _ _ _ _
+
+pub returns-in-Clamp-clause-samples : goal.returns-in-Clamp-clause-samples
+returns-in-Clamp-clause-samples g c = λ s t stands to fits.
+    let h = c.args.self.now in
+    let v = c.in-Clamp.value in
+    let n = g.T.Counter.number c.in-Clamp.count in
+    let to = rw c.in-Clamp.is at to in
+    let list = to.0 ∙ ap (λ k. s.samples ++ replicate n (clamp (grain h) k v)) (sym stands.1) ∙ ap (λ x. s.samples ++ replicate n x) (sym (clamped-is h v)) in (
+      subst (λ N. StandsFor c.saturating_record_n.new.self N) (sym list) (c.saturating_record_n.ensures.samples s.samples stands.0 (subst (λ N. Fits g.T.Counter.greatest (grain h) N) list fits)),
+      ap (λ (k : Plain). k.high) c.saturating_record_n.ensures.state ∙ high-clamped _ _ _ _ ∙ stands.1 ∙ sym to.1,
+    )
+
+pub returns-in-Ok-record_n_correct-clause-same_classes : goal.returns-in-Ok-record_n_correct-clause-same_classes
+returns-in-Ok-record_n_correct-clause-same_classes g c =
+    ap (λ (h : Plain). grain h) c.in-Ok-record_n_correct.ensures.ok
+    ∙ grain-corrected g.T.Counter.greatest c.args.self.now c.in-Correct.value (g.T.Counter.number c.in-Correct.count) c.in-Correct.interval
+
+pub returns-in-Ok-record_n_correct-clause-samples : goal.returns-in-Ok-record_n_correct-clause-samples
+returns-in-Ok-record_n_correct-clause-samples g c = λ s t stands to fits.
+    let h = c.args.self.now in
+    let v = c.in-Correct.value in
+    let to = rw c.in-Correct.is at to in (
+      subst (λ N. StandsFor c.record_n_correct.new.self N) (sym to.0) (c.in-Ok-record_n_correct.ensures.samples s.samples stands.0 (subst (λ N. Fits g.T.Counter.greatest (grain h) N) to.0 fits)),
+      c.in-Ok-record_n_correct.ensures.high ∙ ap (λ x. high_with (grain h) x v (reach_of (grain h) v)) stands.1 ∙ sym to.1,
+    )
+
+pub returns-in-Clear-clause-same_classes : goal.returns-in-Clear-clause-same_classes
+returns-in-Clear-clause-same_classes g c = ap (λ (h : Plain). grain h) c.clear.ensures ∙ grain-cleared c.args.self.now
+
+pub returns-in-Clear-clause-samples : goal.returns-in-Clear-clause-samples
+returns-in-Clear-clause-samples g c = λ s t stands to fits.
+    let h = c.args.self.now in
+    let to = rw c.in-Clear.is at to in (
+      subst (λ N. StandsFor c.clear.new.self N) (sym to.0) (subst (λ (k : Plain). StandsFor k []) (sym c.clear.ensures) (stands-cleared h)),
+      ap (λ (k : Plain). k.high) c.clear.ensures ∙ high-cleared h ∙ stands.1 ∙ sym to.1,
+    )
+
+pub returns-in-Reset-clause-same_classes : goal.returns-in-Reset-clause-same_classes
+returns-in-Reset-clause-same_classes g c = ap (λ (h : Plain). grain h) c.reset.ensures ∙ grain-restarted c.args.self.now
+
+pub returns-in-Reset-clause-samples : goal.returns-in-Reset-clause-samples
+returns-in-Reset-clause-samples g c = λ s t stands to fits.
+    let h = c.args.self.now in
+    let to = rw c.in-Reset.is at to in (
+      subst (λ N. StandsFor c.reset.new.self N) (sym to.0) (subst (λ (k : Plain). StandsFor k []) (sym c.reset.ensures) (stands-restarted h)),
+      ap (λ (k : Plain). k.high) c.reset.ensures ∙ high-restarted h ∙ stands.1 ∙ sym to.1,
+    )
+
+pub returns-in-Ok-add-clause-samples : goal.returns-in-Ok-add-clause-samples
+returns-in-Ok-add-clause-samples g c = λ s t stands to fits.
+    let h = c.args.self.now in
+    let to = rw c.in-Add.is at to in
+    let L = to.0 in
+    let m = max_of c.in-Add.source.now in (
+      subst (λ N. StandsFor c.add.new.self N) (sym to.3) (c.in-Ok-add.ensures.samples s.samples L stands.0 to.1 to.2 (subst (λ N. Fits g.T.Counter.greatest (grain h) N) to.3 fits)),
+      c.in-Ok-add.ensures.high L to.1 ∙ ap (λ x. cond (eqb (length L) 0) x (high_with (grain h) x m m)) stands.1 ∙ sym to.4,
+    )

@@ -1,0 +1,40 @@
+use Rattle.std.proofs.Common.{◌≡◌, ◌∙◌, ◌+◌, ◌-◌, ◌*◌, ◌^◌, ◌<◌, ◌≤◌, ap, sym, arith, length}
+use Rattle.hdr_base.specs.Classes.{Grain}
+use Rattle.hdr_counts.specs.Blocks.{Blocks}
+use Rattle.hdr_core.specs.Shown.{shown}
+use Rattle.hdr_core.specs.Plain.{Plain, IsPlain, reach, grain}
+use Rattle.hdr_core.specs.Recording.{grown}
+use Rattle.hdr_base.specs.Classes.{bins_to}
+use Rattle.hdr_core.proofs.Kept.{IsPlain-grown, grown-parts, blocks-are, grows, grain-digits}
+use Rattle.hdr_core.proofs.histogram.Histogram.grow.Goals as goal
+
+pub grow-requires-clause-more : goal.grow-requires-clause-more
+grow-requires-clause-more g c =
+    let h = shown c.self.inside in
+    let past = rw (← c.self.view_is) at c.requires in
+    let n = blocks-are c.self.inside.scale (grain h) c.args.high c.buckets.result c.self.inside.counts.block c.self.invariant.scale c.buckets.ensures.value c.self.invariant.block (grain-digits g.T.Counter.greatest h c.self.invariant.plain) in
+    omega (arith, n, grows g.T.Counter.greatest h c.args.high c.self.invariant.plain past)
+
+pub grow-requires-clause-few : goal.grow-requires-clause-few
+grow-requires-clause-few g c =
+    let block : c.self.inside.counts.block ≡ 2 ^ (c.self.inside.scale.digits - 1) = c.self.invariant.block ∙ ap (λ (s : Grain). 2 ^ (s.digits - 1)) (sym c.self.invariant.scale) in
+    rw block c.buckets.ensures.few
+
+pub invariant_of-self-2 : goal.invariant_of-self-2
+invariant_of-self-2 g c =
+    let h = shown c.self.inside in
+    let past = rw (← c.self.view_is) at c.requires in
+    let n = blocks-are c.self.inside.scale (grain h) c.args.high c.buckets.result c.self.inside.counts.block c.self.invariant.scale c.buckets.ensures.value c.self.invariant.block (grain-digits g.T.Counter.greatest h c.self.invariant.plain) in
+    let new = grown-parts h c.args.high ((c.buckets.result + 1) * c.self.inside.counts.block) c.grow.new.self.numbers n (ap (λ (b : Blocks). b.numbers) c.in_ok-grow.ensures) in
+    record {
+        scale = c.self.invariant.scale;
+        block = ap (λ (b : Blocks). b.block) c.in_ok-grow.ensures ∙ c.self.invariant.block;
+        plain = rw new (IsPlain-grown g.T.Counter.greatest h c.args.high c.self.invariant.plain (omega arith) past)
+    }
+
+pub returns : goal.returns
+returns g c =
+    let h = shown c.self.inside in
+    let n = blocks-are c.self.inside.scale (grain h) c.args.high c.buckets.result c.self.inside.counts.block c.self.invariant.scale c.buckets.ensures.value c.self.invariant.block (grain-digits g.T.Counter.greatest h c.self.invariant.plain) in
+    let new = grown-parts h c.args.high ((c.buckets.result + 1) * c.self.inside.counts.block) c.grow.new.self.numbers n (ap (λ (b : Blocks). b.numbers) c.in_ok-grow.ensures) in
+    new ∙ ap (λ (h : Plain). grown h c.args.high) c.self.view_is

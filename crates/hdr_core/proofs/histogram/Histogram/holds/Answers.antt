@@ -1,0 +1,98 @@
+use Rattle.std.proofs.Common.{◌≡◌, ◌≢◌, ◌∙◌, ◌+◌, ◌-◌, ◌^◌, ◌<◌, ◌≤◌, ℕ, List, ap, subst, sym, refl, arith, length, get_or}
+use Rattle.hdr_base.specs.Classes.{Grain, bin_of, value_of}
+use Rattle.hdr_base.proofs.Finer.{bin-value_of}
+use Rattle.hdr_core.specs.Plain.{Plain, grain, reach, max_of}
+use Rattle.hdr_core.proofs.Kept.{grain-digits}
+use Rattle.hdr_core.proofs.Merged.{number-le-max}
+use Rattle.hdr_core.proofs.Held.{held, held-all, held-le, IsTested, tested-init, tested-same, tested-sum, tested-next}
+use Rattle.hdr_core.proofs.histogram.Histogram.holds.Goals as goal
+use Rattle.hdr_core.proofs.histogram.Histogram.holds.Goals.{then-count-gt0+else-sum-from, then-target-at, else-target-at, else-count-gt0}
+
+pub loop-bin-init : goal.loop-bin-init
+loop-bin-init g c = tested-init (grain c.args.self.now) (grain c.args.other.now) c.args.self.now.counts c.args.other.now.counts
+
+pub bin_of_class-target-requires-clause-reached : goal.bin_of_class-target-requires-clause-reached
+bin_of_class-target-requires-clause-reached g c =
+    let greatest = g.T.Counter.greatest in
+    let h = c.args.self.now in
+    let s = c.args.other.now in
+    let p = rw c.self.view_is at c.self.invariant.plain in
+    let q = rw c.other.view_is at c.other.invariant.plain in
+    let i = c.loop-bin.bin in
+    let inside : i < length s.counts = omega (arith, ap (λ (p : Plain). length p.counts) c.other.view_is, c.loop-bin-test.true, c.len-bin-end.ensures, c.loop-bin.auto.bin-end) in
+    let at : c.as_u64-count.result ≡ get_or s.counts i 0 = c.as_u64-count.ensures.value ∙ c.get.ensures ∙ ap (λ (p : Plain). get_or p.counts i 0) c.other.view_is in
+    let pos : 0 < get_or s.counts i 0 = omega (arith, at, c.if-count-gt0.true) in
+    omega (arith, number-le-max greatest s i (value_of (grain s) i) q pos (bin-value_of (grain s) i (grain-digits greatest s q)), c.requires)
+
+pub returns-then-sum-from-clause-no : goal.returns-then-sum-from-clause-no
+returns-then-sum-from-clause-no g c =
+    let greatest = g.T.Counter.greatest in
+    let h = c.args.self.now in
+    let s = c.args.other.now in
+    let p = rw c.self.view_is at c.self.invariant.plain in
+    let q = rw c.other.view_is at c.other.invariant.plain in
+    let i = c.loop-bin.bin in
+    let inside : i < length s.counts = omega (arith, ap (λ (p : Plain). length p.counts) c.other.view_is, c.loop-bin-test.true, c.len-bin-end.ensures, c.loop-bin.auto.bin-end) in
+    let at : c.as_u64-count.result ≡ get_or s.counts i 0 = c.as_u64-count.ensures.value ∙ c.get.ensures ∙ ap (λ (p : Plain). get_or p.counts i 0) c.other.view_is in
+    let pos : 0 < get_or s.counts i 0 = omega (arith, at, c.if-count-gt0.true) in
+    let target = c.bin_of_class-target.result in
+    let before = c.if-target-at.before in
+    let same : target ≡ c.loop-bin.at → before ≡ c.loop-bin.sum = λ e. elim c.if-target-at.branch [
+        then-target-at v ↦ v.before-is
+        | else-target-at v ↦ absurd (v.if-target-at.false e)
+    ] in
+    let other : target ≢ c.loop-bin.at → before ≡ 0 = λ n. elim c.if-target-at.branch [
+        then-target-at v ↦ absurd (n v.if-target-at.true)
+        | else-target-at v ↦ v.before-is
+    ] in
+    let mf = grain-digits greatest s q in
+    let mg = grain-digits greatest h p in
+    let sum = tested-sum (grain h) (grain s) h.counts s.counts i c.loop-bin.at c.loop-bin.sum before target mf mg inside pos c.loop-bin.invariant c.bin_of_class-target.ensures.value same other in
+    let number : get_or c.self.inside.counts.numbers target 0 ≡ get_or h.counts target 0 = ap (λ (p : Plain). get_or p.counts target 0) c.self.view_is in
+    λ e. (target, omega (arith, sum, held-le (grain h) (grain s) s.counts (i + 1) target, at, number, c.from.ensures, c.get-then-count-gt0.ensures, c.as_u64.ensures.value, c.from-then-count-gt0.ensures, c.if-sum-from.true))
+
+pub loop-bin-preserved : goal.loop-bin-preserved
+loop-bin-preserved g c =
+    let greatest = g.T.Counter.greatest in
+    let h = c.args.self.now in
+    let s = c.args.other.now in
+    let p = rw c.self.view_is at c.self.invariant.plain in
+    let q = rw c.other.view_is at c.other.invariant.plain in
+    let i = c.loop-bin.bin in
+    let inside : i < length s.counts = omega (arith, ap (λ (p : Plain). length p.counts) c.other.view_is, c.loop-bin-test.true, c.len-bin-end.ensures, c.loop-bin.auto.bin-end) in
+    let at : c.as_u64-count.result ≡ get_or s.counts i 0 = c.as_u64-count.ensures.value ∙ c.get.ensures ∙ ap (λ (p : Plain). get_or p.counts i 0) c.other.view_is in
+    elim c.if-count-gt0.branch [
+        then-count-gt0+else-sum-from w ↦ (
+    let pos : 0 < get_or s.counts i 0 = omega (arith, at, w.if-count-gt0.true) in
+    let target = w.bin_of_class-target.result in
+    let before = w.if-target-at.before in
+    let same : target ≡ c.loop-bin.at → before ≡ c.loop-bin.sum = λ e. elim w.if-target-at.branch [
+        then-target-at v ↦ v.before-is
+        | else-target-at v ↦ absurd (v.if-target-at.false e)
+    ] in
+    let other : target ≢ c.loop-bin.at → before ≡ 0 = λ n. elim w.if-target-at.branch [
+        then-target-at v ↦ absurd (n v.if-target-at.true)
+        | else-target-at v ↦ v.before-is
+    ] in
+    let mf = grain-digits greatest s q in
+    let mg = grain-digits greatest h p in
+    let number : get_or c.self.inside.counts.numbers target 0 ≡ get_or h.counts target 0 = ap (λ (p : Plain). get_or p.counts target 0) c.self.view_is in
+    let sum : c.if-count-gt0.sum ≡ before + get_or s.counts i 0 = omega (arith, w.sum-is, w.from.ensures, at) in
+    let fits : before + get_or s.counts i 0 ≤ get_or h.counts target 0 = omega (arith, sum, w.sum-is, number, w.get-then-count-gt0.ensures, w.as_u64.ensures.value, w.from-then-count-gt0.ensures, w.if-sum-from.false) in
+    let next = tested-next (grain h) (grain s) h.counts s.counts i c.loop-bin.at c.loop-bin.sum before target mf mg inside pos c.loop-bin.invariant w.bin_of_class-target.ensures.value same other fits in
+    subst (λ a. IsTested (grain h) (grain s) h.counts s.counts (i + 1) a c.if-count-gt0.sum) (sym w.at-is) (subst (λ k. IsTested (grain h) (grain s) h.counts s.counts (i + 1) target k) (sym sum) next)
+        )
+        | else-count-gt0 w ↦ (
+            let none : get_or s.counts i 0 ≡ 0 = omega (arith, at, w.if-count-gt0.false) in
+            let next = tested-same (grain h) (grain s) h.counts s.counts i c.loop-bin.at c.loop-bin.sum inside none c.loop-bin.invariant in
+            subst (λ a. IsTested (grain h) (grain s) h.counts s.counts (i + 1) a c.if-count-gt0.sum) (sym w.at-is) (subst (λ k. IsTested (grain h) (grain s) h.counts s.counts (i + 1) c.loop-bin.at k) (sym w.sum-is) next)
+        )
+    ]
+
+pub returns-clause-yes : goal.returns-clause-yes
+returns-clause-yes g c =
+    let h = c.args.self.now in
+    let s = c.args.other.now in
+    let i = c.loop-bin.bin in
+    let end : length s.counts ≤ i = omega (arith, ap (λ (p : Plain). length p.counts) c.other.view_is, c.loop-bin-test.false, c.len-bin-end.ensures, c.loop-bin.auto.bin-end) in
+    λ e j. omega (arith, c.loop-bin.invariant.tested j, held-all (grain h) (grain s) s.counts i j end)

@@ -1,0 +1,75 @@
+use Rattle.std.proofs.Common.{◌≡◌, ◌∙◌, ◌+◌, ◌-◌, ◌^◌, ◌<◌, ◌≤◌, ◌++◌, ℕ, List, ap, subst, sym, refl, arith, length, get_or, take}
+use Rattle.std.proofs.lemmas.List.{take_all}
+use Rattle.hdr_base.specs.Classes.{Grain, bin_of, lowest_of, value_of}
+use Rattle.hdr_base.proofs.Finer.{bin-value_of}
+use Rattle.hdr_core.specs.Plain.{Plain, grain, reach, max_of}
+use Rattle.hdr_core.specs.Recording.{recorded, Times, recorded_each}
+use Rattle.hdr_core.specs.Merging.{classes_from, top_class}
+use Rattle.hdr_core.proofs.Kept.{grain-digits}
+use Rattle.hdr_core.proofs.Merged.{number-le-max, value-le-max, mark-in, classes-next, classes-same, classes-end, classes-end-none, reach-recorded}
+use Rattle.hdr_core.proofs.histogram.Histogram.record_classes.Goals as goal
+use Rattle.hdr_core.proofs.histogram.Histogram.record_classes.Goals.{then-count-gt0, else-count-gt0}
+
+pub record_inside-requires : goal.record_inside-requires
+record_inside-requires g c =
+    let most = g.F.Counter.greatest in
+    let s = c.args.source.now in
+    let q = rw c.source.view_is at c.source.invariant.plain in
+    let i = c.loop-bin.bin in
+    let at : c.as_u64-count.result ≡ get_or s.counts i 0 = c.as_u64-count.ensures.value ∙ c.get.ensures ∙ ap (λ (p : Plain). get_or p.counts i 0) c.source.view_is in
+    let pos : 0 < get_or s.counts i 0 = omega (arith, at, c.if-count-gt0.true) in
+    omega (arith, c.class_value.ensures, number-le-max most s i (value_of (grain s) i) q pos (bin-value_of (grain s) i (grain-digits most s q)), c.requires, c.loop-bin.invariant.same_reach)
+
+pub loop-bin-preserved : goal.loop-bin-preserved
+loop-bin-preserved g c =
+    let greatest = g.T.Counter.greatest in
+    let most = g.F.Counter.greatest in
+    let h = c.args.self.now in
+    let s = c.args.source.now in
+    let q = rw c.source.view_is at c.source.invariant.plain in
+    let i = c.loop-bin.bin in
+    let v = value_of (grain s) i in
+    let n = c.as_u64-count.result in
+    let before = c.loop-bin.invariant.made in
+    let at : n ≡ get_or s.counts i 0 = c.as_u64-count.ensures.value ∙ c.get.ensures ∙ ap (λ (p : Plain). get_or p.counts i 0) c.source.view_is in
+    let inside : i < length s.counts = omega (arith, ap (λ (p : Plain). length p.counts) c.source.view_is, c.loop-bin-test.true, c.len-bin-end.ensures, c.loop-bin.auto.bin-end) in
+    elim c.if-count-gt0.branch [
+        then-count-gt0 w ↦ (
+            let pos : 0 < get_or s.counts i 0 = omega (arith, at, w.if-count-gt0.true) in
+            let le : v ≤ reach c.loop-bin.self = omega (arith, number-le-max most s i v q pos (bin-value_of (grain s) i (grain-digits most s q)), c.requires, c.loop-bin.invariant.same_reach) in
+            let new : c.if-count-gt0.self ≡ recorded greatest c.loop-bin.self v n = w.self-is ∙ w.record_inside.ensures ∙ ap (λ x. recorded greatest c.loop-bin.self x n) w.class_value.ensures in
+            record {
+                made = new ∙ ap (λ k. recorded greatest c.loop-bin.self v k) at ∙ ap (λ (h : Plain). recorded greatest h v (get_or s.counts i 0)) before
+                    ∙ classes-next greatest h (grain s) s.counts i inside pos;
+                same_reach = ap (λ (h : Plain). reach h) new ∙ reach-recorded greatest c.loop-bin.self v n le ∙ c.loop-bin.invariant.same_reach
+            }
+        )
+        | else-count-gt0 w ↦ (
+            let none : get_or s.counts i 0 ≡ 0 = omega (arith, at, w.if-count-gt0.false) in
+            record {
+                made = w.self-is ∙ before ∙ ap (λ ts. recorded_each greatest h ts) (classes-same greatest h (grain s) s.counts i inside none);
+                same_reach = ap (λ (h : Plain). reach h) w.self-is ∙ c.loop-bin.invariant.same_reach
+            }
+        )
+    ]
+
+pub class_value-requires-in-Some : goal.class_value-requires-in-Some
+class_value-requires-in-Some g c =
+    let q = rw c.source.view_is at c.source.invariant.plain in
+    mark-in g.F.Counter.greatest c.args.source.now c.in-Some.bin q (sym (ap (λ (p : Plain). p.top_mark) c.source.view_is) ∙ sym c.top.ensures ∙ c.in-Some.is)
+
+pub record_inside-requires-in-Some : goal.record_inside-requires-in-Some
+record_inside-requires-in-Some g c =
+    omega (arith, c.class_value-in-Some.ensures, value-le-max c.args.source.now c.in-Some.bin (sym (ap (λ (p : Plain). p.top_mark) c.source.view_is) ∙ sym c.top.ensures ∙ c.in-Some.is), c.requires, c.loop-bin.invariant.same_reach)
+
+pub returns-in-Some : goal.returns-in-Some
+returns-in-Some g c =
+    let greatest = g.T.Counter.greatest in
+    let h = c.args.self.now in
+    let s = c.args.source.now in
+    let i = c.in-Some.bin in
+    let same : length c.source.inside.counts.numbers ≡ length s.counts = ap (λ (p : Plain). length p.counts) c.source.view_is in
+    let all : take c.loop-bin.bin s.counts ≡ s.counts = take_all c.loop-bin.bin s.counts (omega (arith, same, c.loop-bin-test.false, c.len-bin-end.ensures, c.loop-bin.auto.bin-end)) in
+    c.record_inside-in-Some.ensures ∙ ap (λ x. recorded greatest c.loop-bin.self x 0) c.class_value-in-Some.ensures
+    ∙ ap (λ (h : Plain). recorded greatest h (value_of (grain s) i) 0) (c.loop-bin.invariant.made ∙ ap (λ ns. recorded_each greatest h (classes_from (grain s) 0 ns)) all)
+    ∙ classes-end greatest h (grain s) s.counts s.top_mark i (sym (ap (λ (p : Plain). p.top_mark) c.source.view_is) ∙ sym c.top.ensures ∙ c.in-Some.is)

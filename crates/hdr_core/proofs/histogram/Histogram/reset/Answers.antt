@@ -1,0 +1,16 @@
+use Rattle.std.proofs.Common.{◌≡◌, ◌∙◌, None, ap, sym}
+use Rattle.hdr_core.specs.Marked.{Marked}
+use Rattle.hdr_core.specs.Plain.{Plain, IsPlain}
+use Rattle.hdr_core.specs.Recording.{restarted}
+use Rattle.hdr_core.proofs.Cleared.{restarted-parts, IsPlain-unmarked}
+use Rattle.hdr_core.proofs.histogram.Histogram.reset.Goals as goal
+
+pub invariant_of-self : goal.invariant_of-self
+invariant_of-self g c = record {
+    scale = c.self.invariant.scale;
+    block = c.self.invariant.block;
+    plain = rw c.none-self-inside.ensures (IsPlain-unmarked g.T.Counter.greatest c.args.self.now _ (c.self.view_is ∙ c.clear.ensures) c.self.invariant.plain)
+}
+
+pub returns : goal.returns
+returns g c = rw c.none-self-inside.ensures (restarted-parts c.args.self.now _ (c.self.view_is ∙ c.clear.ensures))

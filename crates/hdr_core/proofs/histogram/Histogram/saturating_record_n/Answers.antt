@@ -1,0 +1,35 @@
+use Rattle.std.proofs.Common.{◌≡◌, ◌∙◌, ◌<◌, ◌≤◌, ◌^◌, ap, sym, subst, arith}
+use Rattle.hdr_base.specs.Classes.{Grain, bin_of}
+use Rattle.hdr_core.specs.Plain.{Plain, grain, reach}
+use Rattle.hdr_core.specs.Recording.{clamped, added, recorded}
+use Rattle.hdr_core.proofs.Kept.{room-in}
+use Rattle.hdr_core.proofs.Cleared.{clamped-small}
+use Rattle.hdr_core.proofs.Merged.{recorded-inside}
+use Rattle.hdr_core.proofs.Stands.{StandsFor-recorded}
+use Rattle.hdr_core.proofs.histogram.Histogram.saturating_record_n.Goals as goal
+
+pub add_to_bin-requires-clause-bin : goal.add_to_bin-requires-clause-bin
+add_to_bin-requires-clause-bin g c =
+    let h = c.args.self.now in
+    let plain = rw c.self.view_is at c.self.invariant.plain in
+    let same : c.self.inside.scale ≡ grain h = c.self.invariant.scale ∙ ap (λ (p : Plain). grain p) c.self.view_is in
+    let bin : c.bin-bin.result ≡ bin_of (grain h) c.clamped-value.result = c.bin-bin.ensures.value ∙ ap (λ (s : Grain). bin_of s c.clamped-value.result) same in
+    omega (arith, room-in g.T.Counter.greatest h c.clamped-value.result plain c.clamped-value.ensures.within)
+
+pub returns-clause-state : goal.returns-clause-state
+returns-clause-state g c =
+    let h = c.args.self.now in
+    let greatest = g.T.Counter.greatest in
+    let n = g.T.Counter.number c.args.count in
+    let v = c.clamped-value.result in
+    let same : c.self.inside.scale ≡ grain h = c.self.invariant.scale ∙ ap (λ (p : Plain). grain p) c.self.view_is in
+    let bin : c.bin-bin.result ≡ bin_of (grain h) v = c.bin-bin.ensures.value ∙ ap (λ (s : Grain). bin_of s v) same in
+    c.add_to_bin.ensures ∙ ap (λ b. added greatest h b c.from.result) bin ∙ ap (λ k. added greatest h (bin_of (grain h) v) k) (c.from.ensures ∙ c.as_u64.ensures.value)
+    ∙ recorded-inside greatest h v n c.clamped-value.ensures.within ∙ ap (λ x. recorded greatest h x n) c.clamped-value.ensures.value
+
+pub returns-clause-samples : goal.returns-clause-samples
+returns-clause-samples g c = λ S stands fits.
+    let h = c.args.self.now in
+    let plain = rw c.self.view_is at c.self.invariant.plain in
+    rw (returns-clause-state g c)
+    (StandsFor-recorded g.T.Counter.greatest h (clamped h c.args.value) (g.T.Counter.number c.args.count) S (clamped-small g.T.Counter.greatest h c.args.value (omega arith) plain) plain stands fits)

@@ -1,0 +1,15 @@
+use Rattle.std.proofs.Common.{◌≡◌, ◌∙◌, ◌+◌, ◌-◌, ◌^◌, ◌<◌, ◌≤◌, ℕ, ap, subst, sym, refl, arith, length, get_or}
+use Rattle.hdr_base.specs.Classes.{Grain}
+use Rattle.hdr_core.specs.Shown.{shown}
+use Rattle.hdr_core.specs.Plain.{Plain, grain}
+use Rattle.hdr_core.specs.Samples.{in_class}
+use Rattle.hdr_core.specs.Merging.{lowest_values}
+use Rattle.hdr_core.specs.Subtracting.{IsDifference}
+use Rattle.hdr_core.proofs.Kept.{bins-pos}
+use Rattle.hdr_core.proofs.Held.{IsPlain-restated}
+use Rattle.hdr_core.proofs.histogram.Histogram.take_out.Goals as goal
+
+pub capped_sum-self-inside-requires : goal.capped_sum-self-inside-requires
+capped_sum-self-inside-requires g c =
+    let h = shown c.self.inside in
+    omega (arith, bins-pos g.T.Counter.greatest h c.self.invariant.plain, c.take_each.ensures.bins)

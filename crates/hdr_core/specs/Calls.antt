@@ -1,0 +1,75 @@
+-- What calls do, by numbers and by samples.
+use Rattle.std.specs.Prelude.{◌≡◌, ◌==◌, ℕ, ◌+◌, ◌<◌, ◌≤◌, nat_le, if◌then◌else◌, List, [], ◌∷◌, ◌++◌, length, replicate, Result, Ok, Err}
+use Rattle.hdr_base.specs.Classes.{Grain, reach_of, IsFiner}
+use Rattle.hdr_core.specs.Plain.{Plain, grain, max_of}
+use Rattle.hdr_core.specs.Recording.{recorded, clamped, cleared, restarted, spread}
+use Rattle.hdr_core.specs.Missing.{missing, each, corrected}
+use Rattle.hdr_core.specs.Merging.{merged}
+use Rattle.hdr_core.specs.Samples.{StandsFor, Fits}
+use Rattle.hdr_core.specs.Refusals.{RefusesRecord, RefusesAddition}
+use Rattle.hdr_core.specs.declared.call.Call.{Call}
+use Rattle.hdr_core.specs.declared.call.Call.TheVariants.{Record, Clamp, Correct, Clear, Reset, Add}
+use Rattle.hdr_core.specs.declared.call.RunError.{RunError}
+use Rattle.hdr_core.specs.declared.call.CallError.{CallError}
+use Rattle.hdr_core.specs.declared.call.CallError.TheVariants as err
+
+-- what a call makes of a histogram
+abbrev pub after_call : {T : Type 0} → ℕ → (T → ℕ) → Call T → Plain → Plain
+after_call greatest number (Record v n) h = recorded greatest h v (number n)
+after_call greatest number (Clamp v n) h = recorded greatest h (clamped h v) (number n)
+after_call greatest number (Correct v n i) h = corrected greatest h v (number n) i
+after_call greatest number Clear h = cleared h
+after_call greatest number Reset h = restarted h
+after_call greatest number (Add source) h = merged greatest h source.now
+
+-- what calls make of it, one after another
+abbrev pub after_calls : {T : Type 0} → ℕ → (T → ℕ) → List (Call T) → Plain → Plain
+after_calls greatest number [] h = h
+after_calls greatest number (call ∷ calls) h = after_calls greatest number calls (after_call greatest number call h)
+
+-- when a call is refused, and why
+abbrev pub RefusesCall : {T : Type 0} → Plain → Call T → CallError → Type 0
+RefusesCall h (Record v n) (err.Record e) = RefusesRecord h v e
+RefusesCall h (Correct v n i) (err.Record e) = RefusesRecord h v e
+RefusesCall h (Add source) (err.Addition e) = RefusesAddition h source.now e
+RefusesCall h _ _ = ⊥
+
+-- the samples recorded so far, and the value that the bins were last made for
+pub record State : Type 0 where
+  pub samples : List ℕ
+  pub high : ℕ
+
+abbrev pub StandsAt : Plain → State → Type 0
+StandsAt h s = StandsFor h s.samples × (h.high ≡ s.high)
+
+-- `high` once there is a bin for x: `new` where the bins had to grow
+unfoldable pub high_with : Grain → ℕ → ℕ → ℕ → ℕ
+high_with g high x new = if nat_le x (reach_of g high) then high else new
+
+-- the value that clamping records for v
+unfoldable pub clamp : Grain → ℕ → ℕ → ℕ
+clamp g high v = if nat_le v (reach_of g high) then v else high
+
+-- a call takes one state to another, whatever list a source stands for; the classes of an added source are no coarser
+abbrev pub CallTo : {T : Type 0} → (T → ℕ) → Grain → Call T → State → State → Type 0
+CallTo number g (Record v n) s t =
+    (t.samples ≡ s.samples ++ replicate (number n) v) × (t.high ≡ high_with g s.high v (reach_of g v))
+CallTo number g (Clamp v n) s t =
+    (t.samples ≡ s.samples ++ replicate (number n) (clamp g s.high v)) × (t.high ≡ s.high)
+CallTo number g (Correct v n i) s t =
+    (t.samples ≡ s.samples ++ spread (each (number n) (v ∷ missing v i))) × (t.high ≡ high_with g s.high v (reach_of g v))
+CallTo number g Clear s t = (t.samples ≡ []) × (t.high ≡ s.high)
+CallTo number g Reset s t = (t.samples ≡ []) × (t.high ≡ s.high)
+CallTo number g (Add source) s t =
+    (L : List ℕ) × StandsFor source.now L × IsFiner (grain source.now) g × (t.samples ≡ s.samples ++ L)
+    × (t.high ≡ (if length L == 0 then s.high else high_with g s.high (max_of source.now) (max_of source.now)))
+
+-- a run of calls takes one state to another, and after each call the samples fit
+abbrev pub CallsTo : {T : Type 0} → (T → ℕ) → Grain → (List ℕ → Type 0) → List (Call T) → State → State → Type 0
+CallsTo number g fits [] s t = t ≡ s
+CallsTo number g fits (call ∷ calls) s t = (r : State) × CallTo number g call s r × fits r.samples × CallsTo number g fits calls r t
+
+-- how many of n calls were done
+abbrev pub calls_done : Result (Unit {0}) RunError → ℕ → ℕ
+calls_done (Ok u) n = n
+calls_done (Err e) n = e.at

@@ -1,0 +1,27 @@
+-- When two histograms count as equal. (`eq`: the same bounds' low and digits, the same total, greatest and least value, and
+-- the same number of every class; the Rust crate's is not symmetric where one array is shorter.)
+use Rattle.std.specs.Prelude.{ℕ, Bool, ◌==◌, List, [], ◌∷◌}
+use Rattle.std.proofs.Common.{zero, suc}
+use Rattle.std.specs.Ordering.{on, eq_of_both}
+use lib.Pointwise.{pointwise}
+use Rattle.hdr_core.specs.Plain.{Plain, max_of, min_nz_of}
+
+-- a number before a list in which zeros at the end are left out
+abbrev pub put_first : ℕ → List ℕ → List ℕ
+put_first zero [] = []
+put_first (suc n) [] = suc n ∷ []
+put_first n (x ∷ xs) = n ∷ x ∷ xs
+
+-- the numbers up to the last that is not 0
+abbrev pub trimmed : List ℕ → List ℕ
+trimmed [] = []
+trimmed (x ∷ xs) = put_first x (trimmed xs)
+
+-- numbers behind the end of a list count as 0
+abbrev pub same_numbers : List ℕ → List ℕ → Bool
+same_numbers = on trimmed (pointwise ◌==◌)
+
+abbrev pub same_plain : Plain → Plain → Bool
+same_plain =
+    eq_of_both (on (λ h. h.low) ◌==◌) (eq_of_both (on (λ h. h.sigfig) ◌==◌) (eq_of_both (on (λ h. h.total) ◌==◌)
+        (eq_of_both (on max_of ◌==◌) (eq_of_both (on min_nz_of ◌==◌) (on (λ h. trimmed h.counts) (pointwise ◌==◌))))))

@@ -1,0 +1,13 @@
+pub mod Plain
+pub mod Recording
+pub mod Marked
+pub mod Shown
+pub mod Merging
+pub mod Refusals
+pub mod Samples
+pub mod Subtracting
+pub mod Calls
+pub mod Ranks
+pub mod Equality
+pub mod Missing
+pub mod Statistics

@@ -1,0 +1,18 @@
+-- A histogram's fields, as the numbers that contracts speak of.
+use Rattle.std.specs.Prelude.{◌≡◌, ℕ, ◌-◌, ◌^◌}
+use Rattle.hdr_base.specs.Classes.{grain_of}
+use Rattle.hdr_core.specs.Plain.{Plain, IsPlain}
+use Rattle.hdr_core.specs.declared.histogram.Histogram.TheInside.{Inside}
+
+abbrev pub shown : {T : Type 0} → Inside T → Plain
+shown h = record {
+    low = h.low; high = h.high; sigfig = h.sigfig; auto_resize = h.auto_resize;
+    counts = h.counts.numbers; total = h.total; top_mark = h.marks.top; lower_mark = h.marks.lower
+}
+
+-- what is true of the fields: the scale is that of the bounds, a block is half of the first bucket, and the numbers are a
+-- histogram's
+pub record IsHeld {T : Type 0} (greatest : ℕ) (h : Inside T) : Type 0 where
+  pub scale : h.scale ≡ grain_of h.low h.sigfig
+  pub block : h.counts.block ≡ 2 ^ ((grain_of h.low h.sigfig).digits - 1)
+  pub plain : IsPlain greatest (shown h)

@@ -1,0 +1,99 @@
+//! Calls as values, and runs of them.
+
+ghost use Rattle.std.specs.Prelude.{◌≡◌, ℕ, ◌<◌, ◌≤◌, List, OnOk, IfErr, length, take, slice_get, IfSome};
+ghost use Rattle.hdr_core.specs.Plain.{grain};
+ghost use Rattle.hdr_core.specs.Samples.{Fits};
+ghost use Rattle.hdr_core.specs.Calls.{State, StandsAt, after_call, after_calls, RefusesCall, CallTo, CallsTo, calls_done};
+
+use crate::errors::{AdditionError, RecordError};
+use crate::histogram::Histogram;
+use hdr_base::Counter;
+use thiserror::Error;
+
+/// One call of a histogram.
+#[derive(Drop)]
+pub enum Call<'a, T: Counter> {
+    /// `record_n` of a value and a count.
+    Record(u64, T),
+    /// `saturating_record_n` of a value and a count.
+    Clamp(u64, T),
+    /// `record_n_correct` of a value, a count and an interval.
+    Correct(u64, T, u64),
+    /// `clear`.
+    Clear,
+    /// `reset`.
+    Reset,
+    /// `add` of another histogram.
+    Add(&'a Histogram<T>),
+}
+
+/// Why a call was refused.
+#[derive(Debug, PartialEq, Eq, Drop, Error)]
+pub enum CallError {
+    #[error("{0}")]
+    Record(RecordError),
+    #[error("{0}")]
+    Addition(AdditionError),
+}
+
+/// The first call of a run that was refused: its place in the run, and why.
+#[derive(Debug, PartialEq, Eq, Drop, Error)]
+#[error("Call {at} was refused: {cause}")]
+pub struct RunError {
+    pub at: usize,
+    pub cause: CallError,
+}
+
+impl<T: Counter> Histogram<T> {
+    /// Does one call, and refuses just what that call refuses. A refusal changes nothing.
+    pub fn apply(&mut self, call: &Call<'_, T>) -> Result<(), CallError>
+        ensures ok { OnOk result (self.new ≡ after_call T.greatest T.number call.now self.old) }
+        ensures same_classes { grain self.new ≡ grain self.old }
+        ensures samples { OnOk result ((s t : State) → StandsAt self.old s → CallTo T.number (grain self.old) call.now s t
+            → Fits T.greatest (grain self.old) t.samples → StandsAt self.new t) }
+        ensures refused { IfErr result (λ e. RefusesCall self.old call.now e × (self.new ≡ self.old)) }
+    {
+        match call {
+            Call::Record(value, count) => match self.record_n(*value, *count) {
+                Ok(()) => Ok(()),
+                Err(e) => Err(CallError::Record(e)),
+            },
+            Call::Clamp(value, count) => {
+                self.saturating_record_n(*value, *count);
+                Ok(())
+            }
+            Call::Correct(value, count, interval) => match self.record_n_correct(*value, *count, *interval) {
+                Ok(()) => Ok(()),
+                Err(e) => Err(CallError::Record(e)),
+            },
+            Call::Clear => {
+                self.clear();
+                Ok(())
+            }
+            Call::Reset => {
+                self.reset();
+                Ok(())
+            }
+            Call::Add(source) => match self.add(source) {
+                Ok(()) => Ok(()),
+                Err(e) => Err(CallError::Addition(e)),
+            },
+        }
+    }
+
+    /// Does calls in their order, up to the first that is refused: that call changed nothing, and those before it stand.
+    pub fn apply_all(&mut self, calls: &[Call<'_, T>]) -> Result<(), RunError>
+        ensures done { self.new ≡ after_calls T.greatest T.number (take (calls_done result (length calls.now)) calls.now) self.old }
+        ensures samples { (s t : State) → StandsAt self.old s
+            → CallsTo T.number (grain self.old) (Fits T.greatest (grain self.old)) (take (calls_done result (length calls.now)) calls.now) s t → StandsAt self.new t }
+        ensures refused { IfErr result (λ e. IfSome (slice_get calls.now e.at) (λ call. RefusesCall self.new call e.cause)) }
+        ensures at { IfErr result (λ e. e.at < length calls.now) }
+    {
+        for (at, call) in calls.iter().enumerate() {
+            if let Err(cause) = self.apply(call) {
+                return Err(RunError { at, cause });
+            }
+        }
+        Ok(())
+    }
+}

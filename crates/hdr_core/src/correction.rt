@@ -1,0 +1,97 @@
+//! Recording with correction for coordinated omission, class by class.
+
+ghost use Rattle.std.specs.Prelude.{◌≡◌, ℕ, List, [], ◌∷◌, ◌++◌, ◌+◌, ◌-◌, ◌*◌, ◌/◌, ◌^◌, ◌<◌, ◌≤◌, ◌⊎◌, true, OnOk, IfErr, length};
+ghost use Rattle.hdr_base.specs.Classes.{bin_of, reach_of};
+ghost use Rattle.hdr_core.specs.Plain.{grain, reach};
+ghost use Rattle.hdr_core.specs.Recording.{added, recorded_each, spread};
+ghost use Rattle.hdr_core.specs.Samples.{StandsFor, Fits};
+ghost use Rattle.hdr_core.specs.Calls.{high_with};
+ghost use Rattle.hdr_core.specs.Refusals.{RefusesRecord};
+ghost use Rattle.hdr_core.specs.Missing.{missing, each, corrected, classes_held, down_to};
+
+use crate::errors::RecordError;
+use crate::histogram::Histogram;
+use hdr_base::{Counter, Ticks};
+
+impl<T: Counter> Histogram<T> {
+    /// Records a value once, and each value that was missed while it lasted.
+    pub fn record_correct(&mut self, value: u64, interval: u64) -> Result<(), RecordError>
+        ensures ok { OnOk result (self.new ≡ corrected T.greatest self.old value 1 interval) }
+        ensures samples { OnOk result ((S : List ℕ) → StandsFor self.old S
+            → Fits T.greatest (grain self.old) (S ++ spread (each 1 (value ∷ missing value interval)))
+            → StandsFor self.new (S ++ spread (each 1 (value ∷ missing value interval)))) }
+        ensures can { OnOk result ((value ≤ reach self.old) ⊎ (self.old.auto_resize ≡ true)) }
+        ensures refused { IfErr result (λ e. RefusesRecord self.old value e × (self.new ≡ self.old)) }
+    {
+        self.record_n_correct(value, T::one(), interval)
+    }
+
+    /// Records a value `count` times and then, for an interval of at least 1, each `value - j * interval` with `j` of at
+    /// least 1 that is at least the interval. Only the first record can be refused; a refusal changes nothing.
+    pub fn record_n_correct(&mut self, value: u64, count: T, interval: u64) -> Result<(), RecordError>
+        ensures ok { OnOk result (self.new ≡ corrected T.greatest self.old value (T.number count) interval) }
+        ensures samples { OnOk result ((S : List ℕ) → StandsFor self.old S
+            → Fits T.greatest (grain self.old) (S ++ spread (each (T.number count) (value ∷ missing value interval)))
+            → StandsFor self.new (S ++ spread (each (T.number count) (value ∷ missing value interval)))) }
+        ensures high { OnOk result (self.new.high ≡ high_with (grain self.old) self.old.high value (reach_of (grain self.old) value)) }
+        ensures can { OnOk result ((value ≤ reach self.old) ⊎ (self.old.auto_resize ≡ true)) }
+        ensures refused { IfErr result (λ e. RefusesRecord self.old value e × (self.new ≡ self.old)) }
+    {
+        self.record_n_correct_counted(value, count, interval, &mut Ticks::new())
+    }
+
+    /// The same, with a tick for each counter that is updated beside the first: one for each class that holds a missing
+    /// value, and so no more than there are bins.
+    pub fn record_n_correct_counted(&mut self, value: u64, count: T, interval: u64, ticks: &mut Ticks) -> Result<(), RecordError>
+        requires { ticks.old ≤ 2 ^ 63 }
+        ensures ok { OnOk result (self.new ≡ corrected T.greatest self.old value (T.number count) interval) }
+        ensures ticks { OnOk result (ticks.new ≡ ticks.old + classes_held (grain self.new) (length self.new.counts) (missing value interval)) }
+        ensures at_most_bins { OnOk result (ticks.new ≤ ticks.old + length self.new.counts) }
+        ensures samples { OnOk result ((S : List ℕ) → StandsFor self.old S
+            → Fits T.greatest (grain self.old) (S ++ spread (each (T.number count) (value ∷ missing value interval)))
+            → StandsFor self.new (S ++ spread (each (T.number count) (value ∷ missing value interval)))) }
+        ensures high { OnOk result (self.new.high ≡ high_with (grain self.old) self.old.high value (reach_of (grain self.old) value)) }
+        ensures can { OnOk result ((value ≤ reach self.old) ⊎ (self.old.auto_resize ≡ true)) }
+        ensures refused { IfErr result (λ e. RefusesRecord self.old value e × (self.new ≡ self.old) × (ticks.new ≡ ticks.old)) }
+    {
+        self.record_n(value, count)?;
+        if interval > 0 {
+            self.add_missing(value.saturating_sub(interval), count.as_u64(), interval, ticks);
+        }
+        Ok(())
+    }
+
+    /// Records the values from `first` down to the interval, an interval apart, class by class.
+    pub(crate) fn add_missing(&mut self, first: u64, count: u64, interval: u64, ticks: &mut Ticks)
+        requires step { 0 < interval }
+        requires within { first ≤ reach self.old }
+        requires room { ticks.old ≤ 2 ^ 63 }
+        ensures state { self.new ≡ recorded_each T.greatest self.old (each count (down_to first interval)) }
+        ensures ticks { ticks.new ≡ ticks.old + classes_held (grain self.old) (length self.old.counts) (down_to first interval) }
+        ensures samples { (S : List ℕ) → StandsFor self.old S → Fits T.greatest (grain self.old) (S ++ spread (each count (down_to first interval)))
+            → StandsFor self.new (S ++ spread (each count (down_to first interval))) }
+        ensures same_classes { grain self.new ≡ grain self.old }
+        ensures same_bins { length self.new.counts ≡ length self.old.counts }
+    {
+        let scale = self.scale;
+        let mut next = first;
+        while next >= interval {
+            let lowest = scale.lowest(next).max(interval);
+            let members = (next - lowest) / interval + 1;
+            self.add_counted(scale.bin(next), u128::from(members) * u128::from(count), ticks);
+            next -= members * interval;
+        }
+    }
+
+    /// Adds a number to a bin, with a tick: the one step that is counted.
+    fn add_counted(&mut self, bin: usize, number: u128, ticks: &mut Ticks)
+        requires bin { bin < length self.old.counts }
+        requires number { number + 2 ^ 64 < 2 ^ 128 }
+        requires room { ticks.old < 2 ^ 64 - 1 }
+        ensures state { self.new ≡ added T.greatest self.old bin number }
+        ensures ticks { ticks.new ≡ ticks.old + 1 }
+    {
+        self.add_to_bin(bin, number);
+        ticks.tick();
+    }
+}

@@ -1,0 +1,260 @@
+//! The histogram: how it is made, and what it tells of itself.
+
+ghost use Rattle.std.specs.Prelude.{◌≡◌, ◌↔◌, ℕ, MatchResult, MatchOption, IsTrue, false, true, ◌+◌, ◌-◌, ◌*◌, ◌^◌, ◌<◌, ◌≤◌, IfSome, SomeIff, length, slice_index};
+ghost use Rattle.hdr_base.specs.Classes.{bin_of, bucket, value_of, top_of};
+ghost use Rattle.hdr_core.specs.Plain.{IsPlain, grain, reach, empty_plain, max_of, min_nz_of, min_of};
+ghost use Rattle.hdr_core.specs.Recording.{grown};
+ghost use Rattle.hdr_core.specs.Refusals.{RefusesBounds, IsBounds};
+
+use crate::errors::CreationError;
+use crate::marks::Marks;
+use hdr_base::{Counter, Scale};
+use hdr_counts::Counts;
+use std::alloc::{AllocError, Global};
+use std::marker::Model;
+
+/// How often values were recorded, class by class, in counters of type `T`.
+///
+/// It is seen as a `Plain`: its bounds, the number of each bin, the total and the two marks. Bins are the classes from 0
+/// to the reach, in order.
+#[derive(Drop)]
+pub struct Histogram<T: Counter> {
+    pub(crate) scale: Scale,
+    pub(crate) low: u64,
+    pub(crate) high: u64,
+    pub(crate) sigfig: u8,
+    pub(crate) auto_resize: bool,
+    pub(crate) counts: Counts<T>,
+    pub(crate) total: u64,
+    pub(crate) marks: Marks,
+}
+
+impl<T: Counter> Model for Histogram<T> {
+    ghost use Rattle.hdr_core.specs.Plain.{Plain};
+
+    ghost Value = { Plain };
+
+    ghost use Rattle.hdr_core.specs.Shown.{shown, IsHeld};
+
+    ghost view = { shown };
+
+    ghost invariant = { λ h. IsHeld T.greatest h };
+}
+
+impl<T: Counter> Histogram<T> {
+    /// A histogram of values from 0 to at least `high`, which keeps `sigfig` digits of those from `low` on and does not
+    /// grow. `low` is 1 to `u64::MAX / 2`, `high` at least twice `low`, `sigfig` 0 to 5; the first of these that does
+    /// not hold is the error, and then want of memory.
+    pub fn new_with_bounds(alloc: Global, low: u64, high: u64, sigfig: u8) -> Result<Histogram<T>, CreationError>
+        ensures { MatchResult result (λ h. (h ≡ empty_plain low high sigfig false) × IsBounds low high sigfig) (RefusesBounds low high sigfig) }
+    {
+        if low < 1 {
+            return Err(CreationError::LowIsZero);
+        }
+        if low > u64::MAX / 2 {
+            return Err(CreationError::LowExceedsMax);
+        }
+        if high < 2 * low {
+            return Err(CreationError::HighLessThanTwiceLow);
+        }
+        if sigfig > 5 {
+            return Err(CreationError::SigFigExceedsMax);
+        }
+        let Some(scale) = Scale::new(low, sigfig) else {
+            return Err(CreationError::CannotRepresentSigFigBeyondLow);
+        };
+        let Ok(counts) = Counts::new(alloc, scale.buckets(high) + 1, scale.block()) else {
+            return Err(CreationError::OutOfMemory);
+        };
+        Ok(Histogram {
+            scale,
+            low,
+            high,
+            sigfig,
+            auto_resize: false,
+            counts,
+            total: 0,
+            marks: Marks::none(),
+        })
+    }
+
+    /// A histogram of values from 0 to at least `high`, with units of 1.
+    pub fn new_with_max(alloc: Global, high: u64, sigfig: u8) -> Result<Histogram<T>, CreationError>
+        ensures { MatchResult result (λ h. (h ≡ empty_plain 1 high sigfig false) × IsBounds 1 high sigfig) (RefusesBounds 1 high sigfig) }
+    {
+        Histogram::new_with_bounds(alloc, 1, high, sigfig)
+    }
+
+    /// A histogram that grows to the values that are recorded, with units of 1.
+    #[tactic(auto, unfolding(crate::specs::Plain::empty_plain))]
+    pub fn new(alloc: Global, sigfig: u8) -> Result<Histogram<T>, CreationError>
+        ensures { MatchResult result (λ h. (h ≡ empty_plain 1 2 sigfig true) × IsBounds 1 2 sigfig) (RefusesBounds 1 2 sigfig) }
+    {
+        let mut histogram = Histogram::new_with_bounds(alloc, 1, 2, sigfig)?;
+        histogram.auto_resize = true;
+        Ok(histogram)
+    }
+
+    /// Lets the bins grow to values past them, or not.
+    pub fn auto(&mut self, enabled: bool)
+        ensures { self.new ≡ record self.old { auto_resize = enabled } }
+    {
+        self.auto_resize = enabled;
+    }
+
+    /// How many bins there are, one for each class from 0 to the reach.
+    pub fn distinct_values(&self) -> usize
+        ensures value { result ≡ length self.now.counts }
+        ensures plain { IsPlain T.greatest self.now }
+    {
+        self.counts.len()
+    }
+
+    /// The lowest value of which the digits are kept.
+    pub fn low(&self) -> u64
+        ensures { result ≡ self.now.low }
+    {
+        self.low
+    }
+
+    /// The highest value that the bins were made for.
+    pub fn high(&self) -> u64
+        ensures { result ≡ self.now.high }
+    {
+        self.high
+    }
+
+    /// How many significant digits are kept, 0 to 5.
+    pub fn sigfig(&self) -> u8
+        ensures value { result ≡ self.now.sigfig }
+        ensures bound { self.now.sigfig ≤ 5 }
+    {
+        self.sigfig
+    }
+
+    /// How many samples were recorded, up to the greatest `u64`.
+    pub fn len(&self) -> u64
+        ensures { result ≡ self.now.total }
+    {
+        self.total
+    }
+
+    /// The old name of `len`.
+    pub fn count(&self) -> u64
+        ensures { result ≡ self.now.total }
+    {
+        self.total
+    }
+
+    /// Whether nothing was recorded.
+    pub fn is_empty(&self) -> bool
+        ensures { IsTrue result ↔ (self.now.total ≡ 0) }
+    {
+        self.total == 0
+    }
+
+    /// How many buckets there are up to that of `high`.
+    pub fn buckets(&self) -> u8
+        ensures { result ≡ bucket (grain self.now) self.now.high + 1 }
+    {
+        self.scale.buckets(self.high) as u8
+    }
+
+    /// Whether the bins grow to values past them.
+    pub fn is_auto_resize(&self) -> bool
+        ensures { result ≡ self.now.auto_resize }
+    {
+        self.auto_resize
+    }
+
+    /// The greatest value that has a bin.
+    pub(crate) fn reach(&self) -> u64
+        ensures { result ≡ reach self.now }
+    {
+        self.scale.reach(self.high)
+    }
+
+    /// The number of the bin of a value, `None` past the bins.
+    pub fn bin_of(&self, value: u64) -> Option<usize>
+        ensures value { SomeIff result (value ≤ reach self.now) (bin_of (grain self.now) value) }
+        ensures within { IfSome result (λ bin. bin < length self.now.counts) }
+    {
+        let bin = self.scale.bin(value);
+        if bin < self.counts.len() { Some(bin) } else { None }
+    }
+
+    /// The lowest value of a bin's class, `None` past the bins.
+    pub fn bin_value(&self, index: usize) -> Option<u64>
+        ensures { SomeIff result (index < length self.now.counts) (value_of (grain self.now) index) }
+    {
+        if index < self.counts.len() { Some(self.class_value(index)) } else { None }
+    }
+
+    /// The counter of a bin, `None` past the bins.
+    pub fn bin_count(&self, index: usize) -> Option<T>
+        ensures { MatchOption result (length self.now.counts ≤ index) (λ c. (index < length self.now.counts) × (T.number c ≡ slice_index self.now.counts index)) }
+    {
+        if index < self.counts.len() { Some(self.counts.get(index)) } else { None }
+    }
+
+    /// The lowest value of the class of a bin.
+    pub(crate) fn class_value(&self, bin: usize) -> u64
+        requires { bin < length self.now.counts }
+        ensures { result ≡ value_of (grain self.now) bin }
+    {
+        match self.scale.bin_value(bin) {
+            Some(value) => value,
+            None => 0,
+        }
+    }
+
+    /// The greatest value of the class of a bin.
+    pub(crate) fn class_top(&self, bin: usize) -> u64
+        requires { bin < length self.now.counts }
+        ensures { result ≡ top_of (grain self.now) (value_of (grain self.now) bin) }
+    {
+        self.scale.top(self.class_value(bin))
+    }
+
+    /// The greatest value of the last class that counts as recorded, 0 where none does.
+    pub fn max(&self) -> u64
+        ensures { result ≡ max_of self.now }
+    {
+        match self.marks.top() {
+            Some(bin) => self.class_top(bin),
+            None => 0,
+        }
+    }
+
+    /// The lowest value of the first class behind the first that counts as recorded, the greatest `u64` where none does.
+    pub fn min_nz(&self) -> u64
+        ensures { result ≡ min_nz_of self.now }
+    {
+        match self.marks.lower() {
+            Some(bin) => self.class_value(bin),
+            None => u64::MAX,
+        }
+    }
+
+    /// The lowest value of the first class that counts as recorded: 0 where nothing was recorded or the first bin is not
+    /// empty, else `min_nz`.
+    pub fn min(&self) -> u64
+        ensures { result ≡ min_of self.now }
+    {
+        if self.total == 0 || self.counts.get(0).as_u64() > 0 {
+            0
+        } else {
+            self.min_nz()
+        }
+    }
+
+    /// Makes bins up to the reach of a value past them, which becomes `high`. Refused for memory, it changes nothing.
+    pub(crate) fn grow(&mut self, high: u64) -> Result<(), AllocError>
+        requires { reach self.old < high }
+        ensures { MatchResult result (λ _. self.new ≡ grown self.old high) (λ _. self.new ≡ self.old) }
+    {
+        self.counts.grow(self.scale.buckets(high) + 1)?;
+        self.high = high;
+        Ok(())
+    }
+}

@@ -1,0 +1,21 @@
+//! The HDR histogram: recording, correction, merging and exact quantiles.
+#![tactic(auto)]
+
+pub mod errors;
+pub mod histogram;
+mod classes;
+mod marks;
+pub mod call;
+mod correction;
+mod equality;
+pub mod laws;
+mod merging;
+mod quantiles;
+mod recording;
+mod statistics;
+mod subtracting;
+
+pub use call::{Call, CallError, RunError};
+pub use errors::{AdditionError, CreationError, RecordError, SubtractionError, UsizeTypeTooSmall};
+pub use hdr_base::{Counter, Fraction, Quantile, Ticks};
+pub use histogram::Histogram;

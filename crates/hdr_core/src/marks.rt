@@ -1,0 +1,117 @@
+//! The two marks of a histogram: the classes that enclose all nonempty ones.
+
+ghost use Rattle.std.specs.Prelude.{◌≡◌, ◌+◌, ◌-◌, ◌^◌, ◌<◌, None, IfSome};
+ghost use Rattle.hdr_core.specs.Recording.{later_mark, earlier_mark};
+ghost use Rattle.hdr_core.specs.Merging.{later_of, earlier_of};
+ghost use Rattle.hdr_core.specs.Marked.{top_by, lower_by};
+
+use std::marker::Model;
+
+/// A top mark and a lower mark, each a class or none. A mark is one number with a value for none, so that it is widened
+/// without a branch.
+#[derive(Debug, Drop)]
+pub(crate) struct Marks {
+    /// The number of classes up to the top mark, 0 for none.
+    classes: usize,
+    /// The number of the class before the lower mark, the greatest number for none.
+    before: usize,
+}
+
+impl Model for Marks {
+    ghost use Rattle.std.specs.Prelude.{◌^◌, ◌<◌};
+    ghost use Rattle.hdr_core.specs.Marked.{Marked, top_by, lower_by};
+
+    ghost Value = { Marked };
+
+    ghost view = { λ m. record { top = top_by m.classes; lower = lower_by m.before } };
+
+    ghost invariant = { λ m. (m.classes < 2 ^ 64) × (m.before < 2 ^ 64) };
+}
+
+impl Marks {
+    /// No marks.
+    #[tactic(auto, unfolding(crate::specs::Marked::top_by))]
+    pub(crate) fn none() -> Marks
+        ensures { result ≡ record { top = None; lower = None } }
+    {
+        Marks {
+            classes: 0,
+            before: usize::MAX,
+        }
+    }
+
+    /// The marks of these classes; a lower mark is not the first class.
+    pub(crate) fn new(top: Option<usize>, lower: Option<usize>) -> Marks
+        requires top { IfSome top (λ i. i < 2 ^ 32) }
+        requires lower { IfSome lower (λ i. (0 < i) × (i < 2 ^ 32)) }
+        ensures { result ≡ record { top = top; lower = lower } }
+    {
+        Marks {
+            classes: behind(top),
+            before: before(lower),
+        }
+    }
+
+    /// The same marks.
+    pub(crate) fn same(&self) -> Marks
+        ensures { result ≡ self.now }
+    {
+        Marks {
+            classes: self.classes,
+            before: self.before,
+        }
+    }
+
+    /// The class of the top mark.
+    pub(crate) fn top(&self) -> Option<usize>
+        ensures { result ≡ self.now.top }
+    {
+        if self.classes == 0 { None } else { Some(self.classes - 1) }
+    }
+
+    /// The class of the lower mark.
+    pub(crate) fn lower(&self) -> Option<usize>
+        ensures { result ≡ self.now.lower }
+    {
+        if self.before == usize::MAX { None } else { Some(self.before + 1) }
+    }
+
+    /// Widens both marks by a class. The first class widens no lower mark.
+    pub(crate) fn widen(&mut self, class: usize)
+        requires { class < 2 ^ 32 }
+        ensures { self.new ≡ record { top = later_mark self.old.top class; lower = earlier_mark self.old.lower class } }
+    {
+        self.classes = self.classes.max(class + 1);
+        self.before = self.before.min(class.wrapping_sub(1));
+    }
+
+    /// Widens both marks by those of another histogram.
+    pub(crate) fn widen_by(&mut self, other: &Marks)
+        ensures { self.new ≡ record { top = later_of self.old.top other.now.top; lower = earlier_of self.old.lower other.now.lower } }
+    {
+        self.classes = self.classes.max(other.classes);
+        self.before = self.before.min(other.before);
+    }
+}
+
+/// The number of classes up to a top mark.
+fn behind(top: Option<usize>) -> usize
+    requires { IfSome top (λ i. i < 2 ^ 32) }
+    ensures { top_by result ≡ top }
+{
+    match top {
+        Some(class) => class + 1,
+        None => 0,
+    }
+}
+
+/// The number of the class before a lower mark.
+fn before(lower: Option<usize>) -> usize
+    requires { IfSome lower (λ i. (0 < i) × (i < 2 ^ 32)) }
+    ensures { lower_by result ≡ lower }
+{
+    match lower {
+        Some(class) => class - 1,
+        None => usize::MAX,
+    }
+}

@@ -1,0 +1,146 @@
+//! Recording and clearing.
+
+ghost use Rattle.std.specs.Prelude.{◌≡◌, ℕ, List, ◌+◌, ◌-◌, ◌^◌, ◌<◌, ◌≤◌, ◌⊎◌, ◌++◌, true, OnOk, IfOk, IfErr, min, length, replicate};
+ghost use Rattle.hdr_base.specs.Classes.{bin_of, reach_of};
+ghost use Rattle.hdr_core.specs.Plain.{grain, reach};
+ghost use Rattle.hdr_core.specs.Recording.{widened, added, recorded, clamped, cleared, restarted};
+ghost use Rattle.hdr_core.specs.Samples.{StandsFor, Fits};
+ghost use Rattle.hdr_core.specs.Calls.{high_with};
+ghost use Rattle.hdr_core.specs.Refusals.{RefusesRecord};
+
+use crate::errors::RecordError;
+use crate::histogram::Histogram;
+use crate::marks::Marks;
+use hdr_base::Counter;
+
+impl<T: Counter> Histogram<T> {
+    /// Records a value once.
+    pub fn record(&mut self, value: u64) -> Result<(), RecordError>
+        ensures ok { OnOk result (self.new ≡ recorded T.greatest self.old value 1) }
+        ensures samples { OnOk result ((S : List ℕ) → StandsFor self.old S
+            → Fits T.greatest (grain self.old) (S ++ replicate 1 value) → StandsFor self.new (S ++ replicate 1 value)) }
+        ensures can { OnOk result ((value ≤ reach self.old) ⊎ (self.old.auto_resize ≡ true)) }
+        ensures refused { IfErr result (λ e. RefusesRecord self.old value e × (self.new ≡ self.old)) }
+    {
+        self.record_n(value, T::one())
+    }
+
+    /// Records a value `count` times: the counter of its bin and the total grow, each up to its greatest, and the marks
+    /// are widened by its class, also where `count` is 0. A value past the bins is refused, unless the histogram grows;
+    /// then its reach becomes `high`. A refusal changes nothing, and want of memory comes past the bins alone.
+    pub fn record_n(&mut self, value: u64, count: T) -> Result<(), RecordError>
+        ensures ok { OnOk result (self.new ≡ recorded T.greatest self.old value (T.number count)) }
+        ensures samples { OnOk result ((S : List ℕ) → StandsFor self.old S
+            → Fits T.greatest (grain self.old) (S ++ replicate (T.number count) value)
+            → StandsFor self.new (S ++ replicate (T.number count) value)) }
+        ensures high { OnOk result (self.new.high ≡ high_with (grain self.old) self.old.high value (reach_of (grain self.old) value)) }
+        ensures can { OnOk result ((value ≤ reach self.old) ⊎ (self.old.auto_resize ≡ true)) }
+        ensures refused { IfErr result (λ e. RefusesRecord self.old value e × (self.new ≡ self.old)) }
+    {
+        let bin = match self.bin_of(value) {
+            Some(bin) => bin,
+            None => {
+                if !self.auto_resize {
+                    return Err(RecordError::ValueOutOfRangeResizeDisabled);
+                }
+                self.widen(value)?
+            }
+        };
+        self.add_to_bin(bin, u128::from(count.as_u64()));
+        Ok(())
+    }
+
+    /// Records a value once, or `high` in its place where the value is past the bins.
+    pub fn saturating_record(&mut self, value: u64)
+        ensures state { self.new ≡ recorded T.greatest self.old (clamped self.old value) 1 }
+        ensures samples { (S : List ℕ) → StandsFor self.old S
+            → Fits T.greatest (grain self.old) (S ++ replicate 1 (clamped self.old value))
+            → StandsFor self.new (S ++ replicate 1 (clamped self.old value)) }
+    {
+        self.saturating_record_n(value, T::one())
+    }
+
+    /// Records a value `count` times, or `high` in its place where the value is past the bins. It never grows, never
+    /// fails and takes no memory.
+    pub fn saturating_record_n(&mut self, value: u64, count: T)
+        ensures state { self.new ≡ recorded T.greatest self.old (clamped self.old value) (T.number count) }
+        ensures samples { (S : List ℕ) → StandsFor self.old S
+            → Fits T.greatest (grain self.old) (S ++ replicate (T.number count) (clamped self.old value))
+            → StandsFor self.new (S ++ replicate (T.number count) (clamped self.old value)) }
+    {
+        let value = self.clamped(value);
+        let bin = self.scale.bin(value);
+        self.add_to_bin(bin, u128::from(count.as_u64()));
+    }
+
+    /// The value, or `high` where the value is past the bins.
+    fn clamped(&self, value: u64) -> u64
+        ensures value { result ≡ clamped self.now value }
+        ensures within { result ≤ reach self.now }
+    {
+        match self.bin_of(value) {
+            Some(_) => value,
+            None => self.high,
+        }
+    }
+
+    /// Forgets what was recorded, and keeps the marks, the bins and the bounds.
+    pub fn clear(&mut self)
+        ensures { self.new ≡ cleared self.old }
+    {
+        self.counts.clear();
+        self.total = 0;
+    }
+
+    /// Forgets what was recorded and the marks, and keeps the bins and the bounds.
+    pub fn reset(&mut self)
+        ensures { self.new ≡ restarted self.old }
+    {
+        self.clear();
+        self.marks = Marks::none();
+    }
+
+    /// Makes bins up to a value past the reach, and gives its bin.
+    fn widen(&mut self, value: u64) -> Result<usize, RecordError>
+        requires { reach self.old < value }
+        ensures ok { IfOk result (λ bin. (self.new ≡ widened self.old value)
+            × (bin ≡ bin_of (grain self.old) value) × (bin < length self.new.counts)) }
+        ensures err { IfErr result (λ e. (e ≡ RecordError.OutOfMemory) × (self.new ≡ self.old)) }
+    {
+        let bin = self.scale.bin(value);
+        let high = self.scale.reach(value);
+        match self.grow(high) {
+            Ok(()) => Ok(bin),
+            Err(_) => Err(RecordError::OutOfMemory),
+        }
+    }
+
+    /// Adds a number to a bin and to the total, each up to its greatest, and widens the marks by the bin.
+    pub(crate) fn add_to_bin(&mut self, bin: usize, number: u128)
+        requires bin { bin < length self.old.counts }
+        requires number { number + 2 ^ 64 < 2 ^ 128 }
+        ensures { self.new ≡ added T.greatest self.old bin number }
+    {
+        let sum = u128::from(self.counts.get(bin).as_u64()) + number;
+        self.counts.set(bin, capped(sum));
+        self.total = capped_total(u128::from(self.total) + number);
+        self.marks.widen(bin);
+    }
+}
+
+/// The counter of a number, or the greatest where the number is above it.
+pub(crate) fn capped<T: Counter>(number: u128) -> T
+    ensures { T.number result ≡ min number T.greatest }
+{
+    match u64::try_from(number) {
+        Ok(number) => T::from_u64(number).unwrap_or(T::max_value()),
+        Err(_) => T::max_value(),
+    }
+}
+
+/// A number, or the greatest `u64` where the number is above it.
+pub(crate) fn capped_total(number: u128) -> u64
+    ensures { result ≡ min number (2 ^ 64 - 1) }
+{
+    u64::try_from(number).unwrap_or(u64::MAX)
+}
