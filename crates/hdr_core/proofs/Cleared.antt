@@ -196,9 +196,13 @@ grown-zeros xs b =
     ∙ sym (two-runs (length xs) (b - length xs))
     ∙ ap (λ k. replicate {A = ℕ} (length xs) 0 ++ replicate {A = ℕ} (b - k) 0) (sym (length-replicate {A = ℕ} (length xs) 0))
 
+pub restarted-grown : (h : Plain) (x : ℕ) → restarted (grown h x) ≡ grown (restarted h) x
+unfolding restarted grown
+restarted-grown h x = ap (λ ns. record (restarted h) { high = x; counts = ns }) (grown-zeros h.counts (bins_to (grain h) x))
+
 pub restarted-room : (h : Plain) (x : ℕ) → restarted (with_room h x) ≡ with_room (restarted h) x
-unfolding restarted with_room grown reach
+unfolding with_room
 restarted-room h x = elim (cases_lt (reach h) x) [
-    inl lt ↦ rw (leb-no x (reach_of (grain h) h.high) lt) (ap (λ ns. record (restarted h) { high = x; counts = ns }) (grown-zeros h.counts (bins_to (grain h) x)))
-    | inr le ↦ rw (leb-yes x (reach_of (grain h) h.high) le) refl
+    inl lt ↦ rw (leb-no x (reach h) lt, leb-no x (reach (restarted h)) (omega (arith, lt, reach-restarted h))) (restarted-grown h x)
+    | inr le ↦ rw (leb-yes x (reach h) le, leb-yes x (reach (restarted h)) (omega (arith, le, reach-restarted h))) refl
 ]

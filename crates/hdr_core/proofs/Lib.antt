@@ -12,6 +12,8 @@ pub mod Missing
 pub mod Fills
 pub mod ClassesHeld
 pub mod ByClass
+pub mod Corrected
+pub mod Copied
 pub mod Between
 pub mod WidenedMarks
 pub mod Cleared

@@ -17,7 +17,7 @@ use Rattle.hdr_core.specs.Samples.{in_class, StandsFor, Fits}
 use Rattle.hdr_base.proofs.Reach.{reach-holds, reach-reach}
 use Rattle.hdr_core.proofs.Kept.{widened-same, widened-more, room-in, room-widened, past-reach}
 
-eqb-same : (a : ℕ) → eqb a a ≡ true
+pub eqb-same : (a : ℕ) → eqb a a ≡ true
 eqb-same a = grind (arith, nat_tests)
 
 pub eqb-other : (a b : ℕ) → a ≢ b → eqb a b ≡ false
@@ -78,7 +78,7 @@ StandsFor-added greatest h v n S le room s fits = record {
     total = (let l : length (S ++ replicate n v) ≡ length S + n = simp (length-append, length-replicate) refl in omega (arith, s.total, fits.in_all))
 }
 
-reach-grown : (h : Plain) (v : ℕ) → v ≤ reach (grown h (reach_of (grain h) v))
+pub reach-grown : (h : Plain) (v : ℕ) → v ≤ reach (grown h (reach_of (grain h) v))
 unfolding reach grown
 reach-grown h v = omega (arith, reach-holds (grain h) v, reach-reach (grain h) v)
 

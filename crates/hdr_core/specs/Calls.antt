@@ -3,12 +3,12 @@ use Rattle.std.specs.Prelude.{◌≡◌, ◌==◌, ℕ, ◌+◌, ◌<◌, ◌≤
 use Rattle.hdr_base.specs.Classes.{Grain, reach_of, IsFiner}
 use Rattle.hdr_core.specs.Plain.{Plain, grain, max_of}
 use Rattle.hdr_core.specs.Recording.{recorded, clamped, cleared, restarted, spread}
-use Rattle.hdr_core.specs.Missing.{missing, each, corrected}
+use Rattle.hdr_core.specs.Missing.{missing, each, corrected, highest_top, merged_corrected, corrected_samples}
 use Rattle.hdr_core.specs.Merging.{merged}
 use Rattle.hdr_core.specs.Samples.{StandsFor, Fits}
-use Rattle.hdr_core.specs.Refusals.{RefusesRecord, RefusesAddition}
+use Rattle.hdr_core.specs.Refusals.{RefusesRecord, RefusesAddition, RefusesCorrected}
 use Rattle.hdr_core.specs.declared.call.Call.{Call}
-use Rattle.hdr_core.specs.declared.call.Call.TheVariants.{Record, Clamp, Correct, Clear, Reset, Add}
+use Rattle.hdr_core.specs.declared.call.Call.TheVariants.{Record, Clamp, Correct, Clear, Reset, Add, AddCorrect}
 use Rattle.hdr_core.specs.declared.call.RunError.{RunError}
 use Rattle.hdr_core.specs.declared.call.CallError.{CallError}
 use Rattle.hdr_core.specs.declared.call.CallError.TheVariants as err
@@ -21,6 +21,7 @@ after_call greatest number (Correct v n i) h = corrected greatest h v (number n)
 after_call greatest number Clear h = cleared h
 after_call greatest number Reset h = restarted h
 after_call greatest number (Add source) h = merged greatest h source.now
+after_call greatest number (AddCorrect source i) h = merged_corrected greatest h source.now i
 
 -- what calls make of it, one after another
 abbrev pub after_calls : {T : Type 0} → ℕ → (T → ℕ) → List (Call T) → Plain → Plain
@@ -32,6 +33,7 @@ abbrev pub RefusesCall : {T : Type 0} → Plain → Call T → CallError → Typ
 RefusesCall h (Record v n) (err.Record e) = RefusesRecord h v e
 RefusesCall h (Correct v n i) (err.Record e) = RefusesRecord h v e
 RefusesCall h (Add source) (err.Addition e) = RefusesAddition h source.now e
+RefusesCall h (AddCorrect source i) (err.Record e) = RefusesCorrected h source.now e
 RefusesCall h _ _ = ⊥
 
 -- the samples recorded so far, and the value that the bins were last made for
@@ -63,6 +65,9 @@ CallTo number g Reset s t = (t.samples ≡ []) × (t.high ≡ s.high)
 CallTo number g (Add source) s t =
     (L : List ℕ) × StandsFor source.now L × IsFiner (grain source.now) g × (t.samples ≡ s.samples ++ L)
     × (t.high ≡ (if length L == 0 then s.high else high_with g s.high (max_of source.now) (max_of source.now)))
+CallTo number g (AddCorrect source i) s t =
+    (L : List ℕ) × StandsFor source.now L × (t.samples ≡ s.samples ++ corrected_samples (grain source.now) i L)
+    × (t.high ≡ high_with g s.high (highest_top source.now) (reach_of g (highest_top source.now)))
 
 -- a run of calls takes one state to another, and after each call the samples fit
 abbrev pub CallsTo : {T : Type 0} → (T → ℕ) → Grain → (List ℕ → Type 0) → List (Call T) → State → State → Type 0

@@ -1,6 +1,7 @@
 -- When a call is refused.
 use Rattle.std.specs.Prelude.{◌≡◌, ◌+◌, ◌*◌, ◌^◌, ◌<◌, ◌≤◌, ℕ, true, false}
 use Rattle.hdr_core.specs.Plain.{Plain, grain, reach, max_of}
+use Rattle.hdr_core.specs.Missing.{highest_top}
 use Rattle.hdr_core.specs.declared.errors.AdditionError.{AdditionError}
 use Rattle.hdr_core.specs.declared.errors.AdditionError.TheVariants as addition
 use Rattle.hdr_core.specs.declared.errors.RecordError.{RecordError}
@@ -40,3 +41,7 @@ RefusesRoom h x addition.OutOfMemory = (reach h < x) × (h.auto_resize ≡ true)
 -- a source that isn't empty is refused where there is no room for its greatest value
 abbrev pub RefusesAddition : Plain → Plain → AdditionError → Type 0
 RefusesAddition h s e = (0 < s.total) × RefusesRoom h (max_of s) e
+
+-- a source to be corrected is refused where the top of its last nonempty class would be
+abbrev pub RefusesCorrected : Plain → Plain → RecordError → Type 0
+RefusesCorrected h s e = RefusesRecord h (highest_top s) e

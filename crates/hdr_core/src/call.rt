@@ -25,6 +25,8 @@ pub enum Call<'a, T: Counter> {
     Reset,
     /// `add` of another histogram.
     Add(&'a Histogram<T>),
+    /// `add_correct` of another histogram, with an interval.
+    AddCorrect(&'a Histogram<T>, u64),
 }
 
 /// Why a call was refused.
@@ -77,6 +79,10 @@ impl<T: Counter> Histogram<T> {
             Call::Add(source) => match self.add(source) {
                 Ok(()) => Ok(()),
                 Err(e) => Err(CallError::Addition(e)),
+            },
+            Call::AddCorrect(source, interval) => match self.add_correct(source, *interval) {
+                Ok(()) => Ok(()),
+                Err(e) => Err(CallError::Record(e)),
             },
         }
     }

@@ -16,6 +16,16 @@ impl<T: Counter> PartialEq for Histogram<T> {
     ghost laws = { Prim.search (comparing, rules) depth 9 };
 
     fn eq(&self, other: &Histogram<T>) -> bool {
+        self.equals(other)
+    }
+}
+
+impl<T: Counter> Histogram<T> {
+    /// Whether both keep the same digits of the same values and hold the same: `low`, `sigfig`, the number of samples,
+    /// `max`, `min_nz` and the counter of each bin, 0 where there is none. The other may count in another type.
+    pub fn equals<F: Counter>(&self, other: &Histogram<F>) -> bool
+        ensures { result ≡ same_plain self.now other.now }
+    {
         self.low == other.low
             && self.sigfig == other.sigfig
             && self.total == other.total
@@ -25,7 +35,7 @@ impl<T: Counter> PartialEq for Histogram<T> {
     }
 }
 
-fn same_numbers<T: Counter>(left: &Counts<T>, right: &Counts<T>) -> bool
+fn same_numbers<T: Counter, F: Counter>(left: &Counts<T>, right: &Counts<F>) -> bool
     ensures { result ≡ same_numbers left.now.numbers right.now.numbers }
 {
     for i in 0..left.len().max(right.len()) {

@@ -6,6 +6,8 @@ pub mod histogram;
 mod classes;
 mod marks;
 pub mod call;
+mod copying;
+mod correcting;
 mod correction;
 mod equality;
 pub mod laws;

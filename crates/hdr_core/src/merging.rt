@@ -117,7 +117,7 @@ impl<T: Counter> Histogram<T> {
     }
 
     /// Adds a source of the same bins, block by block.
-    fn join<F: Counter>(&mut self, source: &Histogram<F>)
+    pub(crate) fn join<F: Counter>(&mut self, source: &Histogram<F>)
         requires { same_bins self.old source.now ≡ true }
         ensures { self.new ≡ joined T.greatest self.old source.now }
     {

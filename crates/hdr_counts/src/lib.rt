@@ -65,6 +65,11 @@ impl<T: Counter> Counts<T> {
         self.counters.resize(len, T::zero())
     }
 
+    /// Where the counters are.
+    pub fn allocator(&self) -> Global {
+        *self.counters.allocator()
+    }
+
     /// How many counters there are.
     pub fn len(&self) -> usize
         ensures value { result ≡ length self.now.numbers }

@@ -3,7 +3,7 @@ use Rattle.hdr_base.specs.Classes.{reach_of}
 use Rattle.hdr_core.specs.Plain.{Plain, grain, max_of}
 use Rattle.hdr_core.specs.Recording.{clamped, recorded_each}
 use Rattle.hdr_core.specs.Samples.{StandsFor, Fits}
-use Rattle.hdr_core.specs.Missing.{missing, each}
+use Rattle.hdr_core.specs.Missing.{missing, each, highest_top}
 use Rattle.hdr_core.specs.Calls.{high_with, clamp}
 use Rattle.hdr_core.proofs.Kept.{grain-recorded}
 use Rattle.hdr_core.proofs.Spread.{grain-each}
@@ -83,4 +83,14 @@ returns-in-Ok-add-clause-samples g c = λ s t stands to fits.
     let m = max_of c.in-Add.source.now in (
       subst (λ N. StandsFor c.add.new.self N) (sym to.3) (c.in-Ok-add.ensures.samples s.samples L stands.0 to.1 to.2 (subst (λ N. Fits g.T.Counter.greatest (grain h) N) to.3 fits)),
       c.in-Ok-add.ensures.high L to.1 ∙ ap (λ x. cond (eqb (length L) 0) x (high_with (grain h) x m m)) stands.1 ∙ sym to.4,
+    )
+
+pub returns-in-Ok-add_correct-clause-samples : goal.returns-in-Ok-add_correct-clause-samples
+returns-in-Ok-add_correct-clause-samples g c = λ s t stands to fits.
+    let h = c.args.self.now in
+    let to = rw c.in-AddCorrect.is at to in
+    let L = to.0 in
+    let m = highest_top c.in-AddCorrect.source.now in (
+      subst (λ N. StandsFor c.add_correct.new.self N) (sym to.2) (c.in-Ok-add_correct.ensures.samples s.samples L stands.0 to.1 (subst (λ N. Fits g.T.Counter.greatest (grain h) N) to.2 fits)),
+      c.in-Ok-add_correct.ensures.high ∙ ap (λ x. high_with (grain h) x m (reach_of (grain h) m)) stands.1 ∙ sym to.3,
     )

@@ -1,0 +1,34 @@
+use Rattle.std.proofs.Common.{◌≡◌, ◌∙◌, ◌+◌, ◌-◌, ◌*◌, ◌^◌, ◌≤◌, ap, sym, arith}
+use Rattle.hdr_base.specs.Classes.{Grain, grain_of}
+use Rattle.hdr_counts.specs.Blocks.{Blocks}
+use Rattle.hdr_core.specs.Plain.{Plain, IsPlain, grain, empty_plain}
+use Rattle.hdr_core.specs.Shown.{shown}
+use Rattle.hdr_core.proofs.Kept.{IsPlain-empty, empty-by, blocks-are, digits-pos-of}
+use Rattle.hdr_core.proofs.histogram.Histogram.new_from.Goals as goal
+
+pub new-requires-clause-few : goal.new-requires-clause-few
+new-requires-clause-few g c = rw (c.block.ensures.value) c.buckets.ensures.few
+
+pub invariant_of-result : goal.invariant_of-result
+invariant_of-result g c =
+    let s = shown c.source.inside in
+    let same = c.source.invariant.scale in
+    let gr = grain_of s.low s.sigfig in
+    let block : c.block.result ≡ 2 ^ (gr.digits - 1) = c.block.ensures.value ∙ ap (λ (s : Grain). 2 ^ (s.digits - 1)) same in
+    let n = blocks-are c.source.inside.scale gr s.high c.buckets.result c.block.result same c.buckets.ensures.value block (digits-pos-of s.low s.sigfig) in
+    let made = empty-by s.low s.high s.sigfig (c.buckets.result + 1) c.block.result s.auto_resize c.in-Ok.counts.numbers (ap (λ (b : Blocks). b.numbers) c.in-Ok.ensures) n in
+    record {
+        scale = same;
+        block = ap (λ (b : Blocks). b.block) c.in-Ok.ensures ∙ block;
+        plain = rw (c.none.ensures, made) (IsPlain-empty g.T.Counter.greatest s.low s.high s.sigfig s.auto_resize c.source.invariant.plain.scale c.source.invariant.plain.high_fits)
+    }
+
+pub returns-clause-made : goal.returns-clause-made
+returns-clause-made g c =
+    let s = shown c.source.inside in
+    let same = c.source.invariant.scale in
+    let gr = grain_of s.low s.sigfig in
+    let block : c.block.result ≡ 2 ^ (gr.digits - 1) = c.block.ensures.value ∙ ap (λ (s : Grain). 2 ^ (s.digits - 1)) same in
+    let n = blocks-are c.source.inside.scale gr s.high c.buckets.result c.block.result same c.buckets.ensures.value block (digits-pos-of s.low s.sigfig) in
+    let made = empty-by s.low s.high s.sigfig (c.buckets.result + 1) c.block.result s.auto_resize c.in-Ok.counts.numbers (ap (λ (b : Blocks). b.numbers) c.in-Ok.ensures) n in
+    rw c.none.ensures made ∙ ap (λ (p : Plain). empty_plain p.low p.high p.sigfig p.auto_resize) c.source.view_is
