@@ -12,9 +12,9 @@ use Rattle.hdr_base.proofs.Finer.{bin-value_of}
 use Rattle.hdr_base.proofs.Reach.{reach-fits}
 use Rattle.hdr_core.specs.Plain.{Plain, IsPlain, grain, reach}
 use Rattle.hdr_core.specs.Samples.{in_class, StandsFor, Fits}
-use Rattle.hdr_core.specs.Recording.{Times, spread, recorded_each, widened, grown, restarted}
+use Rattle.hdr_core.specs.Recording.{Times, spread, added, recorded, recorded_each, widened, grown, restarted}
 use Rattle.hdr_core.specs.Calls.{high_with}
-use Rattle.hdr_core.specs.Missing.{missing, each, corrected_from, corrected_samples, last_top, highest_top, merged_corrected}
+use Rattle.hdr_core.specs.Missing.{missing, each, corrected, corrected_from, corrected_samples, last_top, highest_top, merged_corrected}
 use Rattle.hdr_core.proofs.Kept.{grain-digits, grain-fits, widened-same, widened-more, past-reach, IsPlain-grown, leb-no, leb-yes, room-in}
 use Rattle.hdr_core.proofs.Stands.{eqb-same, in_class-none, StandsFor-grown, reach-grown}
 use Rattle.hdr_core.proofs.Merged.{value-le-top, recorded_each-append}
@@ -279,3 +279,22 @@ merged_corrected-high greatest h s i =
 pub grain-merged_corrected : (greatest : ℕ) (h s : Plain) (i : ℕ) → grain (merged_corrected greatest h s i) ≡ grain h
 unfolding merged_corrected
 grain-merged_corrected greatest h s i = grain-each greatest (widened h (highest_top s)) (corrected_from (grain s) i 0 s.counts) ∙ grain-widened h (highest_top s)
+
+-- ---- one value, corrected
+
+recorded-from : (greatest : ℕ) (h : Plain) (v n : ℕ) → recorded greatest (widened h v) v n ≡ recorded greatest h v n
+unfolding recorded
+recorded-from greatest h v n =
+    ap (λ (w : Plain). added greatest w (bin_of (grain (widened h v)) v) n) (widened-same (widened h v) v (widened-holds h v))
+    ∙ ap (λ g. added greatest (widened h v) (bin_of g v) n) (grain-widened h v)
+
+pub StandsFor-one-corrected : (greatest : ℕ) (h : Plain) (v n i : ℕ) (S : List ℕ) → v < 2 ^ 64 → 1 ≤ greatest → IsPlain greatest h → StandsFor h S
+    → Fits greatest (grain h) (S ++ spread (each n (v ∷ missing v i))) → StandsFor (corrected greatest h v n i) (S ++ spread (each n (v ∷ missing v i)))
+unfolding corrected
+StandsFor-one-corrected greatest h v n i S small one p s fits =
+    let w = widened h v in
+    let ts = each n (v ∷ missing v i) in
+    let within : All (λ x. x ≤ reach w) (v ∷ missing v i) = All-cons (λ x. x ≤ reach w) v (missing v i) (widened-holds h v) (missing-within v i (reach w) (widened-holds h v)) in
+    subst (λ (x : Plain). StandsFor (recorded_each greatest x (each n (missing v i))) (S ++ spread ts)) (recorded-from greatest h v n)
+        (StandsFor-each greatest w ts S one (IsPlain-widened greatest h v small p) (each-within (reach w) n (v ∷ missing v i) within) (StandsFor-widened greatest h v S p s)
+            (subst (λ (g : Grain). Fits greatest g (S ++ spread ts)) (sym (grain-widened h v)) fits))

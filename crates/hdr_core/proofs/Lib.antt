@@ -14,6 +14,8 @@ pub mod ClassesHeld
 pub mod ByClass
 pub mod Corrected
 pub mod Copied
+pub mod Adding
+pub mod Sameness
 pub mod Between
 pub mod WidenedMarks
 pub mod Cleared

@@ -68,10 +68,10 @@ value-le-max h i e = subst (λ o. value_of (grain h) i ≤ top_of_mark (grain h)
 
 -- ---- the later and the earlier mark
 
-eqb-no : (a b : ℕ) → a ≢ b → eqb a b ≡ false
+pub eqb-no : (a b : ℕ) → a ≢ b → eqb a b ≡ false
 eqb-no a b h = grind (arith, nat_tests)
 
-eqb-yes : (a b : ℕ) → a ≡ b → eqb a b ≡ true
+pub eqb-yes : (a b : ℕ) → a ≡ b → eqb a b ≡ true
 eqb-yes a b h = grind (arith, nat_tests)
 
 pub above-later_of : (a b : Option ℕ) (j : ℕ) → IsAbove (later_of a b) j → IsAbove a j × IsAbove b j
@@ -105,7 +105,7 @@ lower-pos (Some i) n h = h.0
 
 -- ---- a source of the same bins
 
-both : (a b : Bool) → a && b ≡ true → (a ≡ true) × (b ≡ true)
+pub both : (a b : Bool) → a && b ≡ true → (a ≡ true) × (b ≡ true)
 both true b e = (refl, e)
 both false b e = absurd (false-true e)
     where

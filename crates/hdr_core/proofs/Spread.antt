@@ -37,7 +37,7 @@ unfoldable pub weigh : (ℕ → ℕ) → ℕ → List ℕ → ℕ
 weigh w k [] = 0
 weigh w k (n ∷ ns) = n * w k + weigh w (suc k) ns
 
-spread-weigh : (f : ℕ → ℕ) (g : Grain) (k : ℕ) (ns : List ℕ) → sum_by f (spread (classes_from g k ns)) ≡ weigh (λ i. f (value_of g i)) k ns
+pub spread-weigh : (f : ℕ → ℕ) (g : Grain) (k : ℕ) (ns : List ℕ) → sum_by f (spread (classes_from g k ns)) ≡ weigh (λ i. f (value_of g i)) k ns
 unfolding weigh
 spread-weigh f g k [] = refl
 spread-weigh f g k (zero ∷ ns) = spread-weigh f g (suc k) ns ∙ (let e : weigh (λ i. f (value_of g i)) (suc k) ns ≡ 0 * f (value_of g k) + weigh (λ i. f (value_of g i)) (suc k) ns = omega arith in e)
@@ -213,11 +213,11 @@ top-within : (g : Grain) (r : ℕ) (mark : Option ℕ) → ((i : ℕ) → mark �
 top-within g r None f = λ i d h. absurd (omega arith)
 top-within g r (Some i) f = All-cons (λ (t : Times). t.value ≤ r) (record { value = value_of g i; times = 0 }) [] (f i refl) (λ i d h. absurd (omega arith))
 
-spread-top : (g : Grain) (mark : Option ℕ) → spread (top_class g mark) ≡ []
+pub spread-top : (g : Grain) (mark : Option ℕ) → spread (top_class g mark) ≡ []
 spread-top g None = refl
 spread-top g (Some i) = refl
 
-classes-inside : (greatest : ℕ) (s : Plain) (r : ℕ) → IsPlain greatest s → max_of s ≤ r → All (λ (t : Times). t.value ≤ r) (classes_from (grain s) 0 s.counts ++ top_class (grain s) s.top_mark)
+pub classes-inside : (greatest : ℕ) (s : Plain) (r : ℕ) → IsPlain greatest s → max_of s ≤ r → All (λ (t : Times). t.value ≤ r) (classes_from (grain s) 0 s.counts ++ top_class (grain s) s.top_mark)
 classes-inside greatest s r q room = All-append (λ (t : Times). t.value ≤ r) (classes_from (grain s) 0 s.counts) (top_class (grain s) s.top_mark)
     (classes-within (grain s) r 0 s.counts (λ i pos. subst (λ j. value_of (grain s) j ≤ r) (let e : i ≡ 0 + i = omega arith in e)
         (let le : value_of (grain s) i ≤ r = omega (arith, room, number-le-max greatest s i (value_of (grain s) i) q pos (bin-value_of (grain s) i (grain-digits greatest s q))) in le)))
@@ -287,7 +287,7 @@ module _ (greatest most : ℕ) (h s : Plain) (S L : List ℕ) (one : 1 ≤ great
           ] in
       step (same_bins h s) refl
 
-grain-with_room : (h : Plain) (x : ℕ) → grain (with_room h x) ≡ grain h
+pub grain-with_room : (h : Plain) (x : ℕ) → grain (with_room h x) ≡ grain h
 unfolding grown
 grain-with_room h x = elim (cases_lt (reach h) x) [
     inl lt ↦ ap (λ (w : Plain). grain w) (with_room-more h x lt)

@@ -12,7 +12,7 @@ put-at (suc n) [] k = refl
 put-at zero (y ∷ ys) k = refl
 put-at (suc n) (y ∷ ys) k = refl
 
-trimmed-at : (xs : List ℕ) (k : ℕ) → get_or (trimmed xs) k 0 ≡ get_or xs k 0
+pub trimmed-at : (xs : List ℕ) (k : ℕ) → get_or (trimmed xs) k 0 ≡ get_or xs k 0
 trimmed-at [] k = refl
 trimmed-at (x ∷ xs) zero = put-at x (trimmed xs) zero
 trimmed-at (x ∷ xs) (suc k) = put-at x (trimmed xs) (suc k) ∙ trimmed-at xs k
@@ -22,7 +22,7 @@ trimmed-zeros [] h = refl
 trimmed-zeros (y ∷ ys) h =
     (let e : put_first zero [] ≡ put_first y (trimmed ys) = rw (← h zero, ← trimmed-zeros ys (λ k. h (suc k))) refl in e)
 
-trimmed-same : (xs ys : List ℕ) → ((k : ℕ) → get_or xs k 0 ≡ get_or ys k 0) → trimmed xs ≡ trimmed ys
+pub trimmed-same : (xs ys : List ℕ) → ((k : ℕ) → get_or xs k 0 ≡ get_or ys k 0) → trimmed xs ≡ trimmed ys
 trimmed-same [] ys h = trimmed-zeros ys h
 trimmed-same (x ∷ xs) [] h = sym (trimmed-zeros (x ∷ xs) (λ k. sym (h k)))
 trimmed-same (x ∷ xs) (y ∷ ys) h =

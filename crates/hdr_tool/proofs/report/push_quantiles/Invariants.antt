@@ -1,0 +1,8 @@
+use Rattle.std.proofs.Common.{◌≡◌, ◌++◌, take, string_bytes}
+use Rattle.std.specs.List.{flat_map}
+use Rattle.hdr_tool.specs.Report.{quantile_line}
+use Rattle.hdr_tool.proofs.report.push_quantiles.Given as goal
+
+-- the lines so far
+abbrev pub invariant-loop-quantile : goal.invariant-loop-quantile
+invariant-loop-quantile l = string_bytes l.text ≡ string_bytes l.fn.text ++ flat_map (quantile_line l.histogram) (take l.quantile-index l.quantiles)

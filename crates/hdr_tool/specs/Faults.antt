@@ -1,0 +1,29 @@
+-- Why a run is refused: the fault of a refused call, its line on standard error, and the exit status.
+use Rattle.std.specs.Prelude.{ℕ, List, ◌++◌, Option, Some, None, codes}
+use Rattle.std.specs.Fmt.{decimal}
+use Rattle.hdr_core.specs.declared.call.CallError.{CallError}
+use Rattle.hdr_core.specs.declared.call.CallError.TheVariants as call
+use Rattle.hdr_core.specs.declared.errors.RecordError.TheVariants as record_error
+use Rattle.hdr_core.specs.declared.errors.AdditionError.TheVariants as addition_error
+use Rattle.hdr_tool.specs.declared.fault.Fault.{Fault}
+use Rattle.hdr_tool.specs.declared.fault.Fault.TheVariants.{WrongWords, NotACommand, Refused, NoMemory, CannotRead, CannotWrite}
+
+-- the fault of a call that line k asked for and that was refused
+abbrev pub refusal_at : ℕ → CallError → Fault
+refusal_at k (call.Record record_error.OutOfMemory) = NoMemory
+refusal_at k (call.Addition addition_error.OutOfMemory) = NoMemory
+refusal_at k e = Refused k e
+
+-- the line on standard error; the text of a refused call is the library's
+abbrev pub fault_text : Fault → Option (List ℕ)
+fault_text WrongWords = Some (codes "hdr: usage: hdr report SIGFIG Q.. | hdr log SIGFIG | hdr merge SIGFIG Q..")
+fault_text (NotACommand k) = Some (codes "hdr: line " ++ decimal k ++ codes ": not a command")
+fault_text (Refused k e) = None
+fault_text NoMemory = Some (codes "hdr: no memory")
+fault_text CannotRead = Some (codes "hdr: cannot read the input")
+fault_text CannotWrite = Some (codes "hdr: cannot write the output")
+
+-- the exit status
+abbrev pub status_of : Fault → ℕ
+status_of WrongWords = 2
+status_of _ = 1

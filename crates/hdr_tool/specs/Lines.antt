@@ -1,0 +1,61 @@
+-- The call that a line asks for. A line has no line end.
+use Rattle.std.specs.Prelude.{ℕ, List, [], ◌∷◌, Option, Some, None, if◌then◌else◌, codes}
+use Rattle.std.specs.Str.{bytes_eq}
+use Rattle.hdr_core.specs.declared.call.Call.{Call}
+use Rattle.hdr_core.specs.declared.call.Call.TheVariants.{Record, Clamp, Correct, Clear, Reset}
+use Rattle.hdr_tool.specs.Parts.{◌>>=◌, parts, number_of}
+
+-- the count behind a value, 1 where there is none
+abbrev pub count_of : List (List ℕ) → Option ℕ
+count_of [] = Some 1
+count_of (count ∷ []) = number_of count
+count_of _ = None
+
+-- `r V [N]`, behind the name
+abbrev pub record_of : List (List ℕ) → Option (Call ℕ)
+record_of [] = None
+record_of (v ∷ rest) = do
+  value ← number_of v
+  count ← count_of rest
+  Some (Record value count)
+
+-- `s V [N]`
+abbrev pub clamp_of : List (List ℕ) → Option (Call ℕ)
+clamp_of [] = None
+clamp_of (v ∷ rest) = do
+  value ← number_of v
+  count ← count_of rest
+  Some (Clamp value count)
+
+-- `c V I [N]`
+abbrev pub correct_of : List (List ℕ) → Option (Call ℕ)
+correct_of (v ∷ i ∷ rest) = do
+  value ← number_of v
+  interval ← number_of i
+  count ← count_of rest
+  Some (Correct value count interval)
+correct_of _ = None
+
+-- a call by its name alone
+abbrev pub alone : Call ℕ → List (List ℕ) → Option (Call ℕ)
+alone call [] = Some call
+alone call _ = None
+
+-- the call of a name and of the fields behind it
+unfoldable pub named : List ℕ → List (List ℕ) → Option (Call ℕ)
+named name fields =
+    if bytes_eq name (codes "r") then record_of fields
+    else if bytes_eq name (codes "s") then clamp_of fields
+    else if bytes_eq name (codes "c") then correct_of fields
+    else if bytes_eq name (codes "clear") then alone Clear fields
+    else if bytes_eq name (codes "reset") then alone Reset fields
+    else None
+
+-- the call of fields
+abbrev pub call_of_fields : List (List ℕ) → Option (Call ℕ)
+call_of_fields [] = None
+call_of_fields (name ∷ fields) = named name fields
+
+-- the call of a line, whose fields are parted by one space each
+abbrev pub call_of : List ℕ → Option (Call ℕ)
+call_of line = call_of_fields (parts 32 line)

@@ -1,0 +1,52 @@
+-- What a run leaves and answers.
+use Rattle.std.specs.Prelude.{◌≡◌, ℕ, List, [], ◌∷◌, ◌++◌, take, Option, Some, None, Result, Ok, Err}
+use Rattle.std.specs.Io.KnownBytes.{Appends, Keeps, IsAtEnd}
+use Rattle.hdr_tool.specs.declared.fault.Fault.{Fault}
+use Rattle.hdr_tool.specs.declared.fault.Fault.TheVariants.{WrongWords, NoMemory, CannotRead, CannotWrite}
+
+-- what is written, and what state or fault stands at the end
+pub record Outcome (A : Type 0) : Type 0 where
+  pub written : List ℕ
+  pub ended : Result A Fault
+
+-- a text, and then what comes behind it
+abbrev pub after : {A : Type 0} → List ℕ → Outcome A → Outcome A
+after text out = record { written = text ++ out.written; ended = out.ended }
+
+-- a step ends the run by a fault, or writes a text and hands on a state
+abbrev pub GoesOn : {A : Type 0} → (A → Outcome A → Type 0) → Result (List ℕ × A) Fault → Outcome A → Type 0
+GoesOn Next (Err f) out = out ≡ record { written = []; ended = Err f }
+GoesOn {A = A} Next (Ok step) out = (rest : Outcome A) × Next step.1 rest × (out ≡ after step.0 rest)
+
+-- steps from a state over a list, up to the first fault
+abbrev pub Runs : {A B : Type 0} → (A → B → Result (List ℕ × A) Fault → Type 0) → A → List B → Outcome A → Type 0
+Runs Step a [] out = out ≡ record { written = []; ended = Ok a }
+Runs {A = A} Step a (x ∷ xs) out = (r : Result (List ℕ × A) Fault) × Step a x r × GoesOn (λ b. Runs Step b xs) r out
+
+-- known bytes grow by a beginning of a text
+abbrev pub AppendsFront : Option (List ℕ) → Option (List ℕ) → List ℕ → Type 0
+AppendsFront old new text = (n : ℕ) × Appends old new (take n text)
+
+-- a fault by name is one that the definition gives; want of memory may come in place of any answer
+abbrev pub Refuses : (Fault → Type 0) → Fault → Type 0
+Refuses P NoMemory = Unit {0}
+Refuses P CannotRead = ⊥
+Refuses P CannotWrite = ⊥
+Refuses P f = P f
+
+-- Ok and each fault by name are how the program P ends, and the writer gets all that P writes. Want of memory and
+-- faults of the streams may come in place of any answer: nothing is written then, but where the writer itself fails,
+-- which gets a beginning of what P writes.
+abbrev pub Answers : (List ℕ → Option Fault → Type 0) → Option (List ℕ) → Option (List ℕ) → Result (Unit {0}) Fault → Type 0
+Answers P old new (Ok u) = (text : List ℕ) × P text None × Appends old new text
+Answers P old new (Err NoMemory) = Keeps old new
+Answers P old new (Err CannotRead) = Keeps old new
+Answers P old new (Err CannotWrite) = (text : List ℕ) × (fault : Option Fault) × P text fault × AppendsFront old new text
+Answers P old new (Err f) = (text : List ℕ) × P text (Some f) × Appends old new text
+
+-- wrong words leave the input unread; else all of it is read, unless memory or the reader fails
+abbrev pub ReadsAll : Option (List ℕ) → Option (List ℕ) → Result (Unit {0}) Fault → Type 0
+ReadsAll old new (Err WrongWords) = Keeps old new
+ReadsAll old new (Err NoMemory) = Unit {0}
+ReadsAll old new (Err CannotRead) = Unit {0}
+ReadsAll old new _ = IsAtEnd new

@@ -1,0 +1,24 @@
+-- The text of a report.
+use Rattle.std.specs.Prelude.{◌≡◌, ◌⊎◌, ℕ, List, [], ◌∷◌, ◌++◌, codes}
+use Rattle.std.specs.List.{flat_map}
+use Rattle.std.specs.Fmt.{decimal}
+use Rattle.hex.specs.Hex.{encode_lower}
+use Rattle.hdr_base.specs.Fractions.{Ratio}
+use Rattle.hdr_core.specs.Plain.{Plain}
+use Rattle.hdr_core.specs.Ranks.{quantile_of}
+use Rattle.hdrhistogram.specs.V2.{IsV2, HasTooGreatCount}
+
+-- `NUM/DEN VALUE`, and a line end
+abbrev pub quantile_line : Plain → Ratio → List ℕ
+quantile_line h q = decimal q.num ++ 47 ∷ [] ++ decimal q.den ++ 32 ∷ [] ++ decimal (quantile_of h q) ++ 10 ∷ []
+
+-- a field holds the histogram's bytes in hexadecimal, or `none` where a count is too great for bytes
+abbrev pub IsBytesField : Plain → List ℕ → Type 0
+IsBytesField h field = ((bytes : List ℕ) × IsV2 h bytes × (field ≡ encode_lower bytes)) ⊎ (HasTooGreatCount h × (field ≡ codes "none"))
+
+-- a text is `len N`, a line for each quantile in order, and `v2` with the field of the bytes
+abbrev pub IsReport : Plain → List Ratio → List ℕ → Type 0
+IsReport h quantiles text =
+    (field : List ℕ) × IsBytesField h field × (text ≡ codes "len " ++ decimal h.total ++ 10 ∷ []
+    ++ flat_map (quantile_line h) quantiles
+    ++ codes "v2 " ++ field ++ 10 ∷ [])

@@ -1,0 +1,61 @@
+//! The program `hdr`: reads samples, line by line, and reports quantiles of them.
+#![tactic(auto)]
+
+mod command;
+mod fault;
+mod lines;
+mod parts;
+#[cfg(test)]
+mod refused;
+mod report;
+mod run;
+mod stream;
+#[cfg(test)]
+mod tests;
+mod words;
+
+use fault::Fault;
+use run::run;
+use std::env;
+use std::io::{BufWriter, ErrorKind, Write};
+use std::process::ExitCode;
+
+/// How much of the output is held back at most.
+const HELD: usize = 65_536;
+
+/// The words of the command line, without the program's name.
+fn words_given(rt: &HostRuntime) -> Result<Vec<String>, Fault> {
+    let mut words = match env::args(rt) {
+        Ok(words) => words,
+        Err(e) if e.kind() == ErrorKind::OutOfMemory => return Err(Fault::NoMemory),
+        Err(_) => return Err(Fault::WrongWords),
+    };
+    let _name = words.next();
+    match words.collect(rt.alloc()) {
+        Ok(words) => Ok(words),
+        Err(_) => Err(Fault::NoMemory),
+    }
+}
+
+/// Runs the program on the streams of the process.
+fn hdr(rt: &HostRuntime) -> Result<(), Fault> {
+    let words = words_given(rt)?;
+    let Ok(mut output) = BufWriter::with_capacity(rt.alloc(), HELD, rt.stdout()) else {
+        return Err(Fault::NoMemory);
+    };
+    let ran = run(rt.alloc(), words.as_slice(), &mut rt.stdin(), &mut output);
+    if output.flush().is_err() {
+        return Err(Fault::CannotWrite);
+    }
+    ran
+}
+
+fn main(rt: HostRuntime) -> ExitCode {
+    match hdr(&rt) {
+        Ok(()) => ExitCode::SUCCESS,
+        Err(fault) => {
+            let _ = eprintln!(rt; "{fault}");
+            ExitCode::from(fault.status())
+        }
+    }
+}

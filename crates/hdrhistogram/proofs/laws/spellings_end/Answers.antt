@@ -1,0 +1,5 @@
+use Rattle.hdrhistogram.proofs.Spellings.{one_spelling_of}
+use Rattle.hdrhistogram.proofs.laws.spellings_end.Goals as goal
+
+pub returns : goal.returns
+returns c = one_spelling_of

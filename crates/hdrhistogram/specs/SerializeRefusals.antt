@@ -1,0 +1,24 @@
+-- Why the V2 serializer refuses, and what it leaves in the writer.
+use Rattle.std.specs.Prelude.{ℕ, List, Option}
+use Rattle.std.specs.Io.KnownBytes.{Keeps}
+use Rattle.hdr_core.specs.Plain.{Plain}
+use Rattle.hdrhistogram.specs.V2.{IsV2, HasTooGreatCount}
+use Rattle.hdrhistogram.specs.Streams.{AppendsFront}
+use Rattle.hdrhistogram.specs.declared.serialization.errors.V2SerializeError.{V2SerializeError}
+use Rattle.hdrhistogram.specs.declared.serialization.errors.V2SerializeError.TheVariants.{CountNotSerializable, UsizeTypeTooSmall, IoError, OutOfMemory}
+
+-- the histogram's bytes are refused for a count that is too great or for want of memory, and for
+-- nothing else
+abbrev pub RefusesBytes : Plain → V2SerializeError → Type 0
+RefusesBytes h CountNotSerializable = HasTooGreatCount h
+RefusesBytes h UsizeTypeTooSmall = ⊥
+RefusesBytes h (IoError e) = ⊥
+RefusesBytes h OutOfMemory = Unit {0}
+
+-- the histogram is not written: after an i/o error a beginning of its bytes stands in the writer,
+-- and any other refusal wrote nothing
+abbrev pub RefusesWriting : Plain → Option (List ℕ) → Option (List ℕ) → V2SerializeError → Type 0
+RefusesWriting h old new CountNotSerializable = HasTooGreatCount h × Keeps old new
+RefusesWriting h old new UsizeTypeTooSmall = ⊥
+RefusesWriting h old new (IoError e) = (bytes : List ℕ) × IsV2 h bytes × AppendsFront old new bytes
+RefusesWriting h old new OutOfMemory = Keeps old new

@@ -1,0 +1,13 @@
+-- What writing leaves: in a buffer of the caller's, and in a writer that tells its bytes.
+use Rattle.std.specs.Prelude.{◌≡◌, ℕ, ◌<◌, ◌++◌, List, length, take, drop, Option}
+use Rattle.std.specs.Io.KnownBytes.{Appends}
+
+-- the first `count` bytes of a buffer are now a text of which P holds, and behind it the bytes are
+-- as before
+abbrev pub WritesFront : (List ℕ → Type 0) → List ℕ → List ℕ → ℕ → Type 0
+WritesFront P old new count =
+    (text : List ℕ) × P text × (count ≡ length text) × (new ≡ text ++ drop count old)
+
+-- known bytes grow by a beginning of the text, not by all of it
+abbrev pub AppendsFront : Option (List ℕ) → Option (List ℕ) → List ℕ → Type 0
+AppendsFront old new text = (n : ℕ) × (n < length text) × Appends old new (take n text)

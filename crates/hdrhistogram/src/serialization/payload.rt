@@ -1,0 +1,120 @@
+//! The payload of V2 bytes: the counts, with runs of empty bins.
+
+ghost use Rattle.std.specs.Prelude.{◌≡◌, ℕ, List, length, drop, take, slice_index, ◌++◌, ◌+◌, ◌*◌};
+ghost use Rattle.std.specs.Prelude.{◌≤◌, ◌<◌, ◌^◌, IfOk, IfErr, OnOk, All};
+ghost use Rattle.std.specs.Option.{SomeIff};
+ghost use Rattle.hdr_core.specs.Plain.{IsPlain};
+ghost use Rattle.hdrhistogram.specs.Streams.{WritesFront};
+ghost use Rattle.hdrhistogram.specs.Varint.{IsShortest};
+ghost use Rattle.hdrhistogram.specs.ZigZag.{zig_zag};
+ghost use Rattle.hdrhistogram.specs.Payload.{IsPayload, IsRunText};
+ghost use Rattle.hdrhistogram.specs.V2.{written_bins, written_counts, HasTooGreatCount};
+
+use crate::serialization::errors::V2SerializeError;
+use crate::serialization::varint::varint_write;
+use crate::serialization::zig_zag::zig_zag_encode;
+use hdr_base::Counter;
+use hdr_core::Histogram;
+
+/// The greatest count that zig-zag takes.
+const GREATEST_COUNT: u64 = i64::MAX as u64;
+
+/// The most bytes that the payload of so many bins takes, nine for each; `None` where that is above
+/// the greatest `usize`.
+pub fn counts_array_max_encoded_size(length: usize) -> Option<usize>
+    ensures { SomeIff result (9 * length < 2 ^ 64) (9 * length) }
+{
+    length.checked_mul(9)
+}
+
+/// How many bins are written: those up to the top mark's, or the first alone where there is no
+/// mark.
+pub(crate) fn written_bins<T: Counter>(h: &Histogram<T>) -> usize
+    ensures value { result ≡ written_bins h.now }
+    ensures within { result ≤ length h.now.counts }
+    ensures few { result ≤ 6291456 }
+    ensures plain { IsPlain T.greatest h.now }
+{
+    let bins = h.distinct_values();
+    match h.bin_of(h.max()) {
+        Some(bin) => bin + 1,
+        None => bins,
+    }
+}
+
+/// The number of a bin's counter.
+#[inline]
+fn count_of<T: Counter>(h: &Histogram<T>, bin: usize) -> u64
+    requires { bin < length h.now.counts }
+    ensures { result ≡ slice_index h.now.counts bin }
+{
+    h.bin_count(bin).unwrap().as_u64()
+}
+
+/// Writes a number at a place, and gives the place behind it.
+#[inline]
+fn put_number(buf: &mut [u8], at: usize, number: i64) -> usize
+    requires { at + 9 ≤ length buf.old }
+    ensures few { result ≤ at + 9 }
+    ensures further { at ≤ result }
+    ensures front { (text : List ℕ) × IsShortest text (zig_zag number)
+        × (take result buf.new ≡ take at buf.old ++ text) }
+    ensures behind { drop result buf.new ≡ drop result buf.old }
+{
+    at + varint_write(zig_zag_encode(number), &mut buf[at..])
+}
+
+/// Writes a run of empty bins at a place, or nothing for none, and gives the place behind it.
+#[inline]
+fn put_run(buf: &mut [u8], at: usize, empty: u64) -> usize
+    requires room { at + 9 * empty ≤ length buf.old }
+    requires fits { empty < 2 ^ 63 }
+    ensures few { result ≤ at + 9 * empty }
+    ensures further { at ≤ result }
+    ensures front { (text : List ℕ) × IsRunText empty text
+        × (take result buf.new ≡ take at buf.old ++ text) }
+    ensures behind { drop result buf.new ≡ drop result buf.old }
+{
+    match empty {
+        0 => at,
+        1 => put_number(buf, at, 0),
+        _ => put_number(buf, at, -(empty as i64)),
+    }
+}
+
+/// Writes the payload of a histogram at the front of the buffer, and gives its length in bytes: the
+/// counts of the bins up to the top mark's in order, each run of empty bins as one number, by
+/// zig-zag and the shortest spellings. The buffer must have room for nine bytes for each of these
+/// bins.
+///
+/// A count above the greatest `i64` is refused as `CountNotSerializable`, and nothing else is; what
+/// the buffer holds then is left open. The call takes no memory.
+pub fn encode_counts<T: Counter>(
+    h: &Histogram<T>,
+    buf: &mut [u8],
+) -> Result<usize, V2SerializeError>
+    requires { 9 * written_bins h.now ≤ length buf.old }
+    ensures written { IfOk result (WritesFront (IsPayload (written_counts h.now)) buf.old buf.new) }
+    ensures few { IfOk result (λ n. (n ≤ 9 * written_bins h.now) × (n ≤ 56623104)) }
+    ensures ok { OnOk result (All (λ n. n < 2 ^ 63) h.now.counts) }
+    ensures refused { IfErr result (λ e. (e ≡ V2SerializeError.CountNotSerializable)
+        × HasTooGreatCount h.now) }
+{
+    let bins = written_bins(h);
+    let mut written = 0;
+    let mut empty = 0;
+    for bin in 0..bins {
+        let count = count_of(h, bin);
+        if count == 0 {
+            empty += 1;
+        } else {
+            if count > GREATEST_COUNT {
+                return Err(V2SerializeError::CountNotSerializable);
+            }
+            written = put_run(buf, written, empty);
+            empty = 0;
+            written = put_number(buf, written, count as i64);
+        }
+    }
+    Ok(put_run(buf, written, empty))
+}

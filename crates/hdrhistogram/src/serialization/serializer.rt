@@ -1,0 +1,29 @@
+//! What writes histograms.
+
+ghost use Rattle.std.specs.Prelude.{◌≡◌, ℕ, List, length, IfOk};
+ghost use Rattle.std.specs.Io.KnownBytes.{Appends};
+ghost use Rattle.hdr_core.specs.Plain.{Plain};
+
+use hdr_base::Counter;
+use hdr_core::Histogram;
+use std::io::Write;
+
+/// Writes histograms as bytes.
+pub trait Serializer {
+    /// Why a histogram is not written.
+    type SerializeError;
+
+    /// The histogram may be written as these bytes. The relation speaks of the histogram's numbers
+    /// alone, of no counter type and of no writer.
+    ghost writes: { Plain → List ℕ → Type 0 };
+
+    /// Writes the histogram whole, and gives the number of bytes written.
+    fn serialize<T: Counter, W: Write>(
+        &mut self,
+        h: &Histogram<T>,
+        writer: &mut W,
+    ) -> Result<usize, Self::SerializeError>
+        ensures written { IfOk result (λ n. (bytes : List ℕ)
+            × writes h.now bytes × (n ≡ length bytes)
+            × Appends (W.contents writer.old) (W.contents writer.new) bytes) };
+}

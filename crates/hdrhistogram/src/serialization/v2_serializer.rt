@@ -1,0 +1,141 @@
+//! The V2 encoding, uncompressed: a header of 40 bytes, then the counts up to the top mark's bin.
+
+ghost use Rattle.std.specs.Prelude.{◌≡◌, ◌+◌, ◌*◌, ◌^◌, ◌≤◌, ◌<◌, ℕ, List, [], length, take, vec_len};
+ghost use Rattle.std.specs.Prelude.{All, OnOk, IfOk, IfErr};
+ghost use Rattle.std.specs.Io.KnownBytes.{Appends};
+ghost use Rattle.hdrhistogram.specs.V2.{IsV2, HasTooGreatCount, written_bins};
+ghost use Rattle.hdrhistogram.specs.SerializeRefusals.{RefusesBytes, RefusesWriting};
+
+pub use crate::serialization::errors::V2SerializeError;
+use crate::serialization::header::{HEADER_LEN, write_header};
+use crate::serialization::payload::written_bins;
+pub use crate::serialization::payload::{counts_array_max_encoded_size, encode_counts};
+use crate::serialization::serializer::Serializer;
+use crate::serialization::streams::write_whole;
+pub use crate::serialization::varint::varint_write;
+pub use crate::serialization::zig_zag::{zig_zag_decode, zig_zag_encode};
+use hdr_base::Counter;
+use hdr_core::Histogram;
+use std::alloc::{AllocError, Global};
+use std::io::Write;
+use std::marker::Model;
+
+/// Writes histograms as V2 bytes, by way of a buffer of its own, which is used again.
+///
+/// To its callers it is the list of the bytes of the last histogram: none when it is new, and after
+/// each refusal.
+#[derive(Drop)]
+pub struct V2Serializer {
+    buffer: Vec<u8>,
+    len: usize,
+}
+
+impl Model for V2Serializer {
+    ghost use Rattle.std.specs.Prelude.{ℕ, List, ◌≤◌, take, vec_len};
+
+    ghost Value = { List ℕ };
+
+    ghost view = { λ s. take s.len s.buffer.items };
+
+    ghost invariant = { λ s. s.len ≤ vec_len s.buffer };
+}
+
+impl V2Serializer {
+    ghost use Rattle.std.specs.Borrow.{sem};
+    ghost use Rattle.hdrhistogram.specs.Lending.{ends_lending};
+
+    /// A serializer with an empty buffer. It takes no memory.
+    pub fn new(alloc: Global) -> V2Serializer
+        ensures { result ≡ [] }
+    {
+        V2Serializer {
+            buffer: Vec::new(alloc),
+            len: 0,
+        }
+    }
+
+    /// Puts the V2 bytes of a histogram into the buffer.
+    fn fill<T: Counter>(&mut self, h: &Histogram<T>) -> Result<(), V2SerializeError>
+        ensures bytes { OnOk result (IsV2 h.now self.new) }
+        ensures ok { OnOk result (All (λ n. n < 2 ^ 63) h.now.counts) }
+        ensures refused { IfErr result (λ e. RefusesBytes h.now e × (self.new ≡ [])) }
+    {
+        self.len = 0;
+        if make_room(&mut self.buffer, HEADER_LEN + 9 * written_bins(h)).is_err() {
+            return Err(V2SerializeError::OutOfMemory);
+        }
+        self.len = write_v2(h, &mut self.buffer)?;
+        Ok(())
+    }
+
+    /// The V2 bytes of a histogram, lent from the serializer's own buffer: at most 40 bytes and
+    /// nine for each bin up to the top mark's.
+    ///
+    /// The buffer grows first and once, so want of memory is answered before a count above the
+    /// greatest `i64`. Nothing else is refused, and after a refusal the serializer is as new.
+    pub fn to_bytes<T: Counter>(&mut self, h: &Histogram<T>) -> Result<&[u8], V2SerializeError>
+        ensures bytes { IfOk result (λ bytes. IsV2 h.now bytes.now) }
+        ensures ok { OnOk result (All (λ n. n < 2 ^ 63) h.now.counts) }
+        ensures refused { IfErr result (RefusesBytes h.now) }
+        ensures* after { sem 𝓛 (ends_lending self.entry result) }
+    {
+        self.fill(h)?;
+        Ok(&self.buffer[..self.len])
+    }
+}
+
+impl Serializer for V2Serializer {
+    type SerializeError = V2SerializeError;
+
+    ghost writes = { IsV2 };
+
+    /// Writes the V2 bytes of a histogram, and gives their number. They stand in the buffer whole
+    /// before the first of them is written, by single calls of `write`. A call that fails, is
+    /// interrupted or takes no byte is answered as `IoError`, and a beginning of the bytes then
+    /// stands in the writer; the other refusals are those of `to_bytes`, and write nothing. After
+    /// each of them the serializer is as new.
+    fn serialize<T: Counter, W: Write>(
+        &mut self,
+        h: &Histogram<T>,
+        writer: &mut W,
+    ) -> Result<usize, V2SerializeError>
+        ensures written { IfOk result (λ n. (bytes : List ℕ) × IsV2 h.now bytes × (n ≡ length bytes)
+            × Appends (W.contents writer.old) (W.contents writer.new) bytes) }
+        ensures ok { OnOk result (All (λ n. n < 2 ^ 63) h.now.counts) }
+        ensures held { OnOk result (IsV2 h.now self.new) }
+        ensures refused { IfErr result (λ e. (self.new ≡ [])
+            × RefusesWriting h.now (W.contents writer.old) (W.contents writer.new) e) }
+    {
+        self.fill(h)?;
+        match write_whole(writer, &self.buffer[..self.len]) {
+            Ok(()) => Ok(self.len),
+            Err(cause) => {
+                self.len = 0;
+                Err(V2SerializeError::IoError(cause))
+            }
+        }
+    }
+}
+
+/// Makes the buffer at least so many bytes long.
+fn make_room(buffer: &mut Vec<u8>, room: usize) -> Result<(), AllocError>
+    ensures { OnOk result (room ≤ vec_len buffer.new) }
+{
+    if buffer.len() < room {
+        buffer.resize(room, 0)?;
+    }
+    Ok(())
+}
+
+/// Writes the V2 bytes of a histogram at the front of the buffer, and gives their number.
+fn write_v2<T: Counter>(h: &Histogram<T>, buf: &mut [u8]) -> Result<usize, V2SerializeError>
+    requires { 40 + 9 * written_bins h.now ≤ length buf.old }
+    ensures written { IfOk result (λ n. (n ≤ length buf.new) × IsV2 h.now (take n buf.new)) }
+    ensures ok { OnOk result (All (λ n. n < 2 ^ 63) h.now.counts) }
+    ensures refused { IfErr result (λ e. (e ≡ V2SerializeError.CountNotSerializable)
+        × HasTooGreatCount h.now) }
+{
+    let payload_len = encode_counts(h, &mut buf[HEADER_LEN..])?;
+    write_header(h, payload_len as u32, buf);
+    Ok(HEADER_LEN + payload_len)
+}

@@ -1,0 +1,1 @@
+exec "$1" report 3 1/2 </dev/null >&-

@@ -1,0 +1,1 @@
+exec "$1" report 3 "$(printf '1/2\377')"
