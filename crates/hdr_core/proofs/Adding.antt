@@ -66,8 +66,8 @@ own-class g j ns m =
 
 number-fits : (greatest : ℕ) (h : Plain) (i : ℕ) → IsPlain greatest h → get_or h.counts i 0 ≤ greatest
 number-fits greatest h i p = elim (cases_lt i (length h.counts)) [
-    inl lt ↦ p.numbers_fit i 0 lt
-    | inr ge ↦ omega (arith, get_or_past h.counts i 0 ge)
+  | inl lt ↦ p.numbers_fit i 0 lt
+  | inr ge ↦ omega (arith, get_or_past h.counts i 0 ge)
 ]
 
 number-added : (greatest : ℕ) (h : Plain) (v n i : ℕ) → IsPlain greatest h → bin_of (grain h) v < length h.counts
@@ -77,15 +77,15 @@ number-added greatest h v n i p room =
     let b = bin_of (grain h) v in
     let put = min (get_or h.counts b 0 + n) greatest in
     elim (cases_eq b i) [
-        inl e ↦ (
-            let in_all : in_class (grain h) b (replicate n v) ≡ n = omega (arith, in_class-append (grain h) b [] (replicate n v), in_class-same (grain h) v n []) in
-            subst (λ j. get_or (set h.counts b put) j 0 ≡ min (get_or h.counts j 0 + in_class (grain h) j (replicate n v)) greatest) e
-                (get_or-set_same h.counts b put 0 room ∙ ap (λ k. min (get_or h.counts b 0 + k) greatest) (sym in_all))
-        )
-        | inr n_ ↦ (
-            let none : in_class (grain h) i (replicate n v) ≡ 0 = omega (arith, in_class-append (grain h) i [] (replicate n v), in_class-other (grain h) i v n [] n_) in
-            get_or-set_other h.counts b i put 0 (λ e. n_ (sym e)) ∙ (let e : get_or h.counts i 0 ≡ min (get_or h.counts i 0 + in_class (grain h) i (replicate n v)) greatest = omega (arith, none, number-fits greatest h i p) in e)
-        )
+      | inl e ↦ (
+          let in_all : in_class (grain h) b (replicate n v) ≡ n = omega (arith, in_class-append (grain h) b [] (replicate n v), in_class-same (grain h) v n []) in
+          subst (λ j. get_or (set h.counts b put) j 0 ≡ min (get_or h.counts j 0 + in_class (grain h) j (replicate n v)) greatest) e
+          (get_or-set_same h.counts b put 0 room ∙ ap (λ k. min (get_or h.counts b 0 + k) greatest) (sym in_all))
+          )
+      | inr n_ ↦ (
+          let none : in_class (grain h) i (replicate n v) ≡ 0 = omega (arith, in_class-append (grain h) i [] (replicate n v), in_class-other (grain h) i v n [] n_) in
+          get_or-set_other h.counts b i put 0 (λ e. n_ (sym e)) ∙ (let e : get_or h.counts i 0 ≡ min (get_or h.counts i 0 + in_class (grain h) i (replicate n v)) greatest = omega (arith, none, number-fits greatest h i p) in e)
+          )
     ]
 
 pub IsPlain-inside : (greatest : ℕ) (h : Plain) (v n : ℕ) → 1 ≤ greatest → IsPlain greatest h → v ≤ reach h → IsPlain greatest (recorded greatest h v n)
@@ -95,13 +95,13 @@ IsPlain-inside greatest h v n one p le =
 tail-within : (greatest : ℕ) (h : Plain) (t : Times) (ts : List Times) → All (λ (t : Times). t.value ≤ reach h) (t ∷ ts) → All (λ (u : Times). u.value ≤ reach (recorded greatest h t.value t.times)) ts
 tail-within greatest h t ts a =
     subst (λ r. All (λ (u : Times). u.value ≤ r) ts) (sym (reach-recorded greatest h t.value t.times (All-head (λ (t : Times). t.value ≤ reach h) t ts a)))
-        (All-tail (λ (t : Times). t.value ≤ reach h) t ts a)
+    (All-tail (λ (t : Times). t.value ≤ reach h) t ts a)
 
 pub IsPlain-each : (greatest : ℕ) (h : Plain) (ts : List Times) → 1 ≤ greatest → IsPlain greatest h → All (λ (t : Times). t.value ≤ reach h) ts → IsPlain greatest (recorded_each greatest h ts)
 IsPlain-each greatest h [] one p a = p
 IsPlain-each greatest h (t ∷ ts) one p a =
     IsPlain-each greatest (recorded greatest h t.value t.times) ts one
-        (IsPlain-inside greatest h t.value t.times one p (All-head (λ (t : Times). t.value ≤ reach h) t ts a)) (tail-within greatest h t ts a)
+    (IsPlain-inside greatest h t.value t.times one p (All-head (λ (t : Times). t.value ≤ reach h) t ts a)) (tail-within greatest h t ts a)
 
 number-each : (greatest : ℕ) (h : Plain) (ts : List Times) (i : ℕ) → 1 ≤ greatest → IsPlain greatest h → All (λ (t : Times). t.value ≤ reach h) ts
     → get_or (recorded_each greatest h ts).counts i 0 ≡ min (get_or h.counts i 0 + in_class (grain h) i (spread ts)) greatest
@@ -113,7 +113,7 @@ number-each greatest h (t ∷ ts) i one p a =
     let le : v ≤ reach h = All-head (λ (t : Times). t.value ≤ reach h) t ts a in
     let rest = number-each greatest w ts i one (IsPlain-inside greatest h v n one p le) (tail-within greatest h t ts a) in
     let first : get_or w.counts i 0 ≡ min (get_or h.counts i 0 + in_class (grain h) i (replicate n v)) greatest =
-        ap (λ (k : Plain). get_or k.counts i 0) (sym (recorded-inside greatest h v n le)) ∙ number-added greatest h v n i p (room-in greatest h v p le) in
+    ap (λ (k : Plain). get_or k.counts i 0) (sym (recorded-inside greatest h v n le)) ∙ number-added greatest h v n i p (room-in greatest h v p le) in
     let same : in_class (grain w) i (spread ts) ≡ in_class (grain h) i (spread ts) = ap (λ g. in_class g i (spread ts)) (grain-recorded greatest h v n) in
     omega (arith, rest, first, same, in_class-append (grain h) i (replicate n v) (spread ts))
 
@@ -121,18 +121,18 @@ number-each greatest h (t ∷ ts) i one p a =
 
 pub max-in-reach : (greatest : ℕ) (h : Plain) → IsPlain greatest h → max_of h ≤ reach h
 max-in-reach greatest h p = go h.top_mark refl
-    where
-      go : (mark : Option ℕ) → h.top_mark ≡ mark → max_of h ≤ reach h
-      go None e = omega (arith, max-none h (λ i f. some-none i (sym f ∙ e)))
-          where
-            some-none : (i : ℕ) → Some i ≡ None → ⊥
-            some-none i e = cc
-      go (Some i) e =
-          let m = grain-digits greatest h p in
-          let top = top_of (grain h) (value_of (grain h) i) in
-          let at : bin_of (grain h) top ≡ i = bin-of-top (grain h) (value_of (grain h) i) m ∙ bin-value_of (grain h) i m in
-          let inside : i < length h.counts = rw e at p.top_in_bins in
-          omega (arith, max-marked h i e, room-of greatest h top p (omega (arith, at, inside)))
+  where
+    go : (mark : Option ℕ) → h.top_mark ≡ mark → max_of h ≤ reach h
+    go None e = omega (arith, max-none h (λ i f. some-none i (sym f ∙ e)))
+      where
+        some-none : (i : ℕ) → Some i ≡ None → ⊥
+        some-none i e = cc
+    go (Some i) e =
+        let m = grain-digits greatest h p in
+        let top = top_of (grain h) (value_of (grain h) i) in
+        let at : bin_of (grain h) top ≡ i = bin-of-top (grain h) (value_of (grain h) i) m ∙ bin-value_of (grain h) i m in
+        let inside : i < length h.counts = rw e at p.top_in_bins in
+        omega (arith, max-marked h i e, room-of greatest h top p (omega (arith, at, inside)))
 
 pub max-small : (greatest : ℕ) (h : Plain) → IsPlain greatest h → max_of h < 2 ^ 64
 unfolding reach
@@ -144,15 +144,15 @@ highest-small greatest h p = omega (arith, highest-in greatest h p, reach-fits (
 
 IsPlain-room : (greatest : ℕ) (h : Plain) (x : ℕ) → x < 2 ^ 64 → IsPlain greatest h → IsPlain greatest (with_room h x)
 IsPlain-room greatest h x small p = elim (cases_lt (reach h) x) [
-    inl lt ↦ rw (with_room-more h x lt) (IsPlain-grown greatest h x p small lt)
-    | inr le ↦ rw (with_room-same h x le) p
+  | inl lt ↦ rw (with_room-more h x lt) (IsPlain-grown greatest h x p small lt)
+  | inr le ↦ rw (with_room-same h x le) p
 ]
 
 number-room : (h : Plain) (x i : ℕ) → get_or (with_room h x).counts i 0 ≡ get_or h.counts i 0
 unfolding grown
 number-room h x i = elim (cases_lt (reach h) x) [
-    inl lt ↦ rw (with_room-more h x lt) (zeros-behind h.counts _ i)
-    | inr le ↦ rw (with_room-same h x le) refl
+  | inl lt ↦ rw (with_room-more h x lt) (zeros-behind h.counts _ i)
+  | inr le ↦ rw (with_room-same h x le) refl
 ]
 
 number-joined : (greatest : ℕ) (h s : Plain) (i : ℕ) → length h.counts ≡ length s.counts → get_or (joined greatest h s).counts i 0 ≡ min (get_or h.counts i 0 + get_or s.counts i 0) greatest
@@ -162,49 +162,49 @@ number-joined greatest h s i same = capped-get greatest h.counts s.counts i same
 module _ (greatest : ℕ) (h s : Plain) (one : 1 ≤ greatest) (p : IsPlain greatest h) (q : IsPlain greatest s) where
   IsPlain-joined : length h.counts ≡ length s.counts → IsPlain greatest (joined greatest h s)
   IsPlain-joined same = elim (cases_lt 0 h.total) [
-      inl pos ↦ subst (λ (w : Plain). IsPlain greatest w) (joined-some greatest h s (λ e. omega arith)) (IsPlain-summed greatest greatest h s one same p q (λ e. omega arith))
-      | inr none ↦ subst (λ (w : Plain). IsPlain greatest w) (joined-empty greatest h s (omega arith)) (IsPlain-taken greatest greatest h s one same p q (omega arith))
+    | inl pos ↦ subst (λ (w : Plain). IsPlain greatest w) (joined-some greatest h s (λ e. omega arith)) (IsPlain-summed greatest greatest h s one same p q (λ e. omega arith))
+    | inr none ↦ subst (λ (w : Plain). IsPlain greatest w) (joined-empty greatest h s (omega arith)) (IsPlain-taken greatest greatest h s one same p q (omega arith))
   ]
 
   taken-facts : max_of s ≤ reach h → grain h ≡ grain s
       → IsPlain greatest (taken_in greatest h s) × ((i : ℕ) → get_or (taken_in greatest h s).counts i 0 ≡ min (get_or h.counts i 0 + get_or s.counts i 0) greatest)
   taken-facts room same = go (same_bins h s) refl
-      where
-        go : (b : Bool) → same_bins h s ≡ b → IsPlain greatest (taken_in greatest h s) × ((i : ℕ) → get_or (taken_in greatest h s).counts i 0 ≡ min (get_or h.counts i 0 + get_or s.counts i 0) greatest)
-        go true e =
-            let bins = (same-bins h s e).1 in
-            subst (λ (w : Plain). IsPlain greatest w × ((i : ℕ) → get_or w.counts i 0 ≡ min (get_or h.counts i 0 + get_or s.counts i 0) greatest)) (taken-same greatest h s e)
-                (IsPlain-joined bins, λ i. number-joined greatest h s i bins)
-        go false e =
-            let ts = classes_from (grain s) 0 s.counts ++ top_class (grain s) s.top_mark in
-            let values = classes-inside greatest s (reach h) q room in
-            let all : spread ts ≡ spread (classes_from (grain s) 0 s.counts) =
-                spread-append (classes_from (grain s) 0 s.counts) (top_class (grain s) s.top_mark) ∙ ap (λ l. spread (classes_from (grain s) 0 s.counts) ++ l) (spread-top (grain s) s.top_mark)
-                ∙ append-nil (spread (classes_from (grain s) 0 s.counts)) in
-            let own_number : (i : ℕ) → in_class (grain h) i (spread ts) ≡ get_or s.counts i 0 = λ i.
-                ap (λ l. in_class (grain h) i l) all ∙ ap (λ g. in_class g i (spread (classes_from (grain s) 0 s.counts))) same ∙ own-class (grain s) i s.counts (grain-digits greatest s q) in
-            subst (λ (w : Plain). IsPlain greatest w × ((i : ℕ) → get_or w.counts i 0 ≡ min (get_or h.counts i 0 + get_or s.counts i 0) greatest)) (taken-other greatest h s e)
-                (IsPlain-each greatest h ts one p values, λ i. number-each greatest h ts i one p values ∙ ap (λ k. min (get_or h.counts i 0 + k) greatest) (own_number i))
+    where
+      go : (b : Bool) → same_bins h s ≡ b → IsPlain greatest (taken_in greatest h s) × ((i : ℕ) → get_or (taken_in greatest h s).counts i 0 ≡ min (get_or h.counts i 0 + get_or s.counts i 0) greatest)
+      go true e =
+          let bins = (same-bins h s e).1 in
+          subst (λ (w : Plain). IsPlain greatest w × ((i : ℕ) → get_or w.counts i 0 ≡ min (get_or h.counts i 0 + get_or s.counts i 0) greatest)) (taken-same greatest h s e)
+          (IsPlain-joined bins, λ i. number-joined greatest h s i bins)
+      go false e =
+          let ts = classes_from (grain s) 0 s.counts ++ top_class (grain s) s.top_mark in
+          let values = classes-inside greatest s (reach h) q room in
+          let all : spread ts ≡ spread (classes_from (grain s) 0 s.counts) =
+          spread-append (classes_from (grain s) 0 s.counts) (top_class (grain s) s.top_mark) ∙ ap (λ l. spread (classes_from (grain s) 0 s.counts) ++ l) (spread-top (grain s) s.top_mark)
+          ∙ append-nil (spread (classes_from (grain s) 0 s.counts)) in
+          let own_number : (i : ℕ) → in_class (grain h) i (spread ts) ≡ get_or s.counts i 0 = λ i.
+          ap (λ l. in_class (grain h) i l) all ∙ ap (λ g. in_class g i (spread (classes_from (grain s) 0 s.counts))) same ∙ own-class (grain s) i s.counts (grain-digits greatest s q) in
+          subst (λ (w : Plain). IsPlain greatest w × ((i : ℕ) → get_or w.counts i 0 ≡ min (get_or h.counts i 0 + get_or s.counts i 0) greatest)) (taken-other greatest h s e)
+          (IsPlain-each greatest h ts one p values, λ i. number-each greatest h ts i one p values ∙ ap (λ k. min (get_or h.counts i 0 + k) greatest) (own_number i))
 
 pub merged-facts : (greatest : ℕ) (h s : Plain) → 1 ≤ greatest → IsPlain greatest h → IsPlain greatest s → grain h ≡ grain s
     → IsPlain greatest (merged greatest h s) × ((i : ℕ) → get_or (merged greatest h s).counts i 0 ≡ min (get_or h.counts i 0 + get_or s.counts i 0) greatest)
 merged-facts greatest h s one p q same = elim (cases_lt 0 s.total) [
-    inl pos ↦ (
-        let m = max_of s in
-        let w = with_room h m in
-        let facts = taken-facts greatest w s one (IsPlain-room greatest h m (max-small greatest s q) p) q (with_room-reach h m) (grain-with_room h m ∙ same) in
-        subst (λ (k : Plain). IsPlain greatest k × ((i : ℕ) → get_or k.counts i 0 ≡ min (get_or h.counts i 0 + get_or s.counts i 0) greatest)) (sym (merged-some greatest h s (λ e. omega arith)))
-            (facts.0, λ i. facts.1 i ∙ ap (λ k. min (k + get_or s.counts i 0) greatest) (number-room h m i))
-    )
-    | inr none ↦ (
-        let zero_sum : sum s.counts ≡ 0 = q.empty (omega arith) in
-        let nothing : (i : ℕ) → get_or s.counts i 0 ≡ 0 = λ i. elim (cases_lt i (length s.counts)) [
-            inl lt ↦ omega (arith, get_or-le-sum_by (λ x. x) s.counts i 0 lt)
-            | inr ge ↦ get_or_past s.counts i 0 ge
-        ] in
-        subst (λ (k : Plain). IsPlain greatest k × ((i : ℕ) → get_or k.counts i 0 ≡ min (get_or h.counts i 0 + get_or s.counts i 0) greatest)) (sym (merged-none greatest h s (omega arith)))
-            (p, λ i. (let e : get_or h.counts i 0 ≡ min (get_or h.counts i 0 + get_or s.counts i 0) greatest = omega (arith, nothing i, number-fits greatest h i p) in e))
-    )
+  | inl pos ↦ (
+      let m = max_of s in
+      let w = with_room h m in
+      let facts = taken-facts greatest w s one (IsPlain-room greatest h m (max-small greatest s q) p) q (with_room-reach h m) (grain-with_room h m ∙ same) in
+      subst (λ (k : Plain). IsPlain greatest k × ((i : ℕ) → get_or k.counts i 0 ≡ min (get_or h.counts i 0 + get_or s.counts i 0) greatest)) (sym (merged-some greatest h s (λ e. omega arith)))
+      (facts.0, λ i. facts.1 i ∙ ap (λ k. min (k + get_or s.counts i 0) greatest) (number-room h m i))
+      )
+  | inr none ↦ (
+      let zero_sum : sum s.counts ≡ 0 = q.empty (omega arith) in
+      let nothing : (i : ℕ) → get_or s.counts i 0 ≡ 0 = λ i. elim (cases_lt i (length s.counts)) [
+        | inl lt ↦ omega (arith, get_or-le-sum_by (λ x. x) s.counts i 0 lt)
+        | inr ge ↦ get_or_past s.counts i 0 ge
+      ] in
+      subst (λ (k : Plain). IsPlain greatest k × ((i : ℕ) → get_or k.counts i 0 ≡ min (get_or h.counts i 0 + get_or s.counts i 0) greatest)) (sym (merged-none greatest h s (omega arith)))
+      (p, λ i. (let e : get_or h.counts i 0 ≡ min (get_or h.counts i 0 + get_or s.counts i 0) greatest = omega (arith, nothing i, number-fits greatest h i p) in e))
+      )
 ]
 
 pub commutes : (greatest : ℕ) (h s : Plain) → 1 ≤ greatest → IsPlain greatest h → IsPlain greatest s → grain h ≡ grain s
@@ -226,5 +226,5 @@ pub undoes : (greatest : ℕ) (h s d : Plain) → 1 ≤ greatest → IsPlain gre
     → ((i : ℕ) → get_or h.counts i 0 + get_or s.counts i 0 ≤ greatest) → IsDifference (merged greatest h s) s d → (i : ℕ) → get_or d.counts i 0 ≡ get_or h.counts i 0
 undoes greatest h s d one p q same kept free x i =
     let own_number : in_class (grain (merged greatest h s)) i (lowest_values s) ≡ get_or s.counts i 0 =
-        ap (λ g. in_class g i (lowest_values s)) (kept ∙ same) ∙ own-class (grain s) i s.counts (grain-digits greatest s q) in
+    ap (λ g. in_class g i (lowest_values s)) (kept ∙ same) ∙ own-class (grain s) i s.counts (grain-digits greatest s q) in
     omega (arith, x.numbers i, own_number, (merged-facts greatest h s one p q same).1 i, free i)

@@ -107,8 +107,8 @@ bins-few greatest h p =
 pub recorded-holds : (greatest : ℕ) (h : Plain) (v n : ℕ) → v ≤ reach (recorded greatest h v n)
 unfolding recorded added widened reach grown
 recorded-holds greatest h v n = elim (cases_lt (reach h) v) [
-    inl lt ↦ (let no = leb-no v (reach_of (grain h) h.high) lt in let k : v ≤ reach_of (grain h) (reach_of (grain h) v) = omega (arith, reach-holds (grain h) v, reach-holds (grain h) (reach_of (grain h) v)) in rw no k)
-    | inr le ↦ rw (leb-yes v (reach_of (grain h) h.high) le) le
+  | inl lt ↦ (let no = leb-no v (reach_of (grain h) h.high) lt in let k : v ≤ reach_of (grain h) (reach_of (grain h) v) = omega (arith, reach-holds (grain h) v, reach-holds (grain h) (reach_of (grain h) v)) in rw no k)
+  | inr le ↦ rw (leb-yes v (reach_of (grain h) h.high) le) le
 ]
 
 -- a value that has a bin, and those that it hides, are recorded without growing

@@ -20,18 +20,18 @@ use Rattle.hdr_core.proofs.Merged.{recorded-inside}
 pub IsPlain-cleared : (greatest : ℕ) (h : Plain) → IsPlain greatest h → IsPlain greatest (cleared h)
 unfolding cleared
 IsPlain-cleared greatest h p = record {
-    scale = p.scale;
-    high_fits = p.high_fits;
-    bins = length-replicate (length h.counts) 0 ∙ p.bins;
-    numbers_fit = All-replicate (λ n. n ≤ greatest) (length h.counts) 0 (omega arith);
-    total_fits = omega arith;
-    total_covers = omega (arith, sum_by-replicate (λ x. x) (length h.counts) 0);
-    empty = λ e. omega (arith, sum_by-replicate (λ x. x) (length h.counts) 0);
-    nothing = λ e. refl;
-    top_in_bins = rw length-replicate p.top_in_bins;
-    lower_in_bins = rw length-replicate p.lower_in_bins;
-    none_above = λ i above. zeros-behind [] (length h.counts) i;
-    none_below = λ i below. zeros-behind [] (length h.counts) i
+  scale = p.scale;
+  high_fits = p.high_fits;
+  bins = length-replicate (length h.counts) 0 ∙ p.bins;
+  numbers_fit = All-replicate (λ n. n ≤ greatest) (length h.counts) 0 (omega arith);
+  total_fits = omega arith;
+  total_covers = omega (arith, sum_by-replicate (λ x. x) (length h.counts) 0);
+  empty = λ e. omega (arith, sum_by-replicate (λ x. x) (length h.counts) 0);
+  nothing = λ e. refl;
+  top_in_bins = rw length-replicate p.top_in_bins;
+  lower_in_bins = rw length-replicate p.lower_in_bins;
+  none_above = λ i above. zeros-behind [] (length h.counts) i;
+  none_below = λ i below. zeros-behind [] (length h.counts) i;
 }
 
 pub cleared-parts : (h : Plain) (counts : List ℕ) → counts ≡ replicate (length h.counts) 0 → record h { counts = counts; total = 0 } ≡ cleared h
@@ -41,35 +41,35 @@ cleared-parts h counts e = rw e refl
 pub IsPlain-restarted : (greatest : ℕ) (h : Plain) → IsPlain greatest h → IsPlain greatest (restarted h)
 unfolding restarted
 IsPlain-restarted greatest h p = record {
-    scale = p.scale;
-    high_fits = p.high_fits;
-    bins = length-replicate (length h.counts) 0 ∙ p.bins;
-    numbers_fit = All-replicate (λ n. n ≤ greatest) (length h.counts) 0 (omega arith);
-    total_fits = omega arith;
-    total_covers = omega (arith, sum_by-replicate (λ x. x) (length h.counts) 0);
-    empty = λ e. omega (arith, sum_by-replicate (λ x. x) (length h.counts) 0);
-    nothing = λ e. refl;
-    top_in_bins = tt;
-    lower_in_bins = tt;
-    none_above = λ i above. zeros-behind [] (length h.counts) i;
-    none_below = λ i below. zeros-behind [] (length h.counts) i
+  scale = p.scale;
+  high_fits = p.high_fits;
+  bins = length-replicate (length h.counts) 0 ∙ p.bins;
+  numbers_fit = All-replicate (λ n. n ≤ greatest) (length h.counts) 0 (omega arith);
+  total_fits = omega arith;
+  total_covers = omega (arith, sum_by-replicate (λ x. x) (length h.counts) 0);
+  empty = λ e. omega (arith, sum_by-replicate (λ x. x) (length h.counts) 0);
+  nothing = λ e. refl;
+  top_in_bins = tt;
+  lower_in_bins = tt;
+  none_above = λ i above. zeros-behind [] (length h.counts) i;
+  none_below = λ i below. zeros-behind [] (length h.counts) i;
 }
 
 pub IsPlain-unmarked : (greatest : ℕ) (h k : Plain) → k ≡ cleared h → IsPlain greatest k → IsPlain greatest (record k { top_mark = None; lower_mark = None })
 unfolding cleared
 IsPlain-unmarked greatest h k e p = record {
-    scale = p.scale;
-    high_fits = p.high_fits;
-    bins = p.bins;
-    numbers_fit = p.numbers_fit;
-    total_fits = p.total_fits;
-    total_covers = p.total_covers;
-    empty = p.empty;
-    nothing = p.nothing;
-    top_in_bins = tt;
-    lower_in_bins = tt;
-    none_above = λ i above. rw e (zeros-behind [] (length h.counts) i);
-    none_below = λ i below. rw e (zeros-behind [] (length h.counts) i)
+  scale = p.scale;
+  high_fits = p.high_fits;
+  bins = p.bins;
+  numbers_fit = p.numbers_fit;
+  total_fits = p.total_fits;
+  total_covers = p.total_covers;
+  empty = p.empty;
+  nothing = p.nothing;
+  top_in_bins = tt;
+  lower_in_bins = tt;
+  none_above = λ i above. rw e (zeros-behind [] (length h.counts) i);
+  none_below = λ i below. rw e (zeros-behind [] (length h.counts) i);
 }
 
 pub restarted-parts : (h k : Plain) → k ≡ cleared h → record k { top_mark = None; lower_mark = None } ≡ restarted h
@@ -92,15 +92,15 @@ high-within h = reach-holds (grain h) h.high
 pub clamped-small : (greatest : ℕ) (h : Plain) (v : ℕ) → v < 2 ^ 64 → IsPlain greatest h → clamped h v < 2 ^ 64
 clamped-small greatest h v small p =
     elim (cases_lt (reach h) v) [
-        inl past ↦ omega (arith, clamped-past h v past, p.high_fits)
-        | inr le ↦ omega (arith, clamped-same h v le)
+      | inl past ↦ omega (arith, clamped-past h v past, p.high_fits)
+      | inr le ↦ omega (arith, clamped-same h v le)
     ]
 
 pub clamped-within : (h : Plain) (v : ℕ) → clamped h v ≤ reach h
 clamped-within h v =
     elim (cases_lt (reach h) v) [
-        inl past ↦ omega (arith, clamped-past h v past, high-within h)
-        | inr le ↦ omega (arith, clamped-same h v le)
+      | inl past ↦ omega (arith, clamped-past h v past, high-within h)
+      | inr le ↦ omega (arith, clamped-same h v le)
     ]
 
 pub clamped-is : (h : Plain) (v : ℕ) → clamped h v ≡ clamp (grain h) h.high v
@@ -168,7 +168,7 @@ unfolding min_of
 min-first h lt =
     let test : ltb 0 (get_or h.counts 0 0) ≡ true = grind (arith, nat_tests) in
     let step : (b : Bool) → 0 ≡ cond (b || ltb 0 (get_or h.counts 0 0)) 0 (min_nz_of h) =
-        λ b. elim b as (λ b. 0 ≡ cond (b || ltb 0 (get_or h.counts 0 0)) 0 (min_nz_of h)) [ true ↦ refl | false ↦ rw test refl ] in
+    λ b. elim b as (λ b. 0 ≡ cond (b || ltb 0 (get_or h.counts 0 0)) 0 (min_nz_of h)) [ true ↦ refl | false ↦ rw test refl ] in
     step (eqb h.total 0)
 
 pub min-later : (h : Plain) → h.total ≢ 0 → get_or h.counts 0 0 ≡ 0 → min_nz_of h ≡ min_of h
@@ -203,6 +203,6 @@ restarted-grown h x = ap (λ ns. record (restarted h) { high = x; counts = ns })
 pub restarted-room : (h : Plain) (x : ℕ) → restarted (with_room h x) ≡ with_room (restarted h) x
 unfolding with_room
 restarted-room h x = elim (cases_lt (reach h) x) [
-    inl lt ↦ rw (leb-no x (reach h) lt, leb-no x (reach (restarted h)) (omega (arith, lt, reach-restarted h))) (restarted-grown h x)
-    | inr le ↦ rw (leb-yes x (reach h) le, leb-yes x (reach (restarted h)) (omega (arith, le, reach-restarted h))) refl
+  | inl lt ↦ rw (leb-no x (reach h) lt, leb-no x (reach (restarted h)) (omega (arith, lt, reach-restarted h))) (restarted-grown h x)
+  | inr le ↦ rw (leb-yes x (reach h) le, leb-yes x (reach (restarted h)) (omega (arith, le, reach-restarted h))) refl
 ]

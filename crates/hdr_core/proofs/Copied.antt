@@ -41,6 +41,6 @@ unfolding highest_top
 highest-in greatest h p =
     let m = grain-digits greatest h p in
     last-le (grain h) (reach h) 0 h.counts (λ i pos.
-        let inside : 0 + i < length h.counts = elim (cases_lt i (length h.counts)) [ inl lt ↦ omega arith | inr ge ↦ absurd (omega (arith, get_or_past h.counts i 0 ge)) ] in
-        let at : bin_of (grain h) (top_of (grain h) (value_of (grain h) (0 + i))) ≡ 0 + i = bin-of-top (grain h) (value_of (grain h) (0 + i)) m ∙ bin-value_of (grain h) (0 + i) m in
-        room-of greatest h (top_of (grain h) (value_of (grain h) (0 + i))) p (omega (arith, at, inside)))
+    let inside : 0 + i < length h.counts = elim (cases_lt i (length h.counts)) [ inl lt ↦ omega arith | inr ge ↦ absurd (omega (arith, get_or_past h.counts i 0 ge)) ] in
+    let at : bin_of (grain h) (top_of (grain h) (value_of (grain h) (0 + i))) ≡ 0 + i = bin-of-top (grain h) (value_of (grain h) (0 + i)) m ∙ bin-value_of (grain h) (0 + i) m in
+    room-of greatest h (top_of (grain h) (value_of (grain h) (0 + i))) p (omega (arith, at, inside)))

@@ -61,7 +61,7 @@ corrected-sum greatest s i L q stands f =
     let m = grain-digits greatest s q in
     corrected-weigh f g i 0 s.counts ∙ numbers-weigh greatest s L q stands (λ c. correction-weighs f g i (value_of g c))
     ∙ sum_by-same (λ x. correction-weighs f g i (value_of g (bin_of g x))) (correction-weighs f g i) L
-        (λ x. ap (λ t. sum_by f (t ∷ missing t i)) (bin-top g (value_of g (bin_of g x)) x m (bin-value_of g (bin_of g x) m)))
+    (λ x. ap (λ t. sum_by f (t ∷ missing t i)) (bin-top g (value_of g (bin_of g x)) x m (bin-value_of g (bin_of g x) m)))
     ∙ sym (corrected-samples-weigh f g i L)
 
 -- each class of any target holds as many
@@ -85,14 +85,14 @@ StandsFor-corrected greatest most h s i S L one p q stands source values inside 
     let fits_P : Fits greatest g (S ++ P) = record { in_all = omega (arith, len, fits.in_all); in_classes = λ j. omega (arith, same j, fits.in_classes j) } in
     let w = recorded_each greatest h ts in
     StandsFor-swap w (S ++ P) (S ++ C)
-        (λ j. subst (λ (k : Grain). in_class k j (S ++ P) ≡ in_class k j (S ++ C)) (sym (grain-each greatest h ts)) (same j))
-        len
-        (subst (λ r. All (λ x. x ≤ r) (S ++ C)) (sym (reach-each greatest h ts values)) (All-append (λ x. x ≤ reach h) S C stands.within inside))
-        (StandsFor-each greatest h ts S one p values stands fits_P)
-    where
-      length-ones : (xs : List ℕ) → length xs ≡ sum_by (λ x. 1) xs
-      length-ones [] = refl
-      length-ones (x ∷ xs) = omega (arith, sum_by-cons (λ (x : ℕ). 1) x xs, length-ones xs)
+    (λ j. subst (λ (k : Grain). in_class k j (S ++ P) ≡ in_class k j (S ++ C)) (sym (grain-each greatest h ts)) (same j))
+    len
+    (subst (λ r. All (λ x. x ≤ r) (S ++ C)) (sym (reach-each greatest h ts values)) (All-append (λ x. x ≤ reach h) S C stands.within inside))
+    (StandsFor-each greatest h ts S one p values stands fits_P)
+  where
+    length-ones : (xs : List ℕ) → length xs ≡ sum_by (λ x. 1) xs
+    length-ones [] = refl
+    length-ones (x ∷ xs) = omega (arith, sum_by-cons (λ (x : ℕ). 1) x xs, length-ones xs)
 
 -- ---- the last nonempty class
 
@@ -109,7 +109,7 @@ module _ (g : Grain) where
       subst (λ j. top_of g (value_of g j) ≤ last_top g (suc k) ns) (let e : suc k + i ≡ k + suc i = omega arith in e) (class-le-last (suc k) i ns pos)
   class-le-last k (suc i) (suc n ∷ ns) pos =
       let le : top_of g (value_of g (k + suc i)) ≤ last_top g (suc k) ns =
-          subst (λ j. top_of g (value_of g j) ≤ last_top g (suc k) ns) (let e : suc k + i ≡ k + suc i = omega arith in e) (class-le-last (suc k) i ns pos) in
+      subst (λ j. top_of g (value_of g j) ≤ last_top g (suc k) ns) (let e : suc k + i ≡ k + suc i = omega arith in e) (class-le-last (suc k) i ns pos) in
       omega (arith, le)
 
   pub last-le : (r k : ℕ) (ns : List ℕ) → ((i : ℕ) → 0 < get_or ns i 0 → top_of g (value_of g (k + i)) ≤ r) → last_top g k ns ≤ r
@@ -129,8 +129,8 @@ module _ (g : Grain) where
       let top = top_of g (value_of g k) in
       let first : top ≤ r = subst (λ j. top_of g (value_of g j) ≤ r) (let e : k + 0 ≡ k = omega arith in e) (f 0 (omega arith)) in
       All-append (λ (t : Times). t.value ≤ r) (each (suc n) (top ∷ missing top i)) (corrected_from g i (suc k) ns)
-          (each-within r (suc n) (top ∷ missing top i) (All-cons (λ x. x ≤ r) top (missing top i) first (missing-within top i r first)))
-          (corrected-within r i (suc k) ns (λ j pos. subst (λ j. top_of g (value_of g j) ≤ r) (let e : k + suc j ≡ suc k + j = omega arith in e) (f (suc j) pos)))
+      (each-within r (suc n) (top ∷ missing top i) (All-cons (λ x. x ≤ r) top (missing top i) first (missing-within top i r first)))
+      (corrected-within r i (suc k) ns (λ j pos. subst (λ j. top_of g (value_of g j) ≤ r) (let e : k + suc j ≡ suc k + j = omega arith in e) (f (suc j) pos)))
 
   -- so is each corrected sample
   pub samples-within : (r i : ℕ) (L : List ℕ) → 0 < g.digits → ((j : ℕ) → 0 < in_class g j L → top_of g (value_of g j) ≤ r) → All (λ x. x ≤ r) (corrected_samples g i L)
@@ -139,20 +139,20 @@ module _ (g : Grain) where
       let top = top_of g x in
       let same : top_of g (value_of g (bin_of g x)) ≡ top = bin-top g (value_of g (bin_of g x)) x m (bin-value_of g (bin_of g x) m) in
       let one : in_class g (bin_of g x) (x ∷ L) ≡ 1 + in_class g (bin_of g x) L =
-          sum_by-cons (λ y. cond (eqb (bin_of g y) (bin_of g x)) 1 0) x L ∙ ap (λ b. cond b 1 0 + in_class g (bin_of g x) L) (eqb-same (bin_of g x)) in
+      sum_by-cons (λ y. cond (eqb (bin_of g y) (bin_of g x)) 1 0) x L ∙ ap (λ b. cond b 1 0 + in_class g (bin_of g x) L) (eqb-same (bin_of g x)) in
       let le : top ≤ r = omega (arith, same, f (bin_of g x) (omega (arith, one))) in
       All-append (λ y. y ≤ r) (top ∷ missing top i) (corrected_samples g i L) (All-cons (λ y. y ≤ r) top (missing top i) le (missing-within top i r le))
-          (samples-within r i L m (λ j pos. f j (omega (arith, pos, sum_by-cons (λ y. cond (eqb (bin_of g y) j) 1 0) x L))))
+      (samples-within r i L m (λ j pos. f j (omega (arith, pos, sum_by-cons (λ y. cond (eqb (bin_of g y) j) 1 0) x L))))
 
   -- the last place of a number above 0 has the greatest top
   pub last-at : (i : ℕ) (ns : List ℕ) → 0 < g.digits → 0 < get_or ns i 0 → ((j : ℕ) → i < j → get_or ns j 0 ≡ 0) → last_top g 0 ns ≡ top_of g (value_of g i)
   last-at i ns m pos none =
       let low : top_of g (value_of g i) ≤ last_top g 0 ns = subst (λ j. top_of g (value_of g j) ≤ last_top g 0 ns) (let e : 0 + i ≡ i = omega arith in e) (class-le-last 0 i ns pos) in
       let high : last_top g 0 ns ≤ top_of g (value_of g i) = last-le (top_of g (value_of g i)) 0 ns (λ j some.
-          (let le : j ≤ i = elim (cases_lt i j) [ inl lt ↦ absurd (omega (arith, none j lt)) | inr ge ↦ ge ] in
-          let top = top_of g (value_of g (0 + j)) in
-          let at : bin_of g top ≡ j = bin-of-top g (value_of g (0 + j)) m ∙ bin-value_of g (0 + j) m ∙ (let e : 0 + j ≡ j = omega arith in e) in
-          value-le-top g top i m (omega (arith, at)))) in
+      (let le : j ≤ i = elim (cases_lt i j) [ inl lt ↦ absurd (omega (arith, none j lt)) | inr ge ↦ ge ] in
+      let top = top_of g (value_of g (0 + j)) in
+      let at : bin_of g top ≡ j = bin-of-top g (value_of g (0 + j)) m ∙ bin-value_of g (0 + j) m ∙ (let e : 0 + j ≡ j = omega arith in e) in
+      value-le-top g top i m (omega (arith, at)))) in
       omega (arith, low, high)
 
   pub last-none : (ns : List ℕ) → ((j : ℕ) → get_or ns j 0 ≡ 0) → last_top g 0 ns ≡ 0
@@ -178,19 +178,19 @@ corrected-more-some g i k n (zero ∷ ns) pos =
     corrected-more-some g i (suc k) n ns pos ∙ ap (λ j. corrected_from g i (suc k) ns ++ one-corrected g i n j) (let e : suc k + length ns ≡ k + suc (length ns) = omega arith in e)
 corrected-more-some g i k n (suc m ∷ ns) pos =
     ap (λ ts. one-corrected g i (suc m) k ++ ts)
-        (corrected-more-some g i (suc k) n ns pos ∙ ap (λ j. corrected_from g i (suc k) ns ++ one-corrected g i n j) (let e : suc k + length ns ≡ k + suc (length ns) = omega arith in e))
+    (corrected-more-some g i (suc k) n ns pos ∙ ap (λ j. corrected_from g i (suc k) ns ++ one-corrected g i n j) (let e : suc k + length ns ≡ k + suc (length ns) = omega arith in e))
     ∙ sym (append_assoc (one-corrected g i (suc m) k) (corrected_from g i (suc k) ns) (one-corrected g i n (k + suc (length ns))))
 
 module _ (greatest : ℕ) (h : Plain) (g : Grain) (i : ℕ) (ns : List ℕ) (k : ℕ) where
   pub corrected-next : k < length ns → 0 < get_or ns k 0
       → recorded_each greatest (recorded_each greatest h (corrected_from g i 0 (take k ns))) (each (get_or ns k 0) (top_of g (value_of g k) ∷ missing (top_of g (value_of g k)) i))
-        ≡ recorded_each greatest h (corrected_from g i 0 (take (k + 1) ns))
+      ≡ recorded_each greatest h (corrected_from g i 0 (take (k + 1) ns))
   unfolding one-corrected
   corrected-next lt pos =
       let n = get_or ns k 0 in
       let place : 0 + length (take k ns) ≡ k = omega (arith, length-take-le k ns (omega arith)) in
       let classes : corrected_from g i 0 (take (k + 1) ns) ≡ corrected_from g i 0 (take k ns) ++ one-corrected g i n k =
-          ap (λ l. corrected_from g i 0 l) (take_more ns k 0 lt) ∙ corrected-more-some g i 0 n (take k ns) pos ∙ ap (λ j. corrected_from g i 0 (take k ns) ++ one-corrected g i n j) place in
+      ap (λ l. corrected_from g i 0 l) (take_more ns k 0 lt) ∙ corrected-more-some g i 0 n (take k ns) pos ∙ ap (λ j. corrected_from g i 0 (take k ns) ++ one-corrected g i n j) place in
       sym (ap (λ ts. recorded_each greatest h ts) classes ∙ recorded_each-append greatest h (corrected_from g i 0 (take k ns)) (one-corrected g i n k))
 
   pub corrected-same : k < length ns → get_or ns k 0 ≡ 0 → corrected_from g i 0 (take k ns) ≡ corrected_from g i 0 (take (k + 1) ns)
@@ -201,42 +201,42 @@ module _ (greatest : ℕ) (h : Plain) (g : Grain) (i : ℕ) (ns : List ℕ) (k :
 
 pub StandsFor-widened : (greatest : ℕ) (h : Plain) (v : ℕ) (S : List ℕ) → IsPlain greatest h → StandsFor h S → StandsFor (widened h v) S
 StandsFor-widened greatest h v S p s = elim (cases_lt (reach h) v) [
-    inl lt ↦ subst (λ (w : Plain). StandsFor w S) (sym (widened-more h v lt)) (StandsFor-grown greatest h (reach_of (grain h) v) S (past-reach greatest h v p lt) p s)
-    | inr le ↦ subst (λ (w : Plain). StandsFor w S) (sym (widened-same h v le)) s
+  | inl lt ↦ subst (λ (w : Plain). StandsFor w S) (sym (widened-more h v lt)) (StandsFor-grown greatest h (reach_of (grain h) v) S (past-reach greatest h v p lt) p s)
+  | inr le ↦ subst (λ (w : Plain). StandsFor w S) (sym (widened-same h v le)) s
 ]
 
 pub IsPlain-widened : (greatest : ℕ) (h : Plain) (v : ℕ) → v < 2 ^ 64 → IsPlain greatest h → IsPlain greatest (widened h v)
 IsPlain-widened greatest h v small p = elim (cases_lt (reach h) v) [
-    inl lt ↦ subst (λ (w : Plain). IsPlain greatest w) (sym (widened-more h v lt))
-        (IsPlain-grown greatest h (reach_of (grain h) v) p (reach-fits (grain h) v small (grain-fits greatest h p)) (past-reach greatest h v p lt))
-    | inr le ↦ subst (λ (w : Plain). IsPlain greatest w) (sym (widened-same h v le)) p
+  | inl lt ↦ subst (λ (w : Plain). IsPlain greatest w) (sym (widened-more h v lt))
+      (IsPlain-grown greatest h (reach_of (grain h) v) p (reach-fits (grain h) v small (grain-fits greatest h p)) (past-reach greatest h v p lt))
+  | inr le ↦ subst (λ (w : Plain). IsPlain greatest w) (sym (widened-same h v le)) p
 ]
 
 pub grain-widened : (h : Plain) (v : ℕ) → grain (widened h v) ≡ grain h
 unfolding grown
 grain-widened h v = elim (cases_lt (reach h) v) [
-    inl lt ↦ ap (λ (w : Plain). grain w) (widened-more h v lt)
-    | inr le ↦ ap (λ (w : Plain). grain w) (widened-same h v le)
+  | inl lt ↦ ap (λ (w : Plain). grain w) (widened-more h v lt)
+  | inr le ↦ ap (λ (w : Plain). grain w) (widened-same h v le)
 ]
 
 pub widened-holds : (h : Plain) (v : ℕ) → v ≤ reach (widened h v)
 widened-holds h v = elim (cases_lt (reach h) v) [
-    inl lt ↦ subst (λ (w : Plain). v ≤ reach w) (sym (widened-more h v lt)) (reach-grown h v)
-    | inr le ↦ subst (λ (w : Plain). v ≤ reach w) (sym (widened-same h v le)) le
+  | inl lt ↦ subst (λ (w : Plain). v ≤ reach w) (sym (widened-more h v lt)) (reach-grown h v)
+  | inr le ↦ subst (λ (w : Plain). v ≤ reach w) (sym (widened-same h v le)) le
 ]
 
 pub widened-high_with : (h : Plain) (v : ℕ) → (widened h v).high ≡ high_with (grain h) h.high v (reach_of (grain h) v)
 unfolding high_with widened grown reach
 widened-high_with h v = elim (cases_lt (reach h) v) [
-    inl lt ↦ rw (leb-no v (reach_of (grain h) h.high) lt) refl
-    | inr le ↦ rw (leb-yes v (reach_of (grain h) h.high) le) refl
+  | inl lt ↦ rw (leb-no v (reach_of (grain h) h.high) lt) refl
+  | inr le ↦ rw (leb-yes v (reach_of (grain h) h.high) le) refl
 ]
 
 pub restarted-widened : (h : Plain) (x : ℕ) → restarted (widened h x) ≡ widened (restarted h) x
 restarted-widened h x = elim (cases_lt (reach h) x) [
-    inl lt ↦ ap (λ (w : Plain). restarted w) (widened-more h x lt) ∙ restarted-grown h (reach_of (grain h) x)
-        ∙ ap (λ (k : Grain). grown (restarted h) (reach_of k x)) (sym (grain-restarted h)) ∙ sym (widened-more (restarted h) x (omega (arith, lt, reach-restarted h)))
-    | inr le ↦ ap (λ (w : Plain). restarted w) (widened-same h x le) ∙ sym (widened-same (restarted h) x (omega (arith, le, reach-restarted h)))
+  | inl lt ↦ ap (λ (w : Plain). restarted w) (widened-more h x lt) ∙ restarted-grown h (reach_of (grain h) x)
+      ∙ ap (λ (k : Grain). grown (restarted h) (reach_of k x)) (sym (grain-restarted h)) ∙ sym (widened-more (restarted h) x (omega (arith, lt, reach-restarted h)))
+  | inr le ↦ ap (λ (w : Plain). restarted w) (widened-same h x le) ∙ sym (widened-same (restarted h) x (omega (arith, le, reach-restarted h)))
 ]
 
 -- ---- a whole source
@@ -258,16 +258,16 @@ StandsFor-merged_corrected greatest most h s i S L one p q small stands source f
     let m = grain-digits most s q in
     let holds = widened-holds h (highest_top s) in
     let inside : (j : ℕ) → 0 < in_class (grain s) j L → top_of (grain s) (value_of (grain s) j) ≤ reach w = λ j pos.
-        omega (arith, holds, class-inside s j (some-number most s L j q source pos)) in
+    omega (arith, holds, class-inside s j (some-number most s L j q source pos)) in
     StandsFor-corrected greatest most w s i S L one (IsPlain-widened greatest h (highest_top s) small p) q (StandsFor-widened greatest h (highest_top s) S p stands) source
-        (corrected-inside s i (reach w) holds) (samples-within (grain s) (reach w) i L m inside)
-        (subst (λ (k : Grain). Fits greatest k (S ++ corrected_samples (grain s) i L)) (sym (grain-widened h (highest_top s))) fits)
-    where
-      some-number : (most : ℕ) (s : Plain) (L : List ℕ) (j : ℕ) → IsPlain most s → StandsFor s L → 0 < in_class (grain s) j L → 0 < get_or s.counts j 0
-      some-number most s L j q source pos = elim (cases_lt j (length s.counts)) [
-          inl lt ↦ omega (arith, source.numbers j lt)
-          | inr ge ↦ absurd (omega (arith, in_class-none (grain s) j L (All-weaker (λ x. x ≤ reach s) (λ x. bin_of (grain s) x < j) (λ x le. omega (arith, room-in most s x q le)) L source.within)))
-      ]
+    (corrected-inside s i (reach w) holds) (samples-within (grain s) (reach w) i L m inside)
+    (subst (λ (k : Grain). Fits greatest k (S ++ corrected_samples (grain s) i L)) (sym (grain-widened h (highest_top s))) fits)
+  where
+    some-number : (most : ℕ) (s : Plain) (L : List ℕ) (j : ℕ) → IsPlain most s → StandsFor s L → 0 < in_class (grain s) j L → 0 < get_or s.counts j 0
+    some-number most s L j q source pos = elim (cases_lt j (length s.counts)) [
+      | inl lt ↦ omega (arith, source.numbers j lt)
+      | inr ge ↦ absurd (omega (arith, in_class-none (grain s) j L (All-weaker (λ x. x ≤ reach s) (λ x. bin_of (grain s) x < j) (λ x le. omega (arith, room-in most s x q le)) L source.within)))
+    ]
 
 pub merged_corrected-high : (greatest : ℕ) (h s : Plain) (i : ℕ)
     → (merged_corrected greatest h s i).high ≡ high_with (grain h) h.high (highest_top s) (reach_of (grain h) (highest_top s))
@@ -296,5 +296,5 @@ StandsFor-one-corrected greatest h v n i S small one p s fits =
     let ts = each n (v ∷ missing v i) in
     let within : All (λ x. x ≤ reach w) (v ∷ missing v i) = All-cons (λ x. x ≤ reach w) v (missing v i) (widened-holds h v) (missing-within v i (reach w) (widened-holds h v)) in
     subst (λ (x : Plain). StandsFor (recorded_each greatest x (each n (missing v i))) (S ++ spread ts)) (recorded-from greatest h v n)
-        (StandsFor-each greatest w ts S one (IsPlain-widened greatest h v small p) (each-within (reach w) n (v ∷ missing v i) within) (StandsFor-widened greatest h v S p s)
-            (subst (λ (g : Grain). Fits greatest g (S ++ spread ts)) (sym (grain-widened h v)) fits))
+    (StandsFor-each greatest w ts S one (IsPlain-widened greatest h v small p) (each-within (reach w) n (v ∷ missing v i) within) (StandsFor-widened greatest h v S p s)
+    (subst (λ (g : Grain). Fits greatest g (S ++ spread ts)) (sym (grain-widened h v)) fits))

@@ -43,7 +43,7 @@ held-next g f ns i j lt pos =
     let last : Times = record { value = value_of f i; times = n } in
     let place : 0 + length (take i ns) ≡ i = omega (arith, length-take-le i ns (omega arith)) in
     let classes : classes_from f 0 (take (i + 1) ns) ≡ classes_from f 0 (take i ns) ++ last ∷ [] =
-        ap (λ l. classes_from f 0 l) (take_more ns i 0 lt) ∙ classes-more-some f 0 n (take i ns) pos ∙ ap (λ k. classes_from f 0 (take i ns) ++ record { value = value_of f k; times = n } ∷ []) place in
+    ap (λ l. classes_from f 0 l) (take_more ns i 0 lt) ∙ classes-more-some f 0 n (take i ns) pos ∙ ap (λ k. classes_from f 0 (take i ns) ++ record { value = value_of f k; times = n } ∷ []) place in
     ap (λ ts. in_class g j (spread ts)) classes
     ∙ ap (λ l. in_class g j l) (spread-append (classes_from f 0 (take i ns)) (last ∷ []) ∙ ap (λ l. spread (classes_from f 0 (take i ns)) ++ l) (append-nil (replicate n (value_of f i))))
 
@@ -63,7 +63,7 @@ classes-append f k [] ns = ap (λ i. classes_from f i ns) (let e : k ≡ k + 0 =
 classes-append f k (zero ∷ ms) ns = classes-append f (suc k) ms ns ∙ ap (λ i. classes_from f (suc k) ms ++ classes_from f i ns) (let e : suc k + length ms ≡ k + suc (length ms) = omega arith in e)
 classes-append f k (suc m ∷ ms) ns =
     ap (λ ts. record { value = value_of f k; times = suc m } ∷ ts)
-        (classes-append f (suc k) ms ns ∙ ap (λ i. classes_from f (suc k) ms ++ classes_from f i ns) (let e : suc k + length ms ≡ k + suc (length ms) = omega arith in e))
+    (classes-append f (suc k) ms ns ∙ ap (λ i. classes_from f (suc k) ms ++ classes_from f i ns) (let e : suc k + length ms ≡ k + suc (length ms) = omega arith in e))
 
 pub held-le : (g f : Grain) (ns : List ℕ) (i j : ℕ) → held g f ns i j ≤ in_class g j (spread (classes_from f 0 ns))
 unfolding held
@@ -72,19 +72,19 @@ held-le g f ns i j =
     let a = classes_from f 0 (take i ns) in
     let b = classes_from f (0 + length (take i ns)) (drop i ns) in
     let parts : in_class g j (spread (classes_from f 0 ns)) ≡ in_class g j (spread a) + in_class g j (spread b) =
-        ap (λ l. in_class g j (spread (classes_from f 0 l))) (sym whole) ∙ ap (λ ts. in_class g j (spread ts)) (classes-append f 0 (take i ns) (drop i ns))
-        ∙ ap (λ l. in_class g j l) (spread-append a b) ∙ in_class-append g j (spread a) (spread b) in
+    ap (λ l. in_class g j (spread (classes_from f 0 l))) (sym whole) ∙ ap (λ ts. in_class g j (spread ts)) (classes-append f 0 (take i ns) (drop i ns))
+    ∙ ap (λ l. in_class g j l) (spread-append a b) ∙ in_class-append g j (spread a) (spread b) in
     omega (arith, parts)
 
 -- later classes begin at greater values
 pub value_of-mono : (f : Grain) (i k : ℕ) → 0 < f.digits → i ≤ k → value_of f i ≤ value_of f k
 value_of-mono f i k m le = elim (cases_lt (value_of f k) (value_of f i)) [
-    inl lt ↦ (
-        let b = bin-mono f (value_of f k) (value_of f i) m (omega arith) in
-        let same : i ≡ k = omega (arith, bin-value_of f i m, bin-value_of f k m) in
-        omega (arith, ap (λ j. value_of f j) same)
-    )
-    | inr ge ↦ ge
+  | inl lt ↦ (
+      let b = bin-mono f (value_of f k) (value_of f i) m (omega arith) in
+      let same : i ≡ k = omega (arith, bin-value_of f i m, bin-value_of f k m) in
+      omega (arith, ap (λ j. value_of f j) same)
+      )
+  | inr ge ↦ ge
 ]
 
 -- what the test of one class leaves known
@@ -96,18 +96,18 @@ pub record IsTested (g f : Grain) (counts ns : List ℕ) (i at sum : ℕ) : Type
 
 pub tested-init : (g f : Grain) (counts ns : List ℕ) → IsTested g f counts ns 0 0 0
 tested-init g f counts ns = record {
-    tested = λ j. omega (arith, held-none g f ns j);
-    running = sym (held-none g f ns 0);
-    later = λ j lt. held-none g f ns j;
-    order = λ k le. omega arith
+  tested = λ j. omega (arith, held-none g f ns j);
+  running = sym (held-none g f ns 0);
+  later = λ j lt. held-none g f ns j;
+  order = λ k le. omega arith;
 }
 
 pub tested-same : (g f : Grain) (counts ns : List ℕ) (i at sum : ℕ) → i < length ns → get_or ns i 0 ≡ 0 → IsTested g f counts ns i at sum → IsTested g f counts ns (i + 1) at sum
 tested-same g f counts ns i at sum lt none t = record {
-    tested = λ j. omega (arith, held-same g f ns i j lt none, t.tested j);
-    running = omega (arith, held-same g f ns i at lt none, t.running);
-    later = λ j past. omega (arith, held-same g f ns i j lt none, t.later j past);
-    order = λ k le. t.order k (omega arith)
+  tested = λ j. omega (arith, held-same g f ns i j lt none, t.tested j);
+  running = omega (arith, held-same g f ns i at lt none, t.running);
+  later = λ j past. omega (arith, held-same g f ns i j lt none, t.later j past);
+  order = λ k le. t.order k (omega arith);
 }
 
 module _ (g f : Grain) (counts ns : List ℕ) (i at sum before target : ℕ) (mf : 0 < f.digits) (mg : 0 < g.digits) (lt : i < length ns) (pos : 0 < get_or ns i 0) (t : IsTested g f counts ns i at sum)
@@ -117,8 +117,8 @@ module _ (g f : Grain) (counts ns : List ℕ) (i at sum before target : ℕ) (mf
       let now : held g f ns (i + 1) target ≡ held g f ns i target + get_or ns i 0 = subst (λ b. held g f ns (i + 1) b ≡ held g f ns i b + get_or ns i 0) (sym here) (held-here g f ns i lt pos) in
       let ascends = t.order i (omega arith) in
       elim (cases_eq target at) [
-          inl e ↦ omega (arith, now, same e, t.running, ap (λ b. held g f ns i b) e)
-          | inr n ↦ omega (arith, now, other n, t.later target (omega arith))
+        | inl e ↦ omega (arith, now, same e, t.running, ap (λ b. held g f ns i b) e)
+        | inr n ↦ omega (arith, now, other n, t.later target (omega arith))
       ]
 
   pub tested-next : before + get_or ns i 0 ≤ get_or counts target 0 → IsTested g f counts ns (i + 1) target (before + get_or ns i 0)
@@ -126,13 +126,13 @@ module _ (g f : Grain) (counts ns : List ℕ) (i at sum before target : ℕ) (mf
       let ascends = t.order i (omega arith) in
       let away : (j : ℕ) → target ≢ j → held g f ns (i + 1) j ≡ held g f ns i j = λ j n. held-other g f ns i j lt pos (λ e. n (here ∙ e)) in
       record {
-          tested = λ j. elim (cases_eq target j) [
-              inl e ↦ omega (arith, tested-sum, ap (λ b. held g f ns (i + 1) b) e, ap (λ b. get_or counts b 0) e)
-              | inr n ↦ omega (arith, away j n, t.tested j)
-          ];
-          running = tested-sum;
-          later = λ j past. omega (arith, away j (λ e. omega arith), t.later j (omega arith));
-          order = λ k le. omega (arith, bin-mono g (value_of f i) (value_of f k) mg (value_of-mono f i k mf (omega arith)))
+        tested = λ j. elim (cases_eq target j) [
+          | inl e ↦ omega (arith, tested-sum, ap (λ b. held g f ns (i + 1) b) e, ap (λ b. get_or counts b 0) e)
+          | inr n ↦ omega (arith, away j n, t.tested j)
+        ];
+        running = tested-sum;
+        later = λ j past. omega (arith, away j (λ e. omega arith), t.later j (omega arith));
+        order = λ k le. omega (arith, bin-mono g (value_of f i) (value_of f k) mg (value_of-mono f i k mf (omega arith)));
       }
 
 -- the last place of a number above 0 among the first n
@@ -167,8 +167,8 @@ taken-next g f ns was now i target lt pos here inside enough taken j =
     let step : held g f ns (i + 1) target ≡ held g f ns i target + get_or ns i 0 = subst (λ b. held g f ns (i + 1) b ≡ held g f ns i b + get_or ns i 0) (sym here) (held-here g f ns i lt pos) in
     let put = get_or now target 0 - get_or ns i 0 in
     elim (cases_eq target j) [
-        inl e ↦ subst (λ k. get_or (set now target put) k 0 + held g f ns (i + 1) k ≡ get_or was k 0) e (omega (arith, step, taken target, get_or-set_same now target put 0 inside))
-        | inr n ↦ omega (arith, get_or-set_other now target j put 0 (λ e. n (sym e)), held-other g f ns i j lt pos (λ e. n (here ∙ e)), taken j)
+      | inl e ↦ subst (λ k. get_or (set now target put) k 0 + held g f ns (i + 1) k ≡ get_or was k 0) e (omega (arith, step, taken target, get_or-set_same now target put 0 inside))
+      | inr n ↦ omega (arith, get_or-set_other now target j put 0 (λ e. n (sym e)), held-other g f ns i j lt pos (λ e. n (here ∙ e)), taken j)
     ]
 
 top-mark-in : (counts : List ℕ) (mark : Option ℕ) → IsTopMark counts mark → IfSome mark (λ i. i < length counts)
@@ -191,16 +191,16 @@ lower-mark-below counts (Some m) t i a = t.2 i a.0 a.1
 pub IsPlain-restated : (greatest : ℕ) (h : Plain) (counts : List ℕ) (total : ℕ) (top lower : Option ℕ) → IsPlain greatest h → length counts ≡ length h.counts → All (λ n. n ≤ greatest) counts
     → total ≡ min (sum counts) (2 ^ 64 - 1) → IsTopMark counts top → IsLowerMark counts lower → IsPlain greatest (record h { counts = counts; total = total; top_mark = top; lower_mark = lower })
 IsPlain-restated greatest h counts total top lower p same fit is_total is_top is_lower = record {
-    scale = p.scale;
-    high_fits = p.high_fits;
-    bins = same ∙ p.bins;
-    numbers_fit = fit;
-    total_fits = omega arith;
-    total_covers = omega arith;
-    empty = λ e. omega arith;
-    nothing = λ e. omega arith;
-    top_in_bins = top-mark-in counts top is_top;
-    lower_in_bins = lower-mark-in counts lower is_lower;
-    none_above = top-mark-above counts top is_top;
-    none_below = lower-mark-below counts lower is_lower
+  scale = p.scale;
+  high_fits = p.high_fits;
+  bins = same ∙ p.bins;
+  numbers_fit = fit;
+  total_fits = omega arith;
+  total_covers = omega arith;
+  empty = λ e. omega arith;
+  nothing = λ e. omega arith;
+  top_in_bins = top-mark-in counts top is_top;
+  lower_in_bins = lower-mark-in counts lower is_lower;
+  none_above = top-mark-above counts top is_top;
+  none_below = lower-mark-below counts lower is_lower;
 }

@@ -36,17 +36,17 @@ above-later (Some m) i j h = (omega arith, omega arith)
 pub below-earlier : (mark : Option ℕ) (i j : ℕ) → IsBelow (earlier_mark mark i) j → IsBelow mark j × (i ≢ j)
 below-earlier None i j =
     let step : (b : Bool) → eqb i 0 ≡ b → IsBelow (cond b None (Some i)) j → (0 < j) × (i ≢ j) =
-        λ b. elim b as (λ b. eqb i 0 ≡ b → IsBelow (cond b None (Some i)) j → (0 < j) × (i ≢ j)) [
-            true ↦ λ e h. (h, λ s. (let z : i ≡ 0 = eqb-true i 0 e in absurd (omega arith)))
-            | false ↦ λ e h. (h.0, λ s. absurd (omega (arith, h.1)))
-        ] in
+    λ b. elim b as (λ b. eqb i 0 ≡ b → IsBelow (cond b None (Some i)) j → (0 < j) × (i ≢ j)) [
+      | true ↦ λ e h. (h, λ s. (let z : i ≡ 0 = eqb-true i 0 e in absurd (omega arith)))
+      | false ↦ λ e h. (h.0, λ s. absurd (omega (arith, h.1)))
+    ] in
     step (eqb i 0) refl
 below-earlier (Some m) i j =
     let step : (b : Bool) → eqb i 0 ≡ b → IsBelow (cond b (Some m) (Some (min m i))) j → ((0 < j) × (j < m)) × (i ≢ j) =
-        λ b. elim b as (λ b. eqb i 0 ≡ b → IsBelow (cond b (Some m) (Some (min m i))) j → ((0 < j) × (j < m)) × (i ≢ j)) [
-            true ↦ λ e h. (h, λ s. (let z : i ≡ 0 = eqb-true i 0 e in absurd (omega (arith, h.0))))
-            | false ↦ λ e h. ((h.0, omega (arith, h.1)), λ s. absurd (omega (arith, h.1)))
-        ] in
+    λ b. elim b as (λ b. eqb i 0 ≡ b → IsBelow (cond b (Some m) (Some (min m i))) j → ((0 < j) × (j < m)) × (i ≢ j)) [
+      | true ↦ λ e h. (h, λ s. (let z : i ≡ 0 = eqb-true i 0 e in absurd (omega (arith, h.0))))
+      | false ↦ λ e h. ((h.0, omega (arith, h.1)), λ s. absurd (omega (arith, h.1)))
+    ] in
     step (eqb i 0) refl
 
 pub later-in : (mark : Option ℕ) (i n : ℕ) → i < n → IfSome mark (λ k. k < n) → IfSome (later_mark mark i) (λ k. k < n)
@@ -56,17 +56,17 @@ later-in (Some m) i n lt h = omega arith
 pub earlier-in : (mark : Option ℕ) (i n : ℕ) → i < n → IfSome mark (λ k. (0 < k) × (k < n)) → IfSome (earlier_mark mark i) (λ k. (0 < k) × (k < n))
 earlier-in None i n lt h =
     let step : (b : Bool) → eqb i 0 ≡ b → IfSome (cond b None (Some i)) (λ k. (0 < k) × (k < n)) =
-        λ b. elim b as (λ b. eqb i 0 ≡ b → IfSome (cond b None (Some i)) (λ k. (0 < k) × (k < n))) [
-            true ↦ λ e. tt
-            | false ↦ λ e. (not-zero i e, lt)
-        ] in
+    λ b. elim b as (λ b. eqb i 0 ≡ b → IfSome (cond b None (Some i)) (λ k. (0 < k) × (k < n))) [
+      | true ↦ λ e. tt
+      | false ↦ λ e. (not-zero i e, lt)
+    ] in
     step (eqb i 0) refl
 earlier-in (Some m) i n lt h =
     let step : (b : Bool) → eqb i 0 ≡ b → IfSome (cond b (Some m) (Some (min m i))) (λ k. (0 < k) × (k < n)) =
-        λ b. elim b as (λ b. eqb i 0 ≡ b → IfSome (cond b (Some m) (Some (min m i))) (λ k. (0 < k) × (k < n))) [
-            true ↦ λ e. h
-            | false ↦ λ e. (let pos : 0 < i = not-zero i e in (omega (arith, h.0), omega (arith, h.1)))
-        ] in
+    λ b. elim b as (λ b. eqb i 0 ≡ b → IfSome (cond b (Some m) (Some (min m i))) (λ k. (0 < k) × (k < n))) [
+      | true ↦ λ e. h
+      | false ↦ λ e. (let pos : 0 < i = not-zero i e in (omega (arith, h.0), omega (arith, h.1)))
+    ] in
     step (eqb i 0) refl
 
 -- marks stay marks of more bins
@@ -84,28 +84,28 @@ IsPlain-added greatest h i n one room p =
     let sums = sum_by-set (λ x. x) h.counts i (min (get_or h.counts i 0 + n) greatest) 0 room in
     let part = get_or-le-sum_by (λ x. x) h.counts i 0 room in
     record {
-        scale = p.scale;
-        high_fits = p.high_fits;
-        bins = length-set h.counts i _ ∙ p.bins;
-        numbers_fit = All-set (λ n. n ≤ greatest) h.counts i _ (omega arith) p.numbers_fit;
-        total_fits = omega arith;
-        total_covers = omega (arith, sums, p.total_covers);
-        empty = λ e. (
-            let none : h.total ≡ 0 = omega arith in
-            omega (arith, sums, p.empty none, part)
-        );
-        nothing = λ e. (
-            let none : min (get_or h.counts i 0 + n) greatest ≡ 0 = omega (arith, sums, get_or-le-sum_by (λ x. x) (set h.counts i (min (get_or h.counts i 0 + n) greatest)) i 0 (rw length-set room), get_or-set_same h.counts i (min (get_or h.counts i 0 + n) greatest) 0 room) in
-            omega (arith, p.nothing (omega (arith, sums)))
-        );
-        top_in_bins = rw length-set (later-in h.top_mark i (length h.counts) room p.top_in_bins);
-        lower_in_bins = rw length-set (earlier-in h.lower_mark i (length h.counts) room p.lower_in_bins);
-        none_above = λ j above.
-            let other = above-later h.top_mark i j above in
-            get_or-set_other h.counts i j _ 0 (omega (arith, other.1)) ∙ p.none_above j other.0;
-        none_below = λ j below.
-            let other = below-earlier h.lower_mark i j below in
-            get_or-set_other h.counts i j _ 0 (λ e. other.1 (sym e)) ∙ p.none_below j other.0
+      scale = p.scale;
+      high_fits = p.high_fits;
+      bins = length-set h.counts i _ ∙ p.bins;
+      numbers_fit = All-set (λ n. n ≤ greatest) h.counts i _ (omega arith) p.numbers_fit;
+      total_fits = omega arith;
+      total_covers = omega (arith, sums, p.total_covers);
+      empty = λ e. (
+          let none : h.total ≡ 0 = omega arith in
+          omega (arith, sums, p.empty none, part)
+          );
+      nothing = λ e. (
+          let none : min (get_or h.counts i 0 + n) greatest ≡ 0 = omega (arith, sums, get_or-le-sum_by (λ x. x) (set h.counts i (min (get_or h.counts i 0 + n) greatest)) i 0 (rw length-set room), get_or-set_same h.counts i (min (get_or h.counts i 0 + n) greatest) 0 room) in
+          omega (arith, p.nothing (omega (arith, sums)))
+          );
+      top_in_bins = rw length-set (later-in h.top_mark i (length h.counts) room p.top_in_bins);
+      lower_in_bins = rw length-set (earlier-in h.lower_mark i (length h.counts) room p.lower_in_bins);
+      none_above = λ j above.
+          let other = above-later h.top_mark i j above in
+          get_or-set_other h.counts i j _ 0 (omega (arith, other.1)) ∙ p.none_above j other.0;
+      none_below = λ j below.
+          let other = below-earlier h.lower_mark i j below in
+          get_or-set_other h.counts i j _ 0 (λ e. other.1 (sym e)) ∙ p.none_below j other.0;
     }
 
 -- zeros behind a list change no number and no sum
@@ -166,18 +166,18 @@ IsPlain-grown greatest h x p small lt =
     let len = length-grown greatest h x p lt in
     let more : length h.counts ≤ length (h.counts ++ replicate (bins_to (grain h) x - length h.counts) 0) = omega (arith, len, grows greatest h x p lt) in
     record {
-        scale = p.scale;
-        high_fits = small;
-        bins = len;
-        numbers_fit = All-append (λ n. n ≤ greatest) h.counts _ p.numbers_fit (All-replicate (λ n. n ≤ greatest) _ 0 (omega arith));
-        total_fits = p.total_fits;
-        total_covers = omega (arith, zeros-sum h.counts (bins_to (grain h) x - length h.counts), p.total_covers);
-        empty = λ e. zeros-sum h.counts (bins_to (grain h) x - length h.counts) ∙ p.empty e;
-        nothing = λ e. p.nothing (sym (zeros-sum h.counts (bins_to (grain h) x - length h.counts)) ∙ e);
-        top_in_bins = top-more h.top_mark (length h.counts) _ more p.top_in_bins;
-        lower_in_bins = lower-more h.lower_mark (length h.counts) _ more p.lower_in_bins;
-        none_above = λ i above. zeros-behind h.counts (bins_to (grain h) x - length h.counts) i ∙ p.none_above i above;
-        none_below = λ i below. zeros-behind h.counts (bins_to (grain h) x - length h.counts) i ∙ p.none_below i below
+      scale = p.scale;
+      high_fits = small;
+      bins = len;
+      numbers_fit = All-append (λ n. n ≤ greatest) h.counts _ p.numbers_fit (All-replicate (λ n. n ≤ greatest) _ 0 (omega arith));
+      total_fits = p.total_fits;
+      total_covers = omega (arith, zeros-sum h.counts (bins_to (grain h) x - length h.counts), p.total_covers);
+      empty = λ e. zeros-sum h.counts (bins_to (grain h) x - length h.counts) ∙ p.empty e;
+      nothing = λ e. p.nothing (sym (zeros-sum h.counts (bins_to (grain h) x - length h.counts)) ∙ e);
+      top_in_bins = top-more h.top_mark (length h.counts) _ more p.top_in_bins;
+      lower_in_bins = lower-more h.lower_mark (length h.counts) _ more p.lower_in_bins;
+      none_above = λ i above. zeros-behind h.counts (bins_to (grain h) x - length h.counts) i ∙ p.none_above i above;
+      none_below = λ i below. zeros-behind h.counts (bins_to (grain h) x - length h.counts) i ∙ p.none_below i below;
     }
 
 -- a value is within the reach exactly where its class has a bin
@@ -189,8 +189,8 @@ pub room-of : (greatest : ℕ) (h : Plain) (v : ℕ) → IsPlain greatest h → 
 unfolding reach
 room-of greatest h v p lt =
     elim (cases_lt (reach_of (grain h) h.high) v) [
-        inl past ↦ absurd (omega (arith, p.bins, past-bins (grain h) h.high v (grain-digits greatest h p) past))
-        | inr le ↦ le
+      | inl past ↦ absurd (omega (arith, p.bins, past-bins (grain h) h.high v (grain-digits greatest h p) past))
+      | inr le ↦ le
     ]
 
 -- the bins of a value's reach
@@ -213,26 +213,26 @@ pub grain-recorded : (greatest : ℕ) (h : Plain) (v n : ℕ) → grain (recorde
 unfolding recorded added grown
 grain-recorded greatest h v n =
     elim (cases_lt (reach h) v) [
-        inl past ↦ ap (λ (w : Plain). grain w) (widened-more h v past)
-        | inr le ↦ ap (λ (w : Plain). grain w) (widened-same h v le)
+      | inl past ↦ ap (λ (w : Plain). grain w) (widened-more h v past)
+      | inr le ↦ ap (λ (w : Plain). grain w) (widened-same h v le)
     ]
 
 -- a histogram that was just made
 pub IsPlain-empty : (greatest low high sigfig : ℕ) (auto_resize : Bool) → HasScale low sigfig → high < 2 ^ 64 → IsPlain greatest (empty_plain low high sigfig auto_resize)
 unfolding empty_plain
 IsPlain-empty greatest low high sigfig auto_resize scale fits = record {
-    scale = scale;
-    high_fits = fits;
-    bins = length-replicate (bins_to (grain_of low sigfig) high) 0;
-    numbers_fit = All-replicate (λ n. n ≤ greatest) (bins_to (grain_of low sigfig) high) 0 (omega arith);
-    total_fits = omega arith;
-    total_covers = omega (arith, sum_by-replicate (λ x. x) (bins_to (grain_of low sigfig) high) 0);
-    empty = λ e. omega (arith, sum_by-replicate (λ x. x) (bins_to (grain_of low sigfig) high) 0);
-    nothing = λ e. refl;
-    top_in_bins = tt;
-    lower_in_bins = tt;
-    none_above = λ i above. zeros-behind [] (bins_to (grain_of low sigfig) high) i;
-    none_below = λ i below. zeros-behind [] (bins_to (grain_of low sigfig) high) i
+  scale = scale;
+  high_fits = fits;
+  bins = length-replicate (bins_to (grain_of low sigfig) high) 0;
+  numbers_fit = All-replicate (λ n. n ≤ greatest) (bins_to (grain_of low sigfig) high) 0 (omega arith);
+  total_fits = omega arith;
+  total_covers = omega (arith, sum_by-replicate (λ x. x) (bins_to (grain_of low sigfig) high) 0);
+  empty = λ e. omega (arith, sum_by-replicate (λ x. x) (bins_to (grain_of low sigfig) high) 0);
+  nothing = λ e. refl;
+  top_in_bins = tt;
+  lower_in_bins = tt;
+  none_above = λ i above. zeros-behind [] (bins_to (grain_of low sigfig) high) i;
+  none_below = λ i below. zeros-behind [] (bins_to (grain_of low sigfig) high) i;
 }
 
 -- blocks up to a value's bucket hold its bins

@@ -24,12 +24,12 @@ use Rattle.hdr_core.proofs.Kept.{above-later, below-earlier, later-in, earlier-i
 pub value-le-top : (g : Grain) (x j : ℕ) → 0 < g.digits → bin_of g x ≤ j → x ≤ top_of g (value_of g j)
 value-le-top g x j m le =
     elim (cases_lt (value_of g j) x) [
-        inl lt ↦ (
-            let at = bin-value_of g j m in
-            let e : bin_of g x ≡ bin_of g (value_of g j) = omega (arith, bin-mono g (value_of g j) x m (omega arith)) in
-            omega (arith, bin-top g x (value_of g j) m e, top-of-value g x)
-        )
-        | inr ge ↦ omega (arith, top-of-value g (value_of g j))
+      | inl lt ↦ (
+          let at = bin-value_of g j m in
+          let e : bin_of g x ≡ bin_of g (value_of g j) = omega (arith, bin-mono g (value_of g j) x m (omega arith)) in
+          omega (arith, bin-top g x (value_of g j) m e, top-of-value g x)
+          )
+      | inr ge ↦ omega (arith, top-of-value g (value_of g j))
     ]
 
 mark-holds : (g : Grain) (mark : Option ℕ) (counts : List ℕ) (i x : ℕ) → 0 < g.digits → ((i : ℕ) → IsAbove mark i → get_or counts i 0 ≡ 0)
@@ -37,8 +37,8 @@ mark-holds : (g : Grain) (mark : Option ℕ) (counts : List ℕ) (i x : ℕ) →
 mark-holds g None counts i x m none some at = absurd (omega (arith, none i tt))
 mark-holds g (Some k) counts i x m none some at =
     elim (cases_lt k i) [
-        inl lt ↦ absurd (omega (arith, none i lt))
-        | inr ge ↦ value-le-top g x k m (omega arith)
+      | inl lt ↦ absurd (omega (arith, none i lt))
+      | inr ge ↦ value-le-top g x k m (omega arith)
     ]
 
 -- each value of a nonempty class is at or below the greatest
@@ -49,10 +49,10 @@ number-le-max greatest h i x p some at = mark-holds (grain h) h.top_mark h.count
 pub max-none : (h : Plain) → ((i : ℕ) → h.top_mark ≡ Some i → ⊥) → 0 ≡ max_of h
 unfolding max_of
 max-none h unmarked = go h.top_mark unmarked
-    where
-      go : (mark : Option ℕ) → ((i : ℕ) → mark ≡ Some i → ⊥) → 0 ≡ top_of_mark (grain h) mark
-      go None unmarked = refl
-      go (Some i) unmarked = absurd (unmarked i refl)
+  where
+    go : (mark : Option ℕ) → ((i : ℕ) → mark ≡ Some i → ⊥) → 0 ≡ top_of_mark (grain h) mark
+    go None unmarked = refl
+    go (Some i) unmarked = absurd (unmarked i refl)
 
 pub max-some : (h : Plain) (i v : ℕ) → 0 < (grain h).digits → h.top_mark ≡ Some i → bin_of (grain h) v ≡ i → lowest_of (grain h) v ≡ v → top_of (grain h) v ≡ max_of h
 unfolding max_of
@@ -76,9 +76,9 @@ eqb-yes a b h = grind (arith, nat_tests)
 
 pub above-later_of : (a b : Option ℕ) (j : ℕ) → IsAbove (later_of a b) j → IsAbove a j × IsAbove b j
 above-later_of a None j h = (h, above-any a j h)
-    where
-      above-any : (a : Option ℕ) (j : ℕ) → IsAbove a j → Unit {0}
-      above-any a j h = tt
+  where
+    above-any : (a : Option ℕ) (j : ℕ) → IsAbove a j → Unit {0}
+    above-any a j h = tt
 above-later_of a (Some i) j h = above-later a i j h
 
 pub below-earlier_of : (a b : Option ℕ) (j : ℕ) → IfSome b (λ i. 0 < i) → IsBelow (earlier_of a b) j → IsBelow a j × IsBelow b j
@@ -108,18 +108,18 @@ lower-pos (Some i) n h = h.0
 pub both : (a b : Bool) → a && b ≡ true → (a ≡ true) × (b ≡ true)
 both true b e = (refl, e)
 both false b e = absurd (false-true e)
-    where
-      false-true : false ≡ true → ⊥
-      false-true e = cc
+  where
+    false-true : false ≡ true → ⊥
+    false-true e = cc
 
 pub same-bins : (h s : Plain) → same_bins h s ≡ true → (grain h ≡ grain s) × (length h.counts ≡ length s.counts)
 same-bins h s e =
     let a = both (eqb (grain h).unit (grain s).unit) (eqb (grain h).digits (grain s).digits && eqb (length h.counts) (length s.counts)) e in
     let b = both (eqb (grain h).digits (grain s).digits) (eqb (length h.counts) (length s.counts)) a.1 in
     (grains (grain h) (grain s) (eqb-true (grain h).unit (grain s).unit a.0) (eqb-true (grain h).digits (grain s).digits b.0), eqb-true (length h.counts) (length s.counts) b.1)
-    where
-      grains : (f g : Grain) → f.unit ≡ g.unit → f.digits ≡ g.digits → f ≡ g
-      grains f g a b = ap (λ u. record { unit = u; digits = f.digits }) a ∙ ap (λ d. record { unit = g.unit; digits = d }) b
+  where
+    grains : (f g : Grain) → f.unit ≡ g.unit → f.digits ≡ g.digits → f ≡ g
+    grains f g a b = ap (λ u. record { unit = u; digits = f.digits }) a ∙ ap (λ d. record { unit = g.unit; digits = d }) b
 
 module _ (greatest most : ℕ) (h s : Plain) (one : 1 ≤ greatest) (same : length h.counts ≡ length s.counts) (p : IsPlain greatest h) (q : IsPlain most s) where
   -- into an empty target
@@ -127,49 +127,52 @@ module _ (greatest most : ℕ) (h s : Plain) (one : 1 ≤ greatest) (same : leng
   IsPlain-taken none =
       let zero_sum : sum h.counts ≡ 0 = p.empty none in
       let at : (i : ℕ) → get_or h.counts i 0 ≡ 0 = λ i. elim (cases_lt i (length h.counts)) [
-          inl lt ↦ omega (arith, get_or-le-sum_by (λ x. x) h.counts i 0 lt)
-          | inr ge ↦ get_or_past h.counts i 0 ge
+        | inl lt ↦ omega (arith, get_or-le-sum_by (λ x. x) h.counts i 0 lt)
+        | inr ge ↦ get_or_past h.counts i 0 ge
       ] in
       record {
-          scale = p.scale;
-          high_fits = p.high_fits;
-          bins = capped-length greatest h.counts s.counts ∙ p.bins;
-          numbers_fit = capped-fit greatest h.counts s.counts p.numbers_fit;
-          total_fits = q.total_fits;
-          total_covers = omega (arith, capped-sum greatest h.counts s.counts, q.total_covers);
-          empty = λ e. omega (arith, capped-sum greatest h.counts s.counts, q.empty e);
-          nothing = λ e. q.nothing (omega (arith, capped-nothing greatest h.counts s.counts one same e));
-          top_in_bins = rw (capped-length greatest h.counts s.counts, same) q.top_in_bins;
-          lower_in_bins = rw (capped-length greatest h.counts s.counts, same) q.lower_in_bins;
-          none_above = λ i above. omega (arith, capped-get greatest h.counts s.counts i same, at i, q.none_above i above);
-          none_below = λ i below. omega (arith, capped-get greatest h.counts s.counts i same, at i, q.none_below i below)
+        scale = p.scale;
+        high_fits = p.high_fits;
+        bins = capped-length greatest h.counts s.counts ∙ p.bins;
+        numbers_fit = capped-fit greatest h.counts s.counts p.numbers_fit;
+        total_fits = q.total_fits;
+        total_covers = omega (arith, capped-sum greatest h.counts s.counts, q.total_covers);
+        empty = λ e. omega (arith, capped-sum greatest h.counts s.counts, q.empty e);
+        nothing = λ e. q.nothing (omega (arith, capped-nothing greatest h.counts s.counts one same e));
+        top_in_bins = rw (capped-length greatest h.counts s.counts, same) q.top_in_bins;
+        lower_in_bins = rw (capped-length greatest h.counts s.counts, same) q.lower_in_bins;
+        none_above = λ i above. omega (arith, capped-get greatest h.counts s.counts i same, at i, q.none_above i above);
+        none_below = λ i below. omega (arith, capped-get greatest h.counts s.counts i same, at i, q.none_below i below);
       }
 
   -- into a target that isn't empty
   pub IsPlain-summed : h.total ≢ 0 → IsPlain greatest (record h {
-      counts = capped_sums greatest h.counts s.counts; total = min (h.total + min (sum s.counts) (2 ^ 64 - 1)) (2 ^ 64 - 1);
-      top_mark = later_of h.top_mark s.top_mark; lower_mark = earlier_of h.lower_mark s.lower_mark })
+    counts = capped_sums greatest h.counts s.counts;
+    total = min (h.total + min (sum s.counts) (2 ^ 64 - 1)) (2 ^ 64 - 1);
+    top_mark = later_of h.top_mark s.top_mark;
+    lower_mark = earlier_of h.lower_mark s.lower_mark;
+  })
   IsPlain-summed some =
       let in_low : IfSome s.lower_mark (λ i. (0 < i) × (i < length h.counts)) = rw same q.lower_in_bins in
       let in_top : IfSome s.top_mark (λ i. i < length h.counts) = rw same q.top_in_bins in
       let pos : 0 < h.total = omega arith in
       record {
-          scale = p.scale;
-          high_fits = p.high_fits;
-          bins = capped-length greatest h.counts s.counts ∙ p.bins;
-          numbers_fit = capped-fit greatest h.counts s.counts p.numbers_fit;
-          total_fits = omega arith;
-          total_covers = omega (arith, capped-sum greatest h.counts s.counts, p.total_covers);
-          empty = λ e. absurd (omega arith);
-          nothing = λ e. (let none : sum h.counts ≡ 0 = omega (arith, capped-nothing greatest h.counts s.counts one same e) in absurd (some (p.nothing none)));
-          top_in_bins = rw (capped-length greatest h.counts s.counts) (later_of-in h.top_mark s.top_mark (length h.counts) p.top_in_bins in_top);
-          lower_in_bins = rw (capped-length greatest h.counts s.counts) (earlier_of-in h.lower_mark s.lower_mark (length h.counts) p.lower_in_bins in_low);
-          none_above = λ i above.
-              let both = above-later_of h.top_mark s.top_mark i above in
-              omega (arith, capped-get greatest h.counts s.counts i same, p.none_above i both.0, q.none_above i both.1);
-          none_below = λ i below.
-              let both = below-earlier_of h.lower_mark s.lower_mark i (lower-pos s.lower_mark (length s.counts) q.lower_in_bins) below in
-              omega (arith, capped-get greatest h.counts s.counts i same, p.none_below i both.0, q.none_below i both.1)
+        scale = p.scale;
+        high_fits = p.high_fits;
+        bins = capped-length greatest h.counts s.counts ∙ p.bins;
+        numbers_fit = capped-fit greatest h.counts s.counts p.numbers_fit;
+        total_fits = omega arith;
+        total_covers = omega (arith, capped-sum greatest h.counts s.counts, p.total_covers);
+        empty = λ e. absurd (omega arith);
+        nothing = λ e. (let none : sum h.counts ≡ 0 = omega (arith, capped-nothing greatest h.counts s.counts one same e) in absurd (some (p.nothing none)));
+        top_in_bins = rw (capped-length greatest h.counts s.counts) (later_of-in h.top_mark s.top_mark (length h.counts) p.top_in_bins in_top);
+        lower_in_bins = rw (capped-length greatest h.counts s.counts) (earlier_of-in h.lower_mark s.lower_mark (length h.counts) p.lower_in_bins in_low);
+        none_above = λ i above.
+            let both = above-later_of h.top_mark s.top_mark i above in
+            omega (arith, capped-get greatest h.counts s.counts i same, p.none_above i both.0, q.none_above i both.1);
+        none_below = λ i below.
+            let both = below-earlier_of h.lower_mark s.lower_mark i (lower-pos s.lower_mark (length s.counts) q.lower_in_bins) below in
+            omega (arith, capped-get greatest h.counts s.counts i same, p.none_below i both.0, q.none_below i both.1);
       }
 
 pub joined-empty : (greatest : ℕ) (h s : Plain) → h.total ≡ 0
@@ -179,8 +182,11 @@ joined-empty greatest h s e = rw (eqb-yes h.total 0 e) refl
 
 pub joined-some : (greatest : ℕ) (h s : Plain) → h.total ≢ 0
     → record h {
-      counts = capped_sums greatest h.counts s.counts; total = min (h.total + min (sum s.counts) (2 ^ 64 - 1)) (2 ^ 64 - 1);
-      top_mark = later_of h.top_mark s.top_mark; lower_mark = earlier_of h.lower_mark s.lower_mark } ≡ joined greatest h s
+      counts = capped_sums greatest h.counts s.counts;
+      total = min (h.total + min (sum s.counts) (2 ^ 64 - 1)) (2 ^ 64 - 1);
+      top_mark = later_of h.top_mark s.top_mark;
+      lower_mark = earlier_of h.lower_mark s.lower_mark;
+    } ≡ joined greatest h s
 unfolding joined
 joined-some greatest h s n = rw (eqb-no h.total 0 n) refl
 
@@ -203,7 +209,7 @@ classes-more-some g k n (zero ∷ ns) pos =
     classes-more-some g (suc k) n ns pos ∙ ap (λ i. classes_from g (suc k) ns ++ record { value = value_of g i; times = n } ∷ []) (let e : suc k + length ns ≡ k + suc (length ns) = omega arith in e)
 classes-more-some g k n (suc m ∷ ns) pos =
     ap (λ ts. record { value = value_of g k; times = suc m } ∷ ts)
-        (classes-more-some g (suc k) n ns pos ∙ ap (λ i. classes_from g (suc k) ns ++ record { value = value_of g i; times = n } ∷ []) (let e : suc k + length ns ≡ k + suc (length ns) = omega arith in e))
+    (classes-more-some g (suc k) n ns pos ∙ ap (λ i. classes_from g (suc k) ns ++ record { value = value_of g i; times = n } ∷ []) (let e : suc k + length ns ≡ k + suc (length ns) = omega arith in e))
 
 pub reach-recorded : (greatest : ℕ) (h : Plain) (v n : ℕ) → v ≤ reach h → reach (recorded greatest h v n) ≡ reach h
 unfolding recorded added reach
@@ -226,8 +232,8 @@ with_room-more h x lt = rw (leb-no x (reach h) lt) refl
 pub with_room-reach : (h : Plain) (x : ℕ) → x ≤ reach (with_room h x)
 unfolding reach grown
 with_room-reach h x = elim (cases_lt (reach h) x) [
-    inl lt ↦ rw (with_room-more h x lt) (reach-holds (grain h) x)
-    | inr le ↦ rw (with_room-same h x le) le
+  | inl lt ↦ rw (with_room-more h x lt) (reach-holds (grain h) x)
+  | inr le ↦ rw (with_room-same h x le) le
 ]
 
 pub merged-none : (greatest : ℕ) (h s : Plain) → s.total ≡ 0 → merged greatest h s ≡ h
@@ -249,7 +255,7 @@ module _ (greatest : ℕ) (h : Plain) (g : Grain) (ns : List ℕ) (i : ℕ) wher
       let place : 0 + length (take i ns) ≡ i = omega (arith, length-take-le i ns (omega arith)) in
       let last : Times = record { value = value_of g i; times = n } in
       let classes : classes_from g 0 (take (i + 1) ns) ≡ classes_from g 0 (take i ns) ++ last ∷ [] =
-          ap (λ l. classes_from g 0 l) more ∙ classes-more-some g 0 n (take i ns) pos ∙ ap (λ k. classes_from g 0 (take i ns) ++ record { value = value_of g k; times = n } ∷ []) place in
+      ap (λ l. classes_from g 0 l) more ∙ classes-more-some g 0 n (take i ns) pos ∙ ap (λ k. classes_from g 0 (take i ns) ++ record { value = value_of g k; times = n } ∷ []) place in
       sym (ap (λ ts. recorded_each greatest h ts) classes ∙ recorded_each-append greatest h (classes_from g 0 (take i ns)) (last ∷ []))
 
   pub classes-same : i < length ns → get_or ns i 0 ≡ 0 → classes_from g 0 (take i ns) ≡ classes_from g 0 (take (i + 1) ns)

@@ -119,4 +119,4 @@ pub missing-within : (v i r : ℕ) → v ≤ r → All (λ x. x ≤ r) (missing 
 missing-within v zero r le = rw (missing-none v) (All-nil (λ x. x ≤ r))
 missing-within v (suc i) r le =
     rw (missing-down v (suc i) (omega arith))
-        (All-weaker (λ y. (suc i ≤ y) × (y ≤ v - suc i)) (λ y. y ≤ r) (λ y h. omega (arith, h)) (down_to (v - suc i) (suc i)) (down_to-within (v - suc i) (suc i) (omega arith)))
+    (All-weaker (λ y. (suc i ≤ y) × (y ≤ v - suc i)) (λ y. y ≤ r) (λ y h. omega (arith, h)) (down_to (v - suc i) (suc i)) (down_to-within (v - suc i) (suc i) (omega arith)))

@@ -41,8 +41,8 @@ at_most_one false = omega arith
 
 later : (g : Grain) (x y i : ℕ) → 0 < g.digits → i < bin_of g x → bin_of g y < i + 1 → ltb y x ≡ true
 later g x y i m late t = elim (cases_lt y x) [
-    inl lt ↦ ltb-yes y x lt
-    | inr ge ↦ absurd (omega (arith, bin-mono g x y m ge))
+  | inl lt ↦ ltb-yes y x lt
+  | inr ge ↦ absurd (omega (arith, bin-mono g x y m ge))
 ]
 
 leb-not : (a b : ℕ) → leb a b ≡ false → b < a
@@ -53,20 +53,20 @@ put-count p x [] = sum_by-cons (λ y. cond (p y) 1 0) x []
 put-count p x (y ∷ ys) =
     let f : ℕ → ℕ = λ y. cond (p y) 1 0 in
     let step : (b : Bool) → sum_by f (cond b (x ∷ y ∷ ys) (y ∷ put_in_order x ys)) ≡ f x + sum_by f (y ∷ ys) =
-        λ b. elim b as (λ b. sum_by f (cond b (x ∷ y ∷ ys) (y ∷ put_in_order x ys)) ≡ f x + sum_by f (y ∷ ys)) [
-            true ↦ sum_by-cons f x (y ∷ ys)
-            | false ↦ omega (arith, sum_by-cons f y (put_in_order x ys), put-count p x ys, sum_by-cons f y ys)
-        ] in
+    λ b. elim b as (λ b. sum_by f (cond b (x ∷ y ∷ ys) (y ∷ put_in_order x ys)) ≡ f x + sum_by f (y ∷ ys)) [
+      | true ↦ sum_by-cons f x (y ∷ ys)
+      | false ↦ omega (arith, sum_by-cons f y (put_in_order x ys), put-count p x ys, sum_by-cons f y ys)
+    ] in
     step (leb x y)
 
 put-All : (P : ℕ → Type 0) (x : ℕ) (ys : List ℕ) → P x → All P ys → All P (put_in_order x ys)
 put-All P x [] h t = All-cons P x [] h t
 put-All P x (y ∷ ys) h t =
     let step : (b : Bool) → All P (cond b (x ∷ y ∷ ys) (y ∷ put_in_order x ys)) =
-        λ b. elim b as (λ b. All P (cond b (x ∷ y ∷ ys) (y ∷ put_in_order x ys))) [
-            true ↦ All-cons P x (y ∷ ys) h t
-            | false ↦ All-cons P y (put_in_order x ys) (All-head P y ys t) (put-All P x ys h (All-tail P y ys t))
-        ] in
+    λ b. elim b as (λ b. All P (cond b (x ∷ y ∷ ys) (y ∷ put_in_order x ys))) [
+      | true ↦ All-cons P x (y ∷ ys) h t
+      | false ↦ All-cons P y (put_in_order x ys) (All-head P y ys t) (put-All P x ys h (All-tail P y ys t))
+    ] in
     step (leb x y)
 
 All-nil : (P : ℕ → Type 0) → All P []
@@ -76,12 +76,12 @@ put-Ascends : (x : ℕ) (ys : List ℕ) → Ascends ys → Ascends (put_in_order
 put-Ascends x [] a = (All-nil (λ y. x ≤ y), tt)
 put-Ascends x (y ∷ ys) a =
     let step : (b : Bool) → leb x y ≡ b → Ascends (cond b (x ∷ y ∷ ys) (y ∷ put_in_order x ys)) =
-        λ b. elim b as (λ b. leb x y ≡ b → Ascends (cond b (x ∷ y ∷ ys) (y ∷ put_in_order x ys))) [
-            true ↦ λ e. (let le : x ≤ y = leb-from x y e in
-                (All-cons (λ z. x ≤ z) y ys le (All-weaker (λ z. y ≤ z) (λ z. x ≤ z) (λ z h. omega arith) ys a.0), a))
-            | false ↦ λ e. (let lt : y < x = leb-not x y e in
-                (put-All (λ z. y ≤ z) x ys (omega arith) a.0, put-Ascends x ys a.1))
-        ] in
+    λ b. elim b as (λ b. leb x y ≡ b → Ascends (cond b (x ∷ y ∷ ys) (y ∷ put_in_order x ys))) [
+      | true ↦ λ e. (let le : x ≤ y = leb-from x y e in
+          (All-cons (λ z. x ≤ z) y ys le (All-weaker (λ z. y ≤ z) (λ z. x ≤ z) (λ z h. omega arith) ys a.0), a))
+      | false ↦ λ e. (let lt : y < x = leb-not x y e in
+          (put-All (λ z. y ≤ z) x ys (omega arith) a.0, put-Ascends x ys a.1))
+    ] in
     step (leb x y) refl
 
 pub sorted-count : (p : ℕ → Bool) (xs : List ℕ) → count_by p (sorted xs) ≡ count_by p xs
@@ -96,7 +96,7 @@ put-length : (x : ℕ) (ys : List ℕ) → length (put_in_order x ys) ≡ suc (l
 put-length x [] = refl
 put-length x (y ∷ ys) =
     let step : (b : Bool) → length (cond b (x ∷ y ∷ ys) (y ∷ put_in_order x ys)) ≡ suc (suc (length ys)) =
-        λ b. elim b as (λ b. length (cond b (x ∷ y ∷ ys) (y ∷ put_in_order x ys)) ≡ suc (suc (length ys))) [ true ↦ refl | false ↦ ap suc (put-length x ys) ] in
+    λ b. elim b as (λ b. length (cond b (x ∷ y ∷ ys) (y ∷ put_in_order x ys)) ≡ suc (suc (length ys))) [ true ↦ refl | false ↦ ap suc (put-length x ys) ] in
     step (leb x y)
 
 pub sorted-length : (xs : List ℕ) → length (sorted xs) ≡ length xs
@@ -108,12 +108,12 @@ sorted-length (x ∷ xs) = put-length x (sorted xs) ∙ ap suc (sorted-length xs
 count-imp : (p q : ℕ → Bool) (xs : List ℕ) → ((x : ℕ) → p x ≡ true → q x ≡ true) → count_by p xs ≤ count_by q xs
 count-imp p q xs f =
     sum_by-le-sum_by (λ x. cond (p x) 1 0) (λ x. cond (q x) 1 0) xs (λ x.
-        let step : (b c : Bool) → (b ≡ true → c ≡ true) → cond b 1 0 ≤ cond c 1 0 =
-            λ b c. elim b as (λ b. (b ≡ true → c ≡ true) → cond b 1 0 ≤ cond c 1 0) [
-                true ↦ λ h. (let e : c ≡ true = h refl in rw e (omega arith))
-                | false ↦ λ h. omega arith
-            ] in
-        step (p x) (q x) (f x))
+    let step : (b c : Bool) → (b ≡ true → c ≡ true) → cond b 1 0 ≤ cond c 1 0 =
+    λ b c. elim b as (λ b. (b ≡ true → c ≡ true) → cond b 1 0 ≤ cond c 1 0) [
+      | true ↦ λ h. (let e : c ≡ true = h refl in rw e (omega arith))
+      | false ↦ λ h. omega arith
+    ] in
+    step (p x) (q x) (f x))
 
 -- the number at a place of an ascending list has more at or below it than come before, and no more below it
 pub at-or-below : (xs : List ℕ) (k : ℕ) → Ascends xs → k < length xs → k < count_by (λ x. leb x (get_or xs k 0)) xs
@@ -159,8 +159,14 @@ one-more b k = grind (arith, nat_tests)
 in_first-more : (g : Grain) (k : ℕ) (S : List ℕ) → in_first g (k + 1) S ≡ in_first g k S + in_class g k S
 in_first-more g k [] = omega arith
 in_first-more g k (s ∷ S) =
-    omega (arith, sum_by-cons (λ s. cond (ltb (bin_of g s) (k + 1)) 1 0) s S, sum_by-cons (λ s. cond (ltb (bin_of g s) k) 1 0) s S, sum_by-cons (λ s. cond (eqb (bin_of g s) k) 1 0) s S,
-        one-more (bin_of g s) k, in_first-more g k S)
+    omega (
+      arith,
+      sum_by-cons (λ s. cond (ltb (bin_of g s) (k + 1)) 1 0) s S,
+      sum_by-cons (λ s. cond (ltb (bin_of g s) k) 1 0) s S,
+      sum_by-cons (λ s. cond (eqb (bin_of g s) k) 1 0) s S,
+      one-more (bin_of g s) k,
+      in_first-more g k S,
+    )
 
 -- the running sum of the numbers counts the samples of the first classes
 pub running : (h : Plain) (S : List ℕ) (k : ℕ) → StandsFor h S → k ≤ length h.counts → sum (take k h.counts) ≡ in_first (grain h) k S
@@ -180,13 +186,13 @@ class-of-rank h S k i m s in_range first =
     let upto = running h S (i + 1) s (omega (arith, first.in_bins)) in
     let before = running h S i s (omega (arith, first.in_bins)) in
     elim (cases_lt (bin_of g x) i) [
-        inl early ↦
-            absurd (omega (arith, first.before, count-imp (λ y. leb y x) (λ y. ltb (bin_of g y) i) S (λ y t. ltb-yes (bin_of g y) i (omega (arith, bin-mono g y x m (leb-from y x t))))))
-        | inr ge ↦ elim (cases_lt i (bin_of g x)) [
-            inl late ↦
-                absurd (omega (arith, first.reached, count-imp (λ y. ltb (bin_of g y) (i + 1)) (λ y. ltb y x) S (λ y t. later g x y i m late (ltb-from (bin_of g y) (i + 1) t))))
-            | inr le ↦ omega arith
-        ]
+      | inl early ↦
+          absurd (omega (arith, first.before, count-imp (λ y. leb y x) (λ y. ltb (bin_of g y) i) S (λ y t. ltb-yes (bin_of g y) i (omega (arith, bin-mono g y x m (leb-from y x t))))))
+      | inr ge ↦ elim (cases_lt i (bin_of g x)) [
+        | inl late ↦
+            absurd (omega (arith, first.reached, count-imp (λ y. ltb (bin_of g y) (i + 1)) (λ y. ltb y x) S (λ y t. later g x y i m late (ltb-from (bin_of g y) (i + 1) t))))
+        | inr le ↦ omega arith
+      ]
     ]
 
 pub in_first-all : (g : Grain) (k : ℕ) (S : List ℕ) → All (λ s. bin_of g s < k) S → in_first g k S ≡ length S

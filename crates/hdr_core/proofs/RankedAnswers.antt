@@ -28,14 +28,14 @@ ceil-le a d n pos le =
     let split = div-add-mod' a d in
     let less = mod_below a d pos in
     elim (cases_lt n (a / d)) [
-        inl lt ↦ absurd (omega (arith, mul-le (n + 1) d (a / d) d (omega arith) (omega arith)))
-        | inr ge ↦ elim (cases_lt (a / d) n) [
-            inl lt ↦ omega arith
-            | inr same ↦ (
-                let row : n * d ≤ a / d * d = mul-le n d (a / d) d same (omega arith) in
-                omega arith
+      | inl lt ↦ absurd (omega (arith, mul-le (n + 1) d (a / d) d (omega arith) (omega arith)))
+      | inr ge ↦ elim (cases_lt (a / d) n) [
+        | inl lt ↦ omega arith
+        | inr same ↦ (
+            let row : n * d ≤ a / d * d = mul-le n d (a / d) d same (omega arith) in
+            omega arith
             )
-        ]
+      ]
     ]
 
 pub rank-bound : (q : Ratio) (n : ℕ) → 0 < q.den → 0 < n → rank q n ≤ n
@@ -64,8 +64,8 @@ not-later counts r i j a b lt =
 pub first-one : (counts : List ℕ) (r i j : ℕ) → FirstReaching counts r i → FirstReaching counts r j → i ≡ j
 first-one counts r i j a b =
     elim (cases_lt i j) [
-        inl lt ↦ absurd (not-later counts r i j a b lt)
-        | inr ge ↦ elim (cases_lt j i) [ inl lt ↦ absurd (not-later counts r j i b a lt) | inr le ↦ omega arith ]
+      | inl lt ↦ absurd (not-later counts r i j a b lt)
+      | inr ge ↦ elim (cases_lt j i) [ inl lt ↦ absurd (not-later counts r j i b a lt) | inr le ↦ omega arith ]
     ]
 
 top-below : (g : Grain) (s : ℕ) → top_of g s + 1 ≤ s + width_of g s
@@ -79,17 +79,17 @@ parts greatest h s p large = width-bound (grain h) s (10 ^ h.sigfig) (grain-digi
 -- the top of a class is near each of its values
 pub top-near : (greatest : ℕ) (h : Plain) (s answer : ℕ) → IsPlain greatest h → answer ≡ top_of (grain h) s → IsTopNear h s answer
 top-near greatest h s answer p e = record {
-    is_top = e;
-    at_least = omega (arith, top-of-value (grain h) s);
-    close = elim (cases_lt s (2 ^ ((grain h).unit + (grain h).digits))) [
-        inl small ↦ inl (omega (arith, top-below (grain h) s, width-of-units (grain h) s small, width-pos (grain h) s))
-        | inr large ↦ inr (
-            let part : width_of (grain h) s * 10 ^ h.sigfig ≤ lowest_of (grain h) s = parts greatest h s p large in
-            let gap : answer - s + 1 ≤ width_of (grain h) s = omega (arith, top-below (grain h) s, width-pos (grain h) s) in
-            let row : (answer - s + 1) * 10 ^ h.sigfig ≤ width_of (grain h) s * 10 ^ h.sigfig = mul-le (answer - s + 1) (10 ^ h.sigfig) (width_of (grain h) s) (10 ^ h.sigfig) gap (omega arith) in
-            omega (arith, lowest-le (grain h) s, one-le-pow h.sigfig 10 (omega arith))
+  is_top = e;
+  at_least = omega (arith, top-of-value (grain h) s);
+  close = elim (cases_lt s (2 ^ ((grain h).unit + (grain h).digits))) [
+    | inl small ↦ inl (omega (arith, top-below (grain h) s, width-of-units (grain h) s small, width-pos (grain h) s))
+    | inr large ↦ inr (
+        let part : width_of (grain h) s * 10 ^ h.sigfig ≤ lowest_of (grain h) s = parts greatest h s p large in
+        let gap : answer - s + 1 ≤ width_of (grain h) s = omega (arith, top-below (grain h) s, width-pos (grain h) s) in
+        let row : (answer - s + 1) * 10 ^ h.sigfig ≤ width_of (grain h) s * 10 ^ h.sigfig = mul-le (answer - s + 1) (10 ^ h.sigfig) (width_of (grain h) s) (10 ^ h.sigfig) gap (omega arith) in
+        omega (arith, lowest-le (grain h) s, one-le-pow h.sigfig 10 (omega arith))
         )
-    ]
+  ];
 }
 
 module _ (greatest : ℕ) (h : Plain) (q : Ratio) (p : IsPlain greatest h) (pos : 0 < q.den) where
@@ -102,7 +102,7 @@ module _ (greatest : ℕ) (h : Plain) (q : Ratio) (p : IsPlain greatest h) (pos 
       let k = r - 1 in
       let in_range : k < length S = omega (arith, rank-bound q (length S) pos some, rank-pos q (length S)) in
       let here : FirstReaching h.counts (k + 1) i =
-          subst (λ n. FirstReaching h.counts n i) (ap (λ n. rank q n) s.total ∙ (let e : r ≡ k + 1 = omega (arith, rank-pos q (length S)) in e)) first in
+      subst (λ n. FirstReaching h.counts n i) (ap (λ n. rank q n) s.total ∙ (let e : r ≡ k + 1 = omega (arith, rank-pos q (length S)) in e)) first in
       let class = class-of-rank h S k i (grain-digits greatest h p) s in_range here in
       top-near greatest h (get_or (sorted S) k 0) (top_of (grain h) lowest) p (bin-top (grain h) lowest (get_or (sorted S) k 0) (grain-digits greatest h p) (is ∙ sym class))
 

@@ -22,19 +22,19 @@ same-parts h k e =
     let d = both most (least && numbers) c.1 in
     let f = both least numbers d.1 in
     record {
-        low = eqb-true h.low k.low a.0;
-        sigfig = eqb-true h.sigfig k.sigfig b.0;
-        total = eqb-true h.total k.total c.0;
-        max = eqb-true (max_of h) (max_of k) d.0;
-        min_nz = eqb-true (min_nz_of h) (min_nz_of k) f.0;
-        numbers = λ i. sym (trimmed-at h.counts i) ∙ ap (λ l. get_or l i 0) ((bytes_decides (trimmed h.counts) (trimmed k.counts)).0 f.1) ∙ trimmed-at k.counts i
+      low = eqb-true h.low k.low a.0;
+      sigfig = eqb-true h.sigfig k.sigfig b.0;
+      total = eqb-true h.total k.total c.0;
+      max = eqb-true (max_of h) (max_of k) d.0;
+      min_nz = eqb-true (min_nz_of h) (min_nz_of k) f.0;
+      numbers = λ i. sym (trimmed-at h.counts i) ∙ ap (λ l. get_or l i 0) ((bytes_decides (trimmed h.counts) (trimmed k.counts)).0 f.1) ∙ trimmed-at k.counts i;
     }
 
 pub parts-same : (h k : Plain) → IsSame h k → same_plain h k ≡ true
 parts-same h k s =
     all-same (eqb h.low k.low) (eqb h.sigfig k.sigfig) (eqb h.total k.total) (eqb (max_of h) (max_of k)) (eqb (min_nz_of h) (min_nz_of k)) (pointwise eqb (trimmed h.counts) (trimmed k.counts))
-        (eqb-yes h.low k.low s.low) (eqb-yes h.sigfig k.sigfig s.sigfig) (eqb-yes h.total k.total s.total) (eqb-yes (max_of h) (max_of k) s.max) (eqb-yes (min_nz_of h) (min_nz_of k) s.min_nz)
-        ((bytes_decides (trimmed h.counts) (trimmed k.counts)).1 (trimmed-same h.counts k.counts s.numbers))
+    (eqb-yes h.low k.low s.low) (eqb-yes h.sigfig k.sigfig s.sigfig) (eqb-yes h.total k.total s.total) (eqb-yes (max_of h) (max_of k) s.max) (eqb-yes (min_nz_of h) (min_nz_of k) s.min_nz)
+    ((bytes_decides (trimmed h.counts) (trimmed k.counts)).1 (trimmed-same h.counts k.counts s.numbers))
 
 pub same-itself : (h : Plain) → same_plain h h ≡ true
 same-itself h = parts-same h h (record { low = refl; sigfig = refl; total = refl; max = refl; min_nz = refl; numbers = λ i. refl })
@@ -49,6 +49,10 @@ same-through h k j e f =
     let s = same-parts h k e in
     let t = same-parts k j f in
     parts-same h j (record {
-        low = s.low ∙ t.low; sigfig = s.sigfig ∙ t.sigfig; total = s.total ∙ t.total; max = s.max ∙ t.max; min_nz = s.min_nz ∙ t.min_nz;
-        numbers = λ i. s.numbers i ∙ t.numbers i
+      low = s.low ∙ t.low;
+      sigfig = s.sigfig ∙ t.sigfig;
+      total = s.total ∙ t.total;
+      max = s.max ∙ t.max;
+      min_nz = s.min_nz ∙ t.min_nz;
+      numbers = λ i. s.numbers i ∙ t.numbers i;
     })

@@ -53,20 +53,21 @@ from-class w g k x = cond (leb k (bin_of g x)) (w (bin_of g x)) 0
 one-class : (w : ℕ → ℕ) (b k : ℕ) → cond (leb k b) (w b) 0 ≡ cond (eqb b k) 1 0 * w k + cond (leb (suc k) b) (w b) 0
 one-class w b k =
     elim (cases_lt k b) [
-        inl lt ↦ rw (leb-yes k b (omega arith), leb-yes (suc k) b (omega arith), eqb-not b k (λ e. omega arith)) (omega arith)
-        | inr ge ↦ elim (cases_lt b k) [
-            inl lt ↦ rw (leb-no k b lt, leb-no (suc k) b (omega arith), eqb-not b k (λ e. omega arith)) (omega arith)
-            | inr le ↦ (
-                let e : b ≡ k = omega arith in
-                rw (leb-yes k b le, leb-no (suc k) b (omega arith), eqb-is b k e, e) (omega arith)
+      | inl lt ↦ rw (leb-yes k b (omega arith), leb-yes (suc k) b (omega arith), eqb-not b k (λ e. omega arith)) (omega arith)
+      | inr ge ↦ elim (cases_lt b k) [
+        | inl lt ↦ rw (leb-no k b lt, leb-no (suc k) b (omega arith), eqb-not b k (λ e. omega arith)) (omega arith)
+        | inr le ↦ (
+            let e : b ≡ k = omega arith in
+            rw (leb-yes k b le, leb-no (suc k) b (omega arith), eqb-is b k e, e) (omega arith)
             )
-        ]
+      ]
     ]
-    where
-      eqb-not : (a b : ℕ) → a ≢ b → eqb a b ≡ false
-      eqb-not a b h = grind (arith, nat_tests)
-      eqb-is : (a b : ℕ) → a ≡ b → eqb a b ≡ true
-      eqb-is a b h = grind (arith, nat_tests)
+  where
+    eqb-not : (a b : ℕ) → a ≢ b → eqb a b ≡ false
+    eqb-not a b h = grind (arith, nat_tests)
+
+    eqb-is : (a b : ℕ) → a ≡ b → eqb a b ≡ true
+    eqb-is a b h = grind (arith, nat_tests)
 
 next-class : (w : ℕ → ℕ) (g : Grain) (k : ℕ) (L : List ℕ) → sum_by (from-class w g k) L ≡ in_class g k L * w k + sum_by (from-class w g (suc k)) L
 unfolding from-class
@@ -92,8 +93,8 @@ weigh-samples w g L k [] each within = sym (no-class w g k L (All-weaker (λ x. 
 weigh-samples w g L k (n ∷ ns) each within =
     let first : n ≡ in_class g k L = each 0 (omega arith) ∙ ap (λ i. in_class g i L) (let e : k + 0 ≡ k = omega arith in e) in
     let rest = weigh-samples w g L (suc k) ns
-        (λ i lt. each (suc i) (omega arith) ∙ ap (λ j. in_class g j L) (let e : k + suc i ≡ suc k + i = omega arith in e))
-        (All-weaker (λ x. bin_of g x < k + suc (length ns)) (λ x. bin_of g x < suc k + length ns) (λ x h. omega arith) L within) in
+    (λ i lt. each (suc i) (omega arith) ∙ ap (λ j. in_class g j L) (let e : k + suc i ≡ suc k + i = omega arith in e))
+    (All-weaker (λ x. bin_of g x < k + suc (length ns)) (λ x. bin_of g x < suc k + length ns) (λ x h. omega arith) L within) in
     ap (λ m. m * w k + weigh w (suc k) ns) first ∙ ap (λ m. in_class g k L * w k + m) rest ∙ sym (next-class w g k L)
 
 pub sum_by-same : (f h : ℕ → ℕ) (L : List ℕ) → ((x : ℕ) → f x ≡ h x) → sum_by f L ≡ sum_by h L
@@ -109,9 +110,9 @@ module _ (greatest : ℕ) (s : Plain) (L : List ℕ) (q : IsPlain greatest s) (s
   unfolding from-class
   numbers-weigh w =
       weigh-samples w (grain s) L 0 s.counts (λ i lt. stands.numbers i lt ∙ ap (λ j. in_class (grain s) j L) (let e : i ≡ 0 + i = omega arith in e))
-          (All-weaker (λ x. bin_of (grain s) x < length s.counts) (λ x. bin_of (grain s) x < 0 + length s.counts) (λ x h. omega arith) L in-bins)
+      (All-weaker (λ x. bin_of (grain s) x < length s.counts) (λ x. bin_of (grain s) x < 0 + length s.counts) (λ x h. omega arith) L in-bins)
       ∙ sum_by-same (from-class w (grain s) 0) (λ x. w (bin_of (grain s) x)) L
-          (λ x. ap (λ (b : Bool). cond b (w (bin_of (grain s) x)) 0) (leb-yes 0 (bin_of (grain s) x) (omega arith)))
+      (λ x. ap (λ (b : Bool). cond b (w (bin_of (grain s) x)) 0) (leb-yes 0 (bin_of (grain s) x) (omega arith)))
 
   -- the classes' lowest values, as often as their numbers say, sum to what the samples sum to
   pub spread-sum : (f : ℕ → ℕ) → ((x : ℕ) → f (value_of (grain s) (bin_of (grain s) x)) ≡ f x) → sum_by f (spread (classes_from (grain s) 0 s.counts)) ≡ sum_by f L
@@ -125,14 +126,14 @@ module _ (greatest : ℕ) (s : Plain) (L : List ℕ) (q : IsPlain greatest s) (s
       let f : ℕ → ℕ = λ x. cond (eqb (bin_of g x) j) 1 0 in
       let digits = grain-digits greatest s q in
       spread-sum f (λ x. ap (λ b. cond (eqb b j) 1 0)
-          (finer-bin (grain s) g fine digits m (value_of (grain s) (bin_of (grain s) x)) x (bin-value_of (grain s) (bin_of (grain s) x) digits)))
+      (finer-bin (grain s) g fine digits m (value_of (grain s) (bin_of (grain s) x)) x (bin-value_of (grain s) (bin_of (grain s) x) digits)))
 
   pub spread-length : length (spread (classes_from (grain s) 0 s.counts)) ≡ length L
   spread-length = length-ones (spread (classes_from (grain s) 0 s.counts)) ∙ spread-sum (λ x. 1) (λ x. refl) ∙ sym (length-ones L)
-      where
-        length-ones : (xs : List ℕ) → length xs ≡ sum_by (λ x. 1) xs
-        length-ones [] = refl
-        length-ones (x ∷ xs) = omega (arith, sum_by-cons (λ (x : ℕ). 1) x xs, length-ones xs)
+    where
+      length-ones : (xs : List ℕ) → length xs ≡ sum_by (λ x. 1) xs
+      length-ones [] = refl
+      length-ones (x ∷ xs) = omega (arith, sum_by-cons (λ (x : ℕ). 1) x xs, length-ones xs)
 
   -- the numbers sum to how many samples there are
   pub numbers-sum : sum s.counts ≡ length L
@@ -144,16 +145,16 @@ module _ (greatest : ℕ) (s : Plain) (L : List ℕ) (q : IsPlain greatest s) (s
   -- no sample is past the greatest value
   pub samples-le-max : All (λ x. x ≤ max_of s) L
   samples-le-max = go L in-bins (λ i h. omega (arith, h))
-      where
-        go : (M : List ℕ) → All (λ x. bin_of (grain s) x < length s.counts) M → ((i : ℕ) → 0 < in_class (grain s) i M → 0 < in_class (grain s) i L) → All (λ x. x ≤ max_of s) M
-        go [] inside more = λ k d h. absurd (omega arith)
-        go (x ∷ M) inside more =
-            let b = bin_of (grain s) x in
-            let one : eqb b b ≡ true = grind (arith, nat_tests) in
-            let head : 0 < in_class (grain s) b (x ∷ M) = omega (arith, sum_by-cons (λ y. cond (eqb (bin_of (grain s) y) b) 1 0) x M, ap {B = ℕ} (λ (c : Bool). cond c 1 0) one) in
-            let pos : 0 < get_or s.counts b 0 = omega (arith, stands.numbers b (All-head (λ x. bin_of (grain s) x < length s.counts) x M inside), more b head) in
-            All-cons (λ x. x ≤ max_of s) x M (number-le-max greatest s b x q pos refl)
-                (go M (All-tail (λ x. bin_of (grain s) x < length s.counts) x M inside) (λ i h. more i (omega (arith, sum_by-cons (λ y. cond (eqb (bin_of (grain s) y) i) 1 0) x M))))
+    where
+      go : (M : List ℕ) → All (λ x. bin_of (grain s) x < length s.counts) M → ((i : ℕ) → 0 < in_class (grain s) i M → 0 < in_class (grain s) i L) → All (λ x. x ≤ max_of s) M
+      go [] inside more = λ k d h. absurd (omega arith)
+      go (x ∷ M) inside more =
+          let b = bin_of (grain s) x in
+          let one : eqb b b ≡ true = grind (arith, nat_tests) in
+          let head : 0 < in_class (grain s) b (x ∷ M) = omega (arith, sum_by-cons (λ y. cond (eqb (bin_of (grain s) y) b) 1 0) x M, ap {B = ℕ} (λ (c : Bool). cond c 1 0) one) in
+          let pos : 0 < get_or s.counts b 0 = omega (arith, stands.numbers b (All-head (λ x. bin_of (grain s) x < length s.counts) x M inside), more b head) in
+          All-cons (λ x. x ≤ max_of s) x M (number-le-max greatest s b x q pos refl)
+          (go M (All-tail (λ x. bin_of (grain s) x < length s.counts) x M inside) (λ i h. more i (omega (arith, sum_by-cons (λ y. cond (eqb (bin_of (grain s) y) i) 1 0) x M))))
 
 -- ---- samples recorded one list after another
 
@@ -162,8 +163,8 @@ in_class-append g i A B = sum_by-append (λ s. cond (eqb (bin_of g s) i) 1 0) A 
 
 pub Fits-front : (greatest : ℕ) (g : Grain) (A B : List ℕ) → Fits greatest g (A ++ B) → Fits greatest g A
 Fits-front greatest g A B f = record {
-    in_all = omega (arith, f.in_all, length-append A B);
-    in_classes = λ i. omega (arith, f.in_classes i, in_class-append g i A B)
+  in_all = omega (arith, f.in_all, length-append A B);
+  in_classes = λ i. omega (arith, f.in_classes i, in_class-append g i A B);
 }
 
 reach-small : (greatest : ℕ) (h : Plain) → IsPlain greatest h → reach h < 2 ^ 64
@@ -197,8 +198,8 @@ StandsFor-each greatest h (t ∷ ts) S one p a s fits =
     let plain : IsPlain greatest w = subst (λ x. IsPlain greatest x) (recorded-inside greatest h v n le) (IsPlain-added greatest h (bin_of (grain h) v) n one (room-in greatest h v p le) p) in
     let same = reach-recorded greatest h v n le in
     subst (λ l. StandsFor (recorded_each greatest w ts) l) whole
-        (StandsFor-each greatest w ts (S ++ replicate n v) one plain (within-same (reach h) (reach w) ts (sym same) (All-tail (λ (t : Times). t.value ≤ reach h) t ts a)) one_more
-            (subst (λ (g : Grain). Fits greatest g ((S ++ replicate n v) ++ spread ts)) (sym (grain-recorded greatest h v n)) fits_all))
+    (StandsFor-each greatest w ts (S ++ replicate n v) one plain (within-same (reach h) (reach w) ts (sym same) (All-tail (λ (t : Times). t.value ≤ reach h) t ts a)) one_more
+    (subst (λ (g : Grain). Fits greatest g ((S ++ replicate n v) ++ spread ts)) (sym (grain-recorded greatest h v n)) fits_all))
 
 classes-within : (g : Grain) (r k : ℕ) (ns : List ℕ) → ((i : ℕ) → 0 < get_or ns i 0 → value_of g (k + i) ≤ r) → All (λ (t : Times). t.value ≤ r) (classes_from g k ns)
 classes-within g r k [] f = λ i d h. absurd (omega arith)
@@ -206,8 +207,8 @@ classes-within g r k (zero ∷ ns) f =
     classes-within g r (suc k) ns (λ i pos. subst (λ j. value_of g j ≤ r) (let e : k + suc i ≡ suc k + i = omega arith in e) (f (suc i) pos))
 classes-within g r k (suc n ∷ ns) f =
     All-cons (λ (t : Times). t.value ≤ r) (record { value = value_of g k; times = suc n }) (classes_from g (suc k) ns)
-        (subst (λ j. value_of g j ≤ r) (let e : k + 0 ≡ k = omega arith in e) (f 0 (omega arith)))
-        (classes-within g r (suc k) ns (λ i pos. subst (λ j. value_of g j ≤ r) (let e : k + suc i ≡ suc k + i = omega arith in e) (f (suc i) pos)))
+    (subst (λ j. value_of g j ≤ r) (let e : k + 0 ≡ k = omega arith in e) (f 0 (omega arith)))
+    (classes-within g r (suc k) ns (λ i pos. subst (λ j. value_of g j ≤ r) (let e : k + suc i ≡ suc k + i = omega arith in e) (f (suc i) pos)))
 
 top-within : (g : Grain) (r : ℕ) (mark : Option ℕ) → ((i : ℕ) → mark ≡ Some i → value_of g i ≤ r) → All (λ (t : Times). t.value ≤ r) (top_class g mark)
 top-within g r None f = λ i d h. absurd (omega arith)
@@ -220,7 +221,7 @@ spread-top g (Some i) = refl
 pub classes-inside : (greatest : ℕ) (s : Plain) (r : ℕ) → IsPlain greatest s → max_of s ≤ r → All (λ (t : Times). t.value ≤ r) (classes_from (grain s) 0 s.counts ++ top_class (grain s) s.top_mark)
 classes-inside greatest s r q room = All-append (λ (t : Times). t.value ≤ r) (classes_from (grain s) 0 s.counts) (top_class (grain s) s.top_mark)
     (classes-within (grain s) r 0 s.counts (λ i pos. subst (λ j. value_of (grain s) j ≤ r) (let e : i ≡ 0 + i = omega arith in e)
-        (let le : value_of (grain s) i ≤ r = omega (arith, room, number-le-max greatest s i (value_of (grain s) i) q pos (bin-value_of (grain s) i (grain-digits greatest s q))) in le)))
+    (let le : value_of (grain s) i ≤ r = omega (arith, room, number-le-max greatest s i (value_of (grain s) i) q pos (bin-value_of (grain s) i (grain-digits greatest s q))) in le)))
     (top-within (grain s) r s.top_mark (λ i e. omega (arith, room, value-le-max s i e)))
 
 pub StandsFor-swap : (w : Plain) (A B : List ℕ) → ((j : ℕ) → in_class (grain w) j A ≡ in_class (grain w) j B) → length A ≡ length B → All (λ x. x ≤ reach w) B → StandsFor w A → StandsFor w B
@@ -241,18 +242,18 @@ module _ (greatest most : ℕ) (h s : Plain) (S L : List ℕ) (one : 1 ≤ great
       let digits = grain-digits most s q in
       let spread_is : spread (classes ++ top) ≡ P = spread-append classes top ∙ ap (λ l. P ++ l) (spread-top (grain s) s.top_mark) ∙ append-nil P in
       let same : (j : ℕ) → in_class g j (S ++ P) ≡ in_class g j (S ++ L) =
-          λ j. omega (arith, in_class-append g j S P, in_class-append g j S L, spread-class most s L q source g j fine (grain-digits greatest h p)) in
+      λ j. omega (arith, in_class-append g j S P, in_class-append g j S L, spread-class most s L q source g j fine (grain-digits greatest h p)) in
       let len : length (S ++ P) ≡ length (S ++ L) = omega (arith, length-append S P, length-append S L, spread-length most s L q source) in
       let fits_P : Fits greatest g (S ++ P) = record { in_all = omega (arith, len, fits.in_all); in_classes = λ j. omega (arith, same j, fits.in_classes j) } in
       let values : All (λ (t : Times). t.value ≤ reach h) (classes ++ top) = classes-inside most s (reach h) q room in
       let w = recorded_each greatest h (classes ++ top) in
       let each : StandsFor w (S ++ P) = subst (λ l. StandsFor w (S ++ l)) spread_is
-          (StandsFor-each greatest h (classes ++ top) S one p values stands (subst (λ l. Fits greatest g (S ++ l)) (sym spread_is) fits_P)) in
+      (StandsFor-each greatest h (classes ++ top) S one p values stands (subst (λ l. Fits greatest g (S ++ l)) (sym spread_is) fits_P)) in
       StandsFor-swap w (S ++ P) (S ++ L)
-          (λ j. subst (λ (k : Grain). in_class k j (S ++ P) ≡ in_class k j (S ++ L)) (sym (grain-each greatest h (classes ++ top))) (same j))
-          len
-          (subst (λ r. All (λ x. x ≤ r) (S ++ L)) (sym (reach-each greatest h (classes ++ top) values)) inside)
-          each
+      (λ j. subst (λ (k : Grain). in_class k j (S ++ P) ≡ in_class k j (S ++ L)) (sym (grain-each greatest h (classes ++ top))) (same j))
+      len
+      (subst (λ r. All (λ x. x ≤ r) (S ++ L)) (sym (reach-each greatest h (classes ++ top) values)) inside)
+      each
 
   -- place by place
   pub StandsFor-joined : (grain h ≡ grain s) → length h.counts ≡ length s.counts → StandsFor (joined greatest h s) (S ++ L)
@@ -260,38 +261,38 @@ module _ (greatest most : ℕ) (h s : Plain) (S L : List ℕ) (one : 1 ≤ great
   StandsFor-joined same_grain same =
       let g = grain h in
       let numbers : (i : ℕ) → i < length (capped_sums greatest h.counts s.counts) → get_or (capped_sums greatest h.counts s.counts) i 0 ≡ in_class g i (S ++ L) =
-          λ i lt.
-              let len = capped-length greatest h.counts s.counts in
-              let other : get_or s.counts i 0 ≡ in_class g i L = source.numbers i (omega (arith, same, len)) ∙ ap (λ (k : Grain). in_class k i L) (sym same_grain) in
-              omega (arith, capped-get greatest h.counts s.counts i same, stands.numbers i (omega (arith, len)), other, in_class-append g i S L, fits.in_classes i) in
+      λ i lt.
+      let len = capped-length greatest h.counts s.counts in
+      let other : get_or s.counts i 0 ≡ in_class g i L = source.numbers i (omega (arith, same, len)) ∙ ap (λ (k : Grain). in_class k i L) (sym same_grain) in
+      omega (arith, capped-get greatest h.counts s.counts i same, stands.numbers i (omega (arith, len)), other, in_class-append g i S L, fits.in_classes i) in
       let count = length-append S L in
       elim (cases_lt 0 h.total) [
-          inl pos ↦ subst (λ w. StandsFor w (S ++ L)) (joined-some greatest h s (λ e. omega arith)) (record {
-              numbers = numbers;
-              within = inside;
-              total = omega (arith, count, fits.in_all, stands.total, numbers-sum most s L q source)
-          })
-          | inr none ↦ subst (λ w. StandsFor w (S ++ L)) (joined-empty greatest h s (omega arith)) (record {
-              numbers = numbers;
-              within = inside;
-              total = omega (arith, count, stands.total, source.total)
-          })
+        | inl pos ↦ subst (λ w. StandsFor w (S ++ L)) (joined-some greatest h s (λ e. omega arith)) (record {
+          numbers = numbers;
+          within = inside;
+          total = omega (arith, count, fits.in_all, stands.total, numbers-sum most s L q source);
+        })
+        | inr none ↦ subst (λ w. StandsFor w (S ++ L)) (joined-empty greatest h s (omega arith)) (record {
+          numbers = numbers;
+          within = inside;
+          total = omega (arith, count, stands.total, source.total);
+        })
       ]
 
   pub StandsFor-taken : IsFiner (grain s) (grain h) → StandsFor (taken_in greatest h s) (S ++ L)
   StandsFor-taken fine =
       let step : (b : Bool) → same_bins h s ≡ b → StandsFor (taken_in greatest h s) (S ++ L) =
-          λ b. elim b as (λ b. same_bins h s ≡ b → StandsFor (taken_in greatest h s) (S ++ L)) [
-              true ↦ λ e. (let both = same-bins h s e in subst (λ w. StandsFor w (S ++ L)) (taken-same greatest h s e) (StandsFor-joined both.0 both.1))
-              | false ↦ λ e. subst (λ w. StandsFor w (S ++ L)) (taken-other greatest h s e) (StandsFor-classes fine)
-          ] in
+      λ b. elim b as (λ b. same_bins h s ≡ b → StandsFor (taken_in greatest h s) (S ++ L)) [
+        | true ↦ λ e. (let both = same-bins h s e in subst (λ w. StandsFor w (S ++ L)) (taken-same greatest h s e) (StandsFor-joined both.0 both.1))
+        | false ↦ λ e. subst (λ w. StandsFor w (S ++ L)) (taken-other greatest h s e) (StandsFor-classes fine)
+      ] in
       step (same_bins h s) refl
 
 pub grain-with_room : (h : Plain) (x : ℕ) → grain (with_room h x) ≡ grain h
 unfolding grown
 grain-with_room h x = elim (cases_lt (reach h) x) [
-    inl lt ↦ ap (λ (w : Plain). grain w) (with_room-more h x lt)
-    | inr le ↦ ap (λ (w : Plain). grain w) (with_room-same h x le)
+  | inl lt ↦ ap (λ (w : Plain). grain w) (with_room-more h x lt)
+  | inr le ↦ ap (λ (w : Plain). grain w) (with_room-same h x le)
 ]
 
 no-samples : (L : List ℕ) → length L ≡ 0 → L ≡ []
@@ -303,24 +304,24 @@ pub StandsFor-merged : (greatest most : ℕ) (h s : Plain) (S L : List ℕ) → 
     → IsFiner (grain s) (grain h) → Fits greatest (grain h) (S ++ L) → StandsFor (merged greatest h s) (S ++ L)
 StandsFor-merged greatest most h s S L one p q small stands source fine fits =
     elim (cases_lt 0 s.total) [
-        inl pos ↦ (
-            let m = max_of s in
-            let w = with_room h m in
-            let parts : IsPlain greatest w × StandsFor w S = elim (cases_lt (reach h) m) [
-                inl lt ↦ rw (with_room-more h m lt) (IsPlain-grown greatest h m p small lt, StandsFor-grown greatest h m S lt p stands)
-                | inr le ↦ rw (with_room-same h m le) (p, stands)
-            ] in
-            let same = grain-with_room h m in
-            subst (λ x. StandsFor x (S ++ L)) (sym (merged-some greatest h s (λ e. omega arith)))
-                (StandsFor-taken greatest most w s S L one parts.0 q parts.1 source (with_room-reach h m)
-                    (subst (λ (g : Grain). Fits greatest g (S ++ L)) (sym same) fits)
-                    (subst (λ (g : Grain). IsFiner (grain s) g) (sym same) fine))
-        )
-        | inr none ↦ (
-            let empty : L ≡ [] = no-samples L (omega (arith, source.total)) in
-            subst (λ x. StandsFor x (S ++ L)) (sym (merged-none greatest h s (omega arith)))
-                (subst (λ l. StandsFor h (S ++ l)) (sym empty) (subst (λ l. StandsFor h l) (sym (append-nil S)) stands))
-        )
+      | inl pos ↦ (
+          let m = max_of s in
+          let w = with_room h m in
+          let parts : IsPlain greatest w × StandsFor w S = elim (cases_lt (reach h) m) [
+            | inl lt ↦ rw (with_room-more h m lt) (IsPlain-grown greatest h m p small lt, StandsFor-grown greatest h m S lt p stands)
+            | inr le ↦ rw (with_room-same h m le) (p, stands)
+          ] in
+          let same = grain-with_room h m in
+          subst (λ x. StandsFor x (S ++ L)) (sym (merged-some greatest h s (λ e. omega arith)))
+          (StandsFor-taken greatest most w s S L one parts.0 q parts.1 source (with_room-reach h m)
+          (subst (λ (g : Grain). Fits greatest g (S ++ L)) (sym same) fits)
+          (subst (λ (g : Grain). IsFiner (grain s) g) (sym same) fine))
+          )
+      | inr none ↦ (
+          let empty : L ≡ [] = no-samples L (omega (arith, source.total)) in
+          subst (λ x. StandsFor x (S ++ L)) (sym (merged-none greatest h s (omega arith)))
+          (subst (λ l. StandsFor h (S ++ l)) (sym empty) (subst (λ l. StandsFor h l) (sym (append-nil S)) stands))
+          )
     ]
 
 -- ---- `high`
@@ -341,48 +342,48 @@ taken-same-bounds : (greatest most : ℕ) (h s : Plain) → IsPlain most s → m
 unfolding joined
 taken-same-bounds greatest most h s q room =
     let step : (b : Bool) → same_bins h s ≡ b → (grain (taken_in greatest h s) ≡ grain h) × ((taken_in greatest h s).high ≡ h.high) =
-        λ b. elim b as (λ b. same_bins h s ≡ b → (grain (taken_in greatest h s) ≡ grain h) × ((taken_in greatest h s).high ≡ h.high)) [
-            true ↦ λ e. (let t = taken-same greatest h s e in (sym (ap (λ (w : Plain). grain w) t), sym (ap (λ (w : Plain). w.high) t)))
-            | false ↦ λ e. (
-                let t = taken-other greatest h s e in
-                let ts = classes_from (grain s) 0 s.counts ++ top_class (grain s) s.top_mark in
-                (sym (ap (λ (w : Plain). grain w) t) ∙ grain-each greatest h ts, sym (ap (λ (w : Plain). w.high) t) ∙ each-high greatest h ts (classes-inside most s (reach h) q room))
-            )
-        ] in
+    λ b. elim b as (λ b. same_bins h s ≡ b → (grain (taken_in greatest h s) ≡ grain h) × ((taken_in greatest h s).high ≡ h.high)) [
+      | true ↦ λ e. (let t = taken-same greatest h s e in (sym (ap (λ (w : Plain). grain w) t), sym (ap (λ (w : Plain). w.high) t)))
+      | false ↦ λ e. (
+          let t = taken-other greatest h s e in
+          let ts = classes_from (grain s) 0 s.counts ++ top_class (grain s) s.top_mark in
+          (sym (ap (λ (w : Plain). grain w) t) ∙ grain-each greatest h ts, sym (ap (λ (w : Plain). w.high) t) ∙ each-high greatest h ts (classes-inside most s (reach h) q room))
+          )
+    ] in
     step (same_bins h s) refl
 
 with_room-high : (h : Plain) (x : ℕ) → (with_room h x).high ≡ high_with (grain h) h.high x x
 unfolding high_with reach grown
 with_room-high h x = elim (cases_lt (reach h) x) [
-    inl lt ↦ ap (λ (w : Plain). w.high) (with_room-more h x lt) ∙ rw (leb-no x (reach_of (grain h) h.high) lt) refl
-    | inr le ↦ ap (λ (w : Plain). w.high) (with_room-same h x le) ∙ rw (leb-yes x (reach_of (grain h) h.high) le) refl
+  | inl lt ↦ ap (λ (w : Plain). w.high) (with_room-more h x lt) ∙ rw (leb-no x (reach_of (grain h) h.high) lt) refl
+  | inr le ↦ ap (λ (w : Plain). w.high) (with_room-same h x le) ∙ rw (leb-yes x (reach_of (grain h) h.high) le) refl
 ]
 
 pub grain-merged : (greatest most : ℕ) (h s : Plain) → IsPlain most s → grain (merged greatest h s) ≡ grain h
 grain-merged greatest most h s q = elim (cases_lt 0 s.total) [
-    inl pos ↦ ap (λ (w : Plain). grain w) (merged-some greatest h s (λ e. omega arith)) ∙ (taken-same-bounds greatest most (with_room h (max_of s)) s q (with_room-reach h (max_of s))).0 ∙ grain-with_room h (max_of s)
-    | inr none ↦ ap (λ (w : Plain). grain w) (merged-none greatest h s (omega arith))
+  | inl pos ↦ ap (λ (w : Plain). grain w) (merged-some greatest h s (λ e. omega arith)) ∙ (taken-same-bounds greatest most (with_room h (max_of s)) s q (with_room-reach h (max_of s))).0 ∙ grain-with_room h (max_of s)
+  | inr none ↦ ap (λ (w : Plain). grain w) (merged-none greatest h s (omega arith))
 ]
 
 -- the `high` of the list of calls is that of the histogram
 pub merged-high : (greatest most : ℕ) (h s : Plain) (L : List ℕ) → IsPlain most s → StandsFor s L
     → (merged greatest h s).high ≡ cond (eqb (length L) 0) h.high (high_with (grain h) h.high (max_of s) (max_of s))
 merged-high greatest most h s L q source = elim (cases_lt 0 s.total) [
-    inl pos ↦ (
-        let n : eqb (length L) 0 ≡ false = (let len : length L ≢ 0 = λ e. omega (arith, source.total) in grind (arith, nat_tests)) in
-        rw n (ap (λ (w : Plain). w.high) (merged-some greatest h s (λ e. omega arith)) ∙ (taken-same-bounds greatest most (with_room h (max_of s)) s q (with_room-reach h (max_of s))).1 ∙ with_room-high h (max_of s))
-    )
-    | inr none ↦ (
-        let y : eqb (length L) 0 ≡ true = (let len : length L ≡ 0 = omega (arith, source.total) in grind (arith, nat_tests)) in
-        rw y (ap (λ (w : Plain). w.high) (merged-none greatest h s (omega arith)))
-    )
+  | inl pos ↦ (
+      let n : eqb (length L) 0 ≡ false = (let len : length L ≢ 0 = λ e. omega (arith, source.total) in grind (arith, nat_tests)) in
+      rw n (ap (λ (w : Plain). w.high) (merged-some greatest h s (λ e. omega arith)) ∙ (taken-same-bounds greatest most (with_room h (max_of s)) s q (with_room-reach h (max_of s))).1 ∙ with_room-high h (max_of s))
+      )
+  | inr none ↦ (
+      let y : eqb (length L) 0 ≡ true = (let len : length L ≡ 0 = omega (arith, source.total) in grind (arith, nat_tests)) in
+      rw y (ap (λ (w : Plain). w.high) (merged-none greatest h s (omega arith)))
+      )
 ]
 
 pub recorded-high_with : (greatest : ℕ) (h : Plain) (v n : ℕ) → (recorded greatest h v n).high ≡ high_with (grain h) h.high v (reach_of (grain h) v)
 unfolding high_with reach recorded added widened grown
 recorded-high_with greatest h v n = elim (cases_lt (reach h) v) [
-    inl lt ↦ rw (leb-no v (reach_of (grain h) h.high) lt) refl
-    | inr le ↦ rw (leb-yes v (reach_of (grain h) h.high) le) refl
+  | inl lt ↦ rw (leb-no v (reach_of (grain h) h.high) lt) refl
+  | inr le ↦ rw (leb-yes v (reach_of (grain h) h.high) le) refl
 ]
 
 -- a source that stands for no samples

@@ -44,38 +44,38 @@ in_class-none g i (s ∷ S) h =
 past_zeros : (xs : List ℕ) (n i : ℕ) → length xs ≤ i → get_or (xs ++ replicate n 0) i 0 ≡ 0
 past_zeros xs n i le =
     get_or-append_right xs (replicate n 0) (length xs) i 0 refl le ∙ elim (cases_lt (i - length xs) n) [
-        inl lt ↦ get_or-replicate n (i - length xs) 0 0 lt
-        | inr ge ↦ get_or_past (replicate n 0) (i - length xs) 0 (rw length-replicate ge)
+      | inl lt ↦ get_or-replicate n (i - length xs) 0 0 lt
+      | inr ge ↦ get_or_past (replicate n 0) (i - length xs) 0 (rw length-replicate ge)
     ]
 
 -- more bins stand for the same samples
 pub StandsFor-grown : (greatest : ℕ) (h : Plain) (x : ℕ) (S : List ℕ) → reach h < x → IsPlain greatest h → StandsFor h S → StandsFor (grown h x) S
 unfolding reach grown
 StandsFor-grown greatest h x S past p s = record {
-    numbers = λ i lt. elim (cases_lt i (length h.counts)) [
-        inl old ↦ get_or-append h.counts _ 0 i old ∙ s.numbers i old
-        | inr new ↦
-            past_zeros h.counts (bins_to (grain h) x - length h.counts) i new
-            ∙ sym (in_class-none (grain h) i S (All-weaker (λ x. x ≤ reach h) (λ x. bin_of (grain h) x < i) (λ x le. omega (arith, room-in greatest h x p le)) S s.within))
-    ];
-    within = All-weaker (λ y. y ≤ reach h) (λ y. y ≤ reach_of (grain h) x) (λ y le. omega (arith, reach-holds (grain h) x)) S s.within;
-    total = s.total
+  numbers = λ i lt. elim (cases_lt i (length h.counts)) [
+    | inl old ↦ get_or-append h.counts _ 0 i old ∙ s.numbers i old
+    | inr new ↦
+        past_zeros h.counts (bins_to (grain h) x - length h.counts) i new
+        ∙ sym (in_class-none (grain h) i S (All-weaker (λ x. x ≤ reach h) (λ x. bin_of (grain h) x < i) (λ x le. omega (arith, room-in greatest h x p le)) S s.within))
+  ];
+  within = All-weaker (λ y. y ≤ reach h) (λ y. y ≤ reach_of (grain h) x) (λ y le. omega (arith, reach-holds (grain h) x)) S s.within;
+  total = s.total;
 }
 
 pub StandsFor-added : (greatest : ℕ) (h : Plain) (v n : ℕ) (S : List ℕ) → v ≤ reach h → bin_of (grain h) v < length h.counts → StandsFor h S
     → Fits greatest (grain h) (S ++ replicate n v) → StandsFor (added greatest h (bin_of (grain h) v) n) (S ++ replicate n v)
 unfolding added reach
 StandsFor-added greatest h v n S le room s fits = record {
-    numbers = λ i lt. elim (cases_eq (bin_of (grain h) v) i) [
-        inl same ↦
-            (let bound : min (slice_index h.counts (bin_of (grain h) v) + n) greatest ≡ in_class (grain h) (bin_of (grain h) v) S + n =
-                omega (arith, s.numbers (bin_of (grain h) v) room, fits.in_classes (bin_of (grain h) v), in_class-same (grain h) v n S) in
-            rw (← same) (rw get_or-set_same (bound ∙ sym (in_class-same (grain h) v n S))))
-        | inr other ↦
-            get_or-set_other h.counts (bin_of (grain h) v) i _ 0 (λ e. other (sym e)) ∙ s.numbers i (rw length-set at lt) ∙ sym (in_class-other (grain h) i v n S other)
-    ];
-    within = All-append (λ x. x ≤ reach h) S (replicate n v) s.within (All-replicate (λ x. x ≤ reach h) n v le);
-    total = (let l : length (S ++ replicate n v) ≡ length S + n = simp (length-append, length-replicate) refl in omega (arith, s.total, fits.in_all))
+  numbers = λ i lt. elim (cases_eq (bin_of (grain h) v) i) [
+    | inl same ↦
+        (let bound : min (slice_index h.counts (bin_of (grain h) v) + n) greatest ≡ in_class (grain h) (bin_of (grain h) v) S + n =
+        omega (arith, s.numbers (bin_of (grain h) v) room, fits.in_classes (bin_of (grain h) v), in_class-same (grain h) v n S) in
+        rw (← same) (rw get_or-set_same (bound ∙ sym (in_class-same (grain h) v n S))))
+    | inr other ↦
+        get_or-set_other h.counts (bin_of (grain h) v) i _ 0 (λ e. other (sym e)) ∙ s.numbers i (rw length-set at lt) ∙ sym (in_class-other (grain h) i v n S other)
+  ];
+  within = All-append (λ x. x ≤ reach h) S (replicate n v) s.within (All-replicate (λ x. x ≤ reach h) n v le);
+  total = (let l : length (S ++ replicate n v) ≡ length S + n = simp (length-append, length-replicate) refl in omega (arith, s.total, fits.in_all));
 }
 
 pub reach-grown : (h : Plain) (v : ℕ) → v ≤ reach (grown h (reach_of (grain h) v))
@@ -88,11 +88,11 @@ pub StandsFor-recorded : (greatest : ℕ) (h : Plain) (v n : ℕ) (S : List ℕ)
 unfolding recorded reach grown
 StandsFor-recorded greatest h v n S small p s fits =
     elim (cases_lt (reach h) v) [
-        inl past ↦ (
-            let x = reach_of (grain h) v in
-            let wide = StandsFor-grown greatest h x S (past-reach greatest h v p past) p s in
-            let room = room-widened greatest h v p small past in
-            rw (widened-more h v past) (StandsFor-added greatest (grown h x) v n S (reach-grown h v) room wide fits)
-        )
-        | inr le ↦ rw (widened-same h v le) (StandsFor-added greatest h v n S le (room-in greatest h v p le) s fits)
+      | inl past ↦ (
+          let x = reach_of (grain h) v in
+          let wide = StandsFor-grown greatest h x S (past-reach greatest h v p past) p s in
+          let room = room-widened greatest h v p small past in
+          rw (widened-more h v past) (StandsFor-added greatest (grown h x) v n S (reach-grown h v) room wide fits)
+          )
+      | inr le ↦ rw (widened-same h v le) (StandsFor-added greatest h v n S le (room-in greatest h v p le) s fits)
     ]

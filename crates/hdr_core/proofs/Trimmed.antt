@@ -31,15 +31,15 @@ trimmed-same (x ∷ xs) (y ∷ ys) h =
 pub numbers-same : (xs ys : List ℕ) (n : ℕ) → n ≡ max (length xs) (length ys) → ((k : ℕ) → k < n → get_or xs k 0 ≡ get_or ys k 0) → true ≡ same_numbers xs ys
 numbers-same xs ys n e h =
     sym ((bytes_decides (trimmed xs) (trimmed ys)).1 (trimmed-same xs ys (λ k. elim (cases_lt k n) [
-        inl lt ↦ h k lt
-        | inr ge ↦ get_or_past xs k 0 (omega arith) ∙ sym (get_or_past ys k 0 (omega arith))
+      | inl lt ↦ h k lt
+      | inr ge ↦ get_or_past xs k 0 (omega arith) ∙ sym (get_or_past ys k 0 (omega arith))
     ])))
 
 pub numbers-other : (xs ys : List ℕ) (k : ℕ) → get_or xs k 0 ≢ get_or ys k 0 → false ≡ same_numbers xs ys
 numbers-other xs ys k h =
     let step : (b : Bool) → pointwise eqb (trimmed xs) (trimmed ys) ≡ b → false ≡ b =
-        λ b. elim b as (λ b. pointwise eqb (trimmed xs) (trimmed ys) ≡ b → false ≡ b) [
-            true ↦ λ e. absurd (h (sym (trimmed-at xs k) ∙ ap (λ zs. get_or zs k 0) ((bytes_decides (trimmed xs) (trimmed ys)).0 e) ∙ trimmed-at ys k))
-            | false ↦ λ e. refl
-        ] in
+    λ b. elim b as (λ b. pointwise eqb (trimmed xs) (trimmed ys) ≡ b → false ≡ b) [
+      | true ↦ λ e. absurd (h (sym (trimmed-at xs k) ∙ ap (λ zs. get_or zs k 0) ((bytes_decides (trimmed xs) (trimmed ys)).0 e) ∙ trimmed-at ys k))
+      | false ↦ λ e. refl
+    ] in
     step (pointwise eqb (trimmed xs) (trimmed ys)) refl

@@ -38,8 +38,8 @@ lower-of-class n i pos small e = lower-some n (λ z. omega arith) ∙ ap Some (l
 pub top-later : (n i k : ℕ) → k ≡ max n (i + 1) → top_by k ≡ later_mark (top_by n) i
 top-later n i k e =
     elim (cases_eq n 0) [
-        inl none ↦ top-of-class k i (omega arith) ∙ sym (ap (λ m. later_mark m i) (top-none n none))
-        | inr some ↦ top-of-class k (max (n - 1) i) (omega arith) ∙ sym (ap (λ m. later_mark m i) (top-some n some))
+      | inl none ↦ top-of-class k i (omega arith) ∙ sym (ap (λ m. later_mark m i) (top-none n none))
+      | inr some ↦ top-of-class k (max (n - 1) i) (omega arith) ∙ sym (ap (λ m. later_mark m i) (top-some n some))
     ]
 
 earlier-first : (m : Option ℕ) → earlier_mark m 0 ≡ m
@@ -50,35 +50,35 @@ earlier-first (Some k) = refl
 pub lower-earlier : (n i b k : ℕ) → n ≤ 2 ^ 64 - 1 → (i ≡ 0 → b ≡ 2 ^ 64 - 1) → (0 < i → b ≡ i - 1) → i < 2 ^ 64 → k ≡ min n b → lower_by k ≡ earlier_mark (lower_by n) i
 lower-earlier n i b k most first other small e =
     elim (cases_eq i 0) [
-        inl z ↦ (
-            let same : k ≡ n = omega (arith, first z) in
-            ap (λ j. lower_by j) same ∙ sym (ap (λ j. earlier_mark (lower_by n) j) z ∙ earlier-first (lower_by n))
-        )
-        | inr pos ↦ (
-            let before : b ≡ i - 1 = other (omega arith) in
-            let is : lower_by k ≡ Some (k + 1) = lower-some k (λ z. omega arith) in
-            elim (cases_eq n (2 ^ 64 - 1)) [
-                inl none ↦
-                    is ∙ ap Some (let t : k + 1 ≡ i = omega arith in t)
-                    ∙ sym (ap (λ m. earlier_mark m i) (lower-none n none) ∙ ap (λ c. cond c None (Some i)) (eqb-no i 0 pos))
-                | inr some ↦
-                    is ∙ ap Some (let t : k + 1 ≡ min (n + 1) i = omega arith in t)
-                    ∙ sym (ap (λ m. earlier_mark m i) (lower-some n some) ∙ ap (λ c. cond c (Some (n + 1)) (Some (min (n + 1) i))) (eqb-no i 0 pos))
-            ]
-        )
+      | inl z ↦ (
+          let same : k ≡ n = omega (arith, first z) in
+          ap (λ j. lower_by j) same ∙ sym (ap (λ j. earlier_mark (lower_by n) j) z ∙ earlier-first (lower_by n))
+          )
+      | inr pos ↦ (
+          let before : b ≡ i - 1 = other (omega arith) in
+          let is : lower_by k ≡ Some (k + 1) = lower-some k (λ z. omega arith) in
+          elim (cases_eq n (2 ^ 64 - 1)) [
+            | inl none ↦
+                is ∙ ap Some (let t : k + 1 ≡ i = omega arith in t)
+                ∙ sym (ap (λ m. earlier_mark m i) (lower-none n none) ∙ ap (λ c. cond c None (Some i)) (eqb-no i 0 pos))
+            | inr some ↦
+                is ∙ ap Some (let t : k + 1 ≡ min (n + 1) i = omega arith in t)
+                ∙ sym (ap (λ m. earlier_mark m i) (lower-some n some) ∙ ap (λ c. cond c (Some (n + 1)) (Some (min (n + 1) i))) (eqb-no i 0 pos))
+          ]
+          )
     ]
 
 -- marks widened by those of another histogram
 pub top-later_of : (n m k : ℕ) → k ≡ max n m → top_by k ≡ later_of (top_by n) (top_by m)
 top-later_of n m k e =
     elim (cases_eq m 0) [
-        inl none ↦ ap (λ j. top_by j) (let t : k ≡ n = omega arith in t) ∙ sym (ap (λ o. later_of (top_by n) o) (top-none m none))
-        | inr some ↦ top-later n (m - 1) k (omega arith) ∙ sym (ap (λ o. later_of (top_by n) o) (top-some m some))
+      | inl none ↦ ap (λ j. top_by j) (let t : k ≡ n = omega arith in t) ∙ sym (ap (λ o. later_of (top_by n) o) (top-none m none))
+      | inr some ↦ top-later n (m - 1) k (omega arith) ∙ sym (ap (λ o. later_of (top_by n) o) (top-some m some))
     ]
 
 pub lower-earlier_of : (n m k : ℕ) → n ≤ 2 ^ 64 - 1 → m ≤ 2 ^ 64 - 1 → k ≡ min n m → lower_by k ≡ earlier_of (lower_by n) (lower_by m)
 lower-earlier_of n m k most fits e =
     elim (cases_eq m (2 ^ 64 - 1)) [
-        inl none ↦ ap (λ j. lower_by j) (let t : k ≡ n = omega arith in t) ∙ sym (ap (λ o. earlier_of (lower_by n) o) (lower-none m none))
-        | inr some ↦ lower-earlier n (m + 1) m k most (λ z. absurd (omega arith)) (λ p. omega arith) (omega arith) e ∙ sym (ap (λ o. earlier_of (lower_by n) o) (lower-some m some))
+      | inl none ↦ ap (λ j. lower_by j) (let t : k ≡ n = omega arith in t) ∙ sym (ap (λ o. earlier_of (lower_by n) o) (lower-none m none))
+      | inr some ↦ lower-earlier n (m + 1) m k most (λ z. absurd (omega arith)) (λ p. omega arith) (omega arith) e ∙ sym (ap (λ o. earlier_of (lower_by n) o) (lower-some m some))
     ]

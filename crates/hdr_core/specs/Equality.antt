@@ -24,7 +24,7 @@ same_numbers = on trimmed (pointwise ◌==◌)
 abbrev pub same_plain : Plain → Plain → Bool
 same_plain =
     eq_of_both (on (λ h. h.low) ◌==◌) (eq_of_both (on (λ h. h.sigfig) ◌==◌) (eq_of_both (on (λ h. h.total) ◌==◌)
-        (eq_of_both (on max_of ◌==◌) (eq_of_both (on min_nz_of ◌==◌) (on (λ h. trimmed h.counts) (pointwise ◌==◌))))))
+    (eq_of_both (on max_of ◌==◌) (eq_of_both (on min_nz_of ◌==◌) (on (λ h. trimmed h.counts) (pointwise ◌==◌))))))
 
 -- two histograms that count as equal, said part by part
 pub record IsSame (h k : Plain) : Type 0 where

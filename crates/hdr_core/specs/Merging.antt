@@ -35,10 +35,10 @@ earlier_of mark (Some i) = earlier_mark mark i
 -- a source of the same bins added: an empty target takes its total and marks
 unfoldable pub joined : ℕ → Plain → Plain → Plain
 joined greatest h s = record h {
-    counts = capped_sums greatest h.counts s.counts;
-    total = if h.total == 0 then s.total else min (h.total + min (sum s.counts) (2 ^ 64 - 1)) (2 ^ 64 - 1);
-    top_mark = if h.total == 0 then s.top_mark else later_of h.top_mark s.top_mark;
-    lower_mark = if h.total == 0 then s.lower_mark else earlier_of h.lower_mark s.lower_mark
+  counts = capped_sums greatest h.counts s.counts;
+  total = if h.total == 0 then s.total else min (h.total + min (sum s.counts) (2 ^ 64 - 1)) (2 ^ 64 - 1);
+  top_mark = if h.total == 0 then s.top_mark else later_of h.top_mark s.top_mark;
+  lower_mark = if h.total == 0 then s.lower_mark else earlier_of h.lower_mark s.lower_mark;
 }
 
 -- a source added to a histogram whose bins reach its greatest value

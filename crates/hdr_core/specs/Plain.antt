@@ -87,6 +87,12 @@ min_of h = if (h.total == 0) || nat_lt 0 (slice_index h.counts 0) then 0 else mi
 -- a histogram of those bounds in which nothing was recorded (`new_with_bounds`)
 unfoldable pub empty_plain : ℕ → ℕ → ℕ → Bool → Plain
 empty_plain low high sigfig auto_resize = record {
-    low = low; high = high; sigfig = sigfig; auto_resize = auto_resize;
-    counts = replicate (bins_to (grain_of low sigfig) high) 0; total = 0; top_mark = None; lower_mark = None
+  low = low;
+  high = high;
+  sigfig = sigfig;
+  auto_resize = auto_resize;
+  counts = replicate (bins_to (grain_of low sigfig) high) 0;
+  total = 0;
+  top_mark = None;
+  lower_mark = None;
 }

@@ -25,10 +25,10 @@ earlier_mark (Some m) i = if i == 0 then Some m else Some (min m i)
 unfoldable pub added : ℕ → Plain → ℕ → ℕ → Plain
 added greatest h i n =
     record h {
-        counts = slice_set h.counts i (min (slice_index h.counts i + n) greatest);
-        total = min (h.total + n) (2 ^ 64 - 1);
-        top_mark = later_mark h.top_mark i;
-        lower_mark = earlier_mark h.lower_mark i
+      counts = slice_set h.counts i (min (slice_index h.counts i + n) greatest);
+      total = min (h.total + n) (2 ^ 64 - 1);
+      top_mark = later_mark h.top_mark i;
+      lower_mark = earlier_mark h.lower_mark i;
     }
 
 -- the histogram after a value was recorded n times

@@ -6,8 +6,14 @@ use Rattle.hdr_core.specs.declared.histogram.Histogram.TheInside.{Inside}
 
 abbrev pub shown : {T : Type 0} → Inside T → Plain
 shown h = record {
-    low = h.low; high = h.high; sigfig = h.sigfig; auto_resize = h.auto_resize;
-    counts = h.counts.numbers; total = h.total; top_mark = h.marks.top; lower_mark = h.marks.lower
+  low = h.low;
+  high = h.high;
+  sigfig = h.sigfig;
+  auto_resize = h.auto_resize;
+  counts = h.counts.numbers;
+  total = h.total;
+  top_mark = h.marks.top;
+  lower_mark = h.marks.lower;
 }
 
 -- what is true of the fields: the scale is that of the bounds, a block is half of the first bucket, and the numbers are a

@@ -64,7 +64,9 @@ impl<T: Counter> Histogram<T> {
                 self.saturating_record_n(*value, *count);
                 Ok(())
             }
-            Call::Correct(value, count, interval) => match self.record_n_correct(*value, *count, *interval) {
+            Call::Correct(value, count, interval) => match self.record_n_correct(
+                *value, *count, *interval,
+            ) {
                 Ok(()) => Ok(()),
                 Err(e) => Err(CallError::Record(e)),
             },

@@ -14,7 +14,10 @@ use std::alloc::Global;
 
 impl<T: Counter> Histogram<T> {
     /// An empty histogram of the bounds of another, which grows where that one does. Refused for memory alone.
-    pub fn new_from<F: Counter>(alloc: Global, source: &Histogram<F>) -> Result<Histogram<T>, CreationError>
+    pub fn new_from<F: Counter>(
+        alloc: Global,
+        source: &Histogram<F>,
+    ) -> Result<Histogram<T>, CreationError>
         ensures made { MatchResult result (λ h. h ≡ empty_plain source.now.low source.now.high source.now.sigfig source.now.auto_resize) (λ e. e ≡ OutOfMemory) }
         ensures source { IsPlain F.greatest source.now }
     {

@@ -32,7 +32,11 @@ impl<T: Counter> Histogram<T> {
 
     /// `add_correct` of a histogram that may count in another type. Its numbers are added whole, and only the sums are
     /// cut to this histogram's greatest counter.
-    pub fn add_correct_from<F: Counter>(&mut self, source: &Histogram<F>, interval: u64) -> Result<(), RecordError>
+    pub fn add_correct_from<F: Counter>(
+        &mut self,
+        source: &Histogram<F>,
+        interval: u64,
+    ) -> Result<(), RecordError>
         ensures ok { OnOk result (self.new ≡ merged_corrected T.greatest self.old source.now interval) }
         ensures samples { OnOk result ((S L : List ℕ) → StandsFor self.old S → StandsFor source.now L
             → Fits T.greatest (grain self.old) (S ++ corrected_samples (grain source.now) interval L)
@@ -49,7 +53,11 @@ impl<T: Counter> Histogram<T> {
 
     /// Forgets what was recorded and adds what another histogram counted, corrected. Refused for range it leaves the
     /// histogram reset, refused for memory unchanged.
-    pub fn set_to_corrected(&mut self, source: &Histogram<T>, interval: u64) -> Result<(), RecordError>
+    pub fn set_to_corrected(
+        &mut self,
+        source: &Histogram<T>,
+        interval: u64,
+    ) -> Result<(), RecordError>
         ensures ok { OnOk result (self.new ≡ merged_corrected T.greatest (restarted self.old) source.now interval) }
         ensures can { OnOk result ((highest_top source.now ≤ reach self.old) ⊎ (self.old.auto_resize ≡ true)) }
         ensures refused { IfErr result (λ e. RefusesCorrected self.old source.now e × LeavesCorrected self.old self.new e) }
@@ -118,7 +126,12 @@ impl<T: Counter> Histogram<T> {
     {
         self.record_inside(value, count);
         if interval > 0 {
-            self.add_missing(value.saturating_sub(interval), count, interval, &mut Ticks::new());
+            self.add_missing(
+                value.saturating_sub(interval),
+                count,
+                interval,
+                &mut Ticks::new(),
+            );
         }
     }
 }

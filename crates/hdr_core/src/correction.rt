@@ -28,7 +28,12 @@ impl<T: Counter> Histogram<T> {
 
     /// Records a value `count` times and then, for an interval of at least 1, each `value - j * interval` with `j` of at
     /// least 1 that is at least the interval. Only the first record can be refused; a refusal changes nothing.
-    pub fn record_n_correct(&mut self, value: u64, count: T, interval: u64) -> Result<(), RecordError>
+    pub fn record_n_correct(
+        &mut self,
+        value: u64,
+        count: T,
+        interval: u64,
+    ) -> Result<(), RecordError>
         ensures ok { OnOk result (self.new ≡ corrected T.greatest self.old value (T.number count) interval) }
         ensures samples { OnOk result ((S : List ℕ) → StandsFor self.old S
             → Fits T.greatest (grain self.old) (S ++ spread (each (T.number count) (value ∷ missing value interval)))
@@ -42,7 +47,13 @@ impl<T: Counter> Histogram<T> {
 
     /// The same, with a tick for each counter that is updated beside the first: one for each class that holds a missing
     /// value, and so no more than there are bins.
-    pub fn record_n_correct_counted(&mut self, value: u64, count: T, interval: u64, ticks: &mut Ticks) -> Result<(), RecordError>
+    pub fn record_n_correct_counted(
+        &mut self,
+        value: u64,
+        count: T,
+        interval: u64,
+        ticks: &mut Ticks,
+    ) -> Result<(), RecordError>
         requires { ticks.old ≤ 2 ^ 63 }
         ensures ok { OnOk result (self.new ≡ corrected T.greatest self.old value (T.number count) interval) }
         ensures ticks { OnOk result (ticks.new ≡ ticks.old + classes_held (grain self.new) (length self.new.counts) (missing value interval)) }
@@ -56,7 +67,12 @@ impl<T: Counter> Histogram<T> {
     {
         self.record_n(value, count)?;
         if interval > 0 {
-            self.add_missing(value.saturating_sub(interval), count.as_u64(), interval, ticks);
+            self.add_missing(
+                value.saturating_sub(interval),
+                count.as_u64(),
+                interval,
+                ticks,
+            );
         }
         Ok(())
     }
@@ -78,7 +94,11 @@ impl<T: Counter> Histogram<T> {
         while next >= interval {
             let lowest = scale.lowest(next).max(interval);
             let members = (next - lowest) / interval + 1;
-            self.add_counted(scale.bin(next), u128::from(members) * u128::from(count), ticks);
+            self.add_counted(
+                scale.bin(next),
+                u128::from(members) * u128::from(count),
+                ticks,
+            );
             next -= members * interval;
         }
     }

@@ -5,10 +5,9 @@ ghost use Rattle.std.proofs.Common.{rules};
 ghost use Rattle.std.specs.Cmp.Rules.{comparing};
 ghost use Rattle.hdr_core.specs.Equality.{same_numbers, same_plain};
 
+use crate::histogram::Histogram;
 use hdr_base::Counter;
 use hdr_counts::Counts;
-
-use crate::histogram::Histogram;
 
 impl<T: Counter> PartialEq for Histogram<T> {
     ghost eq = { same_plain };
@@ -50,5 +49,9 @@ fn same_numbers<T: Counter, F: Counter>(left: &Counts<T>, right: &Counts<F>) -> 
 fn number_at<T: Counter>(counts: &Counts<T>, index: usize) -> u64
     ensures { result ≡ slice_index counts.now.numbers index }
 {
-    if index < counts.len() { counts.get(index).as_u64() } else { 0 }
+    if index < counts.len() {
+        counts.get(index).as_u64()
+    } else {
+        0
+    }
 }

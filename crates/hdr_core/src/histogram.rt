@@ -45,7 +45,12 @@ impl<T: Counter> Histogram<T> {
     /// A histogram of values from 0 to at least `high`, which keeps `sigfig` digits of those from `low` on and does not
     /// grow. `low` is 1 to `u64::MAX / 2`, `high` at least twice `low`, `sigfig` 0 to 5; the first of these that does
     /// not hold is the error, and then want of memory.
-    pub fn new_with_bounds(alloc: Global, low: u64, high: u64, sigfig: u8) -> Result<Histogram<T>, CreationError>
+    pub fn new_with_bounds(
+        alloc: Global,
+        low: u64,
+        high: u64,
+        sigfig: u8,
+    ) -> Result<Histogram<T>, CreationError>
         ensures { MatchResult result (λ h. (h ≡ empty_plain low high sigfig false) × IsBounds low high sigfig) (RefusesBounds low high sigfig) }
     {
         if low < 1 {
@@ -180,21 +185,33 @@ impl<T: Counter> Histogram<T> {
         ensures within { IfSome result (λ bin. bin < length self.now.counts) }
     {
         let bin = self.scale.bin(value);
-        if bin < self.counts.len() { Some(bin) } else { None }
+        if bin < self.counts.len() {
+            Some(bin)
+        } else {
+            None
+        }
     }
 
     /// The lowest value of a bin's class, `None` past the bins.
     pub fn bin_value(&self, index: usize) -> Option<u64>
         ensures { SomeIff result (index < length self.now.counts) (value_of (grain self.now) index) }
     {
-        if index < self.counts.len() { Some(self.class_value(index)) } else { None }
+        if index < self.counts.len() {
+            Some(self.class_value(index))
+        } else {
+            None
+        }
     }
 
     /// The counter of a bin, `None` past the bins.
     pub fn bin_count(&self, index: usize) -> Option<T>
         ensures { MatchOption result (length self.now.counts ≤ index) (λ c. (index < length self.now.counts) × (T.number c ≡ slice_index self.now.counts index)) }
     {
-        if index < self.counts.len() { Some(self.counts.get(index)) } else { None }
+        if index < self.counts.len() {
+            Some(self.counts.get(index))
+        } else {
+            None
+        }
     }
 
     /// The lowest value of the class of a bin.

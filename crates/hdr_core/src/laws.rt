@@ -15,15 +15,13 @@ ghost use Rattle.hdr_core.specs.Equality.{same_plain, IsSame};
 /// The missing values are those an interval apart below a value that are at least the interval.
 pub fn missing_values()
     ensures { (v i x : ℕ) → Contains (missing v i) x ↔ IsMissing v i x }
-{
-}
+{}
 
 /// The answer to a quantile above 0 is the top of the class of the ranked sample, and near it.
 pub fn quantile_is_ranked()
     ensures { (greatest : ℕ) (h : Plain) (q : Ratio) (S : List ℕ) → IsPlain greatest h → 0 < q.den → StandsFor h S → 0 < length S → 0 < q.num
         → IsTopNear h (ranked_sample q S) (quantile_of h q) }
-{
-}
+{}
 
 /// What recording a value does to the samples that a histogram stands for.
 pub fn recording_stands()
@@ -33,15 +31,13 @@ pub fn recording_stands()
         → Fits greatest (grain h) (S ++ replicate n (clamped h v)) → StandsFor (recorded greatest h (clamped h v) n) (S ++ replicate n (clamped h v)) }
     ensures corrected { (greatest : ℕ) (h : Plain) (v n i : ℕ) (S : List ℕ) → v < 2 ^ 64 → 1 ≤ greatest → IsPlain greatest h → StandsFor h S
         → Fits greatest (grain h) (S ++ spread (each n (v ∷ missing v i))) → StandsFor (corrected greatest h v n i) (S ++ spread (each n (v ∷ missing v i))) }
-{
-}
+{}
 
 /// A histogram that was cleared or reset stands for no samples.
 pub fn clearing_stands()
     ensures cleared { (h : Plain) → StandsFor (cleared h) [] }
     ensures restarted { (h : Plain) → StandsFor (restarted h) [] }
-{
-}
+{}
 
 /// What adding a histogram does to the samples: they are joined, where the source's classes are no coarser; corrected,
 /// they may be of any width.
@@ -50,30 +46,26 @@ pub fn adding_stands()
         → IsFiner (grain s) (grain h) → Fits greatest (grain h) (S ++ L) → StandsFor (merged greatest h s) (S ++ L) }
     ensures corrected { (greatest most : ℕ) (h s : Plain) (i : ℕ) (S L : List ℕ) → 1 ≤ greatest → IsPlain greatest h → IsPlain most s → StandsFor h S → StandsFor s L
         → Fits greatest (grain h) (S ++ corrected_samples (grain s) i L) → StandsFor (merged_corrected greatest h s i) (S ++ corrected_samples (grain s) i L) }
-{
-}
+{}
 
 /// At one unit and as many digits a sum has the same numbers in either order.
 pub fn adding_commutes()
     ensures { (greatest : ℕ) (h s : Plain) → 1 ≤ greatest → IsPlain greatest h → IsPlain greatest s → grain h ≡ grain s
         → (i : ℕ) → slice_index (merged greatest h s).counts i ≡ slice_index (merged greatest s h).counts i }
-{
-}
+{}
 
 /// At one unit and as many digits a sum of three has the same numbers whichever two are added first.
 pub fn adding_associates()
     ensures { (greatest : ℕ) (h s t : Plain) → 1 ≤ greatest → IsPlain greatest h → IsPlain greatest s → IsPlain greatest t → grain h ≡ grain s → grain s ≡ grain t
         → (i : ℕ) → slice_index (merged greatest (merged greatest h s) t).counts i ≡ slice_index (merged greatest h (merged greatest s t)).counts i }
-{
-}
+{}
 
 /// Subtracting what was added gives the numbers before, where no counter was full.
 pub fn subtracting_undoes_adding()
     ensures { (greatest : ℕ) (h s d : Plain) → 1 ≤ greatest → IsPlain greatest h → IsPlain greatest s → grain h ≡ grain s
         → ((i : ℕ) → slice_index h.counts i + slice_index s.counts i ≤ greatest) → IsDifference (merged greatest h s) s d
         → (i : ℕ) → slice_index d.counts i ≡ slice_index h.counts i }
-{
-}
+{}
 
 /// What equality means, and that it is an equivalence.
 pub fn equality()
@@ -81,5 +73,4 @@ pub fn equality()
     ensures reflexive { (h : Plain) → same_plain h h ≡ true }
     ensures symmetric { (h k : Plain) → same_plain h k ≡ true → same_plain k h ≡ true }
     ensures transitive { (h k j : Plain) → same_plain h k ≡ true → same_plain k j ≡ true → same_plain h j ≡ true }
-{
-}
+{}

@@ -1,16 +1,16 @@
 //! The HDR histogram: recording, correction, merging and exact quantiles.
 #![tactic(auto)]
 
-pub mod errors;
-pub mod histogram;
-mod classes;
-mod marks;
 pub mod call;
+mod classes;
 mod copying;
 mod correcting;
 mod correction;
 mod equality;
+pub mod errors;
+pub mod histogram;
 pub mod laws;
+mod marks;
 mod merging;
 mod quantiles;
 mod recording;

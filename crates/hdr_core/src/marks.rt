@@ -66,14 +66,22 @@ impl Marks {
     pub(crate) fn top(&self) -> Option<usize>
         ensures { result ≡ self.now.top }
     {
-        if self.classes == 0 { None } else { Some(self.classes - 1) }
+        if self.classes == 0 {
+            None
+        } else {
+            Some(self.classes - 1)
+        }
     }
 
     /// The class of the lower mark.
     pub(crate) fn lower(&self) -> Option<usize>
         ensures { result ≡ self.now.lower }
     {
-        if self.before == usize::MAX { None } else { Some(self.before + 1) }
+        if self.before == usize::MAX {
+            None
+        } else {
+            Some(self.before + 1)
+        }
     }
 
     /// Widens both marks by a class. The first class widens no lower mark.

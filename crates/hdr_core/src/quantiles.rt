@@ -42,7 +42,11 @@ impl<T: Counter> Histogram<T> {
         ensures ranked { (S : List ℕ) → StandsFor self.now S → 0 < length S → 0 < percentile.num
             → IsTopNear self.now (ranked_sample (hundredth percentile) S) result }
     {
-        let rank = rank_of(percentile.num(), u128::from(percentile.den()) * 100, self.total);
+        let rank = rank_of(
+            percentile.num(),
+            u128::from(percentile.den()) * 100,
+            self.total,
+        );
         self.answer(percentile.num(), self.first_reaching(rank))
     }
 

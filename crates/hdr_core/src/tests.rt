@@ -43,7 +43,11 @@ pub fn same<T: Counter>(rt: &impl Abort, one: &Histogram<T>, other: &Histogram<T
     assert_eq!(rt; one.min_nz(), other.min_nz());
     assert_eq!(rt; one.distinct_values(), other.distinct_values());
     for bin in 0..one.distinct_values() {
-        assert_eq!(rt; number(one.bin_count(bin)), number(other.bin_count(bin)), "bin {bin}");
+        assert_eq!(rt;
+            number(one.bin_count(bin)),
+            number(other.bin_count(bin)),
+            "bin {bin}"
+        );
     }
 }
 
@@ -103,7 +107,12 @@ fn bounds_are_refused_in_order(rt: HostRuntime) -> Result<(), Fail> {
         (1 << 63, u64::MAX, 0, CreationError::LowExceedsMax),
         (10, 15, 9, CreationError::HighLessThanTwiceLow),
         (1, 2, 6, CreationError::SigFigExceedsMax),
-        (1 << 46, u64::MAX, 5, CreationError::CannotRepresentSigFigBeyondLow),
+        (
+            1 << 46,
+            u64::MAX,
+            5,
+            CreationError::CannotRepresentSigFigBeyondLow,
+        ),
     ];
     for (low, high, sigfig, error) in rows {
         assert_eq!(rt; refusal(rt.alloc(), low, high, sigfig), Some(error));

@@ -64,11 +64,11 @@ sum_below-zeros ns m j =
     ⊎_elim
     (λ (h : j < length ns). ap sum (take-append-le j ns (replicate m 0) (omega arith)))
     (λ (h : length ns ≤ j).
-        let e : length ns + (j - length ns) ≡ j = omega arith in
-        let f : sum_below (ns ++ replicate m 0) (length ns + (j - length ns)) ≡ sum_below (ns ++ replicate m 0) j = ap (sum_below (ns ++ replicate m 0)) e in
-        let a : sum_below (ns ++ replicate m 0) (length ns + (j - length ns)) ≡ sum (ns ++ take (j - length ns) (replicate m 0)) = ap sum (take-append-add ns (replicate m 0) (j - length ns)) in
-        let b : sum (ns ++ take (j - length ns) (replicate m 0)) ≡ sum ns + sum_below (replicate m 0) (j - length ns) = sum_by-append (λ x. x) ns (take (j - length ns) (replicate m 0)) in
-        omega (arith, f, a, b, sum_below-of_zeros m (j - length ns), sum_below_all ns j (omega arith)))
+    let e : length ns + (j - length ns) ≡ j = omega arith in
+    let f : sum_below (ns ++ replicate m 0) (length ns + (j - length ns)) ≡ sum_below (ns ++ replicate m 0) j = ap (sum_below (ns ++ replicate m 0)) e in
+    let a : sum_below (ns ++ replicate m 0) (length ns + (j - length ns)) ≡ sum (ns ++ take (j - length ns) (replicate m 0)) = ap sum (take-append-add ns (replicate m 0) (j - length ns)) in
+    let b : sum (ns ++ take (j - length ns) (replicate m 0)) ≡ sum ns + sum_below (replicate m 0) (j - length ns) = sum_by-append (λ x. x) ns (take (j - length ns) (replicate m 0)) in
+    omega (arith, f, a, b, sum_below-of_zeros m (j - length ns), sum_below_all ns j (omega arith)))
     (cases_lt j (length ns))
 
 pub All-le-sum : (ns : List ℕ) → All (λ n. n ≤ 18446744073709551615) ns → sum ns ≤ length ns * 18446744073709551615
@@ -100,35 +100,35 @@ AreSums-set b ns ss i n h l m = record {
       let e = h.each k k_at in
       ⊎_elim
       (λ (lt : k < i / b).
-          let p = block_past b k (i / b) lt in
-          let ne : k ≢ i / b = omega arith in
-          rw (sum_below-set_past ns i (k * b) n (omega (arith, p, at)), sum_below-set_past ns i ((k + 1) * b) n (omega (arith, p, at)), get_or-set_other ss (i / b) k (get_or ss (i / b) 0 - get_or ns i 0 + n) 0 ne) e)
+      let p = block_past b k (i / b) lt in
+      let ne : k ≢ i / b = omega arith in
+      rw (sum_below-set_past ns i (k * b) n (omega (arith, p, at)), sum_below-set_past ns i ((k + 1) * b) n (omega (arith, p, at)), get_or-set_other ss (i / b) k (get_or ss (i / b) 0 - get_or ns i 0 + n) 0 ne) e)
       (λ (ge : i / b ≤ k).
-          ⊎_elim
-          (λ (is : k ≡ i / b).
-              let at_k : (k * b ≤ i) × (i < (k + 1) * b) = rw is at in
-              let before = sum_below-set_past ns i (k * b) n at_k.0 in
-              let after = sum_below-set_in ns i ((k + 1) * b) n at_k.1 l in
-              let put : get_or (set ss (i / b) (get_or ss (i / b) 0 - get_or ns i 0 + n)) k 0 ≡ get_or ss k 0 - get_or ns i 0 + n = rw is (get_or-set_same ss (i / b) (get_or ss (i / b) 0 - get_or ns i 0 + n) 0 q) in
-              let old : sum_below ns i + get_or ns i 0 ≤ sum_below ns ((k + 1) * b) = number-le-sum_below ns i ((k + 1) * b) at_k.1 l in
-              let from : sum_below ns (k * b) ≤ sum_below ns i = sum_below-le ns (k * b) i at_k.0 in
-              omega (arith, before, after, put, old, from, e))
-          (λ (no : k ≢ i / b).
-              let p = block_past b (i / b) k (omega arith) in
-              let past : i < k * b = omega (arith, p, at) in
-              let past_too : i < (k + 1) * b = omega (arith, p, at) in
-              let before = sum_below-set_in ns i (k * b) n past l in
-              let after = sum_below-set_in ns i ((k + 1) * b) n past_too l in
-              let put = get_or-set_other ss (i / b) k (get_or ss (i / b) 0 - get_or ns i 0 + n) 0 no in
-              omega (arith, before, after, put, e))
-          (cases_eq k (i / b)))
+      ⊎_elim
+      (λ (is : k ≡ i / b).
+      let at_k : (k * b ≤ i) × (i < (k + 1) * b) = rw is at in
+      let before = sum_below-set_past ns i (k * b) n at_k.0 in
+      let after = sum_below-set_in ns i ((k + 1) * b) n at_k.1 l in
+      let put : get_or (set ss (i / b) (get_or ss (i / b) 0 - get_or ns i 0 + n)) k 0 ≡ get_or ss k 0 - get_or ns i 0 + n = rw is (get_or-set_same ss (i / b) (get_or ss (i / b) 0 - get_or ns i 0 + n) 0 q) in
+      let old : sum_below ns i + get_or ns i 0 ≤ sum_below ns ((k + 1) * b) = number-le-sum_below ns i ((k + 1) * b) at_k.1 l in
+      let from : sum_below ns (k * b) ≤ sum_below ns i = sum_below-le ns (k * b) i at_k.0 in
+      omega (arith, before, after, put, old, from, e))
+      (λ (no : k ≢ i / b).
+      let p = block_past b (i / b) k (omega arith) in
+      let past : i < k * b = omega (arith, p, at) in
+      let past_too : i < (k + 1) * b = omega (arith, p, at) in
+      let before = sum_below-set_in ns i (k * b) n past l in
+      let after = sum_below-set_in ns i ((k + 1) * b) n past_too l in
+      let put = get_or-set_other ss (i / b) k (get_or ss (i / b) 0 - get_or ns i 0 + n) 0 no in
+      omega (arith, before, after, put, e))
+      (cases_eq k (i / b)))
       (cases_lt k (i / b));
   fits = λ k d k_in.
       let k_at : k < length ns = rw length-set at k_in in
       ⊎_elim
       (λ (is : k ≡ i). rw (is, get_or-set_same ns i n d l) m)
       (λ (no : k ≢ i). rw (get_or-set_other ns i k n d no) (h.fits k d k_at))
-      (cases_eq k i)
+      (cases_eq k i);
 }
 
 -- in blocks, a longer list has no fewer blocks
@@ -146,17 +146,17 @@ AreSums-grow b ns ss blocks h l m =
     let ns_len : length (ns ++ replicate (blocks * b - length ns) 0) ≡ blocks * b = simp (length-append, length-replicate) (omega arith) in
     let ss_len : length (ss ++ replicate (blocks - length ss) 0) ≡ blocks = simp (length-append, length-replicate) (omega arith) in
     record {
-  some = h.some;
-  few = rw ns_len m;
-  whole = rw (ns_len, ss_len) refl;
-  each = λ k k_in.
-      let k_at : k < blocks = rw ss_len at k_in in
-      rw (sum_below-zeros ns (blocks * b - length ns) (k * b), sum_below-zeros ns (blocks * b - length ns) ((k + 1) * b))
-      (⊎_elim
-      (λ (lt : k < length ss). 
+      some = h.some;
+      few = rw ns_len m;
+      whole = rw (ns_len, ss_len) refl;
+      each = λ k k_in.
+          let k_at : k < blocks = rw ss_len at k_in in
+          rw (sum_below-zeros ns (blocks * b - length ns) (k * b), sum_below-zeros ns (blocks * b - length ns) ((k + 1) * b))
+          (⊎_elim
+          (λ (lt : k < length ss).
           let e : get_or (ss ++ replicate (blocks - length ss) 0) k 0 ≡ get_or ss k 0 = get_or_append_left ss (replicate (blocks - length ss) 0) 0 k lt in
           omega (arith, e, h.each k lt))
-      (λ (ge : length ss ≤ k).
+          (λ (ge : length ss ≤ k).
           let p : length ss * b ≤ k * b = mul-le-mul_right b ge in
           let none : get_or (ss ++ replicate (blocks - length ss) 0) k 0 ≡ get_or (replicate (blocks - length ss) 0) (k - length ss) 0 = get_or-append_right ss (replicate (blocks - length ss) 0) (length ss) k 0 refl ge in
           let in_zeros : k - length ss < blocks - length ss = omega arith in
@@ -166,17 +166,17 @@ AreSums-grow b ns ss blocks h l m =
           let upto = sum_below_all ns (k * b) past in
           let upto_too = sum_below_all ns ((k + 1) * b) past_too in
           omega (arith, none, zero_there, upto, upto_too))
-      (cases_lt k (length ss)));
-  fits = λ k d k_in.
-      let k_at : k < blocks * b = rw ns_len at k_in in
-      ⊎_elim
-      (λ (lt : k < length ns). rw (get_or_append_left ns (replicate (blocks * b - length ns) 0) d k lt) (h.fits k d lt))
-      (λ (ge : length ns ≤ k).
+          (cases_lt k (length ss)));
+      fits = λ k d k_in.
+          let k_at : k < blocks * b = rw ns_len at k_in in
+          ⊎_elim
+          (λ (lt : k < length ns). rw (get_or_append_left ns (replicate (blocks * b - length ns) 0) d k lt) (h.fits k d lt))
+          (λ (ge : length ns ≤ k).
           let none : get_or (ns ++ replicate (blocks * b - length ns) 0) k d ≡ get_or (replicate (blocks * b - length ns) 0) (k - length ns) d = get_or-append_right ns (replicate (blocks * b - length ns) 0) (length ns) k d refl ge in
           let zero_there : get_or {A = ℕ} (replicate (blocks * b - length ns) 0) (k - length ns) d ≡ 0 = get_or-replicate (blocks * b - length ns) (k - length ns) 0 d (omega arith) in
           omega (arith, none, zero_there))
-      (cases_lt k (length ns))
-}
+          (cases_lt k (length ns));
+    }
 
 -- a running sum of the numbers of a list, one element on
 pub sum_below_map_more : {X : Type 0} (f : X → ℕ) (xs : List X) (i : ℕ) (x : X) → i < length xs → x ≡ get_or xs i x → sum_below (map f xs) (i + 1) ≡ sum_below (map f xs) i + f x
@@ -239,7 +239,6 @@ grown f xs ys zs z n l e m h z_is y =
     let u : map f (take n zs) ++ map f (replicate (n - l) z) ≡ map f xs ++ replicate (n - length (map f xs)) 0 = rw (c, d, k) refl in
     a ∙ (b ∙ u)
 
-
 pub ok_only : {A E : Type 0} (r : Result A E) (P : A → Type 0) (Q : E → Type 0) → is_ok r ≡ true → ((x : A) → P x) → MatchResult r P Q
 ok_only (Ok x) P Q h p = p x
 ok_only (Err e) P Q h p = absurd (false≢true h)
@@ -279,10 +278,10 @@ module _ (ns part : List ℕ) (a b : ℕ) (len : length part ≡ b) (room : a + 
       let front : length (take a ns) ≡ a = length-take-le a ns (omega arith) in
       let split : j ≡ length (take a ns) + (length part + r) = omega (arith, front, len) in
       let whole : take j (take a ns ++ (part ++ drop (a + b) ns)) ≡ take a ns ++ (part ++ take r (drop (a + b) ns)) =
-          ap (λ i. take i (take a ns ++ (part ++ drop (a + b) ns))) split ∙ take-append-add (take a ns) (part ++ drop (a + b) ns) (length part + r)
-          ∙ ap (λ xs. take a ns ++ xs) (take-append-add part (drop (a + b) ns) r) in
+      ap (λ i. take i (take a ns ++ (part ++ drop (a + b) ns))) split ∙ take-append-add (take a ns) (part ++ drop (a + b) ns) (length part + r)
+      ∙ ap (λ xs. take a ns ++ xs) (take-append-add part (drop (a + b) ns) r) in
       let sums : sum (take a ns ++ (part ++ take r (drop (a + b) ns))) ≡ sum_below ns a + (sum part + sum_below (drop (a + b) ns) r) =
-          sum_by-append (λ x. x) (take a ns) (part ++ take r (drop (a + b) ns)) ∙ ap (λ n. sum_below ns a + n) (sum_by-append (λ x. x) part (take r (drop (a + b) ns))) in
+      sum_by-append (λ x. x) (take a ns) (part ++ take r (drop (a + b) ns)) ∙ ap (λ n. sum_below ns a + n) (sum_by-append (λ x. x) part (take r (drop (a + b) ns))) in
       let was : sum_below ns j ≡ sum_below ns (a + b) + sum_below (drop (a + b) ns) r = (let e : j ≡ a + b + r = omega arith in ap (sum_below ns) e) ∙ sum_below-add ns (a + b) r in
       let middle = sum_below-add ns a b in
       omega (arith, ap sum whole, sums, was, middle)
@@ -307,29 +306,29 @@ AreSums-written b k ns part ss s h lt len is fit =
     let size = written-length ns part a b len room in
     let was : sum (take b (drop a ns)) ≡ get_or ss k 0 = omega (arith, h.each k lt, sum_below-add ns a b, ap (sum_below ns) here) in
     record {
-        some = h.some;
-        few = omega (arith, size, h.few);
-        whole = omega (arith, size, h.whole, ap (λ n. n * b) (length-set ss k s));
-        each = λ j j_in.
-            let j_at : j < length ss = rw length-set at j_in in
-            let e = h.each j j_at in
-            ⊎_elim
-            (λ (less : j < k).
-                let p = block_past b j k less in
-                omega (arith, written-before ns part a b len room (j * b) (omega (arith, p)), written-before ns part a b len room ((j + 1) * b) (omega (arith, p)), get_or-set_other ss k j s 0 (omega arith), e))
-            (λ (not_less : k ≤ j).
-                ⊎_elim
-                (λ (more : k < j).
-                    let p = block_past b k j more in
-                    omega (arith, written-behind ns part a b len room (j * b) (omega (arith, p)), written-behind ns part a b len room ((j + 1) * b) (omega (arith, p)), get_or-set_other ss k j s 0 (omega arith), e))
-                (λ (no_more : j ≤ k).
-                    let same : j ≡ k = omega arith in
-                    let put : get_or (set ss k s) j 0 ≡ s = ap (λ i. get_or (set ss k s) i 0) same ∙ get_or-set_same ss k s 0 lt in
-                    let at : j * b ≡ a = ap (λ i. i * b) same in
-                    omega (arith, written-before ns part a b len room (j * b) (omega (arith, at)), written-behind ns part a b len room ((j + 1) * b) (omega (arith, at)), put, is, was, ap (λ i. get_or ss i 0) same, e))
-                (cases_lt k j))
-            (cases_lt j k);
-        fits = written-fits ns part a b len room h.fits fit
+      some = h.some;
+      few = omega (arith, size, h.few);
+      whole = omega (arith, size, h.whole, ap (λ n. n * b) (length-set ss k s));
+      each = λ j j_in.
+          let j_at : j < length ss = rw length-set at j_in in
+          let e = h.each j j_at in
+          ⊎_elim
+          (λ (less : j < k).
+          let p = block_past b j k less in
+          omega (arith, written-before ns part a b len room (j * b) (omega (arith, p)), written-before ns part a b len room ((j + 1) * b) (omega (arith, p)), get_or-set_other ss k j s 0 (omega arith), e))
+          (λ (not_less : k ≤ j).
+          ⊎_elim
+          (λ (more : k < j).
+          let p = block_past b k j more in
+          omega (arith, written-behind ns part a b len room (j * b) (omega (arith, p)), written-behind ns part a b len room ((j + 1) * b) (omega (arith, p)), get_or-set_other ss k j s 0 (omega arith), e))
+          (λ (no_more : j ≤ k).
+          let same : j ≡ k = omega arith in
+          let put : get_or (set ss k s) j 0 ≡ s = ap (λ i. get_or (set ss k s) i 0) same ∙ get_or-set_same ss k s 0 lt in
+          let at : j * b ≡ a = ap (λ i. i * b) same in
+          omega (arith, written-before ns part a b len room (j * b) (omega (arith, at)), written-behind ns part a b len room ((j + 1) * b) (omega (arith, at)), put, is, was, ap (λ i. get_or ss i 0) same, e))
+          (cases_lt k j))
+          (cases_lt j k);
+      fits = written-fits ns part a b len room h.fits fit;
     }
 
 -- the same, of lists that were read

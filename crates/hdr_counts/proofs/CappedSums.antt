@@ -59,11 +59,11 @@ capped-front : (greatest : ℕ) (b : ℕ) (ms ns : List ℕ) → capped_sums gre
 capped-front greatest zero ms ns = sym (capped-none greatest ms)
 capped-front greatest (suc b) [] ns = refl
 capped-front greatest (suc b) (m ∷ ms) [] = ap (λ xs. m ∷ xs) (front b ms)
-    where
-      front : (b : ℕ) (ms : List ℕ) → take b ms ++ drop b ms ≡ ms
-      front zero ms = refl
-      front (suc b) [] = refl
-      front (suc b) (m ∷ ms) = ap (λ xs. m ∷ xs) (front b ms)
+  where
+    front : (b : ℕ) (ms : List ℕ) → take b ms ++ drop b ms ≡ ms
+    front zero ms = refl
+    front (suc b) [] = refl
+    front (suc b) (m ∷ ms) = ap (λ xs. m ∷ xs) (front b ms)
 capped-front greatest (suc b) (m ∷ ms) (n ∷ ns) = ap (λ xs. min (m + n) greatest ∷ xs) (capped-front greatest b ms ns)
 
 -- one block more
@@ -140,8 +140,8 @@ pub capped-step : {X Y : Type 0} (f : X → ℕ) (h : Y → ℕ) (xs part : List
 capped-step f h xs part ys greatest a w b e ms wide end room same before added =
     let now = capped_sums greatest ms (take a (map h ys)) in
     let new : map f part ≡ capped_sums greatest (take b (drop a now)) (take b (drop a (map h ys))) =
-        added ∙ ap (λ l. capped_sums greatest l (map h (take w (drop a ys)))) (map-middle f xs a w) ∙ ap (λ l. capped_sums greatest (take w (drop a (map f xs))) l) (map-middle h ys a w)
-        ∙ ap (λ n. capped_sums greatest (take n (drop a (map f xs))) (take n (drop a (map h ys)))) wide ∙ ap (λ l. capped_sums greatest (take b (drop a l)) (take b (drop a (map h ys)))) before in
+    added ∙ ap (λ l. capped_sums greatest l (map h (take w (drop a ys)))) (map-middle f xs a w) ∙ ap (λ l. capped_sums greatest (take w (drop a (map f xs))) l) (map-middle h ys a w)
+    ∙ ap (λ n. capped_sums greatest (take n (drop a (map f xs))) (take n (drop a (map h ys)))) wide ∙ ap (λ l. capped_sums greatest (take b (drop a l)) (take b (drop a (map h ys)))) before in
     let at : a + w ≡ e = omega arith in
     ap (λ l. map f (take a xs ++ (part ++ l))) (drop-drop w a xs) ∙ map-part f xs part a (a + w) ∙ ap (λ n. take a (map f xs) ++ (map f part ++ drop n (map f xs))) at
     ∙ ap (λ l. take a l ++ (map f part ++ drop e l)) before ∙ ap (λ l. take a now ++ (l ++ drop e now)) new

@@ -19,7 +19,13 @@ pub(crate) fn sum_of<T: Counter>(counters: &[T]) -> u128
 
 /// Adds the blocks of `source` to those of `counters`, each sum of two up to the greatest counter. `sums` and `more`
 /// are the sums of their blocks.
-pub(crate) fn add_blocks<T: Counter, F: Counter>(counters: &mut [T], sums: &mut [u128], source: &[F], more: &[u128], block: usize)
+pub(crate) fn add_blocks<T: Counter, F: Counter>(
+    counters: &mut [T],
+    sums: &mut [u128],
+    source: &[F],
+    more: &[u128],
+    block: usize,
+)
     requires sums { AreSums block (map T.number counters.old) sums.old }
     requires more { AreSums block (map F.number source.now) more.now }
     requires len { length counters.old ≡ length source.now }
@@ -37,7 +43,12 @@ pub(crate) fn add_blocks<T: Counter, F: Counter>(counters: &mut [T], sums: &mut 
 
 /// Adds one block to another and gives the new sum; `had` and `more` are their sums, which tell whether there is
 /// anything to add, and whether any place can pass the greatest.
-fn add_block<T: Counter, F: Counter>(counters: &mut [T], source: &[F], had: u128, more: u128) -> u128
+fn add_block<T: Counter, F: Counter>(
+    counters: &mut [T],
+    source: &[F],
+    had: u128,
+    more: u128,
+) -> u128
     requires len { length counters.old ≡ length source.now }
     requires few { length counters.old ≤ 6291456 }
     requires sum { had ≡ sum (map T.number counters.old) }

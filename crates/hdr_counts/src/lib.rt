@@ -136,7 +136,11 @@ impl<T: Counter> Counts<T> {
             let sum = look(*sum, ticks);
             if sum >= u128::from(rest) {
                 let from = k * self.block;
-                let place = first_reaching_looked(&self.counters[from..from + self.block], rest, ticks)?;
+                let place = first_reaching_looked(
+                    &self.counters[from..from + self.block],
+                    rest,
+                    ticks,
+                )?;
                 return Some(from + place);
             }
             rest -= sum as u64;
@@ -183,7 +187,13 @@ impl<T: Counter> Counts<T> {
         requires len { length self.old.numbers ≡ length source.now.numbers }
         ensures { self.new ≡ record { block = self.old.block; numbers = capped_sums T.greatest self.old.numbers source.now.numbers } }
     {
-        add_blocks(&mut self.counters, &mut self.sums, &source.counters, &source.sums, self.block);
+        add_blocks(
+            &mut self.counters,
+            &mut self.sums,
+            &source.counters,
+            &source.sums,
+            self.block,
+        );
     }
 }
 
@@ -193,7 +203,11 @@ fn exponent(n: usize) -> Option<u32>
     ensures { IsShift n result }
 {
     let exponent = n.ilog2();
-    if 1usize << exponent == n { Some(exponent) } else { None }
+    if 1usize << exponent == n {
+        Some(exponent)
+    } else {
+        None
+    }
 }
 
 /// The quotient of a place and a block, by a shift where the block is a power of two.

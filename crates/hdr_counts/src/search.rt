@@ -19,7 +19,11 @@ pub(crate) fn look(number: u128, ticks: &mut Ticks) -> u128
 }
 
 /// The first place where the sum up to and with it reaches `rest`, with a look at each counter on the way.
-pub(crate) fn first_reaching_looked<T: Counter>(counters: &[T], mut rest: u64, ticks: &mut Ticks) -> Option<usize>
+pub(crate) fn first_reaching_looked<T: Counter>(
+    counters: &[T],
+    mut rest: u64,
+    ticks: &mut Ticks,
+) -> Option<usize>
     requires some { 1 ≤ rest }
     requires room { ticks.old + length counters.now < 2 ^ 64 }
     ensures place { MatchOption result (sum (map T.number counters.now) < rest) (IsFirstToReach (map T.number counters.now) rest) }

@@ -74,7 +74,11 @@ fn both_searches_agree(rt: HostRuntime) -> Result<(), Fail> {
     }
     for rank in 1..=200u64 {
         let mut ticks = Ticks::new();
-        assert_eq!(rt; many.first_reaching(rank), many.find(rank, &mut ticks), "rank {rank}");
+        assert_eq!(rt;
+            many.first_reaching(rank),
+            many.find(rank, &mut ticks),
+            "rank {rank}"
+        );
     }
     assert_eq!(rt; many.first_reaching(201), None);
     Ok(())
@@ -108,7 +112,11 @@ mod refused {
             counts.set(0, 1);
         }
         let len = counts.len();
-        let grown = if len == 6 { counts.grow(20).is_ok() } else { false };
+        let grown = if len == 6 {
+            counts.grow(20).is_ok()
+        } else {
+            false
+        };
         if !grown {
             println!(rt; "no memory")?;
         }

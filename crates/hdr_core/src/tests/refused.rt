@@ -57,7 +57,10 @@ fn is_refused(
 fn constructors(rt: HostRuntime) -> Result<(), Fail> {
     let first = is_unmade(&rt, Histogram::<u64>::new(rt.alloc(), 3));
     let second = is_unmade(&rt, Histogram::<u8>::new_with_max(rt.alloc(), 1000, 0));
-    let third = is_unmade(&rt, Histogram::<u16>::new_with_bounds(rt.alloc(), 10, 1000, 2));
+    let third = is_unmade(
+        &rt,
+        Histogram::<u16>::new_with_bounds(rt.alloc(), 10, 1000, 2),
+    );
     if first || second || third {
         println!(rt; "no memory")?;
     }

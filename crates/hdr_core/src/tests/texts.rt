@@ -1,14 +1,22 @@
 //! The texts of errors.
 
 use crate::call::{CallError, RunError};
-use crate::errors::{AdditionError, CreationError, RecordError, SubtractionError, UsizeTypeTooSmall};
+use crate::errors::{
+    AdditionError, CreationError, RecordError, SubtractionError, UsizeTypeTooSmall,
+};
 use std::test::Fail;
 
 #[test]
 fn creation_texts(rt: HostRuntime) -> Result<(), Fail> {
     let rows = [
-        (CreationError::LowIsZero, "Lowest discernible value must be >= 1"),
-        (CreationError::LowExceedsMax, "Lowest discernible value must be <= `u64::MAX / 2`"),
+        (
+            CreationError::LowIsZero,
+            "Lowest discernible value must be >= 1",
+        ),
+        (
+            CreationError::LowExceedsMax,
+            "Lowest discernible value must be <= `u64::MAX / 2`",
+        ),
         (
             CreationError::HighLessThanTwiceLow,
             "Highest trackable value must be >= 2 * lowest discernible value for some internal calculations",

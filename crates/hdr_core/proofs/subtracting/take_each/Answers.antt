@@ -11,10 +11,10 @@ use Rattle.hdr_core.proofs.subtracting.take_each.Goals.{then-as_u64-gt0, else-as
 
 pub loop-bin-init : goal.loop-bin-init
 loop-bin-init g c = record {
-    block = refl;
-    bins = refl;
-    fit = c.requires.fit;
-    taken = λ j. omega (arith, held-none c.args.scale (grain c.args.other.now) c.args.other.now.counts j)
+  block = refl;
+  bins = refl;
+  fit = c.requires.fit;
+  taken = λ j. omega (arith, held-none c.args.scale (grain c.args.other.now) c.args.other.now.counts j);
 }
 
 pub take_from-requires-clause-inside : goal.take_from-requires-clause-inside
@@ -30,7 +30,7 @@ take_from-requires-clause-inside g c =
     let pos : 0 < get_or s.counts i 0 = omega (arith, at, c.as_u64.ensures.value, c.if-as_u64-gt0.true) in
     let target = c.bin-target.result in
     let step : held k f s.counts (i + 1) target ≡ held k f s.counts i target + get_or s.counts i 0 =
-        subst (λ b. held k f s.counts (i + 1) b ≡ held k f s.counts i b + get_or s.counts i 0) (sym (c.bin-target.ensures.value ∙ ap (λ v. bin_of k v) c.class_value.ensures)) (held-here k f s.counts i inside pos) in
+    subst (λ b. held k f s.counts (i + 1) b ≡ held k f s.counts i b + get_or s.counts i 0) (sym (c.bin-target.ensures.value ∙ ap (λ v. bin_of k v) c.class_value.ensures)) (held-here k f s.counts i inside pos) in
     let enough : get_or s.counts i 0 ≤ get_or now target 0 = omega (arith, step, held-le k f s.counts (i + 1) target, c.requires.enough target, c.loop-bin.invariant.taken target) in
     let room : target < length now = place-in now target (omega (arith, enough, pos)) in
     room
@@ -48,7 +48,7 @@ take_from-requires-clause-enough g c =
     let pos : 0 < get_or s.counts i 0 = omega (arith, at, c.as_u64.ensures.value, c.if-as_u64-gt0.true) in
     let target = c.bin-target.result in
     let step : held k f s.counts (i + 1) target ≡ held k f s.counts i target + get_or s.counts i 0 =
-        subst (λ b. held k f s.counts (i + 1) b ≡ held k f s.counts i b + get_or s.counts i 0) (sym (c.bin-target.ensures.value ∙ ap (λ v. bin_of k v) c.class_value.ensures)) (held-here k f s.counts i inside pos) in
+    subst (λ b. held k f s.counts (i + 1) b ≡ held k f s.counts i b + get_or s.counts i 0) (sym (c.bin-target.ensures.value ∙ ap (λ v. bin_of k v) c.class_value.ensures)) (held-here k f s.counts i inside pos) in
     let enough : get_or s.counts i 0 ≤ get_or now target 0 = omega (arith, step, held-le k f s.counts (i + 1) target, c.requires.enough target, c.loop-bin.invariant.taken target) in
     let room : target < length now = place-in now target (omega (arith, enough, pos)) in
     omega (arith, at, enough)
@@ -64,35 +64,35 @@ loop-bin-preserved g c =
     let inside : i < length s.counts = omega (arith, ap (λ (p : Plain). length p.counts) c.other.view_is, c.loop-bin-test.true, c.len-bin-end.ensures, c.loop-bin.auto.bin-end) in
     let at : g.T.Counter.number c.get-count.result ≡ get_or s.counts i 0 = c.get-count.ensures ∙ ap (λ (p : Plain). get_or p.counts i 0) c.other.view_is in
     elim c.if-as_u64-gt0.branch [
-        then-as_u64-gt0 w ↦ (
-    let pos : 0 < get_or s.counts i 0 = omega (arith, at, c.as_u64.ensures.value, w.if-as_u64-gt0.true) in
-    let target = w.bin-target.result in
-    let step : held k f s.counts (i + 1) target ≡ held k f s.counts i target + get_or s.counts i 0 =
-        subst (λ b. held k f s.counts (i + 1) b ≡ held k f s.counts i b + get_or s.counts i 0) (sym (w.bin-target.ensures.value ∙ ap (λ v. bin_of k v) w.class_value.ensures)) (held-here k f s.counts i inside pos) in
-    let enough : get_or s.counts i 0 ≤ get_or now target 0 = omega (arith, step, held-le k f s.counts (i + 1) target, c.requires.enough target, c.loop-bin.invariant.taken target) in
-    let room : target < length now = place-in now target (omega (arith, enough, pos)) in
-    let put = get_or now target 0 - get_or s.counts i 0 in
-    let new : c.if-as_u64-gt0.counts ≡ record { block = c.loop-bin.counts.block; numbers = set now target put } =
-        w.counts-is ∙ w.take_from.ensures ∙ ap (λ n. record { block = c.loop-bin.counts.block; numbers = set now target (get_or now target 0 - n) }) at in
-    let numbers : c.if-as_u64-gt0.counts.numbers ≡ set now target put = ap (λ (b : Blocks). b.numbers) new in
-    let bound : put ≤ g.T.Counter.greatest = omega (arith, c.loop-bin.invariant.fit target 0 room) in
-    record {
-        block = ap (λ (b : Blocks). b.block) new ∙ c.loop-bin.invariant.block;
-        bins = ap (λ (l : List ℕ). length l) numbers ∙ length-set now target put ∙ c.loop-bin.invariant.bins;
-        fit = subst (λ l. All (λ n. n ≤ g.T.Counter.greatest) l) (sym numbers) (All-set (λ n. n ≤ g.T.Counter.greatest) now target put bound c.loop-bin.invariant.fit);
-        taken = λ j. ap (λ l. get_or l j 0 + held k f s.counts (i + 1) j) numbers ∙ taken-next k f s.counts was now i target inside pos (w.bin-target.ensures.value ∙ ap (λ v. bin_of k v) w.class_value.ensures) room enough c.loop-bin.invariant.taken j
-    }
-        )
-        | else-as_u64-gt0 w ↦ (
-            let none : get_or s.counts i 0 ≡ 0 = omega (arith, at, c.as_u64.ensures.value, w.if-as_u64-gt0.false) in
-            record {
-                block = ap (λ (b : Blocks). b.block) w.counts-is ∙ c.loop-bin.invariant.block;
-                bins = ap (λ (b : Blocks). length b.numbers) w.counts-is ∙ c.loop-bin.invariant.bins;
-                fit = subst (λ (b : Blocks). All (λ n. n ≤ g.T.Counter.greatest) b.numbers) (sym w.counts-is) c.loop-bin.invariant.fit;
-                taken = λ j. ap (λ (b : Blocks). get_or b.numbers j 0 + held k f s.counts (i + 1) j) w.counts-is
-                    ∙ ap (λ n. get_or now j 0 + n) (held-same k f s.counts i j inside none) ∙ c.loop-bin.invariant.taken j
-            }
-        )
+      | then-as_u64-gt0 w ↦ (
+          let pos : 0 < get_or s.counts i 0 = omega (arith, at, c.as_u64.ensures.value, w.if-as_u64-gt0.true) in
+          let target = w.bin-target.result in
+          let step : held k f s.counts (i + 1) target ≡ held k f s.counts i target + get_or s.counts i 0 =
+          subst (λ b. held k f s.counts (i + 1) b ≡ held k f s.counts i b + get_or s.counts i 0) (sym (w.bin-target.ensures.value ∙ ap (λ v. bin_of k v) w.class_value.ensures)) (held-here k f s.counts i inside pos) in
+          let enough : get_or s.counts i 0 ≤ get_or now target 0 = omega (arith, step, held-le k f s.counts (i + 1) target, c.requires.enough target, c.loop-bin.invariant.taken target) in
+          let room : target < length now = place-in now target (omega (arith, enough, pos)) in
+          let put = get_or now target 0 - get_or s.counts i 0 in
+          let new : c.if-as_u64-gt0.counts ≡ record { block = c.loop-bin.counts.block; numbers = set now target put } =
+          w.counts-is ∙ w.take_from.ensures ∙ ap (λ n. record { block = c.loop-bin.counts.block; numbers = set now target (get_or now target 0 - n) }) at in
+          let numbers : c.if-as_u64-gt0.counts.numbers ≡ set now target put = ap (λ (b : Blocks). b.numbers) new in
+          let bound : put ≤ g.T.Counter.greatest = omega (arith, c.loop-bin.invariant.fit target 0 room) in
+          record {
+            block = ap (λ (b : Blocks). b.block) new ∙ c.loop-bin.invariant.block;
+            bins = ap (λ (l : List ℕ). length l) numbers ∙ length-set now target put ∙ c.loop-bin.invariant.bins;
+            fit = subst (λ l. All (λ n. n ≤ g.T.Counter.greatest) l) (sym numbers) (All-set (λ n. n ≤ g.T.Counter.greatest) now target put bound c.loop-bin.invariant.fit);
+            taken = λ j. ap (λ l. get_or l j 0 + held k f s.counts (i + 1) j) numbers ∙ taken-next k f s.counts was now i target inside pos (w.bin-target.ensures.value ∙ ap (λ v. bin_of k v) w.class_value.ensures) room enough c.loop-bin.invariant.taken j;
+          }
+          )
+      | else-as_u64-gt0 w ↦ (
+          let none : get_or s.counts i 0 ≡ 0 = omega (arith, at, c.as_u64.ensures.value, w.if-as_u64-gt0.false) in
+          record {
+            block = ap (λ (b : Blocks). b.block) w.counts-is ∙ c.loop-bin.invariant.block;
+            bins = ap (λ (b : Blocks). length b.numbers) w.counts-is ∙ c.loop-bin.invariant.bins;
+            fit = subst (λ (b : Blocks). All (λ n. n ≤ g.T.Counter.greatest) b.numbers) (sym w.counts-is) c.loop-bin.invariant.fit;
+            taken = λ j. ap (λ (b : Blocks). get_or b.numbers j 0 + held k f s.counts (i + 1) j) w.counts-is
+                ∙ ap (λ n. get_or now j 0 + n) (held-same k f s.counts i j inside none) ∙ c.loop-bin.invariant.taken j;
+          }
+          )
     ]
 
 pub returns-clause-numbers : goal.returns-clause-numbers

@@ -23,9 +23,9 @@ invariant_of-self-2 g c =
     let sums_is : c.resize.new.self.items ≡ s.sums.items ++ replicate (c.args.blocks - length s.sums.items) 0 = sums_grown s.block (map n s.counters.items) s.sums.items c.resize.new.self.items c.args.blocks (vec_len s.sums) c.self.invariant.sums_are at sums_room c.in_ok-resize.ensures.items in
     let few : c.args.blocks * s.block ≤ 6291456 = omega (arith, blocks, c.requires.few) in
     record {
-        sums_are = rw (map_is, sums_is) (AreSums-grow s.block (map n s.counters.items) s.sums.items c.args.blocks c.self.invariant.sums_are at few);
-        shift_is = c.self.invariant.shift_is;
-        fit = rw map_is (All-append (λ n. n ≤ g.T.Counter.greatest) (map n s.counters.items) _ c.self.invariant.fit (All-replicate (λ n. n ≤ g.T.Counter.greatest) _ 0 (omega arith)))
+      sums_are = rw (map_is, sums_is) (AreSums-grow s.block (map n s.counters.items) s.sums.items c.args.blocks c.self.invariant.sums_are at few);
+      shift_is = c.self.invariant.shift_is;
+      fit = rw map_is (All-append (λ n. n ≤ g.T.Counter.greatest) (map n s.counters.items) _ c.self.invariant.fit (All-replicate (λ n. n ≤ g.T.Counter.greatest) _ 0 (omega arith)));
     }
 
 pub returns : goal.returns

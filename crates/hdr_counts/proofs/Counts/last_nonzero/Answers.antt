@@ -11,6 +11,6 @@ loop-passed-preserved g c = λ j le.
     let at : i < length xs = omega (arith, c.len-len.ensures, c.self.inside.counters.ok.0) in
     let here = number-at n xs i c.index.result.now at c.index.ensures in
     elim (cases_eq j i) [
-        inl same ↦ ap (λ k. get_or (map n xs) k 0) same ∙ (let none : get_or (map n xs) i 0 ≡ 0 = omega (arith, here, c.as_u64.ensures.value) in none)
-        | inr other ↦ c.loop-passed.invariant j (omega arith)
+      | inl same ↦ ap (λ k. get_or (map n xs) k 0) same ∙ (let none : get_or (map n xs) i 0 ≡ 0 = omega (arith, here, c.as_u64.ensures.value) in none)
+      | inr other ↦ c.loop-passed.invariant j (omega arith)
     ]

@@ -5,4 +5,3 @@ use Rattle.hdr_counts.proofs.Counts.sum_to.Given as goal
 abbrev pub invariant-loop-sum : goal.invariant-loop-sum
 invariant-loop-sum g l =
     l.total ≡ sum_below (map g.T.Counter.number l.self-inside.counters.items) (l.sum-index * l.self-inside.block)
-

@@ -12,5 +12,5 @@ returns-then-had-more-clause-sum g c =
     let ms = map g.T.Counter.number c.args.counters.now in
     let ns = map g.F.Counter.number c.args.source.now in
     let free = capped-free g.T.Counter.greatest ms ns (omega (arith, length-map c.args.counters.now g.T.Counter.number, length-map c.args.source.now g.F.Counter.number, c.requires.len))
-        (omega (arith, c.requires.sum, c.requires.more, c.if-had-more.true, c.from.ensures, c.as_u64.ensures.value, c.max_value.ensures)) in
+    (omega (arith, c.requires.sum, c.requires.more, c.if-had-more.true, c.from.ensures, c.as_u64.ensures.value, c.max_value.ensures)) in
     omega (arith, free, ap sum c.add_plain.ensures, c.requires.sum, c.requires.more)

@@ -28,8 +28,15 @@ add_block-requires-clause-fits g c =
     let had = c.loop-k.invariant.sums in
     let more = c.requires.more in
     let blocks = blocks_more c.args.block (length c.args.sums.now) (length c.args.more.now) c.requires.more.some (omega (arith, c.requires.sums.whole, c.requires.more.whole, c.requires.len, length-map c.args.counters.now g.T.Counter.number, length-map c.args.source.now g.F.Counter.number)) in
-    omega (arith, had.each k (omega arith), sum_below-le-sum (map g.T.Counter.number c.loop-k.counters) ((k + 1) * c.args.block), sum-fits (map g.T.Counter.number c.loop-k.counters) had.few had.fits,
-        more.each k (omega (arith, blocks)), sum_below-le-sum (map g.F.Counter.number c.args.source.now) ((k + 1) * c.args.block), sum-fits (map g.F.Counter.number c.args.source.now) more.few more.fits)
+    omega (
+      arith,
+      had.each k (omega arith),
+      sum_below-le-sum (map g.T.Counter.number c.loop-k.counters) ((k + 1) * c.args.block),
+      sum-fits (map g.T.Counter.number c.loop-k.counters) had.few had.fits,
+      more.each k (omega (arith, blocks)),
+      sum_below-le-sum (map g.F.Counter.number c.args.source.now) ((k + 1) * c.args.block),
+      sum-fits (map g.F.Counter.number c.args.source.now) more.few more.fits,
+    )
 
 pub add_block-requires-clause-fit : goal.add_block-requires-clause-fit
 add_block-requires-clause-fit g c =
@@ -59,19 +66,19 @@ loop-k-preserved g c =
     let room : a + b ≤ length xs = omega (arith, past, c.loop-k.invariant.sums.whole, len_x) in
     let fit : (m : ℕ) → m ≤ greatest → m ≤ 18446744073709551615 = λ m le. omega (arith, g.met.T.Counter.fits) in
     let part_len : length (map n new) ≡ b =
-        (let e = ap length c.add_block.ensures.numbers ∙ capped-length greatest (map n (take w (drop a xs))) (map g.F.Counter.number (take w (drop a c.args.source.now))) in
-        omega (arith, e, length-map (take w (drop a xs)) n, length-take w (drop a xs), length-drop a xs)) in
+    (let e = ap length c.add_block.ensures.numbers ∙ capped-length greatest (map n (take w (drop a xs))) (map g.F.Counter.number (take w (drop a c.args.source.now))) in
+    omega (arith, e, length-map (take w (drop a xs)) n, length-take w (drop a xs), length-drop a xs)) in
     let U = λ (m : ℕ). m ≤ 18446744073709551615 in
     let part_fit : All U (map n new) =
-        subst (λ l. All U l) (sym c.add_block.ensures.numbers)
-            (capped-fit-under greatest 18446744073709551615 (map n (take w (drop a xs))) (map g.F.Counter.number (take w (drop a c.args.source.now))) (omega (arith, g.met.T.Counter.fits))
-                (subst (λ l. All U l) (sym (map-middle n xs a w)) (All-take U w (drop a (map n xs)) (All-drop U a (map n xs) c.loop-k.invariant.sums.fits)))) in
+    subst (λ l. All U l) (sym c.add_block.ensures.numbers)
+    (capped-fit-under greatest 18446744073709551615 (map n (take w (drop a xs))) (map g.F.Counter.number (take w (drop a c.args.source.now))) (omega (arith, g.met.T.Counter.fits))
+    (subst (λ l. All U l) (sym (map-middle n xs a w)) (All-take U w (drop a (map n xs)) (All-drop U a (map n xs) c.loop-k.invariant.sums.fits)))) in
     let put : map n (take a xs ++ (new ++ drop w (drop a xs))) ≡ take a (map n xs) ++ (map n new ++ drop (a + b) (map n xs)) =
-        ap (λ l. map n (take a xs ++ (new ++ l))) (drop-drop w a xs) ∙ map-part n xs new a (a + w) ∙ ap (λ v. take a (map n xs) ++ (map n new ++ drop (a + v) (map n xs))) wide in
+    ap (λ l. map n (take a xs ++ (new ++ l))) (drop-drop w a xs) ∙ map-part n xs new a (a + w) ∙ ap (λ v. take a (map n xs) ++ (map n new ++ drop (a + v) (map n xs))) wide in
     record {
-        numbers = capped-step n g.F.Counter.number xs new c.args.source.now greatest a w b ((k + 1) * b) ms wide (omega arith) (omega (arith, room, len_m)) (omega (arith, len_m, c.requires.len)) c.loop-k.invariant.numbers c.add_block.ensures.numbers;
-        sums = subst (λ l. AreSums b l (set c.loop-k.sums k c.add_block.result)) (sym put) (AreSums-written b k (map n xs) (map n new) c.loop-k.sums c.add_block.result c.loop-k.invariant.sums k_in part_len c.add_block.ensures.sum part_fit);
-        same = length-set c.loop-k.sums k c.add_block.result ∙ c.loop-k.invariant.same
+      numbers = capped-step n g.F.Counter.number xs new c.args.source.now greatest a w b ((k + 1) * b) ms wide (omega arith) (omega (arith, room, len_m)) (omega (arith, len_m, c.requires.len)) c.loop-k.invariant.numbers c.add_block.ensures.numbers;
+      sums = subst (λ l. AreSums b l (set c.loop-k.sums k c.add_block.result)) (sym put) (AreSums-written b k (map n xs) (map n new) c.loop-k.sums c.add_block.result c.loop-k.invariant.sums k_in part_len c.add_block.ensures.sum part_fit);
+      same = length-set c.loop-k.sums k c.add_block.result ∙ c.loop-k.invariant.same;
     }
 
 pub returns-clause-numbers : goal.returns-clause-numbers

@@ -4,7 +4,7 @@ use Rattle.hdr_counts.proofs.adding.add_blocks.Given as goal
 
 abbrev pub invariant-loop-k : goal.invariant-loop-k
 invariant-loop-k g l = record {
-    numbers : map g.T.Counter.number l.counters ≡ capped_sums g.T.Counter.greatest (map g.T.Counter.number l.initial.counters) (take (l.k * l.block) (map g.F.Counter.number l.source));
-    sums : AreSums l.block (map g.T.Counter.number l.counters) l.sums;
-    same : length l.sums ≡ length l.initial.sums
+  numbers : map g.T.Counter.number l.counters ≡ capped_sums g.T.Counter.greatest (map g.T.Counter.number l.initial.counters) (take (l.k * l.block) (map g.F.Counter.number l.source));
+  sums : AreSums l.block (map g.T.Counter.number l.counters) l.sums;
+  same : length l.sums ≡ length l.initial.sums;
 }

@@ -21,8 +21,8 @@ loop-i-preserved g c =
     let len_n = length-map c.args.source.now g.F.Counter.number in
     map-set g.T.Counter.number c.loop-i.counters i c.capped.result
     ∙ capped-write greatest ms ns (map g.T.Counter.number c.loop-i.counters) i (g.T.Counter.number c.capped.result) c.loop-i.invariant
-        (omega (arith, len_m)) (omega (arith, len_n, c.requires))
-        (omega (arith, c.capped.ensures, c.saturating_add.ensures, a, b, c.as_u64.ensures.value, c.as_u64-in-loop-i.ensures.value, g.met.T.Counter.fits))
+    (omega (arith, len_m)) (omega (arith, len_n, c.requires))
+    (omega (arith, c.capped.ensures, c.saturating_add.ensures, a, b, c.as_u64.ensures.value, c.as_u64-in-loop-i.ensures.value, g.met.T.Counter.fits))
 
 pub returns : goal.returns
 returns g c =

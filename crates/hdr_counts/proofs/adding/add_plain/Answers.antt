@@ -20,8 +20,18 @@ overflow_add-as_u64 g c =
     let was : get_or (map g.T.Counter.number c.loop-i.counters) i 0 ≡ get_or ms i 0 = ap (λ xs. get_or xs i 0) c.loop-i.invariant ∙ capped-rest greatest ms ns i in
     let len_m = length-map c.args.counters.now g.T.Counter.number in
     let len_n = length-map c.args.source.now g.F.Counter.number in
-    omega (arith, a, b, was, get_or-le-sum_by (λ x. x) ms i 0 (omega (arith, len_m)), get_or-le-sum_by (λ x. x) ns i 0 (omega (arith, len_n, c.requires.len)),
-        c.requires.fits, c.as_u64.ensures.value, c.as_u64-in-loop-i.ensures.value, g.met.T.Counter.fits)
+    omega (
+      arith,
+      a,
+      b,
+      was,
+      get_or-le-sum_by (λ x. x) ms i 0 (omega (arith, len_m)),
+      get_or-le-sum_by (λ x. x) ns i 0 (omega (arith, len_n, c.requires.len)),
+      c.requires.fits,
+      c.as_u64.ensures.value,
+      c.as_u64-in-loop-i.ensures.value,
+      g.met.T.Counter.fits,
+    )
 
 pub loop-i-preserved : goal.loop-i-preserved
 loop-i-preserved g c =
@@ -35,8 +45,8 @@ loop-i-preserved g c =
     let len_n = length-map c.args.source.now g.F.Counter.number in
     map-set g.T.Counter.number c.loop-i.counters i c.capped.result
     ∙ capped-write greatest ms ns (map g.T.Counter.number c.loop-i.counters) i (g.T.Counter.number c.capped.result) c.loop-i.invariant
-        (omega (arith, len_m)) (omega (arith, len_n, c.requires.len))
-        (omega (arith, c.capped.ensures, a, b, c.as_u64.ensures.value, c.as_u64-in-loop-i.ensures.value))
+    (omega (arith, len_m)) (omega (arith, len_n, c.requires.len))
+    (omega (arith, c.capped.ensures, a, b, c.as_u64.ensures.value, c.as_u64-in-loop-i.ensures.value))
 
 pub returns : goal.returns
 returns g c =

@@ -22,8 +22,8 @@ pub returns-clause-samples : goal.returns-clause-samples
 returns-clause-samples g c = λ S L stands source fits.
     let s = c.args.source.now in
     subst (λ w. StandsFor w (S ++ corrected_samples (grain s) c.args.interval L)) (sym (returns-clause-ok g c))
-        (StandsFor-merged_corrected g.T.Counter.greatest g.F.Counter.greatest c.args.self.now s c.args.interval S L g.met.T.Counter.one_fits c.cover.ensures.kept c.correct_classes.ensures.source
-            (omega (arith, c.highest_top.ensures, c.highest_top.type_inv)) stands source fits)
+    (StandsFor-merged_corrected g.T.Counter.greatest g.F.Counter.greatest c.args.self.now s c.args.interval S L g.met.T.Counter.one_fits c.cover.ensures.kept c.correct_classes.ensures.source
+    (omega (arith, c.highest_top.ensures, c.highest_top.type_inv)) stands source fits)
 
 pub returns-clause-same_classes : goal.returns-clause-same_classes
 returns-clause-same_classes g c =

@@ -39,8 +39,8 @@ returns-clause-samples g c = λ S L stands source fine fits.
     let greatest = g.T.Counter.greatest in
     let s = c.args.source.now in
     subst (λ w. StandsFor w (S ++ L)) (sym (returns-clause-ok g c))
-        (StandsFor-merged greatest g.F.Counter.greatest c.args.self.now s S L g.met.T.Counter.one_fits c.make_room.ensures.kept (rw c.source.view_is at c.source.invariant.plain)
-            (omega (arith, c.max.ensures, c.max.type_inv)) stands source fine fits)
+    (StandsFor-merged greatest g.F.Counter.greatest c.args.self.now s S L g.met.T.Counter.one_fits c.make_room.ensures.kept (rw c.source.view_is at c.source.invariant.plain)
+    (omega (arith, c.max.ensures, c.max.type_inv)) stands source fine fits)
 
 pub returns-clause-high : goal.returns-clause-high
 returns-clause-high g c = λ L source.

@@ -53,17 +53,17 @@ loop-next-preserved g c =
     let room : bin_of (grain h) x < length h.counts = room-in greatest h x plain (omega (arith, inv.same_reach, inv.within)) in
     let room_here : bin_of (grain k) x < length k.counts = rw inv.same_classes (omega (arith, room, inv.same_bins)) in
     let number : c.from.result * c.from-in-loop-next.result ≡ m * n =
-        ap (λ a. a * c.from-in-loop-next.result) c.from.ensures ∙ ap (λ a. m * a) c.from-in-loop-next.ensures in
+    ap (λ a. a * c.from-in-loop-next.result) c.from.ensures ∙ ap (λ a. m * a) c.from-in-loop-next.ensures in
     let new : c.add_counted.new.self ≡ added greatest k (bin_of (grain k) x) (m * n) =
-        c.add_counted.ensures.state ∙ ap (λ a. added greatest k c.bin.result a) number ∙ ap (λ b. added greatest k b (m * n)) (c.bin.ensures.value ∙ ap (λ (s : Grain). bin_of s x) here) in
+    c.add_counted.ensures.state ∙ ap (λ a. added greatest k c.bin.result a) number ∙ ap (λ b. added greatest k b (m * n)) (c.bin.ensures.value ∙ ap (λ (s : Grain). bin_of s x) here) in
     record {
-        state = ap (λ (s : Plain). recorded_each greatest s (each n (down_to (x - m * i) i))) new
-            ∙ state-step greatest k x i low m n (omega arith) digits_here (omega arith) is_low_here (omega arith) (omega (arith, inv.within)) room_here ∙ inv.state;
-        ticks = omega (arith, c.add_counted.ensures.ticks, inv.ticks, held-step (grain h) x i low m (omega arith) digits (omega arith) is_low (omega arith) (length h.counts) room);
-        same_classes = ap (λ (s : Plain). grain s) new ∙ grain-added greatest k (bin_of (grain k) x) (m * n) ∙ inv.same_classes;
-        same_bins = ap (λ (s : Plain). length s.counts) new ∙ bins-added greatest k (bin_of (grain k) x) (m * n) ∙ inv.same_bins;
-        same_reach = ap (λ (s : Plain). reach s) new ∙ reach-added greatest k (bin_of (grain k) x) (m * n) ∙ inv.same_reach;
-        within = omega (arith, inv.within, ap (λ (s : Plain). reach s) new, reach-added greatest k (bin_of (grain k) x) (m * n))
+      state = ap (λ (s : Plain). recorded_each greatest s (each n (down_to (x - m * i) i))) new
+          ∙ state-step greatest k x i low m n (omega arith) digits_here (omega arith) is_low_here (omega arith) (omega (arith, inv.within)) room_here ∙ inv.state;
+      ticks = omega (arith, c.add_counted.ensures.ticks, inv.ticks, held-step (grain h) x i low m (omega arith) digits (omega arith) is_low (omega arith) (length h.counts) room);
+      same_classes = ap (λ (s : Plain). grain s) new ∙ grain-added greatest k (bin_of (grain k) x) (m * n) ∙ inv.same_classes;
+      same_bins = ap (λ (s : Plain). length s.counts) new ∙ bins-added greatest k (bin_of (grain k) x) (m * n) ∙ inv.same_bins;
+      same_reach = ap (λ (s : Plain). reach s) new ∙ reach-added greatest k (bin_of (grain k) x) (m * n) ∙ inv.same_reach;
+      within = omega (arith, inv.within, ap (λ (s : Plain). reach s) new, reach-added greatest k (bin_of (grain k) x) (m * n));
     }
 
 pub returns-clause-state : goal.returns-clause-state
@@ -78,7 +78,7 @@ returns-clause-ticks g c =
     let h = c.args.self.now in
     let end : down_to c.loop-next.next c.args.interval ≡ [] = down_to-end c.loop-next.next c.args.interval (omega arith) in
     let none : classes_held (grain h) (length h.counts) (down_to c.loop-next.next c.args.interval) ≡ 0 =
-        ap (λ ys. classes_held (grain h) (length h.counts) ys) end ∙ held-none (grain h) (length h.counts) in
+    ap (λ ys. classes_held (grain h) (length h.counts) ys) end ∙ held-none (grain h) (length h.counts) in
     omega (arith, c.loop-next.invariant.ticks)
 
 pub returns-clause-samples : goal.returns-clause-samples
@@ -88,4 +88,4 @@ returns-clause-samples g c = λ S stands fits.
     let values = down_to c.args.first c.args.interval in
     let within = All-weaker (λ y. (c.args.interval ≤ y) × (y ≤ c.args.first)) (λ y. y ≤ reach h) (λ y e. omega (arith, e, c.requires.within)) values (down_to-within c.args.first c.args.interval (omega arith)) in
     rw (returns-clause-state g c)
-        (StandsFor-each g.T.Counter.greatest h (each c.args.count values) S g.met.T.Counter.one_fits plain (each-within (reach h) c.args.count values within) stands fits)
+    (StandsFor-each g.T.Counter.greatest h (each c.args.count values) S g.met.T.Counter.one_fits plain (each-within (reach h) c.args.count values within) stands fits)

@@ -13,4 +13,4 @@ returns-in-None g c =
     let h = c.args.self.now in
     let same = c.self.invariant.scale ∙ ap (λ (p : Plain). grain p) c.self.view_is in
     absurd (index-inside g.T.Counter.greatest h c.args.bin (rw c.self.view_is at c.self.invariant.plain) c.requires
-        (subst (λ (s : Grain). bin_of s (2 ^ 64 - 1) < c.args.bin) same c.in-None.ensures.value))
+    (subst (λ (s : Grain). bin_of s (2 ^ 64 - 1) < c.args.bin) same c.in-None.ensures.value))

@@ -10,9 +10,9 @@ pub invariant_of-self : goal.invariant_of-self
 invariant_of-self g c =
     let h = shown c.self.inside in
     record {
-        scale = c.self.invariant.scale;
-        block = ap (λ (b : Blocks). b.block) c.clear.ensures ∙ c.self.invariant.block;
-        plain = rw (cleared-parts h c.clear.new.self.numbers (ap (λ (b : Blocks). b.numbers) c.clear.ensures)) (IsPlain-cleared g.T.Counter.greatest h c.self.invariant.plain)
+      scale = c.self.invariant.scale;
+      block = ap (λ (b : Blocks). b.block) c.clear.ensures ∙ c.self.invariant.block;
+      plain = rw (cleared-parts h c.clear.new.self.numbers (ap (λ (b : Blocks). b.numbers) c.clear.ensures)) (IsPlain-cleared g.T.Counter.greatest h c.self.invariant.plain);
     }
 
 pub returns : goal.returns

@@ -34,27 +34,27 @@ loop-bin-preserved g c =
     let at : n ≡ get_or s.counts i 0 = c.as_u64-count.ensures.value ∙ c.get.ensures ∙ ap (λ (p : Plain). get_or p.counts i 0) c.source.view_is in
     let inside : i < length s.counts = omega (arith, ap (λ (p : Plain). length p.counts) c.source.view_is, c.loop-bin-test.true, c.len-bin-end.ensures, c.loop-bin.auto.bin-end) in
     elim c.if-count-gt0.branch [
-        then-count-gt0 w ↦ (
-            let pos : 0 < get_or s.counts i 0 = omega (arith, at, w.if-count-gt0.true) in
-            let le : v ≤ reach k = omega (arith, class-inside s i pos, c.requires, c.loop-bin.invariant.same_reach) in
-            let ts = each (get_or s.counts i 0) (v ∷ missing v t) in
-            let new : c.if-count-gt0.self ≡ recorded_each greatest k ts =
-                w.self-is ∙ w.correct_inside.ensures ∙ ap (λ x. recorded_each greatest k (each n (x ∷ missing x t))) w.class_top.ensures
-                ∙ ap (λ m. recorded_each greatest k (each m (v ∷ missing v t))) at in
-            let values : All (λ (t : Times). t.value ≤ reach k) ts =
-                each-within (reach k) (get_or s.counts i 0) (v ∷ missing v t) (All-cons (λ x. x ≤ reach k) v (missing v t) le (missing-within v t (reach k) le)) in
-            record {
-                made = new ∙ ap (λ (h : Plain). recorded_each greatest h ts) c.loop-bin.invariant.made ∙ corrected-next greatest h (grain s) t s.counts i inside pos;
-                same_reach = ap (λ (h : Plain). reach h) new ∙ reach-each greatest k ts values ∙ c.loop-bin.invariant.same_reach
-            }
-        )
-        | else-count-gt0 w ↦ (
-            let none : get_or s.counts i 0 ≡ 0 = omega (arith, at, w.if-count-gt0.false) in
-            record {
-                made = w.self-is ∙ c.loop-bin.invariant.made ∙ ap (λ ts. recorded_each greatest h ts) (corrected-same greatest h (grain s) t s.counts i inside none);
-                same_reach = ap (λ (h : Plain). reach h) w.self-is ∙ c.loop-bin.invariant.same_reach
-            }
-        )
+      | then-count-gt0 w ↦ (
+          let pos : 0 < get_or s.counts i 0 = omega (arith, at, w.if-count-gt0.true) in
+          let le : v ≤ reach k = omega (arith, class-inside s i pos, c.requires, c.loop-bin.invariant.same_reach) in
+          let ts = each (get_or s.counts i 0) (v ∷ missing v t) in
+          let new : c.if-count-gt0.self ≡ recorded_each greatest k ts =
+          w.self-is ∙ w.correct_inside.ensures ∙ ap (λ x. recorded_each greatest k (each n (x ∷ missing x t))) w.class_top.ensures
+          ∙ ap (λ m. recorded_each greatest k (each m (v ∷ missing v t))) at in
+          let values : All (λ (t : Times). t.value ≤ reach k) ts =
+          each-within (reach k) (get_or s.counts i 0) (v ∷ missing v t) (All-cons (λ x. x ≤ reach k) v (missing v t) le (missing-within v t (reach k) le)) in
+          record {
+            made = new ∙ ap (λ (h : Plain). recorded_each greatest h ts) c.loop-bin.invariant.made ∙ corrected-next greatest h (grain s) t s.counts i inside pos;
+            same_reach = ap (λ (h : Plain). reach h) new ∙ reach-each greatest k ts values ∙ c.loop-bin.invariant.same_reach;
+          }
+          )
+      | else-count-gt0 w ↦ (
+          let none : get_or s.counts i 0 ≡ 0 = omega (arith, at, w.if-count-gt0.false) in
+          record {
+            made = w.self-is ∙ c.loop-bin.invariant.made ∙ ap (λ ts. recorded_each greatest h ts) (corrected-same greatest h (grain s) t s.counts i inside none);
+            same_reach = ap (λ (h : Plain). reach h) w.self-is ∙ c.loop-bin.invariant.same_reach;
+          }
+          )
     ]
 
 pub returns-clause-made : goal.returns-clause-made

@@ -16,8 +16,8 @@ overflow_sub-sum_to g c =
     let from = c.held_bin-from.result in
     let to = c.held_bin-to.result in
     let before : c.if-from-eq0.before ≡ sum (take from xs) = elim c.if-from-eq0.branch [
-        then-from-eq0 w ↦ w.before-is ∙ ap (λ n. sum (take n xs)) (sym w.if-from-eq0.true)
-        | else-from-eq0 w ↦ w.before-is ∙ w.sum_to-before.ensures ∙ ap (λ n. sum (take n xs)) (let e : from - 1 + 1 ≡ from = omega (arith, w.if-from-eq0.false) in e)
+      | then-from-eq0 w ↦ w.before-is ∙ ap (λ n. sum (take n xs)) (sym w.if-from-eq0.true)
+      | else-from-eq0 w ↦ w.before-is ∙ w.sum_to-before.ensures ∙ ap (λ n. sum (take n xs)) (let e : from - 1 + 1 ≡ from = omega (arith, w.if-from-eq0.false) in e)
     ] in
     omega (arith, c.sum_to.ensures, part-sum xs from (to + 1) (omega (arith, c.if-from-to.false)))
 
@@ -28,8 +28,8 @@ returns-clause-value g c =
     let from = c.held_bin-from.result in
     let to = c.held_bin-to.result in
     let before : c.if-from-eq0.before ≡ sum (take from xs) = elim c.if-from-eq0.branch [
-        then-from-eq0 w ↦ w.before-is ∙ ap (λ n. sum (take n xs)) (sym w.if-from-eq0.true)
-        | else-from-eq0 w ↦ w.before-is ∙ w.sum_to-before.ensures ∙ ap (λ n. sum (take n xs)) (let e : from - 1 + 1 ≡ from = omega (arith, w.if-from-eq0.false) in e)
+      | then-from-eq0 w ↦ w.before-is ∙ ap (λ n. sum (take n xs)) (sym w.if-from-eq0.true)
+      | else-from-eq0 w ↦ w.before-is ∙ w.sum_to-before.ensures ∙ ap (λ n. sum (take n xs)) (let e : from - 1 + 1 ≡ from = omega (arith, w.if-from-eq0.false) in e)
     ] in
     let part : c.sum_to.result - c.if-from-eq0.before ≡ sum (slice_range xs from (to + 1)) = omega (arith, c.sum_to.ensures, part-sum xs from (to + 1) (omega (arith, c.if-from-to.false))) in
     c.capped_total.ensures

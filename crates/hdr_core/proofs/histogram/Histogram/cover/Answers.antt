@@ -12,5 +12,5 @@ pub returns-in-Ok-clause-ok : goal.returns-in-Ok-clause-ok
 returns-in-Ok-clause-ok g c =
     let h = c.args.self.now in
     let high : c.reach-2.result ≡ reach_of (grain h) c.args.value =
-        c.reach-2.ensures.value ∙ ap (λ (s : Grain). reach_of s c.args.value) (c.grow.invariant.scale ∙ ap (λ (p : Plain). grain p) c.grow.view_is) in
+    c.reach-2.ensures.value ∙ ap (λ (s : Grain). reach_of s c.args.value) (c.grow.invariant.scale ∙ ap (λ (p : Plain). grain p) c.grow.view_is) in
     c.in-Ok.ensures ∙ ap (λ x. grown h x) high ∙ sym (widened-more h c.args.value (omega (arith, c.reach.ensures, c.if-value-reach.false)))

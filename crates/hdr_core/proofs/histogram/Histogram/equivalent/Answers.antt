@@ -11,6 +11,7 @@ returns g c =
     let same = c.self.invariant.scale ∙ ap (λ (p : Plain). grain p) c.self.view_is in
     let digits = grain-digits g.T.Counter.greatest h (rw c.self.view_is at c.self.invariant.plain) in
     let a : c.bin.result ≡ bin_of (grain h) c.args.a = c.bin.ensures.value ∙ ap (λ (s : Grain). bin_of s c.args.a) same in
-    let b : c.bin-2.result ≡ bin_of (grain h) c.args.b = c.bin-2.ensures.value ∙ ap (λ (s : Grain). bin_of s c.args.b) same in
-    (λ e. bin-equivalent (grain h) c.args.a c.args.b digits (sym a ∙ eqb-true c.bin.result c.bin-2.result e ∙ b),
-    λ e. eq-eqb c.bin.result c.bin-2.result (a ∙ equivalent-bin (grain h) c.args.a c.args.b digits e ∙ sym b))
+    let b : c.bin-2.result ≡ bin_of (grain h) c.args.b = c.bin-2.ensures.value ∙ ap (λ (s : Grain). bin_of s c.args.b) same in (
+      λ e. bin-equivalent (grain h) c.args.a c.args.b digits (sym a ∙ eqb-true c.bin.result c.bin-2.result e ∙ b),
+      λ e. eq-eqb c.bin.result c.bin-2.result (a ∙ equivalent-bin (grain h) c.args.a c.args.b digits e ∙ sym b),
+    )

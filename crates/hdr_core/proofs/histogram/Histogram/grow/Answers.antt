@@ -27,9 +27,9 @@ invariant_of-self-2 g c =
     let n = blocks-are c.self.inside.scale (grain h) c.args.high c.buckets.result c.self.inside.counts.block c.self.invariant.scale c.buckets.ensures.value c.self.invariant.block (grain-digits g.T.Counter.greatest h c.self.invariant.plain) in
     let new = grown-parts h c.args.high ((c.buckets.result + 1) * c.self.inside.counts.block) c.grow.new.self.numbers n (ap (λ (b : Blocks). b.numbers) c.in_ok-grow.ensures) in
     record {
-        scale = c.self.invariant.scale;
-        block = ap (λ (b : Blocks). b.block) c.in_ok-grow.ensures ∙ c.self.invariant.block;
-        plain = rw new (IsPlain-grown g.T.Counter.greatest h c.args.high c.self.invariant.plain (omega arith) past)
+      scale = c.self.invariant.scale;
+      block = ap (λ (b : Blocks). b.block) c.in_ok-grow.ensures ∙ c.self.invariant.block;
+      plain = rw new (IsPlain-grown g.T.Counter.greatest h c.args.high c.self.invariant.plain (omega arith) past);
     }
 
 pub returns : goal.returns

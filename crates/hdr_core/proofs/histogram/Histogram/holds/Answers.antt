@@ -38,12 +38,12 @@ returns-then-sum-from-clause-no g c =
     let target = c.bin_of_class-target.result in
     let before = c.if-target-at.before in
     let same : target ≡ c.loop-bin.at → before ≡ c.loop-bin.sum = λ e. elim c.if-target-at.branch [
-        then-target-at v ↦ v.before-is
-        | else-target-at v ↦ absurd (v.if-target-at.false e)
+      | then-target-at v ↦ v.before-is
+      | else-target-at v ↦ absurd (v.if-target-at.false e)
     ] in
     let other : target ≢ c.loop-bin.at → before ≡ 0 = λ n. elim c.if-target-at.branch [
-        then-target-at v ↦ absurd (n v.if-target-at.true)
-        | else-target-at v ↦ v.before-is
+      | then-target-at v ↦ absurd (n v.if-target-at.true)
+      | else-target-at v ↦ v.before-is
     ] in
     let mf = grain-digits greatest s q in
     let mg = grain-digits greatest h p in
@@ -62,31 +62,31 @@ loop-bin-preserved g c =
     let inside : i < length s.counts = omega (arith, ap (λ (p : Plain). length p.counts) c.other.view_is, c.loop-bin-test.true, c.len-bin-end.ensures, c.loop-bin.auto.bin-end) in
     let at : c.as_u64-count.result ≡ get_or s.counts i 0 = c.as_u64-count.ensures.value ∙ c.get.ensures ∙ ap (λ (p : Plain). get_or p.counts i 0) c.other.view_is in
     elim c.if-count-gt0.branch [
-        then-count-gt0+else-sum-from w ↦ (
-    let pos : 0 < get_or s.counts i 0 = omega (arith, at, w.if-count-gt0.true) in
-    let target = w.bin_of_class-target.result in
-    let before = w.if-target-at.before in
-    let same : target ≡ c.loop-bin.at → before ≡ c.loop-bin.sum = λ e. elim w.if-target-at.branch [
-        then-target-at v ↦ v.before-is
-        | else-target-at v ↦ absurd (v.if-target-at.false e)
-    ] in
-    let other : target ≢ c.loop-bin.at → before ≡ 0 = λ n. elim w.if-target-at.branch [
-        then-target-at v ↦ absurd (n v.if-target-at.true)
-        | else-target-at v ↦ v.before-is
-    ] in
-    let mf = grain-digits greatest s q in
-    let mg = grain-digits greatest h p in
-    let number : get_or c.self.inside.counts.numbers target 0 ≡ get_or h.counts target 0 = ap (λ (p : Plain). get_or p.counts target 0) c.self.view_is in
-    let sum : c.if-count-gt0.sum ≡ before + get_or s.counts i 0 = omega (arith, w.sum-is, w.from.ensures, at) in
-    let fits : before + get_or s.counts i 0 ≤ get_or h.counts target 0 = omega (arith, sum, w.sum-is, number, w.get-then-count-gt0.ensures, w.as_u64.ensures.value, w.from-then-count-gt0.ensures, w.if-sum-from.false) in
-    let next = tested-next (grain h) (grain s) h.counts s.counts i c.loop-bin.at c.loop-bin.sum before target mf mg inside pos c.loop-bin.invariant w.bin_of_class-target.ensures.value same other fits in
-    subst (λ a. IsTested (grain h) (grain s) h.counts s.counts (i + 1) a c.if-count-gt0.sum) (sym w.at-is) (subst (λ k. IsTested (grain h) (grain s) h.counts s.counts (i + 1) target k) (sym sum) next)
-        )
-        | else-count-gt0 w ↦ (
-            let none : get_or s.counts i 0 ≡ 0 = omega (arith, at, w.if-count-gt0.false) in
-            let next = tested-same (grain h) (grain s) h.counts s.counts i c.loop-bin.at c.loop-bin.sum inside none c.loop-bin.invariant in
-            subst (λ a. IsTested (grain h) (grain s) h.counts s.counts (i + 1) a c.if-count-gt0.sum) (sym w.at-is) (subst (λ k. IsTested (grain h) (grain s) h.counts s.counts (i + 1) c.loop-bin.at k) (sym w.sum-is) next)
-        )
+      | then-count-gt0+else-sum-from w ↦ (
+          let pos : 0 < get_or s.counts i 0 = omega (arith, at, w.if-count-gt0.true) in
+          let target = w.bin_of_class-target.result in
+          let before = w.if-target-at.before in
+          let same : target ≡ c.loop-bin.at → before ≡ c.loop-bin.sum = λ e. elim w.if-target-at.branch [
+            | then-target-at v ↦ v.before-is
+            | else-target-at v ↦ absurd (v.if-target-at.false e)
+          ] in
+          let other : target ≢ c.loop-bin.at → before ≡ 0 = λ n. elim w.if-target-at.branch [
+            | then-target-at v ↦ absurd (n v.if-target-at.true)
+            | else-target-at v ↦ v.before-is
+          ] in
+          let mf = grain-digits greatest s q in
+          let mg = grain-digits greatest h p in
+          let number : get_or c.self.inside.counts.numbers target 0 ≡ get_or h.counts target 0 = ap (λ (p : Plain). get_or p.counts target 0) c.self.view_is in
+          let sum : c.if-count-gt0.sum ≡ before + get_or s.counts i 0 = omega (arith, w.sum-is, w.from.ensures, at) in
+          let fits : before + get_or s.counts i 0 ≤ get_or h.counts target 0 = omega (arith, sum, w.sum-is, number, w.get-then-count-gt0.ensures, w.as_u64.ensures.value, w.from-then-count-gt0.ensures, w.if-sum-from.false) in
+          let next = tested-next (grain h) (grain s) h.counts s.counts i c.loop-bin.at c.loop-bin.sum before target mf mg inside pos c.loop-bin.invariant w.bin_of_class-target.ensures.value same other fits in
+          subst (λ a. IsTested (grain h) (grain s) h.counts s.counts (i + 1) a c.if-count-gt0.sum) (sym w.at-is) (subst (λ k. IsTested (grain h) (grain s) h.counts s.counts (i + 1) target k) (sym sum) next)
+          )
+      | else-count-gt0 w ↦ (
+          let none : get_or s.counts i 0 ≡ 0 = omega (arith, at, w.if-count-gt0.false) in
+          let next = tested-same (grain h) (grain s) h.counts s.counts i c.loop-bin.at c.loop-bin.sum inside none c.loop-bin.invariant in
+          subst (λ a. IsTested (grain h) (grain s) h.counts s.counts (i + 1) a c.if-count-gt0.sum) (sym w.at-is) (subst (λ k. IsTested (grain h) (grain s) h.counts s.counts (i + 1) c.loop-bin.at k) (sym w.sum-is) next)
+          )
     ]
 
 pub returns-clause-yes : goal.returns-clause-yes

@@ -15,10 +15,10 @@ invariant_of-self g c =
     let same : length h.counts ≡ length s.counts = (ap (λ (p : Plain). length p.counts) c.self.view_is) ∙ (same-bins c.args.self.now c.args.source.now c.requires).1 ∙ sym (ap (λ (p : Plain). length p.counts) c.source.view_is) in
     let numbers : c.add_capped.new.self.numbers ≡ capped_sums greatest h.counts s.counts = ap (λ (b : Blocks). b.numbers) c.add_capped.ensures in
     record {
-        scale = c.self.invariant.scale;
-        block = ap (λ (b : Blocks). b.block) c.add_capped.ensures ∙ c.self.invariant.block;
-        plain = rw (numbers, c.same-self-inside.ensures)
-            (IsPlain-taken greatest g.F.Counter.greatest h s g.met.T.Counter.one_fits same c.self.invariant.plain c.source.invariant.plain c.if-self-eq0.true)
+      scale = c.self.invariant.scale;
+      block = ap (λ (b : Blocks). b.block) c.add_capped.ensures ∙ c.self.invariant.block;
+      plain = rw (numbers, c.same-self-inside.ensures)
+          (IsPlain-taken greatest g.F.Counter.greatest h s g.met.T.Counter.one_fits same c.self.invariant.plain c.source.invariant.plain c.if-self-eq0.true);
     }
 
 pub invariant_of-self-else-self-eq0 : goal.invariant_of-self-else-self-eq0
@@ -30,10 +30,10 @@ invariant_of-self-else-self-eq0 g c =
     let numbers : c.add_capped.new.self.numbers ≡ capped_sums greatest h.counts s.counts = ap (λ (b : Blocks). b.numbers) c.add_capped.ensures in
     let total : c.saturating_add-self-inside.result ≡ min (h.total + min (sum s.counts) (2 ^ 64 - 1)) (2 ^ 64 - 1) = c.saturating_add-self-inside.ensures ∙ ap (λ k. min (h.total + k) (2 ^ 64 - 1)) c.capped_sum.ensures in
     record {
-        scale = c.self.invariant.scale;
-        block = ap (λ (b : Blocks). b.block) c.add_capped.ensures ∙ c.self.invariant.block;
-        plain = rw (numbers, total, c.widen_by.ensures)
-            (IsPlain-summed greatest g.F.Counter.greatest h s g.met.T.Counter.one_fits same c.self.invariant.plain c.source.invariant.plain c.if-self-eq0.false)
+      scale = c.self.invariant.scale;
+      block = ap (λ (b : Blocks). b.block) c.add_capped.ensures ∙ c.self.invariant.block;
+      plain = rw (numbers, total, c.widen_by.ensures)
+          (IsPlain-summed greatest g.F.Counter.greatest h s g.met.T.Counter.one_fits same c.self.invariant.plain c.source.invariant.plain c.if-self-eq0.false);
     }
 
 pub returns-then-self-eq0 : goal.returns-then-self-eq0

@@ -18,9 +18,9 @@ invariant_of-result g c =
     let n = blocks-are c.source.inside.scale gr s.high c.buckets.result c.block.result same c.buckets.ensures.value block (digits-pos-of s.low s.sigfig) in
     let made = empty-by s.low s.high s.sigfig (c.buckets.result + 1) c.block.result s.auto_resize c.in-Ok.counts.numbers (ap (λ (b : Blocks). b.numbers) c.in-Ok.ensures) n in
     record {
-        scale = same;
-        block = ap (λ (b : Blocks). b.block) c.in-Ok.ensures ∙ block;
-        plain = rw (c.none.ensures, made) (IsPlain-empty g.T.Counter.greatest s.low s.high s.sigfig s.auto_resize c.source.invariant.plain.scale c.source.invariant.plain.high_fits)
+      scale = same;
+      block = ap (λ (b : Blocks). b.block) c.in-Ok.ensures ∙ block;
+      plain = rw (c.none.ensures, made) (IsPlain-empty g.T.Counter.greatest s.low s.high s.sigfig s.auto_resize c.source.invariant.plain.scale c.source.invariant.plain.high_fits);
     }
 
 pub returns-clause-made : goal.returns-clause-made

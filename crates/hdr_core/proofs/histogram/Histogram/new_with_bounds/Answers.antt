@@ -17,9 +17,9 @@ invariant_of-result g c =
     let n = blocks-are c.in-Some.scale gr c.args.high c.buckets.result c.block.result same c.buckets.ensures.value block (digits-pos-of c.args.low c.args.sigfig) in
     let made = empty-by c.args.low c.args.high c.args.sigfig (c.buckets.result + 1) c.block.result false c.in-Ok.counts.numbers (ap (λ (b : Blocks). b.numbers) c.in-Ok.ensures) n in
     record {
-        scale = same;
-        block = ap (λ (b : Blocks). b.block) c.in-Ok.ensures ∙ block;
-        plain = rw (c.none.ensures, made) (IsPlain-empty g.T.Counter.greatest c.args.low c.args.high c.args.sigfig false c.in-Some.ensures.scale.0 (omega arith))
+      scale = same;
+      block = ap (λ (b : Blocks). b.block) c.in-Ok.ensures ∙ block;
+      plain = rw (c.none.ensures, made) (IsPlain-empty g.T.Counter.greatest c.args.low c.args.high c.args.sigfig false c.in-Some.ensures.scale.0 (omega arith));
     }
 
 pub returns : goal.returns

@@ -34,23 +34,23 @@ loop-bin-preserved g c =
     let at : n ≡ get_or s.counts i 0 = c.as_u64-count.ensures.value ∙ c.get.ensures ∙ ap (λ (p : Plain). get_or p.counts i 0) c.source.view_is in
     let inside : i < length s.counts = omega (arith, ap (λ (p : Plain). length p.counts) c.source.view_is, c.loop-bin-test.true, c.len-bin-end.ensures, c.loop-bin.auto.bin-end) in
     elim c.if-count-gt0.branch [
-        then-count-gt0 w ↦ (
-            let pos : 0 < get_or s.counts i 0 = omega (arith, at, w.if-count-gt0.true) in
-            let le : v ≤ reach c.loop-bin.self = omega (arith, number-le-max most s i v q pos (bin-value_of (grain s) i (grain-digits most s q)), c.requires, c.loop-bin.invariant.same_reach) in
-            let new : c.if-count-gt0.self ≡ recorded greatest c.loop-bin.self v n = w.self-is ∙ w.record_inside.ensures ∙ ap (λ x. recorded greatest c.loop-bin.self x n) w.class_value.ensures in
-            record {
-                made = new ∙ ap (λ k. recorded greatest c.loop-bin.self v k) at ∙ ap (λ (h : Plain). recorded greatest h v (get_or s.counts i 0)) before
-                    ∙ classes-next greatest h (grain s) s.counts i inside pos;
-                same_reach = ap (λ (h : Plain). reach h) new ∙ reach-recorded greatest c.loop-bin.self v n le ∙ c.loop-bin.invariant.same_reach
-            }
-        )
-        | else-count-gt0 w ↦ (
-            let none : get_or s.counts i 0 ≡ 0 = omega (arith, at, w.if-count-gt0.false) in
-            record {
-                made = w.self-is ∙ before ∙ ap (λ ts. recorded_each greatest h ts) (classes-same greatest h (grain s) s.counts i inside none);
-                same_reach = ap (λ (h : Plain). reach h) w.self-is ∙ c.loop-bin.invariant.same_reach
-            }
-        )
+      | then-count-gt0 w ↦ (
+          let pos : 0 < get_or s.counts i 0 = omega (arith, at, w.if-count-gt0.true) in
+          let le : v ≤ reach c.loop-bin.self = omega (arith, number-le-max most s i v q pos (bin-value_of (grain s) i (grain-digits most s q)), c.requires, c.loop-bin.invariant.same_reach) in
+          let new : c.if-count-gt0.self ≡ recorded greatest c.loop-bin.self v n = w.self-is ∙ w.record_inside.ensures ∙ ap (λ x. recorded greatest c.loop-bin.self x n) w.class_value.ensures in
+          record {
+            made = new ∙ ap (λ k. recorded greatest c.loop-bin.self v k) at ∙ ap (λ (h : Plain). recorded greatest h v (get_or s.counts i 0)) before
+                ∙ classes-next greatest h (grain s) s.counts i inside pos;
+            same_reach = ap (λ (h : Plain). reach h) new ∙ reach-recorded greatest c.loop-bin.self v n le ∙ c.loop-bin.invariant.same_reach;
+          }
+          )
+      | else-count-gt0 w ↦ (
+          let none : get_or s.counts i 0 ≡ 0 = omega (arith, at, w.if-count-gt0.false) in
+          record {
+            made = w.self-is ∙ before ∙ ap (λ ts. recorded_each greatest h ts) (classes-same greatest h (grain s) s.counts i inside none);
+            same_reach = ap (λ (h : Plain). reach h) w.self-is ∙ c.loop-bin.invariant.same_reach;
+          }
+          )
     ]
 
 pub class_value-requires-in-Some : goal.class_value-requires-in-Some

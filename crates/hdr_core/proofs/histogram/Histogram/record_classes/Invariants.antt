@@ -6,6 +6,6 @@ use Rattle.hdr_core.proofs.histogram.Histogram.record_classes.Given as goal
 
 abbrev pub invariant-loop-bin : goal.invariant-loop-bin
 invariant-loop-bin g l = record {
-    made : l.self ≡ recorded_each g.T.Counter.greatest l.initial.self (classes_from (grain l.source) 0 (take l.bin l.source.counts));
-    same_reach : reach l.self ≡ reach l.initial.self
+  made : l.self ≡ recorded_each g.T.Counter.greatest l.initial.self (classes_from (grain l.source) 0 (take l.bin l.source.counts));
+  same_reach : reach l.self ≡ reach l.initial.self;
 }

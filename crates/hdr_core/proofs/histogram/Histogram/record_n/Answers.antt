@@ -16,12 +16,12 @@ returns-clause-ok g c =
     let v = c.args.value in
     let count : c.from.result ≡ n = c.from.ensures ∙ c.as_u64.ensures.value in
     c.add_to_bin.ensures ∙ ap (λ k. added g.T.Counter.greatest c.match-bin_of.self c.match-bin_of.bin k) count ∙ elim c.match-bin_of.branch [
-        in-Some w ↦
-            ap (λ (s : Plain). added g.T.Counter.greatest s c.match-bin_of.bin n) (w.self-is ∙ sym (widened-same h v w.in-Some.ensures.value.0))
-            ∙ ap (λ b. added g.T.Counter.greatest (widened h v) b n) (w.bin-is ∙ w.in-Some.ensures.value.1)
-        | in-None+else-not-self+in_ok-bin-in-None w ↦
-            ap (λ (s : Plain). added g.T.Counter.greatest s c.match-bin_of.bin n) (w.self-is ∙ w.in_ok-bin-in-None.ensures.ok.0)
-            ∙ ap (λ b. added g.T.Counter.greatest (widened h v) b n) (w.bin-is ∙ w.in_ok-bin-in-None.ensures.ok.1)
+      | in-Some w ↦
+          ap (λ (s : Plain). added g.T.Counter.greatest s c.match-bin_of.bin n) (w.self-is ∙ sym (widened-same h v w.in-Some.ensures.value.0))
+          ∙ ap (λ b. added g.T.Counter.greatest (widened h v) b n) (w.bin-is ∙ w.in-Some.ensures.value.1)
+      | in-None+else-not-self+in_ok-bin-in-None w ↦
+          ap (λ (s : Plain). added g.T.Counter.greatest s c.match-bin_of.bin n) (w.self-is ∙ w.in_ok-bin-in-None.ensures.ok.0)
+          ∙ ap (λ b. added g.T.Counter.greatest (widened h v) b n) (w.bin-is ∙ w.in_ok-bin-in-None.ensures.ok.1)
     ]
 
 pub returns-clause-samples : goal.returns-clause-samples

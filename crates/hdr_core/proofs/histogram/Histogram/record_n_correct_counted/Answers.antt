@@ -53,13 +53,13 @@ returns-then-interval-gt0-clause-samples g c = λ S stands fits.
     let i = c.args.interval in
     let list : down_to c.saturating_sub.result i ≡ missing v i = ap (λ x. down_to x i) c.saturating_sub.ensures ∙ sym (missing-down v i (omega arith)) in
     let joined : S ++ spread (each n (v ∷ missing v i)) ≡ (S ++ replicate n v) ++ spread (each c.as_u64.result (down_to c.saturating_sub.result i)) =
-        sym (append_assoc S (replicate n v) (spread (each n (missing v i)))) ∙ ap (λ xs. (S ++ replicate n v) ++ spread (each n xs)) (sym list)
-        ∙ ap (λ k. (S ++ replicate n v) ++ spread (each k (down_to c.saturating_sub.result i))) (sym c.as_u64.ensures.value) in
+    sym (append_assoc S (replicate n v) (spread (each n (missing v i)))) ∙ ap (λ xs. (S ++ replicate n v) ++ spread (each n xs)) (sym list)
+    ∙ ap (λ k. (S ++ replicate n v) ++ spread (each k (down_to c.saturating_sub.result i))) (sym c.as_u64.ensures.value) in
     let all = subst (λ xs. Fits greatest (grain c.args.self.now) xs) joined fits in
     let first = c.in_ok-record_n.ensures.samples S stands (Fits-front greatest (grain c.args.self.now) (S ++ replicate n v) _ all) in
     let same : grain c.record_n.new.self ≡ grain c.args.self.now = ap (λ (h : Plain). grain h) c.in_ok-record_n.ensures.ok ∙ grain-recorded greatest c.args.self.now v n in
     subst (λ xs. StandsFor c.add_missing.new.self xs) (sym joined)
-        (c.add_missing.ensures.samples (S ++ replicate n v) first (subst (λ (k : Grain). Fits greatest k ((S ++ replicate n v) ++ spread (each c.as_u64.result (down_to c.saturating_sub.result i)))) (sym same) all))
+    (c.add_missing.ensures.samples (S ++ replicate n v) first (subst (λ (k : Grain). Fits greatest k ((S ++ replicate n v) ++ spread (each c.as_u64.result (down_to c.saturating_sub.result i)))) (sym same) all))
 
 pub returns-then-interval-gt0-clause-high : goal.returns-then-interval-gt0-clause-high
 returns-then-interval-gt0-clause-high g c =
@@ -78,7 +78,7 @@ returns-else-interval-gt0-clause-ticks g c =
     let h = c.record_n.new.self in
     let none : missing c.args.value c.args.interval ≡ [] = ap (λ i. missing c.args.value i) (let e : c.args.interval ≡ 0 = omega arith in e) ∙ missing-none c.args.value in
     let no_class : classes_held (grain h) (length h.counts) (missing c.args.value c.args.interval) ≡ 0 =
-        ap (λ xs. classes_held (grain h) (length h.counts) xs) none ∙ held-none (grain h) (length h.counts) in
+    ap (λ xs. classes_held (grain h) (length h.counts) xs) none ∙ held-none (grain h) (length h.counts) in
     omega arith
 
 pub returns-else-interval-gt0-clause-samples : goal.returns-else-interval-gt0-clause-samples
@@ -87,6 +87,6 @@ returns-else-interval-gt0-clause-samples g c = λ S stands fits.
     let v = c.args.value in
     let none : missing v c.args.interval ≡ [] = ap (λ i. missing v i) (let e : c.args.interval ≡ 0 = omega arith in e) ∙ missing-none v in
     let list : S ++ spread (each n (v ∷ missing v c.args.interval)) ≡ S ++ replicate n v =
-        ap (λ xs. S ++ (replicate n v ++ spread (each n xs))) none ∙ ap (λ xs. S ++ xs) (append-nil (replicate n v)) in
+    ap (λ xs. S ++ (replicate n v ++ spread (each n xs))) none ∙ ap (λ xs. S ++ xs) (append-nil (replicate n v)) in
     subst (λ xs. StandsFor c.record_n.new.self xs) (sym list)
-        (c.in_ok-record_n.ensures.samples S stands (subst (λ xs. Fits g.T.Counter.greatest (grain c.args.self.now) xs) list fits))
+    (c.in_ok-record_n.ensures.samples S stands (subst (λ xs. Fits g.T.Counter.greatest (grain c.args.self.now) xs) list fits))

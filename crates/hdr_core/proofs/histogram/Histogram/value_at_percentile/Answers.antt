@@ -11,8 +11,8 @@ returns-clause-value g c =
     let h = c.args.self.now in
     let q : Ratio = (record { num = c.args.percentile.num; den = c.args.percentile.den * 100 }) in
     let rank_is : c.rank_of-rank.result ≡ rank q h.total =
-        c.rank_of-rank.ensures.value ∙ ap (λ n. rank (record { num = n; den = c.from.result * 100 }) c.self.inside.total) c.num.ensures
-        ∙ ap (λ d. rank (record { num = q.num; den = d }) c.self.inside.total) (ap (λ d. d * 100) (c.from.ensures ∙ c.den.ensures.value)) ∙ ap (λ (p : Plain). rank q p.total) c.self.view_is in
+    c.rank_of-rank.ensures.value ∙ ap (λ n. rank (record { num = n; den = c.from.result * 100 }) c.self.inside.total) c.num.ensures
+    ∙ ap (λ d. rank (record { num = q.num; den = d }) c.self.inside.total) (ap (λ d. d * 100) (c.from.ensures ∙ c.den.ensures.value)) ∙ ap (λ (p : Plain). rank q p.total) c.self.view_is in
     c.answer.ensures ∙ ap (λ n. answer_at (grain h) n c.first_reaching.result) c.num-2.ensures
     ∙ ap (λ o. answer_at (grain h) q.num o) (c.first_reaching.ensures.place ∙ ap (λ r. first_reaching h.counts r) rank_is)
 

@@ -12,8 +12,8 @@ returns-clause-value g c =
     let h = c.args.self.now in
     let q : Ratio = c.args.quantile in
     let rank_is : c.rank_of-rank.result ≡ rank q h.total =
-        c.rank_of-rank.ensures.value ∙ ap (λ n. rank (record { num = n; den = c.from.result }) c.self.inside.total) c.num.ensures
-        ∙ ap (λ d. rank (record { num = q.num; den = d }) c.self.inside.total) ((c.from.ensures ∙ c.den.ensures.value)) ∙ ap (λ (p : Plain). rank q p.total) c.self.view_is in
+    c.rank_of-rank.ensures.value ∙ ap (λ n. rank (record { num = n; den = c.from.result }) c.self.inside.total) c.num.ensures
+    ∙ ap (λ d. rank (record { num = q.num; den = d }) c.self.inside.total) ((c.from.ensures ∙ c.den.ensures.value)) ∙ ap (λ (p : Plain). rank q p.total) c.self.view_is in
     c.answer.ensures ∙ ap (λ n. answer_at (grain h) n c.find-place.result) c.num-2.ensures
     ∙ ap (λ o. answer_at (grain h) q.num o) (c.find-place.ensures.place ∙ ap (λ r. first_reaching h.counts r) rank_is)
 
@@ -26,6 +26,6 @@ returns-clause-looks g c =
     let h = c.args.self.now in
     let q : Ratio = c.args.quantile in
     let rank_is : c.rank_of-rank.result ≡ rank q h.total =
-        c.rank_of-rank.ensures.value ∙ ap (λ n. rank (record { num = n; den = c.from.result }) c.self.inside.total) c.num.ensures
-        ∙ ap (λ d. rank (record { num = q.num; den = d }) c.self.inside.total) (c.from.ensures ∙ c.den.ensures.value) ∙ ap (λ (p : Plain). rank q p.total) c.self.view_is in
+    c.rank_of-rank.ensures.value ∙ ap (λ n. rank (record { num = n; den = c.from.result }) c.self.inside.total) c.num.ensures
+    ∙ ap (λ d. rank (record { num = q.num; den = d }) c.self.inside.total) (c.from.ensures ∙ c.den.ensures.value) ∙ ap (λ (p : Plain). rank q p.total) c.self.view_is in
     c.find-place.ensures.looks ∙ ap (λ o. c.args.ticks.now + looks (block_of h) (length h.counts) o) (c.find-place.ensures.place ∙ ap (λ r. first_reaching h.counts r) rank_is)

@@ -10,7 +10,7 @@ returns c =
     let i = c.args.class in
     let top : top_by c.max-self-inside.result ≡ later_mark (top_by m.classes) i = top-later m.classes i c.max-self-inside.result c.max-self-inside.ensures in
     let lower : lower_by c.min-self-inside.result ≡ earlier_mark (lower_by m.before) i =
-        lower-earlier m.before i ((i + 18446744073709551615) % 18446744073709551616) c.min-self-inside.result (omega (arith, c.self.invariant)) (λ e. omega (arith, e)) (λ p. omega (arith, p, c.requires)) (omega (arith, c.requires)) c.min-self-inside.ensures in
+    lower-earlier m.before i ((i + 18446744073709551615) % 18446744073709551616) c.min-self-inside.result (omega (arith, c.self.invariant)) (λ e. omega (arith, e)) (λ p. omega (arith, p, c.requires)) (omega (arith, c.requires)) c.min-self-inside.ensures in
     ap (λ (o : Option ℕ). record { top = o; lower = lower_by c.min-self-inside.result }) top
     ∙ ap (λ (o : Option ℕ). record { top = later_mark (top_by m.classes) i; lower = o }) lower
     ∙ ap (λ (v : Marked). record { top = later_mark v.top i; lower = earlier_mark v.lower i }) c.self.view_is

@@ -10,7 +10,7 @@ returns c =
     let n = c.other.inside in
     let top : top_by c.max-self-inside.result ≡ later_of (top_by m.classes) (top_by n.classes) = top-later_of m.classes n.classes c.max-self-inside.result c.max-self-inside.ensures in
     let lower : lower_by c.min-self-inside.result ≡ earlier_of (lower_by m.before) (lower_by n.before) =
-        lower-earlier_of m.before n.before c.min-self-inside.result (omega (arith, c.self.invariant)) (omega (arith, c.other.invariant)) c.min-self-inside.ensures in
+    lower-earlier_of m.before n.before c.min-self-inside.result (omega (arith, c.self.invariant)) (omega (arith, c.other.invariant)) c.min-self-inside.ensures in
     ap (λ (o : Option ℕ). record { top = o; lower = lower_by c.min-self-inside.result }) top
     ∙ ap (λ (o : Option ℕ). record { top = later_of (top_by m.classes) (top_by n.classes); lower = o }) lower
     ∙ ap (λ (v : Marked). record { top = later_of v.top (top_by n.classes); lower = earlier_of v.lower (lower_by n.before) }) c.self.view_is
