@@ -21,6 +21,3 @@ pub use call::{Call, CallError, RunError};
 pub use errors::{AdditionError, CreationError, RecordError, SubtractionError, UsizeTypeTooSmall};
 pub use hdr_base::{Counter, Fraction, Quantile, Ticks};
 pub use histogram::Histogram;
-
-#[cfg(test)]
-mod tests;

@@ -1,8 +1,8 @@
 //! The texts of errors.
 
-use crate::call::{CallError, RunError};
-use crate::errors::{
-    AdditionError, CreationError, RecordError, SubtractionError, UsizeTypeTooSmall,
+use hdr_core::{
+    AdditionError, CallError, CreationError, RecordError, RunError, SubtractionError,
+    UsizeTypeTooSmall,
 };
 use std::test::Fail;
 
@@ -93,5 +93,20 @@ fn merging_texts(rt: HostRuntime) -> Result<(), Fail> {
     for (error, text) in rows {
         assert_eq!(rt; error.to_string(rt.alloc())?.as_str(), text);
     }
+    Ok(())
+}
+
+#[test]
+fn texts_of_runs(rt: HostRuntime) -> Result<(), Fail> {
+    let added = CallError::Addition(AdditionError::OutOfMemory);
+    assert_eq!(rt; added.to_string(rt.alloc())?.as_str(), "Out of memory");
+    let error = RunError {
+        at: 12,
+        cause: CallError::Record(RecordError::ValueOutOfRangeResizeDisabled),
+    };
+    assert_eq!(rt;
+        error.to_string(rt.alloc())?.as_str(),
+        "Call 12 was refused: The value to record is not representable in this histogram and resizing is disabled"
+    );
     Ok(())
 }

@@ -3,35 +3,47 @@
 
 ghost use Rattle.std.specs.Prelude.{◌^◌, ◌≤◌};
 
-use crate::call::{Call, CallError, RunError};
-use crate::errors::{AdditionError, CreationError, RecordError, SubtractionError};
-use crate::histogram;
 use hdr_base::{Counter, Quantile, Ticks};
+use hdr_core::{
+    AdditionError, Call, CallError, CreationError, RecordError, RunError, SubtractionError,
+};
 use std::alloc::Global;
 
 #[derive(Drop)]
 pub struct Histogram<T: Counter> {
-    pub inner: histogram::Histogram<T>,
+    pub inner: hdr_core::Histogram<T>,
 }
 
 impl<T: Counter> Histogram<T> {
     pub fn new(alloc: Global, sigfig: u8) -> Result<Histogram<T>, CreationError> {
-        let inner = histogram::Histogram::new(alloc, sigfig)?;
+        let inner = hdr_core::Histogram::new(alloc, sigfig)?;
         Ok(Histogram { inner })
     }
 
-    pub fn new_with_max(alloc: Global, high: u64, sigfig: u8) -> Result<Histogram<T>, CreationError> {
-        let inner = histogram::Histogram::new_with_max(alloc, high, sigfig)?;
+    pub fn new_with_max(
+        alloc: Global,
+        high: u64,
+        sigfig: u8,
+    ) -> Result<Histogram<T>, CreationError> {
+        let inner = hdr_core::Histogram::new_with_max(alloc, high, sigfig)?;
         Ok(Histogram { inner })
     }
 
-    pub fn new_with_bounds(alloc: Global, low: u64, high: u64, sigfig: u8) -> Result<Histogram<T>, CreationError> {
-        let inner = histogram::Histogram::new_with_bounds(alloc, low, high, sigfig)?;
+    pub fn new_with_bounds(
+        alloc: Global,
+        low: u64,
+        high: u64,
+        sigfig: u8,
+    ) -> Result<Histogram<T>, CreationError> {
+        let inner = hdr_core::Histogram::new_with_bounds(alloc, low, high, sigfig)?;
         Ok(Histogram { inner })
     }
 
-    pub fn new_from<F: Counter>(alloc: Global, source: &Histogram<F>) -> Result<Histogram<T>, CreationError> {
-        let inner = histogram::Histogram::new_from(alloc, &source.inner)?;
+    pub fn new_from<F: Counter>(
+        alloc: Global,
+        source: &Histogram<F>,
+    ) -> Result<Histogram<T>, CreationError> {
+        let inner = hdr_core::Histogram::new_from(alloc, &source.inner)?;
         Ok(Histogram { inner })
     }
 
@@ -51,10 +63,17 @@ impl<T: Counter> Histogram<T> {
         self.inner.value_at_quantile_counted(quantile, ticks)
     }
 
-    pub fn record_n_correct_counted(&mut self, value: u64, count: T, interval: u64, ticks: &mut Ticks) -> Result<(), RecordError>
+    pub fn record_n_correct_counted(
+        &mut self,
+        value: u64,
+        count: T,
+        interval: u64,
+        ticks: &mut Ticks,
+    ) -> Result<(), RecordError>
         requires { ticks.old ≤ 2 ^ 63 }
     {
-        self.inner.record_n_correct_counted(value, count, interval, ticks)
+        self.inner
+            .record_n_correct_counted(value, count, interval, ticks)
     }
 
     pub fn is(&self, other: &Histogram<T>) -> bool {
@@ -181,7 +200,12 @@ impl<T: Counter> Histogram<T> {
         self.inner.record_correct(value, interval)
     }
 
-    pub fn record_n_correct(&mut self, value: u64, count: T, interval: u64) -> Result<(), RecordError> {
+    pub fn record_n_correct(
+        &mut self,
+        value: u64,
+        count: T,
+        interval: u64,
+    ) -> Result<(), RecordError> {
         self.inner.record_n_correct(value, count, interval)
     }
 
@@ -217,11 +241,19 @@ impl<T: Counter> Histogram<T> {
         self.inner.add_correct(&source.inner, interval)
     }
 
-    pub fn add_correct_from<F: Counter>(&mut self, source: &Histogram<F>, interval: u64) -> Result<(), RecordError> {
+    pub fn add_correct_from<F: Counter>(
+        &mut self,
+        source: &Histogram<F>,
+        interval: u64,
+    ) -> Result<(), RecordError> {
         self.inner.add_correct_from(&source.inner, interval)
     }
 
-    pub fn set_to_corrected(&mut self, source: &Histogram<T>, interval: u64) -> Result<(), RecordError> {
+    pub fn set_to_corrected(
+        &mut self,
+        source: &Histogram<T>,
+        interval: u64,
+    ) -> Result<(), RecordError> {
         self.inner.set_to_corrected(&source.inner, interval)
     }
 

@@ -1,0 +1,143 @@
+//! Workloads on numbers alone, which a benchmark times beside another program. Each call makes its histograms, does an
+//! operation `n` times and answers a checksum, and 0 where memory was refused.
+#![tactic(auto)]
+
+ghost use Rattle.std.specs.Prelude.{◌<◌, ◌^◌, ◌≤◌};
+
+use hdrhistogram::serialization::V2Serializer;
+use hdrhistogram::{Histogram, Quantile};
+use std::alloc::Global;
+
+/// The highest value of each histogram: an hour in microseconds.
+const HIGH: u64 = 3_600_000_000;
+
+/// The next number of the generator, in 64 bits.
+fn step(x: u64) -> u64 {
+    let x = x ^ (x << 13);
+    let x = x ^ (x >> 7);
+    x ^ (x << 17)
+}
+
+/// A value from 1 to the highest, by a number of the generator.
+fn value(x: u64) -> u64 {
+    let part = (x >> 32) as u32;
+    1 + ((u64::from(part) * HIGH) >> 32)
+}
+
+fn empty(alloc: Global) -> Option<Histogram<u64>> {
+    Histogram::new_with_max(alloc, HIGH, 3).ok()
+}
+
+/// A histogram in which every class up to the highest value holds 1 to 1024.
+fn filled(alloc: Global, seed: u64) -> Option<Histogram<u64>> {
+    let mut histogram = empty(alloc)?;
+    let mut x = seed;
+    let mut value = 0;
+    for _ in 0..histogram.distinct_values() {
+        if value > HIGH {
+            break;
+        }
+        x = step(x);
+        histogram.record_n(value, (x >> 54).saturating_add(1)).ok()?;
+        value = histogram.next_non_equivalent(value);
+    }
+    Some(histogram)
+}
+
+fn recorded(alloc: Global, seed: u64, n: u64) -> Option<u64> {
+    let mut histogram = empty(alloc)?;
+    let mut x = seed;
+    for _ in 0..n {
+        x = step(x);
+        histogram.record(value(x)).ok()?;
+    }
+    Some(histogram.len().wrapping_add(histogram.max()))
+}
+
+fn corrected(alloc: Global, seed: u64, n: u64, interval: u64) -> Option<u64> {
+    let mut histogram = empty(alloc)?;
+    let mut x = seed;
+    for _ in 0..n {
+        x = step(x);
+        let late = (HIGH / 2).saturating_add(value(x) / 2);
+        histogram
+            .record_n_correct(late, (x & 7).saturating_add(1), interval)
+            .ok()?;
+    }
+    Some(histogram.len().wrapping_add(histogram.max()))
+}
+
+fn ranked(alloc: Global, seed: u64, n: u64, num: u64, den: u64) -> Option<u64> {
+    let histogram = filled(alloc, seed)?;
+    let quantile = Quantile::new(num, den)?;
+    let mut sum: u64 = 0;
+    for _ in 0..n {
+        sum = sum.wrapping_add(histogram.value_at_quantile(quantile));
+    }
+    Some(sum)
+}
+
+fn added(alloc: Global, seed: u64, n: u64) -> Option<u64> {
+    let mut sum = filled(alloc, seed)?;
+    let source = filled(alloc, step(seed))?;
+    for _ in 0..n {
+        sum.add(&source).ok()?;
+    }
+    Some(sum.len())
+}
+
+fn serialized(alloc: Global, seed: u64, n: u64) -> Option<u64> {
+    let histogram = filled(alloc, seed)?;
+    let mut serializer = V2Serializer::new(alloc);
+    let mut sum: u64 = 0;
+    for _ in 0..n {
+        let bytes = serializer.to_bytes(&histogram).ok()?;
+        let last = bytes.last()?;
+        sum = sum
+            .wrapping_add(bytes.len() as u64)
+            .wrapping_add(u64::from(*last));
+    }
+    Some(sum)
+}
+
+/// The generator alone: the sum of `n` values.
+#[unsafe(no_mangle)]
+pub extern "C" fn hdrb_generate(seed: u64, n: u64) -> u64 {
+    let mut x = seed;
+    let mut sum: u64 = 0;
+    for _ in 0..n {
+        x = step(x);
+        sum = sum.wrapping_add(value(x));
+    }
+    sum
+}
+
+/// `record`: the length and the greatest value.
+#[unsafe(no_mangle)]
+pub extern "C" fn hdrb_record(alloc: Global, seed: u64, n: u64) -> u64 {
+    recorded(alloc, seed, n).unwrap_or(0)
+}
+
+/// `record_n_correct` of late values by an interval: the length and the greatest value.
+#[unsafe(no_mangle)]
+pub extern "C" fn hdrb_correct(alloc: Global, seed: u64, n: u64, interval: u64) -> u64 {
+    corrected(alloc, seed, n, interval).unwrap_or(0)
+}
+
+/// `value_at_quantile` of num/den: the sum of the answers.
+#[unsafe(no_mangle)]
+pub extern "C" fn hdrb_quantile(alloc: Global, seed: u64, n: u64, num: u64, den: u64) -> u64 {
+    ranked(alloc, seed, n, num, den).unwrap_or(0)
+}
+
+/// `add` of one histogram to another of its shape: the length.
+#[unsafe(no_mangle)]
+pub extern "C" fn hdrb_add(alloc: Global, seed: u64, n: u64) -> u64 {
+    added(alloc, seed, n).unwrap_or(0)
+}
+
+/// `to_bytes`: the sum of each text's length and last byte.
+#[unsafe(no_mangle)]
+pub extern "C" fn hdrb_serialize(alloc: Global, seed: u64, n: u64) -> u64 {
+    serialized(alloc, seed, n).unwrap_or(0)
+}

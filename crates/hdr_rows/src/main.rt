@@ -1,0 +1,69 @@
+//! Plays rows: calls of the library in their order, and what each has to answer. The rows are text on standard input, worked
+//! out by hand or by other programs, so that no row costs a proof.
+//!
+//! `row NAME COUNTER` begins a row with three empty histograms: `one` and `other` of the counter type (`u8`, `u16`, `u32`,
+//! `u64`, or `c12`, a type of this program's own), and `wide` of `u64`. Every other line is `WHO CALL NUMBERS = ANSWER`, and
+//! without an answer it is `ok`. Empty lines and lines behind a `#` are for the reader.
+#![tactic(auto)]
+
+mod answer;
+mod bare;
+mod c12;
+mod names;
+mod one_by_one;
+mod play;
+mod single;
+mod table;
+#[cfg(test)]
+mod tests;
+
+use play::Play;
+use std::io;
+use std::process::ExitCode;
+
+/// Plays a line: prints the title of a row that begins, and a line that answers otherwise. Whether it answered as it says.
+fn line_agrees(rt: &HostRuntime, play: &mut Play, line: &str) -> io::Result<bool> {
+    if let Some(title) = line.strip_prefix("row ") {
+        println!(rt; "{title}")?;
+    }
+    let agrees = play.agrees(rt.alloc(), line);
+    if !agrees {
+        println!(rt; "  answers otherwise: {line}")?;
+    }
+    Ok(agrees)
+}
+
+/// Plays the lines of a text, and answers how many answered otherwise.
+fn differing(rt: &HostRuntime, play: &mut Play, text: &str) -> io::Result<u64> {
+    let mut differ: u64 = 0;
+    for line in text.lines() {
+        if !line_agrees(rt, play, line)? {
+            differ = differ.saturating_add(1);
+        }
+    }
+    Ok(differ)
+}
+
+/// Plays a text from its first line. None: memory was refused.
+fn played(rt: &HostRuntime, text: &str) -> Option<io::Result<u64>> {
+    let mut play = Play::new(rt.alloc()).ok()?;
+    Some(differing(rt, &mut play, text))
+}
+
+/// Plays the rows of standard input. Whether all answered as they say.
+fn rows(rt: &HostRuntime) -> io::Result<bool> {
+    let text = io::read_to_string(rt.alloc(), rt.stdin())?;
+    let Some(differ) = played(rt, text.as_str()) else {
+        return Ok(false);
+    };
+    let differ = differ?;
+    println!(rt; "{differ} differ")?;
+    Ok(differ == 0)
+}
+
+fn main(rt: HostRuntime) -> ExitCode {
+    match rows(&rt) {
+        Ok(true) => ExitCode::SUCCESS,
+        _ => ExitCode::FAILURE,
+    }
+}

@@ -1,0 +1,231 @@
+//! Calls that are made again and again, each with one more request for memory refused: each run prints `no memory` exactly
+//! where one was refused.
+
+use crate::answer::Answer;
+use crate::table::Table;
+use hdr_core::{AdditionError, Call, CallError, CreationError, RecordError};
+use std::alloc::Global;
+use std::process::Abort;
+use std::test::Fail;
+
+/// Two histograms of one digit that grow, with 3 held once, and `wide` up to 1023 with 3 and 1000 held once.
+const TWINS: [&str; 7] = [
+    "one new 1",
+    "other new 1",
+    "wide new_with_max 1000 1",
+    "one saturating_record 3",
+    "other saturating_record 3",
+    "wide saturating_record 3",
+    "wide saturating_record 1000",
+];
+
+/// Calls that make `one` of `TWINS` grow to 1023.
+const GROWING: [&str; 9] = [
+    "one record 1000",
+    "one record_n 1000 0",
+    "one record_correct 1000 10",
+    "one record_n_correct 1000 7 3",
+    "one record_n_correct_counted 1000 7 3",
+    "one add_from",
+    "one add_correct_from 100",
+    "one run record 1000 5",
+    "one run correct 1000 5 9, clear",
+];
+
+/// An empty histogram that grows, another up to 1023 with 1000 held once.
+const MERGED: [&str; 4] = [
+    "one new 1",
+    "wide new 1",
+    "other new_with_max 1000 1",
+    "other saturating_record 1000",
+];
+
+/// Histograms up to 1023, of which two hold a value.
+const SMALL: [&str; 5] = [
+    "one new_with_max 1000 1",
+    "other new_with_max 1000 1",
+    "wide new_with_max 1000 1",
+    "other saturating_record 7",
+    "wide saturating_record 900",
+];
+
+/// Calls that make `one` of `MERGED` grow to 1023 by `other`.
+const MERGING: [&str; 6] = [
+    "one add",
+    "one add_correct 100",
+    "one set_to",
+    "one set_to_corrected 100",
+    "one run add",
+    "one run add_correct 100, clear",
+];
+
+/// Calls that make a histogram.
+const MAKERS: [&str; 6] = [
+    "one new 3",
+    "one new_with_max 1000 0",
+    "one new_with_bounds 10 1000 2",
+    "one clone_to_other",
+    "one clone_correct_to_other 2",
+    "one new_from_wide_to_other",
+];
+
+/// Calls that take no memory on `SMALL`.
+const RESTING: [&str; 24] = [
+    "one record 900",
+    "one record_n 5 255",
+    "one record_correct 90 10",
+    "one record_n_correct 90 200 7",
+    "one record_n_correct_counted 900 1 1",
+    "one saturating_record 5000",
+    "one saturating_record_n 5000 3",
+    "one record 5000",
+    "one add",
+    "one add_from",
+    "one add_correct 10",
+    "one add_correct_from 10",
+    "one subtract",
+    "one set_to",
+    "one set_to_corrected 10",
+    "one value_at_quantile 1 2",
+    "one value_at_percentile 50 1",
+    "one looks 1 2",
+    "one count_between 1 9",
+    "one min_nz",
+    "one equals_wide",
+    "one clear",
+    "one reset",
+    "one auto 0",
+];
+
+/// Whether a call was refused for memory.
+fn is_memory(answer: &Answer) -> bool {
+    match answer {
+        Answer::Unmade(error) => *error == CreationError::OutOfMemory,
+        Answer::Unrecorded(error) => *error == RecordError::OutOfMemory,
+        Answer::Unadded(error) => *error == AdditionError::OutOfMemory,
+        Answer::Stopped(error) => match &error.cause {
+            CallError::Record(error) => *error == RecordError::OutOfMemory,
+            CallError::Addition(error) => *error == AdditionError::OutOfMemory,
+        },
+        _ => false,
+    }
+}
+
+/// Does calls; whether one of them was refused for memory, and then the rest aren't done.
+fn is_refused(alloc: Global, table: &mut Table<u64>, calls: &[&str]) -> bool {
+    for call in calls {
+        match table.answer(alloc, call) {
+            Some(answer) if !is_memory(&answer) => {}
+            _ => return true,
+        }
+    }
+    false
+}
+
+/// Whether memory was refused to a call, or to what is made before it. A call that was refused changed nothing: the first
+/// histogram and its twin, which a comparison names, are still alike.
+fn refuses(rt: &impl Abort, alloc: Global, making: &[&str], call: &str, twin: &str) -> bool {
+    let Ok(mut table) = Table::new(alloc) else {
+        return true;
+    };
+    if is_refused(alloc, &mut table, making) {
+        return true;
+    }
+    let refused = is_refused(alloc, &mut table, &[call]);
+    if refused {
+        assert_eq!(rt;
+            table.answer(alloc, twin),
+            Some(Answer::Truth(true)),
+            "{call}"
+        );
+    }
+    refused
+}
+
+/// Whether a call of a list meets a refusal, each on histograms of its own.
+fn any_refuses(
+    rt: &impl Abort,
+    alloc: Global,
+    making: &[&str],
+    calls: &[&str],
+    twin: &str,
+) -> bool {
+    let mut refused = false;
+    for call in calls {
+        if refuses(rt, alloc, making, call, twin) {
+            refused = true;
+        }
+    }
+    refused
+}
+
+#[test]
+fn growing(rt: HostRuntime) -> Result<(), Fail> {
+    if any_refuses(
+        &rt,
+        rt.alloc(),
+        TWINS.as_slice(),
+        GROWING.as_slice(),
+        "one same",
+    ) {
+        println!(rt; "no memory")?;
+    }
+    Ok(())
+}
+
+#[test]
+fn merging(rt: HostRuntime) -> Result<(), Fail> {
+    if any_refuses(
+        &rt,
+        rt.alloc(),
+        MERGED.as_slice(),
+        MERGING.as_slice(),
+        "one same_wide",
+    ) {
+        println!(rt; "no memory")?;
+    }
+    Ok(())
+}
+
+#[test]
+fn making(rt: HostRuntime) -> Result<(), Fail> {
+    if any_refuses(
+        &rt,
+        rt.alloc(),
+        TWINS.as_slice(),
+        MAKERS.as_slice(),
+        "one same",
+    ) {
+        println!(rt; "no memory")?;
+    }
+    Ok(())
+}
+
+/// Whether a run is done that takes no memory.
+fn run_is_done(table: &mut Table<u64>) -> bool {
+    let calls = [
+        Call::Record(9, 1),
+        Call::Add(&table.other.inner),
+        Call::Correct(9, 1, 2),
+    ];
+    table.one.apply_all(&calls).is_ok()
+}
+
+/// Whether calls that take no memory are done. None: memory was refused to what is made before them.
+fn rests(alloc: Global) -> Option<bool> {
+    let mut table: Table<u64> = Table::new(alloc).ok()?;
+    if is_refused(alloc, &mut table, SMALL.as_slice()) {
+        return None;
+    }
+    Some(!is_refused(alloc, &mut table, RESTING.as_slice()) && run_is_done(&mut table))
+}
+
+/// What takes no memory meets no refusal once the histograms are made.
+#[test]
+fn resting(rt: HostRuntime) -> Result<(), Fail> {
+    match rests(rt.alloc()) {
+        Some(done) => assert!(rt; done),
+        None => println!(rt; "no memory")?,
+    }
+    Ok(())
+}
