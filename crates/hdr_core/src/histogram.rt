@@ -183,6 +183,7 @@ impl<T: Counter> Histogram<T> {
     pub fn bin_of(&self, value: u64) -> Option<usize>
         ensures value { SomeIff result (value ≤ reach self.now) (bin_of (grain self.now) value) }
         ensures within { IfSome result (λ bin. bin < length self.now.counts) }
+        ensures plain { IsPlain T.greatest self.now }
     {
         let bin = self.scale.bin(value);
         if bin < self.counts.len() {

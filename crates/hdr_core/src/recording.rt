@@ -15,6 +15,7 @@ use hdr_base::Counter;
 
 impl<T: Counter> Histogram<T> {
     /// Records a value once.
+    #[inline]
     pub fn record(&mut self, value: u64) -> Result<(), RecordError>
         ensures ok { OnOk result (self.new ≡ recorded T.greatest self.old value 1) }
         ensures samples { OnOk result ((S : List ℕ) → StandsFor self.old S
@@ -28,6 +29,7 @@ impl<T: Counter> Histogram<T> {
     /// Records a value `count` times: the counter of its bin and the total grow, each up to its greatest, and the marks
     /// are widened by its class, also where `count` is 0. A value past the bins is refused, unless the histogram grows;
     /// then its reach becomes `high`. A refusal changes nothing, and want of memory comes past the bins alone.
+    #[inline]
     pub fn record_n(&mut self, value: u64, count: T) -> Result<(), RecordError>
         ensures ok { OnOk result (self.new ≡ recorded T.greatest self.old value (T.number count)) }
         ensures samples { OnOk result ((S : List ℕ) → StandsFor self.old S
@@ -37,15 +39,28 @@ impl<T: Counter> Histogram<T> {
         ensures can { OnOk result ((value ≤ reach self.old) ⊎ (self.old.auto_resize ≡ true)) }
         ensures refused { IfErr result (λ e. RefusesRecord self.old value e × (self.new ≡ self.old)) }
     {
-        let bin = match self.bin_of(value) {
-            Some(bin) => bin,
-            None => {
-                if !self.auto_resize {
-                    return Err(RecordError::ValueOutOfRangeResizeDisabled);
-                }
-                self.widen(value)?
+        match self.bin_of(value) {
+            Some(bin) => {
+                self.add_to_bin(bin, u128::from(count.as_u64()));
+                Ok(())
             }
-        };
+            None => self.record_past(value, count),
+        }
+    }
+
+    /// Records a value past the bins, which first makes bins for it.
+    #[cold]
+    #[inline(never)]
+    fn record_past(&mut self, value: u64, count: T) -> Result<(), RecordError>
+        requires { reach self.old < value }
+        ensures ok { OnOk result (self.new ≡ recorded T.greatest self.old value (T.number count)) }
+        ensures can { OnOk result (self.old.auto_resize ≡ true) }
+        ensures refused { IfErr result (λ e. RefusesRecord self.old value e × (self.new ≡ self.old)) }
+    {
+        if !self.auto_resize {
+            return Err(RecordError::ValueOutOfRangeResizeDisabled);
+        }
+        let bin = self.widen(value)?;
         self.add_to_bin(bin, u128::from(count.as_u64()));
         Ok(())
     }

@@ -16,6 +16,26 @@ pub fn varint_write(n: u64, buf: &mut [u8]) -> usize
     ensures written { WritesFront (λ text. IsShortest text n) buf.old buf.new result }
     ensures few { result ≤ 9 }
 {
+    if n < LAST_BELOW {
+        buf[0] = n as u8;
+        return 1;
+    }
+    if n / 128 < LAST_BELOW {
+        buf[0] = (n % 128) as u8 + 128;
+        buf[1] = (n / 128) as u8;
+        return 2;
+    }
+    write_long(n, buf)
+}
+
+/// Writes the canonical spelling of a number of any length, byte by byte.
+#[cold]
+#[inline(never)]
+fn write_long(n: u64, buf: &mut [u8]) -> usize
+    requires { (text : List ℕ) → IsShortest text n → length text ≤ length buf.old }
+    ensures written { WritesFront (λ text. IsShortest text n) buf.old buf.new result }
+    ensures few { result ≤ 9 }
+{
     let mut rest = n;
     for place in 0..8 {
         if rest < LAST_BELOW {

@@ -18,3 +18,9 @@ returns-else-bin-len-clause-value g c =
     let bin : c.bin-bin.result ≡ bin_of (grain h) c.args.value = c.bin-bin.ensures.value ∙ ap (λ (s : Grain). bin_of s c.args.value) c.self.invariant.scale in
     rw (← c.self.view_is)
     (λ (le : c.args.value ≤ reach h). omega (arith, room-in g.T.Counter.greatest h c.args.value c.self.invariant.plain le))
+
+pub returns-then-bin-len-clause-plain : goal.returns-then-bin-len-clause-plain
+returns-then-bin-len-clause-plain g c = rw c.self.view_is at c.self.invariant.plain
+
+pub returns-else-bin-len-clause-plain : goal.returns-else-bin-len-clause-plain
+returns-else-bin-len-clause-plain g c = rw c.self.view_is at c.self.invariant.plain

@@ -1,34 +1,41 @@
-use Rattle.std.proofs.Common.{◌≡◌, ◌∙◌, ap, sym, arith}
+use Rattle.std.proofs.Common.{◌≡◌, ◌∙◌, ap, sym, arith, OnOk, Result, Ok, Err}
 use Rattle.hdr_core.proofs.Stands.{StandsFor-recorded}
-use Rattle.hdr_base.specs.Classes.{bin_of}
-use Rattle.hdr_core.specs.Plain.{Plain, grain}
+use Rattle.hdr_core.specs.Plain.{Plain}
 use Rattle.hdr_core.specs.Recording.{recorded, added, widened}
 use Rattle.hdr_core.proofs.Kept.{widened-same}
 use Rattle.hdr_core.proofs.Spread.{recorded-high_with}
 use Rattle.hdr_core.proofs.histogram.Histogram.record_n.Goals as goal
-use Rattle.hdr_core.proofs.histogram.Histogram.record_n.Goals.{in-Some, in-None+else-not-self+in_ok-bin-in-None}
 
-pub returns-clause-ok : goal.returns-clause-ok
+-- what follows from what holds on success holds on success
+then_ok : {T E P Q : Type 0} → (P → Q) → (r : Result T E) → OnOk r P → OnOk r Q
+then_ok f (Ok _) p = f p
+then_ok f (Err _) p = tt
+
+pub returns-in-Some-clause-ok : goal.returns-in-Some-clause-ok
 unfolding recorded
-returns-clause-ok g c =
+returns-in-Some-clause-ok g c =
     let n = g.T.Counter.number c.args.count in
     let h = c.args.self.now in
     let v = c.args.value in
-    let count : c.from.result ≡ n = c.from.ensures ∙ c.as_u64.ensures.value in
-    c.add_to_bin.ensures ∙ ap (λ k. added g.T.Counter.greatest c.match-bin_of.self c.match-bin_of.bin k) count ∙ elim c.match-bin_of.branch [
-      | in-Some w ↦
-          ap (λ (s : Plain). added g.T.Counter.greatest s c.match-bin_of.bin n) (w.self-is ∙ sym (widened-same h v w.in-Some.ensures.value.0))
-          ∙ ap (λ b. added g.T.Counter.greatest (widened h v) b n) (w.bin-is ∙ w.in-Some.ensures.value.1)
-      | in-None+else-not-self+in_ok-bin-in-None w ↦
-          ap (λ (s : Plain). added g.T.Counter.greatest s c.match-bin_of.bin n) (w.self-is ∙ w.in_ok-bin-in-None.ensures.ok.0)
-          ∙ ap (λ b. added g.T.Counter.greatest (widened h v) b n) (w.bin-is ∙ w.in_ok-bin-in-None.ensures.ok.1)
-    ]
+    c.add_to_bin.ensures ∙ ap (λ k. added g.T.Counter.greatest h c.in-Some.bin k) (c.from.ensures ∙ c.as_u64.ensures.value)
+    ∙ ap (λ (s : Plain). added g.T.Counter.greatest s c.in-Some.bin n) (sym (widened-same h v c.in-Some.ensures.value.0))
+    ∙ ap (λ b. added g.T.Counter.greatest (widened h v) b n) c.in-Some.ensures.value.1
 
-pub returns-clause-samples : goal.returns-clause-samples
-returns-clause-samples g c = λ S stands fits.
-    let plain = rw c.self.view_is at c.self.invariant.plain in
-    rw (returns-clause-ok g c)
-    (StandsFor-recorded g.T.Counter.greatest c.args.self.now c.args.value (g.T.Counter.number c.args.count) S (omega arith) plain stands fits)
+pub returns-in-Some-clause-samples : goal.returns-in-Some-clause-samples
+returns-in-Some-clause-samples g c = λ S stands fits.
+    rw (returns-in-Some-clause-ok g c)
+    (StandsFor-recorded g.T.Counter.greatest c.args.self.now c.args.value (g.T.Counter.number c.args.count) S (omega arith) c.bin_of.ensures.plain stands fits)
 
-pub returns-clause-high : goal.returns-clause-high
-returns-clause-high g c = ap (λ (w : Plain). w.high) (returns-clause-ok g c) ∙ recorded-high_with g.T.Counter.greatest c.args.self.now c.args.value (g.T.Counter.number c.args.count)
+pub returns-in-Some-clause-high : goal.returns-in-Some-clause-high
+returns-in-Some-clause-high g c = ap (λ (w : Plain). w.high) (returns-in-Some-clause-ok g c) ∙ recorded-high_with g.T.Counter.greatest c.args.self.now c.args.value (g.T.Counter.number c.args.count)
+
+pub returns-in-None-clause-samples : goal.returns-in-None-clause-samples
+returns-in-None-clause-samples g c = then_ok
+    (λ ok S stands fits. rw ok
+    (StandsFor-recorded g.T.Counter.greatest c.args.self.now c.args.value (g.T.Counter.number c.args.count) S (omega arith) c.bin_of.ensures.plain stands fits))
+    c.record_past.result c.record_past.ensures.ok
+
+pub returns-in-None-clause-high : goal.returns-in-None-clause-high
+returns-in-None-clause-high g c = then_ok
+    (λ ok. ap (λ (w : Plain). w.high) ok ∙ recorded-high_with g.T.Counter.greatest c.args.self.now c.args.value (g.T.Counter.number c.args.count))
+    c.record_past.result c.record_past.ensures.ok

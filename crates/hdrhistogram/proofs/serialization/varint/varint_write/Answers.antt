@@ -1,29 +1,26 @@
-use Rattle.std.proofs.Common.{arith}
+use Rattle.std.proofs.Common.{arith, length-set, ◌%◌, ◌/◌, ◌+◌, set, refl, ℕ, List, ◌<◌, length}
 use Rattle.hdrhistogram.proofs.Spellings.{spelling, spelling_least}
-use Rattle.hdrhistogram.proofs.Writing.{written_start, written_room, written_end, written_next, written_last}
+use Rattle.hdrhistogram.proofs.Writing.{written_start, written_room, written_end, written_next}
 use Rattle.hdrhistogram.proofs.serialization.varint.varint_write.Goals as goal
 
-pub loop-place-init : goal.loop-place-init
-loop-place-init c = written_start _ _
+pub bounds-buf-0 : goal.bounds-buf-0
+bounds-buf-0 c = written_room _ _ _ _ _ (written_start c.args.buf.now c.args.n) (c.requires (spelling c.args.n) (spelling_least c.args.n (omega arith))) refl (omega arith)
 
-pub bounds-buf-place : goal.bounds-buf-place
-bounds-buf-place c = written_room _ _ _ _ _ c.loop-place.invariant (c.requires (spelling c.args.n) (spelling_least c.args.n (omega arith))) c.loop-place.auto.buf (omega arith)
-
-pub returns-then-rest-lt-LAST_BELOW-clause-written : goal.returns-then-rest-lt-LAST_BELOW-clause-written
-returns-then-rest-lt-LAST_BELOW-clause-written c =
-    let both = written_end _ _ _ _ _ c.loop-place.invariant (omega arith) c.if-rest-lt-LAST_BELOW.true (bounds-buf-place c) in
+pub returns-then-n-lt-LAST_BELOW-clause-written : goal.returns-then-n-lt-LAST_BELOW-clause-written
+returns-then-n-lt-LAST_BELOW-clause-written c =
+    let both = written_end _ _ _ _ _ (written_start c.args.buf.now c.args.n) (omega arith) c.if-n-lt-LAST_BELOW.true (bounds-buf-0 c) in
     (spelling c.args.n, spelling_least c.args.n (omega arith), both.1, both.0)
 
-pub bounds-buf-place-in-loop-place : goal.bounds-buf-place-in-loop-place
-bounds-buf-place-in-loop-place c = written_room _ _ _ _ _ c.loop-place.invariant (c.requires (spelling c.args.n) (spelling_least c.args.n (omega arith))) c.loop-place.auto.buf (omega arith)
+pub bounds-buf-0-then-n-lt-LAST_BELOW-2 : goal.bounds-buf-0-then-n-lt-LAST_BELOW-2
+bounds-buf-0-then-n-lt-LAST_BELOW-2 c = written_room _ _ _ _ _ (written_start c.args.buf.now c.args.n) (c.requires (spelling c.args.n) (spelling_least c.args.n (omega arith))) refl (omega arith)
 
-pub loop-place-preserved : goal.loop-place-preserved
-loop-place-preserved c = written_next _ _ _ _ _ c.loop-place.invariant (omega arith) c.if-rest-lt-LAST_BELOW.false (written_room _ _ _ _ _ c.loop-place.invariant (c.requires (spelling c.args.n) (spelling_least c.args.n (omega arith))) c.loop-place.auto.buf (omega arith))
+pub bounds-buf-1 : goal.bounds-buf-1
+bounds-buf-1 c =
+    let first = written_next _ _ _ _ _ (written_start c.args.buf.now c.args.n) (omega arith) c.if-n-lt-LAST_BELOW.false (bounds-buf-0-then-n-lt-LAST_BELOW-2 c) in
+    written_room _ _ _ _ _ first (c.requires (spelling c.args.n) (spelling_least c.args.n (omega arith))) (length-set c.args.buf.now 0 (c.args.n % 128 + 128)) (omega arith)
 
-pub bounds-buf-8 : goal.bounds-buf-8
-bounds-buf-8 c = omega (arith, written_room _ _ _ _ _ c.loop-place.invariant (c.requires (spelling c.args.n) (spelling_least c.args.n (omega arith))) c.loop-place.auto.buf (omega arith))
-
-pub returns-clause-written : goal.returns-clause-written
-returns-clause-written c =
-    let both = written_last _ _ _ _ _ c.loop-place.invariant (omega arith) (bounds-buf-8 c) in
+pub returns-then-n-lt-LAST_BELOW-2-clause-written : goal.returns-then-n-lt-LAST_BELOW-2-clause-written
+returns-then-n-lt-LAST_BELOW-2-clause-written c =
+    let first = written_next _ _ _ _ _ (written_start c.args.buf.now c.args.n) (omega arith) c.if-n-lt-LAST_BELOW.false (bounds-buf-0-then-n-lt-LAST_BELOW-2 c) in
+    let both = written_end _ _ _ _ _ first (omega arith) c.if-n-lt-LAST_BELOW-2.true (bounds-buf-1 c) in
     (spelling c.args.n, spelling_least c.args.n (omega arith), both.1, both.0)

@@ -1,5 +1,5 @@
 use Rattle.hdrhistogram.proofs.Writing.{IsWrittenTo}
-use Rattle.hdrhistogram.proofs.serialization.varint.varint_write.Given as goal
+use Rattle.hdrhistogram.proofs.serialization.varint.write_long.Given as goal
 
 abbrev pub invariant-loop-place : goal.invariant-loop-place
 invariant-loop-place l = IsWrittenTo l.buf l.fn.buf l.place l.rest l.n

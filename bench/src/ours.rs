@@ -1,0 +1,19 @@
+//! The workloads over this repository's crates, as the static library exports them.
+
+mod exported {
+    unsafe extern "C" {
+        pub safe fn hdrb_generate(seed: u64, n: u64) -> u64;
+        pub safe fn hdrb_record(seed: u64, n: u64) -> u64;
+        pub safe fn hdrb_correct(seed: u64, n: u64, interval: u64) -> u64;
+        pub safe fn hdrb_quantile(seed: u64, n: u64, num: u64, den: u64) -> u64;
+        pub safe fn hdrb_add(seed: u64, n: u64) -> u64;
+        pub safe fn hdrb_serialize(seed: u64, n: u64) -> u64;
+    }
+}
+
+pub use exported::hdrb_add as add;
+pub use exported::hdrb_correct as correct;
+pub use exported::hdrb_generate as generate;
+pub use exported::hdrb_quantile as quantile;
+pub use exported::hdrb_record as record;
+pub use exported::hdrb_serialize as serialize;

@@ -1,0 +1,93 @@
+//! The workloads over the Rust crate.
+
+use hdrhistogram::Histogram;
+use hdrhistogram::serialization::{Serializer, V2Serializer};
+use std::hint::black_box;
+
+const HIGH: u64 = 3_600_000_000;
+
+fn step(x: u64) -> u64 {
+    let x = x ^ (x << 13);
+    let x = x ^ (x >> 7);
+    x ^ (x << 17)
+}
+
+/// A value from 1 to the highest.
+fn value(x: u64) -> u64 {
+    1 + (((x >> 32) * HIGH) >> 32)
+}
+
+fn empty() -> Histogram<u64> {
+    Histogram::new_with_max(HIGH, 3).expect("lawful bounds")
+}
+
+/// A histogram in which every class up to the highest value holds 1 to 1024.
+fn filled(seed: u64) -> Histogram<u64> {
+    let mut histogram = empty();
+    let (mut x, mut value) = (seed, 0);
+    while value <= HIGH {
+        x = step(x);
+        histogram.record_n(value, (x >> 54) + 1).expect("inside the bins");
+        value = histogram.next_non_equivalent(value);
+    }
+    histogram
+}
+
+pub fn generate(seed: u64, n: u64) -> u64 {
+    let (mut x, mut sum) = (seed, 0u64);
+    for _ in 0..n {
+        x = step(x);
+        sum = sum.wrapping_add(value(x));
+    }
+    sum
+}
+
+pub fn record(seed: u64, n: u64) -> u64 {
+    let (mut histogram, mut x) = (empty(), seed);
+    for _ in 0..n {
+        x = step(x);
+        histogram.record(value(x)).expect("inside the bins");
+    }
+    histogram.len().wrapping_add(histogram.max())
+}
+
+pub fn correct(seed: u64, n: u64, interval: u64) -> u64 {
+    let (mut histogram, mut x) = (empty(), seed);
+    for _ in 0..n {
+        x = step(x);
+        let late = HIGH / 2 + value(x) / 2;
+        histogram.record_n_correct(late, (x & 7) + 1, interval).expect("inside the bins");
+    }
+    histogram.len().wrapping_add(histogram.max())
+}
+
+pub fn quantile(seed: u64, n: u64, num: u64, den: u64) -> u64 {
+    let histogram = filled(seed);
+    let mut sum = 0u64;
+    for _ in 0..n {
+        let quantile = black_box(num) as f64 / black_box(den) as f64;
+        sum = sum.wrapping_add(black_box(&histogram).value_at_quantile(quantile));
+    }
+    sum
+}
+
+pub fn add(seed: u64, n: u64) -> u64 {
+    let mut sum = filled(seed);
+    let source = filled(step(seed));
+    for _ in 0..n {
+        sum.add(black_box(&source)).expect("equal shapes");
+    }
+    sum.len()
+}
+
+pub fn serialize(seed: u64, n: u64) -> u64 {
+    let histogram = filled(seed);
+    let (mut serializer, mut bytes, mut sum) = (V2Serializer::new(), Vec::new(), 0u64);
+    for _ in 0..n {
+        bytes.clear();
+        serializer.serialize(black_box(&histogram), &mut bytes).expect("counts below 2^63");
+        let last = bytes.last().copied().unwrap_or(0);
+        sum = sum.wrapping_add(bytes.len() as u64).wrapping_add(u64::from(last));
+    }
+    sum
+}
