@@ -89,8 +89,12 @@ impl Marks {
         requires { class < 2 ^ 32 }
         ensures { self.new ≡ record { top = later_mark self.old.top class; lower = earlier_mark self.old.lower class } }
     {
-        self.classes = self.classes.max(class + 1);
-        self.before = self.before.min(class.wrapping_sub(1));
+        if self.classes <= class {
+            self.classes = class + 1;
+        }
+        if class.wrapping_sub(1) < self.before {
+            self.before = class.wrapping_sub(1);
+        }
     }
 
     /// Widens both marks by those of another histogram.
