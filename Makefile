@@ -1,4 +1,5 @@
 # make: proves and builds the program, target/hdr. make install: puts it below PREFIX. make check: the whole gate.
+# make bench: times beside the Rust crate hdrhistogram (bench/run says where that comes from).
 PREFIX ?= /usr/local
 
 all:
@@ -12,4 +13,7 @@ check:
 	tools/refused.sh
 	tools/cases.sh
 
-.PHONY: all install check
+bench:
+	bench/run
+
+.PHONY: all install check bench

@@ -65,14 +65,14 @@ impl Scale {
     }
 
     /// The bucket of a value.
-    fn bucket(self, value: u64) -> u8
+    fn bucket(self, value: u64) -> u32
         ensures value { result ≡ bucket self value }
         ensures least { IsLeast (λ k. value < 2 ^ (self.unit + self.digits + k)) result }
         ensures bound { self.unit + self.digits + result ≤ 64 }
         ensures digits { (0 < self.digits) × (self.digits ≤ 18) }
     {
         let shift = self.unit + self.digits;
-        (64 - (value >> shift).leading_zeros()) as u8
+        64 - (value >> shift).leading_zeros()
     }
 
     /// The number of the class of a value, from 0.
@@ -82,7 +82,7 @@ impl Scale {
     {
         let bucket = self.bucket(value);
         let first = (bucket as usize) << (self.digits - 1);
-        first + (value >> (self.unit + bucket)) as usize
+        first + (value >> (self.unit as u32 + bucket)) as usize
     }
 
     /// The width of the class of a value: the least power of two from the unit on that keeps the digits.
@@ -91,7 +91,7 @@ impl Scale {
         ensures least { IsLeast (λ w. (k : ℕ) × (w ≡ 2 ^ (self.unit + k)) × (value < 2 ^ (self.unit + self.digits + k))) result }
         ensures at_least_one { 1 ≤ result }
     {
-        1 << (self.unit + self.bucket(value))
+        1 << (self.unit as u32 + self.bucket(value))
     }
 
     /// The lowest value of the class of a value.
@@ -99,7 +99,7 @@ impl Scale {
         ensures value { result ≡ lowest_of self value }
         ensures class_fits { lowest_of self value + width_of self value ≤ 2 ^ 64 }
     {
-        let shift = self.unit + self.bucket(value);
+        let shift = self.unit as u32 + self.bucket(value);
         value >> shift << shift
     }
 
@@ -116,7 +116,7 @@ impl Scale {
         ensures least { IsLeast (λ r. (k : ℕ) × (r ≡ 2 ^ (self.unit + self.digits + k) - 1) × (value ≤ r)) result }
         ensures at_least { value ≤ result }
     {
-        let exponent = self.unit + self.digits + self.bucket(value);
+        let exponent = (self.unit + self.digits) as u32 + self.bucket(value);
         u64::MAX >> (64 - exponent)
     }
 

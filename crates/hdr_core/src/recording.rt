@@ -15,7 +15,7 @@ use hdr_base::Counter;
 
 impl<T: Counter> Histogram<T> {
     /// Records a value once.
-    #[inline]
+    #[inline(always)]
     pub fn record(&mut self, value: u64) -> Result<(), RecordError>
         ensures ok { OnOk result (self.new ≡ recorded T.greatest self.old value 1) }
         ensures samples { OnOk result ((S : List ℕ) → StandsFor self.old S
@@ -29,7 +29,7 @@ impl<T: Counter> Histogram<T> {
     /// Records a value `count` times: the counter of its bin and the total grow, each up to its greatest, and the marks
     /// are widened by its class, also where `count` is 0. A value past the bins is refused, unless the histogram grows;
     /// then its reach becomes `high`. A refusal changes nothing, and want of memory comes past the bins alone.
-    #[inline]
+    #[inline(always)]
     pub fn record_n(&mut self, value: u64, count: T) -> Result<(), RecordError>
         ensures ok { OnOk result (self.new ≡ recorded T.greatest self.old value (T.number count)) }
         ensures samples { OnOk result ((S : List ℕ) → StandsFor self.old S

@@ -93,9 +93,9 @@ impl<T: Counter> Counts<T> {
         ensures { self.new ≡ record { block = self.old.block; numbers = slice_set self.old.numbers i (T.number value) } }
     {
         let k = quotient(i, self.block, self.shift);
-        let old = u128::from(self.counters[i].as_u64());
-        let new = u128::from(value.as_u64());
-        self.sums[k] = self.sums[k] - old + new;
+        let old = self.counters[i].as_u64();
+        let new = value.as_u64();
+        self.sums[k] = exchanged(self.sums[k], old, new);
         self.counters[i] = value;
     }
 
@@ -210,6 +210,19 @@ fn exponent(n: usize) -> Option<u32>
     }
 }
 
+/// A sum in which one number is exchanged for another.
+fn exchanged(sum: u128, old: u64, new: u64) -> u128
+    requires within { old ≤ sum }
+    requires fits { sum + new < 2 ^ 128 }
+    ensures { result ≡ sum - old + new }
+{
+    if new < old {
+        sum - u128::from(old - new)
+    } else {
+        sum + u128::from(new - old)
+    }
+}
+
 /// The quotient of a place and a block, by a shift where the block is a power of two.
 fn quotient(place: usize, block: usize, shift: Option<u32>) -> usize
     requires some { 1 ≤ block }
@@ -218,8 +231,18 @@ fn quotient(place: usize, block: usize, shift: Option<u32>) -> usize
 {
     match shift {
         Some(shift) => place >> shift,
-        None => place / block,
+        None => divided(place, block),
     }
+}
+
+/// The quotient of a place and a block that is no power of two.
+#[cold]
+#[inline(never)]
+fn divided(place: usize, block: usize) -> usize
+    requires { 1 ≤ block }
+    ensures { result ≡ place / block }
+{
+    place / block
 }
 
 #[cfg(test)]

@@ -5,8 +5,8 @@ use Rattle.hdr_counts.specs.Blocks.{sum_below, AreSums}
 use Rattle.hdr_counts.proofs.BlockSums.{sum_below_map_more, sum_below-le, sum_below-le-sum, sum_below_all, sum_below-add, sum-fits, block_of, block_in, AreSums-set, AreSums-grow, part_sum, part_whole, blocks_sum_more, number-le-sum_below, rest_of_block}
 use Rattle.hdr_counts.proofs.Counts.set.Goals as goal
 
-pub overflow_sub-index : goal.overflow_sub-index
-overflow_sub-index g c =
+pub exchanged-requires-clause-within : goal.exchanged-requires-clause-within
+exchanged-requires-clause-within g c =
     let n = g.T.Counter.number in
     let s = c.self.inside in
     let i = c.args.i in
@@ -20,10 +20,10 @@ overflow_sub-index g c =
     let each = c.self.invariant.sums_are.each (i / s.block) k_in in
     let le = number-le-sum_below (map n s.counters.items) i ((i / s.block + 1) * s.block) b.1 len in
     let from = sum_below-le (map n s.counters.items) (i / s.block * s.block) i b.0 in
-    omega (arith, was, sum_was, each, le, from, c.as_u64.ensures.value, c.from-old.ensures)
+    omega (arith, was, sum_was, each, le, from, c.as_u64-old.ensures.value)
 
-pub overflow_add-index : goal.overflow_add-index
-overflow_add-index g c =
+pub exchanged-requires-clause-fits : goal.exchanged-requires-clause-fits
+exchanged-requires-clause-fits g c =
     let n = g.T.Counter.number in
     let s = c.self.inside in
     let i = c.args.i in
@@ -56,9 +56,9 @@ invariant_of-self g c =
     let each = c.self.invariant.sums_are.each (i / s.block) k_in in
     let le = number-le-sum_below (map n s.counters.items) i ((i / s.block + 1) * s.block) b.1 len in
     let from = sum_below-le (map n s.counters.items) (i / s.block * s.block) i b.0 in
-    let put = AreSums-set s.block (map n s.counters.items) s.sums.items i (n c.args.value) c.self.invariant.sums_are len (omega (arith, c.as_u64-2.ensures.value, c.as_u64-2.type_inv)) in
-    let e : get_or s.sums.items (i / s.block) 0 - get_or (map n s.counters.items) i 0 + n c.args.value ≡ c.index-2.result.now - c.from-old.result + c.from-new.result = omega (arith, was, sum_was, c.as_u64.ensures.value, c.as_u64-2.ensures.value, c.from-old.ensures, c.from-new.ensures) in
-    rw (map-set n s.counters.items i c.args.value, ← e, c.quotient-k.ensures) (record { sums_are = put; shift_is = c.self.invariant.shift_is; fit = All-set (λ n. n ≤ g.T.Counter.greatest) (map n s.counters.items) i (n c.args.value) c.as_u64-2.ensures.bound c.self.invariant.fit })
+    let put = AreSums-set s.block (map n s.counters.items) s.sums.items i (n c.args.value) c.self.invariant.sums_are len (omega (arith, c.as_u64-new.ensures.value, c.as_u64-new.type_inv)) in
+    let e : get_or s.sums.items (i / s.block) 0 - get_or (map n s.counters.items) i 0 + n c.args.value ≡ c.exchanged.result = omega (arith, was, sum_was, c.as_u64-old.ensures.value, c.as_u64-new.ensures.value, c.exchanged.ensures) in
+    rw (map-set n s.counters.items i c.args.value, ← e, c.quotient-k.ensures) (record { sums_are = put; shift_is = c.self.invariant.shift_is; fit = All-set (λ n. n ≤ g.T.Counter.greatest) (map n s.counters.items) i (n c.args.value) c.as_u64-new.ensures.bound c.self.invariant.fit })
 
 pub returns : goal.returns
 returns g c = rw (← c.self.view_is) (ap (λ l. record { block = c.self.inside.block; numbers = l }) (map-set g.T.Counter.number c.self.inside.counters.items c.args.i c.args.value))
