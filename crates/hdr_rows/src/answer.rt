@@ -119,6 +119,15 @@ pub fn subtracted(answer: Result<(), SubtractionError>) -> Answer {
     }
 }
 
+/// The answer of a call that a run may hold.
+pub fn applied(answer: Result<(), CallError>) -> Answer {
+    match answer {
+        Ok(()) => Answer::Done,
+        Err(CallError::Record(e)) => Answer::Unrecorded(e),
+        Err(CallError::Addition(e)) => Answer::Unadded(e),
+    }
+}
+
 /// The answer of a run.
 pub fn ran(answer: Result<(), RunError>) -> Answer {
     match answer {

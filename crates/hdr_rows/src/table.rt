@@ -1,6 +1,6 @@
 //! Three histograms, and the calls between them.
 
-use crate::answer::{Answer, added, ran, recorded, subtracted};
+use crate::answer::{Answer, added, applied, ran, recorded, subtracted};
 use crate::bare::Histogram;
 use crate::names::{
     COMPARES, COPIES, CORRECTS, Compare, Copied, Correct, JOINS, Join, RUNS, Run, named,
@@ -145,10 +145,19 @@ impl<T: Counter> Table<T> {
         Some(ran(self.one.apply_all(calls.as_slice())))
     }
 
+    /// Does one call.
+    fn apply(&mut self, words: &str) -> Option<Answer> {
+        let call = call_of(words, &self.other)?;
+        Some(applied(self.one.apply(&call)))
+    }
+
     /// Does a call on the first histogram. None: the words are none of its calls.
     fn first(&mut self, alloc: Global, words: &str) -> Option<Answer> {
         if let Some(calls) = words.strip_prefix("run ") {
             return self.run(alloc, calls);
+        }
+        if let Some(call) = words.strip_prefix("apply ") {
+            return self.apply(call);
         }
         let (name, numbers) = split_name(words)?;
         match name {

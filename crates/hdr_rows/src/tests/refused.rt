@@ -20,7 +20,7 @@ const TWINS: [&str; 7] = [
 ];
 
 /// Calls that make `one` of `TWINS` grow to 1023.
-const GROWING: [&str; 9] = [
+const GROWING: [&str; 11] = [
     "one record 1000",
     "one record_n 1000 0",
     "one record_correct 1000 10",
@@ -28,6 +28,8 @@ const GROWING: [&str; 9] = [
     "one record_n_correct_counted 1000 7 3",
     "one add_from",
     "one add_correct_from 100",
+    "one apply record 1000 5",
+    "one apply correct 1000 5 9",
     "one run record 1000 5",
     "one run correct 1000 5 9, clear",
 ];
@@ -50,11 +52,13 @@ const SMALL: [&str; 5] = [
 ];
 
 /// Calls that make `one` of `MERGED` grow to 1023 by `other`.
-const MERGING: [&str; 6] = [
+const MERGING: [&str; 8] = [
     "one add",
     "one add_correct 100",
     "one set_to",
     "one set_to_corrected 100",
+    "one apply add",
+    "one apply add_correct 100",
     "one run add",
     "one run add_correct 100, clear",
 ];
@@ -70,7 +74,7 @@ const MAKERS: [&str; 6] = [
 ];
 
 /// Calls that take no memory on `SMALL`.
-const RESTING: [&str; 24] = [
+const RESTING: [&str; 53] = [
     "one record 900",
     "one record_n 5 255",
     "one record_correct 90 10",
@@ -79,6 +83,11 @@ const RESTING: [&str; 24] = [
     "one saturating_record 5000",
     "one saturating_record_n 5000 3",
     "one record 5000",
+    "one apply record 9 1",
+    "one apply clamp 9 1",
+    "one apply correct 9 1 2",
+    "one apply add",
+    "one apply add_correct 3",
     "one add",
     "one add_from",
     "one add_correct 10",
@@ -89,9 +98,33 @@ const RESTING: [&str; 24] = [
     "one value_at_quantile 1 2",
     "one value_at_percentile 50 1",
     "one looks 1 2",
-    "one count_between 1 9",
+    "one len",
+    "one count",
+    "one is_empty",
+    "one low",
+    "one high",
+    "one sigfig",
+    "one is_auto_resize",
+    "one buckets",
+    "one distinct_values",
+    "one max",
+    "one min",
     "one min_nz",
+    "one count_at 9",
+    "one count_between 1 9",
+    "one bin_of 9",
+    "one bin_value 9",
+    "one bin_count 9",
+    "one lowest_equivalent 900",
+    "one highest_equivalent 900",
+    "one next_non_equivalent 900",
+    "one median_equivalent 900",
+    "one equivalent_range 900",
+    "one equivalent 900 901",
+    "one is_other",
     "one equals_wide",
+    "one apply clear",
+    "one apply reset",
     "one clear",
     "one reset",
     "one auto 0",
