@@ -93,7 +93,7 @@ impl<T: Counter> Histogram<T> {
         let mut next = first;
         while next >= interval {
             let lowest = scale.lowest(next).max(interval);
-            let members = (next - lowest) / interval + 1;
+            let members = steps(next - lowest, interval) + 1;
             self.add_counted(
                 scale.bin(next),
                 u128::from(members) * u128::from(count),
@@ -114,4 +114,12 @@ impl<T: Counter> Histogram<T> {
         self.add_to_bin(bin, number);
         ticks.tick();
     }
+}
+
+/// How many intervals a span holds; no division where it is the shorter.
+fn steps(span: u64, interval: u64) -> u64
+    requires { 0 < interval }
+    ensures { result ≡ span / interval }
+{
+    if span < interval { 0 } else { span / interval }
 }

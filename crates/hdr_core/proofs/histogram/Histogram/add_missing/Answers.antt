@@ -14,8 +14,8 @@ use Rattle.hdr_core.proofs.Spread.{StandsFor-each}
 use Rattle.hdr_core.proofs.ByClass.{state-step, held-step, bins-few, each-within}
 use Rattle.hdr_core.proofs.histogram.Histogram.add_missing.Goals as goal
 
-pub overflow_sub-members : goal.overflow_sub-members
-overflow_sub-members g c =
+pub overflow_sub-next : goal.overflow_sub-next
+overflow_sub-next g c =
     omega (arith, c.max-lowest.ensures, c.lowest.ensures.value, lowest-le c.self.inside.scale c.loop-next.next)
 
 pub add_counted-requires-clause-bin : goal.add_counted-requires-clause-bin
@@ -53,10 +53,10 @@ loop-next-preserved g c =
     let room : bin_of (grain h) x < length h.counts = room-in greatest h x plain (omega (arith, inv.same_reach, inv.within)) in
     let room_here : bin_of (grain k) x < length k.counts = rw inv.same_classes (omega (arith, room, inv.same_bins)) in
     let number : c.from.result * c.from-in-loop-next.result ≡ m * n =
-    ap (λ a. a * c.from-in-loop-next.result) c.from.ensures ∙ ap (λ a. m * a) c.from-in-loop-next.ensures in
+    ap (λ a. a * c.from-in-loop-next.result) (c.from.ensures ∙ ap (λ a. a + 1) c.steps-members.ensures) ∙ ap (λ a. m * a) c.from-in-loop-next.ensures in
     let new : c.add_counted.new.self ≡ added greatest k (bin_of (grain k) x) (m * n) =
     c.add_counted.ensures.state ∙ ap (λ a. added greatest k c.bin.result a) number ∙ ap (λ b. added greatest k b (m * n)) (c.bin.ensures.value ∙ ap (λ (s : Grain). bin_of s x) here) in
-    record {
+    rw c.steps-members.ensures (record {
       state = ap (λ (s : Plain). recorded_each greatest s (each n (down_to (x - m * i) i))) new
           ∙ state-step greatest k x i low m n (omega arith) digits_here (omega arith) is_low_here (omega arith) (omega (arith, inv.within)) room_here ∙ inv.state;
       ticks = omega (arith, c.add_counted.ensures.ticks, inv.ticks, held-step (grain h) x i low m (omega arith) digits (omega arith) is_low (omega arith) (length h.counts) room);
@@ -64,7 +64,7 @@ loop-next-preserved g c =
       same_bins = ap (λ (s : Plain). length s.counts) new ∙ bins-added greatest k (bin_of (grain k) x) (m * n) ∙ inv.same_bins;
       same_reach = ap (λ (s : Plain). reach s) new ∙ reach-added greatest k (bin_of (grain k) x) (m * n) ∙ inv.same_reach;
       within = omega (arith, inv.within, ap (λ (s : Plain). reach s) new, reach-added greatest k (bin_of (grain k) x) (m * n));
-    }
+    })
 
 pub returns-clause-state : goal.returns-clause-state
 returns-clause-state g c =
