@@ -77,7 +77,7 @@ impl<T: Counter> Row<'_, T> {
         if self.low == 1 && !self.subtracted {
             println!("{who} max = {}\n{who} min = {}\n{who} min_nz = {}", h.max(), h.min(), h.min_nz());
         }
-        if !self.subtracted || self.greatest > u64::from(u16::MAX) {
+        if !self.subtracted || self.greatest == u64::MAX {
             println!("{who} len = {}\n{who} is_empty = {}", h.len(), u8::from(h.is_empty()));
             for (num, den) in [(1, 4), (1, 2), (3, 4), (1, 1)] {
                 let quantile = f64::from(num) / f64::from(den);
