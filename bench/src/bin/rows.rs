@@ -3,8 +3,8 @@
 //!     rows SEED COUNT | crates/hdr_rows/out/hdr_rows
 //!
 //! What is known to differ is left out: marks behind a reset at a unit above 1 or behind a subtraction, sums behind a
-//! subtraction from counters that may be full, the state behind a refused subtraction or corrected addition, and equality of
-//! arrays of unequal length.
+//! subtraction from counters that may be full, the state behind a refused subtraction or corrected addition, equality of
+//! arrays of unequal length, and quantiles of more samples than an f64 counts.
 
 use hdrhistogram::{Counter, Histogram};
 use std::fmt::Debug;
@@ -79,7 +79,8 @@ impl<T: Counter> Row<'_, T> {
         }
         if !self.subtracted || self.greatest == u64::MAX {
             println!("{who} len = {}\n{who} is_empty = {}", h.len(), u8::from(h.is_empty()));
-            for (num, den) in [(1, 4), (1, 2), (3, 4), (1, 1)] {
+            let exact = h.len() < 1 << 53;
+            for (num, den) in [(1, 4), (1, 2), (3, 4), (1, 1)].into_iter().filter(|_| exact) {
                 let quantile = f64::from(num) / f64::from(den);
                 println!("{who} value_at_quantile {num} {den} = {}", h.value_at_quantile(quantile));
             }
