@@ -7,8 +7,8 @@ ghost use Rattle.hdr_core.specs.Marked.{top_by, lower_by};
 
 use std::marker::Model;
 
-/// A top mark and a lower mark, each a class or none. A mark is one number with a value for none, so that it is widened
-/// without a branch.
+/// A top mark and a lower mark, each a class or none. A mark is one number with a value for none, so that one comparison
+/// tells whether it has to be widened.
 #[derive(Debug, Drop)]
 pub(crate) struct Marks {
     /// The number of classes up to the top mark, 0 for none.
