@@ -1,9 +1,10 @@
 -- Classes are intervals one behind the other, and their exponents are the least.
-use Rattle.std.proofs.Common.{◌≡◌, ℕ, ◌+◌, ◌-◌, ◌*◌, ◌/◌, ◌^◌, ◌<◌, ◌≤◌, refl, sym, ap, ◌∙◌, arith, inl, inr}
+use Rattle.std.proofs.Common.{◌≡◌, ℕ, ◌+◌, ◌-◌, ◌*◌, ◌/◌, ◌^◌, ◌%◌, ◌<◌, ◌≤◌, refl, sym, ap, ◌∙◌, arith, inl, inr}
 use Rattle.std.proofs.lemmas.Bool.{cases_lt}
-use Rattle.std.proofs.lemmas.Nat.{pow_pos, pow-add, mul-le}
+use Rattle.std.proofs.lemmas.Nat.{pow_pos, pow-add, mul-le, one_shl}
+use Rattle.std.proofs.Math.Nat.{mod-eq_of_lt}
 use Rattle.hdr_base.specs.Classes.{IsLeast, AreEquivalent, Grain, bucket, width_of, lowest_of, top_of, bin_of, reach_of}
-use Rattle.hdr_base.proofs.ClassLaws.{pow_mono_le, bucket-end, bucket-least, width-pos, lowest-as-product, lowest-le, top-above, same-bin, bin-lowest, bin-top, place-below, place-above, two-halves}
+use Rattle.hdr_base.proofs.ClassLaws.{pow_mono_le, bucket-end, bucket-least, bucket-begin, bucket-is, width-pos, lowest-as-product, lowest-le, top-above, same-bin, bin-lowest, bin-top, place-below, place-above, two-halves}
 use Rattle.hdr_base.proofs.ScaleLaws.{value-bin, value-lowest}
 
 pub bucket-IsLeast : (g : Grain) (v : ℕ) → IsLeast (λ k. v < 2 ^ (g.unit + g.digits + k)) (bucket g v)
@@ -98,3 +99,55 @@ module _ (g : Grain) (v : ℕ) (m : 0 < g.digits) where
             (here.0, here.1 ∙ (let t : (k + 1) * H + H ≡ k * H + q + 1 = omega (arith, last) in t))
             )
       ]
+
+-- a bucket begins at 0 or at a power of two, and its values lie between that and any of them
+bucket-mono : (g : Grain) (x v : ℕ) → x ≤ v → bucket g x ≤ bucket g v
+bucket-mono g x v le = bucket-least g x (bucket g v) (omega (arith, bucket-end g v))
+
+pub start-IsLeast : (g : Grain) (v s : ℕ) → bucket g s ≡ bucket g v → (0 < bucket g v → s ≡ 2 ^ (g.unit + g.digits + (bucket g v - 1))) → (bucket g v ≡ 0 → s ≡ 0)
+    → IsLeast (λ x. bucket g x ≡ bucket g v) s
+start-IsLeast g v s same power first = record {
+  holds = same;
+  least = λ x e. elim (cases_lt 0 (bucket g v)) [
+    | inl lt ↦ omega (arith, power lt, ap (λ k. 2 ^ (g.unit + g.digits + (k - 1))) e, bucket-begin g x (omega (arith, e)))
+    | inr ge ↦ omega (arith, first (omega arith))
+  ];
+}
+
+pub one-bucket : (g : Grain) (v s x : ℕ) → bucket g s ≡ bucket g v → s ≤ x → x ≤ v → bucket g x ≡ bucket g v
+one-bucket g v s x same from to = omega (arith, bucket-mono g s x from, bucket-mono g x v to, same)
+
+-- where a bucket above the first begins, its values have that bucket
+pub start-bucket : (g : Grain) (v : ℕ) → 0 < bucket g v → bucket g (2 ^ (g.unit + g.digits + (bucket g v - 1))) ≡ bucket g v
+start-bucket g v some =
+    let k = bucket g v in
+    let more : 2 ^ (g.unit + g.digits + (k - 1)) < 2 ^ (g.unit + g.digits + k) =
+    omega (arith, pow-add 2 (g.unit + g.digits + (k - 1)) 1, ap (λ e. 2 ^ e) (let e : g.unit + g.digits + (k - 1) + 1 ≡ g.unit + g.digits + k = omega arith in e), pow_pos (g.unit + g.digits + (k - 1))) in
+    bucket-is g (2 ^ (g.unit + g.digits + (k - 1))) k more (λ _. omega arith)
+
+-- the width of a class and its number, by those of another value of its bucket
+pub one-bucket-width : (g : Grain) (x v : ℕ) → bucket g x ≡ bucket g v → width_of g x ≡ width_of g v
+unfolding width_of
+one-bucket-width g x v e = ap (λ k. 2 ^ (g.unit + k)) e
+
+pub one-bucket-bin : (g : Grain) (x v : ℕ) → bucket g x ≡ bucket g v → bin_of g x + v / width_of g v ≡ bin_of g v + x / width_of g v
+unfolding bin_of
+one-bucket-bin g x v e =
+    omega (arith, ap (λ k. k * 2 ^ (g.digits - 1)) e, ap (λ w. x / w) (one-bucket-width g x v e))
+
+-- a power of two that is shifted into place
+pub start-code : (e : ℕ) → e < 64 → 1 * 2 ^ e % 2 ^ 64 ≡ 2 ^ e
+start-code e h = one_shl e 64 h
+
+-- a value's number and lowest value, from the exponent of the width in its bucket
+pub place-le-bin : (g : Grain) (v e : ℕ) → 2 ^ e ≡ width_of g v → v / 2 ^ e ≤ bin_of g v
+unfolding bin_of
+place-le-bin g v e is = rw is (omega arith)
+
+pub place-bin : (g : Grain) (x v e b : ℕ) → 2 ^ e ≡ width_of g v → bucket g x ≡ bucket g v → b ≡ bin_of g v → b - v / 2 ^ e + x / 2 ^ e ≡ bin_of g x
+place-bin g x v e b is same bin = omega (arith, bin, place-le-bin g v e is, rw (← is) at (one-bucket-bin g x v same))
+
+pub place-lowest : (g : Grain) (x v e : ℕ) → 2 ^ e ≡ width_of g v → bucket g x ≡ bucket g v → x < 2 ^ 64 → x / 2 ^ e * 2 ^ e % 2 ^ 64 ≡ lowest_of g x
+place-lowest g x v e is same fits =
+    let low : x / 2 ^ e * 2 ^ e ≡ lowest_of g x = sym (lowest-as-product g x ∙ ap (λ w. x / w * w) (one-bucket-width g x v same ∙ sym is)) in
+    mod-eq_of_lt (omega (arith, low, lowest-le g x, fits)) ∙ low

@@ -120,6 +120,27 @@ impl Scale {
         u64::MAX >> (64 - exponent)
     }
 
+    /// The lowest value of the bucket of a value.
+    pub fn bucket_start(self, value: u64) -> u64
+        ensures least { IsLeast (λ x. bucket self x ≡ bucket self value) result }
+        ensures one_bucket { (x : ℕ) → result ≤ x → x ≤ value → bucket self x ≡ bucket self value }
+    {
+        let bucket = self.bucket(value);
+        if bucket == 0 {
+            0
+        } else {
+            1 << ((self.unit + self.digits) as u32 + (bucket - 1))
+        }
+    }
+
+    /// The exponent of the width of the class of a value.
+    pub fn exponent(self, value: u64) -> u32
+        ensures value { 2 ^ result ≡ width_of self value }
+        ensures bound { result < 64 }
+    {
+        self.unit as u32 + self.bucket(value)
+    }
+
     /// How many buckets there are up to that of a value.
     pub fn buckets(self, value: u64) -> usize
         ensures value { result ≡ bucket self value + 1 }

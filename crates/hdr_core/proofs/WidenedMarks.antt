@@ -1,8 +1,8 @@
 -- Marks as numbers with a value for none.
-use Rattle.std.proofs.Common.{◌≡◌, ◌≢◌, ℕ, zero, suc, ◌+◌, ◌-◌, ◌^◌, ◌<◌, ◌≤◌, Bool, true, false, cond, eqb, min, max, Option, None, Some, refl, sym, ap, ◌∙◌, arith, inl, inr}
+use Rattle.std.proofs.Common.{◌≡◌, ◌≢◌, ℕ, zero, suc, ◌+◌, ◌-◌, ◌^◌, ◌%◌, ◌<◌, ◌≤◌, Bool, true, false, cond, eqb, min, max, Option, None, Some, refl, sym, ap, ◌∙◌, arith, inl, inr}
 use Rattle.std.proofs.lemmas.Bool.Decides.{nat_tests}
 use Rattle.std.proofs.lemmas.Bool.{cases_eq}
-use Rattle.hdr_core.specs.Marked.{top_by, lower_by}
+use Rattle.hdr_core.specs.Marked.{Marked, top_by, lower_by}
 use Rattle.hdr_core.specs.Recording.{later_mark, earlier_mark}
 use Rattle.hdr_core.specs.Merging.{later_of, earlier_of}
 
@@ -82,3 +82,17 @@ lower-earlier_of n m k most fits e =
       | inl none ↦ ap (λ j. lower_by j) (let t : k ≡ n = omega arith in t) ∙ sym (ap (λ o. earlier_of (lower_by n) o) (lower-none m none))
       | inr some ↦ lower-earlier n (m + 1) m k most (λ z. absurd (omega arith)) (λ p. omega arith) (omega arith) e ∙ sym (ap (λ o. earlier_of (lower_by n) o) (lower-some m some))
     ]
+
+-- the marks of two numbers
+abbrev marked : ℕ → ℕ → Marked
+marked classes before = record { top = top_by classes; lower = lower_by before }
+
+-- marks that are widened number by number
+pub widened : (n b m p i : ℕ) (v : Marked) → p ≤ 2 ^ 64 - 1 → i < 2 ^ 32 → n ≡ max m (i + 1) → b ≡ min p ((i + 18446744073709551615) % 18446744073709551616)
+    → marked m p ≡ v
+    → marked n b ≡ record { top = later_mark v.top i; lower = earlier_mark v.lower i }
+widened n b m p i v most small top lower e =
+    ap (λ (o : Option ℕ). record { top = o; lower = lower_by b }) (top-later m i n top)
+    ∙ ap (λ (o : Option ℕ). record { top = later_mark (top_by m) i; lower = o })
+    (lower-earlier p i ((i + 18446744073709551615) % 18446744073709551616) b most (λ e. omega (arith, e)) (λ pos. omega (arith, pos, small)) (omega (arith, small)) lower)
+    ∙ ap (λ (w : Marked). record { top = later_mark w.top i; lower = earlier_mark w.lower i }) e

@@ -1,7 +1,7 @@
 //! Recording with correction for coordinated omission, class by class.
 
 ghost use Rattle.std.specs.Prelude.{◌≡◌, ℕ, List, [], ◌∷◌, ◌++◌, ◌+◌, ◌-◌, ◌*◌, ◌/◌, ◌^◌, ◌<◌, ◌≤◌, ◌⊎◌, true, OnOk, IfErr, length};
-ghost use Rattle.hdr_base.specs.Classes.{bin_of, reach_of};
+ghost use Rattle.hdr_base.specs.Classes.{bucket, reach_of};
 ghost use Rattle.hdr_core.specs.Plain.{grain, reach};
 ghost use Rattle.hdr_core.specs.Recording.{added, recorded_each, spread};
 ghost use Rattle.hdr_core.specs.Samples.{StandsFor, Fits};
@@ -92,34 +92,76 @@ impl<T: Counter> Histogram<T> {
         let scale = self.scale;
         let mut next = first;
         while next >= interval {
-            let lowest = scale.lowest(next).max(interval);
-            let members = steps(next - lowest, interval) + 1;
-            self.add_counted(
-                scale.bin(next),
-                u128::from(members) * u128::from(count),
-                ticks,
-            );
-            next -= members * interval;
+            let start = scale.bucket_start(next).max(interval);
+            next = self.add_in_bucket(next, start, count, interval, ticks);
         }
     }
 
-    /// Adds a number to a bin, with a tick: the one step that is counted.
-    fn add_counted(&mut self, bin: usize, number: u128, ticks: &mut Ticks)
+    /// Records those of these values that are at least `start`, and gives the next one below them. All of them lie in
+    /// one bucket, whose classes have one width.
+    fn add_in_bucket(
+        &mut self,
+        first: u64,
+        start: u64,
+        count: u64,
+        interval: u64,
+        ticks: &mut Ticks,
+    ) -> u64
+        requires step { 0 < interval }
+        requires some { (interval ≤ start) × (start ≤ first) }
+        requires one_bucket { (x : ℕ) → start ≤ x → x ≤ first → bucket (grain self.old) x ≡ bucket (grain self.old) first }
+        requires within { first ≤ reach self.old }
+        requires room { ticks.old + classes_held (grain self.old) (length self.old.counts) (down_to first interval) < 2 ^ 64 }
+        ensures less { result < first }
+        ensures state { recorded_each T.greatest self.new (each count (down_to result interval)) ≡ recorded_each T.greatest self.old (each count (down_to first interval)) }
+        ensures ticks { ticks.new + classes_held (grain self.old) (length self.old.counts) (down_to result interval)
+            ≡ ticks.old + classes_held (grain self.old) (length self.old.counts) (down_to first interval) }
+        ensures same_classes { grain self.new ≡ grain self.old }
+        ensures same_bins { length self.new.counts ≡ length self.old.counts }
+        ensures same_reach { reach self.new ≡ reach self.old }
+    {
+        let shift = self.scale.exponent(first);
+        let bin = self.scale.bin(first) - (first >> shift) as usize;
+        let few = ((1u64 << shift) / interval).saturating_sub(1);
+        let mut next = first;
+        while next >= start {
+            let place = next >> shift;
+            let lowest = (place << shift).max(interval);
+            let members = steps(next - lowest, interval, few) + 1;
+            self.add_counted(bin + place as usize, members, count, ticks);
+            next -= members * interval;
+        }
+        next
+    }
+
+    /// Adds members of a class, `count` times each, to its bin, with a tick: the one step that is counted.
+    fn add_counted(&mut self, bin: usize, members: u64, count: u64, ticks: &mut Ticks)
         requires bin { bin < length self.old.counts }
-        requires number { number + 2 ^ 64 < 2 ^ 128 }
         requires room { ticks.old < 2 ^ 64 - 1 }
-        ensures state { self.new ≡ added T.greatest self.old bin number }
+        ensures state { self.new ≡ added T.greatest self.old bin (members * count) }
         ensures ticks { ticks.new ≡ ticks.old + 1 }
     {
-        self.add_to_bin(bin, number);
+        match members.checked_mul(count) {
+            Some(number) => self.add_to_bin(bin, number),
+            None => self.add_capped(bin, u128::from(members) * u128::from(count)),
+        }
         ticks.tick();
     }
 }
 
-/// How many intervals a span holds; no division where it is the shorter.
-fn steps(span: u64, interval: u64) -> u64
-    requires { 0 < interval }
+/// How many intervals a span holds. `few`, and one more, are tried before a division is done.
+fn steps(span: u64, interval: u64, few: u64) -> u64
+    requires some { 0 < interval }
+    requires fits { few * interval < 2 ^ 64 }
     ensures { result ≡ span / interval }
 {
-    if span < interval { 0 } else { span / interval }
+    let tried = few * interval;
+    if span < tried || (span - tried) / 2 >= interval {
+        return span / interval;
+    }
+    if span - tried < interval {
+        few
+    } else {
+        few + 1
+    }
 }

@@ -1,6 +1,6 @@
 //! The histogram: how it is made, and what it tells of itself.
 
-ghost use Rattle.std.specs.Prelude.{◌≡◌, ◌↔◌, ℕ, MatchResult, MatchOption, IsTrue, false, true, ◌+◌, ◌-◌, ◌*◌, ◌^◌, ◌<◌, ◌≤◌, IfSome, SomeIff, length, slice_index};
+ghost use Rattle.std.specs.Prelude.{◌≡◌, ◌↔◌, ℕ, MatchResult, MatchOption, IsTrue, false, true, ◌+◌, ◌-◌, ◌*◌, ◌^◌, ◌<◌, ◌≤◌, IfSome, SomeIff, length, map, slice_index};
 ghost use Rattle.hdr_base.specs.Classes.{bin_of, bucket, value_of, top_of};
 ghost use Rattle.hdr_core.specs.Plain.{IsPlain, grain, reach, empty_plain, max_of, min_nz_of, min_of};
 ghost use Rattle.hdr_core.specs.Recording.{grown};
@@ -213,6 +213,13 @@ impl<T: Counter> Histogram<T> {
         } else {
             None
         }
+    }
+
+    /// The counters of the bins in their order.
+    pub fn counters(&self) -> &[T]
+        ensures { map T.number result.now ≡ self.now.counts }
+    {
+        self.counts.as_slice()
     }
 
     /// The lowest value of the class of a bin.

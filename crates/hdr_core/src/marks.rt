@@ -84,8 +84,21 @@ impl Marks {
         }
     }
 
-    /// Widens both marks by a class. The first class widens no lower mark.
+    /// Widens both marks by a class, which seldom lies outside them. The first class widens no lower mark.
+    #[inline(always)]
     pub(crate) fn widen(&mut self, class: usize)
+        requires { class < 2 ^ 32 }
+        ensures { self.new ≡ record { top = later_mark self.old.top class; lower = earlier_mark self.old.lower class } }
+    {
+        if self.classes <= class || class.wrapping_sub(1) < self.before {
+            self.widen_to(class);
+        }
+    }
+
+    /// Widens both marks by a class.
+    #[cold]
+    #[inline(never)]
+    fn widen_to(&mut self, class: usize)
         requires { class < 2 ^ 32 }
         ensures { self.new ≡ record { top = later_mark self.old.top class; lower = earlier_mark self.old.lower class } }
     {

@@ -153,7 +153,7 @@ impl<T: Counter> Histogram<T> {
         ensures { self.new ≡ recorded T.greatest self.old value number }
     {
         let bin = self.scale.bin(value);
-        self.add_to_bin(bin, u128::from(number));
+        self.add_to_bin(bin, number);
     }
 }
 

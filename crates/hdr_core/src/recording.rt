@@ -41,7 +41,7 @@ impl<T: Counter> Histogram<T> {
     {
         match self.bin_of(value) {
             Some(bin) => {
-                self.add_to_bin(bin, u128::from(count.as_u64()));
+                self.add_to_bin(bin, count.as_u64());
                 Ok(())
             }
             None => self.record_past(value, count),
@@ -61,7 +61,7 @@ impl<T: Counter> Histogram<T> {
             return Err(RecordError::ValueOutOfRangeResizeDisabled);
         }
         let bin = self.widen(value)?;
-        self.add_to_bin(bin, u128::from(count.as_u64()));
+        self.add_to_bin(bin, count.as_u64());
         Ok(())
     }
 
@@ -85,7 +85,7 @@ impl<T: Counter> Histogram<T> {
     {
         let value = self.clamped(value);
         let bin = self.scale.bin(value);
-        self.add_to_bin(bin, u128::from(count.as_u64()));
+        self.add_to_bin(bin, count.as_u64());
     }
 
     /// The value, or `high` where the value is past the bins.
@@ -131,7 +131,25 @@ impl<T: Counter> Histogram<T> {
     }
 
     /// Adds a number to a bin and to the total, each up to its greatest, and widens the marks by the bin.
-    pub(crate) fn add_to_bin(&mut self, bin: usize, number: u128)
+    #[inline(always)]
+    pub(crate) fn add_to_bin(&mut self, bin: usize, number: u64)
+        requires { bin < length self.old.counts }
+        ensures { self.new ≡ added T.greatest self.old bin number }
+    {
+        let Some(total) = self.total.checked_add(number) else {
+            return self.add_capped(bin, u128::from(number));
+        };
+        let Some(()) = self.counts.try_add(bin, number) else {
+            return self.add_capped(bin, u128::from(number));
+        };
+        self.total = total;
+        self.marks.widen(bin);
+    }
+
+    /// Adds a number to a bin and to the total, where one of them may reach its greatest.
+    #[cold]
+    #[inline(never)]
+    pub(crate) fn add_capped(&mut self, bin: usize, number: u128)
         requires bin { bin < length self.old.counts }
         requires number { number + 2 ^ 64 < 2 ^ 128 }
         ensures { self.new ≡ added T.greatest self.old bin number }

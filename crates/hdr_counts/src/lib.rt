@@ -79,6 +79,13 @@ impl<T: Counter> Counts<T> {
         self.counters.len()
     }
 
+    /// The counters in their order.
+    pub fn as_slice(&self) -> &[T]
+        ensures { map T.number result.now ≡ self.now.numbers }
+    {
+        &self.counters
+    }
+
     /// The counter at place `i`.
     pub fn get(&self, i: usize) -> T
         requires { i < length self.now.numbers }
@@ -97,6 +104,21 @@ impl<T: Counter> Counts<T> {
         let new = value.as_u64();
         self.sums[k] = exchanged(self.sums[k], old, new);
         self.counters[i] = value;
+    }
+
+    /// Adds a number to the counter at place `i`. `None` exactly where the sum is above the greatest counter, and then
+    /// nothing is changed.
+    pub fn try_add(&mut self, i: usize, number: u64) -> Option<()>
+        requires { i < length self.old.numbers }
+        ensures { MatchOption result ((T.greatest < slice_index self.old.numbers i + number) × (self.new ≡ self.old))
+            (λ _. (slice_index self.old.numbers i + number ≤ T.greatest) × (self.new ≡ record { block = self.old.block; numbers = slice_set self.old.numbers i (slice_index self.old.numbers i + number) })) }
+    {
+        let sum = self.counters[i].as_u64().checked_add(number)?;
+        let counter = T::from_u64(sum)?;
+        let k = quotient(i, self.block, self.shift);
+        self.sums[k] += u128::from(number);
+        self.counters[i] = counter;
+        Some(())
     }
 
     /// Makes each counter 0.

@@ -1,5 +1,6 @@
 -- Bytes that are written at a place, and the spelling of a number byte by byte.
 use Rattle.std.proofs.Common.{◌≡◌, ℕ, zero, suc, ◌+◌, ◌-◌, ◌*◌, ◌/◌, ◌%◌, ◌^◌, ◌<◌, ◌≤◌, Bool, true, false, cond, List, [], ◌∷◌, ◌++◌, length, take, drop, set, refl, sym, ap, ◌∙◌, subst, arith, append_assoc, append-nil, length-append, length-take, length-take-le, length-drop, drop_at, drop_of_length-le, take-append-drop, pow-add, ltb}
+use Rattle.std.specs.Int.{bytes_low_first}
 use Rattle.std.proofs.lemmas.Bool.{le-ltb, lt-ltb}
 use Rattle.std.proofs.Math.Nat.{mul-le-mul_left}
 use Rattle.std.proofs.Math.Seq.{take-append_seam}
@@ -135,3 +136,15 @@ part_is text a n = ap (λ l. take a text ++ take n l) (take_rest text a) ∙ sym
 pub Appends-more : (x y z : Option (List ℕ)) (text : List ℕ) (a n : ℕ) → Appends x y (take a text)
     → Appends y z (take n (take (length text - a) (drop a text))) → Appends x z (take (a + n) text)
 Appends-more x y z text a n p q = subst (Appends x z) (part_is text a n) (Appends-trans x y z _ _ p q)
+
+-- the bytes of a number of more than 7 and at most 14 bits, lowest first, spell it
+pub two_bytes : (n w : ℕ) → 128 ≤ n → n < 16384 → w ≡ n % 128 + 128 + n / 128 * 256 → bytes_low_first 0 2 w ≡ spelling n
+unfolding spelling
+two_bytes n w from to is =
+    let low : w % 256 ≡ n % 128 + 128 = omega arith in
+    let high : w / 256 ^ 1 % 256 ≡ n / 128 = omega arith in
+    ap (λ x. x ∷ (w / 256 ^ 1 % 256) ∷ []) low ∙ ap (λ x. (n % 128 + 128) ∷ x ∷ []) high
+    ∙ sym (goes_on 7 n from ∙ ap (λ l. (n % 128 + 128) ∷ l) (ends 7 (n / 128) (omega arith) (omega arith)))
+
+pub two_long : (n : ℕ) → 128 ≤ n → n < 16384 → 2 ≡ length (spelling n)
+two_long n from to = ap (λ l. length l) (two_bytes n (n % 128 + 128 + n / 128 * 256) from to refl)

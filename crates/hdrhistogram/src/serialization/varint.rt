@@ -4,8 +4,13 @@ ghost use Rattle.std.specs.Prelude.{List, length, ℕ, ◌≤◌};
 ghost use Rattle.hdrhistogram.specs.Streams.{WritesFront};
 ghost use Rattle.hdrhistogram.specs.Varint.{IsShortest};
 
+use byteorder::{ByteOrder, LittleEndian};
+
 /// A byte of seven bits that is below this has no high bit, so none follows it.
 const LAST_BELOW: u64 = 128;
+
+/// A number that is below this is spelt by one byte or two.
+const SHORT_BELOW: u64 = 128 * 128;
 
 /// Writes the canonical spelling of the number at the front of the buffer, and gives its length:
 /// the shortest spelling by seven bits a byte, one to nine bytes. The buffer must have room for it;
@@ -20,9 +25,8 @@ pub fn varint_write(n: u64, buf: &mut [u8]) -> usize
         buf[0] = n as u8;
         return 1;
     }
-    if n / 128 < LAST_BELOW {
-        buf[0] = (n % 128) as u8 + 128;
-        buf[1] = (n / 128) as u8;
+    if n < SHORT_BELOW {
+        LittleEndian::write_u16(buf, (n % 128 + 128 + n / 128 * 256) as u16);
         return 2;
     }
     write_long(n, buf)

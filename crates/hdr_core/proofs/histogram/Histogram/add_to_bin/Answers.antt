@@ -10,24 +10,24 @@ use Rattle.hdr_core.proofs.histogram.Histogram.add_to_bin.Goals as goal
 
 pub widen-requires : goal.widen-requires
 widen-requires g c =
-    let in_bins = rw (← c.self.view_is) at c.requires.bin in
+    let in_bins = rw (← c.self.view_is) at c.requires in
     omega (arith, bins-few g.T.Counter.greatest (shown c.self.inside) c.self.invariant.plain)
 
-pub invariant_of-self : goal.invariant_of-self
-invariant_of-self g c =
+pub invariant_of-self-2 : goal.invariant_of-self-2
+invariant_of-self-2 g c =
     let h = shown c.self.inside in
     let n = c.args.number in
     let greatest = g.T.Counter.greatest in
-    let put : c.set.new.self.numbers ≡ set h.counts c.args.bin (min (get_or h.counts c.args.bin 0 + n) greatest) =
-    ap (λ (b : Blocks). b.numbers) c.set.ensures
-    ∙ ap (λ k. set h.counts c.args.bin k) (c.capped.ensures ∙ ap (λ k. min (k + n) greatest) (c.from.ensures ∙ c.as_u64.ensures.value ∙ c.get.ensures)) in
-    let parts = added-parts greatest h c.args.bin n c.set.new.self.numbers c.capped_total-self-inside.result c.widen.new.self.top c.widen.new.self.lower put
-    (c.capped_total-self-inside.ensures ∙ ap (λ k. min (k + n) (2 ^ 64 - 1)) c.from-2.ensures)
+    let put : c.try_add.new.self.numbers ≡ set h.counts c.args.bin (min (get_or h.counts c.args.bin 0 + n) greatest) =
+    ap (λ (b : Blocks). b.numbers) c.in-Some-try_add.ensures.1
+    ∙ ap (λ k. set h.counts c.args.bin k) (omega (arith, c.in-Some-try_add.ensures.0)) in
+    let parts = added-parts greatest h c.args.bin n c.try_add.new.self.numbers c.in-Some.total c.widen.new.self.top c.widen.new.self.lower put
+    (omega (arith, c.in-Some.ensures))
     (ap (λ (m : Marked). m.top) c.widen.ensures) (ap (λ (m : Marked). m.lower) c.widen.ensures) in
-    let in_bins = rw (← c.self.view_is) at c.requires.bin in
+    let in_bins = rw (← c.self.view_is) at c.requires in
     record {
       scale = c.self.invariant.scale;
-      block = ap (λ (b : Blocks). b.block) c.set.ensures ∙ c.self.invariant.block;
+      block = ap (λ (b : Blocks). b.block) c.in-Some-try_add.ensures.1 ∙ c.self.invariant.block;
       plain = rw parts (IsPlain-added greatest h c.args.bin n g.met.T.Counter.one_fits in_bins c.self.invariant.plain);
     }
 
@@ -36,10 +36,10 @@ returns g c =
     let h = shown c.self.inside in
     let n = c.args.number in
     let greatest = g.T.Counter.greatest in
-    let put : c.set.new.self.numbers ≡ set h.counts c.args.bin (min (get_or h.counts c.args.bin 0 + n) greatest) =
-    ap (λ (b : Blocks). b.numbers) c.set.ensures
-    ∙ ap (λ k. set h.counts c.args.bin k) (c.capped.ensures ∙ ap (λ k. min (k + n) greatest) (c.from.ensures ∙ c.as_u64.ensures.value ∙ c.get.ensures)) in
-    let parts = added-parts greatest h c.args.bin n c.set.new.self.numbers c.capped_total-self-inside.result c.widen.new.self.top c.widen.new.self.lower put
-    (c.capped_total-self-inside.ensures ∙ ap (λ k. min (k + n) (2 ^ 64 - 1)) c.from-2.ensures)
+    let put : c.try_add.new.self.numbers ≡ set h.counts c.args.bin (min (get_or h.counts c.args.bin 0 + n) greatest) =
+    ap (λ (b : Blocks). b.numbers) c.in-Some-try_add.ensures.1
+    ∙ ap (λ k. set h.counts c.args.bin k) (omega (arith, c.in-Some-try_add.ensures.0)) in
+    let parts = added-parts greatest h c.args.bin n c.try_add.new.self.numbers c.in-Some.total c.widen.new.self.top c.widen.new.self.lower put
+    (omega (arith, c.in-Some.ensures))
     (ap (λ (m : Marked). m.top) c.widen.ensures) (ap (λ (m : Marked). m.lower) c.widen.ensures) in
     parts ∙ ap (λ (h : Plain). added greatest h c.args.bin n) c.self.view_is

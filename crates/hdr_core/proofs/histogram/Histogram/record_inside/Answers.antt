@@ -6,8 +6,8 @@ use Rattle.hdr_core.proofs.Kept.{room-in}
 use Rattle.hdr_core.proofs.Merged.{recorded-inside}
 use Rattle.hdr_core.proofs.histogram.Histogram.record_inside.Goals as goal
 
-pub add_to_bin-requires-clause-bin : goal.add_to_bin-requires-clause-bin
-add_to_bin-requires-clause-bin g c =
+pub add_to_bin-requires : goal.add_to_bin-requires
+add_to_bin-requires g c =
     let h = c.args.self.now in
     let plain = rw c.self.view_is at c.self.invariant.plain in
     let same : c.self.inside.scale ≡ grain h = c.self.invariant.scale ∙ ap (λ (p : Plain). grain p) c.self.view_is in
@@ -21,5 +21,5 @@ returns g c =
     let v = c.args.value in
     let same : c.self.inside.scale ≡ grain h = c.self.invariant.scale ∙ ap (λ (p : Plain). grain p) c.self.view_is in
     let bin : c.bin-bin.result ≡ bin_of (grain h) v = c.bin-bin.ensures.value ∙ ap (λ (s : Grain). bin_of s v) same in
-    c.add_to_bin.ensures ∙ ap (λ b. added greatest h b c.from.result) bin ∙ ap (λ k. added greatest h (bin_of (grain h) v) k) c.from.ensures
+    c.add_to_bin.ensures ∙ ap (λ b. added greatest h b c.args.number) bin
     ∙ recorded-inside greatest h v c.args.number c.requires

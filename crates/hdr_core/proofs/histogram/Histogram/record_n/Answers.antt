@@ -17,7 +17,7 @@ returns-in-Some-clause-ok g c =
     let n = g.T.Counter.number c.args.count in
     let h = c.args.self.now in
     let v = c.args.value in
-    c.add_to_bin.ensures ∙ ap (λ k. added g.T.Counter.greatest h c.in-Some.bin k) (c.from.ensures ∙ c.as_u64.ensures.value)
+    c.add_to_bin.ensures ∙ ap (λ k. added g.T.Counter.greatest h c.in-Some.bin k) c.as_u64.ensures.value
     ∙ ap (λ (s : Plain). added g.T.Counter.greatest s c.in-Some.bin n) (sym (widened-same h v c.in-Some.ensures.value.0))
     ∙ ap (λ b. added g.T.Counter.greatest (widened h v) b n) c.in-Some.ensures.value.1
 

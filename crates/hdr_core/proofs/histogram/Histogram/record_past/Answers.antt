@@ -9,6 +9,6 @@ returns-clause-ok g c =
     let n = g.T.Counter.number c.args.count in
     let h = c.args.self.now in
     let v = c.args.value in
-    c.add_to_bin.ensures ∙ ap (λ k. added g.T.Counter.greatest c.widen.new.self c.in_ok-bin.bin k) (c.from.ensures ∙ c.as_u64.ensures.value)
+    c.add_to_bin.ensures ∙ ap (λ k. added g.T.Counter.greatest c.widen.new.self c.in_ok-bin.bin k) c.as_u64.ensures.value
     ∙ ap (λ (s : Plain). added g.T.Counter.greatest s c.in_ok-bin.bin n) c.in_ok-bin.ensures.ok.0
     ∙ ap (λ b. added g.T.Counter.greatest (widened h v) b n) c.in_ok-bin.ensures.ok.1

@@ -8,8 +8,8 @@ use Rattle.hdr_core.proofs.Merged.{recorded-inside}
 use Rattle.hdr_core.proofs.Stands.{StandsFor-recorded}
 use Rattle.hdr_core.proofs.histogram.Histogram.saturating_record_n.Goals as goal
 
-pub add_to_bin-requires-clause-bin : goal.add_to_bin-requires-clause-bin
-add_to_bin-requires-clause-bin g c =
+pub add_to_bin-requires : goal.add_to_bin-requires
+add_to_bin-requires g c =
     let h = c.args.self.now in
     let plain = rw c.self.view_is at c.self.invariant.plain in
     let same : c.self.inside.scale ≡ grain h = c.self.invariant.scale ∙ ap (λ (p : Plain). grain p) c.self.view_is in
@@ -24,7 +24,7 @@ returns-clause-state g c =
     let v = c.clamped-value.result in
     let same : c.self.inside.scale ≡ grain h = c.self.invariant.scale ∙ ap (λ (p : Plain). grain p) c.self.view_is in
     let bin : c.bin-bin.result ≡ bin_of (grain h) v = c.bin-bin.ensures.value ∙ ap (λ (s : Grain). bin_of s v) same in
-    c.add_to_bin.ensures ∙ ap (λ b. added greatest h b c.from.result) bin ∙ ap (λ k. added greatest h (bin_of (grain h) v) k) (c.from.ensures ∙ c.as_u64.ensures.value)
+    c.add_to_bin.ensures ∙ ap (λ b. added greatest h b c.as_u64.result) bin ∙ ap (λ k. added greatest h (bin_of (grain h) v) k) c.as_u64.ensures.value
     ∙ recorded-inside greatest h v n c.clamped-value.ensures.within ∙ ap (λ x. recorded greatest h x n) c.clamped-value.ensures.value
 
 pub returns-clause-samples : goal.returns-clause-samples

@@ -1,0 +1,19 @@
+use Rattle.std.proofs.Common.{◌≡◌, ◌+◌, ◌≤◌, length}
+use Rattle.hdr_core.specs.Plain.{grain, reach}
+use Rattle.hdr_core.specs.Recording.{recorded_each}
+use Rattle.hdr_core.specs.Missing.{each, classes_held, down_to}
+use Rattle.hdr_core.proofs.histogram.Histogram.add_in_bucket.Given as goal
+
+abbrev pub invariant-loop-next : goal.invariant-loop-next
+invariant-loop-next g l = record {
+  state : recorded_each g.T.Counter.greatest l.self (each l.count (down_to l.next l.interval)) ≡ recorded_each g.T.Counter.greatest l.initial.self (each l.count (down_to l.initial.next l.interval));
+  ticks : l.ticks + classes_held (grain l.initial.self) (length l.initial.self.counts) (down_to l.next l.interval)
+      ≡ l.initial.ticks + classes_held (grain l.initial.self) (length l.initial.self.counts) (down_to l.initial.next l.interval);
+  same_classes : grain l.self ≡ grain l.initial.self;
+  same_bins : length l.self.counts ≡ length l.initial.self.counts;
+  same_reach : reach l.self ≡ reach l.initial.self;
+  below : l.next ≤ l.initial.next;
+}
+
+abbrev pub decreases-loop-next : goal.decreases-loop-next
+decreases-loop-next g l = l.next
