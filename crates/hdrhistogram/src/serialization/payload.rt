@@ -1,6 +1,6 @@
 //! The payload of V2 bytes: the counts, with runs of empty bins.
 
-ghost use Rattle.std.specs.Prelude.{◌≡◌, ℕ, List, length, drop, take, ◌++◌, ◌+◌, ◌*◌};
+ghost use Rattle.std.specs.Prelude.{◌≡◌, ℕ, List, length, map, drop, take, slice_index, ◌++◌, ◌+◌, ◌*◌};
 ghost use Rattle.std.specs.Prelude.{◌≤◌, ◌<◌, ◌^◌, IfOk, IfErr, OnOk, All};
 ghost use Rattle.std.specs.Option.{SomeIff};
 ghost use Rattle.hdr_core.specs.Plain.{IsPlain};
@@ -40,6 +40,15 @@ pub(crate) fn written_bins<T: Counter>(h: &Histogram<T>) -> usize
         Some(bin) => bin + 1,
         None => bins,
     }
+}
+
+/// The number of a bin's counter.
+#[inline]
+fn count_of<T: Counter>(counters: &[T], bin: usize) -> u64
+    requires { bin < length counters.now }
+    ensures { result ≡ slice_index (map T.number counters.now) bin }
+{
+    counters[bin].as_u64()
 }
 
 /// Writes a number at a place, and gives the place behind it.
@@ -91,20 +100,20 @@ pub fn encode_counts<T: Counter>(
     ensures refused { IfErr result (λ e. (e ≡ V2SerializeError.CountNotSerializable)
         × HasTooGreatCount h.now) }
 {
+    let bins = written_bins(h);
     let counters = h.counters();
     let mut written = 0;
     let mut empty = 0;
-    for bin in 0..written_bins(h) {
-        let count = counters[bin].as_u64();
-        if count == 0 {
-            empty += 1;
-        } else {
-            if count > GREATEST_COUNT {
-                return Err(V2SerializeError::CountNotSerializable);
-            }
+    for bin in 0..bins {
+        let count = count_of(counters, bin);
+        if count >= 1 && count <= GREATEST_COUNT {
             written = put_run(buf, written, empty);
             empty = 0;
             written = put_number(buf, written, count as i64);
+        } else if count == 0 {
+            empty += 1;
+        } else {
+            return Err(V2SerializeError::CountNotSerializable);
         }
     }
     Ok(put_run(buf, written, empty))

@@ -21,15 +21,15 @@ pub fn varint_write(n: u64, buf: &mut [u8]) -> usize
     ensures written { WritesFront (λ text. IsShortest text n) buf.old buf.new result }
     ensures few { result ≤ 9 }
 {
-    if n < LAST_BELOW {
-        buf[0] = n as u8;
-        return 1;
-    }
-    if n < SHORT_BELOW {
+    if n >= LAST_BELOW && n < SHORT_BELOW {
         LittleEndian::write_u16(buf, (n % 128 + 128 + n / 128 * 256) as u16);
-        return 2;
+        2
+    } else if n < LAST_BELOW {
+        buf[0] = n as u8;
+        1
+    } else {
+        write_long(n, buf)
     }
-    write_long(n, buf)
 }
 
 /// Writes the canonical spelling of a number of any length, byte by byte.

@@ -1,10 +1,10 @@
-use Rattle.std.proofs.Common.{◌≡◌, ℕ, ◌^◌, ◌<◌, arith, ◌∙◌, ◌++◌, sym, subst, take, drop, w64, List, length, get_or, length-take-le}
+use Rattle.std.proofs.Common.{◌≡◌, ℕ, ◌^◌, ◌<◌, arith, ◌∙◌, ◌++◌, sym, subst, take, drop, ap, w64, List, length, get_or, length-take-le}
 use Rattle.std.proofs.lemmas.Int.{to_z_pos}
 use Rattle.hdrhistogram.specs.Payload.{IsPayload}
 use Rattle.hdrhistogram.proofs.PlainFacts.{all-small}
 use Rattle.hdrhistogram.proofs.Payloads.{encode_start, encode_empty, encode_full, encode_end, run_is, count_is, count_here}
 use Rattle.hdrhistogram.proofs.serialization.payload.encode_counts.Goals as goal
-use Rattle.hdrhistogram.proofs.serialization.payload.encode_counts.Goals.{then-count-eq0, else-count-eq0+else-count-gt-GREATEST_COUNT}
+use Rattle.hdrhistogram.proofs.serialization.payload.encode_counts.Goals.{then-count-ge1+then-count-le-GREATEST_COUNT, else-count-ge1+then-count-eq0}
 
 pub loop-bin-init : goal.loop-bin-init
 loop-bin-init g c = encode_start (take c.written_bins-bins.result c.args.h.now.counts) c.args.buf.now
@@ -27,13 +27,13 @@ loop-bin-preserved g c =
     let bin = c.loop-bin.bin in
     let counts = take bins c.args.h.now.counts in
     let size : length counts ≡ bins = length-take-le bins c.args.h.now.counts c.written_bins-bins.ensures.within in
-    let here : c.count_of-count.result ≡ get_or counts bin 0 = count_here c.args.h.now.counts bins bin c.count_of-count.result c.loop-bin-test.true c.count_of-count.ensures in
-    elim c.if-count-eq0.branch [
-      | then-count-eq0 w ↦ rw (w.buf-is, w.written-is, w.empty-is) (encode_empty counts _ _ bin _ _ c.loop-bin.invariant (omega arith) (sym here ∙ w.if-count-eq0.true))
-      | else-count-eq0+else-count-gt-GREATEST_COUNT w ↦ rw (w.buf-is, w.written-is, w.empty-is) (
+    let here : c.count_of-count.result ≡ get_or counts bin 0 = count_here c.args.h.now.counts bins bin c.count_of-count.result c.loop-bin-test.true (c.count_of-count.ensures ∙ ap (λ l. get_or l bin 0) c.counters-counters.ensures) in
+    elim c.if-count-ge1.branch [
+      | else-count-ge1+then-count-eq0 w ↦ rw (w.buf-is, w.written-is, w.empty-is) (encode_empty counts _ _ bin _ _ c.loop-bin.invariant (omega arith) (sym here ∙ w.if-count-eq0.true))
+      | then-count-ge1+then-count-le-GREATEST_COUNT w ↦ rw (w.buf-is, w.written-is, w.empty-is) (
           let small : c.count_of-count.result < 2 ^ 63 = omega arith in
           encode_full counts _ w.put_run-written.new.buf w.put_number-written.new.buf _ bin _ w.put_run-written.result w.put_number-written.result _ c.loop-bin.invariant (omega arith)
-          (λ none. w.if-count-eq0.false (here ∙ none)) (omega (arith, here, small))
+          (λ none. absurd (omega (arith, here, none, w.if-count-ge1.true))) (omega (arith, here, small))
           w.put_run-written.ensures.further w.put_run-written.ensures.few (run_is c.loop-bin.empty _ _ (omega (arith, c.loop-bin.invariant.some, c.written_bins-bins.ensures.few)) w.put_run-written.ensures.front) w.put_run-written.ensures.behind
           w.put_number-written.ensures.further w.put_number-written.ensures.few
           (count_is _ c.count_of-count.result (get_or counts bin 0) _ _ (to_z_pos w64 c.count_of-count.result small) here (omega (arith, here, small)) w.put_number-written.ensures.front) w.put_number-written.ensures.behind)
