@@ -2,7 +2,7 @@
 use Rattle.std.proofs.Common.{◌≡◌, ℕ, ◌+◌, ◌-◌, ◌*◌, ◌/◌, ◌^◌, ◌%◌, ◌<◌, ◌≤◌, refl, sym, ap, ◌∙◌, arith, inl, inr}
 use Rattle.std.proofs.lemmas.Bool.{cases_lt}
 use Rattle.std.proofs.lemmas.Nat.{pow_pos, pow-add, mul-le, one_shl}
-use Rattle.std.proofs.Math.Nat.{mod-eq_of_lt}
+use Rattle.std.proofs.Math.Nat.{mod-le}
 use Rattle.hdr_base.specs.Classes.{IsLeast, AreEquivalent, Grain, bucket, width_of, lowest_of, top_of, bin_of, reach_of}
 use Rattle.hdr_base.proofs.ClassLaws.{pow_mono_le, bucket-end, bucket-least, bucket-begin, bucket-is, width-pos, lowest-as-product, lowest-le, top-above, same-bin, bin-lowest, bin-top, place-below, place-above, two-halves}
 use Rattle.hdr_base.proofs.ScaleLaws.{value-bin, value-lowest}
@@ -139,15 +139,15 @@ one-bucket-bin g x v e =
 pub start-code : (e : ℕ) → e < 64 → 1 * 2 ^ e % 2 ^ 64 ≡ 2 ^ e
 start-code e h = one_shl e 64 h
 
--- a value's number and lowest value, from the exponent of the width in its bucket
-pub place-le-bin : (g : Grain) (v e : ℕ) → 2 ^ e ≡ width_of g v → v / 2 ^ e ≤ bin_of g v
+-- a value's number, from the width in its bucket
+pub place-le-bin : (g : Grain) (v : ℕ) → v / width_of g v ≤ bin_of g v
 unfolding bin_of
-place-le-bin g v e is = rw is (omega arith)
+place-le-bin g v = omega arith
 
-pub place-bin : (g : Grain) (x v e b : ℕ) → 2 ^ e ≡ width_of g v → bucket g x ≡ bucket g v → b ≡ bin_of g v → b - v / 2 ^ e + x / 2 ^ e ≡ bin_of g x
-place-bin g x v e b is same bin = omega (arith, bin, place-le-bin g v e is, rw (← is) at (one-bucket-bin g x v same))
+pub place-bin : (g : Grain) (x v b : ℕ) → bucket g x ≡ bucket g v → b ≡ bin_of g v → b - v / width_of g v + x / width_of g v ≡ bin_of g x
+place-bin g x v b same bin = omega (arith, bin, place-le-bin g v, one-bucket-bin g x v same)
 
-pub place-lowest : (g : Grain) (x v e : ℕ) → 2 ^ e ≡ width_of g v → bucket g x ≡ bucket g v → x < 2 ^ 64 → x / 2 ^ e * 2 ^ e % 2 ^ 64 ≡ lowest_of g x
-place-lowest g x v e is same fits =
-    let low : x / 2 ^ e * 2 ^ e ≡ lowest_of g x = sym (lowest-as-product g x ∙ ap (λ w. x / w * w) (one-bucket-width g x v same ∙ sym is)) in
-    mod-eq_of_lt (omega (arith, low, lowest-le g x, fits)) ∙ low
+-- how far a value lies above the lowest of its class
+pub place-span : (g : Grain) (x v : ℕ) → bucket g x ≡ bucket g v → x % width_of g v + lowest_of g x ≡ x
+unfolding lowest_of
+place-span g x v same = omega (arith, ap (λ w. x % w) (one-bucket-width g x v same), mod-le x (width_of g x))

@@ -133,14 +133,6 @@ impl Scale {
         }
     }
 
-    /// The exponent of the width of the class of a value.
-    pub fn exponent(self, value: u64) -> u32
-        ensures value { 2 ^ result ≡ width_of self value }
-        ensures bound { result < 64 }
-    {
-        self.unit as u32 + self.bucket(value)
-    }
-
     /// How many buckets there are up to that of a value.
     pub fn buckets(self, value: u64) -> usize
         ensures value { result ≡ bucket self value + 1 }

@@ -120,15 +120,14 @@ impl<T: Counter> Histogram<T> {
         ensures same_bins { length self.new.counts ≡ length self.old.counts }
         ensures same_reach { reach self.new ≡ reach self.old }
     {
-        let shift = self.scale.exponent(first);
-        let bin = self.scale.bin(first) - (first >> shift) as usize;
-        let few = ((1u64 << shift) / interval).saturating_sub(1);
+        let width = self.scale.width(first);
+        let bin = self.scale.bin(first) - (first / width) as usize;
+        let few = (width / interval).saturating_sub(1);
         let mut next = first;
         while next >= start {
-            let place = next >> shift;
-            let lowest = (place << shift).max(interval);
-            let members = steps(next - lowest, interval, few) + 1;
-            self.add_counted(bin + place as usize, members, count, ticks);
+            let span = (next % width).min(next - interval);
+            let members = steps(span, interval, few) + 1;
+            self.add_counted(bin + (next / width) as usize, members, count, ticks);
             next -= members * interval;
         }
         next
@@ -141,9 +140,10 @@ impl<T: Counter> Histogram<T> {
         ensures state { self.new ≡ added T.greatest self.old bin (members * count) }
         ensures ticks { ticks.new ≡ ticks.old + 1 }
     {
-        match members.checked_mul(count) {
-            Some(number) => self.add_to_bin(bin, number),
-            None => self.add_capped(bin, u128::from(members) * u128::from(count)),
+        let number = u128::from(members) * u128::from(count);
+        match u64::try_from(number) {
+            Ok(number) => self.add_to_bin(bin, number),
+            Err(_) => self.add_capped(bin, number),
         }
         ticks.tick();
     }

@@ -1,6 +1,6 @@
-use Rattle.std.proofs.Common.{◌^◌, ◌≡◌, ◌∙◌, ◌+◌, ◌-◌, ◌*◌, ◌/◌, ◌%◌, ◌<◌, ◌≤◌, ℕ, max, length, ap, sym, arith}
+use Rattle.std.proofs.Common.{◌^◌, ◌≡◌, ◌∙◌, ◌+◌, ◌-◌, ◌*◌, ◌/◌, ◌%◌, ◌<◌, ◌≤◌, ℕ, min, max, length, ap, sym, refl, arith}
 use Rattle.hdr_base.specs.Classes.{Grain, bucket, width_of, bin_of, lowest_of}
-use Rattle.hdr_base.proofs.Intervals.{place-le-bin, place-bin, place-lowest}
+use Rattle.hdr_base.proofs.Intervals.{place-le-bin, place-bin, place-span}
 use Rattle.hdr_core.specs.Plain.{Plain, grain, reach}
 use Rattle.hdr_core.specs.Recording.{added, recorded_each}
 use Rattle.hdr_core.specs.Missing.{each, classes_held, down_to}
@@ -10,18 +10,20 @@ use Rattle.hdr_core.proofs.ByClass.{state-step, held-step, members-fit}
 use Rattle.hdr_core.proofs.histogram.Histogram.add_in_bucket.Goals as goal
 
 -- what the code finds of the class of a value, from the width of the classes in its bucket
-module _ (s g : Grain) (x first e : ℕ) (same : s ≡ g) (width : 2 ^ e ≡ width_of s first) (one : bucket g x ≡ bucket g first) where
-  one_by : bucket s x ≡ bucket s first
-  one_by = rw same one
+module _ (s g : Grain) (x first w : ℕ) (same : s ≡ g) (width : w ≡ width_of s first) (one : bucket g x ≡ bucket g first) where
+  width-is : w ≡ width_of g first
+  width-is = width ∙ ap (λ (g : Grain). width_of g first) same
 
-  bin-is : (b : ℕ) → b ≡ bin_of s first → b - first / 2 ^ e + x / 2 ^ e ≡ bin_of g x
-  bin-is b is = place-bin s x first e b width one_by is ∙ ap (λ (g : Grain). bin_of g x) same
+  bin-is : (b : ℕ) → b ≡ bin_of s first → b - first / w + x / w ≡ bin_of g x
+  bin-is b is = rw width-is (place-bin g x first b one (is ∙ ap (λ (g : Grain). bin_of g first) same))
 
-  low-is : (low i : ℕ) → x < 2 ^ 64 → low ≡ max (x / 2 ^ e * 2 ^ e % 2 ^ 64) i → low ≡ max (lowest_of g x) i
-  low-is low i fits is = is ∙ ap (λ y. max y i) (place-lowest s x first e width one_by fits ∙ ap (λ (g : Grain). lowest_of g x) same)
+  span-is : (span i : ℕ) → i ≤ x → span ≡ min (x % w) (x - i) → span ≡ x - max (lowest_of g x) i
+  span-is span i ge is = omega (arith, is, ge, ap (λ v. x % v) width-is, place-span g x first one)
 
 pub overflow_sub-bin : goal.overflow_sub-bin
-overflow_sub-bin g c = omega (arith, c.bin.ensures.value, place-le-bin c.self.inside.scale c.args.first c.exponent-shift.result c.exponent-shift.ensures.value)
+overflow_sub-bin g c =
+    let le = place-le-bin c.self.inside.scale c.args.first in
+    omega (arith, c.bin.ensures.value, le, ap (λ w. c.args.first / w) c.width-width.ensures.value)
 
 pub add_counted-requires-clause-bin : goal.add_counted-requires-clause-bin
 add_counted-requires-clause-bin g c =
@@ -29,7 +31,8 @@ add_counted-requires-clause-bin g c =
     let x = c.loop-next.next in
     let plain = rw c.self.view_is at c.self.invariant.plain in
     let same : c.self.inside.scale ≡ grain h = c.self.invariant.scale ∙ ap (λ (p : Plain). grain p) c.self.view_is in
-    let bin = bin-is c.self.inside.scale (grain h) x c.args.first c.exponent-shift.result same c.exponent-shift.ensures.value (c.requires.one_bucket x (omega (arith, c.loop-next-test.true)) c.loop-next.invariant.below) c.bin.result c.bin.ensures.value in
+    let one = c.requires.one_bucket x (omega (arith, c.loop-next-test.true)) c.loop-next.invariant.below in
+    let bin = bin-is c.self.inside.scale (grain h) x c.args.first c.width-width.result same c.width-width.ensures.value one c.bin.result c.bin.ensures.value in
     omega (arith, bin, c.loop-next.invariant.same_bins, room-in g.T.Counter.greatest h x plain (omega (arith, c.requires.within, c.loop-next.invariant.below)))
 
 pub add_counted-requires-clause-room : goal.add_counted-requires-clause-room
@@ -37,23 +40,23 @@ add_counted-requires-clause-room g c =
     let h = c.args.self.now in
     let x = c.loop-next.next in
     let i = c.args.interval in
-    let low = c.max-lowest.result in
+    let low = max (lowest_of (grain h) x) i in
     let plain = rw c.self.view_is at c.self.invariant.plain in
-    let same : c.self.inside.scale ≡ grain h = c.self.invariant.scale ∙ ap (λ (p : Plain). grain p) c.self.view_is in
-    let is_low = low-is c.self.inside.scale (grain h) x c.args.first c.exponent-shift.result same c.exponent-shift.ensures.value (c.requires.one_bucket x (omega (arith, c.loop-next-test.true)) c.loop-next.invariant.below) low i (omega arith) c.max-lowest.ensures in
     let room : bin_of (grain h) x < length h.counts = room-in g.T.Counter.greatest h x plain (omega (arith, c.requires.within, c.loop-next.invariant.below)) in
-    omega (arith, c.requires.room, c.loop-next.invariant.ticks, held-step (grain h) x i low ((x - low) / i + 1) (omega arith) (grain-digits g.T.Counter.greatest h plain) (omega (arith, c.requires.some, c.loop-next-test.true)) is_low (omega arith) (length h.counts) room)
+    omega (arith, c.requires.room, c.loop-next.invariant.ticks, held-step (grain h) x i low ((x - low) / i + 1) (omega arith) (grain-digits g.T.Counter.greatest h plain) (omega (arith, c.requires.some, c.loop-next-test.true)) refl refl (length h.counts) room)
 
 pub overflow_sub-next-in-loop-next : goal.overflow_sub-next-in-loop-next
 overflow_sub-next-in-loop-next g c =
     let h = c.args.self.now in
     let x = c.loop-next.next in
     let i = c.args.interval in
-    let low = c.max-lowest.result in
+    let low = max (lowest_of (grain h) x) i in
     let plain = rw c.self.view_is at c.self.invariant.plain in
     let same : c.self.inside.scale ≡ grain h = c.self.invariant.scale ∙ ap (λ (p : Plain). grain p) c.self.view_is in
-    let is_low = low-is c.self.inside.scale (grain h) x c.args.first c.exponent-shift.result same c.exponent-shift.ensures.value (c.requires.one_bucket x (omega (arith, c.loop-next-test.true)) c.loop-next.invariant.below) low i (omega arith) c.max-lowest.ensures in
-    members-fit (grain h) x i low (c.steps-members.result + 1) (omega arith) (grain-digits g.T.Counter.greatest h plain) (omega (arith, c.requires.some, c.loop-next-test.true)) is_low (omega (arith, c.steps-members.ensures))
+    let one = c.requires.one_bucket x (omega (arith, c.loop-next-test.true)) c.loop-next.invariant.below in
+    let ge : i ≤ x = omega (arith, c.requires.some, c.loop-next-test.true) in
+    let span = span-is c.self.inside.scale (grain h) x c.args.first c.width-width.result same c.width-width.ensures.value one c.min-span.result i ge c.min-span.ensures in
+    members-fit (grain h) x i low (c.steps-members.result + 1) (omega arith) (grain-digits g.T.Counter.greatest h plain) ge refl (ap (λ q. q + 1) (c.steps-members.ensures ∙ ap (λ y. y / i) span))
 
 pub overflow_mul-next : goal.overflow_mul-next
 overflow_mul-next g c = omega (arith, overflow_sub-next-in-loop-next g c)
@@ -66,7 +69,7 @@ loop-next-preserved g c =
     let x = c.loop-next.next in
     let i = c.args.interval in
     let n = c.args.count in
-    let low = c.max-lowest.result in
+    let low = max (lowest_of (grain h) x) i in
     let m = (x - low) / i + 1 in
     let inv = c.loop-next.invariant in
     let plain = rw c.self.view_is at c.self.invariant.plain in
@@ -74,18 +77,20 @@ loop-next-preserved g c =
     let digits : 0 < (grain h).digits = grain-digits greatest h plain in
     let digits_here : 0 < (grain k).digits = rw inv.same_classes digits in
     let ge : i ≤ x = omega (arith, c.requires.some, c.loop-next-test.true) in
-    let is_low = low-is c.self.inside.scale (grain h) x c.args.first c.exponent-shift.result same c.exponent-shift.ensures.value (c.requires.one_bucket x (omega (arith, c.loop-next-test.true)) inv.below) low i (omega arith) c.max-lowest.ensures in
-    let is_low_here : low ≡ max (lowest_of (grain k) x) i = is_low ∙ ap (λ (s : Grain). max (lowest_of s x) i) (sym inv.same_classes) in
-    let is_bin = bin-is c.self.inside.scale (grain h) x c.args.first c.exponent-shift.result same c.exponent-shift.ensures.value (c.requires.one_bucket x (omega (arith, c.loop-next-test.true)) inv.below) c.bin.result c.bin.ensures.value ∙ ap (λ (s : Grain). bin_of s x) (sym inv.same_classes) in
+    let one = c.requires.one_bucket x (omega (arith, c.loop-next-test.true)) inv.below in
+    let span = span-is c.self.inside.scale (grain h) x c.args.first c.width-width.result same c.width-width.ensures.value one c.min-span.result i ge c.min-span.ensures in
+    let steps = c.steps-members.ensures ∙ ap (λ y. y / i) span in
+    let is_low_here : low ≡ max (lowest_of (grain k) x) i = ap (λ (s : Grain). max (lowest_of s x) i) (sym inv.same_classes) in
+    let is_bin = bin-is c.self.inside.scale (grain h) x c.args.first c.width-width.result same c.width-width.ensures.value one c.bin.result c.bin.ensures.value ∙ ap (λ (s : Grain). bin_of s x) (sym inv.same_classes) in
     let within : x ≤ reach h = omega (arith, c.requires.within, inv.below) in
     let room : bin_of (grain h) x < length h.counts = room-in greatest h x plain within in
     let room_here : bin_of (grain k) x < length k.counts = rw inv.same_classes (omega (arith, room, inv.same_bins)) in
     let new : c.add_counted.new.self ≡ added greatest k (bin_of (grain k) x) (m * n) =
-    c.add_counted.ensures.state ∙ ap (λ b. added greatest k b ((c.steps-members.result + 1) * n)) is_bin ∙ ap (λ q. added greatest k (bin_of (grain k) x) ((q + 1) * n)) c.steps-members.ensures in
-    rw c.steps-members.ensures (record {
+    c.add_counted.ensures.state ∙ ap (λ b. added greatest k b ((c.steps-members.result + 1) * n)) is_bin ∙ ap (λ q. added greatest k (bin_of (grain k) x) ((q + 1) * n)) steps in
+    rw steps (record {
       state = ap (λ (s : Plain). recorded_each greatest s (each n (down_to (x - m * i) i))) new
-          ∙ state-step greatest k x i low m n (omega arith) digits_here ge is_low_here (omega arith) (omega (arith, within, inv.same_reach)) room_here ∙ inv.state;
-      ticks = omega (arith, c.add_counted.ensures.ticks, inv.ticks, held-step (grain h) x i low m (omega arith) digits ge is_low (omega arith) (length h.counts) room);
+          ∙ state-step greatest k x i low m n (omega arith) digits_here ge is_low_here refl (omega (arith, within, inv.same_reach)) room_here ∙ inv.state;
+      ticks = omega (arith, c.add_counted.ensures.ticks, inv.ticks, held-step (grain h) x i low m (omega arith) digits ge refl refl (length h.counts) room);
       same_classes = ap (λ (s : Plain). grain s) new ∙ grain-added greatest k (bin_of (grain k) x) (m * n) ∙ inv.same_classes;
       same_bins = ap (λ (s : Plain). length s.counts) new ∙ bins-added greatest k (bin_of (grain k) x) (m * n) ∙ inv.same_bins;
       same_reach = ap (λ (s : Plain). reach s) new ∙ reach-added greatest k (bin_of (grain k) x) (m * n) ∙ inv.same_reach;
