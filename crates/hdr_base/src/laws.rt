@@ -37,9 +37,12 @@ pub fn widths()
         → width_of (grain_of low sigfig) v * 10 ^ sigfig ≤ lowest_of (grain_of low sigfig) v }
 {}
 
-/// Where one scale has a unit no greater and no fewer digits than another, each of its classes lies in one of the other.
+/// Where one scale has a unit no greater and no fewer digits than another, each of its classes lies in one of the other;
+/// and a `sigfig` no smaller gives no fewer digits.
 pub fn finer_classes()
-    ensures { (low sigfig : ℕ) → HasScale low sigfig → (base kept : ℕ) → HasScale base kept
+    ensures finer { (low sigfig base kept : ℕ) → (grain_of low sigfig).unit ≤ (grain_of base kept).unit → kept ≤ sigfig
+        → IsFiner (grain_of low sigfig) (grain_of base kept) }
+    ensures classes { (low sigfig : ℕ) → HasScale low sigfig → (base kept : ℕ) → HasScale base kept
         → IsFiner (grain_of low sigfig) (grain_of base kept) → (a b : ℕ)
         → AreEquivalent (grain_of low sigfig) a b → AreEquivalent (grain_of base kept) a b }
 {}

@@ -9,7 +9,7 @@ use std::marker::Model;
 ///
 /// Values lie in buckets, each of which reaches twice as far as the one before, and whose classes are twice as wide.
 /// All of it is whole numbers and shifts, exact for every `u64`.
-#[derive(Clone, Copy)]
+#[derive(Clone, Copy, Debug)]
 pub struct Scale {
     unit: u8,
     digits: u8,

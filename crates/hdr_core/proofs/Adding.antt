@@ -4,7 +4,7 @@ use Rattle.std.specs.List.{All}
 use Rattle.std.proofs.lemmas.Bool.{cases_lt, cases_eq}
 use Rattle.std.proofs.lemmas.List.{get_or_past, get_or-set_same, get_or-set_other, append-nil}
 use Rattle.std.proofs.lemmas.List.Elements.{All-head, All-tail}
-use Rattle.std.proofs.lemmas.List.Sums.{get_or-le-sum_by}
+use Rattle.std.proofs.lemmas.List.Sums.{get_or-le-sum_by, sum_by-cons}
 use Rattle.hdr_base.specs.Classes.{Grain, bin_of, value_of, top_of}
 use Rattle.hdr_base.proofs.Finer.{bin-value_of}
 use Rattle.hdr_base.proofs.Reach.{reach-fits}
@@ -228,3 +228,22 @@ undoes greatest h s d one p q same kept free x i =
     let own_number : in_class (grain (merged greatest h s)) i (lowest_values s) ≡ get_or s.counts i 0 =
     ap (λ g. in_class g i (lowest_values s)) (kept ∙ same) ∙ own-class (grain s) i s.counts (grain-digits greatest s q) in
     omega (arith, x.numbers i, own_number, (merged-facts greatest h s one p q same).1 i, free i)
+
+pub undoes-other : (greatest : ℕ) (h s d : Plain) → 1 ≤ greatest → IsPlain greatest h → IsPlain greatest s → grain h ≡ grain s → grain (merged greatest h s) ≡ grain h
+    → ((i : ℕ) → get_or h.counts i 0 + get_or s.counts i 0 ≤ greatest) → IsDifference (merged greatest h s) h d → (i : ℕ) → get_or d.counts i 0 ≡ get_or s.counts i 0
+undoes-other greatest h s d one p q same kept free x i =
+    let own_number : in_class (grain (merged greatest h s)) i (lowest_values h) ≡ get_or h.counts i 0 =
+    ap (λ g. in_class g i (lowest_values h)) kept ∙ own-class (grain h) i h.counts (grain-digits greatest h p) in
+    omega (arith, x.numbers i, own_number, (merged-facts greatest h s one p q same).1 i, free i)
+
+-- lists with the same numbers have one sum
+sums-alike : (xs ys : List ℕ) → ((i : ℕ) → get_or xs i 0 ≡ get_or ys i 0) → sum xs ≡ sum ys
+sums-alike [] [] same = refl
+sums-alike [] (y ∷ ys) same = omega (arith, same 0, sum_by-cons (λ (n : ℕ). n) y ys, sums-alike [] ys (λ i. same (suc i)))
+sums-alike (x ∷ xs) [] same = omega (arith, same 0, sum_by-cons (λ (n : ℕ). n) x xs, sums-alike xs [] (λ i. same (suc i)))
+sums-alike (x ∷ xs) (y ∷ ys) same =
+    omega (arith, same 0, sum_by-cons (λ (n : ℕ). n) x xs, sum_by-cons (λ (n : ℕ). n) y ys, sums-alike xs ys (λ i. same (suc i)))
+
+pub undone-total : (h d : Plain) → d.total ≡ min (sum d.counts) (2 ^ 64 - 1) → ((i : ℕ) → get_or d.counts i 0 ≡ get_or h.counts i 0) → h.total < 2 ^ 64
+    → h.total ≡ sum h.counts → d.total ≡ h.total
+undone-total h d is same fits exact = omega (arith, is, sums-alike d.counts h.counts same, fits, exact)

@@ -7,9 +7,9 @@ use Rattle.std.proofs.lemmas.Bool.{cases_lt}
 use Rattle.std.proofs.lemmas.List.{length-replicate, length-append}
 use Rattle.std.proofs.lemmas.List.Elements.{All-replicate, All-nil}
 use Rattle.std.proofs.lemmas.List.Folds.{sum_by-replicate}
-use Rattle.hdr_base.specs.Classes.{Grain, bin_of, reach_of, top_of, value_of, bins_to}
+use Rattle.hdr_base.specs.Classes.{Grain, grain_of, bin_of, reach_of, top_of, value_of, bins_to}
 use Rattle.hdr_base.proofs.Reach.{reach-holds}
-use Rattle.hdr_core.specs.Plain.{Plain, IsPlain, grain, reach, top_of_mark, max_of, value_of_mark, min_nz_of, min_of}
+use Rattle.hdr_core.specs.Plain.{Plain, IsPlain, grain, reach, empty_plain, top_of_mark, max_of, value_of_mark, min_nz_of, min_of}
 use Rattle.hdr_core.specs.Recording.{grown, widened, added, recorded, clamped, cleared, restarted}
 use Rattle.hdr_core.specs.Merging.{with_room}
 use Rattle.hdr_core.specs.Samples.{StandsFor}
@@ -22,6 +22,7 @@ unfolding cleared
 IsPlain-cleared greatest h p = record {
   scale = p.scale;
   high_fits = p.high_fits;
+  wide = p.wide;
   bins = length-replicate (length h.counts) 0 ∙ p.bins;
   numbers_fit = All-replicate (λ n. n ≤ greatest) (length h.counts) 0 (omega arith);
   total_fits = omega arith;
@@ -43,6 +44,7 @@ unfolding restarted
 IsPlain-restarted greatest h p = record {
   scale = p.scale;
   high_fits = p.high_fits;
+  wide = p.wide;
   bins = length-replicate (length h.counts) 0 ∙ p.bins;
   numbers_fit = All-replicate (λ n. n ≤ greatest) (length h.counts) 0 (omega arith);
   total_fits = omega arith;
@@ -60,6 +62,7 @@ unfolding cleared
 IsPlain-unmarked greatest h k e p = record {
   scale = p.scale;
   high_fits = p.high_fits;
+  wide = p.wide;
   bins = p.bins;
   numbers_fit = p.numbers_fit;
   total_fits = p.total_fits;
@@ -119,6 +122,11 @@ stands-cleared h = record { numbers = λ i lt. zeros-behind [] (length h.counts)
 pub stands-restarted : (h : Plain) → StandsFor (restarted h) []
 unfolding restarted
 stands-restarted h = record { numbers = λ i lt. zeros-behind [] (length h.counts) i; within = All-nil (λ s. s ≤ reach (restarted h)); total = refl }
+
+pub stands-made : (low high sigfig : ℕ) (auto_resize : Bool) → StandsFor (empty_plain low high sigfig auto_resize) []
+unfolding empty_plain
+stands-made low high sigfig auto_resize =
+    record { numbers = λ i lt. zeros-behind [] (bins_to (grain_of low sigfig) high) i; within = All-nil (λ s. s ≤ reach (empty_plain low high sigfig auto_resize)); total = refl }
 
 pub grain-cleared : (h : Plain) → grain (cleared h) ≡ grain h
 unfolding cleared

@@ -11,7 +11,8 @@ use Rattle.hdr_base.proofs.Finer.{bin-value_of}
 use Rattle.hdr_counts.specs.Blocks.{IsFirstToReach}
 use Rattle.hdr_core.specs.Plain.{Plain, IsPlain, grain}
 use Rattle.hdr_core.specs.Samples.{StandsFor}
-use Rattle.hdr_core.specs.Ranks.{rank, ranked_sample, FirstReaching, first_reaching, answer_at, quantile_of, IsTopNear}
+use Rattle.hdr_core.proofs.Order.{FirstReaching}
+use Rattle.hdr_core.specs.Ranks.{rank, ranked_sample, first_reaching, answer_at, quantile_of, IsTopNear}
 use Rattle.hdr_core.proofs.Kept.{grain-digits}
 use Rattle.hdr_core.proofs.Stands.{eqb-other}
 use Rattle.hdr_core.proofs.RankedAnswers.{first-one, first-by, rank-pos, answer-ranked, answer-some}
@@ -74,6 +75,13 @@ first_reaching-found counts r pos =
     }
 
 -- what a search by blocks finds
+pub first-class : (counts : List ℕ) (r : ℕ) → 0 < r → MatchOption (first_reaching counts r) (sum counts < r) (IsFirstToReach counts r)
+first-class counts r pos = told (first_reaching counts r) (first_reaching-found counts r pos)
+  where
+    told : (o : Option ℕ) → MatchOption o (sum counts < r) (FirstReaching counts r) → MatchOption o (sum counts < r) (IsFirstToReach counts r)
+    told None none = none
+    told (Some i) first = (first.in_bins, first.before, first.reached)
+
 pub found-by-blocks : (counts : List ℕ) (r : ℕ) (place : Option ℕ) → 0 < r → MatchOption place (sum counts < r) (IsFirstToReach counts r) → place ≡ first_reaching counts r
 found-by-blocks counts r place pos found = both place (first_reaching counts r) found (first_reaching-found counts r pos)
   where

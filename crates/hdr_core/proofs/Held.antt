@@ -193,6 +193,7 @@ pub IsPlain-restated : (greatest : ℕ) (h : Plain) (counts : List ℕ) (total :
 IsPlain-restated greatest h counts total top lower p same fit is_total is_top is_lower = record {
   scale = p.scale;
   high_fits = p.high_fits;
+  wide = p.wide;
   bins = same ∙ p.bins;
   numbers_fit = fit;
   total_fits = omega arith;

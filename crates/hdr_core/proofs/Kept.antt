@@ -86,6 +86,7 @@ IsPlain-added greatest h i n one room p =
     record {
       scale = p.scale;
       high_fits = p.high_fits;
+      wide = p.wide;
       bins = length-set h.counts i _ ∙ p.bins;
       numbers_fit = All-set (λ n. n ≤ greatest) h.counts i _ (omega arith) p.numbers_fit;
       total_fits = omega arith;
@@ -160,6 +161,10 @@ length-grown greatest h x p lt =
     ∙ ap (λ n. length h.counts + n) (length-replicate (bins_to (grain h) x - length h.counts) 0)
     ∙ (let e : length h.counts + (bins_to (grain h) x - length h.counts) ≡ bins_to (grain h) x = omega (arith, grows greatest h x p lt) in e)
 
+wide-past : (h : Plain) (x : ℕ) → 2 * h.low ≤ h.high → reach h < x → 2 * h.low ≤ x
+unfolding reach
+wide-past h x wide lt = omega (arith, wide, lt, reach-holds (grain h) h.high)
+
 pub IsPlain-grown : (greatest : ℕ) (h : Plain) (x : ℕ) → IsPlain greatest h → x < 2 ^ 64 → reach h < x → IsPlain greatest (grown h x)
 unfolding grown
 IsPlain-grown greatest h x p small lt =
@@ -168,6 +173,7 @@ IsPlain-grown greatest h x p small lt =
     record {
       scale = p.scale;
       high_fits = small;
+      wide = wide-past h x p.wide lt;
       bins = len;
       numbers_fit = All-append (λ n. n ≤ greatest) h.counts _ p.numbers_fit (All-replicate (λ n. n ≤ greatest) _ 0 (omega arith));
       total_fits = p.total_fits;
@@ -218,11 +224,12 @@ grain-recorded greatest h v n =
     ]
 
 -- a histogram that was just made
-pub IsPlain-empty : (greatest low high sigfig : ℕ) (auto_resize : Bool) → HasScale low sigfig → high < 2 ^ 64 → IsPlain greatest (empty_plain low high sigfig auto_resize)
+pub IsPlain-empty : (greatest low high sigfig : ℕ) (auto_resize : Bool) → HasScale low sigfig → high < 2 ^ 64 → 2 * low ≤ high → IsPlain greatest (empty_plain low high sigfig auto_resize)
 unfolding empty_plain
-IsPlain-empty greatest low high sigfig auto_resize scale fits = record {
+IsPlain-empty greatest low high sigfig auto_resize scale fits wide = record {
   scale = scale;
   high_fits = fits;
+  wide = wide;
   bins = length-replicate (bins_to (grain_of low sigfig) high) 0;
   numbers_fit = All-replicate (λ n. n ≤ greatest) (bins_to (grain_of low sigfig) high) 0 (omega arith);
   total_fits = omega arith;

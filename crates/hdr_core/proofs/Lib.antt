@@ -18,4 +18,5 @@ pub mod Adding
 pub mod Sameness
 pub mod Between
 pub mod WidenedMarks
+pub mod Bounds
 pub mod Cleared

@@ -133,6 +133,7 @@ module _ (greatest most : ℕ) (h s : Plain) (one : 1 ≤ greatest) (same : leng
       record {
         scale = p.scale;
         high_fits = p.high_fits;
+        wide = p.wide;
         bins = capped-length greatest h.counts s.counts ∙ p.bins;
         numbers_fit = capped-fit greatest h.counts s.counts p.numbers_fit;
         total_fits = q.total_fits;
@@ -159,6 +160,7 @@ module _ (greatest most : ℕ) (h s : Plain) (one : 1 ≤ greatest) (same : leng
       record {
         scale = p.scale;
         high_fits = p.high_fits;
+        wide = p.wide;
         bins = capped-length greatest h.counts s.counts ∙ p.bins;
         numbers_fit = capped-fit greatest h.counts s.counts p.numbers_fit;
         total_fits = omega arith;

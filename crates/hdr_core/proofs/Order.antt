@@ -12,7 +12,7 @@ use Rattle.hdr_base.specs.Classes.{Grain, bin_of}
 use Rattle.hdr_base.proofs.ClassLaws.{bin-mono}
 use Rattle.hdr_core.specs.Plain.{Plain, grain}
 use Rattle.hdr_core.specs.Samples.{in_class, StandsFor}
-use Rattle.hdr_core.specs.Ranks.{put_in_order, sorted, rank, FirstReaching}
+use Rattle.hdr_core.specs.Ranks.{put_in_order, sorted, rank}
 
 -- ---- sorted lists
 
@@ -173,6 +173,12 @@ pub running : (h : Plain) (S : List ℕ) (k : ℕ) → StandsFor h S → k ≤ l
 running h S zero s le = sym (in_first-none (grain h) S)
 running h S (suc k) s le =
     rw (← add-one) (omega (arith, sum_by_more (λ x. x) h.counts k 0 (omega arith), s.numbers k (omega arith), in_first-more (grain h) k S, running h S k s (omega arith)))
+
+-- i is the first class where the sum of the numbers up to it reaches the rank
+pub record FirstReaching (counts : List ℕ) (r i : ℕ) : Type 0 where
+  pub in_bins : i < length counts
+  pub reached : r ≤ sum (take (i + 1) counts)
+  pub before : sum (take i counts) < r
 
 -- the class where the running sum reaches a rank is that of the sample of the rank
 pub class-of-rank : (h : Plain) (S : List ℕ) (k i : ℕ) → 0 < (grain h).digits → StandsFor h S → k < length S → FirstReaching h.counts (k + 1) i

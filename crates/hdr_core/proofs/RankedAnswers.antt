@@ -12,15 +12,15 @@ use Rattle.hdr_base.specs.Fractions.{Ratio}
 use Rattle.hdr_base.specs.Classes.{Grain, bin_of, lowest_of, top_of, width_of, reach_of, grain_of}
 use Rattle.hdr_base.proofs.ClassLaws.{bin-mono, bin-top, bin-lowest, top-of-value, lowest-le, width-of-units, width-bound, width-pos}
 use Rattle.hdr_counts.specs.Blocks.{IsFirstToReach, looks}
-use Rattle.std.proofs.Common.{Some, None}
+use Rattle.std.proofs.Common.{Option, Some, None, IfSome}
 use Rattle.hdr_core.specs.Plain.{Plain, IsPlain, grain, reach, block_of}
 use Rattle.hdr_base.specs.Classes.{bins_to}
 use Rattle.hdr_core.specs.Samples.{StandsFor}
-use Rattle.hdr_core.specs.Ranks.{sorted, rank, ranked_sample, FirstReaching, IsTopNear}
+use Rattle.hdr_core.specs.Ranks.{sorted, rank, ranked_sample, IsTopNear}
 use Rattle.hdr_base.proofs.Reach.{reach-fits}
 use Rattle.hdr_base.proofs.Digits.{digits-enough}
 use Rattle.hdr_core.proofs.Kept.{grain-digits, grain-fits, room-in}
-use Rattle.hdr_core.proofs.Order.{class-of-rank, in_first, in_first-all, running}
+use Rattle.hdr_core.proofs.Order.{FirstReaching, class-of-rank, in_first, in_first-all, running}
 
 -- a rank is a place among the samples
 ceil-le : (a d n : ℕ) → 0 < d → a ≤ n * d → div_ceil a d ≤ n
@@ -136,3 +136,11 @@ pub first-looks : (h : Plain) (r i block before after : ℕ) → FirstReaching h
     → (j : ℕ) → FirstReaching h.counts r j → after ≡ before + looks (block_of h) (length h.counts) (Some j)
 first-looks h r i block before after first same e j other =
     e ∙ ap (λ b. before + (i / b + 1 + (i % b + 1))) same ∙ ap (λ k. before + (k / block_of h + 1 + (k % block_of h + 1))) (first-one h.counts r i j first other)
+
+-- no more blocks and counters are looked at than there are blocks, and counters in a block
+pub looks-most : (block places n : ℕ) (o : Option ℕ) → 0 < block → places ≡ n * block → IfSome o (λ i. i < places) → looks block places o ≤ n + block
+looks-most block places n None pos is inside =
+    let more : (n + 1) * block ≡ n * block + block = omega arith in
+    omega (arith, div_below places block (n + 1) pos (omega (arith, is, pos, more)))
+looks-most block places n (Some i) pos is inside =
+    omega (arith, mod_below i block pos, div_below i block n pos (omega (arith, is, inside)))

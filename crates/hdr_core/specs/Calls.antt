@@ -1,12 +1,12 @@
 -- What calls do, by numbers and by samples.
-use Rattle.std.specs.Prelude.{◌≡◌, ◌==◌, ℕ, ◌+◌, ◌<◌, ◌≤◌, nat_le, if◌then◌else◌, List, [], ◌∷◌, ◌++◌, length, replicate, Result, Ok, Err}
+use Rattle.std.specs.Prelude.{◌≡◌, ◌==◌, ◌⊎◌, ℕ, ◌+◌, ◌<◌, ◌≤◌, nat_le, if◌then◌else◌, List, [], ◌∷◌, ◌++◌, length, replicate, Result, Ok, Err}
 use Rattle.hdr_base.specs.Classes.{Grain, reach_of, IsFiner}
 use Rattle.hdr_core.specs.Plain.{Plain, grain, max_of}
 use Rattle.hdr_core.specs.Recording.{recorded, clamped, cleared, restarted, spread}
 use Rattle.hdr_core.specs.Missing.{missing, each, corrected, highest_top, merged_corrected, corrected_samples}
 use Rattle.hdr_core.specs.Merging.{merged}
 use Rattle.hdr_core.specs.Samples.{StandsFor, Fits}
-use Rattle.hdr_core.specs.Refusals.{RefusesRecord, RefusesAddition, RefusesCorrected}
+use Rattle.hdr_core.specs.Refusals.{HasRoom, RefusesRecord, RefusesAddition, RefusesCorrected}
 use Rattle.hdr_core.specs.declared.call.Call.{Call}
 use Rattle.hdr_core.specs.declared.call.Call.TheVariants.{Record, Clamp, Correct, Clear, Reset, Add, AddCorrect}
 use Rattle.hdr_core.specs.declared.call.RunError.{RunError}
@@ -35,6 +35,21 @@ RefusesCall h (Correct v n i) (err.Record e) = RefusesRecord h v e
 RefusesCall h (Add source) (err.Addition e) = RefusesAddition h source.now e
 RefusesCall h (AddCorrect source i) (err.Record e) = RefusesCorrected h source.now e
 RefusesCall h _ _ = ⊥
+
+-- a call is not refused by name
+abbrev pub IsTaken : {T : Type 0} → Plain → Call T → Type 0
+IsTaken h (Record v n) = HasRoom h v
+IsTaken h (Clamp v n) = Unit {0}
+IsTaken h (Correct v n i) = HasRoom h v
+IsTaken h Clear = Unit {0}
+IsTaken h Reset = Unit {0}
+IsTaken h (Add source) = (source.now.total ≡ 0) ⊎ HasRoom h (max_of source.now)
+IsTaken h (AddCorrect source i) = HasRoom h (highest_top source.now)
+
+-- of calls that are done one after another none is refused by name in its turn
+abbrev pub AreTaken : {T : Type 0} → ℕ → (T → ℕ) → List (Call T) → Plain → Type 0
+AreTaken greatest number [] h = Unit {0}
+AreTaken greatest number (call ∷ calls) h = IsTaken h call × AreTaken greatest number calls (after_call greatest number call h)
 
 -- the samples recorded so far, and the value that the bins were last made for
 pub record State : Type 0 where

@@ -41,6 +41,7 @@ IsBelow (Some m) i = (0 < i) × (i < m)
 pub record IsPlain (greatest : ℕ) (h : Plain) : Type 0 where
   pub scale : HasScale h.low h.sigfig
   pub high_fits : h.high < 2 ^ 64
+  pub wide : 2 * h.low ≤ h.high
   pub bins : length h.counts ≡ bins_to (grain h) h.high
   pub numbers_fit : All (λ n. n ≤ greatest) h.counts
   pub total_fits : h.total < 2 ^ 64

@@ -25,12 +25,6 @@ rank q n = max 1 (div_ceil (min q.num q.den * n) q.den)
 unfoldable pub ranked_sample : Ratio → List ℕ → ℕ
 ranked_sample q S = slice_index (sorted S) (rank q (length S) - 1)
 
--- i is the first class where the sum of the numbers up to it reaches the rank
-pub record FirstReaching (counts : List ℕ) (r i : ℕ) : Type 0 where
-  pub in_bins : i < length counts
-  pub reached : r ≤ sum (take (i + 1) counts)
-  pub before : sum (take i counts) < r
-
 -- an answer is the top of the class of a sample, at least the sample, and above it by less than a unit or a part of it
 pub record IsTopNear (h : Plain) (s answer : ℕ) : Type 0 where
   pub is_top : answer ≡ top_of (grain h) s

@@ -1,5 +1,5 @@
 -- When a call is refused.
-use Rattle.std.specs.Prelude.{◌≡◌, ◌+◌, ◌*◌, ◌^◌, ◌<◌, ◌≤◌, ℕ, true, false}
+use Rattle.std.specs.Prelude.{◌≡◌, ◌⊎◌, ◌+◌, ◌*◌, ◌^◌, ◌<◌, ◌≤◌, ℕ, true, false}
 use Rattle.hdr_core.specs.Plain.{Plain, grain, reach, max_of}
 use Rattle.hdr_core.specs.Missing.{highest_top}
 use Rattle.hdr_core.specs.declared.errors.AdditionError.{AdditionError}
@@ -9,6 +9,10 @@ use Rattle.hdr_core.specs.declared.errors.RecordError.TheVariants.{ValueOutOfRan
 use Rattle.hdr_base.specs.Classes.{unit_of, digits_of, HasScale}
 use Rattle.hdr_core.specs.declared.errors.CreationError.{CreationError}
 use Rattle.hdr_core.specs.declared.errors.CreationError.TheVariants as make
+
+-- a value has a bin, or bins can be made for it
+abbrev pub HasRoom : Plain → ℕ → Type 0
+HasRoom h x = (x ≤ reach h) ⊎ (h.auto_resize ≡ true)
 
 -- a value past the reach is refused where the bins may not grow, and else for want of memory alone
 abbrev pub RefusesRecord : Plain → ℕ → RecordError → Type 0

@@ -3,7 +3,7 @@
 ghost use Rattle.std.specs.Prelude.{◌≡◌, ℕ, ◌<◌, ◌≤◌, List, OnOk, IfErr, length, take, slice_get, IfSome};
 ghost use Rattle.hdr_core.specs.Plain.{grain};
 ghost use Rattle.hdr_core.specs.Samples.{Fits};
-ghost use Rattle.hdr_core.specs.Calls.{State, StandsAt, after_call, after_calls, RefusesCall, CallTo, CallsTo, calls_done};
+ghost use Rattle.hdr_core.specs.Calls.{State, StandsAt, after_call, after_calls, IsTaken, AreTaken, RefusesCall, CallTo, CallsTo, calls_done};
 
 use crate::errors::{AdditionError, RecordError};
 use crate::histogram::Histogram;
@@ -53,6 +53,8 @@ impl<T: Counter> Histogram<T> {
         ensures same_classes { grain self.new ≡ grain self.old }
         ensures samples { OnOk result ((s t : State) → StandsAt self.old s → CallTo T.number (grain self.old) call.now s t
             → Fits T.greatest (grain self.old) t.samples → StandsAt self.new t) }
+        ensures same_bounds { (self.new.low ≡ self.old.low) × (self.new.sigfig ≡ self.old.sigfig) }
+        ensures can { OnOk result (IsTaken self.old call.now) }
         ensures refused { IfErr result (λ e. RefusesCall self.old call.now e × (self.new ≡ self.old)) }
     {
         match call {
@@ -94,6 +96,8 @@ impl<T: Counter> Histogram<T> {
         ensures done { self.new ≡ after_calls T.greatest T.number (take (calls_done result (length calls.now)) calls.now) self.old }
         ensures samples { (s t : State) → StandsAt self.old s
             → CallsTo T.number (grain self.old) (Fits T.greatest (grain self.old)) (take (calls_done result (length calls.now)) calls.now) s t → StandsAt self.new t }
+        ensures same_bounds { (self.new.low ≡ self.old.low) × (self.new.sigfig ≡ self.old.sigfig) }
+        ensures can { AreTaken T.greatest T.number (take (calls_done result (length calls.now)) calls.now) self.old }
         ensures refused { IfErr result (λ e. IfSome (slice_get calls.now e.at) (λ call. RefusesCall self.new call e.cause)) }
         ensures at { IfErr result (λ e. e.at < length calls.now) }
     {

@@ -6,7 +6,7 @@ ghost use Rattle.hdr_core.specs.Plain.{grain, reach};
 ghost use Rattle.hdr_core.specs.Recording.{added, recorded_each, spread};
 ghost use Rattle.hdr_core.specs.Samples.{StandsFor, Fits};
 ghost use Rattle.hdr_core.specs.Calls.{high_with};
-ghost use Rattle.hdr_core.specs.Refusals.{RefusesRecord};
+ghost use Rattle.hdr_core.specs.Refusals.{HasRoom, RefusesRecord};
 ghost use Rattle.hdr_core.specs.Missing.{missing, each, corrected, classes_held, down_to};
 
 use crate::errors::RecordError;
@@ -20,7 +20,8 @@ impl<T: Counter> Histogram<T> {
         ensures samples { OnOk result ((S : List ℕ) → StandsFor self.old S
             → Fits T.greatest (grain self.old) (S ++ spread (each 1 (value ∷ missing value interval)))
             → StandsFor self.new (S ++ spread (each 1 (value ∷ missing value interval)))) }
-        ensures can { OnOk result ((value ≤ reach self.old) ⊎ (self.old.auto_resize ≡ true)) }
+        ensures high { OnOk result (self.new.high ≡ high_with (grain self.old) self.old.high value (reach_of (grain self.old) value)) }
+        ensures can { OnOk result (HasRoom self.old value) }
         ensures refused { IfErr result (λ e. RefusesRecord self.old value e × (self.new ≡ self.old)) }
     {
         self.record_n_correct(value, T::one(), interval)
@@ -39,7 +40,7 @@ impl<T: Counter> Histogram<T> {
             → Fits T.greatest (grain self.old) (S ++ spread (each (T.number count) (value ∷ missing value interval)))
             → StandsFor self.new (S ++ spread (each (T.number count) (value ∷ missing value interval)))) }
         ensures high { OnOk result (self.new.high ≡ high_with (grain self.old) self.old.high value (reach_of (grain self.old) value)) }
-        ensures can { OnOk result ((value ≤ reach self.old) ⊎ (self.old.auto_resize ≡ true)) }
+        ensures can { OnOk result (HasRoom self.old value) }
         ensures refused { IfErr result (λ e. RefusesRecord self.old value e × (self.new ≡ self.old)) }
     {
         self.record_n_correct_counted(value, count, interval, &mut Ticks::new())
@@ -62,7 +63,7 @@ impl<T: Counter> Histogram<T> {
             → Fits T.greatest (grain self.old) (S ++ spread (each (T.number count) (value ∷ missing value interval)))
             → StandsFor self.new (S ++ spread (each (T.number count) (value ∷ missing value interval)))) }
         ensures high { OnOk result (self.new.high ≡ high_with (grain self.old) self.old.high value (reach_of (grain self.old) value)) }
-        ensures can { OnOk result ((value ≤ reach self.old) ⊎ (self.old.auto_resize ≡ true)) }
+        ensures can { OnOk result (HasRoom self.old value) }
         ensures refused { IfErr result (λ e. RefusesRecord self.old value e × (self.new ≡ self.old) × (ticks.new ≡ ticks.old)) }
     {
         self.record_n(value, count)?;

@@ -17,7 +17,7 @@ use std::marker::Model;
 ///
 /// It is seen as a `Plain`: its bounds, the number of each bin, the total and the two marks. Bins are the classes from 0
 /// to the reach, in order.
-#[derive(Drop)]
+#[derive(Debug, Drop)]
 pub struct Histogram<T: Counter> {
     pub(crate) scale: Scale,
     pub(crate) low: u64,

@@ -1,20 +1,27 @@
 //! Laws over the definitions, each the contract of a function with nothing to do.
 
-ghost use Rattle.std.specs.Prelude.{◌≡◌, ◌↔◌, ℕ, ◌+◌, ◌-◌, ◌^◌, ◌<◌, ◌≤◌, true, List, [], ◌∷◌, ◌++◌, length, replicate, slice_index, Contains};
+ghost use Rattle.std.specs.Prelude.{◌≡◌, ◌↔◌, ℕ, ◌+◌, ◌-◌, ◌/◌, ◌^◌, ◌<◌, ◌≤◌, Bool, true, List, [], ◌∷◌, ◌++◌, length, sum, replicate, slice_index, Contains, MatchOption};
 ghost use Rattle.hdr_base.specs.Classes.{IsFiner};
 ghost use Rattle.hdr_base.specs.Fractions.{Ratio};
-ghost use Rattle.hdr_core.specs.Plain.{Plain, IsPlain, grain};
+ghost use Rattle.hdr_counts.specs.Blocks.{IsFirstToReach};
+ghost use Rattle.hdr_core.specs.Plain.{Plain, IsPlain, grain, empty_plain};
 ghost use Rattle.hdr_core.specs.Recording.{recorded, clamped, cleared, restarted, spread};
 ghost use Rattle.hdr_core.specs.Samples.{StandsFor, Fits};
-ghost use Rattle.hdr_core.specs.Ranks.{ranked_sample, quantile_of, IsTopNear};
+ghost use Rattle.hdr_core.specs.Ranks.{ranked_sample, first_reaching, quantile_of, IsTopNear};
 ghost use Rattle.hdr_core.specs.Missing.{missing, IsMissing, each, corrected, merged_corrected, corrected_samples};
 ghost use Rattle.hdr_core.specs.Merging.{merged};
 ghost use Rattle.hdr_core.specs.Subtracting.{IsDifference};
 ghost use Rattle.hdr_core.specs.Equality.{same_plain, IsSame};
 
-/// The missing values are those an interval apart below a value that are at least the interval.
+/// The missing values are those an interval apart below a value that are at least the interval, and how many.
 pub fn missing_values()
-    ensures { (v i x : ℕ) → Contains (missing v i) x ↔ IsMissing v i x }
+    ensures which { (v i x : ℕ) → Contains (missing v i) x ↔ IsMissing v i x }
+    ensures count { (v i : ℕ) → length (missing v i) ≡ v / i - 1 }
+{}
+
+/// The class that answers is the first where the sum of the numbers up to it reaches the rank; none where no class does.
+pub fn first_class()
+    ensures { (counts : List ℕ) (r : ℕ) → 0 < r → MatchOption (first_reaching counts r) (sum counts < r) (IsFirstToReach counts r) }
 {}
 
 /// The answer to a quantile above 0 is the top of the class of the ranked sample, and near it.
@@ -33,8 +40,9 @@ pub fn recording_stands()
         → Fits greatest (grain h) (S ++ spread (each n (v ∷ missing v i))) → StandsFor (corrected greatest h v n i) (S ++ spread (each n (v ∷ missing v i))) }
 {}
 
-/// A histogram that was cleared or reset stands for no samples.
+/// A new histogram stands for no samples, and so does one that was cleared or reset.
 pub fn clearing_stands()
+    ensures made { (low high sigfig : ℕ) (auto_resize : Bool) → StandsFor (empty_plain low high sigfig auto_resize) [] }
     ensures cleared { (h : Plain) → StandsFor (cleared h) [] }
     ensures restarted { (h : Plain) → StandsFor (restarted h) [] }
 {}
@@ -60,11 +68,21 @@ pub fn adding_associates()
         → (i : ℕ) → slice_index (merged greatest (merged greatest h s) t).counts i ≡ slice_index (merged greatest h (merged greatest s t)).counts i }
 {}
 
-/// Subtracting what was added gives the numbers before, where no counter was full.
+/// Subtracting one of two histograms from their sum gives the numbers of the other, where no counter was full, and its
+/// total, where that is the sum of its numbers.
 pub fn subtracting_undoes_adding()
-    ensures { (greatest : ℕ) (h s d : Plain) → 1 ≤ greatest → IsPlain greatest h → IsPlain greatest s → grain h ≡ grain s
+    ensures numbers { (greatest : ℕ) (h s d : Plain) → 1 ≤ greatest → IsPlain greatest h → IsPlain greatest s → grain h ≡ grain s
         → ((i : ℕ) → slice_index h.counts i + slice_index s.counts i ≤ greatest) → IsDifference (merged greatest h s) s d
         → (i : ℕ) → slice_index d.counts i ≡ slice_index h.counts i }
+    ensures total { (greatest : ℕ) (h s d : Plain) → 1 ≤ greatest → IsPlain greatest h → IsPlain greatest s → grain h ≡ grain s
+        → ((i : ℕ) → slice_index h.counts i + slice_index s.counts i ≤ greatest) → IsDifference (merged greatest h s) s d
+        → h.total ≡ sum h.counts → d.total ≡ h.total }
+    ensures other { (greatest : ℕ) (h s d : Plain) → 1 ≤ greatest → IsPlain greatest h → IsPlain greatest s → grain h ≡ grain s
+        → ((i : ℕ) → slice_index h.counts i + slice_index s.counts i ≤ greatest) → IsDifference (merged greatest h s) h d
+        → (i : ℕ) → slice_index d.counts i ≡ slice_index s.counts i }
+    ensures other_total { (greatest : ℕ) (h s d : Plain) → 1 ≤ greatest → IsPlain greatest h → IsPlain greatest s → grain h ≡ grain s
+        → ((i : ℕ) → slice_index h.counts i + slice_index s.counts i ≤ greatest) → IsDifference (merged greatest h s) h d
+        → s.total ≡ sum s.counts → d.total ≡ s.total }
 {}
 
 /// What equality means, and that it is an equivalence.

@@ -4,7 +4,6 @@
 pub mod call;
 mod classes;
 mod copying;
-mod correcting;
 mod correction;
 mod equality;
 pub mod errors;
@@ -12,6 +11,7 @@ pub mod histogram;
 pub mod laws;
 mod marks;
 mod merging;
+mod merging_corrected;
 mod quantiles;
 mod recording;
 mod statistics;

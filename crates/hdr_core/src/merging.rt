@@ -7,7 +7,7 @@ ghost use Rattle.hdr_core.specs.Recording.{recorded, recorded_each, restarted};
 ghost use Rattle.hdr_core.specs.Merging.{classes_from, top_class, same_bins, joined, taken_in, with_room, merged, LeavesSet};
 ghost use Rattle.hdr_core.specs.Calls.{high_with};
 ghost use Rattle.hdr_core.specs.Samples.{StandsFor, Fits};
-ghost use Rattle.hdr_core.specs.Refusals.{RefusesAddition, RefusesRoom};
+ghost use Rattle.hdr_core.specs.Refusals.{HasRoom, RefusesAddition, RefusesRoom};
 
 use crate::errors::AdditionError;
 use crate::histogram::Histogram;
@@ -26,7 +26,7 @@ impl<T: Counter> Histogram<T> {
         ensures same_classes { grain self.new ≡ grain self.old }
         ensures high { OnOk result ((L : List ℕ) → StandsFor source.now L
             → self.new.high ≡ (if length L == 0 then self.old.high else high_with (grain self.old) self.old.high (max_of source.now) (max_of source.now))) }
-        ensures can { OnOk result ((source.now.total ≡ 0) ⊎ ((max_of source.now ≤ reach self.old) ⊎ (self.old.auto_resize ≡ true))) }
+        ensures can { OnOk result ((source.now.total ≡ 0) ⊎ HasRoom self.old (max_of source.now)) }
         ensures refused { IfErr result (λ e. RefusesAddition self.old source.now e × (self.new ≡ self.old)) }
     {
         self.add_from(source)
@@ -41,7 +41,7 @@ impl<T: Counter> Histogram<T> {
         ensures same_classes { grain self.new ≡ grain self.old }
         ensures high { OnOk result ((L : List ℕ) → StandsFor source.now L
             → self.new.high ≡ (if length L == 0 then self.old.high else high_with (grain self.old) self.old.high (max_of source.now) (max_of source.now))) }
-        ensures can { OnOk result ((source.now.total ≡ 0) ⊎ ((max_of source.now ≤ reach self.old) ⊎ (self.old.auto_resize ≡ true))) }
+        ensures can { OnOk result ((source.now.total ≡ 0) ⊎ HasRoom self.old (max_of source.now)) }
         ensures refused { IfErr result (λ e. RefusesAddition self.old source.now e × (self.new ≡ self.old)) }
     {
         if source.total == 0 {
@@ -56,7 +56,7 @@ impl<T: Counter> Histogram<T> {
     /// reset, refused for memory unchanged.
     pub fn set_to(&mut self, source: &Histogram<T>) -> Result<(), AdditionError>
         ensures ok { OnOk result (self.new ≡ merged T.greatest (restarted self.old) source.now) }
-        ensures can { OnOk result ((source.now.total ≡ 0) ⊎ ((max_of source.now ≤ reach self.old) ⊎ (self.old.auto_resize ≡ true))) }
+        ensures can { OnOk result ((source.now.total ≡ 0) ⊎ HasRoom self.old (max_of source.now)) }
         ensures refused { IfErr result (λ e. RefusesAddition self.old source.now e × LeavesSet self.old self.new e) }
     {
         if source.total == 0 {
@@ -81,7 +81,7 @@ impl<T: Counter> Histogram<T> {
     pub(crate) fn make_room(&mut self, value: u64) -> Result<(), AdditionError>
         ensures ok { OnOk result (self.new ≡ with_room self.old value) }
         ensures kept { IsPlain T.greatest self.old }
-        ensures can { OnOk result ((value ≤ reach self.old) ⊎ (self.old.auto_resize ≡ true)) }
+        ensures can { OnOk result (HasRoom self.old value) }
         ensures refused { IfErr result (λ e. RefusesRoom self.old value e × (self.new ≡ self.old)) }
     {
         if value <= self.reach() {

@@ -1,6 +1,7 @@
 //! Quantiles of what was recorded.
 
 ghost use Rattle.std.specs.Prelude.{◌≡◌, ℕ, ◌+◌, ◌-◌, ◌*◌, ◌^◌, ◌<◌, ◌≤◌, List, IfSome, length};
+ghost use Rattle.hdr_base.specs.Classes.{bucket};
 ghost use Rattle.hdr_counts.specs.Blocks.{looks};
 ghost use Rattle.hdr_core.specs.Plain.{grain, block_of};
 ghost use Rattle.hdr_core.specs.Samples.{StandsFor};
@@ -30,6 +31,7 @@ impl<T: Counter> Histogram<T> {
         ensures ranked { (S : List ℕ) → StandsFor self.now S → 0 < length S → 0 < quantile.num
             → IsTopNear self.now (ranked_sample quantile S) result }
         ensures looks { ticks.new ≡ ticks.old + looks (block_of self.now) (length self.now.counts) (first_reaching self.now.counts (rank quantile self.now.total)) }
+        ensures at_most { ticks.new ≤ ticks.old + (bucket (grain self.now) self.now.high + 2 + block_of self.now) }
     {
         let rank = rank_of(quantile.num(), u128::from(quantile.den()), self.total);
         let place = self.find(rank, ticks);

@@ -6,7 +6,7 @@ ghost use Rattle.hdr_core.specs.Plain.{grain, reach};
 ghost use Rattle.hdr_core.specs.Recording.{widened, added, recorded, clamped, cleared, restarted};
 ghost use Rattle.hdr_core.specs.Samples.{StandsFor, Fits};
 ghost use Rattle.hdr_core.specs.Calls.{high_with};
-ghost use Rattle.hdr_core.specs.Refusals.{RefusesRecord};
+ghost use Rattle.hdr_core.specs.Refusals.{HasRoom, RefusesRecord};
 
 use crate::errors::RecordError;
 use crate::histogram::Histogram;
@@ -20,7 +20,8 @@ impl<T: Counter> Histogram<T> {
         ensures ok { OnOk result (self.new ≡ recorded T.greatest self.old value 1) }
         ensures samples { OnOk result ((S : List ℕ) → StandsFor self.old S
             → Fits T.greatest (grain self.old) (S ++ replicate 1 value) → StandsFor self.new (S ++ replicate 1 value)) }
-        ensures can { OnOk result ((value ≤ reach self.old) ⊎ (self.old.auto_resize ≡ true)) }
+        ensures high { OnOk result (self.new.high ≡ high_with (grain self.old) self.old.high value (reach_of (grain self.old) value)) }
+        ensures can { OnOk result (HasRoom self.old value) }
         ensures refused { IfErr result (λ e. RefusesRecord self.old value e × (self.new ≡ self.old)) }
     {
         self.record_n(value, T::one())
@@ -36,7 +37,7 @@ impl<T: Counter> Histogram<T> {
             → Fits T.greatest (grain self.old) (S ++ replicate (T.number count) value)
             → StandsFor self.new (S ++ replicate (T.number count) value)) }
         ensures high { OnOk result (self.new.high ≡ high_with (grain self.old) self.old.high value (reach_of (grain self.old) value)) }
-        ensures can { OnOk result ((value ≤ reach self.old) ⊎ (self.old.auto_resize ≡ true)) }
+        ensures can { OnOk result (HasRoom self.old value) }
         ensures refused { IfErr result (λ e. RefusesRecord self.old value e × (self.new ≡ self.old)) }
     {
         match self.bin_of(value) {

@@ -17,7 +17,7 @@ use std::marker::Model;
 ///
 /// It takes the room of its counters, and 16 bytes a block for the sums. At most 6,291,456 counters are held, as many
 /// as the largest histogram has bins.
-#[derive(Drop)]
+#[derive(Debug, Drop)]
 pub struct Counts<T: Counter> {
     counters: Vec<T>,
     sums: Vec<u128>,

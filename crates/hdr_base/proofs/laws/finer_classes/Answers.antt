@@ -1,11 +1,15 @@
 use Rattle.hdr_base.specs.Classes.{grain_of}
-use Rattle.hdr_base.proofs.Digits.{digits-pos-of}
+use Rattle.hdr_base.proofs.Digits.{digits-pos-of, finer-by}
 use Rattle.hdr_base.proofs.Finer.{finer-bin}
 use Rattle.hdr_base.proofs.Intervals.{equivalent-bin, bin-equivalent}
 use Rattle.hdr_base.proofs.laws.finer_classes.Goals as goal
 
-pub returns : goal.returns
-returns c = λ low sigfig scale base kept other fine a b e.
+pub returns-clause-finer : goal.returns-clause-finer
+unfolding grain_of
+returns-clause-finer c = λ low sigfig base kept unit digits. finer-by low sigfig base kept unit digits
+
+pub returns-clause-classes : goal.returns-clause-classes
+returns-clause-classes c = λ low sigfig scale base kept other fine a b e.
     let f = grain_of low sigfig in
     let g = grain_of base kept in
     bin-equivalent g a b (digits-pos-of base kept)

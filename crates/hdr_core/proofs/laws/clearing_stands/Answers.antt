@@ -1,5 +1,8 @@
-use Rattle.hdr_core.proofs.Cleared.{stands-cleared, stands-restarted}
+use Rattle.hdr_core.proofs.Cleared.{stands-made, stands-cleared, stands-restarted}
 use Rattle.hdr_core.proofs.laws.clearing_stands.Goals as goal
+
+pub returns-clause-made : goal.returns-clause-made
+returns-clause-made c = λ low high sigfig auto_resize. stands-made low high sigfig auto_resize
 
 pub returns-clause-cleared : goal.returns-clause-cleared
 returns-clause-cleared c = λ h. stands-cleared h

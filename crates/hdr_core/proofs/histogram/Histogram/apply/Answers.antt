@@ -5,6 +5,7 @@ use Rattle.hdr_core.specs.Recording.{clamped, recorded_each}
 use Rattle.hdr_core.specs.Samples.{StandsFor, Fits}
 use Rattle.hdr_core.specs.Missing.{missing, each, highest_top}
 use Rattle.hdr_core.specs.Calls.{high_with, clamp}
+use Rattle.hdr_core.proofs.Bounds.{bounds, low-and-sigfig, bounds-recorded, bounds-corrected, bounds-cleared, bounds-restarted, bounds-merged, bounds-merged_corrected}
 use Rattle.hdr_core.proofs.Kept.{grain-recorded}
 use Rattle.hdr_core.proofs.Spread.{grain-each}
 use Rattle.hdr_core.proofs.Cleared.{grain-cleared, grain-restarted, high-cleared, high-restarted, high-clamped, clamped-is, stands-cleared, stands-restarted}
@@ -94,3 +95,24 @@ returns-in-Ok-add_correct-clause-samples g c = λ s t stands to fits.
       subst (λ N. StandsFor c.add_correct.new.self N) (sym to.2) (c.in-Ok-add_correct.ensures.samples s.samples L stands.0 to.1 (subst (λ N. Fits g.T.Counter.greatest (grain h) N) to.2 fits)),
       c.in-Ok-add_correct.ensures.high ∙ ap (λ x. high_with (grain h) x m (reach_of (grain h) m)) stands.1 ∙ sym to.3,
     )
+
+pub returns-in-Ok-clause-same_bounds : goal.returns-in-Ok-clause-same_bounds
+returns-in-Ok-clause-same_bounds g c = low-and-sigfig _ c.args.self.now (ap (λ (h : Plain). bounds h) c.in-Ok.ensures.ok ∙ bounds-recorded g.T.Counter.greatest c.args.self.now c.in-Record.value (g.T.Counter.number c.in-Record.count))
+
+pub returns-in-Clamp-clause-same_bounds : goal.returns-in-Clamp-clause-same_bounds
+returns-in-Clamp-clause-same_bounds g c = low-and-sigfig _ c.args.self.now (ap (λ (h : Plain). bounds h) c.saturating_record_n.ensures.state ∙ bounds-recorded _ _ _ _)
+
+pub returns-in-Ok-record_n_correct-clause-same_bounds : goal.returns-in-Ok-record_n_correct-clause-same_bounds
+returns-in-Ok-record_n_correct-clause-same_bounds g c = low-and-sigfig _ c.args.self.now (ap (λ (h : Plain). bounds h) c.in-Ok-record_n_correct.ensures.ok ∙ bounds-corrected g.T.Counter.greatest c.args.self.now c.in-Correct.value (g.T.Counter.number c.in-Correct.count) c.in-Correct.interval)
+
+pub returns-in-Clear-clause-same_bounds : goal.returns-in-Clear-clause-same_bounds
+returns-in-Clear-clause-same_bounds g c = low-and-sigfig _ c.args.self.now (ap (λ (h : Plain). bounds h) c.clear.ensures ∙ bounds-cleared c.args.self.now)
+
+pub returns-in-Reset-clause-same_bounds : goal.returns-in-Reset-clause-same_bounds
+returns-in-Reset-clause-same_bounds g c = low-and-sigfig _ c.args.self.now (ap (λ (h : Plain). bounds h) c.reset.ensures ∙ bounds-restarted c.args.self.now)
+
+pub returns-in-Ok-add-clause-same_bounds : goal.returns-in-Ok-add-clause-same_bounds
+returns-in-Ok-add-clause-same_bounds g c = low-and-sigfig _ c.args.self.now (ap (λ (h : Plain). bounds h) c.in-Ok-add.ensures.ok ∙ bounds-merged g.T.Counter.greatest c.args.self.now c.in-Add.source.now)
+
+pub returns-in-Ok-add_correct-clause-same_bounds : goal.returns-in-Ok-add_correct-clause-same_bounds
+returns-in-Ok-add_correct-clause-same_bounds g c = low-and-sigfig _ c.args.self.now (ap (λ (h : Plain). bounds h) c.in-Ok-add_correct.ensures.ok ∙ bounds-merged_corrected g.T.Counter.greatest c.args.self.now c.in-AddCorrect.source.now c.in-AddCorrect.interval)

@@ -20,7 +20,7 @@ invariant_of-result g c =
     record {
       scale = same;
       block = ap (λ (b : Blocks). b.block) c.in-Ok.ensures ∙ block;
-      plain = rw (c.none.ensures, made) (IsPlain-empty g.T.Counter.greatest s.low s.high s.sigfig s.auto_resize c.source.invariant.plain.scale c.source.invariant.plain.high_fits);
+      plain = rw (c.none.ensures, made) (IsPlain-empty g.T.Counter.greatest s.low s.high s.sigfig s.auto_resize c.source.invariant.plain.scale c.source.invariant.plain.high_fits c.source.invariant.plain.wide);
     }
 
 pub returns-clause-made : goal.returns-clause-made

@@ -19,7 +19,7 @@ invariant_of-result g c =
     record {
       scale = same;
       block = ap (λ (b : Blocks). b.block) c.in-Ok.ensures ∙ block;
-      plain = rw (c.none.ensures, made) (IsPlain-empty g.T.Counter.greatest c.args.low c.args.high c.args.sigfig false c.in-Some.ensures.scale.0 (omega arith));
+      plain = rw (c.none.ensures, made) (IsPlain-empty g.T.Counter.greatest c.args.low c.args.high c.args.sigfig false c.in-Some.ensures.scale.0 (omega arith) (omega arith));
     }
 
 pub returns : goal.returns

@@ -1,9 +1,14 @@
-use Rattle.std.proofs.Common.{◌≡◌, ◌∙◌, ◌*◌, ◌+◌, length, ap, sym, arith}
+use Rattle.std.proofs.Common.{◌≡◌, ◌∙◌, ◌*◌, ◌+◌, ◌-◌, length, ap, sym, arith}
 use Rattle.hdr_counts.specs.Blocks.{looks}
 use Rattle.hdr_base.specs.Fractions.{Ratio}
 use Rattle.hdr_core.specs.Plain.{Plain, grain, block_of}
 use Rattle.hdr_core.specs.Ranks.{rank, first_reaching, answer_at, quantile_of}
 use Rattle.hdr_core.proofs.Firsts.{quantile-ranked}
+use Rattle.std.proofs.lemmas.Nat.{pow_pos}
+use Rattle.hdr_base.specs.Classes.{bucket}
+use Rattle.hdr_base.proofs.Reach.{bins-blocks}
+use Rattle.hdr_core.proofs.Kept.{grain-digits}
+use Rattle.hdr_core.proofs.RankedAnswers.{looks-most}
 use Rattle.hdr_core.proofs.histogram.Histogram.value_at_quantile_counted.Goals as goal
 
 pub returns-clause-value : goal.returns-clause-value
@@ -29,3 +34,10 @@ returns-clause-looks g c =
     c.rank_of-rank.ensures.value ∙ ap (λ n. rank (record { num = n; den = c.from.result }) c.self.inside.total) c.num.ensures
     ∙ ap (λ d. rank (record { num = q.num; den = d }) c.self.inside.total) (c.from.ensures ∙ c.den.ensures.value) ∙ ap (λ (p : Plain). rank q p.total) c.self.view_is in
     c.find-place.ensures.looks ∙ ap (λ o. c.args.ticks.now + looks (block_of h) (length h.counts) o) (c.find-place.ensures.place ∙ ap (λ r. first_reaching h.counts r) rank_is)
+
+pub returns-clause-at_most : goal.returns-clause-at_most
+returns-clause-at_most g c =
+    let h = c.args.self.now in
+    let p = rw c.self.view_is at c.self.invariant.plain in
+    omega (arith, c.find-place.ensures.looks, looks-most (block_of h) (length h.counts) (bucket (grain h) h.high + 2) c.find-place.result
+    (pow_pos ((grain h).digits - 1)) (p.bins ∙ bins-blocks (grain h) h.high (grain-digits g.T.Counter.greatest h p) ∙ ap (λ n. n * block_of h) (let e : bucket (grain h) h.high + 1 + 1 ≡ bucket (grain h) h.high + 2 = omega arith in e)) c.find-place.ensures.within)

@@ -6,7 +6,7 @@ ghost use Rattle.hdr_core.specs.Plain.{IsPlain, grain, reach};
 ghost use Rattle.hdr_core.specs.Recording.{recorded_each, widened, restarted};
 ghost use Rattle.hdr_core.specs.Samples.{StandsFor, Fits};
 ghost use Rattle.hdr_core.specs.Calls.{high_with};
-ghost use Rattle.hdr_core.specs.Refusals.{RefusesRecord, RefusesCorrected};
+ghost use Rattle.hdr_core.specs.Refusals.{HasRoom, RefusesRecord, RefusesCorrected};
 ghost use Rattle.hdr_core.specs.Missing.{missing, each, corrected_from, highest_top, merged_corrected, corrected_samples, LeavesCorrected};
 
 use crate::errors::RecordError;
@@ -24,7 +24,7 @@ impl<T: Counter> Histogram<T> {
             → StandsFor self.new (S ++ corrected_samples (grain source.now) interval L)) }
         ensures same_classes { grain self.new ≡ grain self.old }
         ensures high { OnOk result (self.new.high ≡ high_with (grain self.old) self.old.high (highest_top source.now) (reach_of (grain self.old) (highest_top source.now))) }
-        ensures can { OnOk result ((highest_top source.now ≤ reach self.old) ⊎ (self.old.auto_resize ≡ true)) }
+        ensures can { OnOk result (HasRoom self.old (highest_top source.now)) }
         ensures refused { IfErr result (λ e. RefusesCorrected self.old source.now e × (self.new ≡ self.old)) }
     {
         self.add_correct_from(source, interval)
@@ -43,7 +43,7 @@ impl<T: Counter> Histogram<T> {
             → StandsFor self.new (S ++ corrected_samples (grain source.now) interval L)) }
         ensures same_classes { grain self.new ≡ grain self.old }
         ensures high { OnOk result (self.new.high ≡ high_with (grain self.old) self.old.high (highest_top source.now) (reach_of (grain self.old) (highest_top source.now))) }
-        ensures can { OnOk result ((highest_top source.now ≤ reach self.old) ⊎ (self.old.auto_resize ≡ true)) }
+        ensures can { OnOk result (HasRoom self.old (highest_top source.now)) }
         ensures refused { IfErr result (λ e. RefusesCorrected self.old source.now e × (self.new ≡ self.old)) }
     {
         self.cover(source.highest_top())?;
@@ -59,7 +59,7 @@ impl<T: Counter> Histogram<T> {
         interval: u64,
     ) -> Result<(), RecordError>
         ensures ok { OnOk result (self.new ≡ merged_corrected T.greatest (restarted self.old) source.now interval) }
-        ensures can { OnOk result ((highest_top source.now ≤ reach self.old) ⊎ (self.old.auto_resize ≡ true)) }
+        ensures can { OnOk result (HasRoom self.old (highest_top source.now)) }
         ensures refused { IfErr result (λ e. RefusesCorrected self.old source.now e × LeavesCorrected self.old self.new e) }
     {
         match self.cover(source.highest_top()) {
@@ -90,7 +90,7 @@ impl<T: Counter> Histogram<T> {
     fn cover(&mut self, value: u64) -> Result<(), RecordError>
         ensures ok { OnOk result (self.new ≡ widened self.old value) }
         ensures kept { IsPlain T.greatest self.old }
-        ensures can { OnOk result ((value ≤ reach self.old) ⊎ (self.old.auto_resize ≡ true)) }
+        ensures can { OnOk result (HasRoom self.old value) }
         ensures refused { IfErr result (λ e. RefusesRecord self.old value e × (self.new ≡ self.old)) }
     {
         if value <= self.reach() {
