@@ -1,6 +1,7 @@
 -- What a run leaves and answers.
-use Rattle.std.specs.Prelude.{◌≡◌, ℕ, List, [], ◌∷◌, ◌++◌, take, Option, Some, None, Result, Ok, Err}
+use Rattle.std.specs.Prelude.{◌≡◌, ℕ, List, [], ◌∷◌, ◌++◌, Option, Some, None, Result, Ok, Err}
 use Rattle.std.specs.Io.KnownBytes.{Appends, Keeps, IsAtEnd}
+use Rattle.hdrhistogram.specs.Streams.{AppendsFront}
 use Rattle.hdr_tool.specs.declared.fault.Fault.{Fault}
 use Rattle.hdr_tool.specs.declared.fault.Fault.TheVariants.{WrongWords, NoMemory, CannotRead, CannotWrite}
 
@@ -22,10 +23,6 @@ GoesOn {A = A} Next (Ok step) out = (rest : Outcome A) × Next step.1 rest × (o
 abbrev pub Runs : {A B : Type 0} → (A → B → Result (List ℕ × A) Fault → Type 0) → A → List B → Outcome A → Type 0
 Runs Step a [] out = out ≡ record { written = []; ended = Ok a }
 Runs {A = A} Step a (x ∷ xs) out = (r : Result (List ℕ × A) Fault) × Step a x r × GoesOn (λ b. Runs Step b xs) r out
-
--- known bytes grow by a beginning of a text
-abbrev pub AppendsFront : Option (List ℕ) → Option (List ℕ) → List ℕ → Type 0
-AppendsFront old new text = (n : ℕ) × Appends old new (take n text)
 
 -- a fault by name is one that the definition gives; want of memory may come in place of any answer
 abbrev pub Refuses : (Fault → Type 0) → Fault → Type 0

@@ -8,7 +8,8 @@ use Rattle.hdr_core.specs.declared.call.Call.{Call}
 use Rattle.hdr_core.specs.declared.call.CallError.{CallError}
 use Rattle.hdr_tool.specs.declared.fault.Fault.{Fault}
 use Rattle.hdr_tool.specs.declared.fault.Fault.TheVariants.{WrongWords, NotACommand}
-use Rattle.hdr_tool.specs.Parts.{numbered}
+use Rattle.std.specs.List.{enumerate_from}
+use Rattle.hdr_tool.specs.Parts.{parts}
 use Rattle.hdr_tool.specs.Lines.{call_of}
 use Rattle.hdr_tool.specs.Words.{Task, Report, task_of}
 use Rattle.hdr_tool.specs.Faults.{refusal_at}
@@ -40,7 +41,7 @@ abbrev pub TaskDone : Option Task → List ℕ → List ℕ → Option Fault →
 TaskDone None input text fault = (text ≡ []) × (fault ≡ Some WrongWords)
 TaskDone (Some (Report sigfig quantiles)) input text fault =
     (ended : Result Plain Fault)
-    × Runs LineDone (empty_plain 1 2 sigfig true) (numbered 1 (Some input)) (record { written = []; ended = ended })
+    × Runs LineDone (empty_plain 1 2 sigfig true) (enumerate_from 1 (parts 10 input)) (record { written = []; ended = ended })
     × Reported quantiles ended text fault
 
 -- the program: the words are judged first

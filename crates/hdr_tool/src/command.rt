@@ -6,7 +6,7 @@ ghost use Rattle.hdr_tool.specs.Parts.{parts_left};
 ghost use Rattle.hdr_tool.specs.Lines.{count_of, record_of, clamp_of, correct_of, alone, named, call_of};
 
 use crate::parts::{number, split_first};
-use hdr_core::Call;
+use hdrhistogram::Call;
 
 /// The count behind a value, 1 where nothing is left.
 fn count(left: Option<&[u8]>) -> Option<u64>

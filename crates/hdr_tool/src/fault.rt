@@ -1,10 +1,8 @@
 //! Why a run is refused.
 
 ghost use Rattle.std.specs.Prelude.{◌≡◌};
-ghost use Rattle.hdr_tool.specs.declared.fault.Fault.TheVariants.{NoMemory};
 
-use hdr_core::CallError;
-use std::alloc::AllocError;
+use hdrhistogram::CallError;
 use std::fmt;
 
 /// Why a run is refused. Its text is the line on standard error, and takes no memory.
@@ -58,12 +56,3 @@ impl fmt::Display for Fault {
     }
 }
 
-impl From<AllocError> for Fault {
-    ghost from_gives = { λ _ f. f ≡ NoMemory };
-
-    fn from(_refused: AllocError) -> Fault {
-        Fault::NoMemory
-    }
-}
-
-impl std::error::Error for Fault {}

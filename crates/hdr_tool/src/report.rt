@@ -4,9 +4,8 @@ ghost use Rattle.std.specs.Prelude.{◌≡◌, ◌++◌, OnOk, IfOk, string_byte
 ghost use Rattle.std.specs.List.{flat_map};
 ghost use Rattle.hdr_tool.specs.Report.{quantile_line, IsBytesField, IsReport};
 
-use hdr_base::Quantile;
-use hdr_core::Histogram;
 use hdrhistogram::serialization::{V2SerializeError, V2Serializer};
+use hdrhistogram::{Histogram, Quantile};
 use std::alloc::{AllocError, Global};
 
 /// Adds the line of a quantile to a text.

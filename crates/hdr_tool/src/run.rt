@@ -2,7 +2,8 @@
 
 ghost use Rattle.std.specs.Prelude.{◌≡◌, ◌≢◌, ◌↔◌, ◌<◌, ◌+◌, ◌^◌, ℕ, List, map, length, MatchResult, Ok, Err, Some, None, [], true, IfSome, string_bytes};
 ghost use Rattle.hdr_core.specs.Plain.{empty_plain};
-ghost use Rattle.hdr_tool.specs.Parts.{numbered};
+ghost use Rattle.std.specs.List.{enumerate_from};
+ghost use Rattle.hdr_tool.specs.Parts.{parts};
 ghost use Rattle.hdr_tool.specs.Words.{Report, task_of};
 ghost use Rattle.hdr_tool.specs.Tasks.{task_seen};
 ghost use Rattle.hdr_tool.specs.Faults.{refusal_at};
@@ -15,8 +16,7 @@ use crate::lines::Lines;
 use crate::report::report;
 use crate::stream::{read_whole, write_whole};
 use crate::words::{Task, judge};
-use hdr_base::Quantile;
-use hdr_core::{AdditionError, CallError, Histogram, RecordError};
+use hdrhistogram::{AdditionError, CallError, Histogram, Quantile, RecordError};
 use std::alloc::Global;
 use std::io::{Read, Write};
 
@@ -56,8 +56,8 @@ fn apply_lines(alloc: Global, sigfig: u8, input: &[u8]) -> Result<Histogram<u64>
     requires { length input.now + 2 < 2 ^ 64 }
     ensures words { result ≢ Err Fault.WrongWords }
     ensures done { MatchResult result
-        (λ h. Runs LineDone (empty_plain 1 2 sigfig true) (numbered 1 (Some input.now)) (record { written = []; ended = Ok h }))
-        (Refuses (λ f. Runs LineDone (empty_plain 1 2 sigfig true) (numbered 1 (Some input.now)) (record { written = []; ended = Err f }))) }
+        (λ h. Runs LineDone (empty_plain 1 2 sigfig true) (enumerate_from 1 (parts 10 input.now)) (record { written = []; ended = Ok h }))
+        (Refuses (λ f. Runs LineDone (empty_plain 1 2 sigfig true) (enumerate_from 1 (parts 10 input.now)) (record { written = []; ended = Err f }))) }
 {
     // Each digit from 0 to 5 has a histogram, so that memory alone can be wanting.
     let Ok(mut histogram) = Histogram::new(alloc, sigfig) else {

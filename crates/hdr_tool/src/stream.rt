@@ -2,7 +2,7 @@
 
 ghost use Rattle.std.specs.Prelude.{◌≡◌, OnOk, IfOk, IfErr, IfSome, MatchResult, ◌⊎◌};
 ghost use Rattle.std.specs.Io.KnownBytes.{Appends, IsAtEnd};
-ghost use Rattle.hdr_tool.specs.Outcomes.{AppendsFront};
+ghost use Rattle.hdrhistogram.specs.Streams.{AppendsFront};
 
 use crate::fault::Fault;
 use std::alloc::Global;
@@ -22,22 +22,25 @@ pub(crate) fn read_whole<R: Read>(alloc: Global, reader: &mut R) -> Result<Vec<u
     }
 }
 
-/// Writes all of a text. An interrupted write is tried again; after a fault a beginning of the text is written.
+/// Writes all of a text. An interrupted write is tried again; after a fault a beginning of the text is written, not all.
 pub(crate) fn write_whole<W: Write>(writer: &mut W, text: &[u8]) -> Result<(), Fault>
     ensures { MatchResult result
         (λ _. Appends (W.contents writer.old) (W.contents writer.new) text.now)
         (λ f. (f ≡ Fault.CannotWrite) × AppendsFront (W.contents writer.old) (W.contents writer.new) text.now) }
 {
+    if text.is_empty() {
+        return Ok(());
+    }
     let mut at = 0usize;
     for _ in 0..u64::MAX {
-        if at == text.len() {
-            return Ok(());
-        }
         match writer.write(&text[at..]) {
             Ok(0) => return Err(Fault::CannotWrite),
             Ok(count) => at += count,
             Err(e) if e.kind() == ErrorKind::Interrupted => {}
             Err(_) => return Err(Fault::CannotWrite),
+        }
+        if at == text.len() {
+            return Ok(());
         }
     }
     Err(Fault::CannotWrite)

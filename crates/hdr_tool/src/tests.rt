@@ -1,7 +1,7 @@
 //! Tests over `run`: worked inputs, readers and writers that fail, and the texts of the faults.
 
 use super::*;
-use hdr_core::{CallError, RecordError};
+use hdrhistogram::{CallError, RecordError};
 use std::alloc::{AllocError, Global};
 use std::io;
 use std::io::Read;

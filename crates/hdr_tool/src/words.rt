@@ -8,7 +8,7 @@ ghost use Rattle.hdr_tool.specs.Tasks.{task_seen};
 
 use crate::fault::Fault;
 use crate::parts::{number, split_once};
-use hdr_base::Quantile;
+use hdrhistogram::Quantile;
 use std::alloc::Global;
 
 /// What the program is to do.

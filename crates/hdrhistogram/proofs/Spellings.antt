@@ -149,3 +149,17 @@ spelling_short n = length_at_most 8 n
 -- a canonical spelling has at most nine bytes
 pub shortest_short : (n : ℕ) (text : List ℕ) → n < 2 ^ 64 → IsShortest text n → length text ≤ 9
 shortest_short n text h p = omega (arith, spelling_short n, ap (length {A = ℕ}) (shortest_is n text h p))
+
+-- a whole spelling has as many bytes of seven bits as may come, and one of eight, at the most
+spelling_ends : (left : ℕ) (text : List ℕ) → IsSpelling left text → length text ≤ left + 1
+unfolding IsSpelling
+spelling_ends left [] h = absurd h
+spelling_ends zero (b ∷ bs) h = rw h (omega arith)
+spelling_ends (suc left) (b ∷ bs) h = told (ltb b 128) (λ more. spelling_ends left bs more) h
+  where
+    told : (t : Bool) → (IsSpelling left bs → length bs ≤ left + 1) → MatchBool t (bs ≡ []) (IsSpelling left bs) → length (b ∷ bs) ≤ suc left + 1
+    told true rest none = rw none (omega arith)
+    told false rest more = omega (arith, rest more)
+
+pub spelt_short : (n : ℕ) (text : List ℕ) → Spells text n → length text ≤ 9
+spelt_short n text s = spelling_ends 8 text s.whole

@@ -1,17 +1,18 @@
 //! Laws of the definitions that the contracts cite. Each function does nothing: its contract is the
 //! law.
 
-ghost use Rattle.std.specs.Prelude.{◌≡◌, ℕ, ◌^◌, ◌<◌, ◌++◌, List, length, All, ℤ};
+ghost use Rattle.std.specs.Prelude.{◌≡◌, ℕ, ◌^◌, ◌<◌, ◌≤◌, ◌++◌, List, length, All, ℤ};
 ghost use Rattle.hdr_core.specs.Plain.{Plain, IsPlain};
 ghost use Rattle.hdrhistogram.specs.Varint.{Spells, IsShortest};
 ghost use Rattle.hdrhistogram.specs.ZigZag.{zig_zag, from_zig_zag};
 ghost use Rattle.hdrhistogram.specs.Payload.{Part, IsSplit, IsPayload};
 ghost use Rattle.hdrhistogram.specs.V2.{IsV2, IsWrittenAlike};
 
-/// Every number of 64 bits has one canonical spelling.
+/// Every number of 64 bits has one canonical spelling, and no spelling is longer than nine bytes.
 pub fn one_canonical_spelling()
     ensures exists { (n : ℕ) → n < 2 ^ 64 → (text : List ℕ) × IsShortest text n }
     ensures unique { (n : ℕ) (a b : List ℕ) → IsShortest a n → IsShortest b n → a ≡ b }
+    ensures short { (n : ℕ) (text : List ℕ) → Spells text n → length text ≤ 9 }
 {}
 
 /// No spelling begins another: what stands behind a spelling does not change what it spells.

@@ -4,11 +4,10 @@
 pub mod laws;
 pub mod serialization;
 
-pub use hdr_base::{Counter, Fraction, Quantile, Ticks};
-pub use hdr_core::errors::{
-    AdditionError, CreationError, RecordError, SubtractionError, UsizeTypeTooSmall,
+pub use hdr_core::{
+    AdditionError, Call, CallError, Counter, CreationError, Fraction, Histogram, Quantile,
+    RecordError, RunError, SubtractionError, Ticks, UsizeTypeTooSmall, errors,
 };
-pub use hdr_core::{Call, CallError, Histogram, RunError, errors};
 
 #[cfg(test)]
 mod tests;

@@ -57,6 +57,8 @@ impl V2Serializer {
     /// Puts the V2 bytes of a histogram into the buffer.
     fn fill<T: Counter>(&mut self, h: &Histogram<T>) -> Result<(), V2SerializeError>
         ensures bytes { OnOk result (IsV2 h.now self.new) }
+        ensures few { OnOk result ((length self.new ≤ 40 + 9 * written_bins h.now)
+            × (length self.new ≤ 56623144)) }
         ensures ok { OnOk result (All (λ n. n < 2 ^ 63) h.now.counts) }
         ensures refused { IfErr result (λ e. RefusesBytes h.now e × (self.new ≡ [])) }
     {
@@ -75,6 +77,8 @@ impl V2Serializer {
     /// greatest `i64`. Nothing else is refused, and after a refusal the serializer is as new.
     pub fn to_bytes<T: Counter>(&mut self, h: &Histogram<T>) -> Result<&[u8], V2SerializeError>
         ensures bytes { IfOk result (λ bytes. IsV2 h.now bytes.now) }
+        ensures few { IfOk result (λ bytes. (length bytes.now ≤ 40 + 9 * written_bins h.now)
+            × (length bytes.now ≤ 56623144)) }
         ensures ok { OnOk result (All (λ n. n < 2 ^ 63) h.now.counts) }
         ensures refused { IfErr result (RefusesBytes h.now) }
         ensures* after { sem 𝓛 (ends_lending self.entry result) }
@@ -101,6 +105,7 @@ impl Serializer for V2Serializer {
     ) -> Result<usize, V2SerializeError>
         ensures written { IfOk result (λ n. (bytes : List ℕ) × IsV2 h.now bytes × (n ≡ length bytes)
             × Appends (W.contents writer.old) (W.contents writer.new) bytes) }
+        ensures few { IfOk result (λ n. (n ≤ 40 + 9 * written_bins h.now) × (n ≤ 56623144)) }
         ensures ok { OnOk result (All (λ n. n < 2 ^ 63) h.now.counts) }
         ensures held { OnOk result (IsV2 h.now self.new) }
         ensures refused { IfErr result (λ e. (self.new ≡ [])
@@ -131,6 +136,7 @@ fn make_room(buffer: &mut Vec<u8>, room: usize) -> Result<(), AllocError>
 fn write_v2<T: Counter>(h: &Histogram<T>, buf: &mut [u8]) -> Result<usize, V2SerializeError>
     requires { 40 + 9 * written_bins h.now ≤ length buf.old }
     ensures written { IfOk result (λ n. (n ≤ length buf.new) × IsV2 h.now (take n buf.new)) }
+    ensures few { IfOk result (λ n. (n ≤ 40 + 9 * written_bins h.now) × (n ≤ 56623144)) }
     ensures ok { OnOk result (All (λ n. n < 2 ^ 63) h.now.counts) }
     ensures refused { IfErr result (λ e. (e ≡ V2SerializeError.CountNotSerializable)
         × HasTooGreatCount h.now) }

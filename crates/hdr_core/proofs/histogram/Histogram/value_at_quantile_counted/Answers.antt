@@ -39,5 +39,9 @@ pub returns-clause-at_most : goal.returns-clause-at_most
 returns-clause-at_most g c =
     let h = c.args.self.now in
     let p = rw c.self.view_is at c.self.invariant.plain in
-    omega (arith, c.find-place.ensures.looks, looks-most (block_of h) (length h.counts) (bucket (grain h) h.high + 2) c.find-place.result
-    (pow_pos ((grain h).digits - 1)) (p.bins ∙ bins-blocks (grain h) h.high (grain-digits g.T.Counter.greatest h p) ∙ ap (λ n. n * block_of h) (let e : bucket (grain h) h.high + 1 + 1 ≡ bucket (grain h) h.high + 2 = omega arith in e)) c.find-place.ensures.within)
+    omega (
+      arith,
+      c.find-place.ensures.looks,
+      looks-most (block_of h) (length h.counts) (bucket (grain h) h.high + 2) c.find-place.result
+          (pow_pos ((grain h).digits - 1)) (p.bins ∙ bins-blocks (grain h) h.high (grain-digits g.T.Counter.greatest h p) ∙ ap (λ n. n * block_of h) (let e : bucket (grain h) h.high + 1 + 1 ≡ bucket (grain h) h.high + 2 = omega arith in e)) c.find-place.ensures.within,
+    )

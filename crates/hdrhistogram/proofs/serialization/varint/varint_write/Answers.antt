@@ -18,6 +18,9 @@ pub returns-then-n-lt-SHORT_BELOW-clause-written : goal.returns-then-n-lt-SHORT_
 returns-then-n-lt-SHORT_BELOW-clause-written c =
     let n = c.args.n in
     let from : 128 ≤ n = omega (arith, c.if-n-ge-LAST_BELOW.true) in
-    let to : n < 16384 = omega (arith, c.if-n-lt-SHORT_BELOW.true) in
-    (spelling n, spelling_least n (omega arith), two_long n from to,
-     c.write_u16.ensures ∙ ap (λ l. l ++ drop 2 c.args.buf.now) (two_bytes n _ from to (omega arith)))
+    let to : n < 16384 = omega (arith, c.if-n-lt-SHORT_BELOW.true) in (
+      spelling n,
+      spelling_least n (omega arith),
+      two_long n from to,
+      c.write_u16.ensures ∙ ap (λ l. l ++ drop 2 c.args.buf.now) (two_bytes n _ from to (omega arith)),
+    )
