@@ -139,10 +139,6 @@ module _ (g : Grain) (v x : ℕ) where
       let is : x ≡ v / w * w + (x - lowest_of g v) = omega (arith, lowest-as-product g v) in
       ap (λ (y : ℕ). x / y) same ∙ ap (λ (y : ℕ). y / w) is ∙ div-mul-add (v / w) w (x - lowest_of g v) (omega arith)
 
-  pub same-lowest : 0 < g.digits → lowest_of g v ≤ x → x < lowest_of g v + width_of g v → lowest_of g x ≡ lowest_of g v
-  same-lowest m a b =
-      lowest-as-product g x ∙ ap (λ (q : ℕ). q * width_of g x) (same-place m a b) ∙ ap (λ (w : ℕ). v / width_of g v * w) (same-width (same-bucket m a b)) ∙ sym (lowest-as-product g v)
-
   pub same-bin : 0 < g.digits → lowest_of g v ≤ x → x < lowest_of g v + width_of g v → bin_of g x ≡ bin_of g v
   unfolding bin_of
   same-bin m a b =

@@ -39,24 +39,6 @@ pub cleared-parts : (h : Plain) (counts : List ℕ) → counts ≡ replicate (le
 unfolding cleared
 cleared-parts h counts e = rw e refl
 
-pub IsPlain-restarted : (greatest : ℕ) (h : Plain) → IsPlain greatest h → IsPlain greatest (restarted h)
-unfolding restarted
-IsPlain-restarted greatest h p = record {
-  scale = p.scale;
-  high_fits = p.high_fits;
-  wide = p.wide;
-  bins = length-replicate (length h.counts) 0 ∙ p.bins;
-  numbers_fit = All-replicate (λ n. n ≤ greatest) (length h.counts) 0 (omega arith);
-  total_fits = omega arith;
-  total_covers = omega (arith, sum_by-replicate (λ x. x) (length h.counts) 0);
-  empty = λ e. omega (arith, sum_by-replicate (λ x. x) (length h.counts) 0);
-  nothing = λ e. refl;
-  top_in_bins = tt;
-  lower_in_bins = tt;
-  none_above = λ i above. zeros-behind [] (length h.counts) i;
-  none_below = λ i below. zeros-behind [] (length h.counts) i;
-}
-
 pub IsPlain-unmarked : (greatest : ℕ) (h k : Plain) → k ≡ cleared h → IsPlain greatest k → IsPlain greatest (record k { top_mark = None; lower_mark = None })
 unfolding cleared
 IsPlain-unmarked greatest h k e p = record {
@@ -188,9 +170,6 @@ min-later h some none =
 
 pub ltb-none : (n : ℕ) → ltb 0 n ≡ false → n ≡ 0
 ltb-none n e = grind (arith, nat_tests)
-
-pub true-false : true ≡ false → ⊥
-true-false e = cc
 
 -- making room and forgetting come to the same in either order
 two-runs : (a b : ℕ) → replicate {A = ℕ} a 0 ++ replicate {A = ℕ} b 0 ≡ replicate {A = ℕ} (a + b) 0

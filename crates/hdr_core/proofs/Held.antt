@@ -140,21 +140,6 @@ abbrev pub IsTopBefore : List ℕ → ℕ → Option ℕ → Type 0
 IsTopBefore counts n None = (i : ℕ) → i < n → get_or counts i 0 ≡ 0
 IsTopBefore counts n (Some m) = (0 < get_or counts m 0) × (m < n) × ((i : ℕ) → m < i → i < n → get_or counts i 0 ≡ 0)
 
-pub top-before-init : (counts : List ℕ) → IsTopBefore counts 0 None
-top-before-init counts = λ i lt. absurd (omega arith)
-
-pub top-before-some : (counts : List ℕ) (n : ℕ) → 0 < get_or counts n 0 → IsTopBefore counts (n + 1) (Some n)
-top-before-some counts n pos = (pos, omega arith, λ i a b. absurd (omega arith))
-
-pub top-before-same : (counts : List ℕ) (n : ℕ) (mark : Option ℕ) → get_or counts n 0 ≡ 0 → IsTopBefore counts n mark → IsTopBefore counts (n + 1) mark
-top-before-same counts n None none t = λ i lt. elim (cases_eq i n) [ inl e ↦ ap (λ k. get_or counts k 0) e ∙ none | inr other ↦ t i (omega arith) ]
-top-before-same counts n (Some m) none t =
-    (t.0, omega (arith, t.1), λ i past lt. elim (cases_eq i n) [ inl e ↦ ap (λ k. get_or counts k 0) e ∙ none | inr other ↦ t.2 i past (omega arith) ])
-
-pub top-before-end : (counts : List ℕ) (n : ℕ) (mark : Option ℕ) → length counts ≤ n → IsTopBefore counts n mark → IsTopMark counts mark
-top-before-end counts n None le t = λ i. elim (cases_lt i n) [ inl lt ↦ t i lt | inr ge ↦ get_or_past counts i 0 (omega arith) ]
-top-before-end counts n (Some m) le t = (t.0, λ i past. elim (cases_lt i n) [ inl lt ↦ t.2 i past lt | inr ge ↦ get_or_past counts i 0 (omega arith) ])
-
 -- a place of a number above 0 is a place
 pub place-in : (counts : List ℕ) (i : ℕ) → 0 < get_or counts i 0 → i < length counts
 place-in counts i pos = elim (cases_lt i (length counts)) [ inl lt ↦ lt | inr ge ↦ absurd (omega (arith, get_or_past counts i 0 ge)) ]
@@ -186,22 +171,3 @@ top-mark-above counts (Some m) t i a = t.1 i a
 lower-mark-below : (counts : List ℕ) (mark : Option ℕ) → IsLowerMark counts mark → (i : ℕ) → IsBelow mark i → get_or counts i 0 ≡ 0
 lower-mark-below counts None t i a = t i a
 lower-mark-below counts (Some m) t i a = t.2 i a.0 a.1
-
--- a histogram whose total and marks are those of its numbers
-pub IsPlain-restated : (greatest : ℕ) (h : Plain) (counts : List ℕ) (total : ℕ) (top lower : Option ℕ) → IsPlain greatest h → length counts ≡ length h.counts → All (λ n. n ≤ greatest) counts
-    → total ≡ min (sum counts) (2 ^ 64 - 1) → IsTopMark counts top → IsLowerMark counts lower → IsPlain greatest (record h { counts = counts; total = total; top_mark = top; lower_mark = lower })
-IsPlain-restated greatest h counts total top lower p same fit is_total is_top is_lower = record {
-  scale = p.scale;
-  high_fits = p.high_fits;
-  wide = p.wide;
-  bins = same ∙ p.bins;
-  numbers_fit = fit;
-  total_fits = omega arith;
-  total_covers = omega arith;
-  empty = λ e. omega arith;
-  nothing = λ e. omega arith;
-  top_in_bins = top-mark-in counts top is_top;
-  lower_in_bins = lower-mark-in counts lower is_lower;
-  none_above = top-mark-above counts top is_top;
-  none_below = lower-mark-below counts lower is_lower;
-}

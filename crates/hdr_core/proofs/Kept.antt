@@ -203,10 +203,6 @@ room-of greatest h v p lt =
 pub bins-enough : (greatest : ℕ) (h : Plain) (v : ℕ) → IsPlain greatest h → bin_of (grain h) v < bins_to (grain h) v
 bins-enough greatest h v p = within-bins (grain h) v v (grain-digits greatest h p) (reach-holds (grain h) v)
 
--- a value's class has a bin once the bins reach it
-pub room-grown : (greatest : ℕ) (h : Plain) (x : ℕ) → IsPlain greatest h → reach h < x → bin_of (grain h) x < length (grown h x).counts
-room-grown greatest h x p past = omega (arith, length-grown greatest h x p past, bins-enough greatest h x p)
-
 pub past-reach : (greatest : ℕ) (h : Plain) (v : ℕ) → IsPlain greatest h → reach h < v → reach h < reach_of (grain h) v
 past-reach greatest h v p past = omega (arith, reach-holds (grain h) v)
 

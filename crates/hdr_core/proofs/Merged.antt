@@ -54,10 +54,6 @@ max-none h unmarked = go h.top_mark unmarked
     go None unmarked = refl
     go (Some i) unmarked = absurd (unmarked i refl)
 
-pub max-some : (h : Plain) (i v : ℕ) → 0 < (grain h).digits → h.top_mark ≡ Some i → bin_of (grain h) v ≡ i → lowest_of (grain h) v ≡ v → top_of (grain h) v ≡ max_of h
-unfolding max_of
-max-some h i v m e b l = ap (λ x. top_of (grain h) x) (value_of-only (grain h) i m v b l) ∙ ap (λ o. top_of_mark (grain h) o) (sym e)
-
 pub mark-in : (greatest : ℕ) (h : Plain) (i : ℕ) → IsPlain greatest h → h.top_mark ≡ Some i → i < length h.counts
 mark-in greatest h i p e = subst (λ o. IfSome o (λ i. i < length h.counts)) e p.top_in_bins
 
@@ -268,11 +264,6 @@ pub classes-end : (greatest : ℕ) (h : Plain) (g : Grain) (ns : List ℕ) (mark
     → recorded greatest (recorded_each greatest h (classes_from g 0 ns)) (value_of g i) 0 ≡ recorded_each greatest h (classes_from g 0 ns ++ top_class g mark)
 classes-end greatest h g ns mark i e =
     sym (ap (λ o. recorded_each greatest h (classes_from g 0 ns ++ top_class g o)) e ∙ recorded_each-append greatest h (classes_from g 0 ns) (top_class g (Some i)))
-
-pub classes-end-none : (greatest : ℕ) (h : Plain) (g : Grain) (ns : List ℕ) (mark : Option ℕ) → ((i : ℕ) → mark ≡ Some i → ⊥)
-    → recorded_each greatest h (classes_from g 0 ns) ≡ recorded_each greatest h (classes_from g 0 ns ++ top_class g mark)
-classes-end-none greatest h g ns None unmarked = sym (ap (λ ts. recorded_each greatest h ts) (append-nil (classes_from g 0 ns)))
-classes-end-none greatest h g ns (Some i) unmarked = absurd (unmarked i refl)
 
 pub taken-same : (greatest : ℕ) (h s : Plain) → same_bins h s ≡ true → joined greatest h s ≡ taken_in greatest h s
 unfolding taken_in

@@ -115,27 +115,8 @@ module _ (greatest : ℕ) (h : Plain) (q : Ratio) (p : IsPlain greatest h) (pos 
       let total : rank q h.total ≡ rank q (length S) = ap (λ n. rank q n) s.total in
       omega (arith, rank-bound q (length S) pos some, ap sum whole)
 
-  pub answer-running : (i lowest v : ℕ) → FirstReaching h.counts (rank q h.total) i → bin_of (grain h) lowest ≡ i → lowest_of (grain h) lowest ≡ lowest
-      → FirstReaching h.counts (rank q h.total) (bin_of (grain h) v) → (lowest ≡ lowest_of (grain h) v) × (top_of (grain h) lowest ≡ top_of (grain h) v)
-  answer-running i lowest v first is low other =
-      let m = grain-digits greatest h p in
-      let same : bin_of (grain h) lowest ≡ bin_of (grain h) v = is ∙ first-one h.counts (rank q h.total) i (bin_of (grain h) v) first other in
-      (sym low ∙ bin-lowest (grain h) lowest v m same, bin-top (grain h) lowest v m same)
-
-  -- each class of the histogram has a lowest value
-  pub answer-inside : (i : ℕ) → i < length h.counts → bin_of (grain h) (2 ^ 64 - 1) < i → ⊥
-  unfolding bins_to
-  answer-inside i lt past =
-      omega (arith, p.bins, bin-mono (grain h) (reach_of (grain h) h.high) (2 ^ 64 - 1) (grain-digits greatest h p) (omega (arith, reach-fits (grain h) h.high p.high_fits (grain-fits greatest h p))))
-
 pub first-by : (counts : List ℕ) (r i : ℕ) → IsFirstToReach counts r i → FirstReaching counts r i
 first-by counts r i f = record { in_bins = f.0; reached = f.2; before = f.1 }
-
--- the ticks of a search, by the class that it found
-pub first-looks : (h : Plain) (r i block before after : ℕ) → FirstReaching h.counts r i → block ≡ block_of h → after ≡ before + (i / block + 1 + (i % block + 1))
-    → (j : ℕ) → FirstReaching h.counts r j → after ≡ before + looks (block_of h) (length h.counts) (Some j)
-first-looks h r i block before after first same e j other =
-    e ∙ ap (λ b. before + (i / b + 1 + (i % b + 1))) same ∙ ap (λ k. before + (k / block_of h + 1 + (k % block_of h + 1))) (first-one h.counts r i j first other)
 
 -- no more blocks and counters are looked at than there are blocks, and counters in a block
 pub looks-most : (block places n : ℕ) (o : Option ℕ) → 0 < block → places ≡ n * block → IfSome o (λ i. i < places) → looks block places o ≤ n + block

@@ -211,10 +211,6 @@ blocks_sum_more b ns ss xs k j h e l =
     let s : get_or xs j 0 ≡ get_or ss j 0 = ap (λ q. get_or q j 0) e in
     omega (arith, get_or-take k xs j 0 (omega arith), s, h.each j (omega arith))
 
--- what is before place i in its block
-pub rest_of_block : (b i : ℕ) → 1 ≤ b → i / b * b + i % b ≡ i
-rest_of_block b i h = omega arith
-
 pub clear_more : {X : Type 0} (f : X → ℕ) (xs : List X) (i : ℕ) (x : X) → i < length xs → take i (map f xs) ≡ replicate i 0 → f x ≡ 0 → take (i + 1) (map f (set xs i x)) ≡ replicate (i + 1) 0
 clear_more f xs i x h e z =
     let l : i < length (map f xs) = rw length-map h in

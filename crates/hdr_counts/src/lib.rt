@@ -83,7 +83,7 @@ impl<T: Counter> Counts<T> {
     pub fn as_slice(&self) -> &[T]
         ensures { map T.number result.now ≡ self.now.numbers }
     {
-        &self.counters
+        self.counters.as_slice()
     }
 
     /// The counter at place `i`.

@@ -32,13 +32,13 @@ Refuses P CannotWrite = ⊥
 Refuses P f = P f
 
 -- Ok and each fault by name are how the program P ends, and the writer gets all that P writes. Want of memory and
--- faults of the streams may come in place of any answer: nothing is written then, but where the writer itself fails,
--- which gets a beginning of what P writes.
+-- faults of the streams may come in place of any answer: nothing is written then. Where the writer itself fails, it has a
+-- beginning, not all, of what P writes where it ends by no fault.
 abbrev pub Answers : (List ℕ → Option Fault → Type 0) → Option (List ℕ) → Option (List ℕ) → Result (Unit {0}) Fault → Type 0
 Answers P old new (Ok u) = (text : List ℕ) × P text None × Appends old new text
 Answers P old new (Err NoMemory) = Keeps old new
 Answers P old new (Err CannotRead) = Keeps old new
-Answers P old new (Err CannotWrite) = (text : List ℕ) × (fault : Option Fault) × P text fault × AppendsFront old new text
+Answers P old new (Err CannotWrite) = (text : List ℕ) × P text None × AppendsFront old new text
 Answers P old new (Err f) = (text : List ℕ) × P text (Some f) × Appends old new text
 
 -- wrong words leave the input unread; else all of it is read, unless memory or the reader fails

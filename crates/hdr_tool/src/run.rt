@@ -37,7 +37,7 @@ fn apply_line(histogram: &mut Histogram<u64>, number: u64, line: &[u8]) -> Resul
     ensures words { result ≢ Err Fault.WrongWords }
     ensures done { MatchResult result
         (λ _. LineDone histogram.old (number, line.now) (Ok ([], histogram.new)))
-        (Refuses (λ f. LineDone histogram.old (number, line.now) (Err f))) }
+        (λ f. LineDone histogram.old (number, line.now) (Err f)) }
 {
     if line.is_empty() {
         return Ok(());

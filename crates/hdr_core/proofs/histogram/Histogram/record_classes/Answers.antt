@@ -6,7 +6,7 @@ use Rattle.hdr_core.specs.Plain.{Plain, grain, reach, max_of}
 use Rattle.hdr_core.specs.Recording.{recorded, Times, recorded_each}
 use Rattle.hdr_core.specs.Merging.{classes_from, top_class}
 use Rattle.hdr_core.proofs.Kept.{grain-digits}
-use Rattle.hdr_core.proofs.Merged.{number-le-max, value-le-max, mark-in, classes-next, classes-same, classes-end, classes-end-none, reach-recorded}
+use Rattle.hdr_core.proofs.Merged.{number-le-max, value-le-max, mark-in, classes-next, classes-same, classes-end, reach-recorded}
 use Rattle.hdr_core.proofs.histogram.Histogram.record_classes.Goals as goal
 use Rattle.hdr_core.proofs.histogram.Histogram.record_classes.Goals.{then-count-gt0, else-count-gt0}
 

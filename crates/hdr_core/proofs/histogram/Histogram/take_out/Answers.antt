@@ -6,7 +6,6 @@ use Rattle.hdr_core.specs.Samples.{in_class}
 use Rattle.hdr_core.specs.Merging.{lowest_values}
 use Rattle.hdr_core.specs.Subtracting.{IsDifference}
 use Rattle.hdr_core.proofs.Kept.{bins-pos}
-use Rattle.hdr_core.proofs.Held.{IsPlain-restated}
 use Rattle.hdr_core.proofs.histogram.Histogram.take_out.Goals as goal
 
 pub capped_sum-self-inside-requires : goal.capped_sum-self-inside-requires
