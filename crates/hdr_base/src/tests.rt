@@ -145,6 +145,8 @@ fn classes_of_three_digits(rt: HostRuntime) -> Result<(), Fail> {
     assert_eq!(rt; scale.bin(u64::MAX), 56319);
     assert_eq!(rt; scale.bin_value(56320), None);
     assert_eq!(rt; scale.reach(3600000000), 4294967295);
+    assert_eq!(rt; scale.bucket_start(2047), 0);
+    assert_eq!(rt; scale.bucket_start(3600000000), 2147483648);
     assert_eq!(rt; scale.buckets(3600000000), 22);
     assert_eq!(rt; scale.block(), 1024);
     Ok(())

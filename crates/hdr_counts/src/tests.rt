@@ -90,6 +90,12 @@ fn sums_are_capped(rt: HostRuntime) -> Result<(), Fail> {
     let source: Counts<u64> = threes(rt.alloc(), &[10, 0, 1, 0, 300, 2, 0, 0, 0])?;
     target.add_capped(&source);
     holds(&rt, &target, &[11, 2, 4, 0, 255, 2, 7, 8, 9]);
+    assert_eq!(rt; target.as_slice().get(4).copied(), Some(255));
+    if target.len() == 9 {
+        assert_eq!(rt; target.try_add(4, 1), None);
+        assert_eq!(rt; target.try_add(8, 3), Some(()));
+    }
+    holds(&rt, &target, &[11, 2, 4, 0, 255, 2, 7, 8, 12]);
     let mut full: Counts<u64> = threes(rt.alloc(), &[u64::MAX, 1, 0, 5, 0, 0, 0, 0, 0])?;
     full.add_capped(&source);
     holds(&rt, &full, &[u64::MAX, 1, 1, 5, 300, 2, 0, 0, 0]);

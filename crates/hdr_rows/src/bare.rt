@@ -172,6 +172,10 @@ impl<T: Counter> Histogram<T> {
         self.inner.bin_count(index)
     }
 
+    pub fn counters(&self) -> &[T] {
+        self.inner.counters()
+    }
+
     pub fn value_at_quantile(&self, quantile: Quantile) -> u64 {
         self.inner.value_at_quantile(quantile)
     }

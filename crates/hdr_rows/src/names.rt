@@ -107,12 +107,14 @@ pub enum Bin {
     BinOf,
     BinValue,
     BinCount,
+    Counters,
 }
 
-pub const BINS: [(&str, Bin); 3] = [
+pub const BINS: [(&str, Bin); 4] = [
     ("bin_of", Bin::BinOf),
     ("bin_value", Bin::BinValue),
     ("bin_count", Bin::BinCount),
+    ("counters", Bin::Counters),
 ];
 
 /// What is asked of counts and classes.

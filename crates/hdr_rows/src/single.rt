@@ -166,6 +166,11 @@ fn bin_count<T: Counter>(h: &Histogram<T>, index: u64) -> Option<u64> {
     Some(h.bin_count(index as usize)?.as_u64())
 }
 
+/// The number of a counter in the list of all.
+fn counter<T: Counter>(h: &Histogram<T>, index: u64) -> Option<u64> {
+    Some(h.counters().get(index as usize)?.as_u64())
+}
+
 /// The bin of a value.
 fn bin_of<T: Counter>(h: &Histogram<T>, value: u64) -> Option<u64> {
     Some(h.bin_of(value)? as u64)
@@ -177,6 +182,7 @@ fn bin<T: Counter>(h: &Histogram<T>, ask: Bin, number: u64) -> Option<u64> {
         Bin::BinOf => bin_of(h, number),
         Bin::BinValue => h.bin_value(number as usize),
         Bin::BinCount => bin_count(h, number),
+        Bin::Counters => counter(h, number),
     }
 }
 
