@@ -1,5 +1,5 @@
 -- The samples from one class to another.
-use Rattle.std.proofs.Common.{◌≡◌, ℕ, zero, suc, ◌+◌, ◌-◌, ◌^◌, ◌<◌, ◌≤◌, Bool, true, false, cond, leb, ltb, min, List, [], ◌∷◌, ◌++◌, length, take, drop, sum, sum_by, count_by, refl, sym, ap, ◌∙◌, arith, inl, inr}
+use Rattle.std.proofs.Common.{◌≡◌, ℕ, ◌+◌, ◌-◌, ◌^◌, ◌<◌, ◌≤◌, true, false, cond, leb, ltb, min, List, [], ◌∷◌, length, take, drop, sum, refl, ap, ◌∙◌, arith, inl, inr}
 use Rattle.std.specs.Prelude.{◌&&◌}
 use Rattle.std.specs.List.{slice_range}
 use Rattle.std.proofs.lemmas.Bool.Decides.{nat_tests}
@@ -7,7 +7,7 @@ use Rattle.std.proofs.lemmas.Bool.{cases_lt}
 use Rattle.std.proofs.lemmas.List.Sums.{sum_by-cons, sum_by-append, sum_by-take-drop, count_by-le-length}
 use Rattle.std.proofs.lemmas.List.Folds.{drop_split}
 use Rattle.hdr_base.specs.Classes.{Grain, bin_of, lowest_of, top_of, width_of}
-use Rattle.hdr_base.proofs.ClassLaws.{bin-mono, bin-lowest, bin-top, same-bin, lowest-le, width-pos, top-of-value, lowest-as-product}
+use Rattle.hdr_base.proofs.ClassLaws.{bin-mono, bin-lowest, bin-top, same-bin, lowest-le, width-pos, top-of-value}
 use Rattle.hdr_core.specs.Plain.{Plain, IsPlain, grain, reach}
 use Rattle.hdr_core.specs.Samples.{StandsFor}
 use Rattle.hdr_core.specs.Statistics.{held_bin, sum_between, samples_between}

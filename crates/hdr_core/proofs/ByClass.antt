@@ -1,12 +1,12 @@
 -- Correction, one class at a time.
-use Rattle.std.proofs.Common.{◌≡◌, ◌≢◌, ℕ, zero, suc, ◌+◌, ◌-◌, ◌*◌, ◌/◌, ◌%◌, ◌^◌, ◌<◌, ◌≤◌, true, leb, max, List, [], ◌∷◌, ◌++◌, length, refl, sym, ap, ◌∙◌, arith, inl, inr}
+use Rattle.std.proofs.Common.{◌≡◌, ◌≢◌, ℕ, ◌+◌, ◌-◌, ◌*◌, ◌/◌, ◌^◌, ◌<◌, ◌≤◌, leb, max, List, [], ◌∷◌, ◌++◌, length, refl, sym, ap, ◌∙◌, arith, inl, inr}
 use Rattle.std.specs.List.{All}
 use Rattle.std.proofs.lemmas.Bool.{cases_lt}
 use Rattle.std.proofs.lemmas.Bool.Decides.{nat_tests}
 use Rattle.std.proofs.lemmas.Nat.{div-add-mod', mod_below}
 use Rattle.std.proofs.lemmas.List.Elements.{All-weaker, All-nil, All-cons, All-head, All-tail}
 use Rattle.std.proofs.Math.Nat.{pow-le-pow_right}
-use Rattle.hdr_base.specs.Classes.{Grain, bin_of, lowest_of, width_of, digits_of, grain_of, reach_of}
+use Rattle.hdr_base.specs.Classes.{Grain, bin_of, lowest_of, digits_of, grain_of, reach_of}
 use Rattle.hdr_base.proofs.Least.{least_from-le}
 use Rattle.hdr_base.proofs.ScaleLaws.{bin-bound}
 use Rattle.hdr_base.specs.Classes.{bins_to}

@@ -1,21 +1,19 @@
 -- What clamping and clearing keep.
 use Rattle.std.proofs.Common.{◌≡◌, ◌≢◌, ℕ, zero, suc, ◌∷◌, ◌++◌, ◌+◌, ◌-◌, ◌^◌, ◌<◌, ◌≤◌, Bool, true, false, cond, eqb, ltb, None, Some, List, [], length, get_or, replicate, refl, sym, ap, ◌∙◌, arith, inl, inr}
 use Rattle.std.specs.Prelude.{◌||◌}
-use Rattle.std.specs.List.{All}
 use Rattle.std.proofs.lemmas.Bool.Decides.{nat_tests}
 use Rattle.std.proofs.lemmas.Bool.{cases_lt}
 use Rattle.std.proofs.lemmas.List.{length-replicate, length-append}
 use Rattle.std.proofs.lemmas.List.Elements.{All-replicate, All-nil}
 use Rattle.std.proofs.lemmas.List.Folds.{sum_by-replicate}
-use Rattle.hdr_base.specs.Classes.{Grain, grain_of, bin_of, reach_of, top_of, value_of, bins_to}
+use Rattle.hdr_base.specs.Classes.{grain_of, top_of, value_of, bins_to}
 use Rattle.hdr_base.proofs.Reach.{reach-holds}
 use Rattle.hdr_core.specs.Plain.{Plain, IsPlain, grain, reach, empty_plain, top_of_mark, max_of, value_of_mark, min_nz_of, min_of}
 use Rattle.hdr_core.specs.Recording.{grown, widened, added, recorded, clamped, cleared, restarted}
 use Rattle.hdr_core.specs.Merging.{with_room}
 use Rattle.hdr_core.specs.Samples.{StandsFor}
-use Rattle.hdr_core.specs.Calls.{high_with, clamp}
+use Rattle.hdr_core.specs.Calls.{clamp}
 use Rattle.hdr_core.proofs.Kept.{leb-no, leb-yes, zeros-behind, widened-same}
-use Rattle.hdr_core.proofs.Merged.{recorded-inside}
 
 pub IsPlain-cleared : (greatest : ℕ) (h : Plain) → IsPlain greatest h → IsPlain greatest (cleared h)
 unfolding cleared

@@ -1,10 +1,10 @@
 -- A histogram added to an empty one of its bounds.
-use Rattle.std.proofs.Common.{◌≡◌, ℕ, zero, suc, ◌+◌, ◌-◌, ◌^◌, ◌<◌, ◌≤◌, min, true, eqb, List, [], ◌∷◌, length, replicate, get_or, refl, sym, ap, subst, ◌∙◌, arith, inl, inr}
+use Rattle.std.proofs.Common.{◌≡◌, ℕ, ◌+◌, ◌<◌, ◌≤◌, min, true, List, [], ◌∷◌, length, replicate, refl, sym, ap, ◌∙◌, arith, inl, inr}
 use Rattle.std.specs.List.{All}
 use Rattle.std.proofs.lemmas.Bool.{cases_lt}
 use Rattle.std.proofs.lemmas.List.{length-replicate, get_or_past}
 use Rattle.std.proofs.lemmas.List.Elements.{All-head, All-tail}
-use Rattle.hdr_base.specs.Classes.{Grain, value_of, top_of, bin_of, bins_to}
+use Rattle.hdr_base.specs.Classes.{value_of, top_of, bin_of, bins_to}
 use Rattle.hdr_base.proofs.Finer.{bin-value_of}
 use Rattle.hdr_counts.specs.Blocks.{capped_sums}
 use Rattle.hdr_core.specs.Plain.{Plain, IsPlain, grain, reach, empty_plain}

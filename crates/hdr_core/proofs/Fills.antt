@@ -1,11 +1,11 @@
 -- Recording the values of one class one by one is one addition.
-use Rattle.std.proofs.Common.{◌≡◌, ◌≢◌, ℕ, zero, suc, ◌+◌, ◌-◌, ◌*◌, ◌/◌, ◌^◌, ◌<◌, ◌≤◌, Bool, true, false, cond, eqb, Option, None, Some, min, max, List, [], ◌∷◌, ◌++◌, length, get_or, set, refl, sym, ap, ◌∙◌, arith, inl, inr}
+use Rattle.std.proofs.Common.{◌≡◌, ℕ, ◌+◌, ◌-◌, ◌*◌, ◌^◌, ◌<◌, ◌≤◌, Bool, true, false, cond, eqb, Option, None, Some, min, max, List, [], ◌∷◌, length, get_or, set, refl, ap, ◌∙◌, arith}
 use Rattle.std.specs.List.{All}
 use Rattle.std.proofs.lemmas.List.{set-set, length-set, get_or-set_same}
-use Rattle.std.proofs.lemmas.List.Elements.{All-head, All-tail, All-weaker}
-use Rattle.hdr_base.specs.Classes.{Grain, bin_of, lowest_of, width_of}
+use Rattle.std.proofs.lemmas.List.Elements.{All-head, All-tail}
+use Rattle.hdr_base.specs.Classes.{bin_of}
 use Rattle.hdr_core.specs.Plain.{Plain, grain, reach}
-use Rattle.hdr_core.specs.Recording.{widened, added, recorded, later_mark, earlier_mark, recorded_each}
+use Rattle.hdr_core.specs.Recording.{added, recorded, later_mark, earlier_mark, recorded_each}
 use Rattle.hdr_core.specs.Missing.{each}
 use Rattle.hdr_core.proofs.Kept.{widened-same}
 

@@ -1,12 +1,12 @@
 -- The first class that reaches a rank is found.
-use Rattle.std.proofs.Common.{◌≡◌, ◌≢◌, ℕ, zero, suc, ◌+◌, ◌-◌, ◌*◌, ◌<◌, ◌≤◌, Bool, true, false, cond, leb, eqb, List, [], ◌∷◌, length, get_or, take, sum, Option, Some, None, MatchOption, sym, refl, ap, ◌∙◌, subst, arith, inl, inr}
+use Rattle.std.proofs.Common.{◌≡◌, ℕ, zero, suc, ◌+◌, ◌-◌, ◌<◌, ◌≤◌, Bool, true, false, cond, leb, List, [], ◌∷◌, length, take, sum, Option, Some, None, MatchOption, refl, ap, ◌∙◌, arith, inl, inr}
 use Rattle.std.specs.List.{range_with_len, find}
 use Rattle.std.proofs.lemmas.Bool.Decides.{nat_tests}
 use Rattle.std.proofs.lemmas.Bool.{cases_lt, cases_eq}
 use Rattle.std.proofs.lemmas.List.{take_all}
 use Rattle.std.proofs.lemmas.List.Sums.{sum_by-cons}
 use Rattle.hdr_base.specs.Fractions.{Ratio}
-use Rattle.hdr_base.specs.Classes.{Grain, bin_of, value_of, top_of}
+use Rattle.hdr_base.specs.Classes.{value_of}
 use Rattle.hdr_base.proofs.Finer.{bin-value_of}
 use Rattle.hdr_counts.specs.Blocks.{IsFirstToReach}
 use Rattle.hdr_core.specs.Plain.{Plain, IsPlain, grain}

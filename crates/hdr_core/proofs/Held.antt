@@ -1,15 +1,13 @@
 -- What the classes of another histogram hold of a class, one more at a time.
-use Rattle.std.proofs.Common.{zero-add, add-one, ◌≡◌, ◌≢◌, ℕ, zero, suc, ◌+◌, ◌-◌, ◌*◌, ◌^◌, ◌<◌, ◌≤◌, Bool, true, false, cond, List, [], ◌∷◌, ◌++◌, length, get_or, take, drop, replicate, refl, sym, ap, subst, ◌∙◌, arith, rules, inl, inr}
+use Rattle.std.proofs.Common.{◌≡◌, ◌≢◌, ℕ, zero, suc, ◌+◌, ◌-◌, ◌<◌, ◌≤◌, List, [], ◌∷◌, ◌++◌, length, get_or, take, drop, replicate, refl, sym, ap, subst, ◌∙◌, arith, inl, inr}
 use Rattle.std.proofs.lemmas.Bool.{cases_lt, cases_eq}
-use Rattle.std.proofs.Common.{Option, Some, None, IfSome, set, min, sum}
-use Rattle.std.specs.List.{All}
-use Rattle.hdr_core.specs.Plain.{IsPlain, IsAbove, IsBelow}
+use Rattle.std.proofs.Common.{Option, Some, None, IfSome, set, sum}
+use Rattle.hdr_core.specs.Plain.{IsAbove, IsBelow}
 use Rattle.hdr_core.specs.Plain.{IsTopMark, IsLowerMark}
 use Rattle.std.proofs.lemmas.List.{get_or_past, get_or-set_same, get_or-set_other, append-nil, take_more, take_all, length-take-le, take-append-drop}
 use Rattle.hdr_base.specs.Classes.{Grain, bin_of, value_of}
 use Rattle.hdr_base.proofs.ClassLaws.{bin-mono}
 use Rattle.hdr_base.proofs.Finer.{bin-value_of}
-use Rattle.hdr_core.specs.Plain.{Plain, grain}
 use Rattle.hdr_core.specs.Samples.{in_class}
 use Rattle.hdr_core.specs.Recording.{Times, spread}
 use Rattle.hdr_core.specs.Merging.{classes_from}

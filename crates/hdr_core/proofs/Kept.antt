@@ -1,13 +1,11 @@
 -- What is true of every histogram is kept.
-use Rattle.std.proofs.Common.{◌≡◌, ℕ, zero, suc, ◌+◌, ◌-◌, ◌*◌, ◌^◌, ◌<◌, ◌≤◌, Bool, true, false, cond, Option, min, List, [], ◌∷◌, ◌++◌, length, get_or, set, replicate, map, take, leb, refl, sym, ap, ◌∙◌, arith, rules, inl, inr}
-use Rattle.std.specs.List.{All}
+use Rattle.std.proofs.Common.{◌≡◌, ℕ, zero, suc, ◌+◌, ◌-◌, ◌*◌, ◌^◌, ◌<◌, ◌≤◌, Bool, true, false, cond, Option, min, List, [], ◌∷◌, ◌++◌, length, get_or, set, replicate, map, leb, refl, sym, ap, ◌∙◌, arith, inl, inr}
 use Rattle.std.proofs.lemmas.Bool.Decides.{nat_tests}
 use Rattle.std.proofs.lemmas.Bool.{cases_lt}
-use Rattle.std.proofs.lemmas.List.{length-set, length-replicate, length-append, length-map, map-append, map-set, get_or-map, take_all}
+use Rattle.std.proofs.lemmas.List.{length-set, length-replicate, length-append}
 use Rattle.std.proofs.lemmas.List.Elements.{All-set, All-append, All-replicate}
-use Rattle.std.proofs.lemmas.Grind.{common_steps}
-use Rattle.hdr_base.specs.Classes.{Grain, bucket, bin_of, reach_of, HasScale, grain_of, unit_of}
-use Rattle.std.proofs.Common.{None, Some, IfSome, sum, eqb, eqb-true, ◌≢◌, subst}
+use Rattle.hdr_base.specs.Classes.{Grain, bucket, bin_of, reach_of, HasScale, grain_of}
+use Rattle.std.proofs.Common.{None, Some, IfSome, sum, eqb, eqb-true, ◌≢◌}
 use Rattle.std.proofs.lemmas.List.{get_or-set_other, get_or-set_same, get_or-replicate, get_or_past}
 use Rattle.std.proofs.lemmas.List.Sums.{sum_by-set, get_or-le-sum_by, sum_by-append}
 use Rattle.std.proofs.lemmas.List.Folds.{sum_by-replicate}
@@ -15,7 +13,7 @@ use Rattle.hdr_base.proofs.ClassLaws.{bin-mono}
 use Rattle.hdr_core.specs.Plain.{Plain, IsPlain, IsAbove, IsBelow, grain, reach, empty_plain}
 use Rattle.hdr_core.specs.Recording.{grown, widened, added, recorded, later_mark, earlier_mark}
 use Rattle.hdr_base.specs.Classes.{bins_to}
-use Rattle.hdr_base.proofs.Reach.{reach-holds, reach-reach, reach-fits, bins_by, bins-blocks, within-bins, past-bins, bins-mono}
+use Rattle.hdr_base.proofs.Reach.{reach-holds, reach-reach, reach-fits, bins-blocks, within-bins, past-bins, bins-mono}
 use Rattle.hdr_base.proofs.Digits.{digits-pos}
 
 -- a histogram whose parts are those of an added count

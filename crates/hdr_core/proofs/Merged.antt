@@ -1,22 +1,20 @@
 -- What adding one histogram to another keeps.
-use Rattle.std.proofs.Common.{add-one, ◌≡◌, ◌≢◌, ℕ, zero, suc, ◌+◌, ◌-◌, ◌*◌, ◌^◌, ◌<◌, ◌≤◌, Bool, true, false, cond, eqb, leb, eqb-true, Option, None, Some, IfSome, min, max, List, [], ◌∷◌, ◌++◌, length, get_or, set, take, sum, ◌&&◌, refl, sym, ap, subst, ◌∙◌, arith, rules, inl, inr}
-use Rattle.std.specs.List.{All}
+use Rattle.std.proofs.Common.{◌≡◌, ◌≢◌, ℕ, zero, suc, ◌+◌, ◌-◌, ◌^◌, ◌<◌, ◌≤◌, Bool, true, false, eqb, eqb-true, Option, None, Some, IfSome, min, List, [], ◌∷◌, ◌++◌, length, get_or, take, sum, ◌&&◌, refl, sym, ap, subst, ◌∙◌, arith, inl, inr}
 use Rattle.std.proofs.lemmas.Bool.Decides.{nat_tests}
 use Rattle.std.proofs.lemmas.Bool.{cases_lt}
-use Rattle.std.proofs.lemmas.List.{get_or_past, append_assoc, append-nil, take_more, length-take-le}
-use Rattle.std.proofs.lemmas.List.Sums.{get_or-le-sum_by, sum_by-cons}
-use Rattle.std.proofs.lemmas.List.Elements.{All-cons, All-head, All-tail}
-use Rattle.hdr_base.specs.Classes.{Grain, bin_of, lowest_of, top_of, value_of, reach_of}
+use Rattle.std.proofs.lemmas.List.{get_or_past, take_more, length-take-le}
+use Rattle.std.proofs.lemmas.List.Sums.{get_or-le-sum_by}
+use Rattle.hdr_base.specs.Classes.{Grain, bin_of, top_of, value_of, reach_of}
 use Rattle.hdr_base.proofs.ClassLaws.{bin-mono, bin-top, top-of-value}
-use Rattle.hdr_base.proofs.Finer.{bin-value_of, value_of-only}
+use Rattle.hdr_base.proofs.Finer.{bin-value_of}
 use Rattle.hdr_core.specs.Plain.{Plain, IsPlain, IsAbove, IsBelow, grain, reach, top_of_mark, max_of}
-use Rattle.hdr_core.specs.Recording.{grown, widened, added, recorded, later_mark, earlier_mark}
+use Rattle.hdr_core.specs.Recording.{grown, added, recorded}
 use Rattle.hdr_core.specs.Recording.{Times, recorded_each}
 use Rattle.hdr_core.specs.Merging.{classes_from, top_class, same_bins, later_of, earlier_of, joined, taken_in, with_room, merged}
 use Rattle.hdr_counts.specs.Blocks.{capped_sums}
 use Rattle.hdr_counts.proofs.CappedSums.{capped-length, capped-get, capped-fit, capped-sum, capped-nothing}
 use Rattle.hdr_base.proofs.Reach.{reach-holds}
-use Rattle.hdr_core.proofs.Kept.{above-later, below-earlier, later-in, earlier-in, widened-same, grain-digits, leb-yes, leb-no}
+use Rattle.hdr_core.proofs.Kept.{above-later, later-in, earlier-in, widened-same, grain-digits, leb-yes, leb-no}
 
 -- ---- the greatest value
 

@@ -1,26 +1,23 @@
 -- The answer to a quantile.
-use Rattle.std.proofs.Common.{◌≡◌, ◌≢◌, ℕ, zero, suc, ◌+◌, ◌-◌, ◌*◌, ◌/◌, ◌%◌, ◌^◌, ◌<◌, ◌≤◌, ◌⊎◌, min, max, List, [], ◌∷◌, length, get_or, take, sum, refl, sym, ap, subst, ◌∙◌, arith, rules, inl, inr}
-use Rattle.std.specs.List.{All}
+use Rattle.std.proofs.Common.{◌≡◌, ℕ, zero, suc, ◌+◌, ◌-◌, ◌*◌, ◌/◌, ◌^◌, ◌<◌, ◌≤◌, min, List, length, get_or, take, sum, sym, ap, subst, ◌∙◌, arith, inl, inr}
 use Rattle.std.specs.Int.{div_ceil}
-use Rattle.std.proofs.lemmas.Bool.{cases_lt, cases_eq}
+use Rattle.std.proofs.lemmas.Bool.{cases_lt}
 use Rattle.std.proofs.lemmas.List.{take_all}
-use Rattle.std.proofs.lemmas.List.Sums.{sum_by_more, sum_by-cons}
+use Rattle.std.proofs.lemmas.List.Sums.{sum_by_more}
 use Rattle.std.proofs.lemmas.List.Elements.{All-weaker}
 use Rattle.std.proofs.Math.Nat.{one-le-pow}
-use Rattle.std.proofs.lemmas.Nat.{div-add-mod', mod_below, div_below, mul-le, pow_pos}
+use Rattle.std.proofs.lemmas.Nat.{div-add-mod', mod_below, div_below, mul-le}
 use Rattle.hdr_base.specs.Fractions.{Ratio}
-use Rattle.hdr_base.specs.Classes.{Grain, bin_of, lowest_of, top_of, width_of, reach_of, grain_of}
-use Rattle.hdr_base.proofs.ClassLaws.{bin-mono, bin-top, bin-lowest, top-of-value, lowest-le, width-of-units, width-bound, width-pos}
+use Rattle.hdr_base.specs.Classes.{Grain, bin_of, lowest_of, top_of, width_of, grain_of}
+use Rattle.hdr_base.proofs.ClassLaws.{bin-top, top-of-value, lowest-le, width-of-units, width-bound, width-pos}
 use Rattle.hdr_counts.specs.Blocks.{IsFirstToReach, looks}
 use Rattle.std.proofs.Common.{Option, Some, None, IfSome}
-use Rattle.hdr_core.specs.Plain.{Plain, IsPlain, grain, reach, block_of}
-use Rattle.hdr_base.specs.Classes.{bins_to}
+use Rattle.hdr_core.specs.Plain.{Plain, IsPlain, grain, reach}
 use Rattle.hdr_core.specs.Samples.{StandsFor}
 use Rattle.hdr_core.specs.Ranks.{sorted, rank, ranked_sample, IsTopNear}
-use Rattle.hdr_base.proofs.Reach.{reach-fits}
 use Rattle.hdr_base.proofs.Digits.{digits-enough}
-use Rattle.hdr_core.proofs.Kept.{grain-digits, grain-fits, room-in}
-use Rattle.hdr_core.proofs.Order.{FirstReaching, class-of-rank, in_first, in_first-all, running}
+use Rattle.hdr_core.proofs.Kept.{grain-digits, room-in}
+use Rattle.hdr_core.proofs.Order.{FirstReaching, class-of-rank, in_first-all, running}
 
 -- a rank is a place among the samples
 ceil-le : (a d n : ℕ) → 0 < d → a ≤ n * d → div_ceil a d ≤ n

@@ -1,5 +1,5 @@
 -- What equality of histograms means.
-use Rattle.std.proofs.Common.{◌≡◌, ℕ, Bool, true, false, eqb, eqb-true, ◌&&◌, List, get_or, refl, sym, ap, ◌∙◌}
+use Rattle.std.proofs.Common.{◌≡◌, Bool, true, eqb, eqb-true, ◌&&◌, get_or, refl, sym, ap, ◌∙◌}
 use lib.Pointwise.{pointwise, bytes_decides}
 use Rattle.hdr_core.specs.Plain.{Plain, max_of, min_nz_of}
 use Rattle.hdr_core.specs.Equality.{trimmed, same_plain, IsSame}

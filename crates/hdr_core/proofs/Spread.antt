@@ -1,9 +1,9 @@
 -- What a histogram stands for after another was added.
-use Rattle.std.proofs.Common.{zero-add, add-one, ◌≡◌, ◌≢◌, ℕ, zero, suc, ◌+◌, ◌-◌, ◌*◌, ◌^◌, ◌<◌, ◌≤◌, Bool, true, false, cond, eqb, leb, Option, None, Some, min, List, [], ◌∷◌, ◌++◌, length, get_or, take, sum, sum_by, count_by, replicate, refl, sym, ap, subst, ◌∙◌, arith, rules, inl, inr}
+use Rattle.std.proofs.Common.{◌≡◌, ◌≢◌, ℕ, zero, suc, ◌+◌, ◌*◌, ◌^◌, ◌<◌, ◌≤◌, Bool, true, false, cond, eqb, leb, Option, None, Some, List, [], ◌∷◌, ◌++◌, length, get_or, take, sum, sum_by, replicate, refl, sym, ap, subst, ◌∙◌, arith, inl, inr}
 use Rattle.std.specs.List.{All}
 use Rattle.std.proofs.lemmas.Bool.Decides.{nat_tests}
 use Rattle.std.proofs.lemmas.Bool.{cases_lt}
-use Rattle.std.proofs.lemmas.List.{append_assoc, append-nil, length-append, length-replicate, take_all}
+use Rattle.std.proofs.lemmas.List.{append_assoc, append-nil, length-append, take_all}
 use Rattle.std.proofs.lemmas.List.Sums.{sum_by-cons, sum_by-append}
 use Rattle.std.proofs.lemmas.List.Folds.{sum_by-replicate}
 use Rattle.std.proofs.lemmas.List.Elements.{All-cons, All-head, All-tail, All-append, All-weaker}
@@ -20,9 +20,8 @@ use Rattle.hdr_counts.specs.Blocks.{capped_sums}
 use Rattle.hdr_core.proofs.Kept.{IsPlain-added, IsPlain-grown, grain-digits, grain-recorded, room-in, leb-yes, leb-no}
 use Rattle.hdr_core.proofs.Kept.{grain-fits}
 use Rattle.hdr_base.proofs.Reach.{reach-fits}
-use Rattle.std.proofs.Common.{◌&&◌, ◌==◌}
 use Rattle.hdr_core.proofs.Stands.{StandsFor-recorded, StandsFor-grown}
-use Rattle.hdr_core.proofs.Order.{in_first, in_first-all, running}
+use Rattle.hdr_core.proofs.Order.{in_first-all, running}
 use Rattle.hdr_core.proofs.Merged.{number-le-max, recorded-inside, reach-recorded, joined-empty, joined-some, same-bins, with_room-same, with_room-more, with_room-reach, taken-same, taken-other, value-le-max, merged-none, merged-some}
 use Rattle.hdr_counts.proofs.CappedSums.{capped-get, capped-length}
 

@@ -1,5 +1,5 @@
 -- What a histogram stands for, when values are recorded.
-use Rattle.std.proofs.Common.{zero-add, ◌≡◌, ◌≢◌, ℕ, zero, suc, ◌+◌, ◌-◌, ◌*◌, ◌^◌, ◌<◌, ◌≤◌, Bool, true, false, cond, eqb, Option, min, List, [], ◌∷◌, ◌++◌, length, get_or, set, replicate, count_by, sum_by, refl, sym, ap, ◌∙◌, arith, rules, inl, inr}
+use Rattle.std.proofs.Common.{zero-add, ◌≡◌, ◌≢◌, ℕ, ◌+◌, ◌-◌, ◌^◌, ◌<◌, ◌≤◌, true, false, cond, eqb, min, List, [], ◌∷◌, ◌++◌, length, get_or, replicate, sum_by, refl, sym, ap, ◌∙◌, arith, inl, inr}
 use Rattle.std.specs.List.{All}
 use Rattle.std.proofs.lemmas.Bool.Decides.{nat_tests}
 use Rattle.std.proofs.lemmas.Bool.{cases_lt, cases_eq}
@@ -11,7 +11,7 @@ use Rattle.std.proofs.lemmas.List.Folds.{sum_by-replicate}
 use Rattle.std.proofs.lemmas.List.Elements.{All-append, All-replicate, All-weaker, All-head, All-tail}
 use Rattle.hdr_base.specs.Classes.{Grain, bin_of, reach_of}
 use Rattle.hdr_core.specs.Plain.{Plain, IsPlain, grain, reach}
-use Rattle.hdr_core.specs.Recording.{grown, widened, added, recorded}
+use Rattle.hdr_core.specs.Recording.{grown, added, recorded}
 use Rattle.hdr_base.specs.Classes.{bins_to}
 use Rattle.hdr_core.specs.Samples.{in_class, StandsFor, Fits}
 use Rattle.hdr_base.proofs.Reach.{reach-holds, reach-reach}

@@ -1,11 +1,11 @@
 -- What calls do, by numbers and by samples.
-use Rattle.std.specs.Prelude.{◌≡◌, ◌==◌, ◌⊎◌, ℕ, ◌+◌, ◌<◌, ◌≤◌, nat_le, if◌then◌else◌, List, [], ◌∷◌, ◌++◌, length, replicate, Result, Ok, Err}
+use Rattle.std.specs.Prelude.{◌≡◌, ◌==◌, ◌⊎◌, ℕ, nat_le, if◌then◌else◌, List, [], ◌∷◌, ◌++◌, length, replicate, Result, Ok, Err}
 use Rattle.hdr_base.specs.Classes.{Grain, reach_of, IsFiner}
 use Rattle.hdr_core.specs.Plain.{Plain, grain, max_of}
 use Rattle.hdr_core.specs.Recording.{recorded, clamped, cleared, restarted, spread}
 use Rattle.hdr_core.specs.Missing.{missing, each, corrected, highest_top, merged_corrected, corrected_samples}
 use Rattle.hdr_core.specs.Merging.{merged}
-use Rattle.hdr_core.specs.Samples.{StandsFor, Fits}
+use Rattle.hdr_core.specs.Samples.{StandsFor}
 use Rattle.hdr_core.specs.Refusals.{HasRoom, RefusesRecord, RefusesAddition, RefusesCorrected}
 use Rattle.hdr_core.specs.declared.call.Call.{Call}
 use Rattle.hdr_core.specs.declared.call.Call.TheVariants.{Record, Clamp, Correct, Clear, Reset, Add, AddCorrect}

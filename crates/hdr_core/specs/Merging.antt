@@ -1,6 +1,6 @@
 -- What adding one histogram to another makes of it. The source may count in another type: its numbers are added whole.
 -- (`add`; the code has two loops over bins.)
-use Rattle.std.specs.Prelude.{◌≡◌, ◌==◌, ◌&&◌, ℕ, zero, suc, ◌+◌, ◌-◌, ◌^◌, ◌<◌, ◌≤◌, Bool, true, false, if◌then◌else◌, nat_le, min, Option, Some, None, List, [], ◌∷◌, ◌++◌, length, sum, replicate}
+use Rattle.std.specs.Prelude.{◌≡◌, ◌==◌, ◌&&◌, ℕ, zero, suc, ◌+◌, ◌-◌, ◌^◌, Bool, if◌then◌else◌, nat_le, min, Option, Some, None, List, [], ◌∷◌, ◌++◌, length, sum}
 use Rattle.hdr_base.specs.Classes.{Grain, value_of}
 use Rattle.hdr_counts.specs.Blocks.{capped_sums}
 use Rattle.hdr_core.specs.Plain.{Plain, grain, reach, max_of}

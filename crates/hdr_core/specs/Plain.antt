@@ -1,7 +1,7 @@
 -- A histogram as numbers alone. (Fields and read-outs of the Rust crate's `Histogram`: a vector of counters, a total and two
 -- marks; here there are no counters, only their numbers.)
-use Rattle.std.specs.Prelude.{◌≡◌, ◌==◌, ℕ, ◌+◌, ◌-◌, ◌*◌, ◌^◌, ◌<◌, ◌≤◌, Bool, ◌||◌, nat_lt, if◌then◌else◌, min, Option, Some, None, IfSome, List, length, replicate, slice_index, All, sum}
-use Rattle.hdr_base.specs.Classes.{Grain, grain_of, bin_of, value_of, top_of, reach_of, bins_to, HasScale}
+use Rattle.std.specs.Prelude.{◌≡◌, ◌==◌, ℕ, ◌-◌, ◌*◌, ◌^◌, ◌<◌, ◌≤◌, Bool, ◌||◌, nat_lt, if◌then◌else◌, min, Option, Some, None, IfSome, List, length, replicate, slice_index, All, sum}
+use Rattle.hdr_base.specs.Classes.{Grain, grain_of, value_of, top_of, reach_of, bins_to, HasScale}
 
 -- the bounds, a number for each bin, how many samples there are, and the classes that enclose the nonempty ones: the top
 -- mark all of them, the lower mark those behind the first

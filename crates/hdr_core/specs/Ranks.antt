@@ -1,6 +1,6 @@
 -- The sample of a rank, and the class that a rank falls in. (`value_at_quantile`: the nearest rank; the Rust crate rounds
 -- in floating point and sums chunks.)
-use Rattle.std.specs.Prelude.{◌≡◌, ℕ, ◌+◌, ◌-◌, ◌*◌, ◌/◌, ◌^◌, ◌<◌, ◌≤◌, ◌⊎◌, Bool, true, false, if◌then◌else◌, nat_le, min, max, List, [], ◌∷◌, length, take, sum, slice_index, find, Option, Some, None, ◌==◌}
+use Rattle.std.specs.Prelude.{◌≡◌, ℕ, ◌+◌, ◌-◌, ◌*◌, ◌^◌, ◌<◌, ◌≤◌, ◌⊎◌, if◌then◌else◌, nat_le, min, max, List, [], ◌∷◌, length, take, sum, slice_index, find, Option, Some, None, ◌==◌}
 use Rattle.std.specs.Int.{div_ceil}
 use Rattle.std.specs.List.{range_with_len}
 use Rattle.hdr_base.specs.Fractions.{Ratio}

@@ -1,6 +1,6 @@
 -- When a call is refused.
 use Rattle.std.specs.Prelude.{◌≡◌, ◌⊎◌, ◌+◌, ◌*◌, ◌^◌, ◌<◌, ◌≤◌, ℕ, true, false}
-use Rattle.hdr_core.specs.Plain.{Plain, grain, reach, max_of}
+use Rattle.hdr_core.specs.Plain.{Plain, reach, max_of}
 use Rattle.hdr_core.specs.Missing.{highest_top}
 use Rattle.hdr_core.specs.declared.errors.AdditionError.{AdditionError}
 use Rattle.hdr_core.specs.declared.errors.AdditionError.TheVariants as addition

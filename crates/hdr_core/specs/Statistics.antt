@@ -1,5 +1,5 @@
 -- What is read from the numbers of a histogram. (`count_at`, `count_between`.)
-use Rattle.std.specs.Prelude.{ℕ, ◌+◌, ◌-◌, ◌^◌, Bool, ◌&&◌, nat_le, min, List, length, sum, count_by}
+use Rattle.std.specs.Prelude.{ℕ, ◌+◌, ◌-◌, ◌&&◌, nat_le, min, List, length, sum, count_by}
 use Rattle.std.specs.List.{slice_range}
 use Rattle.hdr_base.specs.Classes.{bin_of}
 use Rattle.hdr_core.specs.Plain.{Plain, grain}

@@ -1,5 +1,5 @@
 -- What subtracting one histogram from another makes of it. (`subtract`; the Rust crate tests and changes bin by bin.)
-use Rattle.std.specs.Prelude.{◌≡◌, ℕ, ◌+◌, ◌-◌, ◌^◌, ◌<◌, ◌≤◌, false, min, Option, Some, None, List, length, sum, slice_index}
+use Rattle.std.specs.Prelude.{◌≡◌, ℕ, ◌+◌, ◌-◌, ◌^◌, ◌<◌, ◌≤◌, min, length, sum, slice_index}
 use Rattle.hdr_core.specs.Plain.{Plain, grain, reach, max_of, IsTopMark, IsLowerMark}
 use Rattle.hdr_core.specs.Samples.{in_class}
 use Rattle.hdr_core.specs.Merging.{lowest_values}

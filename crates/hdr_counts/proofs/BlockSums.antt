@@ -1,9 +1,8 @@
 -- The sums of a list of numbers in blocks, after a write and after more blocks.
-use Rattle.std.proofs.Common.{◌≡◌, ℕ, ◌+◌, ◌-◌, ◌*◌, ◌/◌, ◌%◌, ◌^◌, ◌<◌, ◌≤◌, ◌≢◌, zero, suc, List, [], ◌∷◌, ◌++◌, length, get_or, set, take, drop, map, replicate, sum, min, Result, MatchResult, is_ok, true, Ok, Err, All, sym, refl, ap, ◌∙◌, subst, cond, arith, rules, ◌⊎◌, ⊎_elim, inl, inr}
-use Rattle.std.proofs.lemmas.Grind.{common_steps}
-use Rattle.std.proofs.lemmas.List.{take-set-le, take-append-le, length-append, length-replicate, length-set, length-take-le, length-drop, length-take, take_all, take-replicate, get_or-take, get_or-set_same, get_or-set_other, get_or_append_left, get_or-append_right, get_or-replicate, take-take, drop-take, length-map, get_or-map, take-map, drop-map, map-set, take_more_set, replicate_more, map-append}
+use Rattle.std.proofs.Common.{◌≡◌, ℕ, ◌+◌, ◌-◌, ◌*◌, ◌/◌, ◌^◌, ◌<◌, ◌≤◌, ◌≢◌, zero, suc, List, [], ◌∷◌, ◌++◌, length, get_or, set, take, drop, map, replicate, sum, min, Result, MatchResult, is_ok, true, Ok, Err, All, sym, refl, ap, ◌∙◌, arith, ⊎_elim}
+use Rattle.std.proofs.lemmas.List.{take-set-le, take-append-le, length-append, length-replicate, length-set, length-take-le, length-drop, length-take, take_all, get_or-take, get_or-set_same, get_or-set_other, get_or_append_left, get_or-append_right, get_or-replicate, take-take, drop-take, length-map, get_or-map, take-map, drop-map, map-set, take_more_set, replicate_more, map-append}
 use Rattle.std.proofs.lemmas.List.Elements.{All-take, All-drop, All-append}
-use Rattle.std.proofs.lemmas.List.Sums.{sum_by-set, sum_by-append, sum_by_more, sum_by-take-le, sum_by-le, get_or-le-sum_by, sum_by-take-drop}
+use Rattle.std.proofs.lemmas.List.Sums.{sum_by-set, sum_by-append, sum_by_more, sum_by-take-le, sum_by-le, sum_by-take-drop}
 use Rattle.std.proofs.lemmas.Bool.{cases_lt, cases_eq, false≢true}
 use Rattle.std.proofs.Math.Seq.{take-set-lt, take-append-add}
 use Rattle.std.proofs.Math.Nat.{mul-le-mul_right, div-lt_iff_lt-mul}

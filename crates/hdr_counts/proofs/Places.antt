@@ -1,5 +1,5 @@
 -- The first place that reaches a rank, step by step and part by part.
-use Rattle.std.proofs.Common.{◌≡◌, ℕ, ◌+◌, ◌-◌, ◌<◌, ◌≤◌, List, length, get_or, take, drop, map, min, sum, ap, refl, sym, ◌∙◌, arith}
+use Rattle.std.proofs.Common.{◌≡◌, ℕ, ◌+◌, ◌-◌, ◌<◌, ◌≤◌, List, length, get_or, take, drop, map, min, sum, ap, ◌∙◌, arith}
 use Rattle.std.proofs.lemmas.List.{length-map, length-take, length-drop}
 use Rattle.hdr_counts.specs.Blocks.{sum_below, IsFirstToReach}
 use Rattle.hdr_counts.proofs.BlockSums.{sum_below_map_more, sum_below_all, part_sum}

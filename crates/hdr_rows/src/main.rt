@@ -1,9 +1,12 @@
 //! Plays rows: calls of the library in their order, and what each has to answer. The rows are text on standard input, worked
 //! out by hand or by other programs, so that no row costs a proof.
 //!
-//! `row NAME COUNTER` begins a row with three empty histograms: `one` and `other` of the counter type (`u8`, `u16`, `u32`,
-//! `u64`, or `c12`, a type of this program's own), and `wide` of `u64`. Every other line is `WHO CALL NUMBERS = ANSWER`, and
-//! without an answer it is `ok`. Empty lines and lines behind a `#` are for the reader.
+//! `row NAME COUNTER` begins a row with three empty histograms that grow and keep 3 digits: `one` and `other` of the counter
+//! type (`u8`, `u16`, `u32`, `u64`, or `c12`, a type of this program's own), and `wide` of `u64`. Every other line is
+//! `WHO CALL NUMBERS = ANSWER`; numbers that are left out are 0, and an answer that is left out is `ok`. Truths of a histogram
+//! are 1 and 0, comparisons of two are `true` and `false`. `run CALL, CALL` and `apply CALL` do calls as values; `agree` and
+//! `agree_below` correct `one` class by class and `other` value by value, and are `ok` where both are the same then.
+//! Empty lines, and lines that begin with `#`, are for the reader.
 #![tactic(auto)]
 
 mod answer;

@@ -1,4 +1,4 @@
-use Rattle.std.proofs.Common.{◌≡◌, ◌∙◌, sym, arith, max, length}
+use Rattle.std.proofs.Common.{◌∙◌, sym, arith}
 use Rattle.hdr_core.proofs.Trimmed.{numbers-same, numbers-other}
 use Rattle.hdr_core.proofs.equality.same_numbers.Goals as goal
 

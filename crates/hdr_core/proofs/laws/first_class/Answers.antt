@@ -1,4 +1,3 @@
-use Rattle.std.proofs.Common.{ℕ, List}
 use Rattle.hdr_core.proofs.Firsts.{first-class}
 use Rattle.hdr_core.proofs.laws.first_class.Goals as goal
 

@@ -1,4 +1,4 @@
-use Rattle.std.proofs.Common.{◌≡◌, ◌∙◌, max, ap}
+use Rattle.std.proofs.Common.{◌∙◌, max, ap}
 use Rattle.std.proofs.Math.Nat.{max_comm}
 use Rattle.hdr_core.specs.Ranks.{rank}
 use Rattle.hdr_core.proofs.quantiles.rank_of.Goals as goal

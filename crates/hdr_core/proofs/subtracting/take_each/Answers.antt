@@ -1,8 +1,8 @@
-use Rattle.std.proofs.Common.{◌≡◌, ◌≢◌, ◌∙◌, ◌+◌, ◌-◌, ◌^◌, ◌<◌, ◌≤◌, ℕ, List, ap, subst, sym, refl, arith, length, get_or, set}
+use Rattle.std.proofs.Common.{◌≡◌, ◌∙◌, ◌+◌, ◌-◌, ◌<◌, ◌≤◌, ℕ, List, ap, subst, sym, refl, arith, length, get_or, set}
 use Rattle.std.specs.List.{All}
 use Rattle.std.proofs.lemmas.List.{length-set}
 use Rattle.std.proofs.lemmas.List.Elements.{All-set}
-use Rattle.hdr_base.specs.Classes.{Grain, bin_of, value_of}
+use Rattle.hdr_base.specs.Classes.{bin_of}
 use Rattle.hdr_counts.specs.Blocks.{Blocks}
 use Rattle.hdr_core.specs.Plain.{Plain, grain}
 use Rattle.hdr_core.proofs.Held.{held, held-all, held-none, held-le, held-here, held-same, taken-next, place-in}

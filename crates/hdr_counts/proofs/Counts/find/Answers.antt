@@ -1,4 +1,4 @@
-use Rattle.std.proofs.Common.{◌≡◌, ◌∙◌, ◌+◌, ◌-◌, ◌*◌, ℕ, get_or, take, drop, map, sum, ap, sym, subst, arith, length}
+use Rattle.std.proofs.Common.{◌≡◌, ◌+◌, ◌-◌, ◌*◌, map, sym, subst, arith}
 use Rattle.hdr_counts.specs.Blocks.{Blocks, sum_below, IsFirstToReach}
 use Rattle.hdr_counts.proofs.BlockSums.{block-sum-read}
 use Rattle.hdr_counts.proofs.Places.{first-in-part}

@@ -1,8 +1,7 @@
-use Rattle.std.proofs.Common.{◌≡◌, ℕ, ◌+◌, ◌-◌, ◌*◌, ◌/◌, ◌<◌, ◌≤◌, List, [], ◌∷◌, ◌++◌, length, get_or, set, take, drop, map, replicate, sum, sym, refl, ap, ◌∙◌, cond, arith, rules, None, Some, true, is_ok, vec_len}
+use Rattle.std.proofs.Common.{◌≡◌, ℕ, ◌-◌, ◌*◌, ◌≤◌, ◌++◌, length, map, replicate, ap, arith, true, is_ok, vec_len}
 use Rattle.std.proofs.lemmas.List.Elements.{All-append, All-replicate}
-use Rattle.std.proofs.lemmas.List.{get_or_read, map-set, get_or-map, length-map, map-append, map_more, take_all, length-replicate, length-take, length-drop}
-use Rattle.hdr_counts.specs.Blocks.{sum_below, AreSums}
-use Rattle.hdr_counts.proofs.BlockSums.{sum_below_map_more, sum_below-le, sum_below-le-sum, sum_below_all, sum_below-add, sum-fits, block_of, block_in, ok_only, grown, sums_grown, AreSums-set, AreSums-grow, part_sum, part_whole, blocks_sum_more, number-le-sum_below}
+use Rattle.std.proofs.lemmas.List.{length-map}
+use Rattle.hdr_counts.proofs.BlockSums.{ok_only, grown, sums_grown, AreSums-grow}
 use Rattle.hdr_counts.proofs.Counts.grow.Goals as goal
 
 pub invariant_of-self-2 : goal.invariant_of-self-2

@@ -1,7 +1,7 @@
-use Rattle.std.proofs.Common.{◌≡◌, ℕ, ◌+◌, ◌-◌, ◌*◌, ◌/◌, ◌<◌, ◌≤◌, List, [], ◌∷◌, ◌++◌, length, get_or, set, take, drop, map, replicate, sum, sym, refl, ap, ◌∙◌, cond, arith, rules, None, Some}
-use Rattle.std.proofs.lemmas.List.{get_or_read, map-set, get_or-map, length-map, map-append, map_more, take_all, length-replicate, length-take, length-take-le, length-drop}
-use Rattle.hdr_counts.specs.Blocks.{sum_below, AreSums}
-use Rattle.hdr_counts.proofs.BlockSums.{sum_below_map_more, sum_below-le, sum_below-le-sum, sum_below_all, sum_below-add, sum-fits, block_of, block_in, ok_only, grown, AreSums-set, AreSums-grow, part_sum, part_whole, blocks_sum_more, number-le-sum_below}
+use Rattle.std.proofs.Common.{◌≡◌, ◌+◌, ◌-◌, ◌*◌, ◌<◌, ◌≤◌, length, take, drop, map, sum, ap, ◌∙◌, arith}
+use Rattle.std.proofs.lemmas.List.{length-take-le}
+use Rattle.hdr_counts.specs.Blocks.{sum_below}
+use Rattle.hdr_counts.proofs.BlockSums.{sum_below-le-sum, sum-fits, block_of, block_in, part_whole, blocks_sum_more}
 use Rattle.hdr_counts.proofs.Counts.sum_to.Goals as goal
 
 pub overflow_add-total : goal.overflow_add-total

@@ -1,4 +1,4 @@
-use Rattle.std.proofs.Common.{◌≡◌, ℕ, ◌+◌, ◌*◌, map}
+use Rattle.std.proofs.Common.{◌≡◌, ◌*◌, map}
 use Rattle.hdr_counts.specs.Blocks.{sum_below}
 use Rattle.hdr_counts.proofs.Counts.sum_to.Given as goal
 

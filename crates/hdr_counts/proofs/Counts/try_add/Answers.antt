@@ -1,7 +1,6 @@
-use Rattle.std.proofs.Common.{◌≡◌, ℕ, ◌+◌, ◌-◌, ◌*◌, ◌/◌, ◌<◌, ◌≤◌, List, length, get_or, set, map, sym, ap, ◌∙◌, arith}
+use Rattle.std.proofs.Common.{◌≡◌, ◌+◌, ◌-◌, ◌*◌, ◌/◌, ◌<◌, ◌≤◌, length, get_or, set, map, sym, ap, ◌∙◌, arith}
 use Rattle.std.proofs.lemmas.List.Elements.{All-set}
 use Rattle.std.proofs.lemmas.List.{get_or_read, map-set, get_or-map, length-map}
-use Rattle.hdr_counts.specs.Blocks.{Blocks}
 use Rattle.hdr_counts.proofs.BlockSums.{sum_below-le-sum, sum-fits, block_of, block_in, AreSums-set, number-le-sum_below, sum_below-le}
 use Rattle.hdr_counts.proofs.Counts.try_add.Goals as goal
 

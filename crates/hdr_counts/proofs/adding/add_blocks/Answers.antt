@@ -1,8 +1,8 @@
-use Rattle.std.proofs.Common.{◌≡◌, ◌∙◌, ◌+◌, ◌-◌, ◌*◌, ◌^◌, ◌<◌, ◌≤◌, ◌++◌, ℕ, List, length, get_or, set, take, drop, map, sum, ap, sym, subst, arith}
+use Rattle.std.proofs.Common.{◌≡◌, ◌∙◌, ◌+◌, ◌-◌, ◌*◌, ◌<◌, ◌≤◌, ◌++◌, ℕ, length, set, take, drop, map, sum, ap, sym, subst, arith}
 use Rattle.std.specs.List.{All}
 use Rattle.std.proofs.lemmas.List.{length-map, length-set, length-take, length-drop, drop-drop, take_all}
 use Rattle.std.proofs.lemmas.List.Elements.{All-take, All-drop}
-use Rattle.hdr_counts.specs.Blocks.{sum_below, capped_sums, AreSums}
+use Rattle.hdr_counts.specs.Blocks.{capped_sums, AreSums}
 use Rattle.hdr_counts.proofs.BlockSums.{block-sum, block_past, blocks_more, sum_below-le-sum, sum-fits, AreSums-written}
 use Rattle.hdr_counts.proofs.CappedSums.{capped-length, capped-fit, capped-fit-under, capped-step, map-part, map-middle}
 use Rattle.hdr_counts.proofs.adding.add_blocks.Goals as goal

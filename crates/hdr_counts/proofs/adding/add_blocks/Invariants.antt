@@ -1,4 +1,4 @@
-use Rattle.std.proofs.Common.{◌≡◌, ◌*◌, ◌≤◌, length, take, map}
+use Rattle.std.proofs.Common.{◌≡◌, ◌*◌, length, take, map}
 use Rattle.hdr_counts.specs.Blocks.{capped_sums, AreSums}
 use Rattle.hdr_counts.proofs.adding.add_blocks.Given as goal
 

@@ -1,9 +1,8 @@
-use Rattle.std.proofs.Common.{◌≡◌, ◌∙◌, ◌+◌, min, map, get_or, take, ap, sym, arith}
+use Rattle.std.proofs.Common.{◌≡◌, ◌∙◌, map, take, ap, sym, arith}
 use Rattle.std.proofs.lemmas.List.{length-map, map-set, take_all}
-use Rattle.std.proofs.lemmas.List.Sums.{get_or-le-sum_by}
 use Rattle.hdr_counts.specs.Blocks.{capped_sums}
 use Rattle.hdr_counts.proofs.BlockSums.{number-at}
-use Rattle.hdr_counts.proofs.CappedSums.{capped-none, capped-write, capped-rest}
+use Rattle.hdr_counts.proofs.CappedSums.{capped-none, capped-write}
 use Rattle.hdr_counts.proofs.adding.add_each.Goals as goal
 
 pub loop-i-init : goal.loop-i-init

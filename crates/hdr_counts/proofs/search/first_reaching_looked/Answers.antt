@@ -1,4 +1,4 @@
-use Rattle.std.proofs.Common.{◌≡◌, arith}
+use Rattle.std.proofs.Common.{arith}
 use Rattle.hdr_counts.proofs.Places.{first-here, less-left, none-left}
 use Rattle.hdr_counts.proofs.search.first_reaching_looked.Goals as goal
 

@@ -1,5 +1,5 @@
-use Rattle.std.proofs.Common.{◌≡◌, ℕ, ◌+◌, ◌-◌, ◌*◌, ◌^◌, ◌%◌, ◌<◌, ◌≤◌, ◌∙◌, sym, ap, arith}
-use Rattle.hdr_base.specs.Classes.{Grain, bucket, IsLeast}
+use Rattle.std.proofs.Common.{◌≡◌, ℕ, ◌+◌, ◌-◌, ◌*◌, ◌^◌, ◌%◌, ◌<◌, ◌≤◌, ◌∙◌, ap, arith}
+use Rattle.hdr_base.specs.Classes.{Grain, bucket}
 use Rattle.std.proofs.lemmas.Nat.{pow_pos}
 use Rattle.hdr_base.proofs.ClassLaws.{bucket-least}
 use Rattle.hdr_base.proofs.Intervals.{start-IsLeast, start-bucket, start-code, one-bucket}

@@ -1,6 +1,6 @@
-use Rattle.std.proofs.Common.{◌≡◌, ◌∙◌, ◌≤◌, ◌<◌, ◌^◌, ◌++◌, ℕ, List, ap, sym, subst, arith}
+use Rattle.std.proofs.Common.{◌≡◌, ◌∙◌, ◌≤◌, ◌++◌, ap, sym, subst, arith}
 use Rattle.hdr_core.specs.Plain.{Plain, grain, reach, max_of}
-use Rattle.hdr_core.specs.Merging.{taken_in, with_room, merged}
+use Rattle.hdr_core.specs.Merging.{taken_in, with_room}
 use Rattle.hdr_core.specs.Samples.{StandsFor}
 use Rattle.hdr_core.proofs.Merged.{merged-none, merged-some, with_room-reach}
 use Rattle.hdr_core.proofs.Spread.{StandsFor-merged, merged-high, grain-merged, stands-none, high-none}

@@ -1,9 +1,9 @@
-use Rattle.std.proofs.Common.{◌^◌, ◌≡◌, ◌∙◌, ◌+◌, ◌-◌, ◌*◌, ◌/◌, ◌%◌, ◌<◌, ◌≤◌, ℕ, min, max, length, ap, sym, refl, arith}
+use Rattle.std.proofs.Common.{◌≡◌, ◌∙◌, ◌+◌, ◌-◌, ◌*◌, ◌/◌, ◌%◌, ◌<◌, ◌≤◌, ℕ, min, max, length, ap, sym, refl, arith}
 use Rattle.hdr_base.specs.Classes.{Grain, bucket, width_of, bin_of, lowest_of}
 use Rattle.hdr_base.proofs.Intervals.{place-le-bin, place-bin, place-span}
 use Rattle.hdr_core.specs.Plain.{Plain, grain, reach}
 use Rattle.hdr_core.specs.Recording.{added, recorded_each}
-use Rattle.hdr_core.specs.Missing.{each, classes_held, down_to}
+use Rattle.hdr_core.specs.Missing.{each, down_to}
 use Rattle.hdr_core.proofs.Kept.{grain-digits, room-in}
 use Rattle.hdr_core.proofs.Fills.{grain-added, reach-added, bins-added}
 use Rattle.hdr_core.proofs.ByClass.{state-step, held-step, members-fit}

@@ -1,7 +1,6 @@
-use Rattle.std.proofs.Common.{◌^◌, ◌≡◌, ◌∙◌, ◌+◌, ◌-◌, ◌<◌, ◌≤◌, ℕ, [], length, ap, sym, arith}
-use Rattle.std.specs.List.{All}
+use Rattle.std.proofs.Common.{◌≡◌, ◌∙◌, ◌≤◌, [], length, ap, sym, arith}
 use Rattle.std.proofs.lemmas.List.Elements.{All-weaker}
-use Rattle.hdr_core.specs.Plain.{Plain, IsPlain, grain, reach}
+use Rattle.hdr_core.specs.Plain.{grain, reach}
 use Rattle.hdr_core.specs.Recording.{recorded_each}
 use Rattle.hdr_core.specs.Missing.{each, classes_held, down_to}
 use Rattle.hdr_core.proofs.Missing.{down_to-end, down_to-within}

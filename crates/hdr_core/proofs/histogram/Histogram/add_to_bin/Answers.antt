@@ -1,4 +1,4 @@
-use Rattle.std.proofs.Common.{◌≡◌, ◌∙◌, ◌+◌, ◌-◌, ◌<◌, ◌≤◌, ◌^◌, min, ap, sym, arith, length, set, get_or}
+use Rattle.std.proofs.Common.{◌≡◌, ◌∙◌, ◌+◌, min, ap, arith, set, get_or}
 use Rattle.hdr_counts.specs.Blocks.{Blocks}
 use Rattle.hdr_core.specs.Marked.{Marked}
 use Rattle.hdr_core.specs.Shown.{shown}

@@ -1,7 +1,7 @@
-use Rattle.std.proofs.Common.{◌≡◌, ◌∙◌, ◌≤◌, ap, arith, length}
+use Rattle.std.proofs.Common.{◌≡◌, ◌∙◌, ◌≤◌, ap, arith}
 use Rattle.hdr_base.specs.Classes.{Grain, bin_of}
 use Rattle.hdr_core.specs.Shown.{shown}
-use Rattle.hdr_core.specs.Plain.{Plain, grain, reach}
+use Rattle.hdr_core.specs.Plain.{grain, reach}
 use Rattle.hdr_core.proofs.Kept.{room-in, room-of}
 use Rattle.hdr_core.proofs.histogram.Histogram.bin_of.Goals as goal
 

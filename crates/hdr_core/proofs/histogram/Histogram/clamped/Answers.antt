@@ -1,7 +1,6 @@
-use Rattle.std.proofs.Common.{◌≡◌, ◌∙◌, ◌<◌, ◌≤◌, ap, sym, arith, inl, inr}
+use Rattle.std.proofs.Common.{◌∙◌, ◌<◌, ap, sym, arith, inl, inr}
 use Rattle.std.proofs.lemmas.Bool.{cases_lt}
 use Rattle.hdr_core.specs.Plain.{Plain, reach}
-use Rattle.hdr_core.specs.Recording.{clamped}
 use Rattle.hdr_core.proofs.Cleared.{clamped-same, clamped-past, high-within}
 use Rattle.hdr_core.proofs.histogram.Histogram.clamped.Goals as goal
 

@@ -1,4 +1,4 @@
-use Rattle.std.proofs.Common.{◌≡◌, ◌∙◌, ◌-◌, ◌^◌, ◌<◌, ap, subst}
+use Rattle.std.proofs.Common.{◌∙◌, ◌-◌, ◌^◌, ◌<◌, ap, subst}
 use Rattle.hdr_base.specs.Classes.{Grain, bin_of, value_of}
 use Rattle.hdr_core.specs.Plain.{Plain, grain}
 use Rattle.hdr_core.proofs.Kept.{index-inside}

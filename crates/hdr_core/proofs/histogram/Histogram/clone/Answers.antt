@@ -1,5 +1,5 @@
 use Rattle.std.proofs.Common.{◌≡◌, ◌∙◌, true, ap, sym, subst}
-use Rattle.hdr_core.specs.Plain.{Plain, empty_plain}
+use Rattle.hdr_core.specs.Plain.{Plain}
 use Rattle.hdr_core.specs.Merging.{same_bins, joined}
 use Rattle.hdr_core.proofs.Copied.{same-bins-empty, joined-copy}
 use Rattle.hdr_core.proofs.histogram.Histogram.clone.Goals as goal

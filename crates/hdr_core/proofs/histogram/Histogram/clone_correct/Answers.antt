@@ -1,6 +1,6 @@
-use Rattle.std.proofs.Common.{◌≡◌, ◌∙◌, ◌≤◌, ap, sym, subst}
+use Rattle.std.proofs.Common.{◌∙◌, ◌≤◌, ap, sym, subst}
 use Rattle.hdr_core.specs.Plain.{Plain, grain, reach, empty_plain}
-use Rattle.hdr_core.specs.Recording.{recorded_each, widened}
+use Rattle.hdr_core.specs.Recording.{recorded_each}
 use Rattle.hdr_core.specs.Missing.{highest_top, corrected_from, merged_corrected}
 use Rattle.hdr_core.proofs.Kept.{widened-same}
 use Rattle.hdr_core.proofs.Copied.{highest-in, reach-empty}

@@ -1,11 +1,11 @@
-use Rattle.std.proofs.Common.{◌≡◌, ◌∙◌, ◌+◌, ◌-◌, ◌^◌, ◌<◌, ◌≤◌, ◌++◌, ◌∷◌, ℕ, List, ap, subst, sym, refl, arith, length, get_or, take}
+use Rattle.std.proofs.Common.{◌≡◌, ◌∙◌, ◌<◌, ◌≤◌, ◌∷◌, ap, arith, length, get_or, take}
 use Rattle.std.specs.List.{All}
 use Rattle.std.proofs.lemmas.List.{take_all}
 use Rattle.std.proofs.lemmas.List.Elements.{All-cons}
-use Rattle.hdr_base.specs.Classes.{Grain, top_of, value_of}
+use Rattle.hdr_base.specs.Classes.{top_of, value_of}
 use Rattle.hdr_core.specs.Plain.{Plain, grain, reach}
 use Rattle.hdr_core.specs.Recording.{Times, recorded_each}
-use Rattle.hdr_core.specs.Missing.{missing, each, corrected_from, highest_top}
+use Rattle.hdr_core.specs.Missing.{missing, each, corrected_from}
 use Rattle.hdr_core.proofs.Missing.{missing-within}
 use Rattle.hdr_core.proofs.ByClass.{each-within}
 use Rattle.hdr_core.proofs.Spread.{reach-each}

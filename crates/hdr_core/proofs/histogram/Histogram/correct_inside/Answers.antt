@@ -1,5 +1,5 @@
-use Rattle.std.proofs.Common.{◌≡◌, ◌∙◌, ◌-◌, ◌≤◌, ◌∷◌, [], ℕ, List, ap, sym, arith}
-use Rattle.hdr_core.specs.Plain.{Plain, reach}
+use Rattle.std.proofs.Common.{◌≡◌, ◌∙◌, [], ap, sym, arith}
+use Rattle.hdr_core.specs.Plain.{Plain}
 use Rattle.hdr_core.specs.Recording.{recorded, recorded_each}
 use Rattle.hdr_core.specs.Missing.{missing, down_to, each}
 use Rattle.hdr_core.proofs.Missing.{missing-down, missing-none}

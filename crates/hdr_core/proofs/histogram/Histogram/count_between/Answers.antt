@@ -1,7 +1,7 @@
-use Rattle.std.proofs.Common.{◌≡◌, ◌∙◌, ◌<◌, ◌≤◌, ◌+◌, ◌-◌, ◌^◌, min, sum, length, take, ap, sym, arith, refl}
+use Rattle.std.proofs.Common.{◌≡◌, ◌∙◌, ◌+◌, ◌-◌, ◌^◌, min, sum, take, ap, sym, arith}
 use Rattle.std.specs.List.{slice_range}
 use Rattle.hdr_core.specs.Plain.{Plain}
-use Rattle.hdr_core.specs.Statistics.{held_bin, sum_between}
+use Rattle.hdr_core.specs.Statistics.{held_bin}
 use Rattle.hdr_core.proofs.Between.{between-samples, held-order, part-sum}
 use Rattle.hdr_core.proofs.histogram.Histogram.count_between.Goals as goal
 use Rattle.hdr_core.proofs.histogram.Histogram.count_between.Goals.{then-from-eq0, else-from-eq0}

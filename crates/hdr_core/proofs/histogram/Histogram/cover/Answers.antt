@@ -1,7 +1,7 @@
-use Rattle.std.proofs.Common.{◌≡◌, ◌∙◌, ◌<◌, ◌≤◌, ap, sym, arith}
+use Rattle.std.proofs.Common.{◌≡◌, ◌∙◌, ap, sym, arith}
 use Rattle.hdr_base.specs.Classes.{Grain, reach_of}
-use Rattle.hdr_core.specs.Plain.{Plain, grain, reach}
-use Rattle.hdr_core.specs.Recording.{grown, widened}
+use Rattle.hdr_core.specs.Plain.{Plain, grain}
+use Rattle.hdr_core.specs.Recording.{grown}
 use Rattle.hdr_core.proofs.Kept.{widened-same, widened-more}
 use Rattle.hdr_core.proofs.histogram.Histogram.cover.Goals as goal
 

@@ -1,4 +1,4 @@
-use Rattle.std.proofs.Common.{◌≡◌, ◌∙◌, true, eqb, eqb-true, eq-eqb, ap, sym}
+use Rattle.std.proofs.Common.{◌≡◌, ◌∙◌, eqb-true, eq-eqb, ap, sym}
 use Rattle.hdr_base.specs.Classes.{Grain, bin_of}
 use Rattle.hdr_base.proofs.Intervals.{equivalent-bin, bin-equivalent}
 use Rattle.hdr_core.specs.Plain.{Plain, grain}

@@ -1,10 +1,9 @@
-use Rattle.std.proofs.Common.{◌≡◌, ◌∙◌, ◌+◌, ◌-◌, ◌*◌, ◌^◌, ◌<◌, ◌≤◌, ap, sym, arith, length}
+use Rattle.std.proofs.Common.{◌≡◌, ◌∙◌, ◌+◌, ◌-◌, ◌*◌, ◌^◌, ap, sym, arith}
 use Rattle.hdr_base.specs.Classes.{Grain}
 use Rattle.hdr_counts.specs.Blocks.{Blocks}
 use Rattle.hdr_core.specs.Shown.{shown}
-use Rattle.hdr_core.specs.Plain.{Plain, IsPlain, reach, grain}
+use Rattle.hdr_core.specs.Plain.{Plain, grain}
 use Rattle.hdr_core.specs.Recording.{grown}
-use Rattle.hdr_base.specs.Classes.{bins_to}
 use Rattle.hdr_core.proofs.Kept.{IsPlain-grown, grown-parts, blocks-are, grows, grain-digits}
 use Rattle.hdr_core.proofs.histogram.Histogram.grow.Goals as goal
 

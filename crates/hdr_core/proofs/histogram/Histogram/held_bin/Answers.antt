@@ -1,7 +1,7 @@
-use Rattle.std.proofs.Common.{◌≡◌, ◌∙◌, ◌<◌, ◌≤◌, ◌-◌, min, length, ap, sym, arith}
-use Rattle.hdr_base.specs.Classes.{Grain, bin_of, grain_of}
+use Rattle.std.proofs.Common.{◌≡◌, ◌∙◌, ◌-◌, min, ap, arith}
+use Rattle.hdr_base.specs.Classes.{Grain, bin_of}
 use Rattle.hdr_core.specs.Shown.{shown}
-use Rattle.hdr_core.specs.Plain.{Plain, grain}
+use Rattle.hdr_core.specs.Plain.{grain}
 use Rattle.hdr_core.specs.Statistics.{held_bin}
 use Rattle.hdr_core.proofs.Kept.{bins-pos}
 use Rattle.hdr_core.proofs.histogram.Histogram.held_bin.Goals as goal

@@ -1,9 +1,9 @@
-use Rattle.std.proofs.Common.{◌≡◌, ◌∙◌, ◌+◌, ◌-◌, ◌^◌, ◌<◌, ◌≤◌, ℕ, List, min, ap, subst, sym, refl, arith, length, sum}
+use Rattle.std.proofs.Common.{◌≡◌, ◌∙◌, ◌+◌, ◌-◌, ◌^◌, min, ap, sym, length, sum}
 use Rattle.hdr_counts.specs.Blocks.{Blocks, capped_sums}
 use Rattle.hdr_core.specs.Shown.{shown}
 use Rattle.hdr_core.specs.Marked.{Marked}
-use Rattle.hdr_core.specs.Plain.{Plain, IsPlain, grain}
-use Rattle.hdr_core.specs.Merging.{joined, later_of, earlier_of}
+use Rattle.hdr_core.specs.Plain.{Plain}
+use Rattle.hdr_core.specs.Merging.{joined}
 use Rattle.hdr_core.proofs.Merged.{same-bins, IsPlain-taken, IsPlain-summed, joined-empty, joined-some}
 use Rattle.hdr_core.proofs.histogram.Histogram.join.Goals as goal
 

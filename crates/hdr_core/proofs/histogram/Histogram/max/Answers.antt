@@ -1,4 +1,4 @@
-use Rattle.std.proofs.Common.{◌≡◌, ◌∙◌, Some, None, ap, sym}
+use Rattle.std.proofs.Common.{◌∙◌, ap, sym}
 use Rattle.hdr_core.specs.Plain.{Plain}
 use Rattle.hdr_core.proofs.Cleared.{max-marked, max-unmarked}
 use Rattle.hdr_core.proofs.histogram.Histogram.max.Goals as goal

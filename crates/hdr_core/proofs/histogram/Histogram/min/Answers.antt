@@ -1,4 +1,4 @@
-use Rattle.std.proofs.Common.{◌≡◌, ◌≢◌, ◌∙◌, ◌<◌, get_or, ap, sym, arith, subst, true, false, ltb}
+use Rattle.std.proofs.Common.{◌∙◌, get_or, ap, sym, arith}
 use Rattle.std.proofs.lemmas.Bool.Decides.{nat_tests}
 use Rattle.hdr_base.proofs.ClassLaws.{ltb-to}
 use Rattle.hdr_core.specs.Plain.{Plain}

@@ -1,7 +1,7 @@
-use Rattle.std.proofs.Common.{◌≡◌, ◌∙◌, ◌+◌, ◌-◌, ◌*◌, ◌^◌, ◌≤◌, ap, sym, arith}
+use Rattle.std.proofs.Common.{◌≡◌, ◌∙◌, ◌+◌, ◌-◌, ◌^◌, ap}
 use Rattle.hdr_base.specs.Classes.{Grain, grain_of}
 use Rattle.hdr_counts.specs.Blocks.{Blocks}
-use Rattle.hdr_core.specs.Plain.{Plain, IsPlain, grain, empty_plain}
+use Rattle.hdr_core.specs.Plain.{Plain, empty_plain}
 use Rattle.hdr_core.specs.Shown.{shown}
 use Rattle.hdr_core.proofs.Kept.{IsPlain-empty, empty-by, blocks-are, digits-pos-of}
 use Rattle.hdr_core.proofs.histogram.Histogram.new_from.Goals as goal

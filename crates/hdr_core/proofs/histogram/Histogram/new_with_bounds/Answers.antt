@@ -1,8 +1,6 @@
-use Rattle.std.proofs.Common.{◌≡◌, ◌∙◌, ◌+◌, ◌-◌, ◌*◌, ◌^◌, ◌≤◌, true, false, None, ap, sym, arith}
+use Rattle.std.proofs.Common.{◌≡◌, ◌∙◌, ◌+◌, ◌-◌, ◌^◌, false, ap, arith}
 use Rattle.hdr_base.specs.Classes.{Grain, grain_of}
 use Rattle.hdr_counts.specs.Blocks.{Blocks}
-use Rattle.hdr_core.specs.Plain.{Plain, IsPlain, empty_plain}
-use Rattle.hdr_core.specs.Refusals.{IsBounds}
 use Rattle.hdr_core.proofs.Kept.{IsPlain-empty, empty-by, blocks-are, digits-pos-of}
 use Rattle.hdr_core.proofs.histogram.Histogram.new_with_bounds.Goals as goal
 

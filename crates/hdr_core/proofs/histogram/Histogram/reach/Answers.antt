@@ -1,7 +1,7 @@
-use Rattle.std.proofs.Common.{◌≡◌, ◌∙◌, ap}
+use Rattle.std.proofs.Common.{◌∙◌, ap}
 use Rattle.hdr_base.specs.Classes.{Grain, reach_of}
 use Rattle.hdr_core.specs.Shown.{shown}
-use Rattle.hdr_core.specs.Plain.{Plain, grain, reach}
+use Rattle.hdr_core.specs.Plain.{Plain, reach}
 use Rattle.hdr_core.proofs.histogram.Histogram.reach.Goals as goal
 
 pub returns : goal.returns

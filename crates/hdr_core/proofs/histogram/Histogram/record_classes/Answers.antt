@@ -1,10 +1,10 @@
-use Rattle.std.proofs.Common.{◌≡◌, ◌∙◌, ◌+◌, ◌-◌, ◌^◌, ◌<◌, ◌≤◌, ◌++◌, ℕ, List, ap, subst, sym, refl, arith, length, get_or, take}
+use Rattle.std.proofs.Common.{◌≡◌, ◌∙◌, ◌<◌, ◌≤◌, ap, sym, arith, length, get_or, take}
 use Rattle.std.proofs.lemmas.List.{take_all}
-use Rattle.hdr_base.specs.Classes.{Grain, bin_of, lowest_of, value_of}
+use Rattle.hdr_base.specs.Classes.{value_of}
 use Rattle.hdr_base.proofs.Finer.{bin-value_of}
-use Rattle.hdr_core.specs.Plain.{Plain, grain, reach, max_of}
-use Rattle.hdr_core.specs.Recording.{recorded, Times, recorded_each}
-use Rattle.hdr_core.specs.Merging.{classes_from, top_class}
+use Rattle.hdr_core.specs.Plain.{Plain, grain, reach}
+use Rattle.hdr_core.specs.Recording.{recorded, recorded_each}
+use Rattle.hdr_core.specs.Merging.{classes_from}
 use Rattle.hdr_core.proofs.Kept.{grain-digits}
 use Rattle.hdr_core.proofs.Merged.{number-le-max, value-le-max, mark-in, classes-next, classes-same, classes-end, reach-recorded}
 use Rattle.hdr_core.proofs.histogram.Histogram.record_classes.Goals as goal

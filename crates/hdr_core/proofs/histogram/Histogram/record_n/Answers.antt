@@ -1,4 +1,4 @@
-use Rattle.std.proofs.Common.{◌≡◌, ◌∙◌, ap, sym, arith, OnOk, Result, Ok, Err}
+use Rattle.std.proofs.Common.{◌∙◌, ap, sym, arith, OnOk, Result, Ok, Err}
 use Rattle.hdr_core.proofs.Stands.{StandsFor-recorded}
 use Rattle.hdr_core.specs.Plain.{Plain}
 use Rattle.hdr_core.specs.Recording.{recorded, added, widened}

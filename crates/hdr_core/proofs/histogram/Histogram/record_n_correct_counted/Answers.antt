@@ -1,4 +1,4 @@
-use Rattle.std.proofs.Common.{◌≡◌, ◌∙◌, ◌+◌, ◌-◌, ◌≤◌, ◌++◌, ◌∷◌, [], ℕ, List, length, replicate, ap, sym, subst, arith, append_assoc, append-nil}
+use Rattle.std.proofs.Common.{◌≡◌, ◌∙◌, ◌+◌, ◌++◌, ◌∷◌, [], length, replicate, ap, sym, subst, arith, append_assoc, append-nil}
 use Rattle.hdr_base.specs.Classes.{Grain}
 use Rattle.hdr_core.specs.Plain.{Plain, grain}
 use Rattle.hdr_core.specs.Recording.{recorded, recorded_each, spread}

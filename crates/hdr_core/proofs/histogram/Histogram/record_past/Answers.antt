@@ -1,4 +1,4 @@
-use Rattle.std.proofs.Common.{◌≡◌, ◌∙◌, ap}
+use Rattle.std.proofs.Common.{◌∙◌, ap}
 use Rattle.hdr_core.specs.Plain.{Plain}
 use Rattle.hdr_core.specs.Recording.{recorded, added, widened}
 use Rattle.hdr_core.proofs.histogram.Histogram.record_past.Goals as goal

@@ -1,7 +1,4 @@
-use Rattle.std.proofs.Common.{◌≡◌, ◌∙◌, None, ap, sym}
-use Rattle.hdr_core.specs.Marked.{Marked}
-use Rattle.hdr_core.specs.Plain.{Plain, IsPlain}
-use Rattle.hdr_core.specs.Recording.{restarted}
+use Rattle.std.proofs.Common.{◌∙◌}
 use Rattle.hdr_core.proofs.Cleared.{restarted-parts, IsPlain-unmarked}
 use Rattle.hdr_core.proofs.histogram.Histogram.reset.Goals as goal
 

@@ -1,6 +1,6 @@
-use Rattle.std.proofs.Common.{◌≡◌, ◌∙◌, ◌<◌, ◌≤◌, ◌^◌, ap, sym, subst, arith}
+use Rattle.std.proofs.Common.{◌≡◌, ◌∙◌, ap, arith}
 use Rattle.hdr_base.specs.Classes.{Grain, bin_of}
-use Rattle.hdr_core.specs.Plain.{Plain, grain, reach}
+use Rattle.hdr_core.specs.Plain.{Plain, grain}
 use Rattle.hdr_core.specs.Recording.{clamped, added, recorded}
 use Rattle.hdr_core.proofs.Kept.{room-in}
 use Rattle.hdr_core.proofs.Cleared.{clamped-small}

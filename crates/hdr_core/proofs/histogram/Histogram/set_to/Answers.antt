@@ -1,9 +1,9 @@
 use Rattle.std.proofs.Common.{◌≡◌, ◌∙◌, ◌≤◌, ap, sym, subst}
-use Rattle.hdr_core.specs.Plain.{Plain, grain, reach, max_of}
+use Rattle.hdr_core.specs.Plain.{Plain, reach, max_of}
 use Rattle.hdr_core.specs.Recording.{restarted}
-use Rattle.hdr_core.specs.Merging.{taken_in, with_room, merged}
+use Rattle.hdr_core.specs.Merging.{taken_in, with_room}
 use Rattle.hdr_core.proofs.Merged.{merged-none, merged-some, with_room-reach}
-use Rattle.hdr_core.proofs.Cleared.{restarted-room, reach-restarted}
+use Rattle.hdr_core.proofs.Cleared.{restarted-room}
 use Rattle.hdr_core.proofs.histogram.Histogram.set_to.Goals as goal
 
 pub returns-then-source-eq0-clause-ok : goal.returns-then-source-eq0-clause-ok

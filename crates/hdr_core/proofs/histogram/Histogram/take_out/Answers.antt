@@ -1,10 +1,5 @@
-use Rattle.std.proofs.Common.{◌≡◌, ◌∙◌, ◌+◌, ◌-◌, ◌^◌, ◌<◌, ◌≤◌, ℕ, ap, subst, sym, refl, arith, length, get_or}
-use Rattle.hdr_base.specs.Classes.{Grain}
+use Rattle.std.proofs.Common.{arith}
 use Rattle.hdr_core.specs.Shown.{shown}
-use Rattle.hdr_core.specs.Plain.{Plain, grain}
-use Rattle.hdr_core.specs.Samples.{in_class}
-use Rattle.hdr_core.specs.Merging.{lowest_values}
-use Rattle.hdr_core.specs.Subtracting.{IsDifference}
 use Rattle.hdr_core.proofs.Kept.{bins-pos}
 use Rattle.hdr_core.proofs.histogram.Histogram.take_out.Goals as goal
 

@@ -1,4 +1,4 @@
-use Rattle.std.proofs.Common.{◌≡◌, ◌∙◌, ◌*◌, ap, sym, arith}
+use Rattle.std.proofs.Common.{◌≡◌, ◌∙◌, ◌*◌, ap, arith}
 use Rattle.hdr_base.specs.Fractions.{Ratio}
 use Rattle.hdr_core.specs.Plain.{Plain, grain}
 use Rattle.hdr_core.specs.Ranks.{rank, first_reaching, answer_at, quantile_of}

@@ -1,4 +1,4 @@
-use Rattle.std.proofs.Common.{◌≡◌, ◌∙◌, ◌*◌, ◌+◌, ◌-◌, length, ap, sym, arith}
+use Rattle.std.proofs.Common.{◌≡◌, ◌∙◌, ◌*◌, ◌+◌, ◌-◌, length, ap, arith}
 use Rattle.hdr_counts.specs.Blocks.{looks}
 use Rattle.hdr_base.specs.Fractions.{Ratio}
 use Rattle.hdr_core.specs.Plain.{Plain, grain, block_of}

@@ -1,7 +1,7 @@
-use Rattle.std.proofs.Common.{◌≡◌, ◌∙◌, ◌+◌, ◌-◌, ◌^◌, ◌<◌, ◌≤◌, ap, refl, sym, subst, arith, length}
+use Rattle.std.proofs.Common.{◌≡◌, ◌∙◌, ap, sym, arith, length}
 use Rattle.hdr_base.specs.Classes.{Grain, bin_of, reach_of}
-use Rattle.hdr_core.specs.Plain.{Plain, IsPlain, reach, grain}
-use Rattle.hdr_core.specs.Recording.{grown, widened}
+use Rattle.hdr_core.specs.Plain.{Plain, grain}
+use Rattle.hdr_core.specs.Recording.{grown}
 use Rattle.hdr_core.proofs.Kept.{widened-more, room-widened}
 use Rattle.hdr_core.proofs.histogram.Histogram.widen.Goals as goal
 

@@ -1,4 +1,4 @@
-use Rattle.std.proofs.Common.{◌≡◌, ◌∙◌, arith, sym}
+use Rattle.std.proofs.Common.{◌∙◌, arith, sym}
 use Rattle.hdr_core.proofs.WidenedMarks.{widened}
 use Rattle.hdr_core.proofs.marks.Marks.widen.Goals as goal
 

@@ -1,4 +1,4 @@
-use Rattle.std.proofs.Common.{◌≡◌, ◌∙◌, ◌-◌, ◌^◌, Option, ℕ, ap, sym, arith}
+use Rattle.std.proofs.Common.{◌≡◌, ◌∙◌, Option, ℕ, ap, arith}
 use Rattle.hdr_core.specs.Marked.{Marked, top_by, lower_by}
 use Rattle.hdr_core.specs.Merging.{later_of, earlier_of}
 use Rattle.hdr_core.proofs.WidenedMarks.{top-later_of, lower-earlier_of}

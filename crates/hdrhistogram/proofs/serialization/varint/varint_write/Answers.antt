@@ -1,4 +1,4 @@
-use Rattle.std.proofs.Common.{◌≡◌, arith, refl, ap, ◌∙◌, ◌++◌, ◌<◌, ◌≤◌, ◌%◌, ◌/◌, ◌*◌, ◌+◌, drop, length}
+use Rattle.std.proofs.Common.{arith, refl, ap, ◌∙◌, ◌++◌, ◌<◌, ◌≤◌, drop}
 use Rattle.hdrhistogram.proofs.Spellings.{spelling, spelling_least}
 use Rattle.hdrhistogram.proofs.Writing.{written_start, written_room, written_end, two_bytes, two_long}
 use Rattle.hdrhistogram.proofs.serialization.varint.varint_write.Goals as goal
