@@ -18,5 +18,6 @@ pub mod Adding
 pub mod Sameness
 pub mod Between
 pub mod WidenedMarks
+pub mod Bins
 pub mod Bounds
 pub mod Cleared

@@ -365,15 +365,15 @@ grain-merged greatest most h s q = elim (cases_lt 0 s.total) [
 ]
 
 -- the `high` of the list of calls is that of the histogram
-pub merged-high : (greatest most : ℕ) (h s : Plain) (L : List ℕ) → IsPlain most s → StandsFor s L
-    → (merged greatest h s).high ≡ cond (eqb (length L) 0) h.high (high_with (grain h) h.high (max_of s) (max_of s))
-merged-high greatest most h s L q source = elim (cases_lt 0 s.total) [
+pub merged-high : (greatest most : ℕ) (h s : Plain) → IsPlain most s
+    → (merged greatest h s).high ≡ cond (eqb s.total 0) h.high (high_with (grain h) h.high (max_of s) (max_of s))
+merged-high greatest most h s q = elim (cases_lt 0 s.total) [
   | inl pos ↦ (
-      let n : eqb (length L) 0 ≡ false = (let len : length L ≢ 0 = λ e. omega (arith, source.total) in grind (arith, nat_tests)) in
+      let n : eqb s.total 0 ≡ false = (let some : s.total ≢ 0 = λ e. omega arith in grind (arith, nat_tests)) in
       rw n (ap (λ (w : Plain). w.high) (merged-some greatest h s (λ e. omega arith)) ∙ (taken-same-bounds greatest most (with_room h (max_of s)) s q (with_room-reach h (max_of s))).1 ∙ with_room-high h (max_of s))
       )
   | inr none ↦ (
-      let y : eqb (length L) 0 ≡ true = (let len : length L ≡ 0 = omega (arith, source.total) in grind (arith, nat_tests)) in
+      let y : eqb s.total 0 ≡ true = (let none : s.total ≡ 0 = omega arith in grind (arith, nat_tests)) in
       rw y (ap (λ (w : Plain). w.high) (merged-none greatest h s (omega arith)))
       )
 ]
@@ -390,8 +390,3 @@ pub stands-none : (h s : Plain) (S L : List ℕ) → s.total ≡ 0 → StandsFor
 stands-none h s S L none stands source =
     let empty : L ≡ [] = no-samples L (omega (arith, source.total)) in
     subst (λ l. StandsFor h (S ++ l)) (sym empty) (subst (λ l. StandsFor h l) (sym (append-nil S)) stands)
-
-pub high-none : (h s : Plain) (L : List ℕ) → s.total ≡ 0 → StandsFor s L → h.high ≡ cond (eqb (length L) 0) h.high (high_with (grain h) h.high (max_of s) (max_of s))
-high-none h s L none source =
-    let y : eqb (length L) 0 ≡ true = (let len : length L ≡ 0 = omega (arith, source.total) in grind (arith, nat_tests)) in
-    rw y refl

@@ -1,8 +1,8 @@
 //! The histogram: how it is made, and what it tells of itself.
 
-ghost use Rattle.std.specs.Prelude.{◌≡◌, ◌↔◌, ℕ, MatchResult, MatchOption, IsTrue, false, true, ◌+◌, ◌-◌, ◌*◌, ◌^◌, ◌<◌, ◌≤◌, IfSome, SomeIff, length, map, slice_index};
+ghost use Rattle.std.specs.Prelude.{◌≡◌, ◌↔◌, ℕ, MatchResult, MatchOption, IsTrue, false, true, ◌+◌, ◌-◌, ◌*◌, ◌^◌, ◌<◌, ◌≤◌, IfSome, SomeIff, length, map, slice_index, unwrap_or};
 ghost use Rattle.hdr_base.specs.Classes.{bin_of, bucket, value_of, top_of};
-ghost use Rattle.hdr_core.specs.Plain.{IsPlain, grain, reach, empty_plain, max_of, min_nz_of, min_of};
+ghost use Rattle.hdr_core.specs.Plain.{IsPlain, grain, reach, block_of, empty_plain, max_of, min_nz_of, min_of};
 ghost use Rattle.hdr_core.specs.Recording.{grown};
 ghost use Rattle.hdr_core.specs.Refusals.{RefusesBounds, IsBounds};
 
@@ -110,6 +110,8 @@ impl<T: Counter> Histogram<T> {
     /// How many bins there are, one for each class from 0 to the reach.
     pub fn distinct_values(&self) -> usize
         ensures value { result ≡ length self.now.counts }
+        ensures blocks { result ≡ (bucket (grain self.now) self.now.high + 2) * block_of self.now }
+        ensures few { result ≤ 6291456 }
         ensures plain { IsPlain T.greatest self.now }
     {
         self.counts.len()
@@ -243,7 +245,9 @@ impl<T: Counter> Histogram<T> {
 
     /// The greatest value of the last class that counts as recorded, 0 where none does.
     pub fn max(&self) -> u64
-        ensures { result ≡ max_of self.now }
+        ensures value { result ≡ max_of self.now }
+        ensures bin { bin_of (grain self.now) result ≡ unwrap_or self.now.top_mark 0 }
+        ensures within { result ≤ reach self.now }
     {
         match self.marks.top() {
             Some(bin) => self.class_top(bin),

@@ -24,8 +24,8 @@ impl<T: Counter> Histogram<T> {
         ensures samples { OnOk result ((S L : List ℕ) → StandsFor self.old S → StandsFor source.now L → IsFiner (grain source.now) (grain self.old)
             → Fits T.greatest (grain self.old) (S ++ L) → StandsFor self.new (S ++ L)) }
         ensures same_classes { grain self.new ≡ grain self.old }
-        ensures high { OnOk result ((L : List ℕ) → StandsFor source.now L
-            → self.new.high ≡ (if length L == 0 then self.old.high else high_with (grain self.old) self.old.high (max_of source.now) (max_of source.now))) }
+        ensures high { OnOk result (self.new.high
+            ≡ (if source.now.total == 0 then self.old.high else high_with (grain self.old) self.old.high (max_of source.now) (max_of source.now))) }
         ensures can { OnOk result ((source.now.total ≡ 0) ⊎ HasRoom self.old (max_of source.now)) }
         ensures refused { IfErr result (λ e. RefusesAddition self.old source.now e × (self.new ≡ self.old)) }
     {
@@ -39,8 +39,8 @@ impl<T: Counter> Histogram<T> {
         ensures samples { OnOk result ((S L : List ℕ) → StandsFor self.old S → StandsFor source.now L → IsFiner (grain source.now) (grain self.old)
             → Fits T.greatest (grain self.old) (S ++ L) → StandsFor self.new (S ++ L)) }
         ensures same_classes { grain self.new ≡ grain self.old }
-        ensures high { OnOk result ((L : List ℕ) → StandsFor source.now L
-            → self.new.high ≡ (if length L == 0 then self.old.high else high_with (grain self.old) self.old.high (max_of source.now) (max_of source.now))) }
+        ensures high { OnOk result (self.new.high
+            ≡ (if source.now.total == 0 then self.old.high else high_with (grain self.old) self.old.high (max_of source.now) (max_of source.now))) }
         ensures can { OnOk result ((source.now.total ≡ 0) ⊎ HasRoom self.old (max_of source.now)) }
         ensures refused { IfErr result (λ e. RefusesAddition self.old source.now e × (self.new ≡ self.old)) }
     {

@@ -1,6 +1,6 @@
 //! Parts of texts, and the numbers that they spell.
 
-ghost use Rattle.std.specs.Prelude.{◌≡◌, ◌∷◌, ◌==◌, ◌+◌, ◌≤◌, length, IfSome, SomeIff, true, ◌-◌};
+ghost use Rattle.std.specs.Prelude.{◌≡◌, ◌∷◌, ◌==◌, ◌+◌, ◌*◌, ◌^◌, ◌<◌, ◌≤◌, length, IfSome, SomeIff, MatchOption, true, ◌-◌};
 ghost use Rattle.std.specs.Option.{option_map};
 ghost use Rattle.std.specs.List.{position};
 ghost use Rattle.std.specs.Char.{is_ascii_digit, digit_value};
@@ -36,7 +36,8 @@ pub(crate) fn split_first(text: &[u8], byte: u8) -> (&[u8], Option<&[u8]>)
 
 /// The value of a digit; `None` for any other byte.
 fn digit(byte: u8) -> Option<u64>
-    ensures { SomeIff result (is_ascii_digit byte ≡ true) (digit_value byte) }
+    ensures value { SomeIff result (is_ascii_digit byte ≡ true) (digit_value byte) }
+    ensures bound { IfSome result (λ d. d < 10) }
 {
     match byte {
         b'0'..=b'9' => Some(u64::from(byte - b'0')),
@@ -52,10 +53,22 @@ pub(crate) fn number(text: &[u8]) -> Option<u64>
     if text.is_empty() {
         return None;
     }
-    let mut value = 0u64;
+    let mut value = 0;
     for byte in text {
         let digit = digit(*byte)?;
-        value = value.checked_mul(10)?.checked_add(digit)?;
+        value = appended(value, digit)?;
     }
     Some(value)
+}
+
+/// A number with one more decimal digit behind it, where that fits.
+fn appended(value: u64, digit: u64) -> Option<u64>
+    requires { digit < 10 }
+    ensures { MatchOption result (2 ^ 64 ≤ value * 10 + digit) (λ n. n ≡ value * 10 + digit) }
+{
+    if value < u64::MAX / 10 {
+        Some(value * 10 + digit)
+    } else {
+        value.checked_mul(10)?.checked_add(digit)
+    }
 }

@@ -15,7 +15,8 @@ use Rattle.hdrhistogram.specs.Payload.{Part, run, bin, bins_of, AreMaximal, numb
 use Rattle.hdrhistogram.specs.V2.{four, eight, header, written_bins, written_counts, IsV2, IsWrittenAlike}
 use Rattle.hdrhistogram.proofs.Spellings.{one_spelling_of, one_shortest, some_byte}
 use Rattle.hdrhistogram.proofs.Payloads.{one_split}
-use Rattle.hdrhistogram.proofs.PlainFacts.{mark-inside, not-written}
+use Rattle.hdr_core.proofs.Bins.{mark-inside}
+use Rattle.hdrhistogram.proofs.PlainFacts.{not-written}
 use Rattle.hdrhistogram.proofs.V2Text.{length-four, length-eight, length-header}
 
 -- ---- one payload

@@ -3,7 +3,7 @@ use Rattle.hdr_core.specs.Plain.{Plain, grain, reach, max_of}
 use Rattle.hdr_core.specs.Merging.{taken_in, with_room}
 use Rattle.hdr_core.specs.Samples.{StandsFor}
 use Rattle.hdr_core.proofs.Merged.{merged-none, merged-some, with_room-reach}
-use Rattle.hdr_core.proofs.Spread.{StandsFor-merged, merged-high, grain-merged, stands-none, high-none}
+use Rattle.hdr_core.proofs.Spread.{StandsFor-merged, merged-high, grain-merged, stands-none}
 use Rattle.hdr_core.proofs.histogram.Histogram.add_from.Goals as goal
 
 pub returns-then-source-eq0-clause-ok : goal.returns-then-source-eq0-clause-ok
@@ -14,19 +14,19 @@ returns-then-source-eq0-clause-samples g c = λ S L stands source fine fits.
     stands-none c.args.self.now c.args.source.now S L (sym (ap (λ (p : Plain). p.total) c.source.view_is) ∙ c.if-source-eq0.true) stands source
 
 pub returns-then-source-eq0-clause-high : goal.returns-then-source-eq0-clause-high
-returns-then-source-eq0-clause-high g c = λ L source.
-    high-none c.args.self.now c.args.source.now L (sym (ap (λ (p : Plain). p.total) c.source.view_is) ∙ c.if-source-eq0.true) source
+returns-then-source-eq0-clause-high g c =
+    ap (λ (w : Plain). w.high) (returns-then-source-eq0-clause-ok g c) ∙ merged-high g.T.Counter.greatest g.F.Counter.greatest c.args.self.now c.args.source.now (rw c.source.view_is at c.source.invariant.plain)
 
 pub take_in-requires : goal.take_in-requires
 take_in-requires g c =
-    let new : c.make_room.new.self ≡ with_room c.args.self.now (max_of c.args.source.now) = c.in_ok-make_room.ensures.ok ∙ ap (λ x. with_room c.args.self.now x) c.max.ensures in
+    let new : c.make_room.new.self ≡ with_room c.args.self.now (max_of c.args.source.now) = c.in_ok-make_room.ensures.ok ∙ ap (λ x. with_room c.args.self.now x) c.max.ensures.value in
     subst (λ w. max_of c.args.source.now ≤ reach w) (sym new) (with_room-reach c.args.self.now (max_of c.args.source.now))
 
 pub returns-clause-ok : goal.returns-clause-ok
 returns-clause-ok g c =
     let greatest = g.T.Counter.greatest in
     let s = c.args.source.now in
-    let new : c.make_room.new.self ≡ with_room c.args.self.now (max_of s) = c.in_ok-make_room.ensures.ok ∙ ap (λ x. with_room c.args.self.now x) c.max.ensures in
+    let new : c.make_room.new.self ≡ with_room c.args.self.now (max_of s) = c.in_ok-make_room.ensures.ok ∙ ap (λ x. with_room c.args.self.now x) c.max.ensures.value in
     c.take_in.ensures ∙ ap (λ w. taken_in greatest w s) new
     ∙ sym (merged-some greatest c.args.self.now s (λ e. c.if-source-eq0.false (ap (λ (p : Plain). p.total) c.source.view_is ∙ e)))
 
@@ -40,8 +40,8 @@ returns-clause-samples g c = λ S L stands source fine fits.
     let s = c.args.source.now in
     subst (λ w. StandsFor w (S ++ L)) (sym (returns-clause-ok g c))
     (StandsFor-merged greatest g.F.Counter.greatest c.args.self.now s S L g.met.T.Counter.one_fits c.make_room.ensures.kept (rw c.source.view_is at c.source.invariant.plain)
-    (omega (arith, c.max.ensures, c.max.type_inv)) stands source fine fits)
+    (omega (arith, c.max.ensures.value, c.max.type_inv)) stands source fine fits)
 
 pub returns-clause-high : goal.returns-clause-high
-returns-clause-high g c = λ L source.
-    ap (λ (w : Plain). w.high) (returns-clause-ok g c) ∙ merged-high g.T.Counter.greatest g.F.Counter.greatest c.args.self.now c.args.source.now L (rw c.source.view_is at c.source.invariant.plain) source
+returns-clause-high g c =
+    ap (λ (w : Plain). w.high) (returns-clause-ok g c) ∙ merged-high g.T.Counter.greatest g.F.Counter.greatest c.args.self.now c.args.source.now (rw c.source.view_is at c.source.invariant.plain)

@@ -81,7 +81,7 @@ returns-in-Ok-add-clause-samples g c = λ s t stands to fits.
     let L = to.0 in
     let m = max_of c.in-Add.source.now in (
       subst (λ N. StandsFor c.add.new.self N) (sym to.3) (c.in-Ok-add.ensures.samples s.samples L stands.0 to.1 to.2 (subst (λ N. Fits g.T.Counter.greatest (grain h) N) to.3 fits)),
-      c.in-Ok-add.ensures.high L to.1 ∙ ap (λ x. cond (eqb (length L) 0) x (high_with (grain h) x m m)) stands.1 ∙ sym to.4,
+      c.in-Ok-add.ensures.high ∙ ap (λ n. cond (eqb n 0) h.high (high_with (grain h) h.high m m)) to.1.total ∙ ap (λ x. cond (eqb (length L) 0) x (high_with (grain h) x m m)) stands.1 ∙ sym to.4,
     )
 
 pub returns-in-Ok-add_correct-clause-samples : goal.returns-in-Ok-add_correct-clause-samples

@@ -1,0 +1,9 @@
+use Rattle.std.proofs.Common.{◌∙◌, ◌+◌, ◌*◌, length, ap}
+use Rattle.hdr_core.specs.Plain.{Plain}
+use Rattle.hdr_core.proofs.Bins.{blocks-of}
+use Rattle.hdr_core.proofs.histogram.Histogram.distinct_values.Goals as goal
+
+pub returns-clause-blocks : goal.returns-clause-blocks
+returns-clause-blocks g c =
+    let plain = rw c.self.view_is at c.self.invariant.plain in
+    c.len.ensures.value ∙ ap (λ (p : Plain). length p.counts) c.self.view_is ∙ blocks-of g.T.Counter.greatest c.args.self.now plain
