@@ -1,6 +1,6 @@
 //! Calls as values, and runs of them.
 
-ghost use Rattle.std.specs.Prelude.{◌≡◌, ℕ, ◌<◌, ◌≤◌, List, OnOk, IfErr, length, take, slice_get, IfSome};
+ghost use Rattle.std.specs.Prelude.{◌≡◌, ◌<◌, OnOk, IfErr, length, take, slice_get, IfSome};
 ghost use Rattle.hdr_core.specs.Plain.{grain};
 ghost use Rattle.hdr_core.specs.Samples.{Fits};
 ghost use Rattle.hdr_core.specs.Calls.{State, StandsAt, after_call, after_calls, IsTaken, AreTaken, RefusesCall, CallTo, CallsTo, calls_done};

@@ -1,6 +1,6 @@
 //! Recording with correction for coordinated omission, class by class.
 
-ghost use Rattle.std.specs.Prelude.{◌≡◌, ℕ, List, [], ◌∷◌, ◌++◌, ◌+◌, ◌-◌, ◌*◌, ◌/◌, ◌^◌, ◌<◌, ◌≤◌, ◌⊎◌, true, OnOk, IfErr, length};
+ghost use Rattle.std.specs.Prelude.{◌≡◌, ℕ, List, ◌∷◌, ◌++◌, ◌+◌, ◌-◌, ◌*◌, ◌/◌, ◌^◌, ◌<◌, ◌≤◌, OnOk, IfErr, length};
 ghost use Rattle.hdr_base.specs.Classes.{bucket, reach_of};
 ghost use Rattle.hdr_core.specs.Plain.{grain, reach};
 ghost use Rattle.hdr_core.specs.Recording.{added, recorded_each, spread};

@@ -1,6 +1,6 @@
 //! The histogram: how it is made, and what it tells of itself.
 
-ghost use Rattle.std.specs.Prelude.{◌≡◌, ◌↔◌, ℕ, MatchResult, MatchOption, IsTrue, false, true, ◌+◌, ◌-◌, ◌*◌, ◌^◌, ◌<◌, ◌≤◌, IfSome, SomeIff, length, map, slice_index, unwrap_or};
+ghost use Rattle.std.specs.Prelude.{◌≡◌, ◌↔◌, MatchResult, MatchOption, IsTrue, false, true, ◌+◌, ◌*◌, ◌<◌, ◌≤◌, IfSome, SomeIff, length, map, slice_index, unwrap_or};
 ghost use Rattle.hdr_base.specs.Classes.{bin_of, bucket, value_of, top_of};
 ghost use Rattle.hdr_core.specs.Plain.{IsPlain, grain, reach, block_of, empty_plain, max_of, min_nz_of, min_of};
 ghost use Rattle.hdr_core.specs.Recording.{grown};

@@ -1,6 +1,6 @@
 //! Adding what another histogram counted, with correction for coordinated omission.
 
-ghost use Rattle.std.specs.Prelude.{◌≡◌, ℕ, List, ◌∷◌, ◌++◌, ◌+◌, ◌-◌, ◌^◌, ◌<◌, ◌≤◌, ◌⊎◌, true, OnOk, IfErr, length};
+ghost use Rattle.std.specs.Prelude.{◌≡◌, ℕ, List, ◌∷◌, ◌++◌, ◌+◌, ◌≤◌, OnOk, IfErr};
 ghost use Rattle.hdr_base.specs.Classes.{reach_of};
 ghost use Rattle.hdr_core.specs.Plain.{IsPlain, grain, reach};
 ghost use Rattle.hdr_core.specs.Recording.{recorded_each, widened, restarted};
@@ -86,8 +86,8 @@ impl<T: Counter> Histogram<T> {
         }
     }
 
-    /// Bins up to a value.
-    fn cover(&mut self, value: u64) -> Result<(), RecordError>
+    /// Makes bins up to a value, where it has none.
+    pub(crate) fn cover(&mut self, value: u64) -> Result<(), RecordError>
         ensures ok { OnOk result (self.new ≡ widened self.old value) }
         ensures kept { IsPlain T.greatest self.old }
         ensures can { OnOk result (HasRoom self.old value) }

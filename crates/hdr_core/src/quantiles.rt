@@ -1,6 +1,6 @@
 //! Quantiles of what was recorded.
 
-ghost use Rattle.std.specs.Prelude.{◌≡◌, ℕ, ◌+◌, ◌-◌, ◌*◌, ◌^◌, ◌<◌, ◌≤◌, List, IfSome, length};
+ghost use Rattle.std.specs.Prelude.{◌≡◌, ℕ, ◌+◌, ◌^◌, ◌<◌, ◌≤◌, List, IfSome, length};
 ghost use Rattle.hdr_base.specs.Classes.{bucket};
 ghost use Rattle.hdr_counts.specs.Blocks.{looks};
 ghost use Rattle.hdr_core.specs.Plain.{grain, block_of};

@@ -1,9 +1,9 @@
 //! Recording and clearing.
 
-ghost use Rattle.std.specs.Prelude.{◌≡◌, ℕ, List, ◌+◌, ◌-◌, ◌^◌, ◌<◌, ◌≤◌, ◌⊎◌, ◌++◌, true, OnOk, IfOk, IfErr, min, length, replicate};
-ghost use Rattle.hdr_base.specs.Classes.{bin_of, reach_of};
+ghost use Rattle.std.specs.Prelude.{◌≡◌, ℕ, List, ◌+◌, ◌-◌, ◌^◌, ◌<◌, ◌≤◌, ◌++◌, true, OnOk, IfErr, min, length, replicate};
+ghost use Rattle.hdr_base.specs.Classes.{reach_of};
 ghost use Rattle.hdr_core.specs.Plain.{grain, reach};
-ghost use Rattle.hdr_core.specs.Recording.{widened, added, recorded, clamped, cleared, restarted};
+ghost use Rattle.hdr_core.specs.Recording.{added, recorded, clamped, cleared, restarted};
 ghost use Rattle.hdr_core.specs.Samples.{StandsFor, Fits};
 ghost use Rattle.hdr_core.specs.Calls.{high_with};
 ghost use Rattle.hdr_core.specs.Refusals.{HasRoom, RefusesRecord};
@@ -58,10 +58,8 @@ impl<T: Counter> Histogram<T> {
         ensures can { OnOk result (self.old.auto_resize ≡ true) }
         ensures refused { IfErr result (λ e. RefusesRecord self.old value e × (self.new ≡ self.old)) }
     {
-        if !self.auto_resize {
-            return Err(RecordError::ValueOutOfRangeResizeDisabled);
-        }
-        let bin = self.widen(value)?;
+        self.cover(value)?;
+        let bin = self.scale.bin(value);
         self.add_to_bin(bin, count.as_u64());
         Ok(())
     }
@@ -114,21 +112,6 @@ impl<T: Counter> Histogram<T> {
     {
         self.clear();
         self.marks = Marks::none();
-    }
-
-    /// Makes bins up to a value past the reach, and gives its bin.
-    fn widen(&mut self, value: u64) -> Result<usize, RecordError>
-        requires { reach self.old < value }
-        ensures ok { IfOk result (λ bin. (self.new ≡ widened self.old value)
-            × (bin ≡ bin_of (grain self.old) value) × (bin < length self.new.counts)) }
-        ensures err { IfErr result (λ e. (e ≡ RecordError.OutOfMemory) × (self.new ≡ self.old)) }
-    {
-        let bin = self.scale.bin(value);
-        let high = self.scale.reach(value);
-        match self.grow(high) {
-            Ok(()) => Ok(bin),
-            Err(_) => Err(RecordError::OutOfMemory),
-        }
     }
 
     /// Adds a number to a bin and to the total, each up to its greatest, and widens the marks by the bin.

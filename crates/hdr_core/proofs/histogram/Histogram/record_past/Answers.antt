@@ -1,14 +1,29 @@
-use Rattle.std.proofs.Common.{◌∙◌, ap}
-use Rattle.hdr_core.specs.Plain.{Plain}
+use Rattle.std.proofs.Common.{◌≡◌, ◌∙◌, ◌<◌, ◌≤◌, ap, sym, subst, length, arith}
+use Rattle.hdr_base.specs.Classes.{Grain, bin_of}
+use Rattle.hdr_core.specs.Plain.{Plain, grain, reach}
 use Rattle.hdr_core.specs.Recording.{recorded, added, widened}
+use Rattle.hdr_core.proofs.Kept.{room-in}
+use Rattle.hdr_core.proofs.Corrected.{grain-widened, widened-holds}
 use Rattle.hdr_core.proofs.histogram.Histogram.record_past.Goals as goal
+
+pub add_to_bin-requires : goal.add_to_bin-requires
+add_to_bin-requires g c =
+    let w = c.cover.new.self in
+    let v = c.args.value in
+    let plain = rw c.self.view_is at c.self.invariant.plain in
+    let bin : c.bin-bin.result ≡ bin_of (grain w) v = c.bin-bin.ensures.value ∙ ap (λ (s : Grain). bin_of s v) (c.self.invariant.scale ∙ ap (λ (p : Plain). grain p) c.self.view_is) in
+    let holds : v ≤ reach w = subst (λ (p : Plain). v ≤ reach p) (sym c.in_ok-cover.ensures.ok) (widened-holds c.args.self.now v) in
+    omega (arith, bin, room-in g.T.Counter.greatest w v plain holds)
 
 pub returns-clause-ok : goal.returns-clause-ok
 unfolding recorded
 returns-clause-ok g c =
-    let n = g.T.Counter.number c.args.count in
+    let w = c.cover.new.self in
     let h = c.args.self.now in
     let v = c.args.value in
-    c.add_to_bin.ensures ∙ ap (λ k. added g.T.Counter.greatest c.widen.new.self c.in_ok-bin.bin k) c.as_u64.ensures.value
-    ∙ ap (λ (s : Plain). added g.T.Counter.greatest s c.in_ok-bin.bin n) c.in_ok-bin.ensures.ok.0
-    ∙ ap (λ b. added g.T.Counter.greatest (widened h v) b n) c.in_ok-bin.ensures.ok.1
+    let n = g.T.Counter.number c.args.count in
+    let greatest = g.T.Counter.greatest in
+    let bin : c.bin-bin.result ≡ bin_of (grain w) v = c.bin-bin.ensures.value ∙ ap (λ (s : Grain). bin_of s v) (c.self.invariant.scale ∙ ap (λ (p : Plain). grain p) c.self.view_is) in
+    c.add_to_bin.ensures ∙ ap (λ k. added greatest w c.bin-bin.result k) c.as_u64.ensures.value ∙ ap (λ b. added greatest w b n) bin
+    ∙ ap (λ (p : Plain). added greatest p (bin_of (grain p) v) n) c.in_ok-cover.ensures.ok
+    ∙ ap (λ (k : Grain). added greatest (widened h v) (bin_of k v) n) (grain-widened h v)
