@@ -1,5 +1,5 @@
 use Rattle.std.proofs.Common.{arith}
-use Rattle.hdrhistogram.proofs.PlainFacts.{mark-inside}
+use Rattle.hdr_core.proofs.Bins.{mark-inside}
 use Rattle.hdrhistogram.proofs.tests.encoded.Goals as goal
 
 pub encode_counts-requires : goal.encode_counts-requires
