@@ -54,6 +54,8 @@ fn recorded(alloc: Global, seed: u64, n: u64) -> Option<u64> {
     Some(histogram.len().wrapping_add(histogram.max()))
 }
 
+/// Out of line, as `serialized` is, so that its loop stands where the code of other workloads does not move it.
+#[inline(never)]
 fn corrected(alloc: Global, seed: u64, n: u64, interval: u64) -> Option<u64> {
     let mut histogram = empty(alloc)?;
     let mut x = seed;
@@ -86,6 +88,7 @@ fn added(alloc: Global, seed: u64, n: u64) -> Option<u64> {
     Some(sum.len())
 }
 
+#[inline(never)]
 fn serialized(alloc: Global, seed: u64, n: u64) -> Option<u64> {
     let histogram = filled(alloc, seed)?;
     let mut serializer = V2Serializer::new(alloc);
