@@ -17,7 +17,7 @@ const ROUNDS: usize = 15;
 /// A workload: its name, how many operations it does, and how both sides do them.
 type Workload = (&'static str, u64, fn(u64) -> u64, fn(u64) -> u64);
 
-const WORKLOADS: [Workload; 9] = [
+const WORKLOADS: [Workload; 12] = [
     ("generate", 4_000_000, |n| upstream::generate(SEED, n), |n| ours::generate(SEED, n)),
     ("record", 4_000_000, |n| upstream::record(SEED, n), |n| ours::record(SEED, n)),
     ("correct_2e3", 800, |n| upstream::correct(SEED, n, 1_000_000), |n| ours::correct(SEED, n, 1_000_000)),
@@ -26,6 +26,9 @@ const WORKLOADS: [Workload; 9] = [
     ("quantile_99", 8_000, |n| upstream::quantile(SEED, n, 99, 100), |n| ours::quantile(SEED, n, 99, 100)),
     ("quantile_999", 8_000, |n| upstream::quantile(SEED, n, 999, 1000), |n| ours::quantile(SEED, n, 999, 1000)),
     ("add", 1_600, |n| upstream::add(SEED, n), |n| ours::add(SEED, n)),
+    ("iter_recorded", 160, |n| upstream::iter_recorded(SEED, n), |n| ours::iter_recorded(SEED, n)),
+    ("iter_all", 160, |n| upstream::iter_all(SEED, n), |n| ours::iter_all(SEED, n)),
+    ("deserialize", 400, |n| upstream::deserialize(SEED, n), |n| ours::deserialize(SEED, n)),
     ("serialize", 800, |n| upstream::serialize(SEED, n), |n| ours::serialize(SEED, n)),
 ];
 

@@ -8,12 +8,18 @@ mod exported {
         pub safe fn hdrb_quantile(seed: u64, n: u64, num: u64, den: u64) -> u64;
         pub safe fn hdrb_add(seed: u64, n: u64) -> u64;
         pub safe fn hdrb_serialize(seed: u64, n: u64) -> u64;
+        pub safe fn hdrb_iter_recorded(seed: u64, n: u64) -> u64;
+        pub safe fn hdrb_iter_all(seed: u64, n: u64) -> u64;
+        pub safe fn hdrb_deserialize(seed: u64, n: u64) -> u64;
     }
 }
 
 pub use exported::hdrb_add as add;
 pub use exported::hdrb_correct as correct;
+pub use exported::hdrb_deserialize as deserialize;
 pub use exported::hdrb_generate as generate;
 pub use exported::hdrb_quantile as quantile;
 pub use exported::hdrb_record as record;
+pub use exported::hdrb_iter_all as iter_all;
+pub use exported::hdrb_iter_recorded as iter_recorded;
 pub use exported::hdrb_serialize as serialize;

@@ -1,7 +1,7 @@
 //! The workloads over the Rust crate.
 
 use hdrhistogram::Histogram;
-use hdrhistogram::serialization::{Serializer, V2Serializer};
+use hdrhistogram::serialization::{Deserializer, Serializer, V2Serializer};
 use std::hint::black_box;
 
 const HIGH: u64 = 3_600_000_000;
@@ -88,6 +88,40 @@ pub fn serialize(seed: u64, n: u64) -> u64 {
         serializer.serialize(black_box(&histogram), &mut bytes).expect("counts below 2^63");
         let last = bytes.last().copied().unwrap_or(0);
         sum = sum.wrapping_add(bytes.len() as u64).wrapping_add(u64::from(last));
+    }
+    sum
+}
+
+pub fn iter_recorded(seed: u64, n: u64) -> u64 {
+    let histogram = filled(seed);
+    let mut sum = 0u64;
+    for _ in 0..n {
+        for item in black_box(&histogram).iter_recorded() {
+            sum = sum.wrapping_add(item.value_iterated_to() ^ item.count_at_value());
+        }
+    }
+    sum
+}
+
+pub fn iter_all(seed: u64, n: u64) -> u64 {
+    let histogram = filled(seed);
+    let mut sum = 0u64;
+    for _ in 0..n {
+        for item in black_box(&histogram).iter_all() {
+            sum = sum.wrapping_add(item.value_iterated_to() ^ item.count_at_value());
+        }
+    }
+    sum
+}
+
+pub fn deserialize(seed: u64, n: u64) -> u64 {
+    let histogram = filled(seed);
+    let mut bytes = Vec::new();
+    let _ = V2Serializer::new().serialize(&histogram, &mut bytes).expect("counts below 2^63");
+    let (mut deserializer, mut sum) = (Deserializer::new(), 0u64);
+    for _ in 0..n {
+        let read: Histogram<u64> = deserializer.deserialize(&mut black_box(&bytes[..])).expect("written by the crate");
+        sum = sum.wrapping_add(read.len());
     }
     sum
 }

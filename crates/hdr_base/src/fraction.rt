@@ -57,3 +57,13 @@ pub struct Fraction {
     pub num: u128,
     pub den: u128,
 }
+
+impl Model for Fraction {
+    ghost use Rattle.hdr_base.specs.Fractions.{Ratio};
+
+    ghost Value = { Ratio };
+
+    ghost view = { λ f. record { num = f.num; den = f.den } };
+
+    ghost inverse = { λ r. record { num = r.num; den = r.den } };
+}

@@ -3,12 +3,14 @@
 
 pub mod counter;
 pub mod fraction;
+pub mod iteration_value;
 pub mod laws;
 pub mod scale;
 pub mod ticks;
 
 pub use counter::Counter;
 pub use fraction::{Fraction, Quantile};
+pub use iteration_value::IterationValue;
 pub use scale::Scale;
 pub use ticks::Ticks;
 

@@ -4,7 +4,7 @@
 
 ghost use Rattle.std.specs.Prelude.{◌<◌, ◌^◌, ◌≤◌};
 
-use hdrhistogram::serialization::V2Serializer;
+use hdrhistogram::serialization::{Deserializer, V2Serializer};
 use hdrhistogram::{Histogram, Quantile};
 use std::alloc::Global;
 
@@ -103,6 +103,43 @@ fn serialized(alloc: Global, seed: u64, n: u64) -> Option<u64> {
     Some(sum)
 }
 
+#[inline(never)]
+fn iterated_recorded(alloc: Global, seed: u64, n: u64) -> Option<u64> {
+    let histogram = filled(alloc, seed)?;
+    let mut sum: u64 = 0;
+    for _ in 0..n {
+        for item in histogram.iter_recorded() {
+            sum = sum.wrapping_add(item.value_iterated_to() ^ item.count_at_value());
+        }
+    }
+    Some(sum)
+}
+
+#[inline(never)]
+fn iterated_all(alloc: Global, seed: u64, n: u64) -> Option<u64> {
+    let histogram = filled(alloc, seed)?;
+    let mut sum: u64 = 0;
+    for _ in 0..n {
+        for item in histogram.iter_all() {
+            sum = sum.wrapping_add(item.value_iterated_to() ^ item.count_at_value());
+        }
+    }
+    Some(sum)
+}
+
+fn deserialized(alloc: Global, seed: u64, n: u64) -> Option<u64> {
+    let histogram = filled(alloc, seed)?;
+    let mut serializer = V2Serializer::new(alloc);
+    let bytes = serializer.to_bytes(&histogram).ok()?;
+    let mut deserializer = Deserializer::new(alloc);
+    let mut sum: u64 = 0;
+    for _ in 0..n {
+        let (read, _) = deserializer.decode_slice::<u64>(bytes).ok()?;
+        sum = sum.wrapping_add(read.len());
+    }
+    Some(sum)
+}
+
 /// The generator alone: the sum of `n` values.
 #[unsafe(no_mangle)]
 pub extern "C" fn hdrb_generate(seed: u64, n: u64) -> u64 {
@@ -143,4 +180,22 @@ pub extern "C" fn hdrb_add(alloc: Global, seed: u64, n: u64) -> u64 {
 #[unsafe(no_mangle)]
 pub extern "C" fn hdrb_serialize(alloc: Global, seed: u64, n: u64) -> u64 {
     serialized(alloc, seed, n).unwrap_or(0)
+}
+
+/// Passes of `iter_recorded`: the sum of each value with its counter's bits turned by it.
+#[unsafe(no_mangle)]
+pub extern "C" fn hdrb_iter_recorded(alloc: Global, seed: u64, n: u64) -> u64 {
+    iterated_recorded(alloc, seed, n).unwrap_or(0)
+}
+
+/// Passes of `iter_all`, likewise.
+#[unsafe(no_mangle)]
+pub extern "C" fn hdrb_iter_all(alloc: Global, seed: u64, n: u64) -> u64 {
+    iterated_all(alloc, seed, n).unwrap_or(0)
+}
+
+/// `decode_slice` of one text: the sum of the lengths.
+#[unsafe(no_mangle)]
+pub extern "C" fn hdrb_deserialize(alloc: Global, seed: u64, n: u64) -> u64 {
+    deserialized(alloc, seed, n).unwrap_or(0)
 }

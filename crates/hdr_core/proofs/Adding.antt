@@ -142,7 +142,7 @@ pub highest-small : (greatest : ℕ) (h : Plain) → IsPlain greatest h → high
 unfolding reach
 highest-small greatest h p = omega (arith, highest-in greatest h p, reach-fits (grain h) h.high p.high_fits (grain-fits greatest h p))
 
-IsPlain-room : (greatest : ℕ) (h : Plain) (x : ℕ) → x < 2 ^ 64 → IsPlain greatest h → IsPlain greatest (with_room h x)
+pub IsPlain-room : (greatest : ℕ) (h : Plain) (x : ℕ) → x < 2 ^ 64 → IsPlain greatest h → IsPlain greatest (with_room h x)
 IsPlain-room greatest h x small p = elim (cases_lt (reach h) x) [
   | inl lt ↦ rw (with_room-more h x lt) (IsPlain-grown greatest h x p small lt)
   | inr le ↦ rw (with_room-same h x le) p

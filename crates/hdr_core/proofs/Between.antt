@@ -72,7 +72,8 @@ module _ (g : Grain) (m : 0 < g.digits) where
         ]
       ]
 
-  all : (a b : ℕ) (S : List ℕ) → bin_of g a ≤ bin_of g b
+  -- the samples of the first classes up to one, by those of the classes before another and those between
+  pub all : (a b : ℕ) (S : List ℕ) → bin_of g a ≤ bin_of g b
       → in_first g (bin_of g b + 1) S ≡ in_first g (bin_of g a) S + samples_between (lowest_of g a) (top_of g b) S
   all a b [] le = refl
   all a b (s ∷ S) le =
@@ -91,7 +92,7 @@ part-sum xs a e le =
     let split : sum (drop a xs) ≡ sum (slice_range xs a e) + sum (drop e xs) = ap sum (drop_split xs a e le) ∙ sum_by-append (λ x. x) (slice_range xs a e) (drop e xs) in
     omega (arith, sum_by-take-drop (λ x. x) xs a, sum_by-take-drop (λ x. x) xs e)
 
-held-is : (greatest : ℕ) (h : Plain) (v : ℕ) → IsPlain greatest h → v ≤ reach h → held_bin h v ≡ bin_of (grain h) v
+pub held-is : (greatest : ℕ) (h : Plain) (v : ℕ) → IsPlain greatest h → v ≤ reach h → held_bin h v ≡ bin_of (grain h) v
 unfolding held_bin
 held-is greatest h v p le = omega (arith, room-in greatest h v p le)
 

@@ -1,5 +1,5 @@
 -- How many bins there are, and the bin of the greatest value.
-use Rattle.std.proofs.Common.{◌≡◌, ℕ, ◌+◌, ◌-◌, ◌*◌, ◌^◌, ◌<◌, ◌≤◌, length, ◌∙◌, ap, arith, Option, Some, None, IfSome, unwrap_or, lit≤, inl, inr}
+use Rattle.std.proofs.Common.{◌≡◌, ℕ, ◌+◌, ◌-◌, ◌*◌, ◌<◌, ◌≤◌, length, ◌∙◌, ap, arith, Option, Some, None, IfSome, unwrap_or, lit≤, inl, inr}
 use Rattle.std.proofs.lemmas.Bool.{cases_lt}
 use Rattle.hdr_base.specs.Classes.{Grain, grain_of, bucket, bin_of, value_of, top_of, lowest_of, width_of, reach_of, digits_of, unit_of}
 use Rattle.hdr_base.proofs.ClassLaws.{same-bin, width-pos}
@@ -22,7 +22,7 @@ digits-most low sigfig h =
     let five : digits_of 5 ≤ 18 = (digits-IsLeast 5).least 18 (lit≤ tt) in
     omega (arith, digits-mono sigfig 5 h)
 
-fits-of : (low sigfig : ℕ) → unit_of low + digits_of sigfig ≤ 63 → (grain_of low sigfig).unit + (grain_of low sigfig).digits ≤ 63
+pub fits-of : (low sigfig : ℕ) → unit_of low + digits_of sigfig ≤ 63 → (grain_of low sigfig).unit + (grain_of low sigfig).digits ≤ 63
 unfolding grain_of
 fits-of low sigfig h = h
 
@@ -34,7 +34,7 @@ few-bins greatest h p =
     let most = blocks-most g.unit g.digits (bucket g h.high + 1) (omega (arith, bound)) (digits-most h.low h.sigfig p.scale.digits) in
     omega (arith, p.bins, bins-blocks g h.high (digits-pos-of h.low h.sigfig), most)
 
-bin-of-top : (g : Grain) (v : ℕ) → 0 < g.digits → bin_of g (top_of g v) ≡ bin_of g v
+pub bin-of-top : (g : Grain) (v : ℕ) → 0 < g.digits → bin_of g (top_of g v) ≡ bin_of g v
 unfolding top_of
 bin-of-top g v m = same-bin g v (lowest_of g v + width_of g v - 1) m (omega (arith, width-pos g v)) (omega (arith, width-pos g v))
 
@@ -60,5 +60,13 @@ pub max-has-bin : (greatest : ℕ) (h : Plain) → IsPlain greatest h → max_of
 unfolding reach
 max-has-bin greatest h p = elim (cases_lt (reach_of (grain h) h.high) (max_of h)) [
   | inl past ↦ absurd (omega (arith, past-bins (grain h) h.high (max_of h) (digits-pos-of h.low h.sigfig) past, bin-of-max greatest h p, mark-inside greatest h p, p.bins))
+  | inr within ↦ within
+]
+
+-- the lowest value of a bin's class has a bin
+pub value-has-bin : (greatest : ℕ) (h : Plain) (i : ℕ) → IsPlain greatest h → i < length h.counts → value_of (grain h) i ≤ reach h
+unfolding reach
+value-has-bin greatest h i p lt = elim (cases_lt (reach_of (grain h) h.high) (value_of (grain h) i)) [
+  | inl past ↦ absurd (omega (arith, past-bins (grain h) h.high (value_of (grain h) i) (digits-pos-of h.low h.sigfig) past, bin-value_of (grain h) i (digits-pos-of h.low h.sigfig), p.bins))
   | inr within ↦ within
 ]

@@ -282,7 +282,7 @@ grain-merged_corrected greatest h s i = grain-each greatest (widened h (highest_
 
 -- ---- one value, corrected
 
-recorded-from : (greatest : ℕ) (h : Plain) (v n : ℕ) → recorded greatest (widened h v) v n ≡ recorded greatest h v n
+pub recorded-from : (greatest : ℕ) (h : Plain) (v n : ℕ) → recorded greatest (widened h v) v n ≡ recorded greatest h v n
 unfolding recorded
 recorded-from greatest h v n =
     ap (λ (w : Plain). added greatest w (bin_of (grain (widened h v)) v) n) (widened-same (widened h v) v (widened-holds h v))

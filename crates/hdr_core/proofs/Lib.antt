@@ -21,3 +21,8 @@ pub mod WidenedMarks
 pub mod Bins
 pub mod Bounds
 pub mod Cleared
+pub mod Binned
+pub mod Rising
+pub mod Shares
+pub mod Means
+pub mod Steps

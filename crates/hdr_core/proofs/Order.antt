@@ -144,7 +144,7 @@ below (x ∷ xs) (suc k) a h =
 abbrev pub in_first : Grain → ℕ → List ℕ → ℕ
 in_first g k S = count_by (λ s. ltb (bin_of g s) k) S
 
-in_first-none : (g : Grain) (S : List ℕ) → in_first g 0 S ≡ 0
+pub in_first-none : (g : Grain) (S : List ℕ) → in_first g 0 S ≡ 0
 in_first-none g [] = refl
 in_first-none g (s ∷ S) =
     let e : ltb (bin_of g s) 0 ≡ false = ltb-no (bin_of g s) 0 (omega arith) in

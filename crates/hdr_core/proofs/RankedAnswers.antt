@@ -20,7 +20,7 @@ use Rattle.hdr_core.proofs.Kept.{grain-digits, room-in}
 use Rattle.hdr_core.proofs.Order.{FirstReaching, class-of-rank, in_first-all, running}
 
 -- a rank is a place among the samples
-ceil-le : (a d n : ℕ) → 0 < d → a ≤ n * d → div_ceil a d ≤ n
+pub ceil-le : (a d n : ℕ) → 0 < d → a ≤ n * d → div_ceil a d ≤ n
 ceil-le a d n pos le =
     let split = div-add-mod' a d in
     let less = mod_below a d pos in

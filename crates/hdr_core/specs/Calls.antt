@@ -1,7 +1,7 @@
 -- What calls do, by numbers and by samples.
-use Rattle.std.specs.Prelude.{◌≡◌, ◌==◌, ◌⊎◌, ℕ, nat_le, if◌then◌else◌, List, [], ◌∷◌, ◌++◌, length, replicate, Result, Ok, Err}
+use Rattle.std.specs.Prelude.{◌≡◌, ◌==◌, ◌⊎◌, ℕ, ◌^◌, ◌<◌, nat_le, if◌then◌else◌, List, [], ◌∷◌, ◌++◌, length, replicate, Result, Ok, Err}
 use Rattle.hdr_base.specs.Classes.{Grain, reach_of, IsFiner}
-use Rattle.hdr_core.specs.Plain.{Plain, grain, max_of}
+use Rattle.hdr_core.specs.Plain.{Plain, IsPlain, grain, max_of}
 use Rattle.hdr_core.specs.Recording.{recorded, clamped, cleared, restarted, spread}
 use Rattle.hdr_core.specs.Missing.{missing, each, corrected, highest_top, merged_corrected, corrected_samples}
 use Rattle.hdr_core.specs.Merging.{merged}
@@ -27,6 +27,16 @@ after_call greatest number (AddCorrect source i) h = merged_corrected greatest h
 abbrev pub after_calls : {T : Type 0} → ℕ → (T → ℕ) → List (Call T) → Plain → Plain
 after_calls greatest number [] h = h
 after_calls greatest number (call ∷ calls) h = after_calls greatest number calls (after_call greatest number call h)
+
+-- a call's value is a u64, and its source is a histogram for counters up to `most`
+abbrev pub IsCallOf : {T : Type 0} → ℕ → Call T → Type 0
+IsCallOf most (Record v n) = v < 2 ^ 64
+IsCallOf most (Clamp v n) = v < 2 ^ 64
+IsCallOf most (Correct v n i) = v < 2 ^ 64
+IsCallOf most Clear = Unit {0}
+IsCallOf most Reset = Unit {0}
+IsCallOf most (Add source) = IsPlain most source.now
+IsCallOf most (AddCorrect source i) = IsPlain most source.now
 
 -- when a call is refused, and why
 abbrev pub RefusesCall : {T : Type 0} → Plain → Call T → CallError → Type 0

@@ -11,3 +11,4 @@ pub mod Ranks
 pub mod Equality
 pub mod Missing
 pub mod Statistics
+pub mod Iterated

@@ -197,7 +197,9 @@ impl<T: Counter> Histogram<T> {
 
     /// The lowest value of a bin's class, `None` past the bins.
     pub fn bin_value(&self, index: usize) -> Option<u64>
-        ensures { SomeIff result (index < length self.now.counts) (value_of (grain self.now) index) }
+        ensures value { SomeIff result (index < length self.now.counts) (value_of (grain self.now) index) }
+        ensures bin { IfSome result (λ v. bin_of (grain self.now) v ≡ index) }
+        ensures within { IfSome result (λ v. v ≤ reach self.now) }
     {
         if index < self.counts.len() {
             Some(self.class_value(index))

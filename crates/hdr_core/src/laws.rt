@@ -1,17 +1,22 @@
 //! Laws over the definitions, each the contract of a function with nothing to do.
 
-ghost use Rattle.std.specs.Prelude.{◌≡◌, ◌↔◌, ℕ, ◌+◌, ◌-◌, ◌/◌, ◌^◌, ◌<◌, ◌≤◌, Bool, true, List, [], ◌∷◌, ◌++◌, length, sum, replicate, slice_index, Contains, MatchOption};
-ghost use Rattle.hdr_base.specs.Classes.{IsFiner};
+ghost use Rattle.std.specs.Prelude.{◌≡◌, ◌↔◌, ℕ, ◌+◌, ◌-◌, ◌/◌, ◌^◌, ◌<◌, ◌≤◌, Bool, true, List, [], ◌∷◌, ◌++◌, length, map, sum, replicate, slice_index, Contains, MatchOption};
+ghost use Rattle.hdr_base.specs.Classes.{IsFiner, top_of};
 ghost use Rattle.hdr_base.specs.Fractions.{Ratio};
 ghost use Rattle.hdr_counts.specs.Blocks.{IsFirstToReach};
 ghost use Rattle.hdr_core.specs.Plain.{Plain, IsPlain, grain, empty_plain};
 ghost use Rattle.hdr_core.specs.Recording.{recorded, clamped, cleared, restarted, spread};
 ghost use Rattle.hdr_core.specs.Samples.{StandsFor, Fits};
-ghost use Rattle.hdr_core.specs.Ranks.{ranked_sample, first_reaching, quantile_of, IsTopNear};
+ghost use Rattle.hdr_core.specs.Ranks.{ranked_sample, first_reaching, quantile_of, quantiles_of, IsAscending, IsTopNear};
 ghost use Rattle.hdr_core.specs.Missing.{missing, IsMissing, each, corrected, merged_corrected, corrected_samples};
+ghost use Rattle.hdr_core.specs.Statistics.{share_below, IsAtMost};
 ghost use Rattle.hdr_core.specs.Merging.{merged};
+ghost use Rattle.hdr_core.specs.Calls.{after_call, State, StandsAt, CallTo, IsCallOf};
+ghost use Rattle.hdr_core.specs.declared.call.Call.{Call};
 ghost use Rattle.hdr_core.specs.Subtracting.{IsDifference};
 ghost use Rattle.hdr_core.specs.Equality.{same_plain, IsSame};
+
+use hdr_base::Counter;
 
 /// The missing values are those an interval apart below a value that are at least the interval, and how many.
 pub fn missing_values()
@@ -30,6 +35,18 @@ pub fn quantile_is_ranked()
         → IsTopNear h (ranked_sample q S) (quantile_of h q) }
 {}
 
+/// Quantiles in ascending order are answered each by its own answer, in empty and in full histograms too.
+pub fn ascending_quantiles()
+    ensures { (h : Plain) (qs : List Ratio) → IsAscending qs → quantiles_of h qs ≡ map (quantile_of h) qs }
+{}
+
+/// For at least one sample and a quantile from above 0 to 1: the quantile lies in the classes up to that of a value exactly
+/// where it is at most the share of the samples there.
+pub fn quantile_and_share()
+    ensures { (greatest : ℕ) (h : Plain) (q : Ratio) (v : ℕ) (S : List ℕ) → IsPlain greatest h → StandsFor h S → 0 < length S → 0 < q.num → q.num ≤ q.den
+        → (quantile_of h q ≤ top_of (grain h) v) ↔ IsAtMost q (share_below h v) }
+{}
+
 /// What recording a value does to the samples that a histogram stands for.
 pub fn recording_stands()
     ensures recorded { (greatest : ℕ) (h : Plain) (v n : ℕ) (S : List ℕ) → v < 2 ^ 64 → IsPlain greatest h → StandsFor h S
@@ -38,6 +55,11 @@ pub fn recording_stands()
         → Fits greatest (grain h) (S ++ replicate n (clamped h v)) → StandsFor (recorded greatest h (clamped h v) n) (S ++ replicate n (clamped h v)) }
     ensures corrected { (greatest : ℕ) (h : Plain) (v n i : ℕ) (S : List ℕ) → v < 2 ^ 64 → 1 ≤ greatest → IsPlain greatest h → StandsFor h S
         → Fits greatest (grain h) (S ++ spread (each n (v ∷ missing v i))) → StandsFor (corrected greatest h v n i) (S ++ spread (each n (v ∷ missing v i))) }
+{}
+
+/// The numbers of a histogram that stands for samples sum to how many there are.
+pub fn samples_are_counted()
+    ensures { (greatest : ℕ) (h : Plain) (S : List ℕ) → IsPlain greatest h → StandsFor h S → sum h.counts ≡ length S }
 {}
 
 /// A new histogram stands for no samples, and so does one that was cleared or reset.
@@ -54,6 +76,22 @@ pub fn adding_stands()
         → IsFiner (grain s) (grain h) → Fits greatest (grain h) (S ++ L) → StandsFor (merged greatest h s) (S ++ L) }
     ensures corrected { (greatest most : ℕ) (h s : Plain) (i : ℕ) (S L : List ℕ) → 1 ≤ greatest → IsPlain greatest h → IsPlain most s → StandsFor h S → StandsFor s L
         → Fits greatest (grain h) (S ++ corrected_samples (grain s) i L) → StandsFor (merged_corrected greatest h s i) (S ++ corrected_samples (grain s) i L) }
+{}
+
+/// A sum is a histogram again, with the classes of the one that was added to; of any source, full counters included.
+pub fn adding_keeps()
+    ensures merged { (greatest most : ℕ) (h s : Plain) → 1 ≤ greatest → IsPlain greatest h → IsPlain most s → IsPlain greatest (merged greatest h s) }
+    ensures merged_classes { (greatest most : ℕ) (h s : Plain) → IsPlain most s → grain (merged greatest h s) ≡ grain h }
+    ensures corrected { (greatest most : ℕ) (h s : Plain) (i : ℕ) → 1 ≤ greatest → IsPlain greatest h → IsPlain most s → IsPlain greatest (merged_corrected greatest h s i) }
+    ensures corrected_classes { (greatest : ℕ) (h s : Plain) (i : ℕ) → grain (merged_corrected greatest h s i) ≡ grain h }
+{}
+
+/// What a call makes of a histogram is one again, with its classes, and stands for what the call makes of the samples.
+pub fn calls_stand<T: Counter>()
+    ensures plain { (most : ℕ) (h : Plain) (call : Call T) → IsCallOf most call → IsPlain T.greatest h → IsPlain T.greatest (after_call T.greatest T.number call h) }
+    ensures classes { (most : ℕ) (h : Plain) (call : Call T) → IsCallOf most call → grain (after_call T.greatest T.number call h) ≡ grain h }
+    ensures samples { (most : ℕ) (h : Plain) (call : Call T) (s t : State) → IsCallOf most call → IsPlain T.greatest h → StandsAt h s
+        → CallTo T.number (grain h) call s t → Fits T.greatest (grain h) t.samples → StandsAt (after_call T.greatest T.number call h) t }
 {}
 
 /// At one unit and as many digits a sum has the same numbers in either order.

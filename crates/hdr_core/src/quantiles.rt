@@ -1,8 +1,8 @@
 //! Quantiles of what was recorded.
 
-ghost use Rattle.std.specs.Prelude.{◌≡◌, ℕ, ◌+◌, ◌^◌, ◌<◌, ◌≤◌, List, IfSome, length};
+ghost use Rattle.std.specs.Prelude.{◌≡◌, ℕ, ◌+◌, ◌^◌, ◌<◌, ◌≤◌, List, IfSome, MatchOption, length, sum};
 ghost use Rattle.hdr_base.specs.Classes.{bucket};
-ghost use Rattle.hdr_counts.specs.Blocks.{looks};
+ghost use Rattle.hdr_counts.specs.Blocks.{looks, IsFirstToReach};
 ghost use Rattle.hdr_core.specs.Plain.{grain, block_of};
 ghost use Rattle.hdr_core.specs.Samples.{StandsFor};
 ghost use Rattle.hdr_core.specs.Ranks.{rank, ranked_sample, first_reaching, answer_at, quantile_of, IsTopNear, hundredth};
@@ -72,6 +72,15 @@ impl<T: Counter> Histogram<T> {
         self.counts.find(rank, ticks)
     }
 
+    /// What the first class that reaches a rank answers to a quantile of that numerator.
+    pub(crate) fn answer_found(&self, num: u64, rank: u64, place: Option<usize>) -> u64
+        requires some { 1 ≤ rank }
+        requires first { MatchOption place (sum self.now.counts < rank) (IsFirstToReach self.now.counts rank) }
+        ensures { result ≡ answer_at (grain self.now) num (first_reaching self.now.counts rank) }
+    {
+        self.answer(num, place)
+    }
+
     /// What a class answers to a quantile of that numerator.
     fn answer(&self, num: u64, place: Option<usize>) -> u64
         requires { IfSome place (λ i. i < length self.now.counts) }
@@ -86,7 +95,7 @@ impl<T: Counter> Histogram<T> {
 }
 
 /// The place of the share `num / whole` among so many samples, from 1.
-fn rank_of(num: u64, whole: u128, total: u64) -> u64
+pub(crate) fn rank_of(num: u64, whole: u128, total: u64) -> u64
     requires { 0 < whole }
     ensures value { result ≡ rank (record { num = num; den = whole }) total }
     ensures at_least_one { 1 ≤ result }

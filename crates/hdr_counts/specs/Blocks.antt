@@ -16,6 +16,11 @@ abbrev pub IsFirstToReach : List ℕ → ℕ → ℕ → Type 0
 IsFirstToReach numbers rank i =
     (i < length numbers) × (sum_below numbers i < rank) × (rank ≤ sum_below numbers (i + 1))
 
+-- numbers that are searched for ranks that do not fall, and the sum of those that were passed over
+pub record Searched : Type 0 where
+  pub numbers : List ℕ
+  pub passed : ℕ
+
 -- how many sums and numbers are looked at to find a place: the sum of each block up to and with the place's, and each
 -- number of that block up to and with the place; the sum of each block where there is no place
 abbrev pub looks : ℕ → ℕ → Option ℕ → ℕ

@@ -9,6 +9,7 @@ ghost use Rattle.hdr_counts.specs.Blocks.{Blocks, sum_below, IsFirstToReach, loo
 
 use adding::{add_blocks, sum_of};
 use hdr_base::{Counter, Ticks};
+pub use search::Search;
 use search::{first_reaching, first_reaching_looked, look};
 use std::alloc::{AllocError, Global};
 use std::marker::Model;
@@ -175,16 +176,35 @@ impl<T: Counter> Counts<T> {
         requires { 1 ≤ rank }
         ensures { MatchOption result (sum self.now.numbers < rank) (IsFirstToReach self.now.numbers rank) }
     {
-        let mut rest = rank;
-        for (k, sum) in self.sums.iter().enumerate() {
-            if *sum >= u128::from(rest) {
-                let from = k * self.block;
-                let place = first_reaching(&self.counters[from..from + self.block], rest, *sum)?;
-                return Some(from + place);
-            }
-            rest -= *sum as u64;
+        Search::new(self).first_reaching(rank)
+    }
+
+    /// The sum of a block; `None` past the blocks.
+    fn block_sum(&self, k: usize) -> Option<u128>
+        ensures sum { MatchOption result (length self.now.numbers ≤ k * self.now.block)
+            (λ s. (sum_below self.now.numbers (k * self.now.block) + s ≡ sum_below self.now.numbers ((k + 1) * self.now.block)) × ((k + 1) * self.now.block ≤ length self.now.numbers)) }
+        ensures inside { IfSome result (λ _. k < length self.now.numbers) }
+        ensures few { length self.now.numbers ≤ 6291456 }
+    {
+        if k < self.sums.len() {
+            Some(self.sums[k])
+        } else {
+            None
         }
-        None
+    }
+
+    /// The place where the sum up to and with it reaches `rest` more than the sum before a block, in a block that does.
+    fn first_in_block(&self, k: usize, rest: u64) -> usize
+        requires some { 1 ≤ rest }
+        requires within { (k + 1) * self.now.block ≤ length self.now.numbers }
+        requires reached { sum_below self.now.numbers (k * self.now.block) + rest ≤ sum_below self.now.numbers ((k + 1) * self.now.block) }
+        ensures { IsFirstToReach self.now.numbers (sum_below self.now.numbers (k * self.now.block) + rest) result }
+    {
+        let from = k * self.block;
+        match first_reaching(&self.counters[from..from + self.block], rest, self.sums[k]) {
+            Some(place) => from + place,
+            None => from,
+        }
     }
 
     /// The last place of a counter above 0.

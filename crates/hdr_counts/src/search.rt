@@ -3,7 +3,61 @@
 ghost use Rattle.std.specs.Prelude.{◌≡◌, ℕ, ◌+◌, ◌-◌, ◌*◌, ◌^◌, ◌<◌, ◌≤◌, length, take, drop, map, sum, MatchOption};
 ghost use Rattle.hdr_counts.specs.Blocks.{sum_below, IsFirstToReach};
 
+use crate::Counts;
 use hdr_base::{Counter, Ticks};
+use std::marker::Model;
+
+/// A search for ranks that do not fall: each goes on from the block where the one before was found.
+#[derive(Debug, Drop)]
+pub struct Search<'a, T: Counter> {
+    counts: &'a Counts<T>,
+    /// The block that is looked at next, and the sum of those before it.
+    block: usize,
+    before: u64,
+}
+
+impl<'a, T: Counter> Model for Search<'a, T> {
+    ghost use Rattle.std.specs.Prelude.{◌≡◌, ◌*◌, ◌≤◌};
+    ghost use Rattle.hdr_counts.specs.Blocks.{Searched, sum_below};
+
+    ghost Value = { Searched };
+
+    ghost view = { λ s. record { numbers = s.counts.now.numbers; passed = s.before } };
+
+    ghost invariant = { λ s. (s.before ≡ sum_below s.counts.now.numbers (s.block * s.counts.now.block)) × (s.block ≤ 6291456) };
+}
+
+impl<'a, T: Counter> Search<'a, T> {
+    /// A search from the first counter on.
+    pub fn new(counts: &'a Counts<T>) -> Search<'a, T>
+        ensures { result ≡ record { numbers = counts.now.numbers; passed = 0 } }
+    {
+        Search {
+            counts,
+            block: 0,
+            before: 0,
+        }
+    }
+
+    /// The first place where the sum up to and with it reaches `rank`, which is above the sum that was passed over.
+    pub fn first_reaching(&mut self, rank: u64) -> Option<usize>
+        requires { self.old.passed < rank }
+        ensures numbers { self.new.numbers ≡ self.old.numbers }
+        ensures passed { self.new.passed < rank }
+        ensures place { MatchOption result (sum self.old.numbers < rank) (IsFirstToReach self.old.numbers rank) }
+    {
+        let counts = self.counts;
+        while let Some(sum) = counts.block_sum(self.block) {
+            let rest = rank - self.before;
+            if sum >= u128::from(rest) {
+                return Some(counts.first_in_block(self.block, rest));
+            }
+            self.before += sum as u64;
+            self.block += 1;
+        }
+        None
+    }
+}
 
 /// How many counters are added up at once.
 const FEW: usize = 16;

@@ -4,3 +4,10 @@ pub mod FieldLemmas
 pub mod WordLemmas
 pub mod Sinks
 pub mod Answering
+pub mod Running
+pub mod Logging
+pub mod LogThenMerges
+pub mod Joined
+pub mod Ended
+pub mod LineCalls
+pub mod WholeWay

@@ -21,7 +21,7 @@ appends_kept (Some o) None n xs p k = absurd p
 appends_kept (Some o) (Some m) None xs p k = absurd k
 appends_kept (Some o) (Some m) (Some n) xs p k = k ∙ p
 
-append_nothing : (xs : List ℕ) → xs ++ [] ≡ xs
+pub append_nothing : (xs : List ℕ) → xs ++ [] ≡ xs
 append_nothing [] = refl
 append_nothing (x ∷ xs) = ap (λ t. x ∷ t) (append_nothing xs)
 

@@ -5,8 +5,10 @@ use Rattle.hdr_core.specs.declared.call.CallError.{CallError}
 use Rattle.hdr_core.specs.declared.call.CallError.TheVariants as call
 use Rattle.hdr_core.specs.declared.errors.RecordError.TheVariants as record_error
 use Rattle.hdr_core.specs.declared.errors.AdditionError.TheVariants as addition_error
+use Rattle.hdrhistogram.specs.declared.serialization.errors.DeserializeError.{DeserializeError}
+use Rattle.hdrhistogram.specs.declared.serialization.errors.DeserializeError.TheVariants as deserialize_error
 use Rattle.hdr_tool.specs.declared.fault.Fault.{Fault}
-use Rattle.hdr_tool.specs.declared.fault.Fault.TheVariants.{WrongWords, NotACommand, Refused, NoMemory, CannotRead, CannotWrite}
+use Rattle.hdr_tool.specs.declared.fault.Fault.TheVariants.{WrongWords, NotACommand, Refused, NotWritten, NotALog, NotBase64, NotRead, NoMemory, CannotRead, CannotWrite}
 
 -- the fault of a call that line k asked for and that was refused
 abbrev pub refusal_at : ℕ → CallError → Fault
@@ -14,11 +16,20 @@ refusal_at k (call.Record record_error.OutOfMemory) = NoMemory
 refusal_at k (call.Addition addition_error.OutOfMemory) = NoMemory
 refusal_at k e = Refused k e
 
--- the line on standard error; the text of a refused call is the library's
+-- the fault of the interval of this number, whose bytes were refused
+abbrev pub unread_at : ℕ → DeserializeError → Fault
+unread_at k deserialize_error.OutOfMemory = NoMemory
+unread_at k e = NotRead k e
+
+-- the line on standard error; the text of a refused call, of a refused interval and of bytes that are none is the library's
 abbrev pub fault_text : Fault → Option (List ℕ)
 fault_text WrongWords = Some (codes "hdr: usage: hdr report SIGFIG Q.. | hdr log SIGFIG | hdr merge SIGFIG Q..")
 fault_text (NotACommand k) = Some (codes "hdr: line " ++ decimal k ++ codes ": not a command")
 fault_text (Refused k e) = None
+fault_text (NotWritten k e) = None
+fault_text (NotALog at) = Some (codes "hdr: log: parse error at byte " ++ decimal at)
+fault_text (NotBase64 k) = Some (codes "hdr: interval " ++ decimal k ++ codes ": not base64")
+fault_text (NotRead k e) = None
 fault_text NoMemory = Some (codes "hdr: no memory")
 fault_text CannotRead = Some (codes "hdr: cannot read the input")
 fault_text CannotWrite = Some (codes "hdr: cannot write the output")

@@ -6,3 +6,6 @@ pub mod Report
 pub mod Outcomes
 pub mod Program
 pub mod Tasks
+pub mod Commands
+pub mod Merges
+pub mod LogMerges

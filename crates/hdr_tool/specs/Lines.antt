@@ -1,8 +1,10 @@
 -- The call that a line asks for. A line has no line end.
-use Rattle.std.specs.Prelude.{ℕ, List, [], ◌∷◌, Option, Some, None, if◌then◌else◌, codes}
+use Rattle.std.specs.Prelude.{ℕ, ◌==◌, ◌&&◌, not, length, List, [], ◌∷◌, Option, Some, None, if◌then◌else◌, codes}
+use Rattle.std.specs.Option.{option_map}
 use Rattle.std.specs.Str.{bytes_eq}
 use Rattle.hdr_core.specs.declared.call.Call.{Call}
 use Rattle.hdr_core.specs.declared.call.Call.TheVariants.{Record, Clamp, Correct, Clear, Reset}
+use Rattle.hdr_log.specs.Grammar.{is_tag}
 use Rattle.hdr_tool.specs.Parts.{◌>>=◌, parts, number_of}
 
 -- the count behind a value, 1 where there is none
@@ -59,3 +61,39 @@ call_of_fields (name ∷ fields) = named name fields
 -- the call of a line, whose fields are parted by one space each
 abbrev pub call_of : List ℕ → Option (Call ℕ)
 call_of line = call_of_fields (parts 32 line)
+
+-- what a line of a log's input asks for: a call, or an interval that ends, with its start and its duration in thousandths of a
+-- second and its tag
+pub data LogCommand : Type 0 where
+  Make : Call ℕ → LogCommand
+  End : ℕ → ℕ → Option (List ℕ) → LogCommand
+
+-- the tag of a word that is not empty
+abbrev pub tag_of_word : List ℕ → Option (List ℕ)
+tag_of_word word = if not (length word == 0) && is_tag word then Some word else None
+
+-- the tag behind the times, none where there is none
+abbrev pub end_tag_of : List (List ℕ) → Option (Option (List ℕ))
+end_tag_of [] = Some None
+end_tag_of (word ∷ []) = option_map Some (tag_of_word word)
+end_tag_of _ = None
+
+-- `end START DURATION [TAG]`, behind the name
+abbrev pub end_of : List (List ℕ) → Option LogCommand
+end_of (s ∷ d ∷ rest) = do
+  start ← number_of s
+  duration ← number_of d
+  tag ← end_tag_of rest
+  Some (End start duration tag)
+end_of _ = None
+
+-- the command of a name and of the fields behind it
+unfoldable pub log_named : List ℕ → List (List ℕ) → Option LogCommand
+log_named name fields = if bytes_eq name (codes "end") then end_of fields else option_map Make (named name fields)
+
+abbrev pub log_command_of_fields : List (List ℕ) → Option LogCommand
+log_command_of_fields [] = None
+log_command_of_fields (name ∷ fields) = log_named name fields
+
+abbrev pub log_command_of : List ℕ → Option LogCommand
+log_command_of line = log_command_of_fields (parts 32 line)

@@ -1,5 +1,5 @@
 -- What a run leaves and answers.
-use Rattle.std.specs.Prelude.{◌≡◌, ℕ, List, [], ◌∷◌, ◌++◌, Option, Some, None, Result, Ok, Err}
+use Rattle.std.specs.Prelude.{◌≡◌, ◌⊎◌, ℕ, List, [], ◌∷◌, ◌++◌, Option, Some, None, Result, Ok, Err}
 use Rattle.std.specs.Io.KnownBytes.{Appends, Keeps, IsAtEnd}
 use Rattle.hdrhistogram.specs.Streams.{AppendsFront}
 use Rattle.hdr_tool.specs.declared.fault.Fault.{Fault}
@@ -24,6 +24,12 @@ abbrev pub Runs : {A B : Type 0} → (A → B → Result (List ℕ × A) Fault �
 Runs Step a [] out = out ≡ record { written = []; ended = Ok a }
 Runs {A = A} Step a (x ∷ xs) out = (r : Result (List ℕ × A) Fault) × Step a x r × GoesOn (λ b. Runs Step b xs) r out
 
+-- a text stands after some of the steps from a state over a list
+abbrev pub Begins : {A B : Type 0} → (A → B → Result (List ℕ × A) Fault → Type 0) → A → List B → List ℕ → Type 0
+Begins Step a [] text = text ≡ []
+Begins {A = A} Step a (x ∷ xs) text =
+    (text ≡ []) ⊎ ((step : List ℕ × A) × Step a x (Ok step) × ((rest : List ℕ) × Begins Step step.1 xs rest × (text ≡ step.0 ++ rest)))
+
 -- a fault by name is one that the definition gives; want of memory may come in place of any answer
 abbrev pub Refuses : (Fault → Type 0) → Fault → Type 0
 Refuses P NoMemory = Unit {0}
@@ -31,15 +37,24 @@ Refuses P CannotRead = ⊥
 Refuses P CannotWrite = ⊥
 Refuses P f = P f
 
--- Ok and each fault by name are how the program P ends, and the writer gets all that P writes. Want of memory and
--- faults of the streams may come in place of any answer: nothing is written then. Where the writer itself fails, it has a
--- beginning, not all, of what P writes where it ends by no fault.
-abbrev pub Answers : (List ℕ → Option Fault → Type 0) → Option (List ℕ) → Option (List ℕ) → Result (Unit {0}) Fault → Type 0
-Answers P old new (Ok u) = (text : List ℕ) × P text None × Appends old new text
-Answers P old new (Err NoMemory) = Keeps old new
-Answers P old new (Err CannotRead) = Keeps old new
-Answers P old new (Err CannotWrite) = (text : List ℕ) × P text None × AppendsFront old new text
-Answers P old new (Err f) = (text : List ℕ) × P text (Some f) × Appends old new text
+-- a step from a state wrote what its definition says, and left the state, or it was refused: nothing was written then, but
+-- for a beginning, not all, where the writer failed
+abbrev pub StepAnswers : {A : Type 0} → (Result (List ℕ × A) Fault → Type 0) → A → Option (List ℕ) → Option (List ℕ) → Result (Unit {0}) Fault → Type 0
+StepAnswers P state old new (Ok u) = (text : List ℕ) × P (Ok (text, state)) × Appends old new text
+StepAnswers P state old new (Err NoMemory) = Keeps old new
+StepAnswers P state old new (Err CannotRead) = ⊥
+StepAnswers {A = A} P state old new (Err CannotWrite) = (step : List ℕ × A) × P (Ok step) × AppendsFront old new step.0
+StepAnswers P state old new (Err f) = P (Err f) × Keeps old new
+
+-- Ok and each fault by name are how a program ends (Ends), and the writer gets all that it writes. Want of memory may come
+-- in place of any answer, where what was written so far stands (Stands). Where the reader fails nothing is written, and where
+-- the writer itself fails, it has a beginning, not all, of what the program was writing (IsWriting).
+abbrev pub Answers : (List ℕ → Option Fault → Type 0) → (List ℕ → Type 0) → (List ℕ → Type 0) → Option (List ℕ) → Option (List ℕ) → Result (Unit {0}) Fault → Type 0
+Answers Ends Stands IsWriting old new (Ok u) = (text : List ℕ) × Ends text None × Appends old new text
+Answers Ends Stands IsWriting old new (Err NoMemory) = (text : List ℕ) × Stands text × Appends old new text
+Answers Ends Stands IsWriting old new (Err CannotRead) = Keeps old new
+Answers Ends Stands IsWriting old new (Err CannotWrite) = (text : List ℕ) × IsWriting text × AppendsFront old new text
+Answers Ends Stands IsWriting old new (Err f) = (text : List ℕ) × Ends text (Some f) × Appends old new text
 
 -- wrong words leave the input unread; else all of it is read, unless memory or the reader fails
 abbrev pub ReadsAll : Option (List ℕ) → Option (List ℕ) → Result (Unit {0}) Fault → Type 0

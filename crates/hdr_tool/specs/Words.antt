@@ -1,7 +1,10 @@
 -- What the words ask for.
 use Rattle.std.specs.Prelude.{◌≡◌, ℕ, ◌-◌, ◌==◌, ◌&&◌, nat_le, List, [], ◌∷◌, Option, Some, None, if◌then◌else◌, codes}
+use Rattle.std.specs.Option.{option_map}
 use Rattle.std.specs.Str.{bytes_eq}
 use Rattle.hdr_base.specs.Fractions.{Ratio}
+use Rattle.hdr_tool.specs.declared.words.Command.{Command}
+use Rattle.hdr_tool.specs.declared.words.Command.TheVariants as command
 use Rattle.hdr_tool.specs.declared.fault.Fault.{Fault}
 use Rattle.hdr_tool.specs.declared.fault.Fault.TheVariants.{WrongWords, NoMemory}
 use Rattle.hdr_tool.specs.Parts.{◌>>=◌, each, parted, number_of}
@@ -22,19 +25,41 @@ quantile_of_word word = do
 -- what the program is to do
 pub data Task : Type 0 where
   Report : ℕ → List Ratio → Task
+  Log : ℕ → Task
+  Merge : ℕ → List Ratio → Task
 
--- `SIGFIG Q..`, behind the word `report`, with one Q or more
-abbrev pub report_of : List (List ℕ) → Option Task
-report_of (digit ∷ word ∷ words) = do
+-- `SIGFIG Q..`, behind the word `report` or `merge`, with one Q or more
+abbrev pub figures_of : List (List ℕ) → Option (ℕ × List Ratio)
+figures_of (digit ∷ word ∷ words) = do
   sigfig ← sigfig_of digit
   quantiles ← each quantile_of_word (word ∷ words)
-  Some (Report sigfig quantiles)
-report_of _ = None
+  Some (sigfig, quantiles)
+figures_of _ = None
+
+-- `SIGFIG`, behind the word `log`
+abbrev pub log_of : List (List ℕ) → Option Task
+log_of (digit ∷ []) = option_map Log (sigfig_of digit)
+log_of _ = None
+
+-- the command that a word names
+unfoldable pub command_named : List ℕ → Option Command
+command_named name =
+    if bytes_eq name (codes "report") then Some command.Report
+    else if bytes_eq name (codes "log") then Some command.Log
+    else if bytes_eq name (codes "merge") then Some command.Merge
+    else None
+
+-- the task of a command and of the words behind it
+abbrev pub task_named : Option Command → List (List ℕ) → Option Task
+task_named None words = None
+task_named (Some command.Report) words = option_map (λ f. Report f.0 f.1) (figures_of words)
+task_named (Some command.Log) words = log_of words
+task_named (Some command.Merge) words = option_map (λ f. Merge f.0 f.1) (figures_of words)
 
 -- the task of the words, none for wrong words
 unfoldable pub task_of : List (List ℕ) → Option Task
 task_of [] = None
-task_of (name ∷ words) = if bytes_eq name (codes "report") then report_of words else None
+task_of (name ∷ words) = task_named (command_named name) words
 
 -- wrong words are refused as such, and right ones for want of memory alone
 abbrev pub RefusesWords : {A : Type 0} → Option A → Fault → Type 0

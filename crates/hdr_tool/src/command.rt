@@ -3,10 +3,15 @@
 ghost use Rattle.std.specs.Prelude.{◌≡◌};
 ghost use Rattle.std.specs.Option.{option_map};
 ghost use Rattle.hdr_tool.specs.Parts.{parts_left};
-ghost use Rattle.hdr_tool.specs.Lines.{count_of, record_of, clamp_of, correct_of, alone, named, call_of};
+ghost use Rattle.hdr_tool.specs.Lines.{count_of, record_of, clamp_of, correct_of, alone, named, call_of, tag_of_word, end_tag_of, end_of, log_named, log_command_of};
+ghost use Rattle.hdr_tool.specs.Commands.{log_command_seen};
+ghost use Rattle.std.specs.Str.{is_utf8};
+ghost use Rattle.hdr_log.specs.Tags.{tag_text};
+ghost use Rattle.hdr_log.specs.Grammar.{only_if};
 
 use crate::parts::{number, split_first};
 use hdrhistogram::Call;
+use hdrhistogram::serialization::interval_log::Tag;
 
 /// The count behind a value, 1 where nothing is left.
 fn count(left: Option<&[u8]>) -> Option<u64>
@@ -85,4 +90,72 @@ pub(crate) fn call(line: &[u8]) -> Option<Call<'static, u64>>
 {
     let (name, left) = split_first(line, b' ');
     named(name, left)
+}
+
+/// What a line of a log's input asks for.
+#[derive(Drop)]
+pub(crate) enum LogCommand<'a> {
+    /// A call.
+    Make(Call<'static, u64>),
+    /// An interval that ends: its start and its duration in thousandths of a second, and its tag.
+    End(u64, u64, Option<Tag<'a>>),
+}
+
+/// The bytes as a text, where they are UTF-8.
+fn text(bytes: &[u8]) -> Option<&str>
+    ensures { option_map (λ t. t.now) result ≡ only_if (is_utf8 bytes.now) bytes.now }
+{
+    str::from_utf8(bytes).ok()
+}
+
+/// The tag of a text that is not empty.
+fn tag(word: &[u8]) -> Option<Tag<'_>>
+    ensures { option_map tag_text result ≡ tag_of_word word.now }
+{
+    if word.is_empty() {
+        return None;
+    }
+    Tag::new(text(word)?)
+}
+
+/// `[TAG]`: the tag behind the times, if there is one.
+fn end_tag(left: Option<&[u8]>) -> Option<Option<Tag<'_>>>
+    ensures { option_map (λ tag. option_map tag_text tag) result ≡ end_tag_of (parts_left 32 (option_map (λ t. t.now) left.entry)) }
+{
+    let Some(text) = left else {
+        return Some(None);
+    };
+    let (word, left) = split_first(text, b' ');
+    if left.is_some() {
+        return None;
+    }
+    let tag = tag(word)?;
+    Some(Some(tag))
+}
+
+/// `START DURATION [TAG]`.
+fn end(left: Option<&[u8]>) -> Option<LogCommand<'_>>
+    ensures { option_map log_command_seen result ≡ end_of (parts_left 32 (option_map (λ t. t.now) left.entry)) }
+{
+    let (start, left) = split_first(left?, b' ');
+    let (duration, left) = split_first(left?, b' ');
+    let start = number(start)?;
+    let duration = number(duration)?;
+    let tag = end_tag(left)?;
+    Some(LogCommand::End(start, duration, tag))
+}
+
+/// The command that a line of a log's input asks for; `None` where the line is no command.
+#[tactic(auto, unfolding(crate::specs::Lines::log_named))]
+pub(crate) fn log_command(line: &[u8]) -> Option<LogCommand<'_>>
+    ensures { option_map log_command_seen result ≡ log_command_of line.now }
+{
+    let (name, left) = split_first(line, b' ');
+    match name {
+        b"end" => end(left),
+        _ => match named(name, left) {
+            Some(call) => Some(LogCommand::Make(call)),
+            None => None,
+        },
+    }
 }

@@ -3,6 +3,8 @@
 ghost use Rattle.std.specs.Prelude.{◌≡◌};
 
 use hdrhistogram::CallError;
+use hdrhistogram::serialization::interval_log::IntervalLogWriterError;
+use hdrhistogram::serialization::{DeserializeError, V2SerializeError};
 use std::fmt;
 
 /// Why a run is refused. Its text is the line on standard error, and takes no memory.
@@ -14,6 +16,14 @@ pub enum Fault {
     NotACommand(u64),
     /// What the line of this number asks for was refused.
     Refused(u64, CallError),
+    /// The interval that the line of this number ends was not written.
+    NotWritten(u64, IntervalLogWriterError<V2SerializeError>),
+    /// The line that begins at this byte is no line of a log.
+    NotALog(usize),
+    /// The field of the interval of this number, from 1, is no Base64.
+    NotBase64(u64),
+    /// The bytes of the interval of this number, from 1, are no histogram.
+    NotRead(u64, DeserializeError),
     /// No memory was left.
     NoMemory,
     /// The input cannot be read.
@@ -49,6 +59,10 @@ impl fmt::Display for Fault {
             ),
             Fault::NotACommand(line) => write!(f, "hdr: line {line}: not a command"),
             Fault::Refused(line, cause) => write!(f, "hdr: line {line}: {cause}"),
+            Fault::NotWritten(line, cause) => write!(f, "hdr: line {line}: {cause}"),
+            Fault::NotALog(at) => write!(f, "hdr: log: parse error at byte {at}"),
+            Fault::NotBase64(interval) => write!(f, "hdr: interval {interval}: not base64"),
+            Fault::NotRead(interval, cause) => write!(f, "hdr: interval {interval}: {cause}"),
             Fault::NoMemory => write!(f, "hdr: no memory"),
             Fault::CannotRead => write!(f, "hdr: cannot read the input"),
             Fault::CannotWrite => write!(f, "hdr: cannot write the output"),

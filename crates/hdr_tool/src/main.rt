@@ -3,7 +3,10 @@
 
 mod command;
 mod fault;
+mod laws;
 mod lines;
+mod log;
+mod merge;
 mod parts;
 #[cfg(test)]
 mod refused;

@@ -4,15 +4,17 @@ ghost use Rattle.std.specs.Prelude.{◌≡◌, ◌≢◌, ◌↔◌, ◌<◌, �
 ghost use Rattle.hdr_core.specs.Plain.{empty_plain};
 ghost use Rattle.std.specs.List.{enumerate_from};
 ghost use Rattle.hdr_tool.specs.Parts.{parts};
-ghost use Rattle.hdr_tool.specs.Words.{Report, task_of};
+ghost use Rattle.hdr_tool.specs.Words.{Report, Merge, task_of};
 ghost use Rattle.hdr_tool.specs.Tasks.{task_seen};
 ghost use Rattle.hdr_tool.specs.Faults.{refusal_at};
 ghost use Rattle.hdr_tool.specs.Outcomes.{Refuses, Answers, ReadsAll, Runs};
-ghost use Rattle.hdr_tool.specs.Program.{CallDone, LineDone, Reported, TaskDone, Program};
+ghost use Rattle.hdr_tool.specs.Program.{LineDone, Reported, TaskDone, TaskStands, TaskWrites, Program, Stands, IsWriting};
 
 use crate::command::call;
 use crate::fault::Fault;
 use crate::lines::Lines;
+use crate::log::log_lines;
+use crate::merge::add_entries;
 use crate::report::report;
 use crate::stream::{read_whole, write_whole};
 use crate::words::{Task, judge};
@@ -21,7 +23,7 @@ use std::alloc::Global;
 use std::io::{Read, Write};
 
 /// The fault of a call that a line asked for and that was refused.
-fn refusal(line: u64, cause: CallError) -> Fault
+pub(crate) fn refusal(line: u64, cause: CallError) -> Fault
     ensures value { result ≡ refusal_at line cause }
     ensures words { result ≢ Fault.WrongWords }
 {
@@ -79,7 +81,8 @@ fn write_report<W: Write>(
     writer: &mut W,
 ) -> Result<(), Fault>
     ensures words { result ≢ Err Fault.WrongWords }
-    ensures answers { Answers (Reported quantiles.now (Ok histogram.now)) (W.contents writer.old) (W.contents writer.new) result }
+    ensures answers { Answers (Reported quantiles.now (Ok histogram.now)) (λ text. text ≡ [])
+        (λ text. Reported quantiles.now (Ok histogram.now) text None) (W.contents writer.old) (W.contents writer.new) result }
 {
     let Ok(text) = report(alloc, histogram, quantiles) else {
         return Err(Fault::NoMemory);
@@ -97,9 +100,30 @@ fn report_lines<W: Write>(
 ) -> Result<(), Fault>
     requires { length input.now + 2 < 2 ^ 64 }
     ensures words { result ≢ Err Fault.WrongWords }
-    ensures answers { Answers (TaskDone (Some (Report sigfig quantiles.now)) input.now) (W.contents writer.old) (W.contents writer.new) result }
+    ensures answers { Answers (TaskDone (Some (Report sigfig quantiles.now)) input.now) (TaskStands (Some (Report sigfig quantiles.now)) input.now)
+        (TaskWrites (Some (Report sigfig quantiles.now)) input.now) (W.contents writer.old) (W.contents writer.new) result }
 {
     let histogram = match apply_lines(alloc, sigfig, input) {
+        Ok(histogram) => histogram,
+        Err(fault) => return Err(fault),
+    };
+    write_report(alloc, &histogram, quantiles, writer)
+}
+
+/// Writes the report of a log, where nothing of it is refused.
+fn report_log<W: Write>(
+    alloc: Global,
+    sigfig: u8,
+    quantiles: &[Quantile],
+    input: &[u8],
+    writer: &mut W,
+) -> Result<(), Fault>
+    requires { length input.now + 2 < 2 ^ 64 }
+    ensures words { result ≢ Err Fault.WrongWords }
+    ensures answers { Answers (TaskDone (Some (Merge sigfig quantiles.now)) input.now) (TaskStands (Some (Merge sigfig quantiles.now)) input.now)
+        (TaskWrites (Some (Merge sigfig quantiles.now)) input.now) (W.contents writer.old) (W.contents writer.new) result }
+{
+    let histogram = match add_entries(alloc, sigfig, input) {
         Ok(histogram) => histogram,
         Err(fault) => return Err(fault),
     };
@@ -110,12 +134,25 @@ fn report_lines<W: Write>(
 fn do_task<W: Write>(alloc: Global, task: &Task, input: &[u8], writer: &mut W) -> Result<(), Fault>
     requires { length input.now + 2 < 2 ^ 64 }
     ensures words { result ≢ Err Fault.WrongWords }
-    ensures answers { Answers (TaskDone (Some (task_seen task.now)) input.now) (W.contents writer.old) (W.contents writer.new) result }
+    ensures answers { Answers (TaskDone (Some (task_seen task.now)) input.now) (TaskStands (Some (task_seen task.now)) input.now)
+        (TaskWrites (Some (task_seen task.now)) input.now) (W.contents writer.old) (W.contents writer.new) result }
 {
     match task {
-        Task::Report(sigfig, quantiles) => {
-            report_lines(alloc, *sigfig, quantiles.as_slice(), input, writer)
-        }
+        Task::Report(sigfig, quantiles) => report_lines(
+            alloc,
+            *sigfig,
+            quantiles.as_slice(),
+            input,
+            writer,
+        ),
+        Task::Log(sigfig) => log_lines(alloc, *sigfig, input, writer),
+        Task::Merge(sigfig, quantiles) => report_log(
+            alloc,
+            *sigfig,
+            quantiles.as_slice(),
+            input,
+            writer,
+        ),
     }
 }
 
@@ -128,7 +165,8 @@ pub fn run<R: Read, W: Write>(
     writer: &mut W,
 ) -> Result<(), Fault>
     ensures answers { (input : List ℕ) × IfSome (R.remaining reader.old) (λ bytes. input ≡ bytes)
-        × Answers (Program (map string_bytes words.now) input) (W.contents writer.old) (W.contents writer.new) result }
+        × Answers (Program (map string_bytes words.now) input) (Stands (map string_bytes words.now) input)
+        (IsWriting (map string_bytes words.now) input) (W.contents writer.old) (W.contents writer.new) result }
     ensures reads { ReadsAll (R.remaining reader.old) (R.remaining reader.new) result }
     ensures wrong_words { (result ≡ Err Fault.WrongWords) ↔ (task_of (map string_bytes words.now) ≡ None) }
 {

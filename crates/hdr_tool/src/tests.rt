@@ -198,8 +198,11 @@ fn wrong_words(rt: HostRuntime) -> Result<(), Fail> {
         "report 3 1/0",
         "report 3 1/2 2",
         "report 3 -1/2",
-        "log 3",
-        "merge 3 1/2",
+        "log",
+        "log 6",
+        "log 3 1/2",
+        "merge 3",
+        "merge 6 1/2",
         "report 3 1/18446744073709551616",
         "Report 3 1/2",
     ] {
@@ -288,4 +291,57 @@ fn interruptions_pass(rt: HostRuntime) -> Result<(), Fail> {
     assert!(rt; ran.is_ok());
     assert_eq!(rt; sink.text(), SMALL_OUTPUT.as_bytes());
     Ok(())
+}
+
+#[test]
+fn logs(rt: HostRuntime) -> Result<(), Fail> {
+    let line =
+        "Tag=a,0.000,1.000,2.000,HISTEwAAAAMAAAAAAAAAAwAAAAAAAAABAAAAAAAAAAI/8AAAAAAAAAACCA==\n";
+    let text = told(rt.alloc(), "log 3", b"r 1\nr 2 4\nend 0 1000 a\n")?;
+    assert_eq!(rt; text.as_str(), line);
+    let text = told(
+        rt.alloc(),
+        "log 3",
+        b"r 1\nr 2 4\nend 0 1000 a\nend 0 0 a,b\n",
+    )?;
+    assert!(rt; text.as_str().starts_with(line));
+    assert!(rt; text.as_str().ends_with("1 hdr: line 4: not a command"));
+    let text = told(rt.alloc(), "log 3", b"r 1 9223372036854775808\nend 0 0\n")?;
+    assert_eq!(rt;
+        text.as_str(),
+        "1 hdr: line 2: Histogram serialization failed: A count above i64::MAX cannot be zig-zag encoded"
+    );
+    Ok(())
+}
+
+#[test]
+fn merges(rt: HostRuntime) -> Result<(), Fail> {
+    let table = [
+        (
+            b"".as_slice(),
+            "len 0\n3/10 0\nv2 1c849313000000010000000000000003000000000000000100000000000000023ff000000000000000\n",
+        ),
+        (
+            b"#c\n#[BaseTime: 1.0 x\n".as_slice(),
+            "len 0\n3/10 0\nv2 1c849313000000010000000000000003000000000000000100000000000000023ff000000000000000\n",
+        ),
+        (
+            b"0.0,1.0,1.0,HIST!\n".as_slice(),
+            "1 hdr: interval 1: not base64",
+        ),
+        (b"#c\n1.0\n".as_slice(), "1 hdr: log: parse error at byte 3"),
+    ];
+    for (input, wanted) in table {
+        let text = told(rt.alloc(), "merge 3 3/10", input)?;
+        assert_eq!(rt; text.as_str(), wanted);
+    }
+    Ok(())
+}
+
+#[test]
+fn law_calls(_rt: HostRuntime) {
+    crate::laws::ends_stand();
+    crate::laws::log_then_merge();
+    crate::laws::joined_stands();
+    crate::laws::log_merge_stands();
 }

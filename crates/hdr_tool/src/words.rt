@@ -1,9 +1,11 @@
 //! What the words ask for.
 
 ghost use Rattle.std.specs.Prelude.{◌≡◌, map, is_some, Some, string_bytes, MatchResult};
+ghost use Rattle.std.specs.Option.{option_map};
 ghost use Rattle.std.specs.List.{list_all};
+ghost use Rattle.std.specs.Str.{bytes_eq};
 ghost use Rattle.hdr_tool.specs.Parts.{each};
-ghost use Rattle.hdr_tool.specs.Words.{sigfig_of, quantile_of_word, report_of, task_of, RefusesWords};
+ghost use Rattle.hdr_tool.specs.Words.{sigfig_of, quantile_of_word, figures_of, log_of, command_named, task_of, RefusesWords};
 ghost use Rattle.hdr_tool.specs.Tasks.{task_seen};
 
 use crate::fault::Fault;
@@ -11,11 +13,23 @@ use crate::parts::{number, split_once};
 use hdrhistogram::Quantile;
 use std::alloc::Global;
 
+/// The commands of the program.
+#[derive(Clone, Copy, Debug, PartialEq, Eq)]
+enum Command {
+    Report,
+    Log,
+    Merge,
+}
+
 /// What the program is to do.
 #[derive(Drop)]
 pub(crate) enum Task {
     /// Report these quantiles, by a histogram of so many digits.
     Report(u8, Vec<Quantile>),
+    /// Write a log, by a histogram of so many digits.
+    Log(u8),
+    /// Report these quantiles of a log, by a histogram of so many digits.
+    Merge(u8, Vec<Quantile>),
 }
 
 fn sigfig(word: &[u8]) -> Option<u8>
@@ -65,11 +79,11 @@ fn quantiles(alloc: Global, words: &[String]) -> Result<Vec<Quantile>, Fault>
     Ok(quantiles)
 }
 
-/// The report of the words behind the word `report`.
-fn report(alloc: Global, words: &[String]) -> Result<Task, Fault>
+/// The digits and the quantiles of the words behind the word `report` or `merge`.
+fn figures(alloc: Global, words: &[String]) -> Result<(u8, Vec<Quantile>), Fault>
     ensures { MatchResult result
-        (λ task. report_of (map string_bytes words.now) ≡ Some (task_seen task))
-        (RefusesWords (report_of (map string_bytes words.now))) }
+        (λ f. figures_of (map string_bytes words.now) ≡ Some (f.0, f.1.items))
+        (RefusesWords (figures_of (map string_bytes words.now))) }
 {
     let Some((digit, words)) = words.split_first() else {
         return Err(Fault::WrongWords);
@@ -81,8 +95,44 @@ fn report(alloc: Global, words: &[String]) -> Result<Task, Fault>
         return Err(Fault::WrongWords);
     }
     match quantiles(alloc, words) {
-        Ok(quantiles) => Ok(Task::Report(sigfig, quantiles)),
+        Ok(quantiles) => Ok((sigfig, quantiles)),
         Err(fault) => Err(fault),
+    }
+}
+
+/// The digits of the words behind the word `log`.
+fn log(words: &[String]) -> Option<Task>
+    ensures { option_map task_seen result ≡ log_of (map string_bytes words.now) }
+{
+    let [digit] = words else {
+        return None;
+    };
+    match sigfig(digit.as_bytes()) {
+        Some(sigfig) => Some(Task::Log(sigfig)),
+        None => None,
+    }
+}
+
+/// Whether a word is this one.
+fn is_word(word: &[u8], name: &[u8]) -> bool
+    ensures { result ≡ bytes_eq word.now name.now }
+{
+    word == name
+}
+
+/// The command that a word names.
+#[tactic(auto, unfolding(crate::specs::Words::command_named))]
+fn named(word: &[u8]) -> Option<Command>
+    ensures { result ≡ command_named word.now }
+{
+    if is_word(word, b"report") {
+        Some(Command::Report)
+    } else if is_word(word, b"log") {
+        Some(Command::Log)
+    } else if is_word(word, b"merge") {
+        Some(Command::Merge)
+    } else {
+        None
     }
 }
 
@@ -96,8 +146,18 @@ pub(crate) fn judge(alloc: Global, words: &[String]) -> Result<Task, Fault>
     let Some((name, words)) = words.split_first() else {
         return Err(Fault::WrongWords);
     };
-    match name.as_bytes() {
-        b"report" => report(alloc, words),
-        _ => Err(Fault::WrongWords),
+    let Some(command) = named(name.as_bytes()) else {
+        return Err(Fault::WrongWords);
+    };
+    match command {
+        Command::Report => match figures(alloc, words) {
+            Ok((sigfig, quantiles)) => Ok(Task::Report(sigfig, quantiles)),
+            Err(fault) => Err(fault),
+        },
+        Command::Log => log(words).ok_or(Fault::WrongWords),
+        Command::Merge => match figures(alloc, words) {
+            Ok((sigfig, quantiles)) => Ok(Task::Merge(sigfig, quantiles)),
+            Err(fault) => Err(fault),
+        },
     }
 }

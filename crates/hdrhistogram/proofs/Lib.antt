@@ -4,3 +4,15 @@ pub mod PlainFacts
 pub mod Payloads
 pub mod V2Text
 pub mod Telling
+pub mod V2Bytes
+pub mod Readers
+pub mod Partings
+pub mod ReadBack
+pub mod V2Reading
+pub mod HeaderRead
+pub mod Restated
+pub mod Filling
+pub mod SpellingsRead
+pub mod LogTexts
+pub mod LogStartTexts
+pub mod ReadBackStands

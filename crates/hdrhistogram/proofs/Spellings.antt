@@ -36,7 +36,7 @@ unfolding IsSpelling
 some_byte left [] p = absurd p
 some_byte left (c ∷ a) p = omega arith
 
-nothing_spelled : (left : ℕ) → spelled left [] ≡ 0
+pub nothing_spelled : (left : ℕ) → spelled left [] ≡ 0
 unfolding spelled
 nothing_spelled left = refl
 

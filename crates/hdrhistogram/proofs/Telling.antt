@@ -140,7 +140,7 @@ low-below low =
     let p = λ (u : ℕ). ltb low (2 ^ (u + 1)) in
     ltb-to _ _ (least_from-passes p low 0 low (omega arith) (omega arith) (ltb-from _ _ (omega (arith, below_own_power low, pow_mono_le low (low + 1) (omega arith)))))
 
-low-fits : (greatest : ℕ) (h : Plain) → IsPlain greatest h → h.low < 2 ^ 64
+pub low-fits : (greatest : ℕ) (h : Plain) → IsPlain greatest h → h.low < 2 ^ 64
 low-fits greatest h p = omega (arith, low-below h.low, pow_mono_le (unit_of h.low + 1) 64 (omega (arith, p.scale.fits, digits-pos h.sigfig)))
 
 same_length : (f g : ℕ) (h k : Plain) → IsPlain f h → IsPlain g k → h.low ≡ k.low → h.high ≡ k.high → h.sigfig ≡ k.sigfig → length h.counts ≡ length k.counts

@@ -75,7 +75,7 @@ set_parts out place y h =
 drop_more : (out old : List ℕ) (place : ℕ) → drop place out ≡ drop place old → drop (place + 1) out ≡ drop (place + 1) old
 drop_more out old place e = sym (drop-drop 1 place out) ∙ ap (drop 1) e ∙ drop-drop 1 place old
 
-power_next : (place : ℕ) → 2 ^ (7 * (place + 1)) ≡ 2 ^ (7 * place) * 128
+pub power_next : (place : ℕ) → 2 ^ (7 * (place + 1)) ≡ 2 ^ (7 * place) * 128
 power_next place = let e : 7 * (place + 1) ≡ 7 * place + 7 = omega arith in ap (λ k. 2 ^ k) e ∙ pow-add 2 (7 * place) 7
 
 scaled : (rest weight number next : ℕ) → rest * weight ≤ number → next ≡ weight * 128 → rest / 128 * next ≤ number

@@ -5,3 +5,10 @@ pub mod V2
 pub mod Streams
 pub mod SerializeRefusals
 pub mod Lending
+pub mod Faults
+pub mod PayloadRead
+pub mod V2Read
+pub mod HeaderView
+pub mod LogStarts
+pub mod LogLeaving
+pub mod LogWriters

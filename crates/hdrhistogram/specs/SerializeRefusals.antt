@@ -15,6 +15,13 @@ RefusesBytes h UsizeTypeTooSmall = ⊥
 RefusesBytes h (IoError e) = ⊥
 RefusesBytes h OutOfMemory = Unit {0}
 
+-- the same, and a writer's fault, whatever the writer holds
+abbrev pub RefusesNamed : Plain → V2SerializeError → Type 0
+RefusesNamed h CountNotSerializable = HasTooGreatCount h
+RefusesNamed h UsizeTypeTooSmall = ⊥
+RefusesNamed h (IoError e) = Unit {0}
+RefusesNamed h OutOfMemory = Unit {0}
+
 -- the histogram is not written: after an i/o error a beginning of its bytes stands in the writer,
 -- and any other refusal wrote nothing
 abbrev pub RefusesWriting : Plain → Option (List ℕ) → Option (List ℕ) → V2SerializeError → Type 0

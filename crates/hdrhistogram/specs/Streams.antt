@@ -1,6 +1,8 @@
 -- What writing leaves: in a buffer of the caller's, and in a writer that tells its bytes.
 use Rattle.std.specs.Prelude.{◌≡◌, ℕ, ◌<◌, ◌++◌, List, length, take, drop, Option}
-use Rattle.std.specs.Io.KnownBytes.{Appends}
+use Rattle.std.specs.Io.KnownBytes.{Appends, Consumes}
+use Rattle.hdrhistogram.specs.declared.serialization.errors.DeserializeError.{DeserializeError}
+use Rattle.hdrhistogram.specs.declared.serialization.errors.DeserializeError.TheVariants.{IoError, InvalidCookie, UnsupportedFeature, UnsuitableCounterType, InvalidParameters, UsizeTypeTooSmall, EncodedArrayTooLong, OutOfMemory}
 
 -- the first `count` bytes of a buffer are now a text of which P holds, and behind it the bytes are
 -- as before
@@ -11,3 +13,18 @@ WritesFront P old new count =
 -- known bytes grow by a beginning of the text, not by all of it
 abbrev pub AppendsFront : Option (List ℕ) → Option (List ℕ) → List ℕ → Type 0
 AppendsFront old new text = (n : ℕ) × (n < length text) × Appends old new (take n text)
+
+-- known bytes lose some bytes at their front, fewer than `limit`
+abbrev pub ConsumesFewer : Option (List ℕ) → Option (List ℕ) → ℕ → Type 0
+ConsumesFewer old new limit = (bytes : List ℕ) × (length bytes < limit) × Consumes old new bytes
+
+-- the reader failed or ended, or memory lacked
+abbrev pub IsStreamError : DeserializeError → Type 0
+IsStreamError (IoError cause) = Unit {0}
+IsStreamError OutOfMemory = Unit {0}
+IsStreamError InvalidCookie = ⊥
+IsStreamError UnsupportedFeature = ⊥
+IsStreamError UnsuitableCounterType = ⊥
+IsStreamError InvalidParameters = ⊥
+IsStreamError UsizeTypeTooSmall = ⊥
+IsStreamError EncodedArrayTooLong = ⊥

@@ -1,12 +1,18 @@
 //! Laws of the definitions that the contracts cite. Each function does nothing: its contract is the
 //! law.
 
-ghost use Rattle.std.specs.Prelude.{◌≡◌, ℕ, ◌^◌, ◌<◌, ◌≤◌, ◌++◌, List, length, All, ℤ};
-ghost use Rattle.hdr_core.specs.Plain.{Plain, IsPlain};
+ghost use Rattle.hdr_core.specs.Equality.{same_plain};
+ghost use Rattle.std.specs.Prelude.{◌≡◌, ℕ, ◌^◌, ◌<◌, ◌≤◌, ◌++◌, List, length, slice_index, All, sum, ℤ, true, Ok};
+ghost use Rattle.hdr_core.specs.Plain.{Plain, IsPlain, grain};
+ghost use Rattle.hdr_core.specs.Samples.{StandsFor};
 ghost use Rattle.hdrhistogram.specs.Varint.{Spells, IsShortest};
 ghost use Rattle.hdrhistogram.specs.ZigZag.{zig_zag, from_zig_zag};
 ghost use Rattle.hdrhistogram.specs.Payload.{Part, IsSplit, IsPayload};
 ghost use Rattle.hdrhistogram.specs.V2.{IsV2, IsWrittenAlike};
+ghost use Rattle.hdrhistogram.specs.PayloadRead.{Parted, parted, AreSpellings};
+ghost use Rattle.hdrhistogram.specs.V2Read.{v2_at, Contents, told_of, IsRestated, IsReadBack, IsReadAs};
+
+use hdr_core::laws::samples_are_counted;
 
 /// Every number of 64 bits has one canonical spelling, and no spelling is longer than nine bytes.
 pub fn one_canonical_spelling()
@@ -52,3 +58,38 @@ pub fn bytes_agree()
     ensures alike { (f g : ℕ) (h k : Plain) (a b : List ℕ) → IsPlain f h → IsPlain g k
         → IsV2 h a → IsV2 k b → a ≡ b → IsWrittenAlike h k }
 {}
+
+/// A payload is spellings and a rest that is none in one way, which is how it is cut for reading.
+pub fn one_parting()
+    ensures are { (payload : List ℕ) → AreSpellings payload (parted 8 payload).texts (parted 8 payload).rest }
+    ensures only { (payload rest : List ℕ) (texts : List (List ℕ)) → AreSpellings payload texts rest
+        → parted 8 payload ≡ record { texts = texts; rest = rest } }
+{}
+
+/// What stands behind a histogram does not change how it is read, and reading takes a front of the
+/// text. So a histogram that a reader gives is the one that the whole of its bytes begins with.
+pub fn reading_takes_a_front()
+    ensures { (greatest : ℕ) (text rest : List ℕ) (c : Contents) → v2_at greatest text ≡ Ok (c, rest)
+        → (front : List ℕ) × (text ≡ front ++ rest) × ((more : List ℕ) → v2_at greatest (front ++ more) ≡ Ok (c, more)) }
+{}
+
+/// The V2 bytes of a histogram, with anything behind them, are read for the same counters as its
+/// bounds, digits and counts, and what is behind them is left.
+pub fn bytes_read_back()
+    ensures bytes { (h : Plain) (text : List ℕ) → IsV2 h text → (i : ℕ) → slice_index text i < 256 }
+    ensures contents { (greatest : ℕ) (h : Plain) (bytes more : List ℕ) → IsPlain greatest h → IsV2 h bytes
+        → v2_at greatest (bytes ++ more) ≡ Ok (told_of h, more) }
+    ensures histogram { (greatest taken : ℕ) (h k : Plain) (bytes more : List ℕ) → IsPlain greatest h → IsV2 h bytes
+        → IsReadAs greatest (bytes ++ more) k taken → (taken ≡ length bytes) × IsReadBack h k }
+    ensures equal { (h k : Plain) → IsRestated h → IsReadBack h k → same_plain k h ≡ true }
+{}
+
+/// What was written and read again is a histogram with the same classes, and stands for the same samples.
+pub fn read_back_stands()
+    ensures plain { (greatest : ℕ) (h k : Plain) → IsPlain greatest h → IsReadBack h k → IsPlain greatest k }
+    ensures classes { (h k : Plain) → IsReadBack h k → grain k ≡ grain h }
+    ensures samples { (greatest : ℕ) (h k : Plain) (S : List ℕ) → IsPlain greatest h → IsReadBack h k → StandsFor h S
+        → StandsFor k S }
+{
+    samples_are_counted();
+}

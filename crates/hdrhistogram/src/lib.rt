@@ -5,8 +5,9 @@ pub mod laws;
 pub mod serialization;
 
 pub use hdr_core::{
-    AdditionError, Call, CallError, Counter, CreationError, Fraction, Histogram, Quantile,
-    RecordError, RunError, SubtractionError, Ticks, UsizeTypeTooSmall, errors,
+    AdditionError, Call, CallError, Counter, CreationError, Fraction, Histogram, IterationValue,
+    Quantile, RecordError, RunError, SubtractionError, Ticks, UsizeTypeTooSmall, Values, errors,
+    iterators,
 };
 
 #[cfg(test)]

@@ -1,7 +1,11 @@
 //! Histograms as bytes: the V2 encoding of HdrHistogram, uncompressed.
 
+pub mod deserializer;
 mod errors;
+mod fields;
+mod filling;
 mod header;
+pub mod interval_log;
 mod payload;
 mod serializer;
 mod streams;
@@ -9,6 +13,7 @@ pub mod v2_serializer;
 mod varint;
 mod zig_zag;
 
-pub use errors::V2SerializeError;
+pub use deserializer::Deserializer;
+pub use errors::{DeserializeError, V2SerializeError};
 pub use serializer::Serializer;
 pub use v2_serializer::V2Serializer;

@@ -1,6 +1,8 @@
 //! Bytes that were worked out by hand or by other programs, error texts, and writers that fail.
 
 mod c12;
+mod reading;
+mod logs;
 mod refused;
 mod writers;
 
@@ -11,7 +13,7 @@ ghost use Rattle.hdrhistogram.specs.V2.{IsV2};
 use crate::serialization::v2_serializer::{
     counts_array_max_encoded_size, encode_counts, varint_write, zig_zag_decode, zig_zag_encode,
 };
-use crate::serialization::{V2SerializeError, V2Serializer};
+use crate::serialization::{DeserializeError, V2SerializeError, V2Serializer};
 use crate::{Counter, Histogram, errors, laws};
 use c12::C12;
 use std::alloc::Global;
@@ -24,7 +26,7 @@ pub const FIRST_RUN: [u8; 43] = [
 ];
 
 /// Nothing, for the values of 64 bits, by three digits.
-const EMPTY: [u8; 41] = [
+pub const EMPTY: [u8; 41] = [
     0x1c, 0x84, 0x93, 0x13, 0, 0, 0, 1, 0, 0, 0, 0, 0, 0, 0, 3, 0, 0, 0, 0, 0, 0, 0, 1, 255, 255,
     255, 255, 255, 255, 255, 255, 0x3f, 0xf0, 0, 0, 0, 0, 0, 0, 0,
 ];
@@ -205,6 +207,44 @@ fn error_texts(rt: HostRuntime) -> Result<(), Fail> {
 }
 
 #[test]
+fn reading_error_texts(rt: HostRuntime) -> Result<(), Fail> {
+    let cause = || std::io::Error::from(std::io::ErrorKind::UnexpectedEof);
+    let io_text = format!(in rt.alloc(); "An i/o operation failed: {}", cause())?;
+    let rows = [
+        (DeserializeError::from(cause()), io_text.as_str()),
+        (
+            DeserializeError::InvalidCookie,
+            "The cookie (first 4 bytes) did not match that for any supported format",
+        ),
+        (
+            DeserializeError::UnsupportedFeature,
+            "The histogram uses features that this implementation doesn't support",
+        ),
+        (
+            DeserializeError::UnsuitableCounterType,
+            "A count exceeded what can be represented in the chosen counter type",
+        ),
+        (
+            DeserializeError::InvalidParameters,
+            "The serialized parameters were invalid(e.g. lowest value, highest value, etc)",
+        ),
+        (
+            DeserializeError::UsizeTypeTooSmall,
+            "The current system's pointer width cannot represent the encoded histogram",
+        ),
+        (
+            DeserializeError::EncodedArrayTooLong,
+            "The encoded array is longer than it should be for the histogram's value range",
+        ),
+        (DeserializeError::OutOfMemory, "Out of memory"),
+    ];
+    for (error, text) in rows {
+        assert_eq!(rt; error.to_string(rt.alloc())?.as_str(), text);
+    }
+    Ok(())
+}
+
+#[test]
 fn laws_and_paths(rt: HostRuntime) {
     laws::one_canonical_spelling();
     laws::spellings_end();
@@ -212,5 +252,9 @@ fn laws_and_paths(rt: HostRuntime) {
     laws::one_payload();
     laws::payload_tells_counts();
     laws::bytes_agree();
+    laws::one_parting();
+    laws::reading_takes_a_front();
+    laws::bytes_read_back();
+    laws::read_back_stands();
     assert!(rt; errors::CreationError::LowIsZero == crate::CreationError::LowIsZero);
 }

@@ -1,4 +1,4 @@
-//! Why histograms are not written.
+//! Why histograms are not written, and why bytes are not read.
 
 use std::io;
 use thiserror::Error;
@@ -32,5 +32,53 @@ impl From<io::Error> for V2SerializeError {
 
     fn from(cause: io::Error) -> V2SerializeError {
         V2SerializeError::IoError(cause)
+    }
+}
+
+/// Why bytes are not read as a histogram.
+#[derive(Debug, Drop, Error)]
+pub enum DeserializeError {
+    /// The reader failed, was interrupted, or ended inside the histogram; or the payload ends
+    /// inside a number.
+    #[error("An i/o operation failed: {0}")]
+    IoError(io::Error),
+
+    /// The first four bytes begin no format that is known.
+    #[error("The cookie (first 4 bytes) did not match that for any supported format")]
+    InvalidCookie,
+
+    /// The bytes are compressed, or their values are shifted or scaled.
+    #[error("The histogram uses features that this implementation doesn't support")]
+    UnsupportedFeature,
+
+    /// A count is above the greatest of the counter type.
+    #[error("A count exceeded what can be represented in the chosen counter type")]
+    UnsuitableCounterType,
+
+    /// No histogram has these bounds and digits.
+    #[error("The serialized parameters were invalid(e.g. lowest value, highest value, etc)")]
+    InvalidParameters,
+
+    /// A bin's number would be above the greatest `u64`.
+    #[error("The current system's pointer width cannot represent the encoded histogram")]
+    UsizeTypeTooSmall,
+
+    /// A count lies past the bins.
+    #[error("The encoded array is longer than it should be for the histogram's value range")]
+    EncodedArrayTooLong,
+
+    /// The counters or the buffer could not be had.
+    #[error("Out of memory")]
+    OutOfMemory,
+}
+
+impl From<io::Error> for DeserializeError {
+    ghost use Rattle.std.specs.Prelude.{◌≡◌};
+    ghost use Rattle.hdrhistogram.specs.declared.serialization.errors.DeserializeError.TheVariants.{IoError};
+
+    ghost from_gives = { λ cause error. error ≡ IoError cause };
+
+    fn from(cause: io::Error) -> DeserializeError {
+        DeserializeError::IoError(cause)
     }
 }

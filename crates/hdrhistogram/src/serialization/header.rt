@@ -11,10 +11,10 @@ use hdr_core::Histogram;
 pub(crate) const HEADER_LEN: usize = 40;
 
 /// The cookie of the V2 encoding, uncompressed.
-const COOKIE: u32 = 0x1c84_9313;
+pub(crate) const COOKIE: u32 = 0x1c84_9313;
 
 /// The ratio of integers to doubles, 1.0, by the bits of a float.
-const RATIO: u64 = 0x3ff0_0000_0000_0000;
+pub(crate) const RATIO: u64 = 0x3ff0_0000_0000_0000;
 
 /// Writes a number at a place, in four bytes.
 fn put_u32(buf: &mut [u8], at: usize, number: u32)

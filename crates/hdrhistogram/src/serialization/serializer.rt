@@ -1,6 +1,6 @@
 //! What writes histograms.
 
-ghost use Rattle.std.specs.Prelude.{◌≡◌, ℕ, List, length, IfOk};
+ghost use Rattle.std.specs.Prelude.{◌≡◌, ℕ, List, length, IfOk, IfErr};
 ghost use Rattle.std.specs.Io.KnownBytes.{Appends};
 ghost use Rattle.hdr_core.specs.Plain.{Plain};
 
@@ -17,6 +17,9 @@ pub trait Serializer {
     /// alone, of no counter type and of no writer.
     ghost writes: { Plain → List ℕ → Type 0 };
 
+    /// Why the histogram may be refused, whatever the writer holds.
+    ghost refuses: { Plain → Self.SerializeError → Type 0 };
+
     /// Writes the histogram whole, and gives the number of bytes written.
     fn serialize<T: Counter, W: Write>(
         &mut self,
@@ -25,5 +28,6 @@ pub trait Serializer {
     ) -> Result<usize, Self::SerializeError>
         ensures written { IfOk result (λ n. (bytes : List ℕ)
             × writes h.now bytes × (n ≡ length bytes)
-            × Appends (W.contents writer.old) (W.contents writer.new) bytes) };
+            × Appends (W.contents writer.old) (W.contents writer.new) bytes) }
+        ensures why { IfErr result (refuses h.now) };
 }

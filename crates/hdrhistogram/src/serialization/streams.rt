@@ -1,10 +1,11 @@
-//! A loop over a writer's `write`.
+//! Loops over a writer's `write` and a reader's `read`.
 
-ghost use Rattle.std.specs.Prelude.{OnOk, OnErr};
-ghost use Rattle.std.specs.Io.KnownBytes.{Appends};
-ghost use Rattle.hdrhistogram.specs.Streams.{AppendsFront};
+ghost use Rattle.std.specs.Prelude.{◌≡◌, ◌≤◌, ◌<◌, ◌+◌, ◌++◌, ℕ, List, min, length, vec_len, OnOk, OnErr, IfErr};
+ghost use Rattle.std.specs.Io.KnownBytes.{Appends, Consumes};
+ghost use Rattle.hdrhistogram.specs.Streams.{AppendsFront, ConsumesFewer, IsStreamError};
 
-use std::io::{self, ErrorKind, Write};
+use crate::serialization::errors::DeserializeError;
+use std::io::{self, ErrorKind, Read, Write};
 
 /// Writes the whole text. The first call of `write` that fails, is interrupted or takes no byte
 /// ends it with an error, and a beginning of the text then stands in the writer.
@@ -21,5 +22,51 @@ pub(crate) fn write_whole<W: Write>(writer: &mut W, text: &[u8]) -> io::Result<(
         }
         done += taken;
     }
+    Ok(())
+}
+
+/// Fills the buffer from a reader, and takes no byte behind it. The first call of `read` that
+/// fails, is interrupted or gives no byte ends it with an error.
+pub(crate) fn read_whole<R: Read>(reader: &mut R, buffer: &mut [u8]) -> io::Result<()>
+    ensures ok { OnOk result
+        (Consumes (R.remaining reader.old) (R.remaining reader.new) buffer.new) }
+    ensures err { OnErr result
+        (ConsumesFewer (R.remaining reader.old) (R.remaining reader.new) (length buffer.old)) }
+{
+    let mut done = 0;
+    while done < buffer.len() {
+        let taken = reader.read(&mut buffer[done..])?;
+        if taken == 0 {
+            return Err(io::Error::from(ErrorKind::UnexpectedEof));
+        }
+        done += taken;
+    }
+    Ok(())
+}
+
+/// How many bytes are asked for before they have come.
+const PIECE: usize = 4096;
+
+/// Reads the next of `left` bytes behind those that have come, which the buffer holds: at most
+/// 4,096 of them, so that the buffer is never longer than that past the bytes that have come.
+pub(crate) fn read_piece<R: Read>(
+    reader: &mut R,
+    buffer: &mut Vec<u8>,
+    left: usize,
+) -> Result<(), DeserializeError>
+    requires { 0 < left }
+    ensures ok { OnOk result ((bytes : List ℕ) × (length bytes ≡ min left 4096)
+        × (buffer.new.items ≡ buffer.old.items ++ bytes)
+        × Consumes (R.remaining reader.old) (R.remaining reader.new) bytes) }
+    ensures err { IfErr result (λ e. IsStreamError e
+        × ConsumesFewer (R.remaining reader.old) (R.remaining reader.new) left) }
+    ensures bounded { vec_len buffer.new ≤ vec_len buffer.old + 4096 }
+{
+    let start = buffer.len();
+    let piece = left.min(PIECE);
+    let Ok(()) = buffer.resize(start + piece, 0) else {
+        return Err(DeserializeError::OutOfMemory);
+    };
+    read_whole(reader, &mut buffer[start..])?;
     Ok(())
 }

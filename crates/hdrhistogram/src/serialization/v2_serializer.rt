@@ -4,7 +4,7 @@ ghost use Rattle.std.specs.Prelude.{◌≡◌, ◌+◌, ◌*◌, ◌^◌, ◌≤
 ghost use Rattle.std.specs.Prelude.{All, OnOk, IfOk, IfErr};
 ghost use Rattle.std.specs.Io.KnownBytes.{Appends};
 ghost use Rattle.hdrhistogram.specs.V2.{IsV2, HasTooGreatCount, written_bins};
-ghost use Rattle.hdrhistogram.specs.SerializeRefusals.{RefusesBytes, RefusesWriting};
+ghost use Rattle.hdrhistogram.specs.SerializeRefusals.{RefusesBytes, RefusesNamed, RefusesWriting};
 
 pub use crate::serialization::errors::V2SerializeError;
 use crate::serialization::header::{HEADER_LEN, write_header};
@@ -93,6 +93,8 @@ impl Serializer for V2Serializer {
 
     ghost writes = { IsV2 };
 
+    ghost refuses = { RefusesNamed };
+
     /// Writes the V2 bytes of a histogram, and gives their number. They stand in the buffer whole
     /// before the first of them is written, by single calls of `write`. A call that fails, is
     /// interrupted or takes no byte is answered as `IoError`, and a beginning of the bytes then
@@ -110,6 +112,7 @@ impl Serializer for V2Serializer {
         ensures held { OnOk result (IsV2 h.now self.new) }
         ensures refused { IfErr result (λ e. (self.new ≡ [])
             × RefusesWriting h.now (W.contents writer.old) (W.contents writer.new) e) }
+        ensures why { IfErr result (RefusesNamed h.now) }
     {
         self.fill(h)?;
         match write_whole(writer, &self.buffer[..self.len]) {

@@ -1,10 +1,14 @@
 //! Numbers as bytes of seven bits each, and a ninth of eight.
 
-ghost use Rattle.std.specs.Prelude.{List, length, ℕ, ◌≤◌};
+ghost use Rattle.std.specs.Prelude.{List, length, take, ℕ, ◌≤◌, IfSome, IfNone, IfOk, OnErr};
+ghost use Rattle.std.specs.Io.KnownBytes.{Consumes};
 ghost use Rattle.hdrhistogram.specs.Streams.{WritesFront};
-ghost use Rattle.hdrhistogram.specs.Varint.{IsShortest};
+ghost use Rattle.hdrhistogram.specs.Varint.{IsShortest, Spells};
+ghost use Rattle.hdrhistogram.specs.PayloadRead.{IsCut};
 
+use crate::serialization::streams::read_whole;
 use byteorder::{ByteOrder, LittleEndian};
+use std::io::{self, Read};
 
 /// A byte of seven bits that is below this has no high bit, so none follows it.
 const LAST_BELOW: u64 = 128;
@@ -51,4 +55,91 @@ fn write_long(n: u64, buf: &mut [u8]) -> usize
     }
     buf[8] = rest as u8;
     9
+}
+
+/// The number that is spelt at the front, and the length of its spelling; `None` where the bytes
+/// end inside it.
+#[inline]
+pub(crate) fn varint_at(bytes: &[u8]) -> Option<(u64, usize)>
+    ensures within { IfSome result (λ found. found.1 ≤ length bytes.now) }
+    ensures few { IfSome result (λ found. found.1 ≤ 9) }
+    ensures found { IfSome result (λ found. Spells (take found.1 bytes.now) found.0) }
+    ensures cut { IfNone result (IsCut bytes.now) }
+{
+    if bytes.len() < 2 {
+        return read_long(bytes);
+    }
+    let first = u64::from(bytes[0]);
+    if first < LAST_BELOW {
+        return Some((first, 1));
+    }
+    let second = u64::from(bytes[1]);
+    if second < LAST_BELOW {
+        return Some((first % 128 + 128 * second, 2));
+    }
+    read_long(bytes)
+}
+
+/// The same for a spelling of any length, byte by byte.
+#[cold]
+#[inline(never)]
+fn read_long(bytes: &[u8]) -> Option<(u64, usize)>
+    ensures within { IfSome result (λ found. found.1 ≤ length bytes.now) }
+    ensures few { IfSome result (λ found. found.1 ≤ 9) }
+    ensures found { IfSome result (λ found. Spells (take found.1 bytes.now) found.0) }
+    ensures cut { IfNone result (IsCut bytes.now) }
+{
+    let mut value = 0u64;
+    let mut weight = 1u64;
+    for (place, byte) in bytes.iter().enumerate() {
+        let byte = u64::from(*byte);
+        if place == 8 {
+            return Some((value + weight * byte, 9));
+        }
+        value += weight * (byte % 128);
+        if byte < LAST_BELOW {
+            return Some((value, place + 1));
+        }
+        weight *= 128;
+    }
+    None
+}
+
+/// The number that is spelt at the front of nine bytes or more, and the length of its spelling.
+pub fn varint_read_slice(slice: &[u8]) -> (u64, usize)
+    requires { 9 ≤ length slice.now }
+    ensures few { result.1 ≤ 9 }
+    ensures found { Spells (take result.1 slice.now) result.0 }
+{
+    match varint_at(slice) {
+        Some(found) => found,
+        None => (0, 0),
+    }
+}
+
+/// Reads a number, byte by byte, and takes no byte behind its spelling. Any spelling is taken, not
+/// the shortest alone. Where the reader fails, what it gave is no whole spelling.
+pub fn varint_read<R: Read>(reader: &mut R) -> io::Result<u64>
+    ensures ok { IfOk result (λ n. (text : List ℕ) × Spells text n
+        × Consumes (R.remaining reader.old) (R.remaining reader.new) text) }
+    ensures err { OnErr result ((bytes : List ℕ) × IsCut bytes
+        × Consumes (R.remaining reader.old) (R.remaining reader.new) bytes) }
+{
+    let mut value = 0u64;
+    let mut weight = 1u64;
+    let mut place = 0usize;
+    'bytes: loop {
+        let mut one = [0u8; 1];
+        read_whole(reader, &mut one)?;
+        let byte = u64::from(one[0]);
+        if place == 8 {
+            return Ok(value + weight * byte);
+        }
+        value += weight * (byte % 128);
+        if byte < LAST_BELOW {
+            return Ok(value);
+        }
+        weight *= 128;
+        place += 1;
+    }
 }

@@ -2,7 +2,10 @@
 //! and prints `no memory` exactly where one was refused.
 
 use crate::Histogram;
-use crate::serialization::{Serializer, V2SerializeError, V2Serializer};
+use crate::serialization::{
+    DeserializeError, Deserializer, Serializer, V2SerializeError, V2Serializer,
+};
+use crate::tests::FIRST_RUN;
 use std::test::Fail;
 
 #[test]
@@ -49,5 +52,32 @@ fn serialize(rt: HostRuntime) -> Result<(), Fail> {
         serializer.serialize(&h, &mut written)?;
     }
     assert_eq!(rt; written.len(), 41);
+    Ok(())
+}
+
+#[test]
+fn decode_slice(rt: HostRuntime) -> Result<(), Fail> {
+    let mut deserializer = Deserializer::new(rt.alloc());
+    if let Err(error) = deserializer.decode_slice::<u64>(&FIRST_RUN) {
+        assert!(rt; matches!(error, DeserializeError::OutOfMemory));
+        println!(rt; "no memory")?;
+    }
+    let (h, taken) = deserializer.decode_slice::<u64>(&FIRST_RUN)?;
+    assert_eq!(rt; (h.len(), taken), (5, 43));
+    Ok(())
+}
+
+#[test]
+fn deserialize(rt: HostRuntime) -> Result<(), Fail> {
+    let mut deserializer = Deserializer::new(rt.alloc());
+    let mut reader = FIRST_RUN.as_slice();
+    if let Err(error) = deserializer.deserialize::<u64, &[u8]>(&mut reader) {
+        assert!(rt; matches!(error, DeserializeError::OutOfMemory));
+        println!(rt; "no memory")?;
+    }
+    let mut reader = FIRST_RUN.as_slice();
+    let h = deserializer.deserialize::<u64, &[u8]>(&mut reader)?;
+    assert_eq!(rt; h.len(), 5);
+    assert!(rt; reader.is_empty());
     Ok(())
 }

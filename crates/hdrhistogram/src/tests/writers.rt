@@ -9,19 +9,19 @@ use std::test::Fail;
 
 /// What a writer does at the call that fails.
 #[derive(Clone, Copy, Debug, PartialEq, Eq)]
-enum Failure {
+pub(crate) enum Failure {
     IsInterrupted,
     TakesNothing,
 }
 
 /// Takes at most `step` bytes a call, and fails at one call, counted from 1.
 #[derive(Drop)]
-struct Slow {
-    held: Vec<u8>,
-    step: usize,
-    calls: u64,
-    fails_at: u64,
-    failure: Failure,
+pub(crate) struct Slow {
+    pub(crate) held: Vec<u8>,
+    pub(crate) step: usize,
+    pub(crate) calls: u64,
+    pub(crate) fails_at: u64,
+    pub(crate) failure: Failure,
 }
 
 impl Write for Slow {

@@ -1,6 +1,5 @@
 use Rattle.std.proofs.Common.{◌≡◌, ◌∙◌, Some, None, map, string_bytes, sym}
 use Rattle.hdr_tool.specs.Tasks.{task_seen}
-use Rattle.hdr_tool.specs.Program.{Program}
 use Rattle.hdr_tool.proofs.Answering.{some_input, words_refused, not_read, chosen, reads_all}
 use Rattle.hdr_tool.proofs.run.run.Goals as goal
 
@@ -12,7 +11,7 @@ returns-in-Err-clause-answers g c =
 pub returns-in-Err-read_whole-clause-answers : goal.returns-in-Err-read_whole-clause-answers
 returns-in-Err-read_whole-clause-answers g c =
     let i = some_input (g.R.Read.remaining c.args.reader.now) in
-    (i.0, i.1, not_read (Program (map string_bytes c.args.words.now) i.0) _ c.in-Err-read_whole.fault c.in-Err-read_whole.ensures.err)
+    (i.0, i.1, not_read (map string_bytes c.args.words.now) i.0 _ c.in-Err-read_whole.fault c.in-Err-read_whole.ensures.err)
 
 pub returns-clause-answers : goal.returns-clause-answers
 returns-clause-answers g c = (

@@ -1,4 +1,4 @@
-use Rattle.std.proofs.Common.{◌∙◌, ◌+◌, ◌*◌, length, ap}
+use Rattle.std.proofs.Common.{◌∙◌, length, ap}
 use Rattle.hdr_core.specs.Plain.{Plain}
 use Rattle.hdr_core.proofs.Bins.{blocks-of}
 use Rattle.hdr_core.proofs.histogram.Histogram.distinct_values.Goals as goal

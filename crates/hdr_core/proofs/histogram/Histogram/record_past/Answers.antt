@@ -1,4 +1,4 @@
-use Rattle.std.proofs.Common.{◌≡◌, ◌∙◌, ◌<◌, ◌≤◌, ap, sym, subst, length, arith}
+use Rattle.std.proofs.Common.{◌≡◌, ◌∙◌, ◌≤◌, ap, sym, subst, arith}
 use Rattle.hdr_base.specs.Classes.{Grain, bin_of}
 use Rattle.hdr_core.specs.Plain.{Plain, grain, reach}
 use Rattle.hdr_core.specs.Recording.{recorded, added, widened}

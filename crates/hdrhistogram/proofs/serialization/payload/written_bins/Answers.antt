@@ -1,6 +1,4 @@
-use Rattle.std.proofs.Common.{arith, ap, ◌+◌, ◌≤◌, ◌≡◌, ◌∙◌, subst, sym, unwrap_or}
-use Rattle.hdr_base.specs.Classes.{bin_of}
-use Rattle.hdr_core.specs.Plain.{grain, reach}
+use Rattle.std.proofs.Common.{arith, ap, ◌+◌, ◌≡◌, ◌∙◌, unwrap_or}
 use Rattle.hdrhistogram.proofs.serialization.payload.written_bins.Goals as goal
 
 pub returns-in-Some-clause-value : goal.returns-in-Some-clause-value

@@ -1,0 +1,10 @@
+use Rattle.std.proofs.Common.{ap, ◌∙◌, arith}
+use Rattle.hdr_core.specs.Plain.{grain}
+use Rattle.hdr_core.specs.Ranks.{answer_at}
+use Rattle.hdr_core.proofs.Firsts.{found-by-blocks}
+use Rattle.hdr_core.proofs.histogram.Histogram.answer_found.Goals as goal
+
+pub returns : goal.returns
+returns g c =
+    c.answer.ensures
+    ∙ ap (answer_at (grain c.args.self.now) c.args.num) (found-by-blocks c.args.self.now.counts c.args.rank c.args.place (omega (arith, c.requires.some)) c.requires.first)

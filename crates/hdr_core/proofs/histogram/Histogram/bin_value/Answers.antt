@@ -1,0 +1,18 @@
+use Rattle.std.proofs.Common.{◌∙◌, ◌≤◌, ap, sym, subst, length, rules, ◌<◌}
+use Rattle.hdr_base.specs.Classes.{bin_of}
+use Rattle.hdr_base.proofs.Digits.{digits-pos-of}
+use Rattle.hdr_base.proofs.Finer.{bin-value_of}
+use Rattle.hdr_core.specs.Plain.{grain, reach}
+use Rattle.hdr_core.proofs.Bins.{value-has-bin}
+use Rattle.hdr_core.proofs.histogram.Histogram.bin_value.Goals as goal
+
+pub returns-then-index-len-clause-bin : goal.returns-then-index-len-clause-bin
+returns-then-index-len-clause-bin g c =
+    let h = c.args.self.now in
+    ap (bin_of (grain h)) c.class_value.ensures ∙ bin-value_of (grain h) c.args.index (digits-pos-of h.low h.sigfig)
+
+pub returns-then-index-len-clause-within : goal.returns-then-index-len-clause-within
+returns-then-index-len-clause-within g c =
+    let h = c.args.self.now in
+    let inside : c.args.index < length h.counts = search rules in
+    subst (λ v. v ≤ reach h) (sym c.class_value.ensures) (value-has-bin g.T.Counter.greatest h c.args.index (rw c.self.view_is at c.self.invariant.plain) inside)

@@ -1,0 +1,21 @@
+use Rattle.std.proofs.Common.{◌≡◌, ◌+◌, ◌-◌, ◌^◌, min, take, sum, sym, ap, ◌∙◌, arith}
+use Rattle.hdr_core.specs.Plain.{Plain}
+use Rattle.hdr_core.specs.Statistics.{held_bin}
+use Rattle.hdr_core.proofs.Shares.{share-of-none, share-of-some, share-of-samples}
+use Rattle.hdr_core.proofs.histogram.Histogram.quantile_below.Goals as goal
+
+pub returns-then-self-eq0-clause-value : goal.returns-then-self-eq0-clause-value
+returns-then-self-eq0-clause-value g c = sym (share-of-none c.args.self.now c.args.value (sym (ap (λ (p : Plain). p.total) c.self.view_is) ∙ c.if-self-eq0.true))
+
+pub returns-clause-value : goal.returns-clause-value
+returns-clause-value g c =
+    let h = c.args.self.now in
+    let total_is : c.self.inside.total ≡ h.total = ap (λ (p : Plain). p.total) c.self.view_is in
+    let num_is : c.from.result ≡ min (sum (take (held_bin h c.args.value + 1) h.counts)) (2 ^ 64 - 1) =
+    c.from.ensures ∙ c.capped_total.ensures
+    ∙ ap (λ n. min n (2 ^ 64 - 1)) (c.sum_to-up_to.ensures ∙ ap (λ (p : Plain). sum (take (c.held_bin.result + 1) p.counts)) c.self.view_is ∙ ap (λ k. sum (take (k + 1) h.counts)) c.held_bin.ensures.value) in
+    rw (num_is, c.from-2.ensures, total_is) (sym (share-of-some h c.args.value (omega (arith, c.if-self-eq0.false, total_is))))
+
+pub returns-clause-samples : goal.returns-clause-samples
+returns-clause-samples g c = λ S stands some.
+    returns-clause-value g c ∙ share-of-samples g.T.Counter.greatest c.args.self.now c.args.value S c.held_bin.ensures.plain stands some

@@ -1,0 +1,12 @@
+use Rattle.std.proofs.Common.{List, ap, ◌∙◌, subst}
+use Rattle.hdr_base.specs.Fractions.{Ratio}
+use Rattle.hdr_core.specs.Ranks.{nothing_of_it, asked_from, quantiles_of, AreTopsNear}
+use Rattle.hdr_core.proofs.Rising.{per-one}
+use Rattle.hdr_core.proofs.histogram.Histogram.value_at_quantiles.Goals as goal
+
+pub returns-clause-value : goal.returns-clause-value
+returns-clause-value g c = c.values.ensures.value ∙ ap (quantiles_of c.args.self.now) (per-one c.args.quantiles.now)
+
+pub returns-clause-ranked : goal.returns-clause-ranked
+returns-clause-ranked g c = λ S stands some.
+    subst (λ (qs : List Ratio). AreTopsNear c.args.self.now S (asked_from c.args.self.now nothing_of_it qs) c.values.result) (per-one c.args.quantiles.now) (c.values.ensures.ranked S stands some)

@@ -1,0 +1,28 @@
+use Rattle.std.proofs.Common.{map, ap, ◌∙◌, subst, sym, arith}
+use Rattle.hdr_counts.specs.Blocks.{Searched}
+use Rattle.hdr_core.specs.Plain.{Plain}
+use Rattle.hdr_core.proofs.RankedAnswers.{rank-pos}
+use Rattle.hdr_core.specs.Ranks.{per, nothing_of_it, asked_from, AreTopsNear}
+use Rattle.hdr_core.proofs.Rising.{answers-first, answers-near}
+use Rattle.hdr_core.proofs.histogram.Histogram.values.Goals as goal
+
+pub returns-clause-value : goal.returns-clause-value
+returns-clause-value g c = answers-first c.args.self.now c.args.whole (map (per c.args.whole) c.args.shares.now)
+
+pub returns-clause-ranked : goal.returns-clause-ranked
+returns-clause-ranked g c = λ S stands some.
+    let h = c.args.self.now in
+    let qs = map (per c.args.whole) c.args.shares.now in
+    subst (AreTopsNear h S (asked_from h nothing_of_it qs)) (sym (answers-first h c.args.whole qs))
+    (answers-near g.T.Counter.greatest h S qs (rw c.self.view_is at c.self.invariant.plain) stands some)
+
+pub invariant_of-result : goal.invariant_of-result
+invariant_of-result g c = (
+  ap (λ (s : Searched). s.numbers) c.new.ensures ∙ ap (λ (p : Plain). p.counts) c.self.view_is,
+  c.requires.some,
+  c.requires.few,
+  omega arith,
+  omega arith,
+  omega arith,
+  omega (arith, ap (λ (s : Searched). s.passed) c.new.ensures, rank-pos (per c.args.whole nothing_of_it) c.args.self.now.total),
+)

@@ -1,0 +1,11 @@
+use Rattle.hdr_core.proofs.Steps.{call-plain, call-classes, call-stands}
+use Rattle.hdr_core.proofs.laws.calls_stand.Goals as goal
+
+pub returns-clause-plain : goal.returns-clause-plain
+returns-clause-plain g c = λ most h call. call-plain g.T.Counter.greatest most g.T.Counter.number h call g.met.T.Counter.one_fits
+
+pub returns-clause-classes : goal.returns-clause-classes
+returns-clause-classes g c = λ most h call. call-classes g.T.Counter.greatest most g.T.Counter.number h call
+
+pub returns-clause-samples : goal.returns-clause-samples
+returns-clause-samples g c = λ most h call s t. call-stands g.T.Counter.greatest most g.T.Counter.number h call s t g.met.T.Counter.one_fits

@@ -1,0 +1,11 @@
+pub mod Steps
+pub mod BinLists
+pub mod Places
+pub mod Fronts
+pub mod Levels
+pub mod Powers
+pub mod TickTests
+pub mod Halves
+pub mod TickLists
+pub mod TickSteps
+pub mod Rows

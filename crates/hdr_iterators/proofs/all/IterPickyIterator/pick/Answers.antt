@@ -1,0 +1,10 @@
+use Rattle.std.proofs.Common.{sym, refl, ap, ◌∙◌, arith}
+use Rattle.hdr_iterators.specs.Picks.{behind}
+use Rattle.hdr_iterators.proofs.BinLists.{all_next, all_past}
+use Rattle.hdr_iterators.proofs.all.IterPickyIterator.pick.Goals as goal
+
+pub returns-then-eq : goal.returns-then-eq
+returns-then-eq g c = λ h last e asked ahead. (e, refl, all_past h c.args.self.now.visited c.args.index (sym c.eq.ensures ∙ c.if-eq.true))
+
+pub returns : goal.returns
+returns g c = λ h last e asked ahead. (refl, rw c.new.ensures (all_next h c.args.self.now.visited c.args.index asked.inside (omega (arith, asked.in_order, ap behind e)) (sym c.eq.ensures ∙ c.if-eq.false) ahead))

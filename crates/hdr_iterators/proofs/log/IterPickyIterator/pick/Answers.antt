@@ -1,0 +1,48 @@
+use Rattle.std.proofs.Common.{◌≡◌, ◌+◌, ◌-◌, ◌<◌, ◌≤◌, true, false, cond, List, [], ◌∷◌, Some, None, leb, ◌⊎◌, sym, refl, ap, ap₂, ◌∙◌, subst, inl, inr, ⊎_elim}
+use Rattle.std.proofs.lemmas.Bool.{false≢true, cases_lt}
+use Rattle.std.proofs.lemmas.Bool.Decides.{leb_tells}
+use Rattle.hdr_iterators.specs.Seen.{bins_in, place_of}
+use Rattle.hdr_iterators.specs.Picks.{Pick, NoneBefore}
+use Rattle.hdr_iterators.specs.Places.{level_pick, log_picks}
+use Rattle.hdr_iterators.proofs.Powers.{log_behind, log_step, LogStep-next}
+use Rattle.hdr_iterators.proofs.log.IterPickyIterator.pick.Goals as goal
+use Rattle.hdr_iterators.proofs.log.IterPickyIterator.pick.Goals.{then-self-via-then-self, then-self-via-else-self+then-not-is_due}
+
+pub returns-then-self : goal.returns-then-self
+returns-then-self g c = λ h last w asked ahead.
+    let p = c.args.self.now in
+    let i = c.args.index in
+    let coming : List Pick = log_picks h p.power p.base in
+    elim c.then-self.branch [
+      | then-self-via-then-self b ↦ (w, refl, subst (λ d. NoneBefore (i + 1) (cond d [] coming)) (sym b.if-self.true) tt)
+      | then-self-via-else-self+then-not-is_due b ↦
+          let behind : i < place_of h (p.power - 1) =
+          ⊎_elim
+          (λ (lt : i < place_of h (p.power - 1)). lt)
+          (λ (ge : place_of h (p.power - 1) ≤ i).
+          let in_bins : i < bins_in p.bins = rw w.0 asked.inside in
+          let at : place_of p.bins c.saturating_sub-level.result ≤ i = rw (w.0, c.saturating_sub-level.ensures) ge in
+          absurd (false≢true (sym b.if-not-is_due.true ∙ b.is_due.ensures.1 (in_bins, at))))
+          (cases_lt i (place_of h (p.power - 1))) in
+          (w, refl, log_behind h p.power p.base i p.done w.1 behind)
+    ]
+
+pub returns : goal.returns
+returns g c = λ h last w asked ahead.
+    let p = c.args.self.now in
+    let i = c.args.index in
+    let coming : List Pick = log_picks h p.power p.base in
+    let ahead_there : NoneBefore i coming = subst (λ d. NoneBefore i (cond d [] coming)) c.if-self.false ahead in
+    let due : place_of h (p.power - 1) ≤ i = rw (w.0, c.saturating_sub-level.ensures) at (c.is_due.ensures.0 c.if-not-is_due.false).1 in
+    let told : ((leb c.last.result i ≡ true) × (h.last ≤ i)) ⊎ ((leb c.last.result i ≡ false) × (i < h.last)) =
+    ⊎_elim
+    (λ (y : (leb c.last.result i ≡ true) × (c.last.result ≤ i)). inl (y.0, rw (← w.0) (rw c.last.ensures at y.1)))
+    (λ (y : (leb c.last.result i ≡ false) × (i < c.last.result)). inr (y.0, rw (← w.0) (rw c.last.ensures at y.1)))
+    (leb_tells c.last.result i) in
+    let step = log_step h p.power p.base i c.saturating_mul-self.result (leb c.last.result i) w.1 due ahead_there c.saturating_mul-self.ensures told in
+    let rest : List Pick = cond (leb c.last.result i) [] (log_picks h c.saturating_mul-self.result p.base) in
+    let first : Pick = record { place = i; tick = None; level = Some c.saturating_sub-level.result } in
+    let placed : level_pick h (p.power - 1) ∷ rest ≡ first ∷ rest = ap₂ (λ q v. record { place = q; tick = None; level = Some v } ∷ rest) (sym step.0) (sym c.saturating_sub-level.ensures) in (
+      (w.0, LogStep-next h p.power p.base c.saturating_mul-self.result w.1 c.saturating_mul-self.ensures),
+      rw c.new.ensures (ap (λ d. cond d [] coming) c.if-self.false ∙ (step.1 ∙ placed)),
+    )

@@ -1,0 +1,71 @@
+-- What an iterator over a histogram gives: picks of bins_in, and the items that they make.
+use Rattle.std.specs.Prelude.{◌≡◌, ℕ, ◌+◌, ◌-◌, ◌<◌, ◌≤◌, List, [], ◌∷◌, slice_index, Option, Some, None, unwrap_or}
+use Rattle.hdr_base.specs.Fractions.{Ratio}
+use Rattle.hdr_base.specs.Items.{Item}
+use Rattle.hdr_iterators.specs.Seen.{Seen, bins_in, capped, below, running, top_in}
+
+-- a bin that is picked, with the tick or the level that it is picked for
+pub record Pick : Type 0 where
+  pub place : ℕ
+  pub tick : Option Ratio
+  pub level : Option ℕ
+
+-- what a picker tells of its pick beside the bin (`PickMetadata`)
+pub record Told : Type 0 where
+  pub tick : Option Ratio
+  pub level : Option ℕ
+
+-- the share of the samples up to a bin
+abbrev pub share_at : Seen → ℕ → Ratio
+share_at h i = record { num = running h i; den = h.total }
+
+-- the item of a pick, where the bins_in before `from` were counted by the items before
+abbrev pub item_of : Seen → ℕ → Pick → Item
+item_of h from p = record {
+  value = unwrap_or p.level (top_in h p.place);
+  quantile = share_at h p.place;
+  tick = unwrap_or p.tick (share_at h p.place);
+  count = slice_index h.numbers p.place;
+  since = capped (below h (p.place + 1) - below h from);
+}
+
+abbrev pub items_from : Seen → ℕ → List Pick → List Item
+items_from h from [] = []
+items_from h from (p ∷ ps) = item_of h from p ∷ items_from h (p.place + 1) ps
+
+-- the items of the picks, in their order
+abbrev pub items_of : Seen → List Pick → List Item
+items_of h ps = items_from h 0 ps
+
+-- no pick is of a bin before bin i
+abbrev pub NoneBefore : ℕ → List Pick → Type 0
+NoneBefore i [] = Unit {0}
+NoneBefore i (p ∷ ps) = (i ≤ p.place) × NoneBefore i ps
+
+-- all picks are of bins_in before bin n
+abbrev pub AllBefore : ℕ → List Pick → Type 0
+AllBefore n [] = Unit {0}
+AllBefore n (p ∷ ps) = (p.place < n) × AllBefore n ps
+
+-- the bin behind the one that was picked last
+abbrev pub behind : Option ℕ → ℕ
+behind None = 0
+behind (Some i) = i + 1
+
+-- a pick was made at the last bin that counts as recorded, or behind it
+abbrev pub IsAtEnd : Seen → Option ℕ → Type 0
+IsAtEnd h last = h.last < behind last
+
+-- what is asked at a bin is its number and the capped sum up to it, and no bin behind it was picked
+pub record IsAsked (h : Seen) (last : Option ℕ) (index total count : ℕ) : Type 0 where
+  pub in_order : behind last ≤ index + 1
+  pub inside : index < bins_in h
+  pub total_is : total ≡ running h index
+  pub count_is : count ≡ slice_index h.numbers index
+
+-- where an iterator stands: the picks to come, the bin that it asks, and the capped sums up to it
+pub record InStep (h : Seen) (picks : List Pick) (index total since count : ℕ) (last : Option ℕ) : Type 0 where
+  pub ahead : NoneBefore index picks
+  pub within : AllBefore (bins_in h) picks
+  pub asked : IsAsked h last index total count
+  pub since_is : since ≡ capped (below h (index + 1) - below h (behind last))

@@ -1,0 +1,49 @@
+-- A histogram as its iterators see it.
+use Rattle.std.specs.Prelude.{◌≡◌, ℕ, ◌+◌, ◌-◌, ◌^◌, ◌<◌, ◌≤◌, min, List, length, take, sum, slice_index}
+use Rattle.hdr_base.specs.Classes.{Grain, bin_of, value_of, top_of}
+
+-- the classes, the number of each bin, how many samples there are, and the bin of the greatest value that counts as
+-- recorded: the first where there is none
+pub record Seen : Type 0 where
+  pub grain : Grain
+  pub numbers : List ℕ
+  pub total : ℕ
+  pub last : ℕ
+
+-- a number, or the greatest u64 where it is above that
+abbrev pub capped : ℕ → ℕ
+capped n = min n (2 ^ 64 - 1)
+
+abbrev pub bins_in : Seen → ℕ
+bins_in h = length h.numbers
+
+-- the lowest and the greatest value of a bin
+abbrev pub lowest_in : Seen → ℕ → ℕ
+lowest_in h i = value_of h.grain i
+
+abbrev pub top_in : Seen → ℕ → ℕ
+top_in h i = top_of h.grain (value_of h.grain i)
+
+-- the bin of a value, or the last bin where the value lies past the bins
+abbrev pub place_of : Seen → ℕ → ℕ
+place_of h v = min (bin_of h.grain v) (bins_in h - 1)
+
+-- the sum of the numbers before bin i
+abbrev pub below : Seen → ℕ → ℕ
+below h i = sum (take i h.numbers)
+
+-- the sum of the numbers up to bin i, up to the greatest u64
+abbrev pub running : Seen → ℕ → ℕ
+running h i = capped (below h (i + 1))
+
+-- what is true of the bins_in of every histogram: they are classes of u64 values, and none behind the last holds a sample
+pub record AreBins (h : Seen) : Type 0 where
+  pub some : 0 < length h.numbers
+  pub few : length h.numbers ≤ 6291456
+  pub digits : 0 < h.grain.digits
+  pub grain_fits : h.grain.unit + h.grain.digits ≤ 63
+  pub within : length h.numbers ≤ bin_of h.grain (2 ^ 64 - 1) + 1
+  pub total_fits : h.total < 2 ^ 64
+  pub counted : capped (sum h.numbers) ≤ h.total
+  pub last_inside : h.last < length h.numbers
+  pub none_behind : (i : ℕ) → h.last < i → slice_index h.numbers i ≡ 0

@@ -1,0 +1,122 @@
+//! The bins of a histogram, as its iterators see them.
+
+ghost use Rattle.std.specs.Prelude.{◌≡◌, ℕ, ◌<◌, map, slice_index};
+ghost use Rattle.hdr_iterators.specs.Seen.{Seen, AreBins, bins_in, top_in, place_of};
+
+use hdr_base::{Counter, Scale};
+use std::marker::Model;
+
+/// What has bins: a histogram.
+pub trait Binned<T: Counter> {
+    /// The bins, as numbers.
+    ghost seen: { Self → Seen };
+
+    /// The bins.
+    fn binned(&self) -> Bins<'_, T>
+        ensures value { result ≡ seen self.now }
+        ensures plain { AreBins result };
+}
+
+/// The classes of values, a counter for each, how many samples there are, and the last bin that counts as recorded.
+#[derive(Debug, Drop)]
+pub struct Bins<'a, T: Counter> {
+    scale: Scale,
+    counters: &'a [T],
+    total: u64,
+    last: usize,
+}
+
+impl<'a, T: Counter> Model for Bins<'a, T> {
+    ghost use Rattle.std.specs.Prelude.{map};
+    ghost use Rattle.hdr_iterators.specs.Seen.{Seen, AreBins};
+
+    ghost Value = { Seen };
+
+    ghost view = { λ b. record { grain = b.scale; numbers = map T.number b.counters.now; total = b.total; last = b.last } };
+
+    ghost invariant = { λ b. AreBins (record { grain = b.scale; numbers = map T.number b.counters.now; total = b.total; last = b.last }) };
+}
+
+impl<'a, T: Counter> Bins<'a, T> {
+    /// The bins of these classes, from 0 on.
+    pub fn new(scale: Scale, counters: &'a [T], total: u64, last: usize) -> Bins<'a, T>
+        requires { AreBins (record { grain = scale; numbers = map T.number counters.now; total = total; last = last }) }
+        ensures { result ≡ record { grain = scale; numbers = map T.number counters.now; total = total; last = last } }
+    {
+        Bins {
+            scale,
+            counters,
+            total,
+            last,
+        }
+    }
+
+    /// The same bins, for a second reader.
+    pub(crate) fn same(&self) -> Bins<'a, T>
+        ensures { result ≡ self.now }
+    {
+        Bins {
+            scale: self.scale,
+            counters: self.counters,
+            total: self.total,
+            last: self.last,
+        }
+    }
+
+    /// How many bins there are.
+    pub(crate) fn len(&self) -> usize
+        ensures { result ≡ bins_in self.now }
+    {
+        self.counters.len()
+    }
+
+    /// How many samples there are.
+    pub(crate) fn total(&self) -> u64
+        ensures { result ≡ self.now.total }
+    {
+        self.total
+    }
+
+    /// The last bin that counts as recorded, or the first.
+    pub(crate) fn last(&self) -> usize
+        ensures { result ≡ self.now.last }
+    {
+        self.last
+    }
+
+    /// The counter of the first bin.
+    pub(crate) fn first(&self) -> T
+        ensures value { T.number result ≡ slice_index self.now.numbers 0 }
+        ensures some { 0 < bins_in self.now }
+    {
+        self.counters[0]
+    }
+
+    /// The counter of a bin.
+    pub(crate) fn count(&self, bin: usize) -> T
+        requires { bin < bins_in self.now }
+        ensures { T.number result ≡ slice_index self.now.numbers bin }
+    {
+        let counters = self.counters;
+        counters[bin]
+    }
+
+    /// The greatest value of a bin.
+    pub(crate) fn top(&self, bin: usize) -> u64
+        requires { bin < bins_in self.now }
+        ensures { result ≡ top_in self.now bin }
+    {
+        match self.scale.bin_value(bin) {
+            Some(value) => self.scale.top(value),
+            None => 0,
+        }
+    }
+
+    /// The bin of a value, or the last bin where the value lies past the bins.
+    pub(crate) fn place_of(&self, value: u64) -> usize
+        ensures value { result ≡ place_of self.now value }
+        ensures within { result < bins_in self.now }
+    {
+        self.scale.bin(value).min(self.counters.len() - 1)
+    }
+}

@@ -1,0 +1,208 @@
+//! The engine of the iterators, and what a picker is.
+
+ghost use Rattle.std.specs.Prelude.{◌≡◌, ℕ, ◌+◌, ◌<◌, ◌≤◌, List, [], ◌∷◌, Option, Some, None, MatchOption, IsTrue, ◌↔◌, false, unwrap_or};
+ghost use Rattle.std.specs.Iterator.{YieldsFirst, item_count};
+ghost use Rattle.hdr_base.specs.Fractions.{Ratio};
+ghost use Rattle.hdr_iterators.specs.Seen.{Seen, bins_in, top_in, place_of};
+ghost use Rattle.hdr_iterators.specs.Picks.{Pick, NoneBefore, AllBefore, IsAsked, IsAtEnd, items_of};
+
+use crate::bins::Bins;
+use hdr_base::{Counter, Fraction, IterationValue};
+use std::marker::Model;
+
+/// What a picker tells of a bin that it picks: the share that the bin is picked for, or the level.
+#[derive(Debug, Drop)]
+pub struct PickMetadata {
+    tick: Option<Fraction>,
+    level: Option<u64>,
+}
+
+impl Model for PickMetadata {
+    ghost use Rattle.hdr_iterators.specs.Picks.{Told};
+
+    ghost Value = { Told };
+
+    ghost view = { λ m. record { tick = m.tick; level = m.level } };
+}
+
+impl PickMetadata {
+    pub(crate) fn new(tick: Option<Fraction>, level: Option<u64>) -> PickMetadata
+        ensures { result ≡ record { tick = tick; level = level } }
+    {
+        PickMetadata { tick, level }
+    }
+}
+
+/// A picker: asked at each bin in turn, it gives a finite list of picks.
+pub trait PickyIterator<T: Counter>: Drop {
+    /// The picks still to come over bins.
+    ghost picks: { Self → Seen → List Pick };
+
+    /// The picker was made for these bins, and the bin given is the one that it picked last.
+    ghost goes_with: { Self → Seen → Option ℕ → Type 0 };
+
+    /// Whether to stop at a bin, which is asked again until the picker declines. `total_count_to_index` is the sum of
+    /// the counters up to the bin, up to the greatest `u64`, and `count_at_index` the bin's counter.
+    fn pick(
+        &mut self,
+        index: usize,
+        total_count_to_index: u64,
+        count_at_index: T,
+    ) -> Option<PickMetadata>
+        ensures { (h : Seen) (last : Option ℕ) → goes_with self.old h last → IsAsked h last index total_count_to_index (T.number count_at_index) → NoneBefore index (picks self.old h)
+            → MatchOption result (goes_with self.new h last × (picks self.new h ≡ picks self.old h) × NoneBefore (index + 1) (picks self.old h))
+            (λ m. goes_with self.new h (Some index) × (picks self.old h ≡ record { place = index; tick = m.tick; level = m.level } ∷ picks self.new h)) };
+
+    /// Whether more may come, once a bin was picked that is the last recorded one or lies behind it.
+    fn more(&mut self, index_to_pick: usize) -> bool
+        ensures kept { (h : Seen) (last : Option ℕ) → goes_with self.old h last → goes_with self.new h last × (picks self.new h ≡ picks self.old h) }
+        ensures end { (h : Seen) (last : Option ℕ) → goes_with self.old h last → IsAtEnd h last → result ≡ false → picks self.old h ≡ [] };
+}
+
+/// An iterator over the bins of a histogram that stops where its picker picks, seen as the list of items still to come.
+#[derive(Drop)]
+pub struct HistogramIterator<'a, T: Counter, P: PickyIterator<T>> {
+    bins: Bins<'a, T>,
+    /// The sum of the counters up to the current bin, up to the greatest `u64`.
+    total_count_to_index: u64,
+    /// The sum of those behind the bin that was picked last, likewise.
+    count_since_last_iteration: u64,
+    count_at_index: T,
+    current_index: usize,
+    last_picked_index: Option<usize>,
+    ended: bool,
+    picker: P,
+}
+
+impl<'a, T: Counter, P: PickyIterator<T>> Model for HistogramIterator<'a, T, P> {
+    ghost use Rattle.std.specs.Prelude.{List, ◌≡◌, IsTrue, []};
+    ghost use Rattle.hdr_base.specs.Items.{Item};
+    ghost use Rattle.hdr_iterators.specs.Picks.{items_from, behind, InStep};
+
+    ghost Value = { List Item };
+
+    ghost view = { λ it. items_from it.bins (behind it.last_picked_index) (P.picks it.picker it.bins) };
+
+    ghost invariant = { λ it. P.goes_with it.picker it.bins it.last_picked_index
+        × InStep it.bins (P.picks it.picker it.bins) it.current_index it.total_count_to_index it.count_since_last_iteration (T.number it.count_at_index) it.last_picked_index
+        × (IsTrue it.ended → P.picks it.picker it.bins ≡ []) };
+}
+
+impl<'a, T: Counter, P: PickyIterator<T>> HistogramIterator<'a, T, P> {
+    pub(crate) fn new(bins: Bins<'a, T>, picker: P) -> HistogramIterator<'a, T, P>
+        requires made { P.goes_with picker bins None }
+        requires within { AllBefore (bins_in bins) (P.picks picker bins) }
+        ensures { result ≡ items_of bins.entry (P.picks picker bins.entry) }
+    {
+        let count_at_index = bins.first();
+        let count = count_at_index.as_u64();
+        HistogramIterator {
+            bins,
+            total_count_to_index: count,
+            count_since_last_iteration: count,
+            count_at_index,
+            current_index: 0,
+            last_picked_index: None,
+            ended: false,
+            picker,
+        }
+    }
+}
+
+impl<'a, T: Counter, P: PickyIterator<T>> Iterator for HistogramIterator<'a, T, P> {
+    type Item = IterationValue<T>;
+
+    ghost next_gives = { YieldsFirst (λ rest. rest) };
+
+    ghost remaining = { item_count (λ rest. rest) };
+
+    fn next(&mut self) -> Option<IterationValue<T>> {
+        let len = self.bins.len();
+        while !self.ended {
+            if has_ended(
+                &mut self.picker,
+                self.last_picked_index,
+                self.bins.last(),
+                self.current_index,
+            ) {
+                self.ended = true;
+                return None;
+            }
+            if let Some(picked) = self.picker.pick(
+                self.current_index,
+                self.total_count_to_index,
+                self.count_at_index,
+            ) {
+                let value = value_at(
+                    &self.bins,
+                    self.current_index,
+                    self.total_count_to_index,
+                    self.count_at_index,
+                    self.count_since_last_iteration,
+                    picked,
+                );
+                self.count_since_last_iteration = 0;
+                self.last_picked_index = Some(self.current_index);
+                return Some(value);
+            }
+            if self.current_index + 1 == len {
+                self.ended = true;
+                return None;
+            }
+            self.current_index += 1;
+            self.count_at_index = self.bins.count(self.current_index);
+            let count = self.count_at_index.as_u64();
+            self.total_count_to_index = self.total_count_to_index.saturating_add(count);
+            self.count_since_last_iteration = self.count_since_last_iteration.saturating_add(count);
+        }
+        None
+    }
+}
+
+/// Whether a pick was made at the last recorded bin or behind it, and the picker has no more.
+fn has_ended<T: Counter, P: PickyIterator<T>>(
+    picker: &mut P,
+    last_picked_index: Option<usize>,
+    last: usize,
+    index: usize,
+) -> bool
+    ensures kept { (h : Seen) (picked : Option ℕ) → P.goes_with picker.old h picked → P.goes_with picker.new h picked × (P.picks picker.new h ≡ P.picks picker.old h) }
+    ensures end { (h : Seen) → P.goes_with picker.old h last_picked_index → last ≡ h.last → IsTrue result → P.picks picker.old h ≡ [] }
+{
+    match last_picked_index {
+        Some(picked) if picked >= last => !picker.more(index),
+        _ => false,
+    }
+}
+
+/// The item of a pick at a bin.
+fn value_at<T: Counter>(
+    bins: &Bins<'_, T>,
+    index: usize,
+    total: u64,
+    count_at_index: T,
+    since: u64,
+    picked: PickMetadata,
+) -> IterationValue<T>
+    requires { index < bins_in bins.now }
+    ensures { let share : Ratio = record { num = total; den = bins.now.total } in
+        result ≡ record { value = unwrap_or picked.level (top_in bins.now index); quantile = share; tick = unwrap_or picked.tick share; count = T.number count_at_index; since = since } }
+{
+    let quantile = Fraction {
+        num: u128::from(total),
+        den: u128::from(bins.total()),
+    };
+    let value = match picked.level {
+        Some(level) => level,
+        None => bins.top(index),
+    };
+    let tick = picked.tick.unwrap_or(quantile);
+    IterationValue::new(value, quantile, tick, count_at_index, since)
+}
+
+/// Whether the bin of a level, or the last bin, is the bin that is asked or lies before it.
+pub(crate) fn is_due<T: Counter>(bins: &Bins<'_, T>, level: u64, index: usize) -> bool
+    ensures { IsTrue result ↔ (index < bins_in bins.now) × (place_of bins.now level ≤ index) }
+{
+    index < bins.len() && bins.place_of(level) <= index
+}

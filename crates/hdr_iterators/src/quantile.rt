@@ -1,0 +1,158 @@
+//! The iterator over shares of the samples that halve the distance to the whole.
+
+ghost use Rattle.std.specs.Prelude.{◌≡◌, ◌+◌, ◌*◌, ◌^◌, ◌<◌, ◌≤◌, IsTrue};
+ghost use Rattle.hdr_iterators.specs.Picks.{items_of};
+ghost use Rattle.hdr_iterators.specs.Places.{quantile_picks, tick_of, is_within};
+
+use crate::bins::{Binned, Bins};
+use crate::picking::{HistogramIterator, PickMetadata, PickyIterator};
+use hdr_base::{Counter, Fraction};
+use std::marker::Model;
+
+/// A tick, seen as how many there are to each half of the distance, and its number.
+#[derive(Debug, Drop)]
+struct Tick {
+    per_half: u32,
+    half: u32,
+    step: u32,
+}
+
+impl Model for Tick {
+    ghost use Rattle.std.specs.Prelude.{◌+◌, ◌*◌, ◌<◌, ◌≤◌};
+    ghost use Rattle.hdr_iterators.specs.Ticks.{Ticked};
+
+    ghost Value = { Ticked };
+
+    ghost view = { λ k. record { per_half = k.per_half; number = k.half * k.per_half + k.step } };
+
+    ghost invariant = { λ k. (k.step < k.per_half) × (k.half ≤ 64) };
+}
+
+impl Tick {
+    fn first(per_half: u32) -> Tick
+        requires { 1 ≤ per_half }
+        ensures { result ≡ record { per_half = per_half; number = 0 } }
+    {
+        Tick {
+            per_half,
+            half: 0,
+            step: 0,
+        }
+    }
+
+    /// How many parts the whole has.
+    fn whole(&self) -> u128
+        ensures value { result ≡ (tick_of self.now.per_half self.now.number).den }
+        ensures some { 1 ≤ result }
+    {
+        u128::from(self.per_half) << (self.half + 1)
+    }
+
+    /// How many of them are behind the tick.
+    fn behind(&self) -> u128
+        ensures value { (tick_of self.now.per_half self.now.number).num + result ≡ (tick_of self.now.per_half self.now.number).den }
+        ensures few { result < 2 ^ 33 }
+    {
+        2 * u128::from(self.per_half) - u128::from(self.step)
+    }
+
+    fn fraction(&self) -> Fraction
+        ensures { result ≡ tick_of self.now.per_half self.now.number }
+    {
+        let whole = self.whole();
+        Fraction {
+            num: whole - self.behind(),
+            den: whole,
+        }
+    }
+
+    /// Whether the tick is at most `count` of `total`, by what is left behind both, so that 128 bits hold each product.
+    fn is_within(&self, count: u64, total: u64) -> bool
+        requires { count < total }
+        ensures value { result ≡ is_within self.now.per_half count total self.now.number }
+        ensures few { IsTrue result → self.now.number < 64 * self.now.per_half }
+    {
+        self.behind() * u128::from(total) / self.whole() >= u128::from(total - count)
+    }
+
+    fn advance(&mut self)
+        requires { self.old.number < 64 * self.old.per_half }
+        ensures { self.new ≡ record { per_half = self.old.per_half; number = self.old.number + 1 } }
+    {
+        self.step += 1;
+        if self.step == self.per_half {
+            self.step = 0;
+            self.half += 1;
+        }
+    }
+}
+
+/// The picker of ticks that halve the distance to the whole.
+#[derive(Debug, Drop)]
+pub struct Iter<'a, T: Counter> {
+    bins: Bins<'a, T>,
+    next: Tick,
+    /// The total was reached, and the whole is to come.
+    closing: bool,
+    done: bool,
+}
+
+impl<'a, T: Counter> Iter<'a, T> {
+    /// At each nonempty bin the ticks that are reached there, so many to each half of the distance to the whole; where all
+    /// samples are reached, the next tick and then the whole.
+    pub fn new<H: Binned<T>>(
+        histogram: &'a H,
+        ticks_per_half_distance: u32,
+    ) -> HistogramIterator<'a, T, Iter<'a, T>>
+        requires { 1 ≤ ticks_per_half_distance }
+        ensures { result ≡ items_of (H.seen histogram.now) (quantile_picks (H.seen histogram.now) ticks_per_half_distance) }
+    {
+        let bins = histogram.binned();
+        let picker = Iter {
+            bins: bins.same(),
+            next: Tick::first(ticks_per_half_distance),
+            closing: false,
+            done: false,
+        };
+        HistogramIterator::new(bins, picker)
+    }
+}
+
+impl<'a, T: Counter> PickyIterator<T> for Iter<'a, T> {
+    ghost use Rattle.std.specs.Prelude.{◌≡◌, [], drop, if◌then◌else◌};
+    ghost use Rattle.hdr_iterators.specs.Places.{quantile_picks};
+    ghost use Rattle.hdr_iterators.specs.Ticks.{TickStep, given};
+
+    ghost picks = { λ p h. if p.done then [] else drop (given p.next.number p.closing) (quantile_picks h p.next.per_half) };
+
+    ghost goes_with = { λ p h last. (p.bins ≡ h) × TickStep h p.next.per_half p.next.number p.closing p.done last };
+
+    fn pick(
+        &mut self,
+        index: usize,
+        total_count_to_index: u64,
+        count_at_index: T,
+    ) -> Option<PickMetadata> {
+        if self.done || count_at_index.as_u64() == 0 {
+            return None;
+        }
+        if self.closing {
+            self.done = true;
+            return Some(PickMetadata::new(Some(Fraction { num: 1, den: 1 }), None));
+        }
+        let total = self.bins.total();
+        let tick = self.next.fraction();
+        if total_count_to_index >= total {
+            self.closing = true;
+        } else if self.next.is_within(total_count_to_index, total) {
+            self.next.advance();
+        } else {
+            return None;
+        }
+        Some(PickMetadata::new(Some(tick), None))
+    }
+
+    fn more(&mut self, _: usize) -> bool {
+        !self.done
+    }
+}

@@ -1,0 +1,5 @@
+use Rattle.hdr_log.proofs.Counted.{reading_few}
+use Rattle.hdr_log.proofs.iterator.IntervalLogIterator.new.Goals as goal
+
+pub returns-clause-few : goal.returns-clause-few
+returns-clause-few c = reading_few c.args.input.now

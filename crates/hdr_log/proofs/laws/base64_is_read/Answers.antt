@@ -1,0 +1,5 @@
+use Rattle.hdr_log.proofs.Base64Fields.{base64_field, base64_decoded}
+use Rattle.hdr_log.proofs.laws.base64_is_read.Goals as goal
+
+pub returns : goal.returns
+returns c = record { field = base64_field; decoded = base64_decoded }

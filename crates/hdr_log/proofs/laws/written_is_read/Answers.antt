@@ -1,0 +1,5 @@
+use Rattle.hdr_log.proofs.Whole.{pieces_read}
+use Rattle.hdr_log.proofs.laws.written_is_read.Goals as goal
+
+pub returns : goal.returns
+returns c = pieces_read

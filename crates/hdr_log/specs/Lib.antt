@@ -1,0 +1,7 @@
+pub mod Parts
+pub mod Grammar
+pub mod Tags
+pub mod Reading
+pub mod Texts
+pub mod Pieces
+pub mod Fields

@@ -1,0 +1,75 @@
+-- The texts that an interval log is written by.
+use Rattle.std.specs.Prelude.{◌≡◌, ℕ, ◌+◌, ◌*◌, ◌/◌, ◌%◌, ◌<◌, ◌^◌, List, [], ◌∷◌, ◌++◌, Option, Some, None, codes, true}
+use Rattle.std.specs.List.{flat_map}
+use Rattle.std.specs.Fmt.{decimal}
+use Rattle.std.specs.Result.{result_ok}
+use Rattle.base64.specs.Engines.{standard}
+use Rattle.base64.specs.GeneralPurpose.{encode_of, decode_of}
+use Rattle.hdr_log.specs.Grammar.{is_tag}
+
+abbrev pub three_digits : ℕ → List ℕ
+three_digits n = (48 + n / 100) ∷ (48 + n / 10 % 10) ∷ (48 + n % 10) ∷ []
+
+-- a number of thousandths: the whole ones, a point, and three digits
+unfoldable pub thousandths : ℕ → List ℕ
+thousandths t = decimal (t / 1000) ++ 46 ∷ three_digits (t % 1000)
+
+-- nanoseconds to the nearest thousandth of a second, halves up
+abbrev pub to_thousandths : ℕ → ℕ
+to_thousandths nanos = (nanos + 500_000) / 1_000_000
+
+-- the seconds that are printed of a time fit 64 bits
+abbrev pub IsTimeInRange : ℕ → Type 0
+IsTimeInRange nanos = to_thousandths nanos / 1000 < 2 ^ 64
+
+-- a greatest value in units of the divisor, to the nearest thousandth, halves up
+abbrev pub max_thousandths : ℕ → ℕ → ℕ
+max_thousandths max divisor = (2000 * max + divisor) / (2 * divisor)
+
+-- a line's text with its LF
+abbrev pub ended : List ℕ → List ℕ
+ended line = line ++ 10 ∷ []
+
+-- the text of lines
+abbrev pub lines_text : List (List ℕ) → List ℕ
+lines_text lines = flat_map ended lines
+
+-- each part of a comment stands on a line of its own, also an empty one
+abbrev pub comment_line : List ℕ → List ℕ
+comment_line part = 35 ∷ part
+
+abbrev pub start_line : ℕ → List ℕ
+start_line t = codes "#[StartTime: " ++ (thousandths t ++ codes " (seconds since epoch)]")
+
+abbrev pub base_line : ℕ → List ℕ
+base_line t = codes "#[BaseTime: " ++ (thousandths t ++ codes " (seconds since epoch)]")
+
+abbrev pub divisor_line : ℕ → List ℕ
+divisor_line d = codes "#[MaxValueDivisor: " ++ (thousandths (1000 * d) ++ codes "]")
+
+abbrev pub tag_front : Option (List ℕ) → List ℕ
+tag_front None = []
+tag_front (Some tag) = codes "Tag=" ++ tag ++ 44 ∷ []
+
+-- an interval's line; times and the greatest value are in thousandths
+abbrev pub interval_line : Option (List ℕ) → ℕ → ℕ → ℕ → List ℕ → List ℕ
+interval_line tag start duration max field =
+    tag_front tag ++ (thousandths start ++ 44 ∷ (thousandths duration ++ 44 ∷ (thousandths max ++ 44 ∷ field)))
+
+-- what stands before the field of an interval
+abbrev pub interval_front : Option (List ℕ) → ℕ → ℕ → ℕ → List ℕ
+interval_front tag start duration max =
+    tag_front tag ++ (thousandths start ++ 44 ∷ (thousandths duration ++ 44 ∷ (thousandths max ++ 44 ∷ [])))
+
+-- what may stand as a tag
+abbrev pub AreTags : Option (List ℕ) → Type 0
+AreTags None = Unit {0}
+AreTags (Some tag) = is_tag tag ≡ true
+
+-- bytes in Base64, of the standard alphabet with padding (RFC 4648, section 4)
+unfoldable pub base64_of : List ℕ → List ℕ
+base64_of bytes = encode_of standard bytes
+
+-- the bytes of a field in Base64, where it is such
+unfoldable pub base64_bytes : List ℕ → Option (List ℕ)
+base64_bytes field = result_ok (decode_of standard field)

@@ -1,0 +1,72 @@
+//! The entries of a log, in order.
+
+ghost use Rattle.std.specs.Prelude.{◌≡◌, ◌≤◌, ◌+◌, length};
+ghost use Rattle.std.specs.Iterator.{YieldsFirstBy, item_count};
+ghost use Rattle.hdr_log.specs.Grammar.{reading};
+ghost use Rattle.hdr_log.specs.Reading.{item_seen};
+
+use crate::entry::{LogEntry, LogIteratorError};
+use crate::line::{entry, is_skipped};
+use crate::parts::split_once;
+use std::marker::Model;
+
+/// The entries of a log in order, up to its end, or up to the first line that is no line of a log: that line's place is
+/// the last item. Comments and the like are passed over. It borrows the log and takes no memory. It is seen as the list
+/// of the items that are left.
+#[derive(Drop)]
+pub struct IntervalLogIterator<'a> {
+    input: &'a [u8],
+    offset: usize,
+}
+
+impl<'a> Model for IntervalLogIterator<'a> {
+    ghost use Rattle.std.specs.Prelude.{ℕ, List, Result, ◌+◌, ◌<◌, ◌^◌, length};
+    ghost use Rattle.hdr_log.specs.Parts.{parts};
+    ghost use Rattle.hdr_log.specs.Grammar.{Entry, readings};
+
+    ghost Value = { List (Result Entry ℕ) };
+
+    ghost view = { λ it. readings it.offset (parts 10 it.input.now) };
+
+    ghost invariant = { λ it. it.offset + length it.input.now < 2 ^ 64 };
+}
+
+impl<'a> IntervalLogIterator<'a> {
+    /// The entries of a log's bytes.
+    pub fn new(input: &'a [u8]) -> IntervalLogIterator<'a>
+        ensures items { result ≡ reading input.now }
+        ensures few { length result ≤ length input.now + 1 }
+    {
+        IntervalLogIterator { input, offset: 0 }
+    }
+}
+
+impl<'a> Iterator for IntervalLogIterator<'a> {
+    type Item = Result<LogEntry<'a>, LogIteratorError>;
+
+    ghost next_gives = { YieldsFirstBy item_seen (λ rest. rest) };
+
+    ghost remaining = { item_count (λ rest. rest) };
+
+    fn next(&mut self) -> Option<Result<LogEntry<'a>, LogIteratorError>> {
+        while let Some((line, rest)) = split_once(self.input, b'\n') {
+            let offset = self.offset;
+            self.offset = offset + line.len() + 1;
+            self.input = rest;
+            if let Some(entry) = entry(line) {
+                return Some(Ok(entry));
+            }
+            if !is_skipped(line) {
+                self.input = &[];
+                return Some(Err(LogIteratorError::ParseError { offset }));
+            }
+        }
+        if self.input.is_empty() {
+            return None;
+        }
+        self.input = &[];
+        Some(Err(LogIteratorError::ParseError {
+            offset: self.offset,
+        }))
+    }
+}

@@ -1,0 +1,117 @@
+//! Parts of texts, and the numbers and times that they spell.
+
+ghost use Rattle.std.specs.Prelude.{◌≡◌, ◌==◌, ◌+◌, ◌*◌, ◌^◌, ◌<◌, ◌≤◌, ◌-◌, length, take, IfSome, SomeIff, MatchOption, true};
+ghost use Rattle.std.specs.Option.{option_map};
+ghost use Rattle.std.specs.List.{list_all, position};
+ghost use Rattle.std.specs.Char.{is_ascii_digit, digit_value};
+ghost use Rattle.std.specs.Duration.{as_nanos};
+ghost use Rattle.hdr_log.specs.Parts.{parted, is_digits, number_of};
+ghost use Rattle.hdr_log.specs.Grammar.{nanos_of, time_of};
+
+use std::time::Duration;
+
+/// Where the first such byte stands.
+fn position(text: &[u8], byte: u8) -> Option<usize>
+    ensures { result ≡ position (λ x. x == byte) text.now }
+{
+    text.iter().position(|b| *b == byte)
+}
+
+/// What stands before the first such byte, and what stands behind it; `None` where there is none.
+#[tactic(auto, unfolding(crate::specs::Parts::parted))]
+pub fn split_once(text: &[u8], byte: u8) -> Option<(&[u8], &[u8])>
+    ensures parts { option_map (λ p. (p.0.now, p.1.now)) result ≡ parted byte text.now }
+    ensures length { IfSome result (λ p. length p.0.now + 1 + length p.1.now ≡ length text.now) }
+{
+    let at = position(text, byte)?;
+    Some((&text[..at], &text[at + 1..]))
+}
+
+/// Whether each byte is a digit.
+pub(crate) fn has_only_digits(text: &[u8]) -> bool
+    ensures { result ≡ list_all is_ascii_digit text.now }
+{
+    text.iter().all(|b| b.is_ascii_digit())
+}
+
+/// Whether a text is one digit or more.
+pub(crate) fn is_digits(text: &[u8]) -> bool
+    ensures { result ≡ is_digits text.now }
+{
+    !text.is_empty() && has_only_digits(text)
+}
+
+/// The value of a digit; `None` for any other byte.
+fn digit(byte: u8) -> Option<u64>
+    ensures value { SomeIff result (is_ascii_digit byte ≡ true) (digit_value byte) }
+    ensures bound { IfSome result (λ d. d < 10) }
+{
+    match byte {
+        b'0'..=b'9' => Some(u64::from(byte - b'0')),
+        _ => None,
+    }
+}
+
+/// The number that a text of decimal digits spells, where it fits; leading zeros are fine.
+#[tactic(auto, unfolding(crate::specs::Parts::number_of))]
+pub fn number(text: &[u8]) -> Option<u64>
+    ensures { result ≡ number_of text.now }
+{
+    if text.is_empty() {
+        return None;
+    }
+    let mut value = 0;
+    for byte in text {
+        let digit = digit(*byte)?;
+        value = appended(value, digit)?;
+    }
+    Some(value)
+}
+
+/// A number with one more decimal digit behind it, where that fits.
+fn appended(value: u64, digit: u64) -> Option<u64>
+    requires { digit < 10 }
+    ensures { MatchOption result (2 ^ 64 ≤ value * 10 + digit) (λ n. n ≡ value * 10 + digit) }
+{
+    if value < u64::MAX / 10 {
+        Some(value * 10 + digit)
+    } else {
+        value.checked_mul(10)?.checked_add(digit)
+    }
+}
+
+/// The digits behind a point that count.
+fn kept(text: &[u8]) -> &[u8]
+    ensures { result.now ≡ take 9 text.now }
+{
+    &text[..text.len().min(9)]
+}
+
+/// The nanoseconds that the digits behind a point spell.
+#[tactic(auto, unfolding(crate::specs::Grammar::nanos_of))]
+fn nanos(text: &[u8]) -> Option<u32>
+    ensures value { result ≡ nanos_of text.now }
+    ensures small { IfSome result (λ n. n < 1_000_000_000) }
+{
+    if !is_digits(text) {
+        return None;
+    }
+    let kept = kept(text);
+    let number = number(kept)?;
+    Some((number * 10u64.pow(9 - kept.len() as u32)) as u32)
+}
+
+/// The time that a text spells in seconds.
+#[tactic(auto, unfolding(crate::specs::Grammar::time_of))]
+pub(crate) fn time(text: &[u8]) -> Option<Duration>
+    ensures { option_map as_nanos result ≡ time_of text.now }
+{
+    let text = match text {
+        [b'+', rest @ ..] => rest,
+        _ => text,
+    };
+    let (whole, fraction) = split_once(text, b'.')?;
+    let seconds = number(whole)?;
+    let nanos = nanos(fraction)?;
+    Some(Duration::new(seconds, nanos))
+}

@@ -1,0 +1,155 @@
+-- What a log's lines recorded is what a merge of the written log reports.
+use Rattle.std.proofs.Common.{◌≡◌, ℕ, zero, suc, ◌+◌, ◌-◌, ◌^◌, ◌≤◌, Bool, true, false, cond, leb, ◌&&◌, List, [], ◌∷◌, Option, Some, None, IfSome, refl, sym, ◌∙◌, subst, arith, lit<}
+use Rattle.std.specs.Option.{option_map}
+use Rattle.std.specs.List.{AllByRecursion, enumerate_from}
+use Rattle.std.proofs.lemmas.Bool.{leb-true}
+use Rattle.hdr_base.specs.Classes.{least_from, Grain, unit_of, digits_of, grain_of, IsFiner}
+use Rattle.hdr_base.specs.Fractions.{Ratio}
+use Rattle.hdr_core.specs.Plain.{Plain, IsPlain, grain, empty_plain}
+use Rattle.hdr_core.specs.Samples.{StandsFor, Fits}
+use Rattle.hdr_core.specs.Calls.{State, StandsAt}
+use Rattle.hdr_core.proofs.Kept.{IsPlain-empty}
+use Rattle.hdrhistogram.specs.V2Read.{IsReadBack}
+use Rattle.hdr_tool.specs.declared.fault.Fault.{Fault}
+use Rattle.hdr_tool.specs.declared.words.Command.{Command}
+use Rattle.hdr_tool.specs.declared.words.Command.TheVariants as command
+use Rattle.hdr_tool.specs.Parts.{◌>>=◌, each, parts}
+use Rattle.hdr_tool.specs.Words.{sigfig_of, quantile_of_word, Task, Report, Log, Merge, figures_of, log_of, command_named, task_named, task_of}
+use Rattle.hdr_tool.specs.Report.{IsReport}
+use Rattle.hdr_tool.specs.Program.{Program}
+use Rattle.hdr_tool.specs.LogMerges.{ends_of, AreReadBack, merged_each, IsPart, AreParts, joined_list, EndsWith, AreEnds}
+use Rattle.hdr_tool.proofs.Ended.{CallsStand, ends_stand}
+use Rattle.hdr_tool.proofs.Joined.{Adds, AddsPlain, each_added}
+use Rattle.hdr_tool.proofs.LineCalls.{behind, any}
+use Rattle.hdr_tool.proofs.LogThenMerges.{ReadsBack, log_then_merge}
+
+-- ---- digits are at most five
+
+abbrev Few : ℕ → Type 0
+Few n = n ≤ 5
+
+few_if : (a b : Bool) (digit : ℕ) → (b ≡ true → digit ≤ 53) → IfSome (cond (a && b) (Some (digit - 48)) None) Few
+few_if true true digit h = omega (arith, h refl)
+few_if true false digit h = tt
+few_if false true digit h = tt
+few_if false false digit h = tt
+
+sigfig_few : (word : List ℕ) → IfSome (sigfig_of word) Few
+sigfig_few [] = tt
+sigfig_few (digit ∷ []) = few_if (leb 48 digit) (leb digit 53) digit (λ e. leb-true digit 53 e)
+sigfig_few (digit ∷ more ∷ rest) = tt
+
+abbrev HasFew : Task → Type 0
+HasFew (Report n quantiles) = Few n
+HasFew (Log n) = Few n
+HasFew (Merge n quantiles) = Few n
+
+figures_few : (words : List (List ℕ)) → IfSome (figures_of words) (λ f. Few f.0)
+figures_few [] = tt
+figures_few (digit ∷ []) = tt
+figures_few (digit ∷ word ∷ words) =
+    behind Few (λ (f : ℕ × List Ratio). Few f.0) (sigfig_of digit) (λ n. each quantile_of_word (word ∷ words) >>= λ quantiles. Some (n, quantiles)) (sigfig_few digit) (λ n few.
+    any (λ (f : ℕ × List Ratio). Few f.0) (each quantile_of_word (word ∷ words)) (λ quantiles. Some (n, quantiles)) (λ quantiles. few))
+
+mapped : {A : Type 0} (P : A → Type 0) (f : A → Task) (o : Option A) → IfSome o P → ((x : A) → P x → HasFew (f x)) → IfSome (option_map f o) HasFew
+mapped P f None p h = tt
+mapped P f (Some x) p h = h x p
+
+log_few : (words : List (List ℕ)) → IfSome (log_of words) HasFew
+log_few [] = tt
+log_few (digit ∷ []) = mapped Few Log (sigfig_of digit) (sigfig_few digit) (λ n few. few)
+log_few (digit ∷ more ∷ rest) = tt
+
+named_few : (c : Option Command) (words : List (List ℕ)) → IfSome (task_named c words) HasFew
+named_few None words = tt
+named_few (Some command.Report) words = mapped (λ (f : ℕ × List Ratio). Few f.0) (λ f. Report f.0 f.1) (figures_of words) (figures_few words) (λ f few. few)
+named_few (Some command.Log) words = log_few words
+named_few (Some command.Merge) words = mapped (λ (f : ℕ × List Ratio). Few f.0) (λ f. Merge f.0 f.1) (figures_of words) (figures_few words) (λ f few. few)
+
+task_few : (words : List (List ℕ)) → IfSome (task_of words) HasFew
+unfolding task_of
+task_few [] = tt
+task_few (name ∷ words) = named_few (command_named name) words
+
+-- ---- an empty histogram of these digits
+
+narrow : (n : ℕ) → n ≤ 5 → unit_of 1 + digits_of n ≤ 63
+unfolding unit_of digits_of least_from
+narrow zero h = leb-true (unit_of 1 + digits_of 0) 63 refl
+narrow (suc zero) h = leb-true (unit_of 1 + digits_of 1) 63 refl
+narrow (suc (suc zero)) h = leb-true (unit_of 1 + digits_of 2) 63 refl
+narrow (suc (suc (suc zero))) h = leb-true (unit_of 1 + digits_of 3) 63 refl
+narrow (suc (suc (suc (suc zero)))) h = leb-true (unit_of 1 + digits_of 4) 63 refl
+narrow (suc (suc (suc (suc (suc zero))))) h = leb-true (unit_of 1 + digits_of 5) 63 refl
+narrow (suc (suc (suc (suc (suc (suc n)))))) h = absurd (omega (arith, h))
+
+empty_is_plain : (n : ℕ) → n ≤ 5 → IsPlain (2 ^ 64 - 1) (empty_plain 1 2 n true)
+empty_is_plain n few = IsPlain-empty (2 ^ 64 - 1) 1 2 n true (record { not_zero = omega arith; digits = few; fits = narrow n few }) (lit< tt) (omega arith)
+
+empty_grain : (n : ℕ) → grain (empty_plain 1 2 n true) ≡ grain_of 1 n
+unfolding empty_plain
+empty_grain n = refl
+
+empty_high : (n : ℕ) → (empty_plain 1 2 n true).high ≡ 2
+unfolding empty_plain
+empty_high n = refl
+
+pub same_unit : (n m : ℕ) → (grain_of 1 n).unit ≤ (grain_of 1 m).unit
+unfolding grain_of
+same_unit n m = omega arith
+
+-- ---- histograms read back
+
+-- what the library's law on what was read back says
+pub record ReadsStand : Type 0 where
+  pub plain : (greatest : ℕ) (h k : Plain) → IsPlain greatest h → IsReadBack h k → IsPlain greatest k
+  pub classes : (h k : Plain) → IsReadBack h k → grain k ≡ grain h
+  pub samples : (greatest : ℕ) (h k : Plain) (S : List ℕ) → IsPlain greatest h → IsReadBack h k → StandsFor h S → StandsFor k S
+
+ends_plain : (g : Grain) (hs : List Plain) (Ls : List (List ℕ)) → AreEnds g hs Ls → AllByRecursion (IsPlain (2 ^ 64 - 1)) hs
+ends_plain g [] [] e = tt
+ends_plain g [] (L ∷ Ls) e = absurd e
+ends_plain g (h ∷ hs) [] e = absurd e
+ends_plain g (h ∷ hs) (L ∷ Ls) e = (e.0.plain, ends_plain g hs Ls e.1)
+
+read_parts : (f g : Grain) (hs ks : List Plain) (Ls : List (List ℕ)) → ReadsStand → IsFiner g f → AreEnds g hs Ls → AreReadBack hs ks → AreParts f ks Ls
+read_parts f g [] [] [] back fine e r = tt
+read_parts f g [] [] (L ∷ Ls) back fine e r = absurd e
+read_parts f g [] (k ∷ ks) Ls back fine e r = absurd r
+read_parts f g (h ∷ hs) [] Ls back fine e r = absurd r
+read_parts f g (h ∷ hs) (k ∷ ks) [] back fine e r = absurd e
+read_parts f g (h ∷ hs) (k ∷ ks) (L ∷ Ls) back fine e r =
+    let one : IsPart f k L = record {
+      plain = back.plain (2 ^ 64 - 1) h k e.0.plain r.0;
+      stands = back.samples (2 ^ 64 - 1) h k L e.0.plain r.0 e.0.stands;
+      finer = subst (λ (x : Grain). IsFiner x f) (sym (back.classes h k r.0 ∙ e.0.classes)) fine;
+    } in
+    (one, read_parts f g hs ks Ls back fine e.1 r.1)
+
+-- ---- the whole way
+
+pub record IsMerged (quantiles : List Ratio) (text samples : List ℕ) : Type 0 where
+  pub histogram : Plain
+  pub report : IsReport histogram quantiles text
+  pub stands : StandsFor histogram samples
+  pub plain : IsPlain (2 ^ 64 - 1) histogram
+
+pub whole_way : (log merge : List (List ℕ)) (sigfig fewer : ℕ) (quantiles : List Ratio) (input written text : List ℕ) (fault : Option Fault) (Ls : List (List ℕ))
+    → CallsStand → Adds → AddsPlain → ReadsBack → ReadsStand → ((n : ℕ) → StandsFor (empty_plain 1 2 n true) []) → IsFiner (grain_of 1 sigfig) (grain_of 1 fewer)
+    → task_of log ≡ Some (Log sigfig) → task_of merge ≡ Some (Merge fewer quantiles)
+    → EndsWith (grain_of 1 sigfig) (record { samples = []; high = 2 }) (enumerate_from 1 (parts 10 input)) Ls → Fits (2 ^ 64 - 1) (grain_of 1 fewer) (joined_list Ls)
+    → Program log input written None → Program merge written text fault → (fault ≡ None) × IsMerged quantiles text (joined_list Ls)
+whole_way log merge sigfig fewer quantiles input written text fault Ls calls adds keeps back stand made fine tl tm ends fits wrote merged =
+    let h = empty_plain 1 2 sigfig true in
+    let k = empty_plain 1 2 fewer true in
+    let start : State = record { samples = []; high = 2 } in
+    let lines = enumerate_from 1 (parts 10 input) in
+    let few : sigfig ≤ 5 = subst (λ o. IfSome o HasFew) tl (task_few log) in
+    let few_merged : fewer ≤ 5 = subst (λ o. IfSome o HasFew) tm (task_few merge) in
+    let stands : StandsAt h start = (made sigfig, empty_high sigfig) in
+    let ended : AreEnds (grain h) (ends_of h lines) Ls = ends_stand calls h start lines Ls (empty_is_plain sigfig few) stands (subst (λ (g : Grain). EndsWith g start lines Ls) (sym (empty_grain sigfig)) ends) in
+    let m = log_then_merge back log merge sigfig fewer quantiles input written text fault tl tm (ends_plain (grain h) (ends_of h lines) Ls ended) wrote merged in
+    let finer : IsFiner (grain h) (grain k) = subst (λ (g : Grain). IsFiner g (grain k)) (sym (empty_grain sigfig)) (subst (λ (g : Grain). IsFiner (grain_of 1 sigfig) g) (sym (empty_grain fewer)) fine) in
+    let parted : AreParts (grain k) m.1.0 Ls = read_parts (grain k) (grain h) (ends_of h lines) m.1.0 Ls stand finer ended m.1.1 in
+    let sum = each_added adds k m.1.0 [] Ls keeps (empty_is_plain fewer few_merged) (made fewer) parted (subst (λ (g : Grain). Fits (2 ^ 64 - 1) g (joined_list Ls)) (sym (empty_grain fewer)) fits) in
+    (m.0, record { histogram = merged_each k m.1.0; report = m.1.2; stands = sum.0; plain = sum.1 })

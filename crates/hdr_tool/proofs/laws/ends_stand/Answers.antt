@@ -1,0 +1,5 @@
+use Rattle.hdr_tool.proofs.Ended.{ends_stand}
+use Rattle.hdr_tool.proofs.laws.ends_stand.Goals as goal
+
+pub returns : goal.returns
+returns c = ends_stand (record { plain = c.calls_stand.ensures.plain; classes = c.calls_stand.ensures.classes; samples = c.calls_stand.ensures.samples })

@@ -1,0 +1,81 @@
+-- A histogram that was written and read again.
+use Rattle.std.proofs.Common.{◌≡◌, ℕ, zero, suc, ◌-◌, ◌^◌, ◌<◌, ◌≤◌, min, List, [], ◌∷◌, length, sum, slice_index, All, Option, Some, None, IfSome, sym, ap, ap₂, ◌∙◌, subst, arith}
+use Rattle.hdr_base.specs.Classes.{grain_of, reach_of, bins_to}
+use Rattle.hdr_core.specs.Plain.{Plain, IsPlain, grain, reach, IsAbove, IsBelow, IsTopMark, IsLowerMark}
+use Rattle.hdr_core.specs.Samples.{StandsFor, in_class}
+use Rattle.hdrhistogram.specs.V2Read.{Contents, IsReadBack}
+
+inside : (xs : List ℕ) (i : ℕ) → 0 < slice_index xs i → i < length xs
+inside [] i h = absurd (omega (arith, h))
+inside (x ∷ xs) zero h = omega arith
+inside (x ∷ xs) (suc i) h = let less : i < length xs = inside xs i h in omega (arith, less)
+
+top_inside : (xs : List ℕ) (mark : Option ℕ) → IsTopMark xs mark → IfSome mark (λ i. i < length xs)
+top_inside xs None h = tt
+top_inside xs (Some m) h = inside xs m h.0
+
+lower_inside : (xs : List ℕ) (mark : Option ℕ) → IsLowerMark xs mark → IfSome mark (λ i. (0 < i) × (i < length xs))
+lower_inside xs None h = tt
+lower_inside xs (Some m) h = (h.0, inside xs m h.1)
+
+above : (xs : List ℕ) (mark : Option ℕ) (i : ℕ) → IsTopMark xs mark → IsAbove mark i → slice_index xs i ≡ 0
+above xs None i h a = h i
+above xs (Some m) i h a = h.1 i a
+
+below : (xs : List ℕ) (mark : Option ℕ) (i : ℕ) → IsLowerMark xs mark → IsBelow mark i → slice_index xs i ≡ 0
+below xs None i h b = h i b
+below xs (Some m) i h b = h.2 i b.0 b.1
+
+same_low : (h k : Plain) → IsReadBack h k → k.low ≡ h.low
+same_low h k r = ap (λ (c : Contents). c.low) r.told
+
+same_high : (h k : Plain) → IsReadBack h k → k.high ≡ h.high
+same_high h k r = ap (λ (c : Contents). c.high) r.told
+
+same_sigfig : (h k : Plain) → IsReadBack h k → k.sigfig ≡ h.sigfig
+same_sigfig h k r = ap (λ (c : Contents). c.sigfig) r.told
+
+same_counts : (h k : Plain) → IsReadBack h k → k.counts ≡ h.counts
+same_counts h k r = ap (λ (c : Contents). c.counts) r.told
+
+pub same_classes : (h k : Plain) → IsReadBack h k → grain k ≡ grain h
+same_classes h k r = ap₂ grain_of (same_low h k r) (same_sigfig h k r)
+
+pub read_plain : (greatest : ℕ) (h k : Plain) → IsPlain greatest h → IsReadBack h k → IsPlain greatest k
+read_plain greatest h k p r =
+    let low : k.low ≡ h.low = same_low h k r in
+    let high : k.high ≡ h.high = same_high h k r in
+    let sigfig : k.sigfig ≡ h.sigfig = same_sigfig h k r in
+    let counts : k.counts ≡ h.counts = same_counts h k r in
+    let total : k.total ≡ min (sum k.counts) (2 ^ 64 - 1) = r.restated.total in
+    let bins : length k.counts ≡ bins_to (grain k) k.high = ap (length {A = ℕ}) counts ∙ p.bins ∙ ap₂ bins_to (sym (same_classes h k r)) (sym high) in
+    record {
+      scale = rw (low, sigfig) p.scale;
+      high_fits = rw high p.high_fits;
+      wide = rw (low, high) p.wide;
+      bins = bins;
+      numbers_fit = rw counts p.numbers_fit;
+      total_fits = omega (arith, total);
+      total_covers = omega (arith, total);
+      empty = λ e. omega (arith, total, e);
+      nothing = λ e. omega (arith, total, e);
+      top_in_bins = top_inside k.counts k.top_mark r.restated.top_mark;
+      lower_in_bins = lower_inside k.counts k.lower_mark r.restated.lower_mark;
+      none_above = λ i a. above k.counts k.top_mark i r.restated.top_mark a;
+      none_below = λ i b. below k.counts k.lower_mark i r.restated.lower_mark b;
+    }
+
+pub read_stands : (h k : Plain) (S : List ℕ) → IsReadBack h k → StandsFor h S → sum h.counts ≡ length S → length S < 2 ^ 64 → StandsFor k S
+unfolding reach
+read_stands h k S r s whole few =
+    let g = same_classes h k r in
+    let counts : k.counts ≡ h.counts = same_counts h k r in
+    let total : k.total ≡ min (sum h.counts) (2 ^ 64 - 1) = r.restated.total ∙ ap (λ c. min (sum c) (2 ^ 64 - 1)) counts in
+    let reached : reach h ≡ reach k = ap₂ reach_of (sym g) (sym (same_high h k r)) in
+    let L : List ℕ → Type 0 = λ c. (i : ℕ) → i < length c → slice_index c i ≡ in_class (grain k) i S in
+    let W : ℕ → Type 0 = λ m. All (λ x. x ≤ m) S in
+    record {
+      numbers = subst L (sym counts) (λ i lt. s.numbers i lt ∙ ap (λ f. in_class f i S) (sym g));
+      within = subst W reached s.within;
+      total = total ∙ omega (arith, whole, few);
+    }

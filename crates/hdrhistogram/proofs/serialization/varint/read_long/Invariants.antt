@@ -1,0 +1,5 @@
+use Rattle.hdrhistogram.proofs.SpellingsRead.{IsReadTo}
+use Rattle.hdrhistogram.proofs.serialization.varint.read_long.Given as goal
+
+abbrev pub invariant-loop-place : goal.invariant-loop-place
+invariant-loop-place l = IsReadTo l.bytes l.place l.value l.weight

@@ -1,0 +1,48 @@
+-- What stands in a writer after a call that writes to a log.
+use Rattle.std.specs.Prelude.{◌≡◌, ℕ, Bool, true, false, List, Option, Result, Ok, Err}
+use Rattle.std.specs.Io.KnownBytes.{Appends, Keeps}
+use Rattle.hdr_core.specs.Plain.{Plain, max_of}
+use Rattle.hdr_log.specs.Texts.{to_thousandths, max_thousandths, base64_of}
+use Rattle.hdr_log.specs.Pieces.{Piece, Measured, IsPiece, piece_text}
+use Rattle.hdrhistogram.specs.Streams.{AppendsFront}
+use Rattle.hdrhistogram.specs.declared.serialization.interval_log.errors.IntervalLogWriterError.{IntervalLogWriterError}
+use Rattle.hdrhistogram.specs.declared.serialization.interval_log.errors.IntervalLogWriterError.TheVariants.{SerializeError, IoError, TimeOutOfRange, OutOfMemory}
+
+-- a text of which P holds is not written: after an i/o error a beginning of it stands, not all, and after any other
+-- refusal nothing. Q holds of what the serializer refuses.
+abbrev pub RefusesText : {E : Type 0} → (List ℕ → Type 0) → (E → Type 0) → Option (List ℕ) → Option (List ℕ) → IntervalLogWriterError E → Type 0
+RefusesText P Q old new (SerializeError e) = Q e × Keeps old new
+RefusesText P Q old new (IoError e) = (text : List ℕ) × P text × AppendsFront old new text
+RefusesText P Q old new TimeOutOfRange = Keeps old new
+RefusesText P Q old new OutOfMemory = Keeps old new
+
+-- a text of which P holds is written whole, or not
+abbrev pub WritesText : {E : Type 0} → (List ℕ → Type 0) → (E → Type 0) → Option (List ℕ) → Option (List ℕ) → Result (Unit {0}) (IntervalLogWriterError E) → Type 0
+WritesText P Q old new (Ok u) = (text : List ℕ) × P text × Appends old new text
+WritesText P Q old new (Err e) = RefusesText P Q old new e
+
+-- a time is refused
+abbrev pub is_time_error : {A E : Type 0} → Result A (IntervalLogWriterError E) → Bool
+is_time_error (Ok u) = false
+is_time_error (Err (IoError e)) = false
+is_time_error (Err (SerializeError e)) = false
+is_time_error (Err TimeOutOfRange) = true
+is_time_error (Err OutOfMemory) = false
+
+-- a histogram has no bytes: the serializer refuses it, or its buffer could not grow
+abbrev pub RefusesSerialized : {E : Type 0} → (E → Type 0) → IntervalLogWriterError E → Type 0
+RefusesSerialized Q (SerializeError e) = Q e
+RefusesSerialized Q (IoError e) = ⊥
+RefusesSerialized Q TimeOutOfRange = ⊥
+RefusesSerialized Q OutOfMemory = Unit {0}
+
+-- a histogram's interval by its bytes; times are in nanoseconds
+abbrev pub measured : Plain → Option (List ℕ) → ℕ → ℕ → ℕ → List ℕ → Piece
+measured h tag start duration divisor bytes =
+    Measured tag (to_thousandths start) (to_thousandths duration) (max_thousandths (max_of h) divisor) (base64_of bytes)
+
+-- the line of a histogram's interval, by bytes that the serializer may write
+abbrev pub IsIntervalText : (Plain → List ℕ → Type 0) → Plain → Option (List ℕ) → ℕ → ℕ → ℕ → List ℕ → Type 0
+IsIntervalText writes h tag start duration divisor text =
+    (bytes : List ℕ) × writes h bytes × IsPiece (measured h tag start duration divisor bytes)
+    × (text ≡ piece_text (measured h tag start duration divisor bytes))

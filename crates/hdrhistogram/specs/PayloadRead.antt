@@ -1,0 +1,99 @@
+-- What a payload is read as (the Rust crate's `deser_v2`, its two loops): any spellings of numbers, runs in any pieces, and
+-- empty bins past the last.
+use Rattle.std.specs.Prelude.{slice_set, ◌≡◌, ℕ, zero, suc, ◌+◌, ◌^◌, ◌≤◌, ◌++◌, List, [], ◌∷◌, length, nat_lt, nat_le, ◌&&◌, if◌then◌else◌, ℤ, pos, negsuc, flat_map, map, replicate, Option, Some, None, Result, Ok, Err}
+use Rattle.std.specs.List.{AllByRecursion}
+use Rattle.hdrhistogram.specs.Varint.{IsSpelling, spelled}
+use Rattle.hdrhistogram.specs.ZigZag.{from_zig_zag}
+use Rattle.hdrhistogram.specs.Faults.{Fault, cut, too_great, past_bins, too_far}
+
+-- bytes cut into whole spellings, and a rest
+pub record Parted : Type 0 where
+  pub texts : List (List ℕ)
+  pub rest : List ℕ
+
+-- a byte that ends a spelling, and then these
+abbrev pub last_byte : ℕ → Parted → Parted
+last_byte b p = record { texts = (b ∷ []) ∷ p.texts; rest = p.rest }
+
+-- a byte put before the first spelling, or before the rest where there is none
+abbrev pub put_before : ℕ → List (List ℕ) → List ℕ → Parted
+put_before b [] rest = record { texts = []; rest = b ∷ rest }
+put_before b (text ∷ texts) rest = record { texts = (b ∷ text) ∷ texts; rest = rest }
+
+-- The bytes are cut behind each that ends a spelling: a byte below 128 does, and the ninth of one. `left` more bytes of the
+-- spelling that has begun may come before its ninth.
+unfoldable pub parted : ℕ → List ℕ → Parted
+parted left [] = record { texts = []; rest = [] }
+parted zero (b ∷ bs) = last_byte b (parted 8 bs)
+parted (suc left) (b ∷ bs) =
+    if nat_lt b 128 then last_byte b (parted 8 bs) else put_before b (parted left bs).texts (parted left bs).rest
+
+-- the numbers that spellings spell, by zig-zag
+abbrev pub numbers : List (List ℕ) → List ℤ
+numbers texts = map (λ text. from_zig_zag (spelled 8 text)) texts
+
+-- the bins that a number stands for: -z for z empty ones, another for one bin with that count
+abbrev pub bins_read : ℤ → List ℕ
+bins_read (pos n) = n ∷ []
+bins_read (negsuc n) = replicate (suc n) 0
+
+-- how many these are
+abbrev pub move : ℤ → ℕ
+move (pos n) = 1
+move (negsuc n) = suc n
+
+-- a place is a u64
+abbrev pub place_fault : ℕ → Option Fault
+place_fault place = if nat_le (2 ^ 64) place then Some too_far else None
+
+-- the fault of a number at a place, where there are so many bins and a count is at most the greatest
+abbrev pub fault_at : ℕ → ℕ → ℕ → ℤ → Option Fault
+fault_at bins greatest place (negsuc n) = place_fault (place + suc n)
+fault_at bins greatest place (pos n) =
+    if nat_lt greatest n then Some too_great
+    else (if nat_lt 0 n && nat_le bins place then Some past_bins else place_fault (place + 1))
+
+abbrev pub or_else : Option Fault → Option Fault → Option Fault
+or_else (Some f) later = Some f
+or_else None later = later
+
+-- the fault of the first number that has one; the first stands at this place, and each further one behind the bins of those
+-- before it
+unfoldable pub first_fault : ℕ → ℕ → ℕ → List ℤ → Option Fault
+first_fault bins greatest place [] = None
+first_fault bins greatest place (n ∷ ns) = or_else (fault_at bins greatest place n) (first_fault bins greatest (place + move n) ns)
+
+-- the first of these counts, as many as there are bins, and empty bins behind them
+unfoldable pub fitted : ℕ → List ℕ → List ℕ
+fitted zero counts = []
+fitted (suc bins) [] = 0 ∷ fitted bins []
+fitted (suc bins) (n ∷ counts) = n ∷ fitted bins counts
+
+-- the counts with a number's count at its place
+abbrev pub with_count : List ℕ → ℕ → ℤ → List ℕ
+with_count counts place (pos zero) = counts
+with_count counts place (pos (suc n)) = slice_set counts place (suc n)
+with_count counts place (negsuc n) = counts
+
+-- counts, unless there was a fault before or the bytes end inside a number
+abbrev pub ended : Option Fault → List ℕ → List ℕ → Result (List ℕ) Fault
+ended (Some f) rest counts = Err f
+ended None [] counts = Ok counts
+ended None (b ∷ rest) counts = Err cut
+
+-- the payload as the counts of so many bins, each at most the greatest, or its first fault
+unfoldable pub counts_in : ℕ → ℕ → List ℕ → Result (List ℕ) Fault
+counts_in bins greatest payload =
+    let p = parted 8 payload in
+    ended (first_fault bins greatest 0 (numbers p.texts)) p.rest (fitted bins (flat_map bins_read (numbers p.texts)))
+
+-- a beginning of a spelling that is not whole: fewer than nine bytes, each of which asks for another
+pub record IsCut (rest : List ℕ) : Type 0 where
+  pub short : length rest ≤ 8
+  pub high : AllByRecursion (λ b. 128 ≤ b) rest
+
+-- the payload is spellings, one behind the other, and a rest that is none
+pub record AreSpellings (payload : List ℕ) (texts : List (List ℕ)) (rest : List ℕ) : Type 0 where
+  pub whole : payload ≡ flat_map (λ text. text) texts ++ rest
+  pub each : AllByRecursion (IsSpelling 8) texts
+  pub cut : IsCut rest

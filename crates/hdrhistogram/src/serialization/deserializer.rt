@@ -1,0 +1,174 @@
+//! Reading V2 bytes.
+
+ghost use Rattle.std.specs.Prelude.{◌≡◌, ℕ, List, [], length, false, IfOk, IfErr};
+ghost use Rattle.std.specs.Io.KnownBytes.{Consumes};
+ghost use Rattle.hdr_core.specs.Plain.{empty_plain};
+ghost use Rattle.hdrhistogram.specs.Faults.{Gives, TakesAs, Checks, FailsBy, named};
+ghost use Rattle.hdrhistogram.specs.V2Read.{creation_fault, bounds_fault, bins_for, bytes_at, v2_at, told_of, IsRestated, IsReadAs};
+ghost use Rattle.hdrhistogram.specs.HeaderView.{header_of};
+
+pub use crate::serialization::errors::DeserializeError;
+use crate::serialization::fields::{Header, ended, header_at, read_header};
+use crate::serialization::filling::fill;
+use crate::serialization::header::HEADER_LEN;
+use crate::serialization::streams::read_piece;
+pub use crate::serialization::varint::{varint_read, varint_read_slice};
+pub use crate::serialization::zig_zag::zig_zag_decode;
+use hdr_base::Counter;
+use hdr_core::{CreationError, Histogram};
+use std::alloc::Global;
+use std::io::Read;
+use std::marker::Model;
+
+/// Reads histograms, by way of a buffer of its own.
+///
+/// To its callers it is the list of the bytes that it holds, which is empty between calls.
+#[derive(Drop)]
+pub struct Deserializer {
+    payload: Vec<u8>,
+}
+
+impl Model for Deserializer {
+    ghost use Rattle.std.specs.Prelude.{ℕ, List};
+
+    ghost Value = { List ℕ };
+
+    ghost view = { λ d. d.payload.items };
+}
+
+impl Deserializer {
+    /// A deserializer with an empty buffer. It takes no memory.
+    pub fn new(alloc: Global) -> Deserializer
+        ensures { result ≡ [] }
+    {
+        Deserializer {
+            payload: Vec::new(alloc),
+        }
+    }
+
+    /// Reads the histogram at the front of a text, and gives it with the number of bytes that it
+    /// takes. What stands behind them is not looked at.
+    ///
+    /// The histogram does not grow, its total is the capped sum of its counters, and its marks are
+    /// those of the nonempty ones. Bytes that are no histogram's are refused by their first fault;
+    /// beside that want of memory is. The deserializer is as before.
+    pub fn decode_slice<T: Counter>(
+        &mut self,
+        text: &[u8],
+    ) -> Result<(Histogram<T>, usize), DeserializeError>
+        ensures read { IfOk result (λ found. IsReadAs T.greatest text.now found.0 found.1) }
+        ensures refused { IfErr result (λ e. FailsBy (named e) (v2_at T.greatest text.now)) }
+        ensures kept { self.new ≡ self.old }
+    {
+        let (h, rest) = decode(*self.payload.allocator(), text)?;
+        Ok((h, text.len() - rest.len()))
+    }
+
+    /// Reads a histogram from a reader by single calls of `read`, and takes no byte behind it. The
+    /// histogram is that of `decode_slice`.
+    ///
+    /// A refusal names the first fault of the bytes that were taken; they are the reader's up to
+    /// and with the field that is refused, the whole payload where one of its numbers is, or what
+    /// came before the reader failed, was interrupted or ended, which is `IoError`. Beside that
+    /// want of memory is answered. The deserializer is as new afterwards.
+    pub fn deserialize<T: Counter, R: Read>(
+        &mut self,
+        reader: &mut R,
+    ) -> Result<Histogram<T>, DeserializeError>
+        ensures read { IfOk result (λ h. (taken : List ℕ)
+            × Consumes (R.remaining reader.old) (R.remaining reader.new) taken
+            × IsReadAs T.greatest taken h (length taken)) }
+        ensures refused { IfErr result (λ e. (taken : List ℕ)
+            × Consumes (R.remaining reader.old) (R.remaining reader.new) taken
+            × FailsBy (named e) (v2_at T.greatest taken)) }
+        ensures as_new { self.new ≡ [] }
+    {
+        self.payload.clear();
+        let read = read_v2(reader, &mut self.payload);
+        self.payload.clear();
+        read
+    }
+}
+
+/// An empty histogram of a header's bounds.
+fn empty_for<T: Counter>(alloc: Global, header: Header) -> Result<Histogram<T>, DeserializeError>
+    ensures bounds { Checks result (bounds_fault (header_of header)) }
+    ensures empty { IfOk result (λ h. h ≡ empty_plain h.low h.high h.sigfig false) }
+    ensures told { IfOk result (λ h. told_of h ≡ record { low = header.low; high = header.high; sigfig = header.sigfig; counts = h.counts }) }
+    ensures bins { IfOk result (λ h. length h.counts ≡ bins_for (header_of header)) }
+{
+    match Histogram::new_with_bounds(alloc, header.low, header.high, header.sigfig) {
+        Ok(h) => Ok(h),
+        Err(error) => Err(refused(error)),
+    }
+}
+
+/// What it is for bytes that their bounds are refused.
+fn refused(error: CreationError) -> DeserializeError
+    ensures { named result ≡ creation_fault error }
+{
+    match error {
+        CreationError::OutOfMemory => DeserializeError::OutOfMemory,
+        _ => DeserializeError::InvalidParameters,
+    }
+}
+
+/// So many bytes at the front of a text, and the text behind them.
+#[tactic(auto, unfolding(crate::specs::V2Read::bytes_at))]
+fn bytes_at(text: &[u8], len: usize) -> Result<(&[u8], &[u8]), DeserializeError>
+    ensures { Gives (λ x. (x.0.now, x.1.now)) result (bytes_at len text.now) }
+{
+    if text.len() < len {
+        return Err(ended());
+    }
+    Ok((&text[..len], &text[len..]))
+}
+
+/// The histogram at the front of a text, and the text behind it.
+#[tactic(auto, unfolding(crate::specs::V2Read::v2_at))]
+fn decode<T: Counter>(alloc: Global, text: &[u8]) -> Result<(Histogram<T>, &[u8]), DeserializeError>
+    ensures read { Gives (λ x. (told_of x.0, x.1.now)) result (v2_at T.greatest text.now) }
+    ensures fixed { IfOk result (λ x. x.0.auto_resize ≡ false) }
+    ensures restated { IfOk result (λ x. IsRestated x.0) }
+{
+    let (header, rest) = header_at(text)?;
+    let mut h = empty_for(alloc, header)?;
+    let (payload, rest) = bytes_at(rest, header.payload_len as usize)?;
+    fill(&mut h, payload)?;
+    Ok((h, rest))
+}
+
+/// Takes a histogram from a reader by way of an empty buffer.
+fn read_v2<T: Counter, R: Read>(
+    reader: &mut R,
+    buffer: &mut Vec<u8>,
+) -> Result<Histogram<T>, DeserializeError>
+    requires { buffer.old.items ≡ [] }
+    ensures read { TakesAs (R.remaining reader.old) (R.remaining reader.new)
+        told_of (v2_at T.greatest) result }
+    ensures fixed { IfOk result (λ h. h.auto_resize ≡ false) }
+    ensures restated { IfOk result (λ h. IsRestated h) }
+{
+    let header = read_header(reader)?;
+    let mut h = empty_for(*buffer.allocator(), header)?;
+    read_payload(reader, buffer, header.payload_len as usize)?;
+    fill(&mut h, buffer)?;
+    Ok(h)
+}
+
+/// Takes so many bytes from a reader into an empty buffer.
+fn read_payload<R: Read>(
+    reader: &mut R,
+    buffer: &mut Vec<u8>,
+    len: usize,
+) -> Result<(), DeserializeError>
+    requires { buffer.old.items ≡ [] }
+    ensures { TakesAs (R.remaining reader.old) (R.remaining reader.new)
+        (λ _. buffer.new.items) (bytes_at len) result }
+{
+    while buffer.len() < len {
+        let left = len - buffer.len();
+        read_piece(reader, buffer, left)?;
+    }
+    Ok(())
+}

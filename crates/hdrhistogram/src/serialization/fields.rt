@@ -1,0 +1,166 @@
+//! The header of V2 bytes, read field by field.
+
+ghost use Rattle.std.specs.Prelude.{◌≡◌, Some, IfOk};
+ghost use Rattle.hdrhistogram.specs.Faults.{Gives, TakesAs, Checks, named, cut};
+ghost use Rattle.hdrhistogram.specs.V2Read.{four_at, eight_at, cookie_fault, offset_fault, sigfig_fault, ratio_fault, header_at};
+ghost use Rattle.hdrhistogram.specs.HeaderView.{header_of};
+
+use crate::serialization::errors::DeserializeError;
+use crate::serialization::header::{COOKIE, RATIO};
+use crate::serialization::streams::read_whole;
+use byteorder::{BigEndian, ByteOrder};
+use std::io::{self, ErrorKind, Read};
+
+/// The cookie of the V2 encoding, compressed.
+const COMPRESSED_COOKIE: u32 = 0x1c84_9314;
+
+/// What a header tells.
+#[derive(Clone, Copy)]
+pub(crate) struct Header {
+    pub payload_len: u32,
+    pub sigfig: u8,
+    pub low: u64,
+    pub high: u64,
+}
+
+/// The error of bytes that end too soon.
+pub(crate) fn ended() -> DeserializeError
+    ensures { named result ≡ Some cut }
+{
+    DeserializeError::IoError(io::Error::from(ErrorKind::UnexpectedEof))
+}
+
+#[tactic(auto, unfolding(crate::specs::V2Read::cookie_fault))]
+fn check_cookie(cookie: u32) -> Result<(), DeserializeError>
+    ensures { Checks result (cookie_fault cookie) }
+{
+    if cookie == COOKIE {
+        Ok(())
+    } else if cookie == COMPRESSED_COOKIE {
+        Err(DeserializeError::UnsupportedFeature)
+    } else {
+        Err(DeserializeError::InvalidCookie)
+    }
+}
+
+#[tactic(auto, unfolding(crate::specs::V2Read::offset_fault))]
+fn check_offset(offset: u32) -> Result<(), DeserializeError>
+    ensures { Checks result (offset_fault offset) }
+{
+    if offset == 0 {
+        Ok(())
+    } else {
+        Err(DeserializeError::UnsupportedFeature)
+    }
+}
+
+#[tactic(auto, unfolding(crate::specs::V2Read::sigfig_fault))]
+fn check_sigfig(sigfig: u32) -> Result<u8, DeserializeError>
+    ensures fault { Checks result (sigfig_fault sigfig) }
+    ensures value { IfOk result (λ n. n ≡ sigfig) }
+{
+    if sigfig > 255 {
+        Err(DeserializeError::InvalidParameters)
+    } else {
+        Ok(sigfig as u8)
+    }
+}
+
+#[tactic(auto, unfolding(crate::specs::V2Read::ratio_fault))]
+fn check_ratio(ratio: u64) -> Result<(), DeserializeError>
+    ensures { Checks result (ratio_fault ratio) }
+{
+    if ratio == RATIO {
+        Ok(())
+    } else {
+        Err(DeserializeError::UnsupportedFeature)
+    }
+}
+
+/// The number in the first four bytes, and the text behind them.
+#[tactic(auto, unfolding(crate::specs::V2Read::four_at, crate::specs::V2Read::four_of))]
+fn four_at(text: &[u8]) -> Result<(u32, &[u8]), DeserializeError>
+    ensures { Gives (λ x. (x.0, x.1.now)) result (four_at text.now) }
+{
+    if text.len() < 4 {
+        return Err(ended());
+    }
+    Ok((BigEndian::read_u32(text), &text[4..]))
+}
+
+/// The number in the first eight bytes, and the text behind them.
+#[tactic(auto, unfolding(crate::specs::V2Read::eight_at, crate::specs::V2Read::eight_of))]
+fn eight_at(text: &[u8]) -> Result<(u64, &[u8]), DeserializeError>
+    ensures { Gives (λ x. (x.0, x.1.now)) result (eight_at text.now) }
+{
+    if text.len() < 8 {
+        return Err(ended());
+    }
+    Ok((BigEndian::read_u64(text), &text[8..]))
+}
+
+/// The header at the front of a text, and the text behind it.
+#[tactic(auto, unfolding(crate::specs::V2Read::header_at))]
+pub(crate) fn header_at(text: &[u8]) -> Result<(Header, &[u8]), DeserializeError>
+    ensures { Gives (λ x. (header_of x.0, x.1.now)) result (header_at text.now) }
+{
+    let (cookie, text) = four_at(text)?;
+    check_cookie(cookie)?;
+    let (payload_len, text) = four_at(text)?;
+    let (offset, text) = four_at(text)?;
+    check_offset(offset)?;
+    let (sigfig, text) = four_at(text)?;
+    let sigfig = check_sigfig(sigfig)?;
+    let (low, text) = eight_at(text)?;
+    let (high, text) = eight_at(text)?;
+    let (ratio, text) = eight_at(text)?;
+    check_ratio(ratio)?;
+    let header = Header {
+        payload_len,
+        sigfig,
+        low,
+        high,
+    };
+    Ok((header, text))
+}
+
+/// Takes a field of four bytes from a reader.
+fn read_four<R: Read>(reader: &mut R) -> Result<u32, DeserializeError>
+    ensures { TakesAs (R.remaining reader.old) (R.remaining reader.new) (λ n. n) four_at result }
+{
+    let mut bytes = [0u8; 4];
+    read_whole(reader, &mut bytes)?;
+    Ok(BigEndian::read_u32(&bytes))
+}
+
+/// Takes a field of eight bytes from a reader.
+fn read_eight<R: Read>(reader: &mut R) -> Result<u64, DeserializeError>
+    ensures { TakesAs (R.remaining reader.old) (R.remaining reader.new) (λ n. n) eight_at result }
+{
+    let mut bytes = [0u8; 8];
+    read_whole(reader, &mut bytes)?;
+    Ok(BigEndian::read_u64(&bytes))
+}
+
+/// Takes a header from a reader, and nothing behind it.
+pub(crate) fn read_header<R: Read>(reader: &mut R) -> Result<Header, DeserializeError>
+    ensures { TakesAs (R.remaining reader.old) (R.remaining reader.new) header_of header_at result }
+{
+    let cookie = read_four(reader)?;
+    check_cookie(cookie)?;
+    let payload_len = read_four(reader)?;
+    let offset = read_four(reader)?;
+    check_offset(offset)?;
+    let digits = read_four(reader)?;
+    let sigfig = check_sigfig(digits)?;
+    let low = read_eight(reader)?;
+    let high = read_eight(reader)?;
+    let ratio = read_eight(reader)?;
+    check_ratio(ratio)?;
+    Ok(Header {
+        payload_len,
+        sigfig,
+        low,
+        high,
+    })
+}

@@ -1,0 +1,60 @@
+//! The bytes of a histogram before they stand in a line.
+
+ghost use Rattle.std.specs.Prelude.{MatchResult};
+ghost use Rattle.hdrhistogram.specs.LogLeaving.{RefusesSerialized};
+
+use crate::serialization::interval_log::errors::IntervalLogWriterError;
+use crate::serialization::serializer::Serializer;
+use hdr_base::Counter;
+use hdr_core::Histogram;
+use std::alloc::Global;
+use std::io::{self, ErrorKind, Write};
+
+/// A buffer that a serializer writes to. It tells whether it could not grow.
+#[derive(Drop)]
+struct Buffer {
+    bytes: Vec<u8>,
+    is_refused: bool,
+}
+
+impl Write for Buffer {
+    ghost use Rattle.std.specs.Prelude.{Some};
+
+    ghost contents = { λ buffer. Some buffer.bytes.items };
+
+    fn write(&mut self, buf: &[u8]) -> io::Result<usize> {
+        match self.bytes.extend_from_slice(buf) {
+            Ok(()) => Ok(buf.len()),
+            Err(_) => {
+                self.is_refused = true;
+                Err(io::Error::from(ErrorKind::OutOfMemory))
+            }
+        }
+    }
+
+    fn flush(&mut self) -> io::Result<()> {
+        Ok(())
+    }
+}
+
+/// The bytes of a histogram by a serializer. A refusal is want of memory where the buffer could not grow, and else that
+/// of the serializer.
+pub(crate) fn serialized<T: Counter, S: Serializer>(
+    alloc: Global,
+    serializer: &mut S,
+    h: &Histogram<T>,
+) -> Result<Vec<u8>, IntervalLogWriterError<S::SerializeError>>
+where
+    S::SerializeError: Drop,
+    ensures { MatchResult result (λ bytes. S.writes h.now bytes.items) (RefusesSerialized (S.refuses h.now)) }
+{
+    let mut buffer = Buffer {
+        bytes: Vec::new(alloc),
+        is_refused: false,
+    };
+    match serializer.serialize(h, &mut buffer) {
+        Ok(_) => Ok(buffer.bytes),
+        Err(_) if buffer.is_refused => Err(IntervalLogWriterError::OutOfMemory),
+        Err(e) => Err(IntervalLogWriterError::SerializeError(e)),
+    }
+}

@@ -1,0 +1,227 @@
+//! How a log begins.
+
+ghost use Rattle.std.specs.Prelude.{◌≡◌, ◌<◌, ◌++◌, ◌∷◌, [], ◌↔◌, ℕ, List, false, Some, IfOk, OnOk, OnErr, MatchOption, map, string_bytes};
+ghost use Rattle.std.specs.List.{flat_map};
+ghost use Rattle.std.specs.Option.{option_map};
+ghost use Rattle.std.specs.Duration.{as_nanos};
+ghost use Rattle.std.specs.Io.KnownBytes.{Appends};
+ghost use Rattle.hdr_log.specs.Pieces.{Comment, StartsAt, BasedAt, piece_text, text_of};
+ghost use Rattle.hdrhistogram.specs.LogStarts.{new_start, thousandths_set, AreSmall, time_pieces, divisor_pieces, start_pieces, IsStartText, AreTimesInRange};
+ghost use Rattle.hdrhistogram.specs.LogLeaving.{WritesText, is_time_error};
+ghost use Rattle.hdrhistogram.specs.LogWriters.{sink, maker, divisor_of};
+
+use crate::serialization::interval_log::errors::{CommentError, IntervalLogWriterError};
+use crate::serialization::interval_log::writer::{IntervalLogWriter, write_text};
+use crate::serialization::serializer::Serializer;
+use hdr_log::text::{push_base_time, push_comment, push_divisor, push_start_time, thousandths};
+use std::alloc::{AllocError, Global};
+use std::io::Write;
+use std::marker::Model;
+use std::time::Duration;
+
+/// Says how a log begins: comments, and then the headers that are set. To its callers it is that beginning.
+#[derive(Drop)]
+pub struct IntervalLogWriterBuilder {
+    alloc: Global,
+    comments: Vec<String>,
+    start_time: Option<Duration>,
+    base_time: Option<Duration>,
+    max_value_divisor: u64,
+}
+
+impl Model for IntervalLogWriterBuilder {
+    ghost use Rattle.std.specs.Prelude.{◌<◌, ◌^◌, map, string_bytes};
+    ghost use Rattle.std.specs.Option.{option_map};
+    ghost use Rattle.std.specs.Duration.{as_nanos};
+    ghost use Rattle.hdrhistogram.specs.LogStarts.{LogStart};
+
+    ghost Value = { LogStart };
+
+    ghost view = { λ b. record {
+      comments = map string_bytes b.comments.items;
+      start_time = option_map as_nanos b.start_time;
+      base_time = option_map as_nanos b.base_time;
+      divisor = b.max_value_divisor;
+    } };
+
+    ghost invariant = { λ b. (0 < b.max_value_divisor) × (b.max_value_divisor < 2 ^ 64) };
+}
+
+impl IntervalLogWriterBuilder {
+    /// A beginning with no comment and no header. It takes no memory.
+    pub fn new(alloc: Global) -> IntervalLogWriterBuilder
+        ensures { result ≡ new_start }
+    {
+        IntervalLogWriterBuilder {
+            alloc,
+            comments: Vec::new(alloc),
+            start_time: None,
+            base_time: None,
+            max_value_divisor: 1,
+        }
+    }
+
+    /// Adds a comment behind those that are there. Each part of it between line feeds is to stand on a line of its own; a
+    /// part that spells a header is read as that header.
+    pub fn add_comment(&mut self, comment: &str) -> Result<(), CommentError>
+        ensures ok { OnOk result (self.new ≡ record self.old { comments = self.old.comments ++ comment.now ∷ [] }) }
+        ensures err { OnErr result (self.new ≡ self.old) }
+    {
+        let Ok(comment) = String::from_str(self.alloc, comment) else {
+            return Err(CommentError::OutOfMemory);
+        };
+        if self.comments.push(comment).is_err() {
+            return Err(CommentError::OutOfMemory);
+        }
+        Ok(())
+    }
+
+    /// Sets the start time, since the epoch. The last call counts.
+    pub fn with_start_time(&mut self, time: Duration) -> &mut Self
+        ensures same { result.ghost_name ≡ self.entry.ghost_name }
+        ensures set { result.now ≡ record self.old { start_time = Some (as_nanos time) } }
+    {
+        self.start_time = Some(time);
+        self
+    }
+
+    /// Sets the base time, since the epoch, from which the times of intervals count. The last call counts.
+    pub fn with_base_time(&mut self, time: Duration) -> &mut Self
+        ensures same { result.ghost_name ≡ self.entry.ghost_name }
+        ensures set { result.now ≡ record self.old { base_time = Some (as_nanos time) } }
+    {
+        self.base_time = Some(time);
+        self
+    }
+
+    /// Sets the divisor by which greatest values are divided before they are written, 1 if it is not set. The last call
+    /// counts.
+    pub fn with_max_value_divisor(&mut self, divisor: u64) -> &mut Self
+        requires { 0 < divisor }
+        ensures same { result.ghost_name ≡ self.entry.ghost_name }
+        ensures set { result.now ≡ record self.old { divisor = divisor } }
+    {
+        self.max_value_divisor = divisor;
+        self
+    }
+
+    /// Writes the comments in order, and then the headers that are set: start time, base time, and a divisor other than 1.
+    /// A time whose seconds do not fit 64 bits is told before memory is asked for. The text is built whole and then
+    /// written: after an i/o error a beginning of it stands in the writer, and any other refusal wrote nothing.
+    pub fn write_headers<W: Write, E>(
+        &self,
+        writer: &mut W,
+    ) -> Result<(), IntervalLogWriterError<E>>
+        ensures leaves { WritesText (IsStartText self.now) (λ _. ⊥) (W.contents writer.old) (W.contents writer.new) result }
+        ensures time { (is_time_error result ≡ false) ↔ AreTimesInRange self.now }
+    {
+        let Some(start_time) = header_time(self.start_time) else {
+            return Err(IntervalLogWriterError::TimeOutOfRange);
+        };
+        let Some(base_time) = header_time(self.base_time) else {
+            return Err(IntervalLogWriterError::TimeOutOfRange);
+        };
+        let mut text = Vec::new(self.alloc);
+        match push_start(
+            &mut text,
+            &self.comments,
+            start_time,
+            base_time,
+            self.max_value_divisor,
+        ) {
+            Ok(()) => write_text(writer, &text),
+            Err(_) => Err(IntervalLogWriterError::OutOfMemory),
+        }
+    }
+
+    /// Begins a log: `write_headers`, and then `IntervalLogWriter::new`, which lends the writer and the serializer to the
+    /// log's writer until that is dropped. What stands in the writer after a refusal is said at `write_headers`.
+    pub fn begin_log_with<'a, 'b, W: Write, S: Serializer>(
+        &self,
+        writer: &'a mut W,
+        serializer: &'b mut S,
+    ) -> Result<IntervalLogWriter<'a, 'b, W, S>, IntervalLogWriterError<S::SerializeError>>
+        ensures writer { IfOk result (λ log. (sink log).ghost_name ≡ writer.entry.ghost_name) }
+        ensures serializer { IfOk result (λ log. (maker log).ghost_name ≡ serializer.entry.ghost_name) }
+        ensures written { IfOk result (λ log. (text : List ℕ) × IsStartText self.now text
+            × Appends (W.contents writer.old) (W.contents (sink log).now) text) }
+        ensures lent { IfOk result (λ log. ((maker log).now ≡ serializer.old) × (divisor_of log ≡ self.now.divisor)) }
+        ensures time { (is_time_error result ≡ false) ↔ AreTimesInRange self.now }
+    {
+        match self.write_headers(writer) {
+            Ok(()) => Ok(IntervalLogWriter::new(
+                self.alloc,
+                writer,
+                serializer,
+                self.max_value_divisor,
+            )),
+            Err(e) => Err(e),
+        }
+    }
+}
+
+/// The time of a header in thousandths, if it is set; `None` where its seconds do not fit 64 bits.
+fn header_time(time: Option<Duration>) -> Option<Option<u128>>
+    ensures value { MatchOption result (AreSmall (thousandths_set (option_map as_nanos time)) → ⊥)
+        (λ t. (t ≡ thousandths_set (option_map as_nanos time)) × AreSmall t) }
+{
+    match time {
+        None => Some(None),
+        Some(time) => match thousandths(time) {
+            None => None,
+            Some(time) => Some(Some(time)),
+        },
+    }
+}
+
+/// Adds comments in order.
+fn push_comments(text: &mut Vec<u8>, comments: &[String]) -> Result<(), AllocError>
+    ensures { OnOk result (text.new.items ≡ text.old.items
+        ++ flat_map (λ comment. piece_text (Comment (string_bytes comment))) comments.now) }
+{
+    for comment in comments {
+        push_comment(text, comment.as_str())?;
+    }
+    Ok(())
+}
+
+/// Adds the headers that are set.
+fn push_headers(
+    text: &mut Vec<u8>,
+    start_time: Option<u128>,
+    base_time: Option<u128>,
+    divisor: u64,
+) -> Result<(), AllocError>
+    requires start { AreSmall start_time }
+    requires base { AreSmall base_time }
+    ensures { OnOk result (text.new.items ≡ text.old.items
+        ++ (text_of (time_pieces StartsAt start_time) ++ (text_of (time_pieces BasedAt base_time)
+        ++ text_of (divisor_pieces divisor)))) }
+{
+    if let Some(time) = start_time {
+        push_start_time(text, time)?;
+    }
+    if let Some(time) = base_time {
+        push_base_time(text, time)?;
+    }
+    if divisor != 1 {
+        push_divisor(text, divisor)?;
+    }
+    Ok(())
+}
+
+/// Adds comments in order, and then the headers that are set.
+fn push_start(
+    text: &mut Vec<u8>,
+    comments: &[String],
+    start_time: Option<u128>,
+    base_time: Option<u128>,
+    divisor: u64,
+) -> Result<(), AllocError>
+    requires start { AreSmall start_time }
+    requires base { AreSmall base_time }
+    ensures { OnOk result (text.new.items ≡ text.old.items ++ text_of (start_pieces (map string_bytes comments.now) start_time base_time divisor)) }
+{
+    push_comments(text, comments)?;
+    push_headers(text, start_time, base_time, divisor)
+}

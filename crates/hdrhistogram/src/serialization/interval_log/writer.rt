@@ -1,0 +1,141 @@
+//! The writer of a log.
+
+ghost use Rattle.std.specs.Prelude.{◌≡◌, ◌<◌, ◌^◌, ◌↔◌, false};
+ghost use Rattle.std.specs.Option.{option_map};
+ghost use Rattle.std.specs.Duration.{as_nanos};
+ghost use Rattle.hdr_log.specs.Tags.{tag_text};
+ghost use Rattle.hdr_log.specs.Texts.{IsTimeInRange};
+ghost use Rattle.hdr_log.specs.Pieces.{Comment, piece_text};
+ghost use Rattle.hdrhistogram.specs.LogLeaving.{WritesText, IsIntervalText, is_time_error};
+
+use crate::serialization::interval_log::buffer::serialized;
+use crate::serialization::interval_log::errors::IntervalLogWriterError;
+use crate::serialization::serializer::Serializer;
+use crate::serialization::streams::write_whole;
+use hdr_base::Counter;
+use hdr_core::Histogram;
+use hdr_log::Tag;
+use hdr_log::text::{push_comment, push_interval, scaled, thousandths};
+use std::alloc::Global;
+use std::io::Write;
+use std::time::Duration;
+
+/// Writes an interval log, which `IntervalLogWriterBuilder` begins. After a refusal it can be used again.
+pub struct IntervalLogWriter<'a, 'b, W, S> {
+    writer: &'a mut W,
+    serializer: &'b mut S,
+    max_value_divisor: u64,
+    alloc: Global,
+    ghost divides: { 0 < max_value_divisor },
+}
+
+/// Writes a text that was built.
+pub(crate) fn write_text<W: Write, E>(
+    writer: &mut W,
+    text: &[u8],
+) -> Result<(), IntervalLogWriterError<E>>
+    ensures leaves { WritesText (λ t. t ≡ text.now) (λ _. ⊥) (W.contents writer.old) (W.contents writer.new) result }
+    ensures time { is_time_error result ≡ false }
+{
+    match write_whole(writer, text) {
+        Ok(()) => Ok(()),
+        Err(e) => Err(IntervalLogWriterError::IoError(e)),
+    }
+}
+
+impl<'a, 'b, W: Write, S: Serializer> IntervalLogWriter<'a, 'b, W, S> {
+    ghost use Rattle.hdrhistogram.specs.LogWriters.{sink, maker, divisor_of, IsSameLog};
+
+    /// A writer that goes on with a log, whose greatest values are divided by this divisor. It writes nothing.
+    pub fn new(
+        alloc: Global,
+        writer: &'a mut W,
+        serializer: &'b mut S,
+        max_value_divisor: u64,
+    ) -> IntervalLogWriter<'a, 'b, W, S>
+        requires { 0 < max_value_divisor }
+        ensures writer { (sink result).ghost_name ≡ writer.entry.ghost_name }
+        ensures serializer { (maker result).ghost_name ≡ serializer.entry.ghost_name }
+        ensures holds { (sink result).now ≡ writer.old }
+        ensures makes { (maker result).now ≡ serializer.old }
+        ensures divisor { divisor_of result ≡ max_value_divisor }
+    {
+        IntervalLogWriter {
+            writer,
+            serializer,
+            max_value_divisor,
+            alloc,
+        }
+    }
+
+    /// Writes a comment, each part of it between line feeds on a line of its own. A part that spells a header is read as
+    /// that header.
+    pub fn write_comment(
+        &mut self,
+        comment: &str,
+    ) -> Result<(), IntervalLogWriterError<S::SerializeError>>
+        ensures same { IsSameLog self.old self.new }
+        ensures leaves { WritesText (λ text. text ≡ piece_text (Comment comment.now)) (λ _. ⊥)
+            (W.contents (sink self.old).now) (W.contents (sink self.new).now) result }
+        ensures time { is_time_error result ≡ false }
+    {
+        let mut text = Vec::new(self.alloc);
+        if push_comment(&mut text, comment).is_err() {
+            return Err(IntervalLogWriterError::OutOfMemory);
+        }
+        write_text(self.writer, &text)
+    }
+
+    /// Writes the interval of a histogram: its tag, when it began and how long it was, its greatest value, and its bytes.
+    /// A time whose seconds do not fit 64 bits is told first, then the histogram is serialized, and then the line is built
+    /// whole and written: after an i/o error a beginning of it stands in the writer, and any other refusal wrote nothing.
+    pub fn write_histogram<T: Counter>(
+        &mut self,
+        h: &Histogram<T>,
+        start_timestamp: Duration,
+        duration: Duration,
+        tag: Option<Tag<'_>>,
+    ) -> Result<(), IntervalLogWriterError<S::SerializeError>>
+    where
+        S::SerializeError: Drop,
+        ensures same { IsSameLog self.old self.new }
+        ensures leaves { WritesText (IsIntervalText S.writes h.now (option_map tag_text tag.entry)
+            (as_nanos start_timestamp) (as_nanos duration) (divisor_of self.old)) (S.refuses h.now)
+            (W.contents (sink self.old).now) (W.contents (sink self.new).now) result }
+        ensures time { (is_time_error result ≡ false)
+            ↔ (IsTimeInRange (as_nanos start_timestamp) × IsTimeInRange (as_nanos duration)) }
+    {
+        let Some(start) = thousandths(start_timestamp) else {
+            return Err(IntervalLogWriterError::TimeOutOfRange);
+        };
+        let Some(duration) = thousandths(duration) else {
+            return Err(IntervalLogWriterError::TimeOutOfRange);
+        };
+        let bytes = match serialized(self.alloc, self.serializer, h) {
+            Ok(bytes) => bytes,
+            Err(e) => return Err(e),
+        };
+        let max = scaled(h.max(), self.max_value_divisor);
+        let mut text = Vec::new(self.alloc);
+        if push_interval(&mut text, tag, start, duration, max, &bytes).is_err() {
+            return Err(IntervalLogWriterError::OutOfMemory);
+        }
+        write_text(self.writer, &text)
+    }
+}
+
+impl<W, S> Drop for IntervalLogWriter<'_, '_, W, S> {
+    ghost use Rattle.hdrhistogram.specs.LogWriters.{sink, maker};
+
+    fn drop(self)
+        ensures writer { self.exit.0.now ≡ (sink self.entry).now }
+        ensures serializer { self.exit.1.0.now ≡ (maker self.entry).now }
+    {
+        let IntervalLogWriter {
+            writer: _,
+            serializer: _,
+            max_value_divisor: _,
+            alloc: _,
+        } = self;
+    }
+}
