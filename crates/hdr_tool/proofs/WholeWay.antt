@@ -13,7 +13,8 @@ use Rattle.hdrhistogram.specs.V2Read.{IsReadBack}
 use Rattle.hdr_tool.specs.declared.fault.Fault.{Fault}
 use Rattle.hdr_tool.specs.declared.words.Command.{Command}
 use Rattle.hdr_tool.specs.declared.words.Command.TheVariants as command
-use Rattle.hdr_tool.specs.Parts.{◌>>=◌, each, parts}
+use Rattle.hdr_log.specs.Parts.{◌>>=◌, parts}
+use Rattle.hdr_tool.specs.Parts.{each}
 use Rattle.hdr_tool.specs.Words.{sigfig_of, quantile_of_word, Task, Report, Log, Merge, figures_of, log_of, command_named, task_named, task_of}
 use Rattle.hdr_tool.specs.Report.{IsReport}
 use Rattle.hdr_tool.specs.Program.{Program}

@@ -22,6 +22,7 @@ use run::run;
 use std::env;
 use std::io::{BufWriter, ErrorKind, Write};
 use std::process::ExitCode;
+use stream::Patient;
 
 /// How much of the output is held back at most.
 const HELD: usize = 65_536;
@@ -43,7 +44,10 @@ fn words_given(rt: &HostRuntime) -> Result<Vec<String>, Fault> {
 /// Runs the program on the streams of the process.
 fn hdr(rt: &HostRuntime) -> Result<(), Fault> {
     let words = words_given(rt)?;
-    let Ok(mut output) = BufWriter::with_capacity(rt.alloc(), HELD, rt.stdout()) else {
+    let output = Patient {
+        writer: rt.stdout(),
+    };
+    let Ok(mut output) = BufWriter::with_capacity(rt.alloc(), HELD, output) else {
         return Err(Fault::NoMemory);
     };
     let ran = run(rt.alloc(), words.as_slice(), &mut rt.stdin(), &mut output);
