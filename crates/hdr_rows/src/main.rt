@@ -6,7 +6,8 @@
 //! `WHO CALL NUMBERS = ANSWER`; numbers that are left out are 0, and an answer that is left out is `ok`. Truths of a histogram
 //! are 1 and 0, comparisons of two are `true` and `false`. `run CALL, CALL` and `apply CALL` do calls as values; `agree` and
 //! `agree_below` correct `one` class by class and `other` value by value, and are `ok` where both are the same then.
-//! Empty lines, and lines that begin with `#`, are for the reader.
+//! Empty lines, and lines that begin with `#`, are for the reader. A line that begins with `! ` has to answer otherwise than it
+//! says: such lines are wrong on purpose, and each is named by its number, so that a player that accepts too much is seen.
 #![tactic(auto)]
 
 mod answer;
@@ -24,8 +25,27 @@ use play::Play;
 use std::io;
 use std::process::ExitCode;
 
-/// Plays a line: prints the title of a row that begins, and a line that answers otherwise. Whether it answered as it says.
-fn line_agrees(rt: &HostRuntime, play: &mut Play, line: &str) -> io::Result<bool> {
+/// Plays a line that is wrong on purpose, and prints its number. Whether it answered otherwise than it says.
+fn line_differs(
+    rt: &HostRuntime,
+    play: &mut Play,
+    number: u64,
+    line: &str,
+) -> io::Result<bool> {
+    let differs = !play.agrees(rt.alloc(), line);
+    if differs {
+        println!(rt; "  differs at line {number}")?;
+    } else {
+        println!(rt; "  must differ at line {number}: {line}")?;
+    }
+    Ok(differs)
+}
+
+/// Plays a line: prints the title of a row that begins, and a line that answers otherwise. Whether it answered as it has to.
+fn line_passes(rt: &HostRuntime, play: &mut Play, number: u64, line: &str) -> io::Result<bool> {
+    if let Some(wrong) = line.strip_prefix("! ") {
+        return line_differs(rt, play, number, wrong);
+    }
     if let Some(title) = line.strip_prefix("row ") {
         println!(rt; "{title}")?;
     }
@@ -36,11 +56,13 @@ fn line_agrees(rt: &HostRuntime, play: &mut Play, line: &str) -> io::Result<bool
     Ok(agrees)
 }
 
-/// Plays the lines of a text, and answers how many answered otherwise.
+/// Plays the lines of a text, and answers how many answered otherwise than they have to.
 fn differing(rt: &HostRuntime, play: &mut Play, text: &str) -> io::Result<u64> {
     let mut differ: u64 = 0;
+    let mut number: u64 = 0;
     for line in text.lines() {
-        if !line_agrees(rt, play, line)? {
+        number = number.saturating_add(1);
+        if !line_passes(rt, play, number, line)? {
             differ = differ.saturating_add(1);
         }
     }
