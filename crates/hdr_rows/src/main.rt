@@ -12,7 +12,11 @@
 
 mod answer;
 mod bare;
+mod base;
+mod bytes;
 mod c12;
+mod items;
+mod logs;
 mod names;
 mod one_by_one;
 mod play;
