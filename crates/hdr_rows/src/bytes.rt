@@ -34,18 +34,31 @@ impl<'a> Read for Slow<'a> {
     }
 }
 
+/// Whether a serializer writes the bytes that it lent, and tells how many they are.
+fn writes<T: Counter>(alloc: Global, h: &Histogram<T>, lent: &[u8]) -> bool {
+    match h.serialize(alloc) {
+        Ok(written) => written.0.as_slice() == lent && written.1 == lent.len(),
+        Err(_) => false,
+    }
+}
+
 /// The V2 bytes, lent and written alike.
 pub fn to_bytes<T: Counter>(alloc: Global, h: &Histogram<T>) -> Option<Answer> {
-    match (h.to_bytes(alloc), h.serialize(alloc)) {
-        (Ok(lent), Ok((written, count))) => {
-            if lent.as_slice() == written.as_slice() && count == lent.len() {
+    match h.to_bytes(alloc) {
+        Ok(lent) => {
+            if writes(alloc, h, lent.as_slice()) {
                 text(hex::encode(alloc, lent).ok())
             } else {
                 Some(Answer::Differ)
             }
         }
-        (Err(error), Err(_)) => Some(Answer::Unserialized(error)),
-        _ => Some(Answer::Differ),
+        Err(error) => {
+            if h.serialize(alloc).is_err() {
+                Some(Answer::Unserialized(error))
+            } else {
+                Some(Answer::Differ)
+            }
+        }
     }
 }
 
@@ -62,31 +75,33 @@ pub fn payload<T: Counter>(alloc: Global, h: &Histogram<T>) -> Option<Answer> {
     }
 }
 
-/// What both ways of reading bytes answer: how many were taken, with the histogram that was read.
-type Reading<T> = Result<(Histogram<T>, usize), DeserializeError>;
-
-/// Reads the bytes by a reader that gives one of them a call.
-fn read_slowly<T: Counter>(alloc: Global, bytes: &[u8]) -> Reading<T> {
-    let mut slow = Slow { left: bytes };
-    let read = Histogram::deserialize(alloc, &mut slow)?;
-    Ok((read, bytes.len().saturating_sub(slow.left.len())))
+/// What was read of bytes, and how many of them it took.
+#[derive(Drop)]
+struct Taken<T: Counter> {
+    histogram: Histogram<T>,
+    bytes: usize,
 }
 
-/// Puts what was read in a histogram's place, where both readings agree, and answers how many bytes it took.
-fn placed<T: Counter>(h: &mut Histogram<T>, quick: Reading<T>, slow: Reading<T>) -> Answer {
-    match (quick, slow) {
-        (Ok((read, taken)), Ok((again, count))) => {
-            if count == taken && read.is(&again) && same(&read, &again) {
-                *h = read;
-                Answer::Number(taken as u64)
-            } else {
-                Answer::Differ
-            }
-        }
-        (Err(error), Err(again)) if deserialize_name(&error) == deserialize_name(&again) =>
-            Answer::Unread(error),
-        _ => Answer::Differ,
-    }
+fn read_slice<T: Counter>(alloc: Global, bytes: &[u8]) -> Result<Taken<T>, DeserializeError> {
+    let (histogram, bytes) = Histogram::decode_slice(alloc, bytes)?;
+    Ok(Taken { histogram, bytes })
+}
+
+/// Reads the bytes by a reader that gives one of them a call.
+fn read_slowly<T: Counter>(alloc: Global, bytes: &[u8]) -> Result<Taken<T>, DeserializeError> {
+    let mut slow = Slow { left: bytes };
+    let histogram = Histogram::deserialize(alloc, &mut slow)?;
+    Ok(Taken {
+        histogram,
+        bytes: bytes.len().saturating_sub(slow.left.len()),
+    })
+}
+
+/// Whether two readings of the same bytes answer the same.
+fn agree<T: Counter>(one: &Taken<T>, other: &Taken<T>) -> bool {
+    one.bytes == other.bytes
+        && one.histogram.is(&other.histogram)
+        && same(&one.histogram, &other.histogram)
 }
 
 /// Reads a histogram from bytes, with more of them after it unless they are read alone.
@@ -100,9 +115,21 @@ pub fn decode<T: Counter>(
     if !alone {
         bytes.extend_from_slice(REST.as_slice()).ok()?;
     }
-    let quick = Histogram::decode_slice(alloc, bytes.as_slice());
     let slow = read_slowly(alloc, bytes.as_slice());
-    Some(placed(h, quick, slow))
+    match read_slice(alloc, bytes.as_slice()) {
+        Ok(read) => match slow {
+            Ok(again) if agree(&read, &again) => {
+                *h = read.histogram;
+                Some(Answer::Number(read.bytes as u64))
+            }
+            _ => Some(Answer::Differ),
+        },
+        Err(error) => match slow {
+            Err(again) if deserialize_name(&again) == deserialize_name(&error) =>
+                Some(Answer::Unread(error)),
+            _ => Some(Answer::Differ),
+        },
+    }
 }
 
 /// The spelling of a number.

@@ -51,21 +51,18 @@ fn listed(told: String) -> Answer {
 }
 
 /// The items of an iterator, between commas; of a long list the first ones, and how many there are.
-fn items<T: Counter, I: Iterator<Item = IterationValue<T>> + Drop>(
-    alloc: Global,
-    list: I,
-) -> Option<Answer> {
+fn items<T: Counter>(alloc: Global, list: Option<Vec<IterationValue<T>>>) -> Option<Answer> {
     let mut told = String::new(alloc);
     let mut number: u64 = 0;
-    for item in list {
-        if !is_whole(&item) {
+    for item in list?.as_slice() {
+        if !is_whole(item) {
             return Some(Answer::Differ);
         }
         if number < SHOWN {
             if number > 0 {
                 told.push_str(", ").ok()?;
             }
-            push_item(&mut told, &item)?;
+            push_item(&mut told, item)?;
         }
         number = number.saturating_add(1);
     }
@@ -90,12 +87,12 @@ pub fn told<T: Counter>(
     let [first, second, _] = numbers;
     let h = &h.inner;
     match name {
-        "iter_all" => items(alloc, h.iter_all()),
-        "iter_recorded" => items(alloc, h.iter_recorded()),
-        "iter_linear" if first >= 1 => items(alloc, h.iter_linear(first)),
-        "iter_log" if first >= 1 && second >= 2 => items(alloc, h.iter_log(first, second)),
+        "iter_all" => items(alloc, h.iter_all().collect(alloc).ok()),
+        "iter_recorded" => items(alloc, h.iter_recorded().collect(alloc).ok()),
+        "iter_linear" if first >= 1 => items(alloc, h.iter_linear(first).collect(alloc).ok()),
+        "iter_log" if first >= 1 && second >= 2 => items(alloc, h.iter_log(first, second).collect(alloc).ok()),
         "iter_quantiles" => match u32::try_from(first) {
-            Ok(ticks) if ticks >= 1 => items(alloc, h.iter_quantiles(ticks)),
+            Ok(ticks) if ticks >= 1 => items(alloc, h.iter_quantiles(ticks).collect(alloc).ok()),
             _ => None,
         },
         "quantile_below" => ratio(alloc, h.quantile_below(first)),
@@ -120,9 +117,9 @@ fn fractions(alloc: Global, words: &str) -> Option<Vec<Quantile>> {
 }
 
 /// Numbers between spaces.
-fn values<I: Iterator<Item = u64> + Drop>(alloc: Global, list: I) -> Option<Answer> {
+fn values(alloc: Global, list: Option<Vec<u64>>) -> Option<Answer> {
     let mut told = String::new(alloc);
-    for value in list {
+    for value in list?.as_slice() {
         if !told.is_empty() {
             told.push(' ').ok()?;
         }
@@ -138,7 +135,7 @@ pub fn value_at_quantiles<T: Counter>(
     words: &str,
 ) -> Option<Answer> {
     let list = fractions(alloc, words)?;
-    values(alloc, h.inner.value_at_quantiles(list.as_slice()))
+    values(alloc, h.inner.value_at_quantiles(list.as_slice()).collect(alloc).ok())
 }
 
 /// The answers to many percentiles.
@@ -148,5 +145,5 @@ pub fn value_at_percentiles<T: Counter>(
     words: &str,
 ) -> Option<Answer> {
     let list = fractions(alloc, words)?;
-    values(alloc, h.inner.value_at_percentiles(list.as_slice()))
+    values(alloc, h.inner.value_at_percentiles(list.as_slice()).collect(alloc).ok())
 }
