@@ -1,12 +1,17 @@
-//! Memory that is refused: each of these tests is run with each request for memory refused in turn,
-//! and prints `no memory` exactly where one was refused.
+//! Bytes and logs.
 
-use crate::Histogram;
-use crate::serialization::{
+use crate::tests::FIRST_RUN;
+use hdr_log::field::{FieldError, decoded};
+use hdrhistogram::Histogram;
+use hdrhistogram::serialization::interval_log::{
+    CommentError, IntervalLogWriterBuilder, IntervalLogWriterError,
+};
+use hdrhistogram::serialization::{
     DeserializeError, Deserializer, Serializer, V2SerializeError, V2Serializer,
 };
-use crate::tests::FIRST_RUN;
+use std::alloc::Global;
 use std::test::Fail;
+use std::time::Duration;
 
 #[test]
 fn to_bytes(rt: HostRuntime) -> Result<(), Fail> {
@@ -79,5 +84,56 @@ fn deserialize(rt: HostRuntime) -> Result<(), Fail> {
     let h = deserializer.deserialize::<u64, &[u8]>(&mut reader)?;
     assert_eq!(rt; h.len(), 5);
     assert!(rt; reader.is_empty());
+    Ok(())
+}
+
+#[test]
+fn field(rt: HostRuntime) -> Result<(), Fail> {
+    match decoded(rt.alloc(), "AQI=") {
+        Ok(bytes) => assert_eq!(rt; bytes.as_slice(), [1u8, 2].as_slice()),
+        Err(error) => {
+            assert!(rt; error == FieldError::OutOfMemory);
+            println!(rt; "no memory")?;
+        }
+    }
+    Ok(())
+}
+
+/// Whether comments and an interval are written whole, or memory is refused and nothing is written.
+fn is_written(alloc: Global, h: &Histogram<u64>, log: &mut Vec<u8>) -> Option<bool> {
+    let mut serializer = V2Serializer::new(alloc);
+    let mut builder = IntervalLogWriterBuilder::new(alloc);
+    if let Err(CommentError::OutOfMemory) = builder.add_comment("a") {
+        return Some(false);
+    }
+    let mut writer = match builder.begin_log_with(log, &mut serializer) {
+        Ok(writer) => writer,
+        Err(IntervalLogWriterError::OutOfMemory) => return Some(false),
+        Err(_) => return None,
+    };
+    match writer.write_histogram(h, Duration::new(0, 0), Duration::new(0, 0), None) {
+        Ok(()) => Some(true),
+        Err(IntervalLogWriterError::OutOfMemory) => Some(false),
+        Err(IntervalLogWriterError::SerializeError(V2SerializeError::OutOfMemory)) => Some(false),
+        Err(_) => None,
+    }
+}
+
+#[test]
+fn log(rt: HostRuntime) -> Result<(), Fail> {
+    let Ok(h) = Histogram::<u64>::new(rt.alloc(), 0) else {
+        return Ok(println!(rt; "no memory")?);
+    };
+    let Ok(mut log) = Vec::with_capacity(rt.alloc(), 200) else {
+        return Ok(println!(rt; "no memory")?);
+    };
+    match is_written(rt.alloc(), &h, &mut log) {
+        Some(true) => assert!(rt; log.as_slice().starts_with(b"#a\n0.000,0.000,0.000,HIST")),
+        Some(false) => {
+            assert!(rt; log.is_empty() || log.as_slice() == b"#a\n".as_slice());
+            println!(rt; "no memory")?;
+        }
+        None => return Err(Fail::from("another error")),
+    }
     Ok(())
 }
