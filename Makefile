@@ -11,6 +11,7 @@ install: all
 check:
 	rt ci
 	tools/refused.sh
+	tools/refused_main.sh
 	tools/cases.sh
 
 bench:
