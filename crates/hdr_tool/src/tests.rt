@@ -124,8 +124,8 @@ fn a_byte_at_a_time(rt: HostRuntime) -> Result<(), Fail> {
     Ok(())
 }
 
-/// The kinds of failure that the kit has, but for those that `run` treats on their own: an interruption, which is tried
-/// again, and out of memory.
+/// The kinds of failure that the kit has, but for two that are no failures of a reader here: an interruption, which is
+/// tried again, and out of memory.
 const KINDS: [ErrorKind; 40] = [
     ErrorKind::NotFound,
     ErrorKind::PermissionDenied,
@@ -170,7 +170,12 @@ const KINDS: [ErrorKind; 40] = [
 ];
 
 /// Runs the small report with one read that fails.
-fn run_unread(alloc: Global, words: &[String], kind: ErrorKind, at: u64) -> (Result<(), Fault>, Sink) {
+fn run_unread(
+    alloc: Global,
+    words: &[String],
+    kind: ErrorKind,
+    at: u64,
+) -> (Result<(), Fault>, Sink) {
     let mut source = Source::new(SMALL_INPUT, 1);
     source.fails_at = at;
     source.kind = kind;
@@ -199,13 +204,22 @@ fn each_read_fails(rt: HostRuntime) -> Result<(), Fail> {
 
 /// Runs words on the small input with one write that fails, and tells whether that is the fault, and just a beginning of
 /// the output was written.
-fn is_told(alloc: Global, words: &[String], input: &[u8], output: &str, kind: Option<ErrorKind>, at: u64) -> bool {
+fn is_told(
+    alloc: Global,
+    words: &[String],
+    input: &[u8],
+    output: &str,
+    kind: Option<ErrorKind>,
+    at: u64,
+) -> bool {
     let mut source = Source::new(input, 20);
     let mut sink = Sink::new(10);
     sink.fails_at = at;
     sink.kind = kind;
     let ran = run(alloc, words, &mut source, &mut sink);
-    let len = output.len().min((at.saturating_sub(1)).saturating_mul(10) as usize);
+    let len = output
+        .len()
+        .min((at.saturating_sub(1)).saturating_mul(10) as usize);
     matches!(ran, Err(Fault::CannotWrite)) && sink.text() == &output.as_bytes()[..len]
 }
 
@@ -221,8 +235,14 @@ fn each_write_fails(rt: HostRuntime) -> Result<(), Fail> {
     let log = words_of(rt.alloc(), "log 3")?;
     let (report, log) = (report.as_slice(), log.as_slice());
     for at in 1..=9u64 {
-        assert!(rt; is_told(rt.alloc(), report, SMALL_INPUT, SMALL_OUTPUT, None, at), "at {at}");
-        assert!(rt; is_told(rt.alloc(), log, LOG_INPUT, LOG_OUTPUT, None, at), "at {at}");
+        assert!(rt;
+            is_told(rt.alloc(), report, SMALL_INPUT, SMALL_OUTPUT, None, at),
+            "at {at}"
+        );
+        assert!(rt;
+            is_told(rt.alloc(), log, LOG_INPUT, LOG_OUTPUT, None, at),
+            "at {at}"
+        );
         for kind in KINDS {
             let kind = Some(kind);
             assert!(rt;
@@ -238,18 +258,31 @@ fn each_write_fails(rt: HostRuntime) -> Result<(), Fail> {
     Ok(())
 }
 
-#[test]
-fn interruptions_pass(rt: HostRuntime) -> Result<(), Fail> {
-    let words = words_of(rt.alloc(), SMALL)?;
-    let mut source = Source::new(SMALL_INPUT, 7);
+/// Runs words with an interrupted read and an interrupted write, on an output that tries again, and tells whether all of
+/// the output was written.
+fn passes(alloc: Global, words: &[String], input: &[u8], output: &str) -> bool {
+    let mut source = Source::new(input, 7);
     source.fails_at = 2;
     source.kind = ErrorKind::Interrupted;
     let mut sink = Sink::new(10);
     sink.fails_at = 2;
     sink.kind = Some(ErrorKind::Interrupted);
-    let ran = run(rt.alloc(), words.as_slice(), &mut source, &mut sink);
-    assert!(rt; ran.is_ok());
-    assert_eq!(rt; sink.text(), SMALL_OUTPUT.as_bytes());
+    let mut patient = Patient { writer: sink };
+    let ran = run(alloc, words, &mut source, &mut patient);
+    ran.is_ok() && patient.writer.text() == output.as_bytes()
+}
+
+#[test]
+fn interruptions_pass(rt: HostRuntime) -> Result<(), Fail> {
+    let report = words_of(rt.alloc(), SMALL)?;
+    let log = words_of(rt.alloc(), "log 3")?;
+    let (report, log) = (report.as_slice(), log.as_slice());
+    assert!(rt; passes(rt.alloc(), report, SMALL_INPUT, SMALL_OUTPUT));
+    assert!(rt; passes(rt.alloc(), log, LOG_INPUT, LOG_OUTPUT));
+    // An output that does not try again ends either command alike.
+    let kind = Some(ErrorKind::Interrupted);
+    assert!(rt; is_told(rt.alloc(), report, SMALL_INPUT, SMALL_OUTPUT, kind, 2));
+    assert!(rt; is_told(rt.alloc(), log, LOG_INPUT, LOG_OUTPUT, kind, 2));
     Ok(())
 }
 
