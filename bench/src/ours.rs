@@ -11,6 +11,8 @@ mod exported {
         pub safe fn hdrb_iter_recorded(seed: u64, n: u64) -> u64;
         pub safe fn hdrb_iter_all(seed: u64, n: u64) -> u64;
         pub safe fn hdrb_deserialize(seed: u64, n: u64) -> u64;
+        pub safe fn hdrb_log_line(seed: u64, n: u64) -> u64;
+        pub safe fn hdrb_log_read(seed: u64, n: u64) -> u64;
     }
 }
 
@@ -18,6 +20,8 @@ pub use exported::hdrb_add as add;
 pub use exported::hdrb_correct as correct;
 pub use exported::hdrb_deserialize as deserialize;
 pub use exported::hdrb_generate as generate;
+pub use exported::hdrb_log_line as log_line;
+pub use exported::hdrb_log_read as log_read;
 pub use exported::hdrb_quantile as quantile;
 pub use exported::hdrb_record as record;
 pub use exported::hdrb_iter_all as iter_all;

@@ -1,8 +1,10 @@
 //! The workloads over the Rust crate.
 
 use hdrhistogram::Histogram;
+use hdrhistogram::serialization::interval_log::{IntervalLogIterator, IntervalLogWriterBuilder, LogEntry};
 use hdrhistogram::serialization::{Deserializer, Serializer, V2Serializer};
 use std::hint::black_box;
+use std::time::Duration;
 
 const HIGH: u64 = 3_600_000_000;
 
@@ -122,6 +124,53 @@ pub fn deserialize(seed: u64, n: u64) -> u64 {
     for _ in 0..n {
         let read: Histogram<u64> = deserializer.deserialize(&mut black_box(&bytes[..])).expect("written by the crate");
         sum = sum.wrapping_add(read.len());
+    }
+    sum
+}
+
+/// An interval's histogram: 2,000 classes from 1 ms on hold 1 to 1024 each.
+fn interval(seed: u64) -> Histogram<u64> {
+    let mut histogram = Histogram::new_with_max(HIGH, 3).expect("lawful bounds");
+    let (mut x, mut value) = (seed, 1000);
+    for _ in 0..2000 {
+        x = step(x);
+        histogram.record_n(value, (x >> 54) + 1).expect("within the bounds");
+        value = histogram.next_non_equivalent(value);
+    }
+    histogram
+}
+
+/// Adds the line of an interval that began so many milliseconds after the epoch to a text.
+fn push_line(text: &mut Vec<u8>, serializer: &mut V2Serializer, histogram: &Histogram<u64>, start: u64) {
+    let mut log = IntervalLogWriterBuilder::new().begin_log_with(text, serializer).expect("a text takes all");
+    let (start, duration) = (Duration::from_millis(start), Duration::from_millis(1000));
+    log.write_histogram(histogram, start, duration, None).expect("counts below 2^63");
+}
+
+pub fn log_line(seed: u64, n: u64) -> u64 {
+    let histogram = interval(seed);
+    let (mut serializer, mut text, mut sum) = (V2Serializer::new(), Vec::new(), 0u64);
+    for start in 0..n {
+        text.clear();
+        push_line(&mut text, &mut serializer, black_box(&histogram), start);
+        sum = sum.wrapping_add(text.len() as u64);
+    }
+    sum
+}
+
+pub fn log_read(seed: u64, n: u64) -> u64 {
+    let histogram = interval(seed);
+    let (mut serializer, mut text, mut sum) = (V2Serializer::new(), Vec::new(), 0u64);
+    for start in 0..100 {
+        push_line(&mut text, &mut serializer, &histogram, start);
+    }
+    for _ in 0..n {
+        for entry in IntervalLogIterator::new(black_box(&text)) {
+            if let Ok(LogEntry::Interval(interval)) = entry {
+                sum = sum.wrapping_add(interval.encoded_histogram().len() as u64);
+                sum = sum.wrapping_add((interval.start_timestamp().as_millis() % 1000) as u64);
+            }
+        }
     }
     sum
 }
