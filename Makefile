@@ -14,6 +14,7 @@ check:
 	tools/edits --control
 	tools/edits --beside rt ci
 	tools/refused.sh
+	tools/refused_main.sh
 	tools/cases.sh
 
 # Both read crates/*/out: a crate that has not changed costs a few seconds, and the edits of changed crates alone are tried.

@@ -1,7 +1,8 @@
 #!/bin/sh
 # For each test below a module `refused`, as the gate built and proved it: runs it with the first, second, .. request for
-# memory refused, until a run meets no refusal. Each run has to pass, and to print 'no memory' exactly where a request
-# was refused. Fails where there is no such test.
+# memory refused, until a run meets no refusal. Each run has to pass, to print 'no memory' exactly where a request was
+# refused, and to have freed what it took. Every other test has to have freed what it took, too. Fails where there is no such
+# test.
 set -eu
 cd "$(dirname "$0")/.."
 room=$(mktemp -d)
@@ -18,7 +19,7 @@ for program in crates/*/out/*_tests; do
             refused=0 told=0
             grep -q '^refused' "$room/err" && refused=1
             grep -q '^no memory$' "$room/out" && told=1
-            if [ "$status" != 0 ] || [ "$refused" != "$told" ]; then
+            if [ "$status" != 0 ] || [ "$refused" != "$told" ] || grep -q '^leaked' "$room/err"; then
                 echo "$program $name: request $n: status $status, refused $refused, told $told" >&2
                 cat "$room/err" >&2
                 failed=$((failed + 1))
@@ -27,6 +28,12 @@ for program in crates/*/out/*_tests; do
         done
         echo "$name: $((n - 1)) requests refused in turn"
     done
+    runs=$((runs + 1))
+    LD_PRELOAD="$room/refuse.so" "$program" >"$room/out" 2>"$room/err" || :
+    if grep -q '^leaked' "$room/err"; then
+        echo "$program: $(grep '^leaked' "$room/err")" >&2
+        failed=$((failed + 1))
+    fi
 done
 echo "refused: $tests tests, $runs runs, $failed failures"
 [ "$failed" = 0 ] && [ "$tests" -gt 0 ]

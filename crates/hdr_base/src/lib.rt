@@ -13,6 +13,3 @@ pub use fraction::{Fraction, Quantile};
 pub use iteration_value::IterationValue;
 pub use scale::Scale;
 pub use ticks::Ticks;
-
-#[cfg(test)]
-mod tests;

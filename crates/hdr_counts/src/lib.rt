@@ -285,6 +285,3 @@ fn divided(place: usize, block: usize) -> usize
 {
     place / block
 }
-
-#[cfg(test)]
-mod tests;

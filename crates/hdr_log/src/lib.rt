@@ -9,8 +9,6 @@ pub mod laws;
 mod line;
 pub mod parts;
 mod tag;
-#[cfg(test)]
-mod tests;
 pub mod text;
 
 pub use entry::{IntervalLogHistogram, LogEntry, LogIteratorError};

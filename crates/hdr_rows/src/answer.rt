@@ -1,18 +1,31 @@
 //! What a call answers.
 
 use hdr_core::{AdditionError, CallError, CreationError, RecordError, RunError, SubtractionError};
+use hdrhistogram::serialization::interval_log::IntervalLogWriterError;
+use hdrhistogram::serialization::{DeserializeError, V2SerializeError};
+use std::alloc::Global;
+
+/// What a log's writer over `V2Serializer` answers.
+pub type LogError = IntervalLogWriterError<V2SerializeError>;
 
 /// What a call answered.
-#[derive(Debug, PartialEq, Drop)]
+#[derive(Debug, Drop)]
 pub enum Answer {
     Done,
     Nothing,
     Number(u64),
     Truth(bool),
+    /// A text: bytes in hexadecimal, items of an iterator, or what was written to a log.
+    Text(String),
+    /// Two calls that have to agree answered two things; no row can ask for it.
+    Differ,
     Unmade(CreationError),
     Unrecorded(RecordError),
     Unadded(AdditionError),
     Unsubtracted(SubtractionError),
+    Unserialized(V2SerializeError),
+    Unread(DeserializeError),
+    Unlogged(LogError),
     /// A run that was refused at a place.
     Stopped(RunError),
 }
@@ -54,6 +67,38 @@ fn subtraction_name(error: &SubtractionError) -> &'static str {
     }
 }
 
+fn serialize_name(error: &V2SerializeError) -> &'static str {
+    match error {
+        V2SerializeError::CountNotSerializable => "CountNotSerializable",
+        V2SerializeError::UsizeTypeTooSmall => "UsizeTypeTooSmall",
+        V2SerializeError::IoError(_) => "IoError",
+        V2SerializeError::OutOfMemory => "OutOfMemory",
+    }
+}
+
+/// The name of an error of reading.
+pub fn deserialize_name(error: &DeserializeError) -> &'static str {
+    match error {
+        DeserializeError::IoError(_) => "IoError",
+        DeserializeError::InvalidCookie => "InvalidCookie",
+        DeserializeError::UnsupportedFeature => "UnsupportedFeature",
+        DeserializeError::UnsuitableCounterType => "UnsuitableCounterType",
+        DeserializeError::InvalidParameters => "InvalidParameters",
+        DeserializeError::UsizeTypeTooSmall => "UsizeTypeTooSmall",
+        DeserializeError::EncodedArrayTooLong => "EncodedArrayTooLong",
+        DeserializeError::OutOfMemory => "OutOfMemory",
+    }
+}
+
+fn log_name(error: &LogError) -> &'static str {
+    match error {
+        IntervalLogWriterError::SerializeError(cause) => serialize_name(cause),
+        IntervalLogWriterError::IoError(_) => "IoError",
+        IntervalLogWriterError::TimeOutOfRange => "TimeOutOfRange",
+        IntervalLogWriterError::OutOfMemory => "OutOfMemory",
+    }
+}
+
 fn cause_name(cause: &CallError) -> &'static str {
     match cause {
         CallError::Record(error) => record_name(error),
@@ -70,7 +115,7 @@ fn is_stop(error: &RunError, text: &str) -> bool {
 }
 
 impl Answer {
-    /// The word for it, where it is no number and no run.
+    /// The word for it, where it is no number, no text and no run.
     fn word(&self) -> Option<&'static str> {
         match self {
             Answer::Done => Some("ok"),
@@ -81,14 +126,44 @@ impl Answer {
             Answer::Unrecorded(error) => Some(record_name(error)),
             Answer::Unadded(error) => Some(addition_name(error)),
             Answer::Unsubtracted(error) => Some(subtraction_name(error)),
-            Answer::Number(_) | Answer::Stopped(_) => None,
+            Answer::Unserialized(error) => Some(serialize_name(error)),
+            Answer::Unread(error) => Some(deserialize_name(error)),
+            Answer::Unlogged(error) => Some(log_name(error)),
+            Answer::Number(_) | Answer::Text(_) | Answer::Differ | Answer::Stopped(_) => None,
         }
     }
 
-    /// Whether a text spells the answer.
-    pub fn is(&self, text: &str) -> bool {
+    /// The text of an error. None: it is no error, or memory was refused.
+    fn error_text(&self, alloc: Global) -> Option<String> {
+        match self {
+            Answer::Unmade(error) => error.to_string(alloc).ok(),
+            Answer::Unrecorded(error) => error.to_string(alloc).ok(),
+            Answer::Unadded(error) => error.to_string(alloc).ok(),
+            Answer::Unsubtracted(error) => error.to_string(alloc).ok(),
+            Answer::Unserialized(error) => error.to_string(alloc).ok(),
+            Answer::Unread(error) => error.to_string(alloc).ok(),
+            Answer::Unlogged(error) => error.to_string(alloc).ok(),
+            Answer::Stopped(error) => error.to_string(alloc).ok(),
+            _ => None,
+        }
+    }
+
+    /// Whether a text is what an error says.
+    fn says(&self, alloc: Global, text: &str) -> bool {
+        match self.error_text(alloc) {
+            Some(said) => said.as_str() == text,
+            None => false,
+        }
+    }
+
+    /// Whether a text spells the answer: its number, its text, its word, or between quotation marks what an error says.
+    pub fn is(&self, alloc: Global, text: &str) -> bool {
+        if let Some(quoted) = text.strip_prefix("\"") {
+            return self.says(alloc, quoted.trim_end_matches('"'));
+        }
         match self {
             Answer::Number(number) => text.parse::<u64>() == Ok(*number),
+            Answer::Text(told) => told.as_str() == text,
             Answer::Stopped(error) => is_stop(error, text),
             _ => self.word() == Some(text),
         }
@@ -142,4 +217,9 @@ pub fn number(answer: Option<u64>) -> Answer {
         Some(number) => Answer::Number(number),
         None => Answer::Nothing,
     }
+}
+
+/// The answer of a call that may answer a text. None: memory was refused to it.
+pub fn text(answer: Option<String>) -> Option<Answer> {
+    Some(Answer::Text(answer?))
 }

@@ -3,11 +3,15 @@
 
 ghost use Rattle.std.specs.Prelude.{◌^◌, ◌≤◌};
 
-use hdr_base::{Counter, Quantile, Ticks};
+use hdr_base::{Counter, Fraction, Quantile, Ticks};
 use hdr_core::{
     AdditionError, Call, CallError, CreationError, RecordError, RunError, SubtractionError,
 };
+use hdrhistogram::serialization::{
+    DeserializeError, Deserializer, Serializer, V2SerializeError, V2Serializer,
+};
 use std::alloc::Global;
+use std::io::Read;
 
 #[derive(Drop)]
 pub struct Histogram<T: Counter> {
@@ -271,5 +275,50 @@ impl<T: Counter> Histogram<T> {
 
     pub fn equals<F: Counter>(&self, other: &Histogram<F>) -> bool {
         self.inner.equals(&other.inner)
+    }
+    pub fn quantile_below(&self, value: u64) -> Fraction {
+        self.inner.quantile_below(value)
+    }
+
+    pub fn percentile_below(&self, value: u64) -> Fraction {
+        self.inner.percentile_below(value)
+    }
+
+    pub fn mean(&self) -> Option<Fraction> {
+        self.inner.mean()
+    }
+
+    /// A copy of the V2 bytes that a serializer lends.
+    pub fn to_bytes(&self, alloc: Global) -> Result<Vec<u8>, V2SerializeError> {
+        let mut serializer = V2Serializer::new(alloc);
+        let lent = serializer.to_bytes(&self.inner)?;
+        match Vec::from_slice(alloc, lent) {
+            Ok(bytes) => Ok(bytes),
+            Err(_) => Err(V2SerializeError::OutOfMemory),
+        }
+    }
+
+    /// The V2 bytes that a serializer writes, and how many it says they are.
+    pub fn serialize(&self, alloc: Global) -> Result<(Vec<u8>, usize), V2SerializeError> {
+        let mut serializer = V2Serializer::new(alloc);
+        let mut written: Vec<u8> = Vec::new(alloc);
+        let count = serializer.serialize(&self.inner, &mut written)?;
+        Ok((written, count))
+    }
+
+    pub fn decode_slice(
+        alloc: Global,
+        bytes: &[u8],
+    ) -> Result<(Histogram<T>, usize), DeserializeError> {
+        let (inner, taken) = Deserializer::new(alloc).decode_slice(bytes)?;
+        Ok((Histogram { inner }, taken))
+    }
+
+    pub fn deserialize<R: Read>(
+        alloc: Global,
+        reader: &mut R,
+    ) -> Result<Histogram<T>, DeserializeError> {
+        let inner = Deserializer::new(alloc).deserialize(reader)?;
+        Ok(Histogram { inner })
     }
 }

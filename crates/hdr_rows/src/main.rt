@@ -4,14 +4,28 @@
 //! `row NAME COUNTER` begins a row with three empty histograms that grow and keep 3 digits: `one` and `other` of the counter
 //! type (`u8`, `u16`, `u32`, `u64`, or `c12`, a type of this program's own), and `wide` of `u64`. Every other line is
 //! `WHO CALL NUMBERS = ANSWER`; numbers that are left out are 0, and an answer that is left out is `ok`. Truths of a histogram
-//! are 1 and 0, comparisons of two are `true` and `false`. `run CALL, CALL` and `apply CALL` do calls as values; `agree` and
-//! `agree_below` correct `one` class by class and `other` value by value, and are `ok` where both are the same then.
-//! Empty lines, and lines that begin with `#`, are for the reader.
+//! are 1 and 0, comparisons of two are `true` and `false`. An answer between quotation marks is what the text of an error says.
+//!
+//! - `run CALL, CALL` and `apply CALL` do calls as values; `agree` and `agree_below` correct `one` class by class and `other`
+//!   value by value, and are `ok` where both are the same then.
+//! - `to_bytes` and `encode_counts` answer hexadecimal digits. `decode HEX` puts what was read in the histogram's place, from a
+//!   slice and from a reader that gives one byte a call, with two bytes after the text; `decode_alone` has none after it.
+//! - Iterators answer their items between commas: the value, its counter, the samples since the item before, the quantile, and
+//!   the quantile iterated to. `value_at_quantiles` takes fractions, `NUM/DEN`.
+//! - `log_line START DURATION DIVISOR TAG` answers a log of one interval; times are seconds, a point and nanoseconds.
+//! - `bytes`, `counter`, `scale LOW SIGFIG VALUE`, `fraction` and `log` do calls that are on no histogram.
+//!
+//! Empty lines, and lines that begin with `#`, are for the reader. A line that begins with `! ` has to answer otherwise than it
+//! says: such lines are wrong on purpose, and each is named by its number, so that a player that accepts too much is seen.
 #![tactic(auto)]
 
 mod answer;
 mod bare;
+mod base;
+mod bytes;
 mod c12;
+mod items;
+mod logs;
 mod names;
 mod one_by_one;
 mod play;
@@ -24,8 +38,27 @@ use play::Play;
 use std::io;
 use std::process::ExitCode;
 
-/// Plays a line: prints the title of a row that begins, and a line that answers otherwise. Whether it answered as it says.
-fn line_agrees(rt: &HostRuntime, play: &mut Play, line: &str) -> io::Result<bool> {
+/// Plays a line that is wrong on purpose, and prints its number. Whether it answered otherwise than it says.
+fn line_differs(
+    rt: &HostRuntime,
+    play: &mut Play,
+    number: u64,
+    line: &str,
+) -> io::Result<bool> {
+    let differs = !play.agrees(rt.alloc(), line);
+    if differs {
+        println!(rt; "  differs at line {number}")?;
+    } else {
+        println!(rt; "  must differ at line {number}: {line}")?;
+    }
+    Ok(differs)
+}
+
+/// Plays a line: prints the title of a row that begins, and a line that answers otherwise. Whether it answered as it has to.
+fn line_passes(rt: &HostRuntime, play: &mut Play, number: u64, line: &str) -> io::Result<bool> {
+    if let Some(wrong) = line.strip_prefix("! ") {
+        return line_differs(rt, play, number, wrong);
+    }
     if let Some(title) = line.strip_prefix("row ") {
         println!(rt; "{title}")?;
     }
@@ -36,11 +69,13 @@ fn line_agrees(rt: &HostRuntime, play: &mut Play, line: &str) -> io::Result<bool
     Ok(agrees)
 }
 
-/// Plays the lines of a text, and answers how many answered otherwise.
+/// Plays the lines of a text, and answers how many answered otherwise than they have to.
 fn differing(rt: &HostRuntime, play: &mut Play, text: &str) -> io::Result<u64> {
     let mut differ: u64 = 0;
+    let mut number: u64 = 0;
     for line in text.lines() {
-        if !line_agrees(rt, play, line)? {
+        number = number.saturating_add(1);
+        if !line_passes(rt, play, number, line)? {
             differ = differ.saturating_add(1);
         }
     }

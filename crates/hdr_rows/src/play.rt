@@ -61,7 +61,7 @@ impl Play {
         }
         let (asked, told) = line.split_once(" = ").unwrap_or((line, "ok"));
         match self.answer(alloc, asked) {
-            Some(answer) => answer.is(told),
+            Some(answer) => answer.is(alloc, told),
             None => false,
         }
     }

@@ -10,7 +10,7 @@ use hdr_base::{Counter, Quantile, Ticks};
 use hdr_core::{CreationError, RecordError};
 use std::alloc::Global;
 
-/// The numbers behind a call; one that isn't there is 0.
+/// The numbers after a call; one that isn't there is 0.
 pub type Numbers = [u64; 3];
 
 /// What a constructor makes. None: a number is no number of digits.

@@ -2,6 +2,10 @@
 
 use crate::answer::{Answer, added, applied, ran, recorded, subtracted};
 use crate::bare::Histogram;
+use crate::base;
+use crate::bytes;
+use crate::items::{told, value_at_percentiles, value_at_quantiles};
+use crate::logs;
 use crate::names::{
     COMPARES, COPIES, CORRECTS, Compare, Copied, Correct, JOINS, Join, RUNS, Run, named,
 };
@@ -30,7 +34,7 @@ fn numbers_of(words: &str) -> Option<Numbers> {
     Some(numbers)
 }
 
-/// A name and the numbers behind it.
+/// A name and the numbers after it.
 fn split_name(words: &str) -> Option<(&str, Numbers)> {
     match words.split_once(' ') {
         Some((name, numbers)) => Some((name, numbers_of(numbers)?)),
@@ -63,6 +67,44 @@ fn calls_of<'a, T: Counter>(
         calls.push(call_of(words, other)?).ok()?;
     }
     Some(calls)
+}
+
+/// Does a call on one histogram that has words beside numbers, or that a text answers. None: it is no such call.
+fn worded<T: Counter>(alloc: Global, h: &mut Histogram<T>, words: &str) -> Option<Answer> {
+    let (name, rest) = words.split_once(' ').unwrap_or((words, ""));
+    match name {
+        "to_bytes" => bytes::to_bytes(alloc, h),
+        "encode_counts" => bytes::payload(alloc, h),
+        "decode" => bytes::decode(alloc, h, rest, false),
+        "decode_alone" => bytes::decode(alloc, h, rest, true),
+        "log_line" => logs::line(alloc, h, rest),
+        "value_at_quantiles" => value_at_quantiles(alloc, h, rest),
+        "value_at_percentiles" => value_at_percentiles(alloc, h, rest),
+        _ => None,
+    }
+}
+
+/// Does a call on one histogram. None: the words are none of its calls.
+fn alone<T: Counter>(alloc: Global, h: &mut Histogram<T>, words: &str) -> Option<Answer> {
+    if let Some(answer) = worded(alloc, h, words) {
+        return Some(answer);
+    }
+    let (name, numbers) = split_name(words)?;
+    match told(alloc, h, name, numbers) {
+        Some(answer) => Some(answer),
+        None => call(alloc, h, name, numbers),
+    }
+}
+
+/// Does a call that is on no histogram. None: the words are none of these.
+fn on_none<T: Counter>(who: &str, words: &str) -> Option<Answer> {
+    let (name, numbers) = split_name(words)?;
+    match who {
+        "counter" => base::counter::<T>(name, numbers),
+        "scale" => base::scale(name, numbers),
+        "fraction" => base::fraction(name, numbers),
+        _ => None,
+    }
 }
 
 impl<T: Counter> Table<T> {
@@ -159,16 +201,15 @@ impl<T: Counter> Table<T> {
         if let Some(call) = words.strip_prefix("apply ") {
             return self.apply(call);
         }
+        if let Some(answer) = alone(alloc, &mut self.one, words) {
+            return Some(answer);
+        }
         let (name, numbers) = split_name(words)?;
         match name {
-            "subtract" => return Some(subtracted(self.one.subtract(&self.other))),
-            "agree" => return agree(&mut self.one, &mut self.other, numbers),
-            "agree_below" => return agree_below(&mut self.one, &mut self.other, numbers),
-            _ => {}
-        }
-        match self.between(alloc, name, numbers[0]) {
-            Some(answer) => Some(answer),
-            None => call(alloc, &mut self.one, name, numbers),
+            "subtract" => Some(subtracted(self.one.subtract(&self.other))),
+            "agree" => agree(&mut self.one, &mut self.other, numbers),
+            "agree_below" => agree_below(&mut self.one, &mut self.other, numbers),
+            _ => self.between(alloc, name, numbers[0]),
         }
     }
 
@@ -197,14 +238,13 @@ impl<T: Counter> Table<T> {
     /// Does what a line asks for. None: the line is none of these.
     pub fn answer(&mut self, alloc: Global, line: &str) -> Option<Answer> {
         let (who, words) = line.split_once(' ')?;
-        if who == "one" {
-            return self.first(alloc, words);
-        }
-        let (name, numbers) = split_name(words)?;
         match who {
-            "other" => call(alloc, &mut self.other, name, numbers),
-            "wide" => call(alloc, &mut self.wide, name, numbers),
-            _ => None,
+            "one" => self.first(alloc, words),
+            "other" => alone(alloc, &mut self.other, words),
+            "wide" => alone(alloc, &mut self.wide, words),
+            "bytes" => bytes::call(alloc, words),
+            "log" => logs::call(alloc, words),
+            _ => on_none::<T>(who, words),
         }
     }
 }

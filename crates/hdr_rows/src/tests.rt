@@ -1,4 +1,24 @@
-//! What rows can't show: memory refused in turn, and the texts of errors.
+//! What rows can't show: memory refused in turn, readers and writers that fail, texts of errors that no row meets, and laws.
 
+mod laws;
 mod refused;
+mod streams;
 mod texts;
+
+use hdrhistogram::Histogram;
+use std::alloc::Global;
+use std::test::Fail;
+
+/// The V2 bytes of 1 once and 2 four times, by three digits.
+pub const FIRST_RUN: [u8; 43] = [
+    0x1c, 0x84, 0x93, 0x13, 0, 0, 0, 3, 0, 0, 0, 0, 0, 0, 0, 3, 0, 0, 0, 0, 0, 0, 0, 1, 0, 0, 0, 0,
+    0, 0, 0, 2, 0x3f, 0xf0, 0, 0, 0, 0, 0, 0, 0, 2, 8,
+];
+
+/// The histogram of these bytes.
+pub fn first_run(alloc: Global) -> Result<Histogram<u64>, Fail> {
+    let mut h = Histogram::new(alloc, 3)?;
+    h.record_n(1, 1)?;
+    h.record_n(2, 4)?;
+    Ok(h)
+}

@@ -9,6 +9,3 @@ pub use hdr_core::{
     Quantile, RecordError, RunError, SubtractionError, Ticks, UsizeTypeTooSmall, Values, errors,
     iterators,
 };
-
-#[cfg(test)]
-mod tests;

@@ -1,9 +1,12 @@
 //! Calls that are made again and again, each with one more request for memory refused: each run prints `no memory` exactly
 //! where one was refused.
 
+mod bytes;
+mod resting;
+
 use crate::answer::Answer;
 use crate::table::Table;
-use hdr_core::{AdditionError, Call, CallError, CreationError, RecordError};
+use hdr_core::{AdditionError, CallError, CreationError, RecordError};
 use std::alloc::Global;
 use std::process::Abort;
 use std::test::Fail;
@@ -42,15 +45,6 @@ const MERGED: [&str; 4] = [
     "other saturating_record 1000",
 ];
 
-/// Histograms up to 1023, of which two hold a value.
-const SMALL: [&str; 5] = [
-    "one new_with_max 1000 1",
-    "other new_with_max 1000 1",
-    "wide new_with_max 1000 1",
-    "other saturating_record 7",
-    "wide saturating_record 900",
-];
-
 /// Calls that make `one` of `MERGED` grow to 1023 by `other`.
 const MERGING: [&str; 8] = [
     "one add",
@@ -71,63 +65,6 @@ const MAKERS: [&str; 6] = [
     "one clone_to_other",
     "one clone_correct_to_other 2",
     "one new_from_wide_to_other",
-];
-
-/// Calls that take no memory on `SMALL`.
-const RESTING: [&str; 53] = [
-    "one record 900",
-    "one record_n 5 255",
-    "one record_correct 90 10",
-    "one record_n_correct 90 200 7",
-    "one record_n_correct_counted 900 1 1",
-    "one saturating_record 5000",
-    "one saturating_record_n 5000 3",
-    "one record 5000",
-    "one apply record 9 1",
-    "one apply clamp 9 1",
-    "one apply correct 9 1 2",
-    "one apply add",
-    "one apply add_correct 3",
-    "one add",
-    "one add_from",
-    "one add_correct 10",
-    "one add_correct_from 10",
-    "one subtract",
-    "one set_to",
-    "one set_to_corrected 10",
-    "one value_at_quantile 1 2",
-    "one value_at_percentile 50 1",
-    "one looks 1 2",
-    "one len",
-    "one count",
-    "one is_empty",
-    "one low",
-    "one high",
-    "one sigfig",
-    "one is_auto_resize",
-    "one buckets",
-    "one distinct_values",
-    "one max",
-    "one min",
-    "one min_nz",
-    "one count_at 9",
-    "one count_between 1 9",
-    "one bin_of 9",
-    "one bin_value 9",
-    "one bin_count 9",
-    "one lowest_equivalent 900",
-    "one highest_equivalent 900",
-    "one next_non_equivalent 900",
-    "one median_equivalent 900",
-    "one equivalent_range 900",
-    "one equivalent 900 901",
-    "one is_other",
-    "one equals_wide",
-    "one apply clear",
-    "one apply reset",
-    "one clear",
-    "one reset",
-    "one auto 0",
 ];
 
 /// Whether a call was refused for memory.
@@ -166,9 +103,8 @@ fn refuses(rt: &impl Abort, alloc: Global, making: &[&str], call: &str, twin: &s
     }
     let refused = is_refused(alloc, &mut table, &[call]);
     if refused {
-        assert_eq!(rt;
-            table.answer(alloc, twin),
-            Some(Answer::Truth(true)),
+        assert!(rt;
+            matches!(table.answer(alloc, twin), Some(Answer::Truth(true))),
             "{call}"
         );
     }
@@ -230,35 +166,6 @@ fn making(rt: HostRuntime) -> Result<(), Fail> {
         "one same",
     ) {
         println!(rt; "no memory")?;
-    }
-    Ok(())
-}
-
-/// Whether a run is done that takes no memory.
-fn run_is_done(table: &mut Table<u64>) -> bool {
-    let calls = [
-        Call::Record(9, 1),
-        Call::Add(&table.other.inner),
-        Call::Correct(9, 1, 2),
-    ];
-    table.one.apply_all(&calls).is_ok()
-}
-
-/// Whether calls that take no memory are done. None: memory was refused to what is made before them.
-fn rests(alloc: Global) -> Option<bool> {
-    let mut table: Table<u64> = Table::new(alloc).ok()?;
-    if is_refused(alloc, &mut table, SMALL.as_slice()) {
-        return None;
-    }
-    Some(!is_refused(alloc, &mut table, RESTING.as_slice()) && run_is_done(&mut table))
-}
-
-/// What takes no memory meets no refusal once the histograms are made.
-#[test]
-fn resting(rt: HostRuntime) -> Result<(), Fail> {
-    match rests(rt.alloc()) {
-        Some(done) => assert!(rt; done),
-        None => println!(rt; "no memory")?,
     }
     Ok(())
 }

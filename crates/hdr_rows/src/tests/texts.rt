@@ -1,112 +1,66 @@
-//! The texts of errors.
+//! The texts of errors that no row meets: those of memory and of streams, and those that a usize of 64 bits never brings.
 
-use hdr_core::{
-    AdditionError, CallError, CreationError, RecordError, RunError, SubtractionError,
-    UsizeTypeTooSmall,
-};
+use hdr_core::{AdditionError, CallError, CreationError, RecordError, UsizeTypeTooSmall};
+use hdrhistogram::serialization::interval_log::{CommentError, IntervalLogWriterError};
+use hdrhistogram::serialization::{DeserializeError, V2SerializeError};
+use std::fmt::Display;
+use std::io::{Error, ErrorKind};
+use std::process::Abort;
 use std::test::Fail;
 
-#[test]
-fn creation_texts(rt: HostRuntime) -> Result<(), Fail> {
-    let rows = [
-        (
-            CreationError::LowIsZero,
-            "Lowest discernible value must be >= 1",
-        ),
-        (
-            CreationError::LowExceedsMax,
-            "Lowest discernible value must be <= `u64::MAX / 2`",
-        ),
-        (
-            CreationError::HighLessThanTwiceLow,
-            "Highest trackable value must be >= 2 * lowest discernible value for some internal calculations",
-        ),
-        (
-            CreationError::SigFigExceedsMax,
-            "Number of significant digits must be in the range `[0, 5]`",
-        ),
-        (
-            CreationError::CannotRepresentSigFigBeyondLow,
-            "Cannot represent sigfig worth of values beyond the lowest discernible value",
-        ),
-        (
-            CreationError::UsizeTypeTooSmall,
-            "The `usize` type is too small to represent the desired configuration",
-        ),
-        (CreationError::OutOfMemory, "Out of memory"),
-    ];
-    for (error, text) in rows {
-        assert_eq!(rt; error.to_string(rt.alloc())?.as_str(), text);
-    }
-    assert_eq!(rt;
-        UsizeTypeTooSmall.to_string(rt.alloc())?.as_str(),
-        "The `usize` type is too small to represent the desired configuration"
-    );
+const OUT_OF_MEMORY: &str = "Out of memory";
+
+const USIZE: &str = "The `usize` type is too small to represent the desired configuration";
+
+fn says<E: Display>(rt: &(impl Abort + AllocGlobal), error: &E, text: &str) -> Result<(), Fail> {
+    assert_eq!(rt; error.to_string(rt.alloc())?.as_str(), text);
     Ok(())
 }
 
 #[test]
-fn record_texts(rt: HostRuntime) -> Result<(), Fail> {
-    let rows = [
-        (
-            RecordError::ValueOutOfRangeResizeDisabled,
-            "The value to record is not representable in this histogram and resizing is disabled",
-        ),
-        (
-            RecordError::ResizeFailedUsizeTypeTooSmall,
-            "Auto resizing is enabled and must be used to represent the provided value, but the histogram cannot be resized because `usize` cannot represent sufficient length",
-        ),
-        (RecordError::OutOfMemory, "Out of memory"),
-    ];
-    for (error, text) in rows {
-        assert_eq!(rt; error.to_string(rt.alloc())?.as_str(), text);
-    }
-    Ok(())
+fn texts_of_memory(rt: HostRuntime) -> Result<(), Fail> {
+    says(&rt, &CreationError::OutOfMemory, OUT_OF_MEMORY)?;
+    says(&rt, &RecordError::OutOfMemory, OUT_OF_MEMORY)?;
+    says(&rt, &AdditionError::OutOfMemory, OUT_OF_MEMORY)?;
+    says(&rt, &CallError::Addition(AdditionError::OutOfMemory), OUT_OF_MEMORY)?;
+    says(&rt, &V2SerializeError::OutOfMemory, OUT_OF_MEMORY)?;
+    says(&rt, &DeserializeError::OutOfMemory, OUT_OF_MEMORY)?;
+    says(&rt, &CommentError::OutOfMemory, OUT_OF_MEMORY)?;
+    let error: IntervalLogWriterError<CommentError> = IntervalLogWriterError::OutOfMemory;
+    says(&rt, &error, OUT_OF_MEMORY)
 }
 
 #[test]
-fn merging_texts(rt: HostRuntime) -> Result<(), Fail> {
-    let rows = [
-        (
-            AdditionError::OtherAddendValueExceedsRange,
-            "The other histogram includes values that do not fit in this histogram's range",
-        ),
-        (
-            AdditionError::ResizeFailedUsizeTypeTooSmall,
-            "The other histogram includes values that would map to indexes in this histogram that are not expressible for `usize`",
-        ),
-        (AdditionError::OutOfMemory, "Out of memory"),
-    ];
-    for (error, text) in rows {
-        assert_eq!(rt; error.to_string(rt.alloc())?.as_str(), text);
-    }
-    let rows = [
-        (
-            SubtractionError::SubtrahendValueExceedsMinuendRange,
-            "The other histogram includes values that do not fit in this histogram's range",
-        ),
-        (
-            SubtractionError::SubtrahendCountExceedsMinuendCount,
-            "The other histogram includes counts that are higher than the current count for a value, and counts cannot go negative",
-        ),
-    ];
-    for (error, text) in rows {
-        assert_eq!(rt; error.to_string(rt.alloc())?.as_str(), text);
-    }
-    Ok(())
+fn texts_of_usize(rt: HostRuntime) -> Result<(), Fail> {
+    says(&rt, &CreationError::UsizeTypeTooSmall, USIZE)?;
+    says(&rt, &UsizeTypeTooSmall, USIZE)?;
+    says(
+        &rt,
+        &RecordError::ResizeFailedUsizeTypeTooSmall,
+        "Auto resizing is enabled and must be used to represent the provided value, but the histogram cannot be resized because `usize` cannot represent sufficient length",
+    )?;
+    says(
+        &rt,
+        &AdditionError::ResizeFailedUsizeTypeTooSmall,
+        "The other histogram includes values that would map to indexes in this histogram that are not expressible for `usize`",
+    )?;
+    says(
+        &rt,
+        &V2SerializeError::UsizeTypeTooSmall,
+        "Internal calculations cannot be represented in `usize`",
+    )
+}
+
+fn cause() -> Error {
+    Error::from(ErrorKind::WriteZero)
 }
 
 #[test]
-fn texts_of_runs(rt: HostRuntime) -> Result<(), Fail> {
-    let added = CallError::Addition(AdditionError::OutOfMemory);
-    assert_eq!(rt; added.to_string(rt.alloc())?.as_str(), "Out of memory");
-    let error = RunError {
-        at: 12,
-        cause: CallError::Record(RecordError::ValueOutOfRangeResizeDisabled),
-    };
-    assert_eq!(rt;
-        error.to_string(rt.alloc())?.as_str(),
-        "Call 12 was refused: The value to record is not representable in this histogram and resizing is disabled"
-    );
-    Ok(())
+fn texts_of_streams(rt: HostRuntime) -> Result<(), Fail> {
+    let text = format!(in rt.alloc(); "An i/o operation failed: {}", cause())?;
+    says(&rt, &V2SerializeError::from(cause()), text.as_str())?;
+    says(&rt, &DeserializeError::from(cause()), text.as_str())?;
+    let text = format!(in rt.alloc(); "An i/o error occurred: {}", cause())?;
+    let error: IntervalLogWriterError<CommentError> = IntervalLogWriterError::from(cause());
+    says(&rt, &error, text.as_str())
 }

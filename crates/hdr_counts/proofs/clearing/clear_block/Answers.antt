@@ -1,4 +1,4 @@
-use Rattle.std.proofs.Common.{map, sym, arith}
+use Rattle.std.proofs.Common.{arith}
 use Rattle.hdr_counts.proofs.BlockSums.{clear_more, zeros-of}
 use Rattle.hdr_counts.proofs.clearing.clear_block.Goals as goal
 

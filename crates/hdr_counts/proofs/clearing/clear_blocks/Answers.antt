@@ -1,5 +1,4 @@
-use Rattle.std.proofs.Common.{◌≡◌, ◌∙◌, ◌+◌, ◌-◌, ◌*◌, ◌<◌, ◌≤◌, ◌++◌, ℕ, length, set, take, drop, map, sum, replicate, ap, sym, subst, arith}
-use Rattle.std.specs.List.{All}
+use Rattle.std.proofs.Common.{◌≡◌, ◌∙◌, ◌+◌, ◌-◌, ◌*◌, ◌<◌, ◌≤◌, ◌++◌, length, set, take, drop, map, sum, replicate, ap, sym, subst, arith}
 use Rattle.std.proofs.lemmas.List.{length-map, length-set, length-take, length-drop, length-replicate, drop-drop, take_all}
 use Rattle.hdr_counts.specs.Blocks.{AreSums}
 use Rattle.hdr_counts.proofs.BlockSums.{block-sum, block_past, AreSums-written, All-zeros, sum-zeros, zeros-written}

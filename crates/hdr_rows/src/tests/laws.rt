@@ -1,0 +1,36 @@
+//! Laws, each called once: what they state is their contract.
+
+use std::test::Fail;
+
+#[test]
+fn laws_hold(_rt: HostRuntime) -> Result<(), Fail> {
+    hdr_base::laws::equivalence();
+    hdr_base::laws::intervals();
+    hdr_base::laws::widths();
+    hdr_core::laws::missing_values();
+    hdr_core::laws::first_class();
+    hdr_core::laws::quantile_is_ranked();
+    hdr_core::laws::ascending_quantiles();
+    hdr_core::laws::quantile_and_share();
+    hdr_core::laws::recording_stands();
+    hdr_core::laws::clearing_stands();
+    hdr_core::laws::adding_stands();
+    hdr_core::laws::calls_stand::<u64>();
+    hdr_core::laws::adding_commutes();
+    hdr_core::laws::adding_associates();
+    hdr_core::laws::subtracting_undoes_adding();
+    hdr_core::laws::equality();
+    hdr_log::laws::time_is_read();
+    hdr_log::laws::interval_is_read();
+    hdr_log::laws::base64_is_read();
+    hdr_log::laws::written_is_read();
+    hdrhistogram::laws::one_canonical_spelling();
+    hdrhistogram::laws::spellings_end();
+    hdrhistogram::laws::zig_zag_inverse();
+    hdrhistogram::laws::one_payload();
+    hdrhistogram::laws::payload_tells_counts();
+    hdrhistogram::laws::bytes_agree();
+    hdrhistogram::laws::one_parting();
+    hdrhistogram::laws::reading_takes_a_front();
+    Ok(())
+}

@@ -1,0 +1,139 @@
+//! Bytes and logs.
+
+use crate::tests::FIRST_RUN;
+use hdr_log::field::{FieldError, decoded};
+use hdrhistogram::Histogram;
+use hdrhistogram::serialization::interval_log::{
+    CommentError, IntervalLogWriterBuilder, IntervalLogWriterError,
+};
+use hdrhistogram::serialization::{
+    DeserializeError, Deserializer, Serializer, V2SerializeError, V2Serializer,
+};
+use std::alloc::Global;
+use std::test::Fail;
+use std::time::Duration;
+
+#[test]
+fn to_bytes(rt: HostRuntime) -> Result<(), Fail> {
+    let Ok(small) = Histogram::<u64>::new(rt.alloc(), 0) else {
+        return Ok(println!(rt; "no memory")?);
+    };
+    let Ok(mut large) = Histogram::<u64>::new_with_max(rt.alloc(), 1000, 2) else {
+        return Ok(println!(rt; "no memory")?);
+    };
+    large.record_n(1000, 1)?;
+    let mut serializer = V2Serializer::new(rt.alloc());
+    let mut refused = 0;
+    if let Err(error) = serializer.to_bytes(&small) {
+        assert!(rt; matches!(error, V2SerializeError::OutOfMemory));
+        refused += 1;
+    }
+    if let Err(error) = serializer.to_bytes(&large) {
+        assert!(rt; matches!(error, V2SerializeError::OutOfMemory));
+        refused += 1;
+    }
+    assert!(rt; refused <= 1);
+    assert_eq!(rt; serializer.to_bytes(&small)?.len(), 41);
+    assert_eq!(rt; serializer.to_bytes(&large)?.len(), 43);
+    if refused == 1 {
+        println!(rt; "no memory")?;
+    }
+    Ok(())
+}
+
+#[test]
+fn serialize(rt: HostRuntime) -> Result<(), Fail> {
+    let Ok(h) = Histogram::<u8>::new(rt.alloc(), 1) else {
+        return Ok(println!(rt; "no memory")?);
+    };
+    let Ok(mut written) = Vec::with_capacity(rt.alloc(), 100) else {
+        return Ok(println!(rt; "no memory")?);
+    };
+    let mut serializer = V2Serializer::new(rt.alloc());
+    if let Err(error) = serializer.serialize(&h, &mut written) {
+        assert!(rt; matches!(error, V2SerializeError::OutOfMemory));
+        assert!(rt; written.is_empty());
+        println!(rt; "no memory")?;
+        serializer.serialize(&h, &mut written)?;
+    }
+    assert_eq!(rt; written.len(), 41);
+    Ok(())
+}
+
+#[test]
+fn decode_slice(rt: HostRuntime) -> Result<(), Fail> {
+    let mut deserializer = Deserializer::new(rt.alloc());
+    if let Err(error) = deserializer.decode_slice::<u64>(&FIRST_RUN) {
+        assert!(rt; matches!(error, DeserializeError::OutOfMemory));
+        println!(rt; "no memory")?;
+    }
+    let (h, taken) = deserializer.decode_slice::<u64>(&FIRST_RUN)?;
+    assert_eq!(rt; (h.len(), taken), (5, 43));
+    Ok(())
+}
+
+#[test]
+fn deserialize(rt: HostRuntime) -> Result<(), Fail> {
+    let mut deserializer = Deserializer::new(rt.alloc());
+    let mut reader = FIRST_RUN.as_slice();
+    if let Err(error) = deserializer.deserialize::<u64, &[u8]>(&mut reader) {
+        assert!(rt; matches!(error, DeserializeError::OutOfMemory));
+        println!(rt; "no memory")?;
+    }
+    let mut reader = FIRST_RUN.as_slice();
+    let h = deserializer.deserialize::<u64, &[u8]>(&mut reader)?;
+    assert_eq!(rt; h.len(), 5);
+    assert!(rt; reader.is_empty());
+    Ok(())
+}
+
+#[test]
+fn field(rt: HostRuntime) -> Result<(), Fail> {
+    match decoded(rt.alloc(), "AQI=") {
+        Ok(bytes) => assert_eq!(rt; bytes.as_slice(), [1u8, 2].as_slice()),
+        Err(error) => {
+            assert!(rt; error == FieldError::OutOfMemory);
+            println!(rt; "no memory")?;
+        }
+    }
+    Ok(())
+}
+
+/// Whether comments and an interval are written whole, or memory is refused and nothing is written.
+fn is_written(alloc: Global, h: &Histogram<u64>, log: &mut Vec<u8>) -> Option<bool> {
+    let mut serializer = V2Serializer::new(alloc);
+    let mut builder = IntervalLogWriterBuilder::new(alloc);
+    if let Err(CommentError::OutOfMemory) = builder.add_comment("a") {
+        return Some(false);
+    }
+    let mut writer = match builder.begin_log_with(log, &mut serializer) {
+        Ok(writer) => writer,
+        Err(IntervalLogWriterError::OutOfMemory) => return Some(false),
+        Err(_) => return None,
+    };
+    match writer.write_histogram(h, Duration::new(0, 0), Duration::new(0, 0), None) {
+        Ok(()) => Some(true),
+        Err(IntervalLogWriterError::OutOfMemory) => Some(false),
+        Err(IntervalLogWriterError::SerializeError(V2SerializeError::OutOfMemory)) => Some(false),
+        Err(_) => None,
+    }
+}
+
+#[test]
+fn log(rt: HostRuntime) -> Result<(), Fail> {
+    let Ok(h) = Histogram::<u64>::new(rt.alloc(), 0) else {
+        return Ok(println!(rt; "no memory")?);
+    };
+    let Ok(mut log) = Vec::with_capacity(rt.alloc(), 200) else {
+        return Ok(println!(rt; "no memory")?);
+    };
+    match is_written(rt.alloc(), &h, &mut log) {
+        Some(true) => assert!(rt; log.as_slice().starts_with(b"#a\n0.000,0.000,0.000,HIST")),
+        Some(false) => {
+            assert!(rt; log.is_empty() || log.as_slice() == b"#a\n".as_slice());
+            println!(rt; "no memory")?;
+        }
+        None => return Err(Fail::from("another error")),
+    }
+    Ok(())
+}

@@ -1,0 +1,192 @@
+//! Calls that take no memory.
+
+use crate::table::Table;
+use crate::tests::refused::is_refused;
+use hdr_base::Quantile;
+use hdr_core::{Call, Histogram};
+use hdr_log::{IntervalLogIterator, Tag};
+use hdrhistogram::serialization::deserializer::{varint_read, varint_read_slice};
+use hdrhistogram::serialization::interval_log::IntervalLogWriterBuilder;
+use hdrhistogram::serialization::v2_serializer::{
+    counts_array_max_encoded_size, encode_counts, varint_write, zig_zag_decode, zig_zag_encode,
+};
+use hdrhistogram::serialization::{Deserializer, V2Serializer};
+use std::alloc::Global;
+use std::test::Fail;
+
+/// Histograms up to 1023, of which two hold a value.
+const SMALL: [&str; 5] = [
+    "one new_with_max 1000 1",
+    "other new_with_max 1000 1",
+    "wide new_with_max 1000 1",
+    "other saturating_record 7",
+    "wide saturating_record 900",
+];
+
+/// Calls that take no memory on `SMALL`.
+const RESTING: [&str; 53] = [
+    "one record 900",
+    "one record_n 5 255",
+    "one record_correct 90 10",
+    "one record_n_correct 90 200 7",
+    "one record_n_correct_counted 900 1 1",
+    "one saturating_record 5000",
+    "one saturating_record_n 5000 3",
+    "one record 5000",
+    "one apply record 9 1",
+    "one apply clamp 9 1",
+    "one apply correct 9 1 2",
+    "one apply add",
+    "one apply add_correct 3",
+    "one add",
+    "one add_from",
+    "one add_correct 10",
+    "one add_correct_from 10",
+    "one subtract",
+    "one set_to",
+    "one set_to_corrected 10",
+    "one value_at_quantile 1 2",
+    "one value_at_percentile 50 1",
+    "one looks 1 2",
+    "one len",
+    "one count",
+    "one is_empty",
+    "one low",
+    "one high",
+    "one sigfig",
+    "one is_auto_resize",
+    "one buckets",
+    "one distinct_values",
+    "one max",
+    "one min",
+    "one min_nz",
+    "one count_at 9",
+    "one count_between 1 9",
+    "one bin_of 9",
+    "one bin_value 9",
+    "one bin_count 9",
+    "one lowest_equivalent 900",
+    "one highest_equivalent 900",
+    "one next_non_equivalent 900",
+    "one median_equivalent 900",
+    "one equivalent_range 900",
+    "one equivalent 900 901",
+    "one is_other",
+    "one equals_wide",
+    "one apply clear",
+    "one apply reset",
+    "one clear",
+    "one reset",
+    "one auto 0",
+];
+
+/// Whether a run is done that takes no memory.
+fn run_is_done(table: &mut Table<u64>) -> bool {
+    let calls = [
+        Call::Record(9, 1),
+        Call::Add(&table.other.inner),
+        Call::Correct(9, 1, 2),
+    ];
+    table.one.apply_all(&calls).is_ok()
+}
+
+/// Whether calls that take no memory are done. None: memory was refused to what is made before them.
+fn rests(alloc: Global) -> Option<bool> {
+    let mut table: Table<u64> = Table::new(alloc).ok()?;
+    if is_refused(alloc, &mut table, SMALL.as_slice()) {
+        return None;
+    }
+    Some(!is_refused(alloc, &mut table, RESTING.as_slice()) && run_is_done(&mut table))
+}
+
+/// Whether the payload of a histogram and its parts are right, in a buffer that stands.
+fn payload_is_right(h: &Histogram<u64>, buf: &mut Vec<u8>) -> bool {
+    let Some(room) = counts_array_max_encoded_size(h.distinct_values()) else {
+        return false;
+    };
+    room <= buf.len() && matches!(encode_counts(h, buf), Ok(len) if len > 0)
+}
+
+/// Whether numbers are spelt and read again.
+fn numbers_are_right() -> bool {
+    let mut buf = [0; 9];
+    let len = varint_write(300, &mut buf);
+    let mut reader = buf.as_slice();
+    len == 2
+        && varint_read_slice(buf.as_slice()) == (300, 2)
+        && matches!(varint_read(&mut reader), Ok(300))
+        && zig_zag_decode(zig_zag_encode(-5)) == -5
+}
+
+/// How many items all iterators give.
+fn iterated(h: &Histogram<u64>) -> usize {
+    let bins = h.iter_all().count();
+    let recorded = h.iter_recorded().count();
+    let levels = h.iter_linear(100).count();
+    let powers = h.iter_log(1, 10).count();
+    let quantiles = h.iter_quantiles(2).count();
+    bins.min(recorded)
+        .min(levels)
+        .min(powers)
+        .min(quantiles)
+}
+
+/// Whether the statistics are right for 7 once.
+fn statistics_are_right(h: &Histogram<u64>, half: Quantile) -> bool {
+    let halves = [half, half];
+    let quantiles = h.value_at_quantiles(halves.as_slice()).count();
+    let percentiles = h.value_at_percentiles(halves.as_slice()).count();
+    let below = h.quantile_below(7);
+    let percent = h.percentile_below(7);
+    let is_mean = match h.mean() {
+        Some(mean) => mean.num == 7 && mean.den == 1,
+        None => false,
+    };
+    (quantiles, percentiles) == (2, 2)
+        && (below.num, below.den) == (1, 1)
+        && (percent.num, percent.den) == (100, 1)
+        && is_mean
+}
+
+/// Whether makers that take no memory are called, and a log is read.
+fn makes_and_reads(alloc: Global) -> bool {
+    let _serializer = V2Serializer::new(alloc);
+    let _deserializer = Deserializer::new(alloc);
+    let _builder = IntervalLogWriterBuilder::new(alloc);
+    let mut log = IntervalLogIterator::new(b"Tag=a,0.0,1.0,1,x\n");
+    matches!(log.next(), Some(Ok(_))) && log.next().is_none() && Tag::new("a").is_some()
+}
+
+/// Whether bytes, iterators and statistics take no memory. None: memory was refused to what is made before them.
+fn reads_rest(alloc: Global) -> Option<bool> {
+    let mut h: Histogram<u64> = Histogram::new_with_max(alloc, 1000, 1).ok()?;
+    let mut buf = vec![in alloc; 0u8; 10_000].ok()?;
+    let half = Quantile::new(1, 2)?;
+    h.saturating_record(7);
+    Some(
+        payload_is_right(&h, &mut buf)
+            && numbers_are_right()
+            && iterated(&h) > 0
+            && statistics_are_right(&h, half)
+            && makes_and_reads(alloc),
+    )
+}
+
+/// What takes no memory meets no refusal once the histograms are made.
+#[test]
+fn resting(rt: HostRuntime) -> Result<(), Fail> {
+    match rests(rt.alloc()) {
+        Some(done) => assert!(rt; done),
+        None => println!(rt; "no memory")?,
+    }
+    Ok(())
+}
+
+#[test]
+fn reading_at_rest(rt: HostRuntime) -> Result<(), Fail> {
+    match reads_rest(rt.alloc()) {
+        Some(done) => assert!(rt; done),
+        None => println!(rt; "no memory")?,
+    }
+    Ok(())
+}
