@@ -124,8 +124,8 @@ fn a_byte_at_a_time(rt: HostRuntime) -> Result<(), Fail> {
     Ok(())
 }
 
-/// The kinds of failure that the kit has, but for those that `run` treats on their own: an interruption, which is tried
-/// again, and out of memory.
+/// The kinds of failure that the kit has, but for interruptions, which are tried again, and out of memory, which is told as
+/// such where it comes of reading.
 const KINDS: [ErrorKind; 40] = [
     ErrorKind::NotFound,
     ErrorKind::PermissionDenied,
@@ -238,18 +238,28 @@ fn each_write_fails(rt: HostRuntime) -> Result<(), Fail> {
     Ok(())
 }
 
+/// Interrupted reads and writes are tried again, whatever the command.
 #[test]
 fn interruptions_pass(rt: HostRuntime) -> Result<(), Fail> {
-    let words = words_of(rt.alloc(), SMALL)?;
-    let mut source = Source::new(SMALL_INPUT, 7);
-    source.fails_at = 2;
-    source.kind = ErrorKind::Interrupted;
-    let mut sink = Sink::new(10);
-    sink.fails_at = 2;
-    sink.kind = Some(ErrorKind::Interrupted);
-    let ran = run(rt.alloc(), words.as_slice(), &mut source, &mut sink);
-    assert!(rt; ran.is_ok());
-    assert_eq!(rt; sink.text(), SMALL_OUTPUT.as_bytes());
+    let rows = [
+        (SMALL, SMALL_INPUT.as_slice(), SMALL_OUTPUT),
+        ("log 3", LOG_INPUT.as_slice(), LOG_OUTPUT),
+    ];
+    for (line, input, wanted) in rows {
+        let words = words_of(rt.alloc(), line)?;
+        for at in 1..=9u64 {
+            let mut source = Source::new(input, 7);
+            source.fails_at = at.min(4);
+            source.kind = ErrorKind::Interrupted;
+            let mut sink = Sink::new(10);
+            sink.fails_at = at;
+            sink.kind = Some(ErrorKind::Interrupted);
+            let mut patient = Patient { writer: sink };
+            let ran = run(rt.alloc(), words.as_slice(), &mut source, &mut patient);
+            assert!(rt; ran.is_ok(), "{line} at {at}");
+            assert_eq!(rt; patient.writer.text(), wanted.as_bytes());
+        }
+    }
     Ok(())
 }
 
