@@ -1,4 +1,5 @@
 # make: proves and builds the program, target/hdr. make install: puts it below PREFIX. make check: the whole gate.
+# make quick: what has changed since the last commit, over the work that earlier checks kept.
 # make bench: times beside the Rust crate hdrhistogram (bench/run says where that comes from).
 PREFIX ?= /usr/local
 
@@ -8,13 +9,21 @@ all:
 install: all
 	install -Dm755 target/hdr $(DESTDIR)$(PREFIX)/bin/hdr
 
+# The edits are tried beside rt ci, whose longest chain of crates leaves processors idle. Either failure fails the gate.
 check:
-	rt ci
+	tools/edits --control
+	tools/edits --beside rt ci
 	tools/refused.sh
 	tools/refused_main.sh
 	tools/cases.sh
 
+# Both read crates/*/out: a crate that has not changed costs a few seconds, and the edits of changed crates alone are tried.
+# It proves no test, and is no gate.
+quick:
+	rt all check
+	tools/edits --changed
+
 bench:
 	bench/run
 
-.PHONY: all install check bench
+.PHONY: all install check quick bench

@@ -13,6 +13,7 @@ ghost use Rattle.hdr_core.specs.Statistics.{share_below, IsAtMost};
 ghost use Rattle.hdr_core.specs.Merging.{merged};
 ghost use Rattle.hdr_core.specs.Calls.{after_call, State, StandsAt, CallTo, IsCallOf};
 ghost use Rattle.hdr_core.specs.declared.call.Call.{Call};
+ghost use Rattle.hdr_core.specs.Refusals.{IsBounds};
 ghost use Rattle.hdr_core.specs.Subtracting.{IsDifference};
 ghost use Rattle.hdr_core.specs.Equality.{same_plain, IsSame};
 
@@ -60,6 +61,12 @@ pub fn recording_stands()
 /// The numbers of a histogram that stands for samples sum to how many there are.
 pub fn samples_are_counted()
     ensures { (greatest : ℕ) (h : Plain) (S : List ℕ) → IsPlain greatest h → StandsFor h S → sum h.counts ≡ length S }
+{}
+
+/// What a constructor makes of lawful bounds is a histogram, for every counter type.
+pub fn new_is_plain()
+    ensures { (greatest low high sigfig : ℕ) (auto_resize : Bool) → IsBounds low high sigfig → high < 2 ^ 64
+        → IsPlain greatest (empty_plain low high sigfig auto_resize) }
 {}
 
 /// A new histogram stands for no samples, and so does one that was cleared or reset.

@@ -1,10 +1,10 @@
 -- The sums of a list of numbers in blocks, after a write and after more blocks.
-use Rattle.std.proofs.Common.{◌≡◌, ℕ, ◌+◌, ◌-◌, ◌*◌, ◌/◌, ◌^◌, ◌<◌, ◌≤◌, ◌≢◌, zero, suc, List, [], ◌∷◌, ◌++◌, length, get_or, set, take, drop, map, replicate, sum, min, Result, MatchResult, is_ok, true, Ok, Err, All, sym, refl, ap, ◌∙◌, arith, ⊎_elim}
-use Rattle.std.proofs.lemmas.List.{take-set-le, take-append-le, length-append, length-replicate, length-set, length-take-le, length-drop, length-take, take_all, get_or-take, get_or-set_same, get_or-set_other, get_or_append_left, get_or-append_right, get_or-replicate, take-take, drop-take, length-map, get_or-map, take-map, drop-map, map-set, take_more_set, replicate_more, map-append}
-use Rattle.std.proofs.lemmas.List.Elements.{All-take, All-drop, All-append}
-use Rattle.std.proofs.lemmas.List.Sums.{sum_by-set, sum_by-append, sum_by_more, sum_by-take-le, sum_by-le, sum_by-take-drop}
+use Rattle.std.proofs.Common.{◌≡◌, ℕ, ◌+◌, ◌-◌, ◌*◌, ◌/◌, ◌^◌, ◌<◌, ◌≤◌, ◌≢◌, zero, suc, List, [], ◌∷◌, ◌++◌, length, get_or, set, take, drop, map, replicate, sum, min, Result, MatchResult, is_ok, true, Ok, Err, All, append_assoc, sym, refl, ap, ◌∙◌, arith, ⊎_elim}
+use Rattle.std.proofs.lemmas.List.{take-set-le, take-append-le, length-append, length-replicate, length-set, length-take-le, length-drop, length-take, take_all, get_or-take, get_or-set_same, get_or-set_other, get_or_append_left, get_or-append_right, get_or-replicate, take-take, drop-take, length-map, get_or-map, take-map, drop-map, map-set, take_more_set, replicate_more, replicate-append-replicate, map-append}
+use Rattle.std.proofs.lemmas.List.Elements.{All-nil, All-cons, All-take, All-drop, All-append}
+use Rattle.std.proofs.lemmas.List.Sums.{sum_by-set, sum_by-append, sum_by-cons, sum_by_more, sum_by-take-le, sum_by-le, sum_by-take-drop}
 use Rattle.std.proofs.lemmas.Bool.{cases_lt, cases_eq, false≢true}
-use Rattle.std.proofs.Math.Seq.{take-set-lt, take-append-add}
+use Rattle.std.proofs.Math.Seq.{take-set-lt, take-append-add, take-append_seam}
 use Rattle.std.proofs.Math.Nat.{mul-le-mul_right, div-lt_iff_lt-mul}
 use Rattle.hdr_counts.specs.Blocks.{sum_below, AreSums}
 
@@ -49,7 +49,7 @@ pub number-le-sum_below : (ns : List ℕ) (i j : ℕ) → i < j → i < length n
 number-le-sum_below ns i j h l =
     omega (arith, sum_below_more ns i l, sum_below-le ns (i + 1) j (omega arith))
 
-sum-zeros : (m : ℕ) → sum (replicate m 0) ≡ 0
+pub sum-zeros : (m : ℕ) → sum (replicate m 0) ≡ 0
 sum-zeros zero = refl
 sum-zeros (suc m) = sum-zeros m
 
@@ -331,3 +331,25 @@ pub block-sum-read : {X : Type 0} (f : X → ℕ) (xs l : List X) (b k w : ℕ) 
     → get_or r k 0 ≡ sum (map f (take w (drop (k * b) l)))
 block-sum-read f xs l b k w ss r h lt sums_are read wide =
     ap (λ q. get_or q k 0) sums_are ∙ block-sum f xs b k ss h (omega (arith, ap length sums_are)) ∙ ap (λ v. sum (map f (take v (drop (k * b) xs)))) (sym wide) ∙ ap (λ q. sum (map f (take w (drop (k * b) q)))) (sym read)
+
+-- ---- zeros
+
+-- numbers that sum to 0 are 0
+pub zeros-of : {X : Type 0} (f : X → ℕ) (xs : List X) → sum (map f xs) ≡ 0 → map f xs ≡ replicate (length xs) 0
+zeros-of f [] e = refl
+zeros-of f (x ∷ xs) e =
+    let s = sum_by-cons (λ n. n) (f x) (map f xs) in
+    let first : f x ≡ 0 = omega (arith, s) in
+    ap (λ n. n ∷ map f xs) first ∙ ap (λ ns. 0 ∷ ns) (zeros-of f xs (omega (arith, s)))
+
+pub All-zeros : (n : ℕ) → All (λ m. m ≤ 18446744073709551615) (replicate n 0)
+All-zeros zero = All-nil _
+All-zeros (suc n) = All-cons (λ m. m ≤ 18446744073709551615) 0 (replicate n 0) (omega arith) (All-zeros n)
+
+-- a block of zeros written after zeros
+pub zeros-written : (ns : List ℕ) (a b : ℕ) → a + b ≤ length ns → take a ns ≡ replicate a 0
+    → take (a + b) (take a ns ++ (replicate b 0 ++ drop (a + b) ns)) ≡ replicate (a + b) 0
+zeros-written ns a b room zeros =
+    let first : take a ns ++ (replicate b 0 ++ drop (a + b) ns) ≡ replicate a 0 ++ (replicate b 0 ++ drop (a + b) ns) = ap (λ l. l ++ (replicate b 0 ++ drop (a + b) ns)) zeros in
+    let whole : replicate a 0 ++ (replicate b 0 ++ drop (a + b) ns) ≡ replicate (a + b) 0 ++ drop (a + b) ns = sym (append_assoc (replicate a 0) (replicate b 0) (drop (a + b) ns)) ∙ ap (λ l. l ++ drop (a + b) ns) (replicate-append-replicate a b 0) in
+    ap (take (a + b)) (first ∙ whole) ∙ ap (λ n. take n (replicate (a + b) 0 ++ drop (a + b) ns)) (sym (length-replicate (a + b) 0)) ∙ take-append_seam (replicate (a + b) 0) (drop (a + b) ns)

@@ -2,12 +2,14 @@
 #![tactic(auto)]
 
 mod adding;
+mod clearing;
 mod search;
 
 ghost use Rattle.std.specs.Prelude.{◌≡◌, ℕ, ◌+◌, ◌-◌, ◌*◌, ◌/◌, ◌%◌, ◌^◌, ◌<◌, ◌≤◌, length, take, map, sum, replicate, slice_index, slice_set, MatchOption, MatchResult, IfOk, IfSome, [], ◌++◌, All};
 ghost use Rattle.hdr_counts.specs.Blocks.{Blocks, sum_below, IsFirstToReach, looks, capped_sums, IsShift};
 
 use adding::{add_blocks, sum_of};
+use clearing::clear_blocks;
 use hdr_base::{Counter, Ticks};
 pub use search::Search;
 use search::{first_reaching, first_reaching_looked, look};
@@ -122,14 +124,11 @@ impl<T: Counter> Counts<T> {
         Some(())
     }
 
-    /// Makes each counter 0.
+    /// Makes each counter 0. It looks at the sum of each block, and at the counters of those that hold something.
     pub fn clear(&mut self)
         ensures { self.new ≡ record { block = self.old.block; numbers = replicate (length self.old.numbers) 0 } }
     {
-        for counter in self.counters.iter_mut() {
-            *counter = T::zero();
-        }
-        self.sums.fill(0);
+        clear_blocks(&mut self.counters, &mut self.sums, self.block);
     }
 
     /// The exact sum of the counters up to and with place `i`, by the sums of the blocks before its own.

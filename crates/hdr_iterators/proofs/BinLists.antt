@@ -1,4 +1,4 @@
--- The lists of all bins_in and of the nonempty ones, one bin on.
+-- The lists of all bins and of the nonempty ones, one bin on.
 use Rattle.std.proofs.Common.{◌≡◌, ◌≢◌, ℕ, ◌+◌, ◌-◌, ◌<◌, ◌≤◌, zero, suc, Bool, true, false, cond, eqb, ltb, [], ◌∷◌, get_or, map, Option, Some, None, sym, refl, ap, ◌∙◌, subst, ⊎_elim, arith, rules, tests, eq-eqb}
 use Rattle.std.proofs.lemmas.Bool.{false≢true, cases_lt, cases_Bool}
 use Rattle.std.proofs.lemmas.Bool.{eqb-true}
@@ -104,7 +104,7 @@ all_next h v i l m e a =
     let n_is : bins_in h - i - 1 ≡ bins_in h - (i + 1) = omega arith in
     ap (λ k. map bin_pick (bins_from h k)) at ∙ (ap (map bin_pick) (range_more i (bins_in h - i) (omega arith)) ∙ ap (λ k. bin_pick i ∷ map bin_pick (range_with_len (i + 1) k)) n_is)
 
--- the kept bins_in from k on, by those from i on, where none before i is kept
+-- the kept bins from k on, by those from i on, where none before i is kept
 from_there : (h : Seen) (k i : ℕ) → k ≤ i → i < bins_in h → NoneBefore i (map bin_pick (filter (is_nonempty h) (bins_from h k))) → filter (is_nonempty h) (bins_from h k) ≡ filter (is_nonempty h) (i ∷ bins_from h (i + 1))
 from_there h k i l m a =
     let skip = kept_skip (is_nonempty h) k (bins_in h - k) i l (omega arith) a in

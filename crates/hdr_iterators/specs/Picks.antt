@@ -19,7 +19,7 @@ pub record Told : Type 0 where
 abbrev pub share_at : Seen → ℕ → Ratio
 share_at h i = record { num = running h i; den = h.total }
 
--- the item of a pick, where the bins_in before `from` were counted by the items before
+-- the item of a pick, where the bins before `from` were counted by the items before
 abbrev pub item_of : Seen → ℕ → Pick → Item
 item_of h from p = record {
   value = unwrap_or p.level (top_in h p.place);
@@ -42,7 +42,7 @@ abbrev pub NoneBefore : ℕ → List Pick → Type 0
 NoneBefore i [] = Unit {0}
 NoneBefore i (p ∷ ps) = (i ≤ p.place) × NoneBefore i ps
 
--- all picks are of bins_in before bin n
+-- all picks are of bins before bin n
 abbrev pub AllBefore : ℕ → List Pick → Type 0
 AllBefore n [] = Unit {0}
 AllBefore n (p ∷ ps) = (p.place < n) × AllBefore n ps

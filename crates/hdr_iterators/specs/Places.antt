@@ -8,7 +8,7 @@ use Rattle.hdr_iterators.specs.Picks.{Pick}
 abbrev pub bin_pick : ℕ → Pick
 bin_pick i = record { place = i; tick = None; level = None }
 
--- the bins_in from bin i on
+-- the bins from bin i on
 abbrev pub bins_from : Seen → ℕ → List ℕ
 bins_from h i = range_with_len i (bins_in h - i)
 

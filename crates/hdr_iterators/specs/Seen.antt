@@ -36,7 +36,7 @@ below h i = sum (take i h.numbers)
 abbrev pub running : Seen → ℕ → ℕ
 running h i = capped (below h (i + 1))
 
--- what is true of the bins_in of every histogram: they are classes of u64 values, and none behind the last holds a sample
+-- what is true of the bins of every histogram: they are classes of u64 values, and none after the last holds a sample
 pub record AreBins (h : Seen) : Type 0 where
   pub some : 0 < length h.numbers
   pub few : length h.numbers ≤ 6291456

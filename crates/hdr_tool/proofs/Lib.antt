@@ -1,4 +1,3 @@
-pub mod NumberLemmas
 pub mod PartLemmas
 pub mod FieldLemmas
 pub mod WordLemmas

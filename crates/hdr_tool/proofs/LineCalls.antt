@@ -8,7 +8,7 @@ use Rattle.std.proofs.lemmas.Bool.{ltb-true}
 use Rattle.hdr_core.specs.Calls.{IsCallOf}
 use Rattle.hdr_core.specs.declared.call.Call.{Call}
 use Rattle.hdr_core.specs.declared.call.Call.TheVariants.{Record, Clamp, Correct, Clear, Reset}
-use Rattle.hdr_tool.specs.Parts.{◌>>=◌, parts, is_digits, number_of}
+use Rattle.hdr_log.specs.Parts.{◌>>=◌, parts, is_digits, number_of}
 use Rattle.hdr_tool.specs.Lines.{LogCommand, Make, End, count_of, record_of, clamp_of, correct_of, alone, named, end_tag_of, end_of, log_named, log_command_of_fields, log_command_of}
 
 -- one of two answers, and one behind another

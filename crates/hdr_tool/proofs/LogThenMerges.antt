@@ -15,7 +15,7 @@ use Rattle.hdrhistogram.specs.V2Read.{told_of, v2_at, IsReadAs, IsReadBack, Read
 use Rattle.hdrhistogram.specs.Faults as reading
 use Rattle.hdrhistogram.specs.declared.serialization.errors.DeserializeError.{DeserializeError}
 use Rattle.hdr_tool.specs.declared.fault.Fault.{Fault}
-use Rattle.hdr_tool.specs.Parts.{parts}
+use Rattle.hdr_log.specs.Parts.{parts}
 use Rattle.hdr_tool.specs.Lines.{LogCommand, Make, End, log_command_of}
 use Rattle.hdr_tool.specs.Words.{Task, Merge}
 use Rattle.hdr_tool.specs.Outcomes.{Outcome, Runs, GoesOn, after}

@@ -1,5 +1,5 @@
 -- What a log's lines recorded is what a merge of the written log reports.
-use Rattle.std.proofs.Common.{◌≡◌, ℕ, zero, suc, ◌+◌, ◌-◌, ◌^◌, ◌≤◌, Bool, true, false, cond, leb, ◌&&◌, List, [], ◌∷◌, Option, Some, None, IfSome, refl, sym, ◌∙◌, subst, arith, lit<}
+use Rattle.std.proofs.Common.{◌≡◌, ℕ, zero, suc, ◌+◌, ◌-◌, ◌^◌, ◌<◌, ◌≤◌, Bool, true, false, cond, leb, ◌&&◌, List, [], ◌∷◌, Option, Some, None, IfSome, refl, sym, ◌∙◌, subst, arith, lit<}
 use Rattle.std.specs.Option.{option_map}
 use Rattle.std.specs.List.{AllByRecursion, enumerate_from}
 use Rattle.std.proofs.lemmas.Bool.{leb-true}
@@ -8,12 +8,13 @@ use Rattle.hdr_base.specs.Fractions.{Ratio}
 use Rattle.hdr_core.specs.Plain.{Plain, IsPlain, grain, empty_plain}
 use Rattle.hdr_core.specs.Samples.{StandsFor, Fits}
 use Rattle.hdr_core.specs.Calls.{State, StandsAt}
-use Rattle.hdr_core.proofs.Kept.{IsPlain-empty}
+use Rattle.hdr_core.specs.Refusals.{IsBounds}
 use Rattle.hdrhistogram.specs.V2Read.{IsReadBack}
 use Rattle.hdr_tool.specs.declared.fault.Fault.{Fault}
 use Rattle.hdr_tool.specs.declared.words.Command.{Command}
 use Rattle.hdr_tool.specs.declared.words.Command.TheVariants as command
-use Rattle.hdr_tool.specs.Parts.{◌>>=◌, each, parts}
+use Rattle.hdr_log.specs.Parts.{◌>>=◌, parts}
+use Rattle.hdr_tool.specs.Parts.{each}
 use Rattle.hdr_tool.specs.Words.{sigfig_of, quantile_of_word, Task, Report, Log, Merge, figures_of, log_of, command_named, task_named, task_of}
 use Rattle.hdr_tool.specs.Report.{IsReport}
 use Rattle.hdr_tool.specs.Program.{Program}
@@ -83,8 +84,14 @@ narrow (suc (suc (suc (suc zero)))) h = leb-true (unit_of 1 + digits_of 4) 63 re
 narrow (suc (suc (suc (suc (suc zero))))) h = leb-true (unit_of 1 + digits_of 5) 63 refl
 narrow (suc (suc (suc (suc (suc (suc n)))))) h = absurd (omega (arith, h))
 
-empty_is_plain : (n : ℕ) → n ≤ 5 → IsPlain (2 ^ 64 - 1) (empty_plain 1 2 n true)
-empty_is_plain n few = IsPlain-empty (2 ^ 64 - 1) 1 2 n true (record { not_zero = omega arith; digits = few; fits = narrow n few }) (lit< tt) (omega arith)
+-- what the core's law on new histograms says
+abbrev pub NewIsPlain : Type 0
+NewIsPlain = (greatest low high sigfig : ℕ) (auto_resize : Bool) → IsBounds low high sigfig → high < 2 ^ 64 → IsPlain greatest (empty_plain low high sigfig auto_resize)
+
+empty_is_plain : NewIsPlain → (n : ℕ) → n ≤ 5 → IsPlain (2 ^ 64 - 1) (empty_plain 1 2 n true)
+empty_is_plain new n few =
+    let bounds : IsBounds 1 2 n = record { low_fits = lit< tt; wide = omega arith; scale = record { not_zero = omega arith; digits = few; fits = narrow n few } } in
+    new (2 ^ 64 - 1) 1 2 n true bounds (lit< tt)
 
 empty_grain : (n : ℕ) → grain (empty_plain 1 2 n true) ≡ grain_of 1 n
 unfolding empty_plain
@@ -135,11 +142,11 @@ pub record IsMerged (quantiles : List Ratio) (text samples : List ℕ) : Type 0 
   pub plain : IsPlain (2 ^ 64 - 1) histogram
 
 pub whole_way : (log merge : List (List ℕ)) (sigfig fewer : ℕ) (quantiles : List Ratio) (input written text : List ℕ) (fault : Option Fault) (Ls : List (List ℕ))
-    → CallsStand → Adds → AddsPlain → ReadsBack → ReadsStand → ((n : ℕ) → StandsFor (empty_plain 1 2 n true) []) → IsFiner (grain_of 1 sigfig) (grain_of 1 fewer)
+    → NewIsPlain → CallsStand → Adds → AddsPlain → ReadsBack → ReadsStand → ((n : ℕ) → StandsFor (empty_plain 1 2 n true) []) → IsFiner (grain_of 1 sigfig) (grain_of 1 fewer)
     → task_of log ≡ Some (Log sigfig) → task_of merge ≡ Some (Merge fewer quantiles)
     → EndsWith (grain_of 1 sigfig) (record { samples = []; high = 2 }) (enumerate_from 1 (parts 10 input)) Ls → Fits (2 ^ 64 - 1) (grain_of 1 fewer) (joined_list Ls)
     → Program log input written None → Program merge written text fault → (fault ≡ None) × IsMerged quantiles text (joined_list Ls)
-whole_way log merge sigfig fewer quantiles input written text fault Ls calls adds keeps back stand made fine tl tm ends fits wrote merged =
+whole_way log merge sigfig fewer quantiles input written text fault Ls new calls adds keeps back stand made fine tl tm ends fits wrote merged =
     let h = empty_plain 1 2 sigfig true in
     let k = empty_plain 1 2 fewer true in
     let start : State = record { samples = []; high = 2 } in
@@ -147,9 +154,9 @@ whole_way log merge sigfig fewer quantiles input written text fault Ls calls add
     let few : sigfig ≤ 5 = subst (λ o. IfSome o HasFew) tl (task_few log) in
     let few_merged : fewer ≤ 5 = subst (λ o. IfSome o HasFew) tm (task_few merge) in
     let stands : StandsAt h start = (made sigfig, empty_high sigfig) in
-    let ended : AreEnds (grain h) (ends_of h lines) Ls = ends_stand calls h start lines Ls (empty_is_plain sigfig few) stands (subst (λ (g : Grain). EndsWith g start lines Ls) (sym (empty_grain sigfig)) ends) in
+    let ended : AreEnds (grain h) (ends_of h lines) Ls = ends_stand calls h start lines Ls (empty_is_plain new sigfig few) stands (subst (λ (g : Grain). EndsWith g start lines Ls) (sym (empty_grain sigfig)) ends) in
     let m = log_then_merge back log merge sigfig fewer quantiles input written text fault tl tm (ends_plain (grain h) (ends_of h lines) Ls ended) wrote merged in
     let finer : IsFiner (grain h) (grain k) = subst (λ (g : Grain). IsFiner g (grain k)) (sym (empty_grain sigfig)) (subst (λ (g : Grain). IsFiner (grain_of 1 sigfig) g) (sym (empty_grain fewer)) fine) in
     let parted : AreParts (grain k) m.1.0 Ls = read_parts (grain k) (grain h) (ends_of h lines) m.1.0 Ls stand finer ended m.1.1 in
-    let sum = each_added adds k m.1.0 [] Ls keeps (empty_is_plain fewer few_merged) (made fewer) parted (subst (λ (g : Grain). Fits (2 ^ 64 - 1) g (joined_list Ls)) (sym (empty_grain fewer)) fits) in
+    let sum = each_added adds k m.1.0 [] Ls keeps (empty_is_plain new fewer few_merged) (made fewer) parted (subst (λ (g : Grain). Fits (2 ^ 64 - 1) g (joined_list Ls)) (sym (empty_grain fewer)) fits) in
     (m.0, record { histogram = merged_each k m.1.0; report = m.1.2; stands = sum.0; plain = sum.1 })

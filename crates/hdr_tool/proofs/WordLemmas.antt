@@ -4,7 +4,8 @@ use Rattle.std.specs.List.{list_all}
 use Rattle.std.specs.Option.{option_map}
 use Rattle.std.proofs.Math.Seq.{drop-cons}
 use Rattle.hdr_tool.specs.declared.fault.Fault.TheVariants.{WrongWords, NoMemory}
-use Rattle.hdr_tool.specs.Parts.{each, ◌>>=◌}
+use Rattle.hdr_log.specs.Parts.{◌>>=◌}
+use Rattle.hdr_tool.specs.Parts.{each}
 use Rattle.hdr_tool.specs.Words.{RefusesWords}
 
 one_more : {B : Type 0} (y : B) (ys : List B) (o : Option (List B)) → option_map (λ zs. ys ++ zs) (o >>= λ zs. Some (y ∷ zs)) ≡ option_map (λ zs. (ys ++ y ∷ []) ++ zs) o

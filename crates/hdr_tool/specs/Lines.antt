@@ -5,7 +5,7 @@ use Rattle.std.specs.Str.{bytes_eq}
 use Rattle.hdr_core.specs.declared.call.Call.{Call}
 use Rattle.hdr_core.specs.declared.call.Call.TheVariants.{Record, Clamp, Correct, Clear, Reset}
 use Rattle.hdr_log.specs.Grammar.{is_tag}
-use Rattle.hdr_tool.specs.Parts.{◌>>=◌, parts, number_of}
+use Rattle.hdr_log.specs.Parts.{◌>>=◌, parts, number_of}
 
 -- the count behind a value, 1 where there is none
 abbrev pub count_of : List (List ℕ) → Option ℕ

@@ -11,7 +11,7 @@ use Rattle.hdr_core.specs.Ranks.{ranked_sample, quantile_of, IsTopNear}
 use Rattle.hdr_base.specs.Classes.{Grain, grain_of, IsFiner}
 use Rattle.hdrhistogram.specs.V2Read.{IsReadBack}
 use Rattle.hdr_tool.specs.declared.fault.Fault.{Fault}
-use Rattle.hdr_tool.specs.Parts.{parts}
+use Rattle.hdr_log.specs.Parts.{parts}
 use Rattle.hdr_tool.specs.Lines.{LogCommand, Make, End, log_command_of}
 use Rattle.hdr_tool.specs.Words.{Log, Merge, task_of}
 use Rattle.hdr_tool.specs.Report.{IsReport}

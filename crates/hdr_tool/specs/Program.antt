@@ -19,7 +19,7 @@ use Rattle.hdrhistogram.specs.declared.serialization.interval_log.errors.Interva
 use Rattle.hdr_tool.specs.declared.fault.Fault.{Fault}
 use Rattle.hdr_tool.specs.declared.fault.Fault.TheVariants.{WrongWords, NotACommand, NotWritten, NotALog, NotBase64, NotRead}
 use Rattle.std.specs.List.{enumerate_from}
-use Rattle.hdr_tool.specs.Parts.{parts}
+use Rattle.hdr_log.specs.Parts.{parts}
 use Rattle.hdr_tool.specs.Lines.{call_of, LogCommand, Make, End, log_command_of}
 use Rattle.hdr_tool.specs.Words.{Task, Report, Log, Merge, task_of}
 use Rattle.hdr_tool.specs.Faults.{refusal_at}

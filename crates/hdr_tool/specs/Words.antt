@@ -7,7 +7,8 @@ use Rattle.hdr_tool.specs.declared.words.Command.{Command}
 use Rattle.hdr_tool.specs.declared.words.Command.TheVariants as command
 use Rattle.hdr_tool.specs.declared.fault.Fault.{Fault}
 use Rattle.hdr_tool.specs.declared.fault.Fault.TheVariants.{WrongWords, NoMemory}
-use Rattle.hdr_tool.specs.Parts.{◌>>=◌, each, parted, number_of}
+use Rattle.hdr_log.specs.Parts.{◌>>=◌, parted, number_of}
+use Rattle.hdr_tool.specs.Parts.{each}
 
 -- one digit from 0 to 5
 abbrev pub sigfig_of : List ℕ → Option ℕ

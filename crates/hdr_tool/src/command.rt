@@ -9,7 +9,8 @@ ghost use Rattle.std.specs.Str.{is_utf8};
 ghost use Rattle.hdr_log.specs.Tags.{tag_text};
 ghost use Rattle.hdr_log.specs.Grammar.{only_if};
 
-use crate::parts::{number, split_first};
+use crate::parts::split_first;
+use hdr_log::parts::number;
 use hdrhistogram::Call;
 use hdrhistogram::serialization::interval_log::Tag;
 

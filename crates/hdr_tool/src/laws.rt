@@ -4,7 +4,7 @@ ghost use Rattle.hdr_tool.specs.LogMerges.{EndsStand, LogThenMerge, JoinedStands
 
 use hdr_base::laws::finer_classes;
 use hdr_core::laws::{
-    adding_keeps, adding_stands, calls_stand, clearing_stands, quantile_is_ranked,
+    adding_keeps, adding_stands, calls_stand, clearing_stands, new_is_plain, quantile_is_ranked,
 };
 use hdrhistogram::laws::{bytes_read_back, read_back_stands};
 
@@ -36,6 +36,7 @@ pub fn log_merge_stands()
     ensures { LogMergeStands }
 {
     finer_classes();
+    new_is_plain();
     clearing_stands();
     calls_stand::<u64>();
     adding_keeps();

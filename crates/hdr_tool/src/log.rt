@@ -5,7 +5,7 @@ ghost use Rattle.std.specs.List.{enumerate_from};
 ghost use Rattle.std.specs.Option.{option_map};
 ghost use Rattle.hdr_log.specs.Tags.{tag_text};
 ghost use Rattle.hdrhistogram.specs.LogWriters.{sink, divisor_of, IsSameLog};
-ghost use Rattle.hdr_tool.specs.Parts.{parts};
+ghost use Rattle.hdr_log.specs.Parts.{parts};
 ghost use Rattle.hdr_tool.specs.Words.{Log};
 ghost use Rattle.hdr_tool.specs.Outcomes.{Begins, Answers, StepAnswers};
 ghost use Rattle.hdr_tool.specs.Program.{EndDone, LogLineDone, LogDone, TaskDone, TaskStands, TaskWrites};

@@ -8,8 +8,6 @@ mod lines;
 mod log;
 mod merge;
 mod parts;
-#[cfg(test)]
-mod refused;
 mod report;
 mod run;
 mod stream;
@@ -22,6 +20,7 @@ use run::run;
 use std::env;
 use std::io::{BufWriter, ErrorKind, Write};
 use std::process::ExitCode;
+use stream::Patient;
 
 /// How much of the output is held back at most.
 const HELD: usize = 65_536;
@@ -43,7 +42,10 @@ fn words_given(rt: &HostRuntime) -> Result<Vec<String>, Fault> {
 /// Runs the program on the streams of the process.
 fn hdr(rt: &HostRuntime) -> Result<(), Fault> {
     let words = words_given(rt)?;
-    let Ok(mut output) = BufWriter::with_capacity(rt.alloc(), HELD, rt.stdout()) else {
+    let output = Patient {
+        writer: rt.stdout(),
+    };
+    let Ok(mut output) = BufWriter::with_capacity(rt.alloc(), HELD, output) else {
         return Err(Fault::NoMemory);
     };
     let ran = run(rt.alloc(), words.as_slice(), &mut rt.stdin(), &mut output);

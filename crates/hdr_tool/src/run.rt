@@ -3,7 +3,7 @@
 ghost use Rattle.std.specs.Prelude.{◌≡◌, ◌≢◌, ◌↔◌, ◌<◌, ◌+◌, ◌^◌, ℕ, List, map, length, MatchResult, Ok, Err, Some, None, [], true, IfSome, string_bytes};
 ghost use Rattle.hdr_core.specs.Plain.{empty_plain};
 ghost use Rattle.std.specs.List.{enumerate_from};
-ghost use Rattle.hdr_tool.specs.Parts.{parts};
+ghost use Rattle.hdr_log.specs.Parts.{parts};
 ghost use Rattle.hdr_tool.specs.Words.{Report, Merge, task_of};
 ghost use Rattle.hdr_tool.specs.Tasks.{task_seen};
 ghost use Rattle.hdr_tool.specs.Faults.{refusal_at};

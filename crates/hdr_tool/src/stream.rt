@@ -1,4 +1,4 @@
-//! Whole inputs and whole outputs.
+//! Whole inputs and whole outputs. The program tries interrupted reads and writes again, whatever the command.
 
 ghost use Rattle.std.specs.Prelude.{◌≡◌, OnOk, IfOk, IfErr, IfSome, MatchResult, ◌⊎◌};
 ghost use Rattle.std.specs.Io.KnownBytes.{Appends, IsAtEnd};
@@ -6,7 +6,7 @@ ghost use Rattle.hdrhistogram.specs.Streams.{AppendsFront};
 
 use crate::fault::Fault;
 use std::alloc::Global;
-use std::io::{ErrorKind, Read, Write};
+use std::io::{self, ErrorKind, Read, Write};
 
 /// The whole input. An interrupted read is tried again.
 pub(crate) fn read_whole<R: Read>(alloc: Global, reader: &mut R) -> Result<Vec<u8>, Fault>
@@ -22,26 +22,42 @@ pub(crate) fn read_whole<R: Read>(alloc: Global, reader: &mut R) -> Result<Vec<u
     }
 }
 
-/// Writes all of a text. An interrupted write is tried again; after a fault a beginning of the text is written, not all.
+/// A writer that tries an interrupted write again. The program's output is one.
+#[derive(Drop)]
+pub(crate) struct Patient<W> {
+    pub(crate) writer: W,
+}
+
+impl<W: Write> Write for Patient<W> {
+    ghost contents = { λ patient. W.contents patient.writer };
+
+    fn write(&mut self, buf: &[u8]) -> io::Result<usize> {
+        for _ in 0..u64::MAX {
+            match self.writer.write(buf) {
+                Err(e) if e.kind() == ErrorKind::Interrupted => {}
+                answer => return answer,
+            }
+        }
+        Err(io::Error::from(ErrorKind::Interrupted))
+    }
+
+    fn flush(&mut self) -> io::Result<()> {
+        self.writer.flush()
+    }
+}
+
+/// Writes all of a text. After a fault a beginning of the text is written, not all.
 pub(crate) fn write_whole<W: Write>(writer: &mut W, text: &[u8]) -> Result<(), Fault>
     ensures { MatchResult result
         (λ _. Appends (W.contents writer.old) (W.contents writer.new) text.now)
         (λ f. (f ≡ Fault.CannotWrite) × AppendsFront (W.contents writer.old) (W.contents writer.new) text.now) }
 {
-    if text.is_empty() {
-        return Ok(());
-    }
-    let mut at = 0usize;
-    for _ in 0..u64::MAX {
+    let mut at = 0;
+    while at < text.len() {
         match writer.write(&text[at..]) {
-            Ok(0) => return Err(Fault::CannotWrite),
+            Ok(0) | Err(_) => return Err(Fault::CannotWrite),
             Ok(count) => at += count,
-            Err(e) if e.kind() == ErrorKind::Interrupted => {}
-            Err(_) => return Err(Fault::CannotWrite),
-        }
-        if at == text.len() {
-            return Ok(());
         }
     }
-    Err(Fault::CannotWrite)
+    Ok(())
 }

@@ -9,7 +9,7 @@ ghost use Rattle.hdr_tool.specs.Words.{sigfig_of, quantile_of_word, figures_of, 
 ghost use Rattle.hdr_tool.specs.Tasks.{task_seen};
 
 use crate::fault::Fault;
-use crate::parts::{number, split_once};
+use hdr_log::parts::{number, split_once};
 use hdrhistogram::Quantile;
 use std::alloc::Global;
 

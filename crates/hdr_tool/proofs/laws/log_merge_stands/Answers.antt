@@ -13,6 +13,6 @@ returns c = λ log merge sigfig fewer quantiles input written text fault Ls tl t
     let back : ReadsBack = record { bytes = c.bytes_read_back.ensures.bytes; contents = c.bytes_read_back.ensures.contents; histogram = c.bytes_read_back.ensures.histogram } in
     let stand : ReadsStand = record { plain = c.read_back_stands.ensures.plain; classes = c.read_back_stands.ensures.classes; samples = c.read_back_stands.ensures.samples } in
     let finer = c.finer_classes.ensures.finer 1 sigfig 1 fewer (same_unit sigfig fewer) fine in
-    let w = whole_way log merge sigfig fewer quantiles input written text fault Ls calls c.adding_stands.ensures.merged keeps back stand (λ n. c.clearing_stands.ensures.made 1 2 n _) finer tl tm ends fits wrote merged in
+    let w = whole_way log merge sigfig fewer quantiles input written text fault Ls c.new_is_plain.ensures calls c.adding_stands.ensures.merged keeps back stand (λ n. c.clearing_stands.ensures.made 1 2 n _) finer tl tm ends fits wrote merged in
     let m = w.1 in
     (w.0, (m.histogram, m.report, m.stands, λ q den some num. c.quantile_is_ranked.ensures (2 ^ 64 - 1) m.histogram q (joined_list Ls) m.plain den m.stands some num))

@@ -1,7 +1,7 @@
 use Rattle.std.proofs.Common.{Ok, Err, refl, ◌∙◌}
 use Rattle.std.specs.List.{enumerate_from}
 use Rattle.hdrhistogram.specs.LogWriters.{sink}
-use Rattle.hdr_tool.specs.Parts.{parts}
+use Rattle.hdr_log.specs.Parts.{parts}
 use Rattle.hdr_tool.specs.Outcomes.{Runs, Begins}
 use Rattle.hdr_tool.specs.Program.{LogLineDone, LogDone}
 use Rattle.hdr_tool.proofs.Running.{begin, wrote, ended, all_done}

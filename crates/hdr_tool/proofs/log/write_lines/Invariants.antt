@@ -1,6 +1,6 @@
 use Rattle.std.specs.List.{enumerate_from}
 use Rattle.hdrhistogram.specs.LogWriters.{sink, IsSameLog}
-use Rattle.hdr_tool.specs.Parts.{parts}
+use Rattle.hdr_log.specs.Parts.{parts}
 use Rattle.hdr_tool.specs.Outcomes.{Runs, Begins}
 use Rattle.hdr_tool.specs.Program.{LogLineDone}
 use Rattle.hdr_tool.proofs.Running.{Goes}

@@ -1,6 +1,0 @@
-use Rattle.hdr_tool.proofs.NumberLemmas.{Reads}
-use Rattle.hdr_tool.proofs.parts.number.Given as goal
-
--- the value of the digits so far
-abbrev pub invariant-loop-byte : goal.invariant-loop-byte
-invariant-loop-byte l = Reads l.text l.byte-index l.value
