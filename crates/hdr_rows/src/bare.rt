@@ -276,6 +276,7 @@ impl<T: Counter> Histogram<T> {
     pub fn equals<F: Counter>(&self, other: &Histogram<F>) -> bool {
         self.inner.equals(&other.inner)
     }
+
     pub fn quantile_below(&self, value: u64) -> Fraction {
         self.inner.quantile_below(value)
     }

@@ -125,8 +125,9 @@ pub fn decode<T: Counter>(
             _ => Some(Answer::Differ),
         },
         Err(error) => match slow {
-            Err(again) if deserialize_name(&again) == deserialize_name(&error) =>
-                Some(Answer::Unread(error)),
+            Err(again) if deserialize_name(&again) == deserialize_name(&error) => Some(
+                Answer::Unread(error),
+            ),
             _ => Some(Answer::Differ),
         },
     }

@@ -17,7 +17,12 @@ fn push_item<T: Counter>(told: &mut String, item: &IterationValue<T>) -> Option<
     let since = item.count_since_last_iteration();
     let quantile = item.quantile();
     let tick = item.quantile_iterated_to();
-    write!(told, "{value} {count} {since} {}/{} ", quantile.num, quantile.den).ok()?;
+    write!(
+        told,
+        "{value} {count} {since} {}/{} ",
+        quantile.num, quantile.den
+    )
+    .ok()?;
     write!(told, "{}/{}", tick.num, tick.den).ok()
 }
 
@@ -38,7 +43,9 @@ fn is_whole<T: Counter>(item: &IterationValue<T>) -> bool {
         item.count_at_value(),
         item.count_since_last_iteration(),
     );
-    again == *item && quantile.num.checked_mul(100) == Some(percentile.num) && percentile.den == quantile.den
+    again == *item
+        && quantile.num.checked_mul(100) == Some(percentile.num)
+        && percentile.den == quantile.den
 }
 
 /// A list as its text, and an empty one as nothing.
@@ -90,7 +97,10 @@ pub fn told<T: Counter>(
         "iter_all" => items(alloc, h.iter_all().collect(alloc).ok()),
         "iter_recorded" => items(alloc, h.iter_recorded().collect(alloc).ok()),
         "iter_linear" if first >= 1 => items(alloc, h.iter_linear(first).collect(alloc).ok()),
-        "iter_log" if first >= 1 && second >= 2 => items(alloc, h.iter_log(first, second).collect(alloc).ok()),
+        "iter_log" if first >= 1 && second >= 2 => items(
+            alloc,
+            h.iter_log(first, second).collect(alloc).ok(),
+        ),
         "iter_quantiles" => match u32::try_from(first) {
             Ok(ticks) if ticks >= 1 => items(alloc, h.iter_quantiles(ticks).collect(alloc).ok()),
             _ => None,
@@ -135,7 +145,13 @@ pub fn value_at_quantiles<T: Counter>(
     words: &str,
 ) -> Option<Answer> {
     let list = fractions(alloc, words)?;
-    values(alloc, h.inner.value_at_quantiles(list.as_slice()).collect(alloc).ok())
+    values(
+        alloc,
+        h.inner
+            .value_at_quantiles(list.as_slice())
+            .collect(alloc)
+            .ok(),
+    )
 }
 
 /// The answers to many percentiles.
@@ -145,5 +161,11 @@ pub fn value_at_percentiles<T: Counter>(
     words: &str,
 ) -> Option<Answer> {
     let list = fractions(alloc, words)?;
-    values(alloc, h.inner.value_at_percentiles(list.as_slice()).collect(alloc).ok())
+    values(
+        alloc,
+        h.inner
+            .value_at_percentiles(list.as_slice())
+            .collect(alloc)
+            .ok(),
+    )
 }

@@ -64,10 +64,7 @@ fn push_interval(told: &mut String, line: &IntervalLogHistogram<'_>) -> Option<(
 }
 
 /// Writes what was read of an entry.
-fn push_entry(
-    told: &mut String,
-    entry: &Result<LogEntry<'_>, LogIteratorError>,
-) -> Option<()> {
+fn push_entry(told: &mut String, entry: &Result<LogEntry<'_>, LogIteratorError>) -> Option<()> {
     match entry {
         Ok(LogEntry::StartTime(time)) => write!(told, "start {};", time.as_millis()).ok(),
         Ok(LogEntry::BaseTime(time)) => write!(told, "base {};", time.as_millis()).ok(),

@@ -39,12 +39,7 @@ use std::io;
 use std::process::ExitCode;
 
 /// Plays a line that is wrong on purpose, and prints its number. Whether it answered otherwise than it says.
-fn line_differs(
-    rt: &HostRuntime,
-    play: &mut Play,
-    number: u64,
-    line: &str,
-) -> io::Result<bool> {
+fn line_differs(rt: &HostRuntime, play: &mut Play, number: u64, line: &str) -> io::Result<bool> {
     let differs = !play.agrees(rt.alloc(), line);
     if differs {
         println!(rt; "  differs at line {number}")?;

@@ -2,15 +2,13 @@
 
 use crate::answer::{Answer, added, applied, ran, recorded, subtracted};
 use crate::bare::Histogram;
-use crate::base;
-use crate::bytes;
 use crate::items::{told, value_at_percentiles, value_at_quantiles};
-use crate::logs;
 use crate::names::{
     COMPARES, COPIES, CORRECTS, Compare, Copied, Correct, JOINS, Join, RUNS, Run, named,
 };
 use crate::one_by_one::{agree, agree_below};
 use crate::single::{Numbers, call, same};
+use crate::{base, bytes, logs};
 use hdr_base::Counter;
 use hdr_core::{AdditionError, Call, CreationError, RecordError};
 use std::alloc::Global;

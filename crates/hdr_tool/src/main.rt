@@ -8,8 +8,6 @@ mod lines;
 mod log;
 mod merge;
 mod parts;
-#[cfg(test)]
-mod refused;
 mod report;
 mod run;
 mod stream;

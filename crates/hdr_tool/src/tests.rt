@@ -9,7 +9,7 @@ use std::test::Fail;
 
 /// A reader that gives at most `step` bytes a call, and fails from the call `fails_at` on.
 #[derive(Drop)]
-pub(crate) struct Source<'a> {
+struct Source<'a> {
     left: &'a [u8],
     step: usize,
     calls: u64,
@@ -19,7 +19,7 @@ pub(crate) struct Source<'a> {
 
 impl<'a> Source<'a> {
     /// A reader that never fails.
-    pub(crate) fn new(left: &'a [u8], step: usize) -> Source<'a> {
+    fn new(left: &'a [u8], step: usize) -> Source<'a> {
         Source {
             left,
             step,
@@ -47,7 +47,7 @@ impl Read for Source<'_> {
 /// A writer with room for 256 bytes, that takes at most `step` bytes a call, and fails at one call: by an error, or by
 /// taking none.
 #[derive(Drop)]
-pub(crate) struct Sink {
+struct Sink {
     held: [u8; 256],
     len: usize,
     step: usize,
@@ -58,7 +58,7 @@ pub(crate) struct Sink {
 
 impl Sink {
     /// A writer that never fails.
-    pub(crate) fn new(step: usize) -> Sink {
+    fn new(step: usize) -> Sink {
         Sink {
             held: [0; 256],
             len: 0,
@@ -70,7 +70,7 @@ impl Sink {
     }
 
     /// What was written.
-    pub(crate) fn text(&self) -> &[u8] {
+    fn text(&self) -> &[u8] {
         self.held.get(..self.len).unwrap_or(&[])
     }
 }
@@ -97,7 +97,7 @@ impl Write for Sink {
 }
 
 /// Words of their own, from words that are separated by one space.
-pub(crate) fn words_of(alloc: Global, line: &str) -> Result<Vec<String>, AllocError> {
+fn words_of(alloc: Global, line: &str) -> Result<Vec<String>, AllocError> {
     let mut words = Vec::new(alloc);
     for word in line.split(' ') {
         words.push(String::from_str(alloc, word)?)?;

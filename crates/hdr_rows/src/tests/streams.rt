@@ -80,7 +80,9 @@ impl Slow {
 
     /// Whether it holds just what it took of a text before it failed.
     fn holds_front(&self, text: &[u8]) -> bool {
-        let len = text.len().min(self.fails_at.saturating_sub(1).saturating_mul(7));
+        let len = text
+            .len()
+            .min(self.fails_at.saturating_sub(1).saturating_mul(7));
         self.held.as_slice() == &text[..len]
     }
 }
@@ -142,7 +144,10 @@ fn serializes(rt: &(impl Abort + AllocGlobal), kind: Option<ErrorKind>) -> Resul
     for fails_at in 1..9usize {
         let mut slow = Slow::new(rt.alloc(), fails_at, kind);
         let result = serializer.serialize(&h, &mut slow);
-        assert!(rt; slow.holds_front(FIRST_RUN.as_slice()), "{kind:?} at {fails_at}");
+        assert!(rt;
+            slow.holds_front(FIRST_RUN.as_slice()),
+            "{kind:?} at {fails_at}"
+        );
         match result {
             Ok(count) => assert!(rt; count == 43 && fails_at == 8, "{kind:?} at {fails_at}"),
             Err(V2SerializeError::IoError(cause)) => assert_eq!(rt; cause.kind(), wanted(kind)),
@@ -201,7 +206,10 @@ fn logs(rt: &(impl Abort + AllocGlobal), kind: Option<ErrorKind>) -> Result<(), 
         assert!(rt; slow.holds_front(LINE.as_slice()), "{kind:?} at {fails_at}");
         match result {
             Ok(()) => assert_eq!(rt; fails_at, 14, "{kind:?}"),
-            Err(IntervalLogWriterError::IoError(cause)) => assert_eq!(rt; cause.kind(), wanted(kind)),
+            Err(IntervalLogWriterError::IoError(cause)) => assert_eq!(rt;
+                cause.kind(),
+                wanted(kind)
+            ),
             Err(_) => return Err(Fail::from("another error")),
         }
     }

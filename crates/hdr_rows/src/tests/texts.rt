@@ -22,7 +22,11 @@ fn texts_of_memory(rt: HostRuntime) -> Result<(), Fail> {
     says(&rt, &CreationError::OutOfMemory, OUT_OF_MEMORY)?;
     says(&rt, &RecordError::OutOfMemory, OUT_OF_MEMORY)?;
     says(&rt, &AdditionError::OutOfMemory, OUT_OF_MEMORY)?;
-    says(&rt, &CallError::Addition(AdditionError::OutOfMemory), OUT_OF_MEMORY)?;
+    says(
+        &rt,
+        &CallError::Addition(AdditionError::OutOfMemory),
+        OUT_OF_MEMORY,
+    )?;
     says(&rt, &V2SerializeError::OutOfMemory, OUT_OF_MEMORY)?;
     says(&rt, &DeserializeError::OutOfMemory, OUT_OF_MEMORY)?;
     says(&rt, &CommentError::OutOfMemory, OUT_OF_MEMORY)?;

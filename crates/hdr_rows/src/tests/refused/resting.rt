@@ -119,16 +119,24 @@ fn numbers_are_right() -> bool {
 }
 
 /// How many items all iterators give.
-fn iterated(h: &Histogram<u64>) -> usize {
-    let bins = h.iter_all().count();
-    let recorded = h.iter_recorded().count();
-    let levels = h.iter_linear(100).count();
-    let powers = h.iter_log(1, 10).count();
-    let quantiles = h.iter_quantiles(2).count();
-    bins.min(recorded)
-        .min(levels)
-        .min(powers)
-        .min(quantiles)
+fn iterated(h: &Histogram<u64>) -> u64 {
+    let mut items: u64 = 0;
+    for _item in h.iter_all() {
+        items = items.saturating_add(1);
+    }
+    for _item in h.iter_recorded() {
+        items = items.saturating_add(1);
+    }
+    for _item in h.iter_linear(100) {
+        items = items.saturating_add(1);
+    }
+    for _item in h.iter_log(1, 10) {
+        items = items.saturating_add(1);
+    }
+    for _item in h.iter_quantiles(2) {
+        items = items.saturating_add(1);
+    }
+    items
 }
 
 /// Whether the statistics are right for 7 once.
