@@ -78,9 +78,9 @@ fn split_moves(payload: &[u8]) -> Vec<u8> {
     let mut split = Vec::new();
     let mut left = payload;
     while !left.is_empty() {
-        let (number, behind) = left.split_at(varint_length(left));
+        let (number, after) = left.split_at(varint_length(left));
         split.extend_from_slice(if number == GREATEST_MOVE { &TWO_MOVES } else { number });
-        left = behind;
+        left = after;
     }
     split
 }

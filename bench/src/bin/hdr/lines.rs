@@ -8,9 +8,9 @@ pub fn histogram_of(sigfig: u8, input: &[u8]) -> Result<Histogram<u64>, Fault> {
     let mut histogram = new_histogram(sigfig);
     let (mut left, mut line) = (input, 1);
     while !left.is_empty() {
-        let (call, behind) = Call::from_text(left).ok_or(Fault::NotACommand(line))?;
+        let (call, after) = Call::from_text(left).ok_or(Fault::NotACommand(line))?;
         call.apply(&mut histogram).map_err(|cause| Fault::Refused(line, cause))?;
-        (left, line) = (behind, line + 1);
+        (left, line) = (after, line + 1);
     }
     Ok(histogram)
 }
@@ -87,9 +87,9 @@ pub fn line_end(text: &[u8]) -> Option<&[u8]> {
 pub fn number(text: &[u8]) -> Option<(u64, &[u8])> {
     let mut value = 0u64;
     let mut left = text;
-    while let [byte @ b'0'..=b'9', behind @ ..] = left {
+    while let [byte @ b'0'..=b'9', after @ ..] = left {
         value = value.checked_mul(10)?.checked_add(u64::from(byte - b'0'))?;
-        left = behind;
+        left = after;
     }
     (left.len() < text.len()).then_some((value, left))
 }

@@ -30,7 +30,7 @@ pub fn write_log(sigfig: u8, input: &[u8], output: &mut impl Write) -> Result<()
     let mut log = log.expect("a log without headers begins empty");
     let (mut left, mut number) = (input, 1);
     while !left.is_empty() {
-        let (command, behind) = Command::from_text(left).ok_or(Fault::NotACommand(number))?;
+        let (command, after) = Command::from_text(left).ok_or(Fault::NotACommand(number))?;
         match command {
             Command::Call(call) => call.apply(&mut histogram).map_err(|cause| Fault::Refused(number, cause))?,
             Command::End(interval) => {
@@ -41,7 +41,7 @@ pub fn write_log(sigfig: u8, input: &[u8], output: &mut impl Write) -> Result<()
                 histogram.reset();
             }
         }
-        (left, number) = (behind, number + 1);
+        (left, number) = (after, number + 1);
     }
     output.flush().map_err(|_| Fault::CannotWrite)
 }
