@@ -1,20 +1,23 @@
 //! The histograms of a log: V2 bytes in Base64.
 
 use crate::random::Random;
+use hdrhistogram::Histogram;
+use hdrhistogram::serialization::{Serializer, V2Serializer};
 
 const COOKIE: u64 = 0x1c84_9313;
 const RATIO: u64 = 0x3ff0_0000_0000_0000;
 
-/// A field that may be damaged in its text, in its header or in its payload.
-pub fn field(random: &mut Random) -> Vec<u8> {
-    let mut bytes = bytes(random);
-    match random.below(24) {
-        0 => bytes.truncate(random.below(bytes.len() as u64) as usize),
-        1..=3 => bytes.extend((0..random.below(12)).map(|_| random.below(256) as u8)),
-        _ => {}
+/// A field. Where it need not be sound, it may be damaged in its text, in its header or in its payload.
+pub fn field(random: &mut Random, is_sound: bool) -> Vec<u8> {
+    let mut bytes = if random.one_in(4) { recorded(random) } else { bytes(random, is_sound) };
+    if random.one_in(8) {
+        bytes.extend((0..random.below(12)).map(|_| random.below(256) as u8));
+    }
+    if !is_sound && random.one_in(32) {
+        bytes.truncate(random.below(bytes.len() as u64) as usize);
     }
     let mut text = base64(&bytes);
-    if random.one_in(32) {
+    if !is_sound && random.one_in(24) {
         damage(random, &mut text);
     }
     text
@@ -92,22 +95,37 @@ impl Header {
     }
 }
 
-/// V2 bytes.
-fn bytes(random: &mut Random) -> Vec<u8> {
+/// The bytes that the crate writes for a histogram that grew.
+fn recorded(random: &mut Random) -> Vec<u8> {
+    let sigfig = random.below(4) as u8;
+    let mut histogram = Histogram::<u64>::new(sigfig).expect("a histogram keeps 0 to 5 digits");
+    let bits = 1 + random.below(64);
+    for _ in 0..random.below(60) {
+        let count = 1 + random.number(8);
+        histogram.record_n(random.value(bits), count).expect("a histogram that grows takes all");
+    }
+    let mut bytes = Vec::new();
+    V2Serializer::new().serialize(&histogram, &mut bytes).expect("memory takes all");
+    bytes
+}
+
+/// V2 bytes of any form.
+fn bytes(random: &mut Random, is_sound: bool) -> Vec<u8> {
     let mut header = Header::new(random);
-    if random.one_in(12) {
+    if !is_sound && random.one_in(10) {
         header.damage(random);
     }
     let mut payload = Vec::new();
-    for number in numbers(random, header.bins()) {
+    for number in numbers(random, header.bins(), is_sound) {
         let long = if random.one_in(16) { random.below(10) } else { 0 };
         push_varint(&mut payload, zig_zag(number), long);
     }
-    if random.one_in(48) {
+    if !is_sound && random.one_in(32) {
         payload.extend((0..=random.below(9)).map(|_| 0x80 | random.below(128) as u8));
     }
     let length = payload.len() as u64;
     let stated = match random.below(48) {
+        _ if is_sound => length,
         0 => length.saturating_sub(random.below(12)),
         1 => length + 1 + random.below(12),
         2 => 0,
@@ -117,8 +135,8 @@ fn bytes(random: &mut Random) -> Vec<u8> {
     header.with_payload(&payload, stated)
 }
 
-/// The numbers of a payload for so many bins. Some lead past them.
-fn numbers(random: &mut Random, bins: u64) -> Vec<i64> {
+/// The numbers of a payload for so many bins. Some lead past them, and only sound ones leave no count there.
+fn numbers(random: &mut Random, bins: u64, is_sound: bool) -> Vec<i64> {
     let has_great_counts = random.one_in(8);
     let mut numbers = Vec::new();
     let mut left = bins;
@@ -131,8 +149,7 @@ fn numbers(random: &mut Random, bins: u64) -> Vec<i64> {
             4 => random.number(40) as i64,
             _ => random.below(300) as i64,
         };
-        let taken = number.min(-1).unsigned_abs();
-        let taken = if number < 0 { taken } else { 1 };
+        let taken = if number < 0 { number.unsigned_abs() } else { 1 };
         if taken > left {
             break;
         }
@@ -141,15 +158,17 @@ fn numbers(random: &mut Random, bins: u64) -> Vec<i64> {
     }
     if random.one_in(12) {
         numbers.push(-(left as i64));
-        numbers.extend((0..random.below(6)).map(|_| number_past_end(random)));
+        let most = if is_sound { 2 } else { 6 };
+        numbers.extend((0..random.below(most)).map(|_| number_past_end(random, is_sound)));
     }
     numbers
 }
 
 /// A number for places past the bins, most of which are no counts.
-fn number_past_end(random: &mut Random) -> i64 {
+fn number_past_end(random: &mut Random, is_sound: bool) -> i64 {
     match random.below(16) {
         0..=4 => 0,
+        5 | 6 if is_sound => i64::MIN,
         5 => 1,
         6 => i64::MAX,
         7..=9 => i64::MIN,

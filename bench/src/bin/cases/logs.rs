@@ -23,17 +23,21 @@ const WRONG_MAXES: [&str; 24] = [
     "1..2", "..1", " 1", "1 ", "0x1", "1_0", "\u{661}",
 ];
 
-/// A log of a few lines.
+/// A log of a few lines. Half of the logs are sound.
 pub fn log(random: &mut Random) -> Vec<u8> {
-    let mut lines: Vec<_> = (0..random.below(10)).map(|_| line(random)).collect();
-    if random.one_in(8) {
+    let is_sound = random.one_in(2);
+    let mut lines: Vec<_> = (0..random.below(10)).map(|_| line(random, is_sound)).collect();
+    if is_sound {
+        return joined(random, lines);
+    }
+    if random.one_in(6) {
         let at = random.below(lines.len() as u64 + 1) as usize;
         lines.insert(at, random.one_of(&WRONG_LINES).to_vec());
     }
     let mut log = joined(random, lines);
-    if random.one_in(8) {
+    if random.one_in(6) {
         for _ in 0..1 + random.below(3) {
-            mutate(random, &mut log, usize::MAX);
+            random.mutate(&mut log, usize::MAX);
         }
     }
     log
@@ -52,51 +56,32 @@ pub fn long_log(random: &mut Random) -> Vec<u8> {
         }
         _ => {
             let mut line = small_line(random);
-            mutate(random, &mut line, 48);
+            random.mutate(&mut line, 48);
             line
         }
     };
     joined(random, lines)
 }
 
-/// The lines of a log with their ends, which the last one may lack.
+/// The lines of a log with their ends, of which the last is seldom left out.
 fn joined(random: &mut Random, lines: Vec<Vec<u8>>) -> Vec<u8> {
     let mut log = Vec::new();
     for line in lines {
         log.extend_from_slice(&line);
         log.push(b'\n');
     }
-    if random.one_in(16) {
+    if random.one_in(24) {
         log.pop();
     }
     log
 }
 
-/// Changes, drops or adds one of the first bytes.
-fn mutate(random: &mut Random, text: &mut Vec<u8>, first: usize) {
-    const BYTES: &[u8] = b"\n\r,.#=+- \"0159eETagABC/[]:\0\xff";
-    if text.is_empty() {
-        return;
-    }
-    let at = random.below(text.len().min(first) as u64) as usize;
-    let byte = match random.below(4) {
-        0 => random.below(256) as u8,
-        1 => text[at] ^ (1 << random.below(8)),
-        _ => BYTES[random.below(BYTES.len() as u64) as usize],
-    };
-    match random.below(4) {
-        0 => text.insert(at, byte),
-        1 => drop(text.remove(at)),
-        _ => text[at] = byte,
-    }
-}
-
-/// A line that is right, but for some of its histograms, and seldom a front that is wrong.
-fn line(random: &mut Random) -> Vec<u8> {
+/// A line that is right, but where it need not be sound.
+fn line(random: &mut Random, is_sound: bool) -> Vec<u8> {
     match random.below(16) {
         0..=10 => {
-            let field = field(random);
-            let is_wrong = random.one_in(48);
+            let field = field(random, is_sound);
+            let is_wrong = !is_sound && random.one_in(24);
             interval(random, &field, is_wrong)
         }
         _ => other_line(random),

@@ -39,11 +39,24 @@ pub fn input(random: &mut Random, kind: Kind) -> Vec<u8> {
         let choices: &[&[u8]] = if random.one_in(2) { &WRONG_LINES } else { &WRONG_ENDS };
         lines[at] = random.one_of(choices).to_vec();
     }
+    if random.one_in(16) && !lines.is_empty() {
+        let at = random.below(lines.len() as u64) as usize;
+        mutate(random, &mut lines[at]);
+    }
     let mut input = lines.join(&b'\n');
     if !random.one_in(4) {
         input.push(b'\n');
     }
     input
+}
+
+/// Damages a line, but never to a correction that may take too long.
+fn mutate(random: &mut Random, line: &mut Vec<u8>) {
+    let mut damaged = line.clone();
+    random.mutate(&mut damaged, usize::MAX);
+    if !line.starts_with(b"c") && !damaged.starts_with(b"c") {
+        *line = damaged;
+    }
 }
 
 fn line(random: &mut Random, style: &Style) -> Vec<u8> {

@@ -17,7 +17,11 @@ pub fn words(random: &mut Random, kind: Kind) -> Vec<String> {
         Kind::Merge | Kind::Lines => "merge",
     };
     let mut words = vec![name.to_string(), random.below(6).to_string()];
-    let has_quantiles = if name == "log" { random.one_in(48) } else { !random.one_in(32) };
+    let has_quantiles = match kind {
+        Kind::Report | Kind::Merge => !random.one_in(32),
+        Kind::Log => random.one_in(48),
+        Kind::Lines => true,
+    };
     let quantiles = if has_quantiles { 1 + random.below(4) } else { 0 };
     words.extend((0..quantiles).map(|_| quantile(random)));
     // Cases of many lines are for their lines.
