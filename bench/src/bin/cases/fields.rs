@@ -210,13 +210,16 @@ fn base64(bytes: &[u8]) -> Vec<u8> {
     text
 }
 
+/// Groups that are wrong, or wrong after another group that is padded.
+const WRONG_GROUPS: [&[u8]; 8] = [b"====", b"A===", b"AA==", b"AB==", b"AAA=", b"AAB=", b"AAAA", b"\r "];
+
 /// Makes a text wrong as Base64, most often.
 fn damage(random: &mut Random, text: &mut Vec<u8>) {
     let at = random.below(text.len() as u64 + 1) as usize;
     match random.below(8) {
         0 => drop(text.pop()),
         1 => text.push(b'='),
-        2 => text.extend_from_slice(random.one_of::<[u8]>(&[b"====", b"A===", b"AA==", b"AB==", b"AAA=", b"AAB=", b"AAAA", b"\r "])),
+        2 => text.extend_from_slice(random.one_of(&WRONG_GROUPS)),
         3 => text.insert(at, b"=-_ .\t\xc3"[random.below(7) as usize]),
         4 if at < text.len() => text[at] = b"=-_ .\t\0"[random.below(7) as usize],
         5 => text.truncate(at),
