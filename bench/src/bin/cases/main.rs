@@ -1,14 +1,21 @@
-//! Compares two programs on random cases: words of the command `report`, and lines on standard input.
+//! Compares two programs on random cases: words, and lines on standard input.
 //!
-//!     cases HDR OTHER SEED COUNT
+//!     cases HDR OTHER SEED COUNT [report | log | merge | lines]
 //!
-//! Prints each case in which standard output, standard error or the exit status differ, and then how many differ. The exit
-//! status is 1 where some do. A case depends on SEED and its own number alone.
+//! The last word chooses the kind of the cases, which is random without it. `lines` is for merging logs of many lines.
+//!
+//! Prints each case in which standard output, standard error or the exit status differ, then how many differ, and how many
+//! lines of logs were read by HDR as right or as wrong. The exit status is 1 where some cases differ. The text of a failed
+//! read is not compared. A case depends on SEED, its kind and its own number alone.
 
 mod case;
+mod fields;
+mod logs;
 mod random;
+mod records;
+mod words;
 
-use case::Case;
+use case::{Case, Kind};
 use random::Random;
 use std::fmt;
 use std::io::{self, Write};
@@ -40,8 +47,32 @@ impl Answer {
             _ => {}
         }
         let told = child.wait_with_output()?;
-        Ok(Answer { status: told.status, output: told.stdout, error: told.stderr })
+        Ok(Answer { status: told.status, output: told.stdout, error: without_cause(told.stderr) })
     }
+
+    /// How many lines of the case's log were read.
+    fn lines_read(&self, case: &Case) -> u64 {
+        if case.words.first().is_none_or(|word| word != "merge") {
+            return 0;
+        }
+        let is_line_end = |byte: &&u8| **byte == b'\n';
+        if self.status.success() {
+            return case.input.iter().filter(is_line_end).count() as u64;
+        }
+        let error = String::from_utf8_lossy(&self.error);
+        let offset = error.trim_end().strip_prefix("hdr: log: parse error at byte ").and_then(|text| text.parse().ok());
+        // The line at fault is one of them.
+        offset.map_or(0, |offset| 1 + case.input.iter().take(offset).filter(is_line_end).count() as u64)
+    }
+}
+
+/// An error's text up to the cause of a failed read, which is left open.
+fn without_cause(mut error: Vec<u8>) -> Vec<u8> {
+    const FAILED: &[u8] = b"An i/o operation failed: ";
+    if let Some(at) = error.windows(FAILED.len()).position(|part| part == FAILED) {
+        error.truncate(at + FAILED.len());
+    }
+    error
 }
 
 impl fmt::Display for Answer {
@@ -56,58 +87,74 @@ struct Comparison {
     programs: [String; 2],
     seed: u64,
     count: u64,
+    kind: Option<Kind>,
+}
+
+/// What a comparison found.
+#[derive(Default)]
+struct Found {
+    differing: u64,
+    lines: u64,
 }
 
 impl Comparison {
-    fn from_words(words: Vec<String>) -> Option<Comparison> {
+    fn from_words(mut words: Vec<String>) -> Option<Comparison> {
+        let kind = if words.len() == 5 { Some(Kind::from_word(&words.pop()?)?) } else { None };
         let [hdr, other, seed, count] = <[String; 4]>::try_from(words).ok()?;
-        Some(Comparison { programs: [hdr, other], seed: seed.parse().ok()?, count: count.parse().ok()? })
+        Some(Comparison { programs: [hdr, other], seed: seed.parse().ok()?, count: count.parse().ok()?, kind })
     }
 
-    /// Whether the answers to a case differ; the case is printed if so.
-    fn differs(&self, number: u64) -> io::Result<bool> {
-        let case = Case::new(&mut Random::of_case(self.seed, number));
+    /// Takes a case, and prints it where the answers differ.
+    fn take(&self, number: u64, found: &mut Found) -> io::Result<()> {
+        let case = Case::new(&mut Random::of_case(self.seed, number), self.kind);
         let [ours, theirs] = self.programs.each_ref().map(|program| Answer::of(program, &case));
         let (ours, theirs) = (ours?, theirs?);
-        let differs = ours != theirs;
-        if differs {
+        if ours != theirs {
             let input = String::from_utf8_lossy(&case.input);
             println!("case {number}: {:?}\n{input}\n-- {ours}\n-- {theirs}\n", case.words);
+            found.differing += 1;
         }
-        Ok(differs)
+        found.lines += ours.lines_read(&case);
+        Ok(())
     }
 
-    /// How many cases differ, of those that are still to be taken.
-    fn differing(&self, taken: &AtomicU64) -> io::Result<u64> {
-        let mut differing = 0;
+    /// Takes the cases that are still to be taken.
+    fn take_all(&self, taken: &AtomicU64) -> io::Result<Found> {
+        let mut found = Found::default();
         loop {
             let number = taken.fetch_add(1, Ordering::Relaxed);
             if number >= self.count {
-                return Ok(differing);
+                return Ok(found);
             }
-            differing += u64::from(self.differs(number)?);
+            self.take(number, &mut found)?;
         }
     }
 
-    /// Takes all cases, on every processor. How many differ.
-    fn run(&self) -> io::Result<u64> {
+    /// Takes all cases, on every processor.
+    fn run(&self) -> io::Result<Found> {
         let taken = AtomicU64::new(0);
         let threads = thread::available_parallelism().map_or(1, NonZero::get);
         thread::scope(|scope| {
-            let works: Vec<_> = (0..threads).map(|_| scope.spawn(|| self.differing(&taken))).collect();
-            works.into_iter().map(|work| work.join().expect("no thread panics")).sum()
+            let works: Vec<_> = (0..threads).map(|_| scope.spawn(|| self.take_all(&taken))).collect();
+            let mut all = Found::default();
+            for work in works {
+                let found = work.join().expect("no thread panics")?;
+                all.differing += found.differing;
+                all.lines += found.lines;
+            }
+            Ok(all)
         })
     }
 }
 
 fn main() -> ExitCode {
     let Some(comparison) = Comparison::from_words(std::env::args().skip(1).collect()) else {
-        eprintln!("usage: cases HDR OTHER SEED COUNT");
+        eprintln!("usage: cases HDR OTHER SEED COUNT [report | log | merge | lines]");
         return ExitCode::from(2);
     };
     match comparison.run() {
-        Ok(differing) => {
-            println!("{} compared, {differing} differ", comparison.count);
+        Ok(Found { differing, lines }) => {
+            println!("{} compared, {differing} differ, {lines} lines of logs read", comparison.count);
             if differing == 0 { ExitCode::SUCCESS } else { ExitCode::FAILURE }
         }
         Err(error) => {

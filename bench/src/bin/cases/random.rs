@@ -1,4 +1,4 @@
-//! Random numbers of all magnitudes.
+//! Random numbers of all magnitudes, and random damage.
 
 /// A generator of 64-bit numbers.
 pub struct Random(u64);
@@ -63,5 +63,24 @@ impl Random {
     /// How a number is spelled: seldom with zeros before it.
     pub fn spelled(&mut self, number: u64) -> String {
         if self.one_in(32) { format!("{number:025}") } else { number.to_string() }
+    }
+
+    /// Changes, drops or adds one of a text's first bytes.
+    pub fn mutate(&mut self, text: &mut Vec<u8>, first: usize) {
+        const BYTES: &[u8] = b"\n\r,.#=+- \"0159eETagABC/[]:\0\xff";
+        if text.is_empty() {
+            return;
+        }
+        let at = self.below(text.len().min(first) as u64) as usize;
+        let byte = match self.below(4) {
+            0 => self.below(256) as u8,
+            1 => text[at] ^ (1 << self.below(8)),
+            _ => BYTES[self.below(BYTES.len() as u64) as usize],
+        };
+        match self.below(4) {
+            0 => text.insert(at, byte),
+            1 => drop(text.remove(at)),
+            _ => text[at] = byte,
+        }
     }
 }

@@ -1,0 +1,45 @@
+//! Why a run is refused.
+
+use hdrhistogram::RecordError;
+use hdrhistogram::serialization::interval_log::IntervalLogWriterError;
+use hdrhistogram::serialization::{DeserializeError, V2SerializeError};
+use std::fmt;
+
+/// Why a run is refused. Its text is the line on standard error.
+pub enum Fault {
+    WrongWords,
+    NotACommand(u64),
+    Refused(u64, RecordError),
+    NotWritten(u64, IntervalLogWriterError<V2SerializeError>),
+    NotALog(usize),
+    NotBase64(u64),
+    NotRead(u64, DeserializeError),
+    CannotRead,
+    CannotWrite,
+}
+
+impl Fault {
+    /// The exit status.
+    pub fn status(&self) -> u8 {
+        match self {
+            Fault::WrongWords => 2,
+            _ => 1,
+        }
+    }
+}
+
+impl fmt::Display for Fault {
+    fn fmt(&self, f: &mut fmt::Formatter<'_>) -> fmt::Result {
+        match self {
+            Fault::WrongWords => f.write_str("hdr: usage: hdr report SIGFIG Q.. | hdr log SIGFIG | hdr merge SIGFIG Q.."),
+            Fault::NotACommand(line) => write!(f, "hdr: line {line}: not a command"),
+            Fault::Refused(line, cause) => write!(f, "hdr: line {line}: {cause}"),
+            Fault::NotWritten(line, cause) => write!(f, "hdr: line {line}: {cause}"),
+            Fault::NotALog(offset) => write!(f, "hdr: log: parse error at byte {offset}"),
+            Fault::NotBase64(interval) => write!(f, "hdr: interval {interval}: not base64"),
+            Fault::NotRead(interval, cause) => write!(f, "hdr: interval {interval}: {cause}"),
+            Fault::CannotRead => f.write_str("hdr: cannot read the input"),
+            Fault::CannotWrite => f.write_str("hdr: cannot write the output"),
+        }
+    }
+}

@@ -1,0 +1,53 @@
+//! The commands of the program `hdr` over the Rust crate hdrhistogram: the same words, lines, output, faults and status.
+//!
+//! What the crate answers otherwise is made good here, in each module beside the call it concerns. Three things stay.
+//! A correction takes as long as it has missing values. A lack of memory ends the process. A stream that was closed is
+//! /dev/null, as Rust's standard library has it.
+
+mod bytes;
+mod fault;
+mod field;
+mod lines;
+mod log;
+mod merge;
+mod report;
+mod words;
+
+use fault::Fault;
+use merge::Sum;
+use std::io::{self, Read, Write};
+use std::process::ExitCode;
+use words::Task;
+
+fn print(text: &str) -> Result<(), Fault> {
+    let mut output = io::stdout().lock();
+    output.write_all(text.as_bytes()).and_then(|()| output.flush()).map_err(|_| Fault::CannotWrite)
+}
+
+/// Runs a command: the words are judged first, then the whole input is read, and then its lines go in order.
+fn run() -> Result<(), Fault> {
+    let words: Vec<_> = std::env::args_os().skip(1).map(|word| word.into_encoded_bytes()).collect();
+    let task = Task::from_words(&words).ok_or(Fault::WrongWords)?;
+    let mut input = Vec::new();
+    io::stdin().lock().read_to_end(&mut input).map_err(|_| Fault::CannotRead)?;
+    match task {
+        Task::Report { sigfig, quantiles } => {
+            let histogram = lines::histogram_of(sigfig, &input)?;
+            print(&report::report(&histogram, bytes::high_of(&histogram), &quantiles))
+        }
+        Task::Log { sigfig } => log::write_log(sigfig, &input, &mut io::stdout().lock()),
+        Task::Merge { sigfig, quantiles } => {
+            let Sum { histogram, high } = merge::sum_of(sigfig, &input)?;
+            print(&report::report(&histogram, high, &quantiles))
+        }
+    }
+}
+
+fn main() -> ExitCode {
+    let Err(fault) = run() else {
+        return ExitCode::SUCCESS;
+    };
+    // There is nobody left to tell where standard error fails.
+    let _ = writeln!(io::stderr(), "{fault}");
+    ExitCode::from(fault.status())
+}
