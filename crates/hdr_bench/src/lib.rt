@@ -4,9 +4,7 @@
 
 ghost use Rattle.std.specs.Prelude.{◌<◌, ◌^◌, ◌≤◌};
 
-use hdrhistogram::serialization::interval_log::{
-    IntervalLogIterator, IntervalLogWriter, LogEntry,
-};
+use hdrhistogram::serialization::interval_log::{IntervalLogIterator, IntervalLogWriter, LogEntry};
 use hdrhistogram::serialization::{Deserializer, V2Serializer};
 use hdrhistogram::{Histogram, Quantile};
 use std::alloc::Global;
@@ -167,7 +165,8 @@ fn push_line(
 ) -> Option<()> {
     let mut log = IntervalLogWriter::new(alloc, text, serializer, 1);
     let start = Duration::from_millis(start);
-    log.write_histogram(histogram, start, Duration::from_millis(1000), None).ok()
+    log.write_histogram(histogram, start, Duration::from_millis(1000), None)
+        .ok()
 }
 
 #[inline(never)]
