@@ -43,20 +43,22 @@ impl Header {
         let sigfig = random.below(6);
         let low = match random.below(16) {
             0..=8 => 1,
-            9 => random.near_power(40).max(1),
-            10 => random.near_power(62).max(1),
+            9 => random.near_power(62).max(1),
+            // Just below a great power of two, which f64 cannot tell from the power.
+            10 | 11 => (1 << (46 + random.below(17))) - 1 - random.below(2),
             _ => random.number(20).max(1),
         };
         let least = low.saturating_mul(2);
         let high = match random.below(16) {
-            0 if sigfig < 4 || random.one_in(8) => u64::MAX - random.below(3),
-            1 if sigfig < 4 || random.one_in(8) => random.near_power(64),
-            2 => least,
+            0..=2 if sigfig < 4 || random.one_in(16) => u64::MAX - random.below(3),
+            3 if sigfig < 4 || random.one_in(8) => random.near_power(64),
+            4 => least,
             // Two to a few thousand times as many as are kept singly, so that the bins are not too many.
-            3..=7 => least.saturating_mul(random.near_power(8 + 3 * sigfig).max(1)),
+            5..=8 => least.saturating_mul(random.near_power(8 + 3 * sigfig).max(1)),
             _ => least.saturating_mul(random.number(8 + 3 * sigfig).max(1)),
         };
-        Header { cookie: COOKIE, offset: 0, sigfig, low, high: high.max(least), ratio: RATIO }
+        let header = Header { cookie: COOKIE, offset: 0, sigfig, low, high: high.max(least), ratio: RATIO };
+        if header.bins() > 0 { header } else { Header { low: 1, ..header } }
     }
 
     /// Makes one part wrong, or at the border of wrong.
@@ -156,11 +158,20 @@ fn numbers(random: &mut Random, bins: u64, is_sound: bool) -> Vec<i64> {
         left -= taken;
         numbers.push(number);
     }
-    if random.one_in(12) {
-        numbers.push(-(left as i64));
-        let most = if is_sound { 2 } else { 6 };
-        numbers.extend((0..random.below(most)).map(|_| number_past_end(random, is_sound)));
+    match random.below(12) {
+        // One of the last bins is filled.
+        0..=2 if left > 4 => numbers.extend([random.below(4) as i64 + 1 - (left as i64), 1 + random.below(300) as i64]),
+        3 => numbers.extend(past_end(random, left, is_sound)),
+        _ => {}
     }
+    numbers
+}
+
+/// The numbers from a place before so many bins to places past the last one.
+fn past_end(random: &mut Random, left: u64, is_sound: bool) -> Vec<i64> {
+    let most = if is_sound { 2 } else { 6 };
+    let mut numbers = vec![-(left as i64)];
+    numbers.extend((0..random.below(most)).map(|_| number_past_end(random, is_sound)));
     numbers
 }
 

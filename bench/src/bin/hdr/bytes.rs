@@ -24,10 +24,8 @@ pub fn bytes_of(histogram: &Histogram<u64>, high: u64) -> Option<Vec<u8>> {
 /// The greatest value that the bins were made for, where they grew by recording alone.
 pub fn high_of<T: Counter>(histogram: &Histogram<T>) -> u64 {
     // Such bins end at a power of two less 1, or were never grown.
-    match histogram.high() {
-        high if high == u64::MAX - 1 => u64::MAX,
-        high => high,
-    }
+    let high = histogram.high();
+    if high == u64::MAX - 1 { u64::MAX } else { high }
 }
 
 /// The top of a value's class.
