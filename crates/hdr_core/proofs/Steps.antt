@@ -10,7 +10,8 @@ use Rattle.hdr_core.specs.Recording.{widened, recorded, recorded_each, clamped, 
 use Rattle.hdr_core.specs.Missing.{missing, each, corrected, highest_top, merged_corrected, corrected_from}
 use Rattle.hdr_core.specs.Merging.{same_bins, joined, taken_in, with_room, merged, classes_from, top_class}
 use Rattle.hdr_core.specs.Samples.{StandsFor, Fits}
-use Rattle.hdr_core.specs.Calls.{after_call, State, StandsAt, CallTo, IsCallOf, high_with, clamp}
+use Rattle.hdr_core.specs.Calls.{after_call, StandsAt, CallTo, IsCallOf, high_with, clamp}
+use Rattle.hdr_core.specs.Runs.{State}
 use Rattle.hdr_core.specs.declared.call.Call.{Call}
 use Rattle.hdr_core.specs.declared.call.Call.TheVariants.{Record, Clamp, Correct, Clear, Reset, Add, AddCorrect}
 use Rattle.hdr_core.proofs.Kept.{IsPlain-added, room-in, grain-recorded}

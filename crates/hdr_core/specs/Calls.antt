@@ -1,5 +1,5 @@
 -- What calls do, by numbers and by samples.
-use Rattle.std.specs.Prelude.{◌≡◌, ◌==◌, ◌⊎◌, ℕ, ◌^◌, ◌<◌, nat_le, if◌then◌else◌, List, [], ◌∷◌, ◌++◌, length, replicate, Result, Ok, Err}
+use Rattle.std.specs.Prelude.{◌≡◌, ◌==◌, ◌⊎◌, ℕ, ◌^◌, ◌<◌, nat_le, if◌then◌else◌, List, [], ◌∷◌, ◌++◌, length, replicate}
 use Rattle.hdr_base.specs.Classes.{Grain, reach_of, IsFiner}
 use Rattle.hdr_core.specs.Plain.{Plain, IsPlain, grain, max_of}
 use Rattle.hdr_core.specs.Recording.{recorded, clamped, cleared, restarted, spread}
@@ -7,9 +7,9 @@ use Rattle.hdr_core.specs.Missing.{missing, each, corrected, highest_top, merged
 use Rattle.hdr_core.specs.Merging.{merged}
 use Rattle.hdr_core.specs.Samples.{StandsFor}
 use Rattle.hdr_core.specs.Refusals.{HasRoom, RefusesRecord, RefusesAddition, RefusesCorrected}
+use Rattle.hdr_core.specs.Runs.{State, after_each, EachIsTaken, EachTo}
 use Rattle.hdr_core.specs.declared.call.Call.{Call}
 use Rattle.hdr_core.specs.declared.call.Call.TheVariants.{Record, Clamp, Correct, Clear, Reset, Add, AddCorrect}
-use Rattle.hdr_core.specs.declared.call.RunError.{RunError}
 use Rattle.hdr_core.specs.declared.call.CallError.{CallError}
 use Rattle.hdr_core.specs.declared.call.CallError.TheVariants as err
 
@@ -25,8 +25,7 @@ after_call greatest number (AddCorrect source i) h = merged_corrected greatest h
 
 -- what calls make of it, one after another
 abbrev pub after_calls : {T : Type 0} → ℕ → (T → ℕ) → List (Call T) → Plain → Plain
-after_calls greatest number [] h = h
-after_calls greatest number (call ∷ calls) h = after_calls greatest number calls (after_call greatest number call h)
+after_calls greatest number = after_each (after_call greatest number)
 
 -- a call's value is a u64, and its source is a histogram for counters up to `most`
 abbrev pub IsCallOf : {T : Type 0} → ℕ → Call T → Type 0
@@ -58,13 +57,7 @@ IsTaken h (AddCorrect source i) = HasRoom h (highest_top source.now)
 
 -- of calls that are done one after another none is refused by name in its turn
 abbrev pub AreTaken : {T : Type 0} → ℕ → (T → ℕ) → List (Call T) → Plain → Type 0
-AreTaken greatest number [] h = Unit {0}
-AreTaken greatest number (call ∷ calls) h = IsTaken h call × AreTaken greatest number calls (after_call greatest number call h)
-
--- the samples recorded so far, and the value that the bins were last made for
-pub record State : Type 0 where
-  pub samples : List ℕ
-  pub high : ℕ
+AreTaken greatest number = EachIsTaken (after_call greatest number) IsTaken
 
 abbrev pub StandsAt : Plain → State → Type 0
 StandsAt h s = StandsFor h s.samples × (h.high ≡ s.high)
@@ -77,7 +70,19 @@ high_with g high x new = if nat_le x (reach_of g high) then high else new
 unfoldable pub clamp : Grain → ℕ → ℕ → ℕ
 clamp g high v = if nat_le v (reach_of g high) then v else high
 
--- a call takes one state to another, whatever list a source stands for; the classes of an added source are no coarser
+-- adding a source takes one state to another, whatever list the source stands for; its classes are no coarser
+abbrev pub AddTo : Grain → Plain → State → State → Type 0
+AddTo g source s t =
+    (L : List ℕ) × StandsFor source L × IsFiner (grain source) g × (t.samples ≡ s.samples ++ L)
+    × (t.high ≡ (if length L == 0 then s.high else high_with g s.high (max_of source) (max_of source)))
+
+-- adding a source with correction takes one state to another
+abbrev pub AddCorrectedTo : Grain → Plain → ℕ → State → State → Type 0
+AddCorrectedTo g source i s t =
+    (L : List ℕ) × StandsFor source L × (t.samples ≡ s.samples ++ corrected_samples (grain source) i L)
+    × (t.high ≡ high_with g s.high (highest_top source) (reach_of g (highest_top source)))
+
+-- a call takes one state to another
 abbrev pub CallTo : {T : Type 0} → (T → ℕ) → Grain → Call T → State → State → Type 0
 CallTo number g (Record v n) s t =
     (t.samples ≡ s.samples ++ replicate (number n) v) × (t.high ≡ high_with g s.high v (reach_of g v))
@@ -87,19 +92,9 @@ CallTo number g (Correct v n i) s t =
     (t.samples ≡ s.samples ++ spread (each (number n) (v ∷ missing v i))) × (t.high ≡ high_with g s.high v (reach_of g v))
 CallTo number g Clear s t = (t.samples ≡ []) × (t.high ≡ s.high)
 CallTo number g Reset s t = (t.samples ≡ []) × (t.high ≡ s.high)
-CallTo number g (Add source) s t =
-    (L : List ℕ) × StandsFor source.now L × IsFiner (grain source.now) g × (t.samples ≡ s.samples ++ L)
-    × (t.high ≡ (if length L == 0 then s.high else high_with g s.high (max_of source.now) (max_of source.now)))
-CallTo number g (AddCorrect source i) s t =
-    (L : List ℕ) × StandsFor source.now L × (t.samples ≡ s.samples ++ corrected_samples (grain source.now) i L)
-    × (t.high ≡ high_with g s.high (highest_top source.now) (reach_of g (highest_top source.now)))
+CallTo number g (Add source) s t = AddTo g source.now s t
+CallTo number g (AddCorrect source i) s t = AddCorrectedTo g source.now i s t
 
 -- a run of calls takes one state to another, and after each call the samples fit
 abbrev pub CallsTo : {T : Type 0} → (T → ℕ) → Grain → (List ℕ → Type 0) → List (Call T) → State → State → Type 0
-CallsTo number g fits [] s t = t ≡ s
-CallsTo number g fits (call ∷ calls) s t = (r : State) × CallTo number g call s r × fits r.samples × CallsTo number g fits calls r t
-
--- how many of n calls were done
-abbrev pub calls_done : Result (Unit {0}) RunError → ℕ → ℕ
-calls_done (Ok u) n = n
-calls_done (Err e) n = e.at
+CallsTo number g fits = EachTo (CallTo number g) fits

@@ -6,7 +6,9 @@ pub mod Merging
 pub mod Refusals
 pub mod Samples
 pub mod Subtracting
+pub mod Runs
 pub mod Calls
+pub mod CallsFrom
 pub mod Ranks
 pub mod Equality
 pub mod Missing

@@ -3,7 +3,8 @@
 ghost use Rattle.std.specs.Prelude.{◌≡◌, ◌<◌, OnOk, IfErr, length, take, slice_get, IfSome};
 ghost use Rattle.hdr_core.specs.Plain.{grain};
 ghost use Rattle.hdr_core.specs.Samples.{Fits};
-ghost use Rattle.hdr_core.specs.Calls.{State, StandsAt, after_call, after_calls, IsTaken, AreTaken, RefusesCall, CallTo, CallsTo, calls_done};
+ghost use Rattle.hdr_core.specs.Calls.{StandsAt, after_call, after_calls, IsTaken, AreTaken, RefusesCall, CallTo, CallsTo};
+ghost use Rattle.hdr_core.specs.Runs.{State, calls_done};
 
 use crate::errors::{AdditionError, RecordError};
 use crate::histogram::Histogram;

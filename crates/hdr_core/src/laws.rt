@@ -11,7 +11,8 @@ ghost use Rattle.hdr_core.specs.Ranks.{ranked_sample, first_reaching, quantile_o
 ghost use Rattle.hdr_core.specs.Missing.{missing, IsMissing, each, corrected, merged_corrected, corrected_samples};
 ghost use Rattle.hdr_core.specs.Statistics.{share_below, IsAtMost};
 ghost use Rattle.hdr_core.specs.Merging.{merged};
-ghost use Rattle.hdr_core.specs.Calls.{after_call, State, StandsAt, CallTo, IsCallOf};
+ghost use Rattle.hdr_core.specs.Calls.{after_call, StandsAt, CallTo, IsCallOf};
+ghost use Rattle.hdr_core.specs.Runs.{State};
 ghost use Rattle.hdr_core.specs.declared.call.Call.{Call};
 ghost use Rattle.hdr_core.specs.Refusals.{IsBounds};
 ghost use Rattle.hdr_core.specs.Subtracting.{IsDifference};

@@ -2,6 +2,7 @@
 #![tactic(auto)]
 
 pub mod call;
+pub mod call_from;
 mod classes;
 mod copying;
 mod correction;
@@ -20,6 +21,7 @@ mod subtracting;
 pub mod values;
 
 pub use call::{Call, CallError, RunError};
+pub use call_from::CallFrom;
 pub use errors::{AdditionError, CreationError, RecordError, SubtractionError, UsizeTypeTooSmall};
 pub use hdr_base::{Counter, Fraction, IterationValue, Quantile, Ticks};
 pub use hdr_iterators as iterators;

@@ -54,9 +54,9 @@ strip_is (Some x) front text h = ap Some h.1 ∙ sym (behind_some front text h.0
 not_text : (bytes : List ℕ) → ¬ (IsUtf8 bytes) → None ≡ only_if (is_utf8 bytes) bytes
 not_text bytes h = let no : is_utf8 bytes ≡ true → ⊥ = λ e. h (IsUtf8-from_is_utf8 bytes e) in grind (arith, no)
 
-pub text_is : {E : Type 0} (Q : E → Type 0) (r : Result (Bor (List ℕ)) E) (bytes : List ℕ) → MatchResult r (λ s. (s.now ≡ bytes) × IsUtf8 bytes) (λ e. ¬ (IsUtf8 bytes) × Q e) → option_map (λ x. x.now) (result_ok r) ≡ only_if (is_utf8 bytes) bytes
-text_is Q (Ok s) bytes h = let u : is_utf8 bytes ≡ true = is_utf8-from_IsUtf8 bytes h.1 in rw u (ap Some h.0)
-text_is Q (Err e) bytes h = not_text bytes h.0
+pub text_is : {E : Type 0} (r : Result (Bor (List ℕ)) E) (bytes : List ℕ) → MatchResult r (λ s. (s.now ≡ bytes) × IsUtf8 bytes) (λ e. ¬ (IsUtf8 bytes)) → option_map (λ x. x.now) (result_ok r) ≡ only_if (is_utf8 bytes) bytes
+text_is (Ok s) bytes h = let u : is_utf8 bytes ≡ true = is_utf8-from_IsUtf8 bytes h.1 in rw u (ap Some h.0)
+text_is (Err e) bytes h = not_text bytes h
 
 first_at : (b : ℕ) (xs ys : List ℕ) → list_all (λ x. not (x == b)) xs ≡ true → position_or_len (λ x. x == b) (xs ++ b ∷ ys) ≡ length xs
 first_at b [] ys h = let e : (b == b) ≡ true = eq-eqb b b refl in rw e refl

@@ -1,5 +1,6 @@
 pub mod Digits
 pub mod NumberLemmas
+mod FirstBytes
 pub mod Fronts
 pub mod Steps
 pub mod Counted

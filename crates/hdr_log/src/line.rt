@@ -9,7 +9,7 @@ ghost use Rattle.hdr_log.specs.Reading.{interval_seen, entry_seen};
 ghost use Rattle.std.specs.Str.{is_utf8};
 
 use crate::entry::{IntervalLogHistogram, LogEntry};
-use crate::parts::{has_only_digits, is_digits, split_once, time};
+use crate::parts::{has_only_digits, is_digits, split_once, text, time};
 use crate::tag::Tag;
 use std::time::Duration;
 
@@ -18,13 +18,6 @@ fn strip<'a>(text: &'a [u8], front: &[u8]) -> Option<&'a [u8]>
     ensures { option_map (λ x. x.now) result ≡ behind front.now text.now }
 {
     text.strip_prefix(front)
-}
-
-/// The bytes as a text, where they are UTF-8.
-fn text(bytes: &[u8]) -> Option<&str>
-    ensures { option_map (λ x. x.now) result ≡ only_if (is_utf8 bytes.now) bytes.now }
-{
-    str::from_utf8(bytes).ok()
 }
 
 /// A field without the CRs at its end.

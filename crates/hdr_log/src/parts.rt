@@ -6,15 +6,25 @@ ghost use Rattle.std.specs.List.{list_all, position};
 ghost use Rattle.std.specs.Char.{is_ascii_digit, digit_value};
 ghost use Rattle.std.specs.Duration.{as_nanos};
 ghost use Rattle.hdr_log.specs.Parts.{parted, is_digits, number_of};
-ghost use Rattle.hdr_log.specs.Grammar.{nanos_of, time_of};
+ghost use Rattle.std.specs.Str.{is_utf8};
+ghost use Rattle.hdr_log.specs.Grammar.{nanos_of, time_of, only_if};
 
+use memchr::memchr;
+use simdutf8::basic::from_utf8;
 use std::time::Duration;
+
+/// The bytes as a text, where they are UTF-8.
+pub fn text(bytes: &[u8]) -> Option<&str>
+    ensures { option_map (λ x. x.now) result ≡ only_if (is_utf8 bytes.now) bytes.now }
+{
+    from_utf8(bytes).ok()
+}
 
 /// Where the first such byte stands.
 fn position(text: &[u8], byte: u8) -> Option<usize>
     ensures { result ≡ position (λ x. x == byte) text.now }
 {
-    text.iter().position(|b| *b == byte)
+    memchr(byte, text)
 }
 
 /// What stands before the first such byte, and what stands behind it; `None` where there is none.

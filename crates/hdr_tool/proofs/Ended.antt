@@ -4,7 +4,8 @@ use Rattle.hdr_base.specs.Classes.{Grain}
 use Rattle.hdr_core.specs.Plain.{Plain, IsPlain, grain}
 use Rattle.hdr_core.specs.Recording.{restarted}
 use Rattle.hdr_core.specs.Samples.{Fits}
-use Rattle.hdr_core.specs.Calls.{after_call, State, StandsAt, CallTo, IsCallOf}
+use Rattle.hdr_core.specs.Calls.{after_call, StandsAt, CallTo, IsCallOf}
+use Rattle.hdr_core.specs.Runs.{State}
 use Rattle.hdr_core.specs.declared.call.Call.{Call}
 use Rattle.hdr_core.specs.declared.call.Call.TheVariants.{Reset}
 use Rattle.hdr_tool.specs.Lines.{LogCommand, Make, End, log_command_of}

@@ -7,7 +7,8 @@ use Rattle.hdr_base.specs.Classes.{least_from, Grain, unit_of, digits_of, grain_
 use Rattle.hdr_base.specs.Fractions.{Ratio}
 use Rattle.hdr_core.specs.Plain.{Plain, IsPlain, grain, empty_plain}
 use Rattle.hdr_core.specs.Samples.{StandsFor, Fits}
-use Rattle.hdr_core.specs.Calls.{State, StandsAt}
+use Rattle.hdr_core.specs.Calls.{StandsAt}
+use Rattle.hdr_core.specs.Runs.{State}
 use Rattle.hdr_core.specs.Refusals.{IsBounds}
 use Rattle.hdrhistogram.specs.V2Read.{IsReadBack}
 use Rattle.hdr_tool.specs.declared.fault.Fault.{Fault}

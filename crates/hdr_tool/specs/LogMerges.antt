@@ -5,7 +5,8 @@ use Rattle.hdr_base.specs.Fractions.{Ratio}
 use Rattle.hdr_core.specs.Plain.{Plain, IsPlain, grain, empty_plain}
 use Rattle.hdr_core.specs.Recording.{restarted}
 use Rattle.hdr_core.specs.Merging.{merged}
-use Rattle.hdr_core.specs.Calls.{after_call, State, StandsAt, CallTo}
+use Rattle.hdr_core.specs.Calls.{after_call, StandsAt, CallTo}
+use Rattle.hdr_core.specs.Runs.{State}
 use Rattle.hdr_core.specs.Samples.{StandsFor, Fits}
 use Rattle.hdr_core.specs.Ranks.{ranked_sample, quantile_of, IsTopNear}
 use Rattle.hdr_base.specs.Classes.{Grain, grain_of, IsFiner}

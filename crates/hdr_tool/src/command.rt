@@ -5,12 +5,10 @@ ghost use Rattle.std.specs.Option.{option_map};
 ghost use Rattle.hdr_tool.specs.Parts.{parts_left};
 ghost use Rattle.hdr_tool.specs.Lines.{count_of, record_of, clamp_of, correct_of, alone, named, call_of, tag_of_word, end_tag_of, end_of, log_named, log_command_of};
 ghost use Rattle.hdr_tool.specs.Commands.{log_command_seen};
-ghost use Rattle.std.specs.Str.{is_utf8};
 ghost use Rattle.hdr_log.specs.Tags.{tag_text};
-ghost use Rattle.hdr_log.specs.Grammar.{only_if};
 
 use crate::parts::split_first;
-use hdr_log::parts::number;
+use hdr_log::parts::{number, text};
 use hdrhistogram::Call;
 use hdrhistogram::serialization::interval_log::Tag;
 
@@ -100,13 +98,6 @@ pub(crate) enum LogCommand<'a> {
     Make(Call<'static, u64>),
     /// An interval that ends: its start and its duration in thousandths of a second, and its tag.
     End(u64, u64, Option<Tag<'a>>),
-}
-
-/// The bytes as a text, where they are UTF-8.
-fn text(bytes: &[u8]) -> Option<&str>
-    ensures { option_map (λ t. t.now) result ≡ only_if (is_utf8 bytes.now) bytes.now }
-{
-    str::from_utf8(bytes).ok()
 }
 
 /// The tag of a text that is not empty.

@@ -12,3 +12,6 @@ pub mod HeaderView
 pub mod LogStarts
 pub mod LogLeaving
 pub mod LogWriters
+pub mod Chosen
+pub mod LogMerging
+pub mod MergeView

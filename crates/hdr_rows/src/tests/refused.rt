@@ -4,9 +4,8 @@
 mod bytes;
 mod resting;
 
-use crate::answer::Answer;
-use crate::table::Table;
 use hdr_core::{AdditionError, CallError, CreationError, RecordError};
+use hdr_play::{Answer, Table};
 use std::alloc::Global;
 use std::process::Abort;
 use std::test::Fail;

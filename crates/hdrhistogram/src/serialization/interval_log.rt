@@ -1,14 +1,17 @@
 //! Interval logs: histograms of intervals of time, one a line, with headers and comments between them. The bytes of a
 //! histogram stand in its line as Base64.
 //!
-//! `IntervalLogWriterBuilder` begins a log, `IntervalLogWriter` writes it, and `IntervalLogIterator` reads it in place.
+//! `IntervalLogWriterBuilder` begins a log, `IntervalLogWriter` writes it, and `IntervalLogIterator` reads it in
+//! place. `merge_log` adds the histograms of a log's chosen intervals.
 
 mod buffer;
 mod builder;
 mod errors;
+mod merge;
 mod writer;
 
 pub use builder::IntervalLogWriterBuilder;
 pub use errors::{CommentError, IntervalLogWriterError};
 pub use hdr_log::{IntervalLogHistogram, IntervalLogIterator, LogEntry, LogIteratorError, Tag};
+pub use merge::{IntervalFilter, MergeError, Merged, merge_log};
 pub use writer::IntervalLogWriter;

@@ -1,7 +1,7 @@
 //! Calls that take no memory.
 
-use crate::table::Table;
 use crate::tests::refused::is_refused;
+use hdr_play::Table;
 use hdr_base::Quantile;
 use hdr_core::{Call, Histogram};
 use hdr_log::{IntervalLogIterator, Tag};

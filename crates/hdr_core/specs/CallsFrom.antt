@@ -1,0 +1,50 @@
+-- What calls do whose sources may count in another type, by numbers and by samples.
+use Rattle.std.specs.Prelude.{◌≡◌, ◌⊎◌, ℕ, List}
+use Rattle.hdr_base.specs.Classes.{Grain}
+use Rattle.hdr_core.specs.Plain.{Plain, max_of}
+use Rattle.hdr_core.specs.Missing.{highest_top, merged_corrected}
+use Rattle.hdr_core.specs.Merging.{merged}
+use Rattle.hdr_core.specs.Refusals.{HasRoom, RefusesAddition, RefusesCorrected}
+use Rattle.hdr_core.specs.Runs.{State, after_each, EachIsTaken, EachTo}
+use Rattle.hdr_core.specs.Calls.{after_call, RefusesCall, IsTaken, CallTo, AddTo, AddCorrectedTo}
+use Rattle.hdr_core.specs.declared.call_from.CallFrom.{CallFrom}
+use Rattle.hdr_core.specs.declared.call_from.CallFrom.TheVariants.{Own, AddFrom, AddCorrectFrom}
+use Rattle.hdr_core.specs.declared.call.CallError.{CallError}
+use Rattle.hdr_core.specs.declared.call.CallError.TheVariants as err
+
+-- what a call makes of a histogram
+abbrev pub after_call_from : {T F : Type 0} → ℕ → (T → ℕ) → CallFrom T F → Plain → Plain
+after_call_from greatest number (Own call) h = after_call greatest number call h
+after_call_from greatest number (AddFrom source) h = merged greatest h source.now
+after_call_from greatest number (AddCorrectFrom source i) h = merged_corrected greatest h source.now i
+
+-- what calls make of it, one after another
+abbrev pub after_calls_from : {T F : Type 0} → ℕ → (T → ℕ) → List (CallFrom T F) → Plain → Plain
+after_calls_from greatest number = after_each (after_call_from greatest number)
+
+-- when a call is refused, and why
+abbrev pub RefusesCallFrom : {T F : Type 0} → Plain → CallFrom T F → CallError → Type 0
+RefusesCallFrom h (Own call) e = RefusesCall h call e
+RefusesCallFrom h (AddFrom source) (err.Addition e) = RefusesAddition h source.now e
+RefusesCallFrom h (AddCorrectFrom source i) (err.Record e) = RefusesCorrected h source.now e
+RefusesCallFrom h _ _ = ⊥
+
+-- a call is not refused by name
+abbrev pub IsTakenFrom : {T F : Type 0} → Plain → CallFrom T F → Type 0
+IsTakenFrom h (Own call) = IsTaken h call
+IsTakenFrom h (AddFrom source) = (source.now.total ≡ 0) ⊎ HasRoom h (max_of source.now)
+IsTakenFrom h (AddCorrectFrom source i) = HasRoom h (highest_top source.now)
+
+-- of calls that are done one after another none is refused by name in its turn
+abbrev pub AreTakenFrom : {T F : Type 0} → ℕ → (T → ℕ) → List (CallFrom T F) → Plain → Type 0
+AreTakenFrom greatest number = EachIsTaken (after_call_from greatest number) IsTakenFrom
+
+-- a call takes one state to another
+abbrev pub CallFromTo : {T F : Type 0} → (T → ℕ) → Grain → CallFrom T F → State → State → Type 0
+CallFromTo number g (Own call) s t = CallTo number g call s t
+CallFromTo number g (AddFrom source) s t = AddTo g source.now s t
+CallFromTo number g (AddCorrectFrom source i) s t = AddCorrectedTo g source.now i s t
+
+-- a run of calls takes one state to another, and after each call the samples fit
+abbrev pub CallsFromTo : {T F : Type 0} → (T → ℕ) → Grain → (List ℕ → Type 0) → List (CallFrom T F) → State → State → Type 0
+CallsFromTo number g fits = EachTo (CallFromTo number g) fits

@@ -1,0 +1,72 @@
+//! Calls as values whose sources may count in another type, and runs of them.
+
+ghost use Rattle.std.specs.Prelude.{◌≡◌, ◌<◌, OnOk, IfErr, length, take, slice_get, IfSome};
+ghost use Rattle.hdr_core.specs.Plain.{grain};
+ghost use Rattle.hdr_core.specs.Samples.{Fits};
+ghost use Rattle.hdr_core.specs.Runs.{State, calls_done};
+ghost use Rattle.hdr_core.specs.Calls.{StandsAt};
+ghost use Rattle.hdr_core.specs.CallsFrom.{after_call_from, after_calls_from, IsTakenFrom, AreTakenFrom, RefusesCallFrom, CallFromTo, CallsFromTo};
+
+use crate::call::{Call, CallError, RunError};
+use crate::histogram::Histogram;
+use hdr_base::Counter;
+
+/// One call of a histogram whose source, if it has one, may count in another type.
+#[derive(Drop)]
+pub enum CallFrom<'a, T: Counter, F: Counter> {
+    /// A call over the histogram's own counter type.
+    Own(Call<'a, T>),
+    /// `add_from` of another histogram.
+    AddFrom(&'a Histogram<F>),
+    /// `add_correct_from` of another histogram, with an interval.
+    AddCorrectFrom(&'a Histogram<F>, u64),
+}
+
+impl<T: Counter> Histogram<T> {
+    /// Does one call, and refuses just what that call refuses. A refusal changes nothing.
+    fn apply_from<F: Counter>(&mut self, call: &CallFrom<'_, T, F>) -> Result<(), CallError>
+        ensures ok { OnOk result (self.new ≡ after_call_from T.greatest T.number call.now self.old) }
+        ensures same_classes { grain self.new ≡ grain self.old }
+        ensures samples { OnOk result ((s t : State) → StandsAt self.old s → CallFromTo T.number (grain self.old) call.now s t
+            → Fits T.greatest (grain self.old) t.samples → StandsAt self.new t) }
+        ensures same_bounds { (self.new.low ≡ self.old.low) × (self.new.sigfig ≡ self.old.sigfig) }
+        ensures can { OnOk result (IsTakenFrom self.old call.now) }
+        ensures refused { IfErr result (λ e. RefusesCallFrom self.old call.now e × (self.new ≡ self.old)) }
+    {
+        match call {
+            CallFrom::Own(call) => self.apply(call),
+            CallFrom::AddFrom(source) => match self.add_from(source) {
+                Ok(()) => Ok(()),
+                Err(e) => Err(CallError::Addition(e)),
+            },
+            CallFrom::AddCorrectFrom(source, interval) => {
+                match self.add_correct_from(source, *interval) {
+                    Ok(()) => Ok(()),
+                    Err(e) => Err(CallError::Record(e)),
+                }
+            }
+        }
+    }
+
+    /// `apply_all` of calls whose sources may count in another type: does them in their order, up to the first that is
+    /// refused. That call changed nothing, and those before it stand.
+    pub fn apply_all_from<F: Counter>(
+        &mut self,
+        calls: &[CallFrom<'_, T, F>],
+    ) -> Result<(), RunError>
+        ensures done { self.new ≡ after_calls_from T.greatest T.number (take (calls_done result (length calls.now)) calls.now) self.old }
+        ensures samples { (s t : State) → StandsAt self.old s
+            → CallsFromTo T.number (grain self.old) (Fits T.greatest (grain self.old)) (take (calls_done result (length calls.now)) calls.now) s t → StandsAt self.new t }
+        ensures same_bounds { (self.new.low ≡ self.old.low) × (self.new.sigfig ≡ self.old.sigfig) }
+        ensures can { AreTakenFrom T.greatest T.number (take (calls_done result (length calls.now)) calls.now) self.old }
+        ensures refused { IfErr result (λ e. IfSome (slice_get calls.now e.at) (λ call. RefusesCallFrom self.new call e.cause)) }
+        ensures at { IfErr result (λ e. e.at < length calls.now) }
+    {
+        for (at, call) in calls.iter().enumerate() {
+            if let Err(cause) = self.apply_from(call) {
+                return Err(RunError { at, cause });
+            }
+        }
+        Ok(())
+    }
+}

@@ -1,7 +1,0 @@
-use Rattle.std.proofs.Common.{ap, ◌∙◌}
-use Rattle.std.specs.Option.{option_map}
-use Rattle.hdr_log.proofs.Fronts.{text_is}
-use Rattle.hdr_log.proofs.line.text.Goals as goal
-
-pub returns : goal.returns
-returns c = ap (option_map (λ x. x.now)) c.ok.ensures.value ∙ text_is _ c.from_utf8.result c.args.bytes.now c.from_utf8.ensures.cases

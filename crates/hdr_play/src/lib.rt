@@ -1,0 +1,38 @@
+//! The language of rows: calls of the library in their order, and what each has to answer. A row is text, worked out by hand
+//! or by other programs, so that it costs no proof. This crate and `hdr_rows` are instruments of the repository: they are
+//! proved to be safe and to end, and promise nothing more.
+//!
+//! `row NAME COUNTER` begins a row with three empty histograms that grow and keep 3 digits: `one` and `other` of the counter
+//! type (`u8`, `u16`, `u32`, `u64`, or `c12`, a type of this program's own), and `wide` of `u64`. Every other line is
+//! `WHO CALL NUMBERS = ANSWER`; numbers that are left out are 0, and an answer that is left out is `ok`. Truths of a histogram
+//! are 1 and 0, comparisons of two are `true` and `false`. An answer between quotation marks is what the text of an error says.
+//!
+//! - `run CALL, CALL` and `apply CALL` do calls as values; `agree` and `agree_below` correct `one` class by class and `other`
+//!   value by value, and are `ok` where both are the same then.
+//! - `to_bytes` and `encode_counts` answer hexadecimal digits. `decode HEX` puts what was read in the histogram's place, from a
+//!   slice and from a reader that gives one byte a call, with two bytes after the text; `decode_alone` has none after it.
+//! - Iterators answer their items between commas: the value, its counter, the samples since the item before, the quantile, and
+//!   the quantile iterated to. `value_at_quantiles` takes fractions, `NUM/DEN`.
+//! - `log_line START DURATION DIVISOR TAG` answers a log of one interval; times are seconds, a point and nanoseconds.
+//! - `bytes`, `counter`, `scale LOW SIGFIG VALUE`, `fraction` and `log` do calls that are on no histogram.
+//!
+//! Empty lines, and lines that begin with `#`, are for the reader.
+#![tactic(auto)]
+
+mod answer;
+mod bare;
+mod base;
+mod bytes;
+mod c12;
+mod items;
+mod logs;
+mod names;
+mod one_by_one;
+mod play;
+mod single;
+mod table;
+
+pub use answer::Answer;
+pub use c12::C12;
+pub use play::Play;
+pub use table::Table;

@@ -1,0 +1,100 @@
+-- What merging a log comes to: the histograms of its chosen intervals are added in order, up to the first fault.
+use Rattle.std.specs.Prelude.{◌≡◌, ℕ, ◌+◌, Bool, true, false, List, [], ◌∷◌, Option, Some, None, Result, Ok, Err}
+use Rattle.hdr_core.specs.Plain.{Plain, empty_plain}
+use Rattle.hdr_core.specs.Merging.{merged}
+use Rattle.hdr_core.specs.Refusals.{IsBounds, RefusesBounds}
+use Rattle.hdr_core.specs.declared.errors.CreationError.{CreationError}
+use Rattle.hdr_core.specs.declared.errors.CreationError.TheVariants as make
+use Rattle.hdr_log.specs.Grammar.{Entry, Start, Base, Span, Interval, reading}
+use Rattle.hdr_log.specs.Texts.{base64_bytes}
+use Rattle.hdrhistogram.specs.Chosen.{Filter, is_chosen}
+use Rattle.hdrhistogram.specs.V2Read.{ReadsV2}
+use Rattle.hdrhistogram.specs.declared.serialization.errors.DeserializeError.{DeserializeError}
+use Rattle.hdrhistogram.specs.declared.serialization.errors.DeserializeError.TheVariants as read
+use Rattle.hdrhistogram.specs.declared.serialization.interval_log.merge.MergeError.{MergeError}
+use Rattle.hdrhistogram.specs.declared.serialization.interval_log.merge.MergeError.TheVariants.{Creation, Parse, Base64, Decode, OutOfMemory}
+
+-- how far a merge has come: its histogram, the log's base time, and how many intervals were read and chosen
+pub record Merging : Type 0 where
+  pub histogram : Plain
+  pub base : ℕ
+  pub intervals : ℕ
+  pub chosen : ℕ
+
+-- a merge begins with an empty histogram that grows
+abbrev pub new_merging : ℕ → Merging
+new_merging sigfig = record { histogram = empty_plain 1 2 sigfig true; base = 0; intervals = 0; chosen = 0 }
+
+-- a base time, an interval that is not chosen, and one whose histogram is added
+abbrev pub with_base : Merging → ℕ → Merging
+with_base m time = record { histogram = m.histogram; base = time; intervals = m.intervals; chosen = m.chosen }
+
+abbrev pub past_interval : Merging → Merging
+past_interval m = record { histogram = m.histogram; base = m.base; intervals = m.intervals + 1; chosen = m.chosen }
+
+abbrev pub with_interval : ℕ → Merging → Plain → Merging
+with_interval greatest m source =
+    record { histogram = merged greatest m.histogram source; base = m.base; intervals = m.intervals + 1; chosen = m.chosen + 1 }
+
+-- the histogram that was read of an interval's bytes is added, whatever stands behind it
+abbrev pub BytesMerge : ℕ → Merging → Result (Plain × ℕ) DeserializeError → Result Merging MergeError → Type 0
+BytesMerge greatest m (Ok found) r = r ≡ Ok (with_interval greatest m found.0)
+BytesMerge greatest m (Err e) r = r ≡ Err (Decode (m.intervals + 1) e)
+
+-- the bytes of a field are read, by counters of 64 bits
+abbrev pub FieldMerges : ℕ → Merging → Option (List ℕ) → Result Merging MergeError → Type 0
+FieldMerges greatest m None r = r ≡ Err (Base64 (m.intervals + 1))
+FieldMerges greatest m (Some bytes) r = (found : Result (Plain × ℕ) DeserializeError) × ReadsV2 18446744073709551615 bytes found × BytesMerge greatest m found r
+
+-- an interval that is not chosen is counted alone
+abbrev pub IntervalMerges : ℕ → Merging → Bool → Interval → Result Merging MergeError → Type 0
+IntervalMerges greatest m true interval r = FieldMerges greatest m (base64_bytes interval.field) r
+IntervalMerges greatest m false interval r = r ≡ Ok (past_interval m)
+
+-- what is read of a log is done: a base time counts for the intervals behind it, and a start time says nothing
+abbrev pub EntryMerges : ℕ → Filter → Merging → Result Entry ℕ → Result Merging MergeError → Type 0
+EntryMerges greatest filter m (Ok (Start time)) r = r ≡ Ok m
+EntryMerges greatest filter m (Ok (Base time)) r = r ≡ Ok (with_base m time)
+EntryMerges greatest filter m (Ok (Span interval)) r = IntervalMerges greatest m (is_chosen filter m.base interval) interval r
+EntryMerges greatest filter m (Err at) r = r ≡ Err (Parse at)
+
+-- a step that is refused ends the merge, and else the rest follows
+abbrev pub MergesOn : (Merging → Result Merging MergeError → Type 0) → Result Merging MergeError → Result Merging MergeError → Type 0
+MergesOn Rest (Ok m) r = Rest m r
+MergesOn Rest (Err e) r = r ≡ Err e
+
+abbrev pub EntriesMerge : ℕ → Filter → List (Result Entry ℕ) → Merging → Result Merging MergeError → Type 0
+EntriesMerge greatest filter [] m r = r ≡ Ok m
+EntriesMerge greatest filter (entry ∷ entries) m r =
+    (step : Result Merging MergeError) × EntryMerges greatest filter m entry step × MergesOn (EntriesMerge greatest filter entries) step r
+
+-- a log is merged into a histogram of these digits, where there is one
+abbrev pub Merges : ℕ → Filter → ℕ → List ℕ → Result Merging MergeError → Type 0
+Merges greatest filter sigfig log r = EntriesMerge greatest filter (reading log) (new_merging sigfig) r
+
+-- a histogram that was not made, and an interval whose bytes were refused
+abbrev pub creation_refused : CreationError → MergeError
+creation_refused make.OutOfMemory = OutOfMemory
+creation_refused e = Creation e
+
+abbrev pub decode_refused : ℕ → DeserializeError → MergeError
+decode_refused interval read.OutOfMemory = OutOfMemory
+decode_refused interval e = Decode interval e
+
+-- a step is refused by name as it is told, and want of memory may come in place of any answer
+abbrev pub RefusesStep : (MergeError → Type 0) → MergeError → Type 0
+RefusesStep Ends (Creation e) = ⊥
+RefusesStep Ends OutOfMemory = Unit {0}
+RefusesStep Ends e = Ends e
+
+-- a merge is refused where no histogram has these digits, and else by the first fault of the log
+abbrev pub RefusesMerge : ℕ → Filter → ℕ → List ℕ → MergeError → Type 0
+RefusesMerge greatest filter sigfig log (Creation make.OutOfMemory) = ⊥
+RefusesMerge greatest filter sigfig log (Creation e) = RefusesBounds 1 2 sigfig e
+RefusesMerge greatest filter sigfig log OutOfMemory = Unit {0}
+RefusesMerge greatest filter sigfig log e = IsBounds 1 2 sigfig × Merges greatest filter sigfig log (Err e)
+
+-- a histogram and a number of chosen intervals are what a merge comes to
+abbrev pub IsMergedBy : (Result Merging MergeError → Type 0) → Plain → ℕ → Type 0
+IsMergedBy Ends histogram chosen =
+    (base : ℕ) × (intervals : ℕ) × Ends (Ok (record { histogram = histogram; base = base; intervals = intervals; chosen = chosen }))
