@@ -13,6 +13,7 @@ ghost use Rattle.hdr_core.specs.Statistics.{share_below, IsAtMost};
 ghost use Rattle.hdr_core.specs.Merging.{merged};
 ghost use Rattle.hdr_core.specs.Calls.{after_call, StandsAt, CallTo, IsCallOf};
 ghost use Rattle.hdr_core.specs.Runs.{State};
+ghost use Rattle.hdr_core.specs.Joined.{merged_each, AreParts, joined_list, AnswersRanked};
 ghost use Rattle.hdr_core.specs.declared.call.Call.{Call};
 ghost use Rattle.hdr_core.specs.Refusals.{IsBounds};
 ghost use Rattle.hdr_core.specs.Subtracting.{IsDifference};
@@ -93,6 +94,20 @@ pub fn adding_keeps()
     ensures corrected { (greatest most : ℕ) (h s : Plain) (i : ℕ) → 1 ≤ greatest → IsPlain greatest h → IsPlain most s → IsPlain greatest (merged_corrected greatest h s i) }
     ensures corrected_classes { (greatest : ℕ) (h s : Plain) (i : ℕ) → grain (merged_corrected greatest h s i) ≡ grain h }
 {}
+
+/// Histograms that are added in order stand for their samples joined, where those fit; whatever counter type each counts
+/// in. The answer to each quantile is then that of the joined samples.
+pub fn joined_stands()
+    ensures sum { (greatest most : ℕ) (h : Plain) (ks : List Plain) (S : List ℕ) (Ls : List (List ℕ)) → 1 ≤ greatest → IsPlain greatest h → StandsFor h S
+        → AreParts most (grain h) ks Ls → Fits greatest (grain h) (S ++ joined_list Ls)
+        → StandsFor (merged_each greatest h ks) (S ++ joined_list Ls) × IsPlain greatest (merged_each greatest h ks) }
+    ensures ranked { (greatest most : ℕ) (h : Plain) (ks : List Plain) (S : List ℕ) (Ls : List (List ℕ)) → 1 ≤ greatest → IsPlain greatest h → StandsFor h S
+        → AreParts most (grain h) ks Ls → Fits greatest (grain h) (S ++ joined_list Ls) → AnswersRanked (merged_each greatest h ks) (S ++ joined_list Ls) }
+{
+    adding_keeps();
+    adding_stands();
+    quantile_is_ranked();
+}
 
 /// What a call makes of a histogram is one again, with its classes, and stands for what the call makes of the samples.
 pub fn calls_stand<T: Counter>()

@@ -5,8 +5,8 @@ use Rattle.hdr_core.specs.declared.call.CallError.{CallError}
 use Rattle.hdr_core.specs.declared.call.CallError.TheVariants as call
 use Rattle.hdr_core.specs.declared.errors.RecordError.TheVariants as record_error
 use Rattle.hdr_core.specs.declared.errors.AdditionError.TheVariants as addition_error
-use Rattle.hdrhistogram.specs.declared.serialization.errors.DeserializeError.{DeserializeError}
-use Rattle.hdrhistogram.specs.declared.serialization.errors.DeserializeError.TheVariants as deserialize_error
+use Rattle.hdrhistogram.specs.declared.serialization.interval_log.merge.MergeError.{MergeError}
+use Rattle.hdrhistogram.specs.declared.serialization.interval_log.merge.MergeError.TheVariants as merging
 use Rattle.hdr_tool.specs.declared.fault.Fault.{Fault}
 use Rattle.hdr_tool.specs.declared.fault.Fault.TheVariants.{WrongWords, NotACommand, Refused, NotWritten, NotALog, NotBase64, NotRead, NoMemory, CannotRead, CannotWrite}
 
@@ -16,14 +16,17 @@ refusal_at k (call.Record record_error.OutOfMemory) = NoMemory
 refusal_at k (call.Addition addition_error.OutOfMemory) = NoMemory
 refusal_at k e = Refused k e
 
--- the fault of the interval of this number, whose bytes were refused
-abbrev pub unread_at : ℕ → DeserializeError → Fault
-unread_at k deserialize_error.OutOfMemory = NoMemory
-unread_at k e = NotRead k e
+-- the fault of a merge that was refused; each number of digits that words can ask for has a histogram
+abbrev pub merge_fault : MergeError → Fault
+merge_fault (merging.Creation e) = NoMemory
+merge_fault (merging.Parse at) = NotALog at
+merge_fault (merging.Base64 k) = NotBase64 k
+merge_fault (merging.Decode k e) = NotRead k e
+merge_fault merging.OutOfMemory = NoMemory
 
 -- the line on standard error; the text of a refused call, of a refused interval and of bytes that are none is the library's
 abbrev pub fault_text : Fault → Option (List ℕ)
-fault_text WrongWords = Some (codes "hdr: usage: hdr report SIGFIG Q.. | hdr log SIGFIG | hdr merge SIGFIG Q..")
+fault_text WrongWords = Some (codes "hdr: usage: hdr report SIGFIG Q.. | hdr log SIGFIG | hdr merge [--into COUNTER] [--tag T] [--from MS] [--to MS] SIGFIG Q..")
 fault_text (NotACommand k) = Some (codes "hdr: line " ++ decimal k ++ codes ": not a command")
 fault_text (Refused k e) = None
 fault_text (NotWritten k e) = None

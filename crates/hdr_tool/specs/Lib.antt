@@ -1,4 +1,5 @@
 pub mod Parts
+pub mod Options
 pub mod Words
 pub mod Lines
 pub mod Faults
@@ -7,5 +8,4 @@ pub mod Outcomes
 pub mod Program
 pub mod Tasks
 pub mod Commands
-pub mod Merges
 pub mod LogMerges

@@ -7,22 +7,21 @@ use Rattle.hdr_core.specs.Calls.{after_call, RefusesCall}
 use Rattle.hdr_core.specs.declared.call.Call.{Call}
 use Rattle.hdr_core.specs.declared.call.CallError.{CallError}
 use Rattle.hdr_core.specs.Recording.{restarted}
-use Rattle.hdr_core.specs.Merging.{merged}
-use Rattle.hdr_log.specs.Grammar.{Entry, Start, Base, Span, reading}
-use Rattle.hdr_log.specs.Texts.{base64_bytes}
 use Rattle.hdrhistogram.specs.V2.{IsV2, HasTooGreatCount}
 use Rattle.hdrhistogram.specs.LogLeaving.{IsIntervalText}
-use Rattle.hdrhistogram.specs.V2Read.{ReadsV2}
-use Rattle.hdrhistogram.specs.declared.serialization.errors.DeserializeError.{DeserializeError}
+use Rattle.hdrhistogram.specs.Chosen.{Filter}
+use Rattle.hdrhistogram.specs.LogMerging.{Merging, Merges}
+use Rattle.hdrhistogram.specs.declared.serialization.interval_log.merge.MergeError.{MergeError}
 use Rattle.hdrhistogram.specs.declared.serialization.errors.V2SerializeError.TheVariants.{CountNotSerializable}
 use Rattle.hdrhistogram.specs.declared.serialization.interval_log.errors.IntervalLogWriterError.TheVariants.{SerializeError}
 use Rattle.hdr_tool.specs.declared.fault.Fault.{Fault}
-use Rattle.hdr_tool.specs.declared.fault.Fault.TheVariants.{WrongWords, NotACommand, NotWritten, NotALog, NotBase64, NotRead}
+use Rattle.hdr_tool.specs.declared.fault.Fault.TheVariants.{WrongWords, NotACommand, NotWritten}
 use Rattle.std.specs.List.{enumerate_from}
 use Rattle.hdr_log.specs.Parts.{parts}
 use Rattle.hdr_tool.specs.Lines.{call_of, LogCommand, Make, End, log_command_of}
 use Rattle.hdr_tool.specs.Words.{Task, Report, Log, Merge, task_of}
-use Rattle.hdr_tool.specs.Faults.{refusal_at}
+use Rattle.hdr_tool.specs.Faults.{refusal_at, merge_fault}
+use Rattle.hdr_tool.specs.Options.{greatest_into, filter_of}
 use Rattle.hdr_tool.specs.Report.{IsReport}
 use Rattle.hdr_tool.specs.Outcomes.{Runs, Begins}
 
@@ -58,41 +57,20 @@ abbrev pub LogLineDone : Plain → (ℕ × List ℕ) → Result (List ℕ × Pla
 LogLineDone h (k, []) r = r ≡ Ok ([], h)
 LogLineDone h (k, b ∷ line) r = LogCommandDone k h (log_command_of (b ∷ line)) r
 
--- what a merge has added, and how many intervals it has read
-pub record Merged : Type 0 where
-  pub histogram : Plain
-  pub intervals : ℕ
-
--- the histogram that was read of an interval's bytes is added, whatever stands behind it
-abbrev pub AddedDone : Merged → Result (Plain × ℕ) DeserializeError → Result (List ℕ × Merged) Fault → Type 0
-AddedDone m (Ok read) r = r ≡ Ok ([], record { histogram = merged (2 ^ 64 - 1) m.histogram read.0; intervals = m.intervals + 1 })
-AddedDone m (Err e) r = r ≡ Err (NotRead (m.intervals + 1) e)
-
--- the bytes of an interval are read
-abbrev pub FieldDone : Merged → Option (List ℕ) → Result (List ℕ × Merged) Fault → Type 0
-FieldDone m None r = r ≡ Err (NotBase64 (m.intervals + 1))
-FieldDone m (Some bytes) r = (read : Result (Plain × ℕ) DeserializeError) × ReadsV2 (2 ^ 64 - 1) bytes read × AddedDone m read r
-
--- what is read of a log is done; headers change nothing
-abbrev pub EntryDone : Merged → Result Entry ℕ → Result (List ℕ × Merged) Fault → Type 0
-EntryDone m (Ok (Start time)) r = r ≡ Ok ([], m)
-EntryDone m (Ok (Base time)) r = r ≡ Ok ([], m)
-EntryDone m (Ok (Span interval)) r = FieldDone m (base64_bytes interval.field) r
-EntryDone m (Err at) r = r ≡ Err (NotALog at)
-
--- a merge begins with an empty histogram that grows
-abbrev pub new_merged : ℕ → Merged
-new_merged sigfig = record { histogram = empty_plain 1 2 sigfig true; intervals = 0 }
-
 -- a report is written only where no line is refused
 abbrev pub Reported : List Ratio → Result Plain Fault → List ℕ → Option Fault → Type 0
 Reported quantiles (Ok h) text fault = IsReport h quantiles text × (fault ≡ None)
 Reported quantiles (Err f) text fault = (text ≡ []) × (fault ≡ Some f)
 
 -- the histogram of a merge that ended
-abbrev pub merged_histogram : Result Merged Fault → Result Plain Fault
+abbrev pub merged_histogram : Result Merging MergeError → Result Plain Fault
 merged_histogram (Ok m) = Ok m.histogram
-merged_histogram (Err f) = Err f
+merged_histogram (Err e) = Err (merge_fault e)
+
+-- a report of a log's chosen intervals, merged in counters up to the greatest
+abbrev pub MergeReported : ℕ → Filter → ℕ → List Ratio → List ℕ → List ℕ → Option Fault → Type 0
+MergeReported greatest filter sigfig quantiles input text fault =
+    (r : Result Merging MergeError) × Merges greatest filter sigfig input r × Reported quantiles (merged_histogram r) text fault
 
 -- the fault that ended a run, if one did
 abbrev pub fault_in : {A : Type 0} → Result A Fault → Option Fault
@@ -104,7 +82,7 @@ abbrev pub LogDone : Plain → List (ℕ × List ℕ) → List ℕ → Option Fa
 LogDone h lines text fault = (ended : Result Plain Fault) × Runs LogLineDone h lines (record { written = text; ended = ended }) × (fault ≡ fault_in ended)
 
 -- a report: all lines of the input are done in order on an empty histogram that grows, up to the first fault. A log: the same,
--- and each interval is written as it is reached. A merge: all that is read of the log is done in order, up to the first fault.
+-- and each interval is written as it is reached. A merge: the chosen intervals of the log are added in order, up to the first fault.
 abbrev pub TaskDone : Option Task → List ℕ → List ℕ → Option Fault → Type 0
 TaskDone None input text fault = (text ≡ []) × (fault ≡ Some WrongWords)
 TaskDone (Some (Report sigfig quantiles)) input text fault =
@@ -112,10 +90,8 @@ TaskDone (Some (Report sigfig quantiles)) input text fault =
     × Runs LineDone (empty_plain 1 2 sigfig true) (enumerate_from 1 (parts 10 input)) (record { written = []; ended = ended })
     × Reported quantiles ended text fault
 TaskDone (Some (Log sigfig)) input text fault = LogDone (empty_plain 1 2 sigfig true) (enumerate_from 1 (parts 10 input)) text fault
-TaskDone (Some (Merge sigfig quantiles)) input text fault =
-    (ended : Result Merged Fault)
-    × Runs EntryDone (new_merged sigfig) (reading input) (record { written = []; ended = ended })
-    × Reported quantiles (merged_histogram ended) text fault
+TaskDone (Some (Merge options sigfig quantiles)) input text fault =
+    MergeReported (greatest_into options.into) (filter_of options) sigfig quantiles input text fault
 
 -- what may stand where memory is wanting: of a log the intervals of some lines, and else nothing
 abbrev pub TaskStands : Option Task → List ℕ → List ℕ → Type 0

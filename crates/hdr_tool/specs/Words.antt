@@ -9,6 +9,7 @@ use Rattle.hdr_tool.specs.declared.fault.Fault.{Fault}
 use Rattle.hdr_tool.specs.declared.fault.Fault.TheVariants.{WrongWords, NoMemory}
 use Rattle.hdr_log.specs.Parts.{◌>>=◌, parted, number_of}
 use Rattle.hdr_tool.specs.Parts.{each}
+use Rattle.hdr_tool.specs.Options.{Options, no_options, options_of}
 
 -- one digit from 0 to 5
 abbrev pub sigfig_of : List ℕ → Option ℕ
@@ -27,7 +28,7 @@ quantile_of_word word = do
 pub data Task : Type 0 where
   Report : ℕ → List Ratio → Task
   Log : ℕ → Task
-  Merge : ℕ → List Ratio → Task
+  Merge : Options → ℕ → List Ratio → Task
 
 -- `SIGFIG Q..`, behind the word `report` or `merge`, with one Q or more
 abbrev pub figures_of : List (List ℕ) → Option (ℕ × List Ratio)
@@ -42,6 +43,13 @@ abbrev pub log_of : List (List ℕ) → Option Task
 log_of (digit ∷ []) = option_map Log (sigfig_of digit)
 log_of _ = None
 
+-- options, and then `SIGFIG Q..`, behind the word `merge`
+unfoldable pub merge_of : List (List ℕ) → Option Task
+merge_of words = do
+  given ← options_of no_options words
+  figures ← figures_of given.1
+  Some (Merge given.0 figures.0 figures.1)
+
 -- the command that a word names
 unfoldable pub command_named : List ℕ → Option Command
 command_named name =
@@ -55,7 +63,7 @@ abbrev pub task_named : Option Command → List (List ℕ) → Option Task
 task_named None words = None
 task_named (Some command.Report) words = option_map (λ f. Report f.0 f.1) (figures_of words)
 task_named (Some command.Log) words = log_of words
-task_named (Some command.Merge) words = option_map (λ f. Merge f.0 f.1) (figures_of words)
+task_named (Some command.Merge) words = merge_of words
 
 -- the task of the words, none for wrong words
 unfoldable pub task_of : List (List ℕ) → Option Task

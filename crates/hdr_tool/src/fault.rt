@@ -55,7 +55,7 @@ impl fmt::Display for Fault {
         match self {
             Fault::WrongWords => write!(
                 f,
-                "hdr: usage: hdr report SIGFIG Q.. | hdr log SIGFIG | hdr merge SIGFIG Q.."
+                "hdr: usage: hdr report SIGFIG Q.. | hdr log SIGFIG | hdr merge [--into COUNTER] [--tag T] [--from MS] [--to MS] SIGFIG Q.."
             ),
             Fault::NotACommand(line) => write!(f, "hdr: line {line}: not a command"),
             Fault::Refused(line, cause) => write!(f, "hdr: line {line}: {cause}"),

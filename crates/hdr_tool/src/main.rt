@@ -7,6 +7,7 @@ mod laws;
 mod lines;
 mod log;
 mod merge;
+mod options;
 mod parts;
 mod report;
 mod run;

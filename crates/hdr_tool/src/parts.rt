@@ -1,7 +1,8 @@
-//! The parts of a text, one after the other.
+//! The parts of a text, one after the other, and words by name.
 
 ghost use Rattle.std.specs.Prelude.{◌≡◌, ◌∷◌, ◌+◌, ◌≤◌, length, IfSome};
 ghost use Rattle.std.specs.Option.{option_map};
+ghost use Rattle.std.specs.Str.{bytes_eq};
 ghost use Rattle.hdr_log.specs.Parts.{parts};
 ghost use Rattle.hdr_tool.specs.Parts.{parts_left};
 
@@ -16,4 +17,11 @@ pub(crate) fn split_first(text: &[u8], byte: u8) -> (&[u8], Option<&[u8]>)
         Some((first, rest)) => (first, Some(rest)),
         None => (text, None),
     }
+}
+
+/// Whether a word is this one.
+pub(crate) fn is_word(word: &[u8], name: &[u8]) -> bool
+    ensures { result ≡ bytes_eq word.now name.now }
+{
+    word == name
 }

@@ -1,17 +1,22 @@
 //! The report.
 
-ghost use Rattle.std.specs.Prelude.{◌≡◌, ◌++◌, OnOk, IfOk, string_bytes};
+ghost use Rattle.std.specs.Prelude.{◌≡◌, ◌≢◌, ◌++◌, [], None, Ok, Err, OnOk, IfOk, string_bytes};
 ghost use Rattle.std.specs.List.{flat_map};
+ghost use Rattle.hdr_tool.specs.Outcomes.{Answers};
+ghost use Rattle.hdr_tool.specs.Program.{Reported};
 ghost use Rattle.hdr_tool.specs.Report.{quantile_line, IsBytesField, IsReport};
 
+use crate::fault::Fault;
+use crate::stream::write_whole;
 use hdrhistogram::serialization::{V2SerializeError, V2Serializer};
-use hdrhistogram::{Histogram, Quantile};
+use hdrhistogram::{Counter, Histogram, Quantile};
 use std::alloc::{AllocError, Global};
+use std::io::Write;
 
 /// Adds the line of a quantile to a text.
-fn push_quantile(
+fn push_quantile<T: Counter>(
     text: &mut String,
-    histogram: &Histogram<u64>,
+    histogram: &Histogram<T>,
     quantile: Quantile,
 ) -> Result<(), AllocError>
     ensures { OnOk result (string_bytes text.new ≡ string_bytes text.old ++ quantile_line histogram.now quantile) }
@@ -23,9 +28,9 @@ fn push_quantile(
 }
 
 /// Adds the lines of the quantiles, in order.
-fn push_quantiles(
+fn push_quantiles<T: Counter>(
     text: &mut String,
-    histogram: &Histogram<u64>,
+    histogram: &Histogram<T>,
     quantiles: &[Quantile],
 ) -> Result<(), AllocError>
     ensures { OnOk result (string_bytes text.new ≡ string_bytes text.old ++ flat_map (quantile_line histogram.now) quantiles.now) }
@@ -37,7 +42,10 @@ fn push_quantiles(
 }
 
 /// The histogram's bytes in hexadecimal, or `none` where a count is too great for bytes.
-fn bytes_field(alloc: Global, histogram: &Histogram<u64>) -> Result<String, AllocError>
+fn bytes_field<T: Counter>(
+    alloc: Global,
+    histogram: &Histogram<T>,
+) -> Result<String, AllocError>
     ensures { IfOk result (λ field. IsBytesField histogram.now (string_bytes field)) }
 {
     let mut serializer = V2Serializer::new(alloc);
@@ -49,9 +57,9 @@ fn bytes_field(alloc: Global, histogram: &Histogram<u64>) -> Result<String, Allo
 }
 
 /// The text of a report.
-pub(crate) fn report(
+fn report<T: Counter>(
     alloc: Global,
-    histogram: &Histogram<u64>,
+    histogram: &Histogram<T>,
     quantiles: &[Quantile],
 ) -> Result<String, AllocError>
     ensures { IfOk result (λ text. IsReport histogram.now quantiles.now (string_bytes text)) }
@@ -63,4 +71,21 @@ pub(crate) fn report(
     let field = bytes_field(alloc, histogram)?;
     writeln!(text, "v2 {field}")?;
     Ok(text)
+}
+
+/// Writes the report of a histogram.
+pub(crate) fn write_report<T: Counter, W: Write>(
+    alloc: Global,
+    histogram: &Histogram<T>,
+    quantiles: &[Quantile],
+    writer: &mut W,
+) -> Result<(), Fault>
+    ensures words { result ≢ Err Fault.WrongWords }
+    ensures answers { Answers (Reported quantiles.now (Ok histogram.now)) (λ text. text ≡ [])
+        (λ text. Reported quantiles.now (Ok histogram.now) text None) (W.contents writer.old) (W.contents writer.new) result }
+{
+    let Ok(text) = report(alloc, histogram, quantiles) else {
+        return Err(Fault::NoMemory);
+    };
+    write_whole(writer, text.as_bytes())
 }

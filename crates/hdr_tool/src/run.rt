@@ -4,19 +4,19 @@ ghost use Rattle.std.specs.Prelude.{◌≡◌, ◌≢◌, ◌↔◌, ◌<◌, �
 ghost use Rattle.hdr_core.specs.Plain.{empty_plain};
 ghost use Rattle.std.specs.List.{enumerate_from};
 ghost use Rattle.hdr_log.specs.Parts.{parts};
-ghost use Rattle.hdr_tool.specs.Words.{Report, Merge, task_of};
+ghost use Rattle.hdr_tool.specs.Words.{Report, task_of};
 ghost use Rattle.hdr_tool.specs.Tasks.{task_seen};
 ghost use Rattle.hdr_tool.specs.Faults.{refusal_at};
 ghost use Rattle.hdr_tool.specs.Outcomes.{Refuses, Answers, ReadsAll, Runs};
-ghost use Rattle.hdr_tool.specs.Program.{LineDone, Reported, TaskDone, TaskStands, TaskWrites, Program, Stands, IsWriting};
+ghost use Rattle.hdr_tool.specs.Program.{LineDone, TaskDone, TaskStands, TaskWrites, Program, Stands, IsWriting};
 
 use crate::command::call;
 use crate::fault::Fault;
 use crate::lines::Lines;
 use crate::log::log_lines;
-use crate::merge::add_entries;
-use crate::report::report;
-use crate::stream::{read_whole, write_whole};
+use crate::merge::report_log;
+use crate::report::write_report;
+use crate::stream::read_whole;
 use crate::words::{Task, judge};
 use hdrhistogram::{AdditionError, CallError, Histogram, Quantile, RecordError};
 use std::alloc::Global;
@@ -73,23 +73,6 @@ fn apply_lines(alloc: Global, sigfig: u8, input: &[u8]) -> Result<Histogram<u64>
     Ok(histogram)
 }
 
-/// Writes the report of a histogram.
-fn write_report<W: Write>(
-    alloc: Global,
-    histogram: &Histogram<u64>,
-    quantiles: &[Quantile],
-    writer: &mut W,
-) -> Result<(), Fault>
-    ensures words { result ≢ Err Fault.WrongWords }
-    ensures answers { Answers (Reported quantiles.now (Ok histogram.now)) (λ text. text ≡ [])
-        (λ text. Reported quantiles.now (Ok histogram.now) text None) (W.contents writer.old) (W.contents writer.new) result }
-{
-    let Ok(text) = report(alloc, histogram, quantiles) else {
-        return Err(Fault::NoMemory);
-    };
-    write_whole(writer, text.as_bytes())
-}
-
 /// Writes the report of the lines, where none is refused.
 fn report_lines<W: Write>(
     alloc: Global,
@@ -110,28 +93,13 @@ fn report_lines<W: Write>(
     write_report(alloc, &histogram, quantiles, writer)
 }
 
-/// Writes the report of a log, where nothing of it is refused.
-fn report_log<W: Write>(
+/// Does what the words ask for.
+fn do_task<W: Write>(
     alloc: Global,
-    sigfig: u8,
-    quantiles: &[Quantile],
+    task: &Task<'_>,
     input: &[u8],
     writer: &mut W,
 ) -> Result<(), Fault>
-    requires { length input.now + 2 < 2 ^ 64 }
-    ensures words { result ≢ Err Fault.WrongWords }
-    ensures answers { Answers (TaskDone (Some (Merge sigfig quantiles.now)) input.now) (TaskStands (Some (Merge sigfig quantiles.now)) input.now)
-        (TaskWrites (Some (Merge sigfig quantiles.now)) input.now) (W.contents writer.old) (W.contents writer.new) result }
-{
-    let histogram = match add_entries(alloc, sigfig, input) {
-        Ok(histogram) => histogram,
-        Err(fault) => return Err(fault),
-    };
-    write_report(alloc, &histogram, quantiles, writer)
-}
-
-/// Does what the words ask for.
-fn do_task<W: Write>(alloc: Global, task: &Task, input: &[u8], writer: &mut W) -> Result<(), Fault>
     requires { length input.now + 2 < 2 ^ 64 }
     ensures words { result ≢ Err Fault.WrongWords }
     ensures answers { Answers (TaskDone (Some (task_seen task.now)) input.now) (TaskStands (Some (task_seen task.now)) input.now)
@@ -146,8 +114,9 @@ fn do_task<W: Write>(alloc: Global, task: &Task, input: &[u8], writer: &mut W) -
             writer,
         ),
         Task::Log(sigfig) => log_lines(alloc, *sigfig, input, writer),
-        Task::Merge(sigfig, quantiles) => report_log(
+        Task::Merge(options, sigfig, quantiles) => report_log(
             alloc,
+            options,
             *sigfig,
             quantiles.as_slice(),
             input,

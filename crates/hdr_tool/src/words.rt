@@ -3,12 +3,14 @@
 ghost use Rattle.std.specs.Prelude.{◌≡◌, map, is_some, Some, string_bytes, MatchResult};
 ghost use Rattle.std.specs.Option.{option_map};
 ghost use Rattle.std.specs.List.{list_all};
-ghost use Rattle.std.specs.Str.{bytes_eq};
 ghost use Rattle.hdr_tool.specs.Parts.{each};
-ghost use Rattle.hdr_tool.specs.Words.{sigfig_of, quantile_of_word, figures_of, log_of, command_named, task_of, RefusesWords};
+ghost use Rattle.hdr_tool.specs.Words.{sigfig_of, quantile_of_word, figures_of, log_of, merge_of, command_named, task_of, RefusesWords};
+ghost use Rattle.hdr_tool.specs.Options.{no_options};
 ghost use Rattle.hdr_tool.specs.Tasks.{task_seen};
 
 use crate::fault::Fault;
+use crate::options::{Options, options};
+use crate::parts::is_word;
 use hdr_log::parts::{number, split_once};
 use hdrhistogram::Quantile;
 use std::alloc::Global;
@@ -23,13 +25,13 @@ enum Command {
 
 /// What the program is to do.
 #[derive(Drop)]
-pub(crate) enum Task {
+pub(crate) enum Task<'a> {
     /// Report these quantiles, by a histogram of so many digits.
     Report(u8, Vec<Quantile>),
     /// Write a log, by a histogram of so many digits.
     Log(u8),
-    /// Report these quantiles of a log, by a histogram of so many digits.
-    Merge(u8, Vec<Quantile>),
+    /// Report these quantiles of a log's chosen intervals, by a histogram of so many digits.
+    Merge(Options<'a>, u8, Vec<Quantile>),
 }
 
 fn sigfig(word: &[u8]) -> Option<u8>
@@ -101,7 +103,7 @@ fn figures(alloc: Global, words: &[String]) -> Result<(u8, Vec<Quantile>), Fault
 }
 
 /// The digits of the words behind the word `log`.
-fn log(words: &[String]) -> Option<Task>
+fn log(words: &[String]) -> Option<Task<'_>>
     ensures { option_map task_seen result ≡ log_of (map string_bytes words.now) }
 {
     let [digit] = words else {
@@ -113,11 +115,20 @@ fn log(words: &[String]) -> Option<Task>
     }
 }
 
-/// Whether a word is this one.
-fn is_word(word: &[u8], name: &[u8]) -> bool
-    ensures { result ≡ bytes_eq word.now name.now }
+/// The merge that the words behind the word `merge` ask for.
+#[tactic(auto, unfolding(crate::specs::Words::merge_of))]
+fn merge(alloc: Global, words: &[String]) -> Result<Task<'_>, Fault>
+    ensures { MatchResult result
+        (λ task. merge_of (map string_bytes words.now) ≡ Some (task_seen task))
+        (RefusesWords (merge_of (map string_bytes words.now))) }
 {
-    word == name
+    let Some((options, words)) = options(words) else {
+        return Err(Fault::WrongWords);
+    };
+    match figures(alloc, words) {
+        Ok((sigfig, quantiles)) => Ok(Task::Merge(options, sigfig, quantiles)),
+        Err(fault) => Err(fault),
+    }
 }
 
 /// The command that a word names.
@@ -138,7 +149,7 @@ fn named(word: &[u8]) -> Option<Command>
 
 /// What the words ask for. Wrong words are told even where no memory is left.
 #[tactic(auto, unfolding(crate::specs::Words::task_of))]
-pub(crate) fn judge(alloc: Global, words: &[String]) -> Result<Task, Fault>
+pub(crate) fn judge(alloc: Global, words: &[String]) -> Result<Task<'_>, Fault>
     ensures { MatchResult result
         (λ task. task_of (map string_bytes words.now) ≡ Some (task_seen task))
         (RefusesWords (task_of (map string_bytes words.now))) }
@@ -155,9 +166,6 @@ pub(crate) fn judge(alloc: Global, words: &[String]) -> Result<Task, Fault>
             Err(fault) => Err(fault),
         },
         Command::Log => log(words).ok_or(Fault::WrongWords),
-        Command::Merge => match figures(alloc, words) {
-            Ok((sigfig, quantiles)) => Ok(Task::Merge(sigfig, quantiles)),
-            Err(fault) => Err(fault),
-        },
+        Command::Merge => merge(alloc, words),
     }
 }

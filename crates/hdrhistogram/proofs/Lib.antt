@@ -16,3 +16,4 @@ pub mod SpellingsRead
 pub mod LogTexts
 pub mod LogStartTexts
 pub mod ReadBackStands
+pub mod ChosenAdded

@@ -233,7 +233,7 @@ v2_again greatest h bytes more p v =
 
 -- ---- the histogram read back
 
-top-unique : (counts : List ℕ) (a b : Option ℕ) → IsTopMark counts a → IsTopMark counts b → a ≡ b
+pub top-unique : (counts : List ℕ) (a b : Option ℕ) → IsTopMark counts a → IsTopMark counts b → a ≡ b
 top-unique counts None None p q = refl
 top-unique counts None (Some n) p q = absurd (omega (arith, q.0, p n))
 top-unique counts (Some m) None p q = absurd (omega (arith, p.0, q m))
@@ -242,7 +242,7 @@ top-unique counts (Some m) (Some n) p q = elim (cases_lt m n) [
   | inr le ↦ elim (cases_lt n m) [ inl lt ↦ absurd (omega (arith, p.0, q.1 m lt)) | inr ge ↦ (let same : m ≡ n = omega arith in ap Some same) ]
 ]
 
-lower-unique : (counts : List ℕ) (a b : Option ℕ) → IsLowerMark counts a → IsLowerMark counts b → a ≡ b
+pub lower-unique : (counts : List ℕ) (a b : Option ℕ) → IsLowerMark counts a → IsLowerMark counts b → a ≡ b
 lower-unique counts None None p q = refl
 lower-unique counts None (Some n) p q = absurd (omega (arith, q.1, p n q.0))
 lower-unique counts (Some m) None p q = absurd (omega (arith, p.1, q m p.0))

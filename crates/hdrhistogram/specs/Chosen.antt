@@ -1,9 +1,8 @@
 -- Which intervals of a log are chosen: by tag, and by the time at which they begin. Times are in nanoseconds.
-use Rattle.std.specs.Prelude.{ℕ, ◌+◌, Bool, true, false, ◌&&◌, nat_le, nat_lt, List, Option, Some, None}
+use Rattle.std.specs.Prelude.{ℕ, Bool, true, false, ◌&&◌, nat_le, nat_lt, List, Option, Some, None}
 use Rattle.std.specs.Option.{option_map}
 use Rattle.std.specs.Duration.{as_nanos}
 use Rattle.std.specs.Str.{bytes_eq}
-use Rattle.hdr_log.specs.Grammar.{Interval}
 use Rattle.hdr_log.specs.Tags.{tag_text}
 use Rattle.hdrhistogram.specs.declared.serialization.interval_log.merge.IntervalFilter.{IntervalFilter}
 
@@ -30,7 +29,6 @@ abbrev pub begins_before : Option ℕ → ℕ → Bool
 begins_before None time = true
 begins_before (Some to) time = nat_lt time to
 
--- an interval begins at its start behind the log's base time
-unfoldable pub is_chosen : Filter → ℕ → Interval → Bool
-is_chosen filter base interval =
-    has_tag filter.tag interval.tag && begins_from filter.from (base + interval.start) && begins_before filter.to (base + interval.start)
+-- an interval is chosen by its tag and by the time at which it begins
+unfoldable pub is_chosen : Filter → Option (List ℕ) → ℕ → Bool
+is_chosen filter tag time = has_tag filter.tag tag && begins_from filter.from time && begins_before filter.to time

@@ -8,7 +8,7 @@ use Rattle.hdr_core.specs.declared.errors.CreationError.TheVariants as make
 use Rattle.hdr_log.specs.Grammar.{Entry, Start, Base, Span, Interval, reading}
 use Rattle.hdr_log.specs.Texts.{base64_bytes}
 use Rattle.hdrhistogram.specs.Chosen.{Filter, is_chosen}
-use Rattle.hdrhistogram.specs.V2Read.{ReadsV2}
+use Rattle.hdrhistogram.specs.V2Read.{IsReadAs, ReadsV2}
 use Rattle.hdrhistogram.specs.declared.serialization.errors.DeserializeError.{DeserializeError}
 use Rattle.hdrhistogram.specs.declared.serialization.errors.DeserializeError.TheVariants as read
 use Rattle.hdrhistogram.specs.declared.serialization.interval_log.merge.MergeError.{MergeError}
@@ -51,11 +51,11 @@ abbrev pub IntervalMerges : ℕ → Merging → Bool → Interval → Result Mer
 IntervalMerges greatest m true interval r = FieldMerges greatest m (base64_bytes interval.field) r
 IntervalMerges greatest m false interval r = r ≡ Ok (past_interval m)
 
--- what is read of a log is done: a base time counts for the intervals behind it, and a start time says nothing
+-- what is read of a log is done: an interval begins at its start behind the last base time, and a start time says nothing
 abbrev pub EntryMerges : ℕ → Filter → Merging → Result Entry ℕ → Result Merging MergeError → Type 0
 EntryMerges greatest filter m (Ok (Start time)) r = r ≡ Ok m
 EntryMerges greatest filter m (Ok (Base time)) r = r ≡ Ok (with_base m time)
-EntryMerges greatest filter m (Ok (Span interval)) r = IntervalMerges greatest m (is_chosen filter m.base interval) interval r
+EntryMerges greatest filter m (Ok (Span interval)) r = IntervalMerges greatest m (is_chosen filter interval.tag (m.base + interval.start)) interval r
 EntryMerges greatest filter m (Err at) r = r ≡ Err (Parse at)
 
 -- a step that is refused ends the merge, and else the rest follows
@@ -98,3 +98,20 @@ RefusesMerge greatest filter sigfig log e = IsBounds 1 2 sigfig × Merges greate
 abbrev pub IsMergedBy : (Result Merging MergeError → Type 0) → Plain → ℕ → Type 0
 IsMergedBy Ends histogram chosen =
     (base : ℕ) × (intervals : ℕ) × Ends (Ok (record { histogram = histogram; base = base; intervals = intervals; chosen = chosen }))
+
+-- an interval's field holds a histogram, whatever stands behind it
+abbrev pub IsHeldIn : Interval → Plain → Type 0
+IsHeldIn interval h = (bytes : List ℕ) × (base64_bytes interval.field ≡ Some bytes) × (taken : ℕ) × IsReadAs 18446744073709551615 bytes h taken
+
+-- the histograms of the chosen intervals of what is read, with the base time before it
+abbrev pub ChosenFirst : Bool → Interval → (List Plain → Type 0) → List Plain → Type 0
+ChosenFirst true interval Rest hs = (h : Plain) × (rest : List Plain) × (hs ≡ h ∷ rest) × IsHeldIn interval h × Rest rest
+ChosenFirst false interval Rest hs = Rest hs
+
+abbrev pub AreChosen : Filter → ℕ → List (Result Entry ℕ) → List Plain → Type 0
+AreChosen filter base [] hs = hs ≡ []
+AreChosen filter base (Ok (Start time) ∷ entries) hs = AreChosen filter base entries hs
+AreChosen filter base (Ok (Base time) ∷ entries) hs = AreChosen filter time entries hs
+AreChosen filter base (Ok (Span interval) ∷ entries) hs =
+    ChosenFirst (is_chosen filter interval.tag (base + interval.start)) interval (AreChosen filter base entries) hs
+AreChosen filter base (Err at ∷ entries) hs = ⊥

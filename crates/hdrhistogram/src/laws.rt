@@ -2,9 +2,15 @@
 //! law.
 
 ghost use Rattle.hdr_core.specs.Equality.{same_plain};
-ghost use Rattle.std.specs.Prelude.{◌≡◌, ℕ, ◌^◌, ◌<◌, ◌≤◌, ◌++◌, List, length, slice_index, All, sum, ℤ, true, Ok};
-ghost use Rattle.hdr_core.specs.Plain.{Plain, IsPlain, grain};
-ghost use Rattle.hdr_core.specs.Samples.{StandsFor};
+ghost use Rattle.std.specs.Prelude.{◌≡◌, ℕ, ◌^◌, ◌<◌, ◌≤◌, ◌++◌, List, length, slice_index, All, sum, ℤ, true, Result, Ok};
+ghost use Rattle.hdr_base.specs.Classes.{grain_of};
+ghost use Rattle.hdr_core.specs.Plain.{Plain, IsPlain, grain, empty_plain};
+ghost use Rattle.hdr_core.specs.Samples.{StandsFor, Fits};
+ghost use Rattle.hdr_core.specs.Joined.{merged_each, AreParts, joined_list, AnswersRanked};
+ghost use Rattle.hdr_core.specs.Refusals.{IsBounds};
+ghost use Rattle.hdr_log.specs.Grammar.{Entry, reading};
+ghost use Rattle.hdrhistogram.specs.Chosen.{Filter};
+ghost use Rattle.hdrhistogram.specs.LogMerging.{Merging, Merges, AreChosen};
 ghost use Rattle.hdrhistogram.specs.Varint.{Spells, IsShortest};
 ghost use Rattle.hdrhistogram.specs.ZigZag.{zig_zag, from_zig_zag};
 ghost use Rattle.hdrhistogram.specs.Payload.{Part, IsSplit, IsPayload};
@@ -12,7 +18,7 @@ ghost use Rattle.hdrhistogram.specs.V2.{IsV2, IsWrittenAlike};
 ghost use Rattle.hdrhistogram.specs.PayloadRead.{Parted, parted, AreSpellings};
 ghost use Rattle.hdrhistogram.specs.V2Read.{v2_at, Contents, told_of, IsRestated, IsReadBack, IsReadAs};
 
-use hdr_core::laws::samples_are_counted;
+use hdr_core::laws::{clearing_stands, joined_stands, new_is_plain, samples_are_counted};
 
 /// Every number of 64 bits has one canonical spelling, and no spelling is longer than nine bytes.
 pub fn one_canonical_spelling()
@@ -92,4 +98,29 @@ pub fn read_back_stands()
         → StandsFor k S }
 {
     samples_are_counted();
+}
+
+/// Merging a log adds the histograms of its chosen intervals in order, and counts them.
+pub fn merging_adds_the_chosen()
+    ensures added { (greatest sigfig : ℕ) (filter : Filter) (log : List ℕ) (m : Merging) → Merges greatest filter sigfig log (Ok m)
+        → (hs : List Plain) × AreChosen filter 0 (reading log) hs
+        × (m.histogram ≡ merged_each greatest (empty_plain 1 2 sigfig true) hs) × (m.chosen ≡ length hs) }
+    ensures only { (filter : Filter) (base : ℕ) (entries : List (Result Entry ℕ)) (hs others : List Plain) → AreChosen filter base entries hs
+        → AreChosen filter base entries others → hs ≡ others }
+{}
+
+/// Where the chosen intervals of a log stand for samples, by classes that are no coarser than those of the merge, the
+/// merge stands for the samples joined, as far as those fit; and its quantiles are theirs.
+pub fn merged_log_stands()
+    ensures sum { (greatest sigfig : ℕ) (filter : Filter) (log : List ℕ) (m : Merging) (hs : List Plain) (Ls : List (List ℕ)) → 1 ≤ greatest
+        → IsBounds 1 2 sigfig → Merges greatest filter sigfig log (Ok m) → AreChosen filter 0 (reading log) hs
+        → AreParts 18446744073709551615 (grain_of 1 sigfig) hs Ls → Fits greatest (grain_of 1 sigfig) (joined_list Ls) → StandsFor m.histogram (joined_list Ls) }
+    ensures ranked { (greatest sigfig : ℕ) (filter : Filter) (log : List ℕ) (m : Merging) (hs : List Plain) (Ls : List (List ℕ)) → 1 ≤ greatest
+        → IsBounds 1 2 sigfig → Merges greatest filter sigfig log (Ok m) → AreChosen filter 0 (reading log) hs
+        → AreParts 18446744073709551615 (grain_of 1 sigfig) hs Ls → Fits greatest (grain_of 1 sigfig) (joined_list Ls) → AnswersRanked m.histogram (joined_list Ls) }
+{
+    new_is_plain();
+    clearing_stands();
+    joined_stands();
+    merging_adds_the_chosen();
 }

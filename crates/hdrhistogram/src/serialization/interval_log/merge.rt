@@ -207,7 +207,7 @@ impl IntervalFilter<'_> {
     /// Whether an interval is chosen, with this base time.
     #[tactic(auto, unfolding(crate::specs::Chosen::is_chosen))]
     pub fn chooses(&self, base: Duration, interval: &IntervalLogHistogram<'_>) -> bool
-        ensures { result ≡ is_chosen (filter_seen self.now) (as_nanos base) (interval_seen interval.now) }
+        ensures { result ≡ is_chosen (filter_seen self.now) (interval_seen interval.now).tag (as_nanos base + (interval_seen interval.now).start) }
     {
         let time = base.as_nanos() + interval.start_timestamp().as_nanos();
         has_tag(self.tag, interval.tag())

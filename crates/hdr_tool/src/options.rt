@@ -1,0 +1,155 @@
+//! The options of a merge.
+
+ghost use Rattle.std.specs.Prelude.{◌≡◌, ◌*◌, map, string_bytes};
+ghost use Rattle.std.specs.Option.{option_map};
+ghost use Rattle.std.specs.Duration.{as_nanos};
+ghost use Rattle.hdrhistogram.specs.Chosen.{filter_seen};
+ghost use Rattle.hdr_tool.specs.Options.{no_options, counter_named, option_named, with_option, options_of, options_seen, filter_of};
+
+use crate::parts::is_word;
+use hdr_log::parts::number;
+use hdrhistogram::serialization::interval_log::{IntervalFilter, Tag};
+use std::time::Duration;
+
+/// The counter types that a merge counts in.
+#[derive(Clone, Copy, Debug, PartialEq, Eq)]
+pub(crate) enum CounterType {
+    U8,
+    U16,
+    U32,
+    U64,
+}
+
+/// The names of options.
+#[derive(Clone, Copy, Debug, PartialEq, Eq)]
+enum OptionName {
+    Into,
+    Tag,
+    From,
+    To,
+}
+
+/// The options that were given, each by the word behind its name. Times are in milliseconds.
+#[derive(Clone, Copy)]
+pub(crate) struct Options<'a> {
+    pub into: Option<CounterType>,
+    pub tag: Option<Tag<'a>>,
+    pub from: Option<u64>,
+    pub to: Option<u64>,
+}
+
+impl<'a> Options<'a> {
+    /// The intervals that are chosen.
+    pub fn filter(&self) -> IntervalFilter<'a>
+        ensures { filter_seen result ≡ filter_of (options_seen self.now) }
+    {
+        IntervalFilter {
+            tag: self.tag,
+            from: time(self.from),
+            to: time(self.to),
+        }
+    }
+}
+
+/// The options at the front of words, and the words behind them.
+pub(crate) fn options(words: &[String]) -> Option<(Options<'_>, &[String])>
+    ensures { option_map (λ p. (options_seen p.0, map string_bytes p.1.now)) result ≡ options_of no_options (map string_bytes words.now) }
+{
+    let mut words = words;
+    let mut options = Options {
+        into: None,
+        tag: None,
+        from: None,
+        to: None,
+    };
+    while let [name, word, rest @ ..] = words {
+        let Some(name) = option_named(name.as_bytes()) else {
+            break;
+        };
+        options = with_option(options, name, word)?;
+        words = rest;
+    }
+    Some((options, words))
+}
+
+/// One option more, with the word behind its name.
+fn with_option<'a>(options: Options<'a>, name: OptionName, word: &'a str) -> Option<Options<'a>>
+    ensures { option_map options_seen result ≡ with_option (options_seen options.entry) name word.now }
+{
+    match name {
+        OptionName::Into => match (options.into, counter_named(word.as_bytes())) {
+            (None, Some(into)) => Some(Options {
+                into: Some(into),
+                ..options
+            }),
+            _ => None,
+        },
+        OptionName::Tag => match (options.tag, Tag::new(word)) {
+            (None, Some(tag)) => Some(Options {
+                tag: Some(tag),
+                ..options
+            }),
+            _ => None,
+        },
+        OptionName::From => match (options.from, number(word.as_bytes())) {
+            (None, Some(from)) => Some(Options {
+                from: Some(from),
+                ..options
+            }),
+            _ => None,
+        },
+        OptionName::To => match (options.to, number(word.as_bytes())) {
+            (None, Some(to)) => Some(Options {
+                to: Some(to),
+                ..options
+            }),
+            _ => None,
+        },
+    }
+}
+
+/// The option that a word names.
+#[tactic(auto, unfolding(crate::specs::Options::option_named))]
+fn option_named(word: &[u8]) -> Option<OptionName>
+    ensures { result ≡ option_named word.now }
+{
+    if is_word(word, b"--into") {
+        Some(OptionName::Into)
+    } else if is_word(word, b"--tag") {
+        Some(OptionName::Tag)
+    } else if is_word(word, b"--from") {
+        Some(OptionName::From)
+    } else if is_word(word, b"--to") {
+        Some(OptionName::To)
+    } else {
+        None
+    }
+}
+
+/// The counter type that a word names.
+#[tactic(auto, unfolding(crate::specs::Options::counter_named))]
+fn counter_named(word: &[u8]) -> Option<CounterType>
+    ensures { result ≡ counter_named word.now }
+{
+    if is_word(word, b"u8") {
+        Some(CounterType::U8)
+    } else if is_word(word, b"u16") {
+        Some(CounterType::U16)
+    } else if is_word(word, b"u32") {
+        Some(CounterType::U32)
+    } else if is_word(word, b"u64") {
+        Some(CounterType::U64)
+    } else {
+        None
+    }
+}
+
+/// The time of so many milliseconds.
+fn time(milliseconds: Option<u64>) -> Option<Duration>
+    ensures { option_map as_nanos result ≡ option_map (λ ms. ms * 1_000_000) milliseconds }
+{
+    match milliseconds {
+        Some(milliseconds) => Some(Duration::from_millis(milliseconds)),
+        None => None,
+    }
+}

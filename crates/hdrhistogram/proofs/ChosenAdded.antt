@@ -1,0 +1,128 @@
+-- What a merge of a log adds.
+use Rattle.std.proofs.Common.{◌≡◌, ◌∙◌, ℕ, ◌+◌, Bool, true, false, List, [], ◌∷◌, length, min, sum, Option, Some, None, Result, Ok, Err, refl, sym, ap, subst, arith}
+use Rattle.hdr_base.specs.Classes.{grain_of}
+use Rattle.hdr_core.specs.Plain.{Plain, IsTopMark, IsLowerMark, grain, empty_plain}
+use Rattle.hdr_core.specs.Joined.{merged_each}
+use Rattle.hdr_core.specs.Merging.{merged}
+use Rattle.hdr_log.specs.Grammar.{Entry, Start, Base, Span, Interval}
+use Rattle.hdr_log.specs.Texts.{base64_bytes}
+use Rattle.hdrhistogram.specs.Chosen.{Filter, is_chosen}
+use Rattle.hdrhistogram.specs.LogMerging.{Merging, with_base, past_interval, with_interval, BytesMerge, FieldMerges, IntervalMerges, EntryMerges, MergesOn, EntriesMerge, IsHeldIn, ChosenFirst, AreChosen}
+use Rattle.hdrhistogram.specs.V2Read.{Contents, told_of, IsReadAs, ReadsV2}
+use Rattle.hdrhistogram.specs.Faults.{Fault}
+use Rattle.hdrhistogram.specs.declared.serialization.errors.DeserializeError.{DeserializeError}
+use Rattle.hdrhistogram.specs.declared.serialization.interval_log.merge.MergeError.{MergeError}
+use Rattle.hdrhistogram.proofs.ReadBack.{top-unique, lower-unique}
+
+-- what is added from a state on
+abbrev Adds : ℕ → Filter → Merging → List (Result Entry ℕ) → Merging → Type 0
+Adds greatest filter m entries last =
+    (hs : List Plain) × AreChosen filter m.base entries hs × (last.histogram ≡ merged_each greatest m.histogram hs) × (last.chosen ≡ m.chosen + length hs)
+
+same_Ok : (m n : Merging) → (λ (r : Result Merging MergeError). r) (Ok m) ≡ Ok n → m ≡ n
+same_Ok m n e = cc
+
+no_error : (m : Merging) (e : MergeError) → (λ (r : Result Merging MergeError). r) (Ok m) ≡ Err e → ⊥
+no_error m e h = absurd (let f = h in cc)
+
+-- a step that changed nothing but the base time
+stepped : (greatest : ℕ) (filter : Filter) (m next last : Merging) (entries : List (Result Entry ℕ)) (step : Result Merging MergeError)
+    → step ≡ Ok next → MergesOn (EntriesMerge greatest filter entries) step (Ok last) → EntriesMerge greatest filter entries next (Ok last)
+stepped greatest filter m next last entries step e on = subst (λ x. MergesOn (EntriesMerge greatest filter entries) x (Ok last)) e on
+
+failed : {A : Type 0} (greatest : ℕ) (filter : Filter) (last : Merging) (entries : List (Result Entry ℕ)) (step : Result Merging MergeError) (e : MergeError)
+    → step ≡ Err e → MergesOn (EntriesMerge greatest filter entries) step (Ok last) → A
+failed greatest filter last entries step e h on =
+    absurd (no_error last e (subst (λ x. MergesOn (EntriesMerge greatest filter entries) x (Ok last)) h on))
+
+-- the bytes of a chosen interval were read and added
+bytes_added : (greatest : ℕ) (filter : Filter) (m last : Merging) (entries : List (Result Entry ℕ)) (step : Result Merging MergeError) (bytes : List ℕ) (found : Result (Plain × ℕ) DeserializeError)
+    → ReadsV2 18446744073709551615 bytes found → BytesMerge greatest m found step → MergesOn (EntriesMerge greatest filter entries) step (Ok last)
+    → (h : Plain) × ((taken : ℕ) × IsReadAs 18446744073709551615 bytes h taken) × EntriesMerge greatest filter entries (with_interval greatest m h) (Ok last)
+bytes_added greatest filter m last entries step bytes (Ok found) r b on = (found.0, (found.1, r), stepped greatest filter m (with_interval greatest m found.0) last entries step b on)
+bytes_added greatest filter m last entries step bytes (Err e) r b on = failed greatest filter last entries step _ b on
+
+field_added : (greatest : ℕ) (filter : Filter) (m last : Merging) (entries : List (Result Entry ℕ)) (interval : Interval) (step : Result Merging MergeError) (o : Option (List ℕ))
+    → base64_bytes interval.field ≡ o → FieldMerges greatest m o step → MergesOn (EntriesMerge greatest filter entries) step (Ok last)
+    → (h : Plain) × IsHeldIn interval h × EntriesMerge greatest filter entries (with_interval greatest m h) (Ok last)
+field_added greatest filter m last entries interval step None e f on = failed greatest filter last entries step _ f on
+field_added greatest filter m last entries interval step (Some bytes) e f on =
+    let b = bytes_added greatest filter m last entries step bytes f.0 f.1 f.2 on in
+    (b.0, (bytes, e, b.1.0, b.1.1), b.2)
+
+-- an interval, chosen or not
+interval_added : (greatest : ℕ) (filter : Filter) (m last : Merging) (entries : List (Result Entry ℕ)) (interval : Interval) (b : Bool) (step : Result Merging MergeError)
+    → IntervalMerges greatest m b interval step → MergesOn (EntriesMerge greatest filter entries) step (Ok last)
+    → ((next : Merging) → EntriesMerge greatest filter entries next (Ok last) → Adds greatest filter next entries last)
+    → (hs : List Plain) × ChosenFirst b interval (AreChosen filter m.base entries) hs × (last.histogram ≡ merged_each greatest m.histogram hs) × (last.chosen ≡ m.chosen + length hs)
+interval_added greatest filter m last entries interval true step i on rest =
+    let f = field_added greatest filter m last entries interval step (base64_bytes interval.field) refl i on in
+    let r = rest (with_interval greatest m f.0) f.2 in
+    (f.0 ∷ r.0, (f.0, r.0, refl, f.1, r.1), r.2, omega (arith, r.3))
+interval_added greatest filter m last entries interval false step i on rest =
+    rest (past_interval m) (stepped greatest filter m (past_interval m) last entries step i on)
+
+pub all_added : (greatest : ℕ) (filter : Filter) (entries : List (Result Entry ℕ)) (m last : Merging) → EntriesMerge greatest filter entries m (Ok last) → Adds greatest filter m entries last
+all_added greatest filter [] m last e =
+    let same : last ≡ m = same_Ok last m e in
+    ([], refl, ap (λ (x : Merging). x.histogram) same, omega (arith, ap (λ (x : Merging). x.chosen) same))
+all_added greatest filter (Ok (Start time) ∷ entries) m last e =
+    all_added greatest filter entries m last (stepped greatest filter m m last entries e.0 e.1 e.2)
+all_added greatest filter (Ok (Base time) ∷ entries) m last e =
+    all_added greatest filter entries (with_base m time) last (stepped greatest filter m (with_base m time) last entries e.0 e.1 e.2)
+all_added greatest filter (Ok (Span interval) ∷ entries) m last e =
+    interval_added greatest filter m last entries interval (is_chosen filter interval.tag (m.base + interval.start)) e.0 e.1 e.2
+    (λ next on. all_added greatest filter entries next last on)
+all_added greatest filter (Err at ∷ entries) m last e = failed greatest filter last entries e.0 _ e.1 e.2
+
+-- ---- one histogram is held in an interval
+
+same_read : (p q : Contents × List ℕ) → (λ (r : Result (Contents × List ℕ) Fault). r) (Ok p) ≡ Ok q → p ≡ q
+same_read p q e = cc
+
+same_contents : (c d : Contents) (x y : List ℕ) → (λ (r : Result (Contents × List ℕ) Fault). r) (Ok (c, x)) ≡ Ok (d, y) → c ≡ d
+same_contents c d x y e = ap (λ (p : Contents × List ℕ). p.0) (same_read (c, x) (d, y) e)
+
+same_bytes : (x y : List ℕ) → (λ (o : Option (List ℕ)). o) (Some x) ≡ Some y → x ≡ y
+same_bytes x y e = cc
+
+rebuilt : (h : Plain) → h ≡ record { low = h.low; high = h.high; sigfig = h.sigfig; auto_resize = h.auto_resize; counts = h.counts; total = h.total; top_mark = h.top_mark; lower_mark = h.lower_mark }
+rebuilt h = refl
+
+-- the same bytes are read as one histogram
+read_once : (greatest : ℕ) (text : List ℕ) (h k : Plain) (m n : ℕ) → IsReadAs greatest text h m → IsReadAs greatest text k n → h ≡ k
+read_once greatest text h k m n p q =
+    let c : p.contents ≡ q.contents = same_contents _ _ _ _ (sym p.read ∙ q.read) in
+    let told : told_of h ≡ told_of k = p.histogram.told ∙ c ∙ sym q.histogram.told in
+    let low : h.low ≡ k.low = ap (λ (x : Contents). x.low) told in
+    let high : h.high ≡ k.high = ap (λ (x : Contents). x.high) told in
+    let sigfig : h.sigfig ≡ k.sigfig = ap (λ (x : Contents). x.sigfig) told in
+    let counts : h.counts ≡ k.counts = ap (λ (x : Contents). x.counts) told in
+    let fixed : h.auto_resize ≡ k.auto_resize = p.histogram.fixed ∙ sym q.histogram.fixed in
+    let total : h.total ≡ k.total = p.histogram.restated.total ∙ ap (λ l. min (sum l) 18446744073709551615) counts ∙ sym q.histogram.restated.total in
+    let top : h.top_mark ≡ k.top_mark = top-unique k.counts h.top_mark k.top_mark (subst (λ l. IsTopMark l h.top_mark) counts p.histogram.restated.top_mark) q.histogram.restated.top_mark in
+    let lower : h.lower_mark ≡ k.lower_mark = lower-unique k.counts h.lower_mark k.lower_mark (subst (λ l. IsLowerMark l h.lower_mark) counts p.histogram.restated.lower_mark) q.histogram.restated.lower_mark in
+    rw (rebuilt h, low, high, sigfig, fixed, counts, total, top, lower) refl
+
+held_once : (interval : Interval) (h k : Plain) → IsHeldIn interval h → IsHeldIn interval k → h ≡ k
+held_once interval h k p q =
+    let bytes : p.0 ≡ q.0 = same_bytes p.0 q.0 (sym p.1 ∙ q.1) in
+    read_once 18446744073709551615 q.0 h k p.2 q.2 (subst (λ t. IsReadAs 18446744073709551615 t h p.2) bytes p.3) q.3
+
+first_once : (b : Bool) (interval : Interval) (Rest : List Plain → Type 0) (hs ks : List Plain) → ((xs ys : List Plain) → Rest xs → Rest ys → xs ≡ ys)
+    → ChosenFirst b interval Rest hs → ChosenFirst b interval Rest ks → hs ≡ ks
+first_once true interval Rest hs ks once p q =
+    p.2 ∙ ap (λ h. h ∷ p.1) (held_once interval p.0 q.0 p.3 q.3) ∙ ap (λ l. q.0 ∷ l) (once p.1 q.1 p.4 q.4) ∙ sym q.2
+first_once false interval Rest hs ks once p q = once hs ks p q
+
+pub chosen_once : (filter : Filter) (base : ℕ) (entries : List (Result Entry ℕ)) (hs ks : List Plain) → AreChosen filter base entries hs → AreChosen filter base entries ks → hs ≡ ks
+chosen_once filter base [] hs ks p q = p ∙ sym q
+chosen_once filter base (Ok (Start time) ∷ entries) hs ks p q = chosen_once filter base entries hs ks p q
+chosen_once filter base (Ok (Base time) ∷ entries) hs ks p q = chosen_once filter time entries hs ks p q
+chosen_once filter base (Ok (Span interval) ∷ entries) hs ks p q =
+    first_once (is_chosen filter interval.tag (base + interval.start)) interval (AreChosen filter base entries) hs ks (λ xs ys r s. chosen_once filter base entries xs ys r s) p q
+chosen_once filter base (Err at ∷ entries) hs ks p q = absurd p
+
+pub empty_grain : (n : ℕ) → grain (empty_plain 1 2 n true) ≡ grain_of 1 n
+unfolding empty_plain
+empty_grain n = refl
