@@ -21,7 +21,7 @@ stands_nothing : (task : Option Task) (input : List ℕ) → TaskStands task inp
 stands_nothing None input = refl
 stands_nothing (Some (Report sigfig quantiles)) input = refl
 stands_nothing (Some (Log sigfig)) input = begins_nothing LogLineDone (empty_plain 1 2 sigfig true) (enumerate_from 1 (parts 10 input))
-stands_nothing (Some (Merge sigfig quantiles)) input = refl
+stands_nothing (Some (Merge options sigfig quantiles)) input = refl
 
 task_refused : (task : Option Task) (input : List ℕ) (f : Fault) (o : Option (List ℕ)) → RefusesWords task f → Answers (TaskDone task input) (TaskStands task input) (TaskWrites task input) o o (Err f)
 task_refused None input f o h = rw h ([], (refl, refl), appends_nothing o)

@@ -10,7 +10,7 @@ use Rattle.hdr_core.specs.declared.call.Call.{Call}
 use Rattle.hdr_core.specs.declared.call.Call.TheVariants.{Reset}
 use Rattle.hdr_tool.specs.Lines.{LogCommand, Make, End, log_command_of}
 use Rattle.hdr_tool.proofs.LineCalls.{IsLineCommand, command_fine}
-use Rattle.hdr_tool.specs.LogMerges.{at_command, ends_of, AfterCommand, EndsWith, AreEnds}
+use Rattle.hdr_tool.specs.LogMerges.{EndOf, at_command, ends_of, AfterCommand, EndsWith, AreEnds}
 
 -- what a call makes of a histogram, by the library's law
 pub record CallsStand : Type 0 where
@@ -22,10 +22,10 @@ pub record CallsStand : Type 0 where
 nothing_fits : (g : Grain) → Fits (2 ^ 64 - 1) g []
 nothing_fits g = record { in_all = lit< tt; in_classes = λ i. lit≤ tt }
 
-command_ends : (c : Option LogCommand) (h : Plain) (s : State) (lines : List (ℕ × List ℕ)) (Ls : List (List ℕ)) → CallsStand → IsPlain (2 ^ 64 - 1) h → StandsAt h s → IfSome c IsLineCommand → AfterCommand (grain h) s c (λ t rest. EndsWith (grain h) t lines rest) Ls
-    → ((g : Plain) (t : State) (rest : List (List ℕ)) → IsPlain (2 ^ 64 - 1) g → StandsAt g t → EndsWith (grain g) t lines rest → AreEnds (grain g) (ends_of g lines) rest)
+command_ends : (c : Option LogCommand) (h : Plain) (s : State) (lines : List (ℕ × List ℕ)) (Ls : List (EndOf (List ℕ))) → CallsStand → IsPlain (2 ^ 64 - 1) h → StandsAt h s → IfSome c IsLineCommand → AfterCommand (grain h) s c (λ t rest. EndsWith (grain h) t lines rest) Ls
+    → ((g : Plain) (t : State) (rest : List (EndOf (List ℕ))) → IsPlain (2 ^ 64 - 1) g → StandsAt g t → EndsWith (grain g) t lines rest → AreEnds (grain g) (ends_of g lines) rest)
     → AreEnds (grain h) (at_command h c (λ g. ends_of g lines)) Ls
-command_ends None h s lines Ls calls p st fine a behind = let A : List (List ℕ) → Type 0 = λ x. AreEnds (grain h) [] x in subst A (sym a) tt
+command_ends None h s lines Ls calls p st fine a behind = let A : List (EndOf (List ℕ)) → Type 0 = λ x. AreEnds (grain h) [] x in subst A (sym a) tt
 command_ends (Some (Make call)) h s lines Ls calls p st fine a behind =
     let next = after_call (2 ^ 64 - 1) (λ (n : ℕ). n) call h in
     let same : grain next ≡ grain h = calls.classes (2 ^ 64 - 1) h call fine in
@@ -37,12 +37,12 @@ command_ends (Some (End start duration tag)) h s lines Ls calls p st fine a behi
     let same : grain (restarted h) ≡ grain h = calls.classes (2 ^ 64 - 1) h Reset tt in
     let W : Grain → Type 0 = λ g. EndsWith g t lines a.0 in
     let E : Grain → Type 0 = λ g. AreEnds g (ends_of (restarted h) lines) a.0 in
-    let A : List (List ℕ) → Type 0 = λ x. AreEnds (grain h) (h ∷ ends_of (restarted h) lines) x in
+    let A : List (EndOf (List ℕ)) → Type 0 = λ x. AreEnds (grain h) (record { holds = h; tag = tag; start = start } ∷ ends_of (restarted h) lines) x in
     let rest = behind (restarted h) t a.0 (calls.plain (2 ^ 64 - 1) h Reset tt p) (calls.samples (2 ^ 64 - 1) h Reset s t tt p st (refl, refl) (nothing_fits (grain h))) (subst W (sym same) a.2) in
-    subst A (sym a.1) (record { plain = p; stands = st.0; classes = refl }, subst E same rest)
+    subst A (sym a.1) (record { plain = p; stands = st.0; classes = refl; tag = refl; start = refl }, subst E same rest)
 
-pub ends_stand : CallsStand → (h : Plain) (s : State) (lines : List (ℕ × List ℕ)) (Ls : List (List ℕ)) → IsPlain (2 ^ 64 - 1) h → StandsAt h s → EndsWith (grain h) s lines Ls
+pub ends_stand : CallsStand → (h : Plain) (s : State) (lines : List (ℕ × List ℕ)) (Ls : List (EndOf (List ℕ))) → IsPlain (2 ^ 64 - 1) h → StandsAt h s → EndsWith (grain h) s lines Ls
     → AreEnds (grain h) (ends_of h lines) Ls
-ends_stand calls h s [] Ls p st w = let A : List (List ℕ) → Type 0 = λ x. AreEnds (grain h) [] x in subst A (sym w) tt
+ends_stand calls h s [] Ls p st w = let A : List (EndOf (List ℕ)) → Type 0 = λ x. AreEnds (grain h) [] x in subst A (sym w) tt
 ends_stand calls h s ((k, []) ∷ lines) Ls p st w = ends_stand calls h s lines Ls p st w
 ends_stand calls h s ((k, b ∷ line) ∷ lines) Ls p st w = command_ends (log_command_of (b ∷ line)) h s lines Ls calls p st (command_fine (b ∷ line)) w (λ g t rest q u v. ends_stand calls g t lines rest q u v)

@@ -6,7 +6,7 @@ pub mod Answering
 pub mod Running
 pub mod Logging
 pub mod LogThenMerges
-pub mod Joined
 pub mod Ended
 pub mod LineCalls
 pub mod WholeWay
+pub mod Refused

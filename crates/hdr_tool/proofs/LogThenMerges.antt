@@ -1,30 +1,34 @@
 -- A log that was written is merged.
-use Rattle.std.proofs.Common.{◌≡◌, ℕ, ◌+◌, ◌-◌, ◌*◌, ◌^◌, ◌<◌, true, List, length, slice_index, [], ◌∷◌, ◌++◌, Option, Some, None, Result, Ok, Err, map, refl, sym, ap, ◌∙◌, subst}
+use Rattle.std.proofs.Common.{◌≡◌, ℕ, ◌+◌, ◌-◌, ◌*◌, ◌^◌, ◌<◌, Bool, true, false, cond, arith, List, length, slice_index, [], ◌∷◌, ◌++◌, Option, Some, None, Result, Ok, Err, map, refl, sym, ap, ◌∙◌, subst}
 use Rattle.std.specs.List.{AllByRecursion, enumerate_from, flat_map}
 use Rattle.hdr_base.specs.Fractions.{Ratio}
 use Rattle.hdr_core.specs.Plain.{Plain, IsPlain, empty_plain, max_of}
-use Rattle.hdr_core.specs.Merging.{merged}
-use Rattle.hdr_log.specs.Grammar.{Entry, Span, reading}
-use Rattle.hdr_log.specs.Texts.{thousandths, to_thousandths, max_thousandths, base64_of}
+use Rattle.hdr_core.specs.Joined.{merged_each}
+use Rattle.hdr_log.specs.Grammar.{Entry, Span, Interval, reading}
+use Rattle.hdr_log.specs.Texts.{thousandths, to_thousandths, max_thousandths, base64_of, base64_bytes}
 use Rattle.hdr_log.specs.Pieces.{Piece, IsPiece, piece_text, text_of, said_by, is_read}
 use Rattle.hdr_log.proofs.Whole.{pieces_read}
 use Rattle.hdr_log.proofs.Base64Fields.{base64_decoded}
 use Rattle.hdrhistogram.specs.V2.{IsV2}
 use Rattle.hdrhistogram.specs.LogLeaving.{measured, IsIntervalText}
 use Rattle.hdrhistogram.specs.V2Read.{told_of, v2_at, IsReadAs, IsReadBack, ReadsV2}
+use Rattle.hdrhistogram.specs.Chosen.{Filter, is_chosen}
+use Rattle.hdrhistogram.specs.LogMerging.{Merging, new_merging, past_interval, with_interval, BytesMerge, FieldMerges, IntervalMerges, MergesOn, EntriesMerge}
 use Rattle.hdrhistogram.specs.Faults as reading
 use Rattle.hdrhistogram.specs.declared.serialization.errors.DeserializeError.{DeserializeError}
+use Rattle.hdrhistogram.specs.declared.serialization.interval_log.merge.MergeError.{MergeError}
 use Rattle.hdr_tool.specs.declared.fault.Fault.{Fault}
 use Rattle.hdr_log.specs.Parts.{parts}
 use Rattle.hdr_tool.specs.Lines.{LogCommand, Make, End, log_command_of}
-use Rattle.hdr_tool.specs.Words.{Task, Merge}
-use Rattle.hdr_tool.specs.Outcomes.{Outcome, Runs, GoesOn, after}
+use Rattle.hdr_tool.specs.Words.{Task}
+use Rattle.hdr_tool.specs.Outcomes.{Outcome, Runs, GoesOn}
 use Rattle.hdr_tool.specs.Report.{IsReport}
-use Rattle.hdr_tool.specs.Program.{LogCommandDone, LogLineDone, LogDone, fault_in, Merged, FieldDone, AddedDone, EntryDone, new_merged, Reported, merged_histogram, TaskDone, Program}
+use Rattle.hdr_tool.specs.Options.{greatest_into, filter_of}
+use Rattle.hdr_tool.specs.Program.{LogCommandDone, LogLineDone, LogDone, fault_in, Reported, merged_histogram, MergeReported, TaskDone, Program}
 use Rattle.hdr_tool.proofs.Sinks.{append_nothing}
-use Rattle.hdr_tool.specs.LogMerges.{at_command, ends_of, AreReadBack, merged_each, LogThenMerge}
+use Rattle.hdr_tool.specs.LogMerges.{EndOf, chosen_of, at_command, ends_of, AreReadBack, LogThenMerge}
 
--- an interval of a log, with the histogram that it was written from
+-- an interval of a log, with the histogram that it was written from; its times are in milliseconds
 record Logged : Type 0 where
   histogram : Plain
   bytes : List ℕ
@@ -32,38 +36,42 @@ record Logged : Type 0 where
   start : ℕ
   duration : ℕ
 
+abbrev end_of : Logged → EndOf Plain
+end_of i = record { holds = i.histogram; tag = i.tag; start = i.start }
+
 abbrev piece_of : Logged → Piece
-piece_of i = measured i.histogram i.tag i.start i.duration 1 i.bytes
+piece_of i = measured i.histogram i.tag (i.start * 1_000_000) (i.duration * 1_000_000) 1 i.bytes
 
 record IsLogged (i : Logged) : Type 0 where
   bytes : IsV2 i.histogram i.bytes
   piece : IsPiece (piece_of i)
 
 -- a text is that of intervals of these histograms
-record Logs (hs : List Plain) (text : List ℕ) : Type 0 where
+record Logs (es : List (EndOf Plain)) (text : List ℕ) : Type 0 where
   intervals : List Logged
   each : AllByRecursion IsLogged intervals
   text_is : text ≡ text_of (map piece_of intervals)
-  histograms : map (λ (i : Logged). i.histogram) intervals ≡ hs
+  ends : map end_of intervals ≡ es
 
-one_more : (h : Plain) (tag : Option (List ℕ)) (start duration : ℕ) (hs : List Plain) (line text : List ℕ) → IsIntervalText IsV2 h tag start duration 1 line → Logs hs text → Logs (h ∷ hs) (line ++ text)
-one_more h tag start duration hs line text i l =
+one_more : (h : Plain) (tag : Option (List ℕ)) (start duration : ℕ) (es : List (EndOf Plain)) (line text : List ℕ) → IsIntervalText IsV2 h tag (start * 1_000_000) (duration * 1_000_000) 1 line → Logs es text
+    → Logs (record { holds = h; tag = tag; start = start } ∷ es) (line ++ text)
+one_more h tag start duration es line text i l =
     let first : Logged = record { histogram = h; bytes = i.0; tag = tag; start = start; duration = duration } in
     record {
       intervals = first ∷ l.intervals;
       each = (record { bytes = i.1; piece = i.2 }, l.each);
       text_is = ap (λ t. t ++ text) i.3 ∙ ap (λ t. piece_text (piece_of first) ++ t) l.text_is;
-      histograms = ap (λ gs. h ∷ gs) l.histograms;
+      ends = ap (λ xs. end_of first ∷ xs) l.ends;
     }
 
-command_logs : (k : ℕ) (h : Plain) (c : Option LogCommand) (step : List ℕ × Plain) (behind : Plain → List Plain) (text : List ℕ) → LogCommandDone k h c (Ok step) → Logs (behind step.1) text → Logs (at_command h c behind) (step.0 ++ text)
+command_logs : (k : ℕ) (h : Plain) (c : Option LogCommand) (step : List ℕ × Plain) (behind : Plain → List (EndOf Plain)) (text : List ℕ) → LogCommandDone k h c (Ok step) → Logs (behind step.1) text → Logs (at_command h c behind) (step.0 ++ text)
 command_logs k h None step behind text d l = absurd (let e = d in cc)
 command_logs k h (Some (Make call)) step behind text d l =
     let S : List ℕ × Plain → Type 0 = λ s. Logs (behind s.1) text → Logs (at_command h (Some (Make call)) behind) (s.0 ++ text) in
     subst S (sym d) (λ m. m) l
 command_logs k h (Some (End start duration tag)) step behind text d l =
     let S : Plain → Type 0 = λ g. Logs (behind g) text in
-    one_more h tag (start * 1_000_000) (duration * 1_000_000) _ step.0 text d.0 (subst S d.1 l)
+    one_more h tag start duration _ step.0 text d.0 (subst S d.1 l)
 
 same_Ok : {A E : Type 0} (x y : A) → (λ (r : Result A E). r) (Ok x) ≡ Ok y → x ≡ y
 same_Ok x y e = cc
@@ -85,12 +93,15 @@ step_log x lines h last out (Ok step) s g e behind =
 
 -- what is written without a fault is a log
 lines_log : (lines : List (ℕ × List ℕ)) (h last : Plain) (out : Outcome Plain) → Runs LogLineDone h lines out → out.ended ≡ Ok last → Logs (ends_of h lines) out.written
-lines_log [] h last out r e = record { intervals = []; each = tt; text_is = ap (λ (o : Outcome Plain). o.written) r; histograms = refl }
+lines_log [] h last out r e = record { intervals = []; each = tt; text_is = ap (λ (o : Outcome Plain). o.written) r; ends = refl }
 lines_log (x ∷ lines) h last out r e = step_log x lines h last out r.0 r.1 r.2 e (λ b o q f. lines_log lines b last o q f)
 
 -- what is read of an interval
+abbrev interval_of : Logged → Interval
+interval_of i = record { tag = i.tag; start = to_thousandths (i.start * 1_000_000) * 1_000_000; duration = to_thousandths (i.duration * 1_000_000) * 1_000_000; max = thousandths (max_thousandths (max_of i.histogram) 1); field = base64_of i.bytes }
+
 abbrev span_of : Logged → Entry
-span_of i = Span (record { tag = i.tag; start = to_thousandths i.start * 1_000_000; duration = to_thousandths i.duration * 1_000_000; max = thousandths (max_thousandths (max_of i.histogram) 1); field = base64_of i.bytes })
+span_of i = Span (interval_of i)
 
 spans : (is : List Logged) → flat_map said_by (map piece_of is) ≡ map span_of is
 spans [] = refl
@@ -122,52 +133,71 @@ read_again h text (Ok (k, n)) back p v r =
 read_again h text (Err e) back p v r =
     absurd (not_refused (told_of h, []) r.0 (v2_at (2 ^ 64 - 1) text) (ap (v2_at (2 ^ 64 - 1)) (sym (append_nothing text)) ∙ back.contents (2 ^ 64 - 1) h text [] p v) r.2)
 
--- an interval is read back and added
-field_added : (i : Logged) (m : Merged) (r : Result (List ℕ × Merged) Fault) → ReadsBack → IsPlain (2 ^ 64 - 1) i.histogram → IsV2 i.histogram i.bytes → EntryDone m (is_read (span_of i)) r
-    → (k : Plain) × IsReadBack i.histogram k × (r ≡ Ok ([], record { histogram = merged (2 ^ 64 - 1) m.histogram k; intervals = m.intervals + 1 }))
-field_added i m r back p v d =
-    let F : Option (List ℕ) → Type 0 = λ o. FieldDone m o r in
-    let f : FieldDone m (Some i.bytes) r = subst F (base64_decoded i.bytes (back.bytes i.histogram i.bytes v)) d in
+-- a chosen interval is read back and added
+field_added : (greatest : ℕ) (i : Logged) (m : Merging) (r : Result Merging MergeError) → ReadsBack → IsPlain (2 ^ 64 - 1) i.histogram → IsV2 i.histogram i.bytes → FieldMerges greatest m (base64_bytes (interval_of i).field) r
+    → (k : Plain) × IsReadBack i.histogram k × (r ≡ Ok (with_interval greatest m k))
+field_added greatest i m r back p v d =
+    let F : Option (List ℕ) → Type 0 = λ o. FieldMerges greatest m o r in
+    let f : FieldMerges greatest m (Some i.bytes) r = subst F (base64_decoded i.bytes (back.bytes i.histogram i.bytes v)) d in
     let b = read_again i.histogram i.bytes f.0 back p v f.1 in
-    let A : Result (Plain × ℕ) DeserializeError → Type 0 = λ x. AddedDone m x r in
+    let A : Result (Plain × ℕ) DeserializeError → Type 0 = λ x. BytesMerge greatest m x r in
     (b.0, b.3, subst A b.2 f.2)
 
+-- the merge ends well, and what was added is what these histograms were read as
+abbrev Added : ℕ → Merging → List Plain → Result Merging MergeError → Type 0
+Added greatest m hs r = (ks : List Plain) × AreReadBack hs ks × ((last : Merging) × (r ≡ Ok last) × (last.histogram ≡ merged_each greatest m.histogram ks))
+
+-- an interval, chosen or not
+interval_merges : (greatest : ℕ) (filter : Filter) (i : Logged) (m : Merging) (entries : List (Result Entry ℕ)) (b : Bool) (hs : List Plain) (step r : Result Merging MergeError)
+    → ReadsBack → IsPlain (2 ^ 64 - 1) i.histogram → IsV2 i.histogram i.bytes → m.base ≡ 0 → IntervalMerges greatest m b (interval_of i) step → MergesOn (EntriesMerge greatest filter entries) step r
+    → ((n : Merging) → n.base ≡ 0 → EntriesMerge greatest filter entries n r → Added greatest n hs r) → Added greatest m (cond b (i.histogram ∷ hs) hs) r
+interval_merges greatest filter i m entries true hs step r back p v base d on rest =
+    let f = field_added greatest i m step back p v d in
+    let O : Result Merging MergeError → Type 0 = λ x. MergesOn (EntriesMerge greatest filter entries) x r in
+    let a = rest (with_interval greatest m f.0) base (subst O f.2 on) in
+    (f.0 ∷ a.0, (f.1, a.1), a.2)
+interval_merges greatest filter i m entries false hs step r back p v base d on rest =
+    let O : Result Merging MergeError → Type 0 = λ x. MergesOn (EntriesMerge greatest filter entries) x r in
+    rest (past_interval m) base (subst O d on)
+
+-- a start in milliseconds is read as it was written
+begins_at : (base ms : ℕ) → base ≡ 0 → base + to_thousandths (ms * 1_000_000) * 1_000_000 ≡ ms * 1_000_000
+begins_at base ms e = omega (arith, e)
+
 -- a merge of intervals
-merges : (is : List Logged) (m : Merged) (out : Outcome Merged) → ReadsBack → AllByRecursion IsLogged is → AllByRecursion (IsPlain (2 ^ 64 - 1)) (map (λ (i : Logged). i.histogram) is) → Runs EntryDone m (map is_read (map span_of is)) out
-    → (ks : List Plain) × AreReadBack (map (λ (i : Logged). i.histogram) is) ks × ((last : Merged) × (out ≡ record { written = []; ended = Ok last }) × (last.histogram ≡ merged_each m.histogram ks))
-merges [] m out back h p r = ([], tt, (m, r, refl))
-merges (i ∷ is) m out back h p r =
-    let f = field_added i m r.0 back p.0 h.0.bytes r.1 in
-    let next : Merged = record { histogram = merged (2 ^ 64 - 1) m.histogram f.0; intervals = m.intervals + 1 } in
-    let G : Result (List ℕ × Merged) Fault → Type 0 = λ x. GoesOn (λ b. Runs EntryDone b (map is_read (map span_of is))) x out in
-    let g : GoesOn (λ b. Runs EntryDone b (map is_read (map span_of is))) (Ok ([], next)) out = subst G f.2 r.2 in
-    let rest = merges is next g.0 back h.1 p.1 g.1 in
-    (f.0 ∷ rest.0, (f.1, rest.1), (rest.2.0, g.2 ∙ ap (after []) rest.2.1, rest.2.2))
+merges : (greatest : ℕ) (filter : Filter) (is : List Logged) (m : Merging) (r : Result Merging MergeError) → ReadsBack → AllByRecursion IsLogged is → AllByRecursion (λ (e : EndOf Plain). IsPlain (2 ^ 64 - 1) e.holds) (map end_of is) → m.base ≡ 0
+    → EntriesMerge greatest filter (map is_read (map span_of is)) m r → Added greatest m (chosen_of filter (map end_of is)) r
+merges greatest filter [] m r back h p base e = ([], tt, (m, e, refl))
+merges greatest filter (i ∷ is) m r back h p base e =
+    let I : Bool → Type 0 = λ b. IntervalMerges greatest m b (interval_of i) e.0 in
+    interval_merges greatest filter i m (map is_read (map span_of is)) (is_chosen filter i.tag (i.start * 1_000_000)) (chosen_of filter (map end_of is)) e.0 r back p.0 h.0.bytes base
+    (subst I (ap (is_chosen filter i.tag) (begins_at m.base i.start base)) e.1) e.2
+    (λ n b f. merges greatest filter is n r back h.1 p.1 b f)
 
 no_fault : (ended : Result Plain Fault) → None ≡ fault_in ended → (last : Plain) × (ended ≡ Ok last)
 no_fault (Ok h) e = (h, refl)
 no_fault (Err f) e = absurd (let g = e in cc)
 
 -- the parts joined
-merged_log : (h : Plain) (lines : List (ℕ × List ℕ)) (fewer : ℕ) (quantiles : List Ratio) (written text : List ℕ) (fault : Option Fault) → ReadsBack → AllByRecursion (IsPlain (2 ^ 64 - 1)) (ends_of h lines)
-    → LogDone h lines written None → TaskDone (Some (Merge fewer quantiles)) written text fault
-    → (fault ≡ None) × ((ks : List Plain) × AreReadBack (ends_of h lines) ks × IsReport (merged_each (empty_plain 1 2 fewer true) ks) quantiles text)
-merged_log h lines fewer quantiles written text fault back plain d t =
+merged_log : (h : Plain) (lines : List (ℕ × List ℕ)) (fewer greatest : ℕ) (filter : Filter) (quantiles : List Ratio) (written text : List ℕ) (fault : Option Fault) → ReadsBack → AllByRecursion (λ (e : EndOf Plain). IsPlain (2 ^ 64 - 1) e.holds) (ends_of h lines)
+    → LogDone h lines written None → MergeReported greatest filter fewer quantiles written text fault
+    → (fault ≡ None) × ((ks : List Plain) × AreReadBack (chosen_of filter (ends_of h lines)) ks × IsReport (merged_each greatest (empty_plain 1 2 fewer true) ks) quantiles text)
+merged_log h lines fewer greatest filter quantiles written text fault back plain d t =
     let ok = no_fault d.0 d.2 in
     let l = lines_log lines h ok.0 (record { written = written; ended = d.0 }) d.1 ok.1 in
-    let P : List Plain → Type 0 = λ hs. AllByRecursion (IsPlain (2 ^ 64 - 1)) hs in
-    let R : List (Result Entry ℕ) → Type 0 = λ xs. Runs EntryDone (new_merged fewer) xs (record { written = []; ended = t.0 }) in
+    let P : List (EndOf Plain) → Type 0 = λ es. AllByRecursion (λ (e : EndOf Plain). IsPlain (2 ^ 64 - 1) e.holds) es in
+    let R : List (Result Entry ℕ) → Type 0 = λ xs. EntriesMerge greatest filter xs (new_merging fewer) t.0 in
     let read : reading written ≡ map is_read (map span_of l.intervals) = ap reading l.text_is ∙ log_read l.intervals l.each in
-    let m = merges l.intervals (new_merged fewer) (record { written = []; ended = t.0 }) back l.each (subst P (sym l.histograms) plain) (subst R read t.1) in
-    let E : Result Merged Fault → Type 0 = λ e. Reported quantiles (merged_histogram e) text fault in
-    let reported = subst E (ap (λ (o : Outcome Merged). o.ended) m.2.1) t.2 in
-    let B : List Plain → Type 0 = λ hs. AreReadBack hs m.0 in
+    let m = merges greatest filter l.intervals (new_merging fewer) t.0 back l.each (subst P (sym l.ends) plain) refl (subst R read t.1) in
+    let E : Result Merging MergeError → Type 0 = λ e. Reported quantiles (merged_histogram e) text fault in
+    let reported = subst E m.2.1 t.2 in
+    let B : List (EndOf Plain) → Type 0 = λ es. AreReadBack (chosen_of filter es) m.0 in
     let I : Plain → Type 0 = λ k. IsReport k quantiles text in
-    (reported.1, (m.0, subst B l.histograms m.1, subst I m.2.2 reported.0))
+    (reported.1, (m.0, subst B l.ends m.1, subst I m.2.2 reported.0))
 
 pub log_then_merge : ReadsBack → LogThenMerge
 unfolding Program
-log_then_merge back log merge sigfig fewer quantiles input written text fault tl tm plain p q =
+log_then_merge back log merge sigfig fewer options quantiles input written text fault tl tm plain p q =
     let L : Option Task → Type 0 = λ task. TaskDone task input written None in
     let M : Option Task → Type 0 = λ task. TaskDone task written text fault in
-    merged_log (empty_plain 1 2 sigfig true) (enumerate_from 1 (parts 10 input)) fewer quantiles written text fault back plain (subst L tl p) (subst M tm q)
+    merged_log (empty_plain 1 2 sigfig true) (enumerate_from 1 (parts 10 input)) fewer (greatest_into options.into) (filter_of options) quantiles written text fault back plain (subst L tl p) (subst M tm q)

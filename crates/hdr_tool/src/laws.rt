@@ -1,11 +1,9 @@
 //! Laws of the definitions: each function's contract is the law. A body that calls other laws takes what they say.
 
-ghost use Rattle.hdr_tool.specs.LogMerges.{EndsStand, LogThenMerge, JoinedStands, LogMergeStands};
+ghost use Rattle.hdr_tool.specs.LogMerges.{EndsStand, LogThenMerge, LogMergeStands};
 
 use hdr_base::laws::finer_classes;
-use hdr_core::laws::{
-    adding_keeps, adding_stands, calls_stand, clearing_stands, new_is_plain, quantile_is_ranked,
-};
+use hdr_core::laws::{calls_stand, clearing_stands, joined_stands, new_is_plain};
 use hdrhistogram::laws::{bytes_read_back, read_back_stands};
 
 /// The histograms of a log's intervals stand for the samples before the ends.
@@ -15,20 +13,11 @@ pub fn ends_stand()
     calls_stand::<u64>();
 }
 
-/// A merge of a written log reports what the log's intervals held.
+/// A merge of a written log reports what the log's chosen intervals held.
 pub fn log_then_merge()
     ensures { LogThenMerge }
 {
     bytes_read_back();
-}
-
-/// Histograms that are added in order stand for their samples joined.
-pub fn joined_stands()
-    ensures { JoinedStands }
-{
-    adding_keeps();
-    adding_stands();
-    quantile_is_ranked();
 }
 
 /// What a log's lines recorded is what a merge of the written log reports.
@@ -39,9 +28,7 @@ pub fn log_merge_stands()
     new_is_plain();
     clearing_stands();
     calls_stand::<u64>();
-    adding_keeps();
-    adding_stands();
-    quantile_is_ranked();
+    joined_stands();
     bytes_read_back();
     read_back_stands();
 }

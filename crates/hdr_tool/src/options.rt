@@ -1,6 +1,6 @@
 //! The options of a merge.
 
-ghost use Rattle.std.specs.Prelude.{◌≡◌, ◌*◌, map, string_bytes};
+ghost use Rattle.std.specs.Prelude.{◌≡◌, ◌∷◌, ◌*◌, ◌<◌, length, map, string_bytes, MatchOption, IfSome};
 ghost use Rattle.std.specs.Option.{option_map};
 ghost use Rattle.std.specs.Duration.{as_nanos};
 ghost use Rattle.hdrhistogram.specs.Chosen.{filter_seen};
@@ -52,24 +52,35 @@ impl<'a> Options<'a> {
 }
 
 /// The options at the front of words, and the words behind them.
-pub(crate) fn options(words: &[String]) -> Option<(Options<'_>, &[String])>
+pub(crate) fn take_options(words: &[String]) -> Option<(Options<'_>, &[String])>
     ensures { option_map (λ p. (options_seen p.0, map string_bytes p.1.now)) result ≡ options_of no_options (map string_bytes words.now) }
 {
-    let mut words = words;
+    let mut left = words;
     let mut options = Options {
         into: None,
         tag: None,
         from: None,
         to: None,
     };
-    while let [name, word, rest @ ..] = words {
+    while let Some((name, word, rest)) = first_two(left) {
         let Some(name) = option_named(name.as_bytes()) else {
             break;
         };
         options = with_option(options, name, word)?;
-        words = rest;
+        left = rest;
     }
-    Some((options, words))
+    Some((options, left))
+}
+
+/// The first two words and those behind them, where there are two.
+fn first_two(words: &[String]) -> Option<(&String, &String, &[String])>
+    ensures words { MatchOption result (length words.now < 2)
+        (λ p. map string_bytes words.now ≡ string_bytes p.0.now ∷ string_bytes p.1.now ∷ map string_bytes p.2.now) }
+    ensures fewer { IfSome result (λ p. length p.2.now < length words.now) }
+{
+    let (first, behind) = words.split_first()?;
+    let (second, behind) = behind.split_first()?;
+    Some((first, second, behind))
 }
 
 /// One option more, with the word behind its name.

@@ -305,6 +305,5 @@ fn a_refused_line(rt: HostRuntime) -> Result<(), Fail> {
 fn law_calls(_rt: HostRuntime) {
     crate::laws::ends_stand();
     crate::laws::log_then_merge();
-    crate::laws::joined_stands();
     crate::laws::log_merge_stands();
 }

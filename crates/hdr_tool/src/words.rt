@@ -9,7 +9,7 @@ ghost use Rattle.hdr_tool.specs.Options.{no_options};
 ghost use Rattle.hdr_tool.specs.Tasks.{task_seen};
 
 use crate::fault::Fault;
-use crate::options::{Options, options};
+use crate::options::{Options, take_options};
 use crate::parts::is_word;
 use hdr_log::parts::{number, split_once};
 use hdrhistogram::Quantile;
@@ -122,7 +122,7 @@ fn merge(alloc: Global, words: &[String]) -> Result<Task<'_>, Fault>
         (λ task. merge_of (map string_bytes words.now) ≡ Some (task_seen task))
         (RefusesWords (merge_of (map string_bytes words.now))) }
 {
-    let Some((options, words)) = options(words) else {
+    let Some((options, words)) = take_options(words) else {
         return Err(Fault::WrongWords);
     };
     match figures(alloc, words) {

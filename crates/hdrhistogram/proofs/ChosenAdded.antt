@@ -3,11 +3,10 @@ use Rattle.std.proofs.Common.{◌≡◌, ◌∙◌, ℕ, ◌+◌, Bool, true, fa
 use Rattle.hdr_base.specs.Classes.{grain_of}
 use Rattle.hdr_core.specs.Plain.{Plain, IsTopMark, IsLowerMark, grain, empty_plain}
 use Rattle.hdr_core.specs.Joined.{merged_each}
-use Rattle.hdr_core.specs.Merging.{merged}
 use Rattle.hdr_log.specs.Grammar.{Entry, Start, Base, Span, Interval}
 use Rattle.hdr_log.specs.Texts.{base64_bytes}
 use Rattle.hdrhistogram.specs.Chosen.{Filter, is_chosen}
-use Rattle.hdrhistogram.specs.LogMerging.{Merging, with_base, past_interval, with_interval, BytesMerge, FieldMerges, IntervalMerges, EntryMerges, MergesOn, EntriesMerge, IsHeldIn, ChosenFirst, AreChosen}
+use Rattle.hdrhistogram.specs.LogMerging.{Merging, with_base, past_interval, with_interval, BytesMerge, FieldMerges, IntervalMerges, MergesOn, EntriesMerge, IsHeldIn, ChosenFirst, AreChosen}
 use Rattle.hdrhistogram.specs.V2Read.{Contents, told_of, IsReadAs, ReadsV2}
 use Rattle.hdrhistogram.specs.Faults.{Fault}
 use Rattle.hdrhistogram.specs.declared.serialization.errors.DeserializeError.{DeserializeError}

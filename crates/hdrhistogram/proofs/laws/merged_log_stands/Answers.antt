@@ -1,5 +1,5 @@
 use Rattle.std.proofs.Common.{◌∙◌, [], true, ap, sym, subst, lit<}
-use Rattle.hdr_base.specs.Classes.{Grain, grain_of}
+use Rattle.hdr_base.specs.Classes.{Grain}
 use Rattle.hdr_core.specs.Plain.{Plain, empty_plain}
 use Rattle.hdr_core.specs.Samples.{StandsFor, Fits}
 use Rattle.hdr_core.specs.Joined.{merged_each, AreParts, joined_list, AnswersRanked}

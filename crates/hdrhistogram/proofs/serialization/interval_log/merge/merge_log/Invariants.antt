@@ -1,5 +1,4 @@
-use Rattle.std.proofs.Common.{◌≡◌, ◌+◌, ◌≤◌, length, Result}
-use Rattle.hdr_log.specs.Grammar.{reading}
+use Rattle.std.proofs.Common.{◌+◌, ◌≤◌, length, Result}
 use Rattle.hdrhistogram.specs.Chosen.{filter_seen}
 use Rattle.hdrhistogram.specs.LogMerging.{Merging, EntriesMerge, Merges}
 use Rattle.hdrhistogram.specs.MergeView.{merging_seen}
