@@ -1,6 +1,8 @@
 //! The logs that `merge` reads.
 
 use crate::fields::{empty_field, field};
+use crate::grammar::entry;
+use crate::model::ONE_SAMPLE;
 use crate::random::Random;
 use crate::records::tag;
 
@@ -63,6 +65,44 @@ pub fn long_log(random: &mut Random) -> Vec<u8> {
     joined(random, lines)
 }
 
+/// A log of a few lines with small histograms, each of them damaged in front of its field, or seldom in it. The lines that
+/// are still right come first, since one that is wrong ends the reading.
+pub fn damaged_log(random: &mut Random) -> Vec<u8> {
+    let lines = (0..1 + random.below(16)).map(|_| damaged_line(random));
+    let (mut lines, mut wrong): (Vec<_>, Vec<_>) = lines.partition(|line| is_right(line));
+    if !random.one_in(6) {
+        lines.extend(wrong.pop());
+    }
+    joined(random, lines)
+}
+
+/// Whether a line, or each of the lines that damage made of it, is one of a log.
+fn is_right(line: &[u8]) -> bool {
+    line.split(|byte| *byte == b'\n').all(|part| entry(part).is_some())
+}
+
+/// A line that was damaged at one to three places.
+fn damaged_line(random: &mut Random) -> Vec<u8> {
+    let is_wrong = random.one_in(12);
+    let (mut line, field): (_, &[u8]) = match random.below(16) {
+        0..=10 => (interval(random, b"", is_wrong), ONE_SAMPLE),
+        11..=13 => (header(random).into_bytes(), b""),
+        14 => (other_line(random), b""),
+        _ => (random.one_of(&WRONG_LINES).to_vec(), ONE_SAMPLE),
+    };
+    let field_too = random.one_in(12);
+    if field_too {
+        line.extend_from_slice(field);
+    }
+    for _ in 0..1 + random.below(3) {
+        random.mutate(&mut line, usize::MAX);
+    }
+    if !field_too {
+        line.extend_from_slice(field);
+    }
+    line
+}
+
 /// The lines of a log with their ends, of which the last is seldom left out.
 fn joined(random: &mut Random, lines: Vec<Vec<u8>>) -> Vec<u8> {
     let mut log = Vec::new();
@@ -96,8 +136,8 @@ fn small_line(random: &mut Random) -> Vec<u8> {
 /// A right line without a histogram.
 fn other_line(random: &mut Random) -> Vec<u8> {
     let mut line = match random.below(8) {
-        0..=2 => comment(random),
-        3 | 4 => header(random).into_bytes(),
+        0 => comment(random),
+        1..=4 => header(random).into_bytes(),
         5 => header(random).replacen(['#', '[', 'S', ':', ' '], "#", 1).into_bytes(),
         6 => LEGEND.into(),
         _ => format!("\"StartTimestamp\"{}", random.number(20)).into_bytes(),
@@ -118,7 +158,7 @@ fn comment(random: &mut Random) -> Vec<u8> {
 
 /// A line that begins as a header, and is one or a comment.
 fn header(random: &mut Random) -> String {
-    let name = random.one_of(&["StartTime", "BaseTime", "StartTime", "BaseTime", "starttime", "MaxValueDivisor"]);
+    let name = random.one_of(&["StartTime", "BaseTime", "BaseTime", "BaseTime", "BaseTime", "starttime", "MaxValueDivisor"]);
     let is_wrong = random.one_in(8);
     let seconds = seconds(random, is_wrong);
     let end = random.one_of(&[" (seconds since epoch)]", " ", "", "]", " \u{e4}", "\t"]);
@@ -133,8 +173,12 @@ fn interval(random: &mut Random, field: &[u8], is_wrong: bool) -> Vec<u8> {
         line.extend_from_slice(b"Tag=");
         line.extend_from_slice(random.one_of(&WRONG_TAGS));
         line.push(b',');
-    } else if random.one_in(3) {
-        let tag = if random.one_in(8) { String::new() } else { tag(random) };
+    } else if random.one_in(2) {
+        let tag = match random.below(8) {
+            0 => String::new(),
+            1..=4 => random.one_of(&["a", "b"]).to_string(),
+            _ => tag(random),
+        };
         line.extend_from_slice(format!("Tag={tag},").as_bytes());
     }
     for part in 1..3 {
@@ -155,9 +199,9 @@ fn seconds(random: &mut Random, is_wrong: bool) -> String {
     if is_wrong {
         return random.one_of(&WRONG_SECONDS).to_string();
     }
-    let whole = match random.below(4) {
-        0 => random.below(3),
-        1 => u64::MAX - random.below(3),
+    let whole = match random.below(8) {
+        0..=3 => random.below(3),
+        4 => u64::MAX - random.below(3),
         _ => random.number(64),
     };
     let sign = if random.one_in(8) { "+" } else { "" };
