@@ -1,6 +1,6 @@
 //! The logs that `merge` reads.
 
-use crate::fields::{empty_field, field};
+use crate::fields::{damage, empty_field, field};
 use crate::grammar::entry;
 use crate::model::ONE_SAMPLE;
 use crate::random::Random;
@@ -19,6 +19,11 @@ const WRONG_TAGS: [&[u8]; 9] = [b" ", b"a b", b"a\r", b"\r", b"a\nb", b"\n", b"\
 const WRONG_SECONDS: [&str; 24] = [
     "", "1", ".5", "1.", "-1.0", "++1.0", "+", "+.5", " 1.0", "1.0 ", "1 .0", "1. 0", "1.0e3", "1e3", "1.0.0", "inf", "nan",
     "18446744073709551616.0", "0x1.0", "1_0.0", "1.+5", "1.-5", "\u{661}.0", "1,0",
+];
+/// Fractions whose sums reach a whole second, or just fail to. Nine digits count.
+const FRACTIONS: [&str; 10] = [
+    "123456789", "876543211", "876543210", "87654321", "8765432109", "12345678899", "999999999", "999999999999", "000000001",
+    "0000000009",
 ];
 const WRONG_MAXES: [&str; 24] = [
     "", ".", "1e3", "1E3", "1.5e3", "1e", "1e+3", ".5e1", "-1", "+1", "-0.0", "inf", "infinity", "nan", "NaN", "-inf", "1.2.3",
@@ -66,12 +71,15 @@ pub fn long_log(random: &mut Random) -> Vec<u8> {
 }
 
 /// A log of a few lines with small histograms, each of them damaged in front of its field, or seldom in it. The lines that
-/// are still right come first, since one that is wrong ends the reading.
+/// are still right come first, since one that is wrong ends the reading. Many begin with a base time that is not damaged.
 pub fn damaged_log(random: &mut Random) -> Vec<u8> {
     let lines = (0..1 + random.below(16)).map(|_| damaged_line(random));
     let (mut lines, mut wrong): (Vec<_>, Vec<_>) = lines.partition(|line| is_right(line));
-    if !random.one_in(6) {
+    if random.one_in(2) {
         lines.extend(wrong.pop());
+    }
+    if random.one_in(3) {
+        lines.insert(0, format!("#[BaseTime: {}.{} ", random.below(3), random.one_of(&FRACTIONS)).into_bytes());
     }
     joined(random, lines)
 }
@@ -90,15 +98,20 @@ fn damaged_line(random: &mut Random) -> Vec<u8> {
         14 => (other_line(random), b""),
         _ => (random.one_of(&WRONG_LINES).to_vec(), ONE_SAMPLE),
     };
+    let mut field = field.to_vec();
+    if random.one_in(16) {
+        damage(random, &mut field);
+    }
     let field_too = random.one_in(12);
     if field_too {
-        line.extend_from_slice(field);
+        line.append(&mut field);
     }
     for _ in 0..1 + random.below(3) {
         random.mutate(&mut line, usize::MAX);
     }
-    if !field_too {
-        line.extend_from_slice(field);
+    line.append(&mut field);
+    if random.one_in(8) {
+        line.extend((0..=random.below(3)).map(|_| b'\r'));
     }
     line
 }
@@ -205,7 +218,8 @@ fn seconds(random: &mut Random, is_wrong: bool) -> String {
         _ => random.number(64),
     };
     let sign = if random.one_in(8) { "+" } else { "" };
-    format!("{sign}{}.{}", random.spelled(whole), digits(random))
+    let fraction = if random.one_in(4) { random.one_of(&FRACTIONS).to_string() } else { digits(random) };
+    format!("{sign}{}.{fraction}", random.spelled(whole))
 }
 
 /// A greatest value.
