@@ -12,12 +12,12 @@ install: all
 
 check:
 	tools/edits --control
-	rt ci
+	tools/edits --beside rt ci
 	tools/refused.sh
 	tools/refused_main.sh
 	tools/cases.sh
 
-# All edits of crates/*/edits: minutes over kept work, as long as the gate from nothing.
+# The edits alone.
 edits:
 	tools/edits
 
