@@ -12,3 +12,4 @@ pub mod Equality
 pub mod Missing
 pub mod Statistics
 pub mod Iterated
+pub mod Filling

@@ -7,6 +7,7 @@ mod copying;
 mod correction;
 mod equality;
 pub mod errors;
+mod filling;
 pub mod histogram;
 mod iterating;
 pub mod laws;
@@ -21,6 +22,7 @@ pub mod values;
 
 pub use call::{Call, CallError, RunError};
 pub use errors::{AdditionError, CreationError, RecordError, SubtractionError, UsizeTypeTooSmall};
+pub use filling::Filling;
 pub use hdr_base::{Counter, Fraction, IterationValue, Quantile, Ticks};
 pub use hdr_iterators as iterators;
 pub use histogram::Histogram;

@@ -111,7 +111,7 @@ fn take_from<T: Counter>(counts: &mut Counts<T>, target: usize, count: T)
 }
 
 /// The marks of counters.
-fn marks_of<T: Counter>(counts: &Counts<T>) -> Marks
+pub(crate) fn marks_of<T: Counter>(counts: &Counts<T>) -> Marks
     ensures top { IsTopMark counts.now.numbers result.top }
     ensures lower { IsLowerMark counts.now.numbers result.lower }
 {

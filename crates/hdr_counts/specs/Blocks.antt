@@ -1,6 +1,6 @@
 -- A list of numbers in blocks of one length: its sums, the first place where they reach a rank, and the capped sums of
 -- two lists. (No item of the Rust crate: it keeps its counters in one vector and adds them up wherever a sum is asked for.)
-use Rattle.std.specs.Prelude.{◌≡◌, ℕ, ◌+◌, ◌*◌, ◌/◌, ◌%◌, ◌^◌, ◌<◌, ◌≤◌, min, List, ◌∷◌, length, take, sum, slice_index, All, Option, Some, None, IfSome}
+use Rattle.std.specs.Prelude.{◌≡◌, ℕ, Bool, false, ◌+◌, ◌*◌, ◌/◌, ◌%◌, ◌^◌, ◌<◌, ◌≤◌, min, List, ◌∷◌, length, take, sum, slice_index, All, Option, Some, None, IfSome}
 
 -- how long a block is, and the numbers of all blocks in order
 pub record Blocks : Type 0 where
@@ -48,5 +48,15 @@ IsShift block shift = IfSome shift (λ s. (s < 64) × (block ≡ 2 ^ s))
 -- above the greatest counter
 pub record AreHeld (greatest block : ℕ) (numbers sums : List ℕ) (shift : Option ℕ) : Type 0 where
   pub sums_are : AreSums block numbers sums
+  pub shift_is : IsShift block shift
+  pub fit : All (λ n. n ≤ greatest) numbers
+
+-- what is true of counters that are being set: there are as many sums as blocks, and where they are kept at each place
+-- that is set they are those of the blocks
+pub record AreOpen (greatest block : ℕ) (numbers sums : List ℕ) (shift : Option ℕ) (late : Bool) : Type 0 where
+  pub some : 1 ≤ block
+  pub few : length numbers ≤ 6291456
+  pub whole : length numbers ≡ length sums * block
+  pub kept : late ≡ false → AreSums block numbers sums
   pub shift_is : IsShift block shift
   pub fit : All (λ n. n ≤ greatest) numbers

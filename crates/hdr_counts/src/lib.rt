@@ -3,6 +3,7 @@
 
 mod adding;
 mod clearing;
+mod open_counts;
 mod search;
 
 ghost use Rattle.std.specs.Prelude.{◌≡◌, ℕ, ◌+◌, ◌-◌, ◌*◌, ◌/◌, ◌%◌, ◌^◌, ◌<◌, ◌≤◌, length, take, map, sum, replicate, slice_index, slice_set, MatchOption, MatchResult, IfOk, IfSome, [], ◌++◌, All};
@@ -11,6 +12,7 @@ ghost use Rattle.hdr_counts.specs.Blocks.{Blocks, sum_below, IsFirstToReach, loo
 use adding::{add_blocks, sum_of};
 use clearing::clear_blocks;
 use hdr_base::{Counter, Ticks};
+pub use open_counts::OpenCounts;
 pub use search::Search;
 use search::{first_reaching, first_reaching_looked, look};
 use std::alloc::{AllocError, Global};

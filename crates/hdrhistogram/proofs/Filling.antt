@@ -59,14 +59,6 @@ fitted_set zero front n h = absurd (omega arith)
 fitted_set (suc bins) [] n h = refl
 fitted_set (suc bins) (m ∷ front) n h = ap (λ l. m ∷ l) (fitted_set bins front n (omega arith))
 
-pub fitted_behind : (bins : ℕ) (front : List ℕ) (i : ℕ) → length front ≤ i → get_or (fitted bins front) i 0 ≡ 0
-unfolding fitted
-fitted_behind zero front i h = refl
-fitted_behind (suc bins) [] zero h = refl
-fitted_behind (suc bins) [] (suc i) h = fitted_behind bins [] i (omega arith)
-fitted_behind (suc bins) (n ∷ front) zero h = absurd (omega arith)
-fitted_behind (suc bins) (n ∷ front) (suc i) h = fitted_behind bins front i (omega arith)
-
 -- ---- one number
 
 no_second : (a b : Bool) (x y : Fault) (m : Option Fault) → cond a (Some x) (cond b (Some y) m) ≡ None → b ≡ false
@@ -110,9 +102,6 @@ pub record IsFilledTo (bins greatest : ℕ) (payload counts : List ℕ) (at plac
 pub fill_start : (bins greatest : ℕ) (payload counts : List ℕ) → counts ≡ replicate bins 0 → IsFilledTo bins greatest payload counts 0 0
 unfolding counts_in from
 fill_start bins greatest payload counts e = record { front = []; long = refl; now = e ∙ sym (fitted_none bins); whole = refl; within = omega arith }
-
-pub fill_behind : (bins greatest : ℕ) (payload counts : List ℕ) (at place : ℕ) → IsFilledTo bins greatest payload counts at place → (i : ℕ) → place ≤ i → get_or counts i 0 ≡ 0
-fill_behind bins greatest payload counts at place d i h = ap (λ l. get_or l i 0) d.now ∙ fitted_behind bins d.front i (omega (arith, d.long))
 
 pub fill_bins : (bins greatest : ℕ) (payload counts : List ℕ) (at place : ℕ) → IsFilledTo bins greatest payload counts at place → length counts ≡ bins
 fill_bins bins greatest payload counts at place d = ap (length {A = ℕ}) d.now ∙ length_fitted bins d.front

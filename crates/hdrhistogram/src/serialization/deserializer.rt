@@ -9,7 +9,7 @@ ghost use Rattle.hdrhistogram.specs.HeaderView.{header_of};
 
 pub use crate::serialization::errors::DeserializeError;
 use crate::serialization::fields::{Header, ended, header_at, read_header};
-use crate::serialization::filling::fill;
+use crate::serialization::filling::filled;
 use crate::serialization::header::HEADER_LEN;
 use crate::serialization::streams::read_piece;
 pub use crate::serialization::varint::{varint_read, varint_read_slice};
@@ -132,9 +132,9 @@ fn decode<T: Counter>(alloc: Global, text: &[u8]) -> Result<(Histogram<T>, &[u8]
     ensures restated { IfOk result (λ x. IsRestated x.0) }
 {
     let (header, rest) = header_at(text)?;
-    let mut h = empty_for(alloc, header)?;
+    let empty = empty_for(alloc, header)?;
     let (payload, rest) = bytes_at(rest, header.payload_len as usize)?;
-    fill(&mut h, payload)?;
+    let h = filled(empty, payload)?;
     Ok((h, rest))
 }
 
@@ -150,9 +150,9 @@ fn read_v2<T: Counter, R: Read>(
     ensures restated { IfOk result (λ h. IsRestated h) }
 {
     let header = read_header(reader)?;
-    let mut h = empty_for(*buffer.allocator(), header)?;
+    let empty = empty_for(*buffer.allocator(), header)?;
     read_payload(reader, buffer, header.payload_len as usize)?;
-    fill(&mut h, buffer)?;
+    let h = filled(empty, buffer)?;
     Ok(h)
 }
 

@@ -70,14 +70,12 @@ pub(crate) fn varint_at(bytes: &[u8]) -> Option<(u64, usize)>
         return read_long(bytes);
     }
     let first = u64::from(bytes[0]);
-    if first < LAST_BELOW {
-        return Some((first, 1));
-    }
     let second = u64::from(bytes[1]);
-    if second < LAST_BELOW {
-        return Some((first % 128 + 128 * second, 2));
+    let two = first / LAST_BELOW;
+    if two * second >= LAST_BELOW {
+        return read_long(bytes);
     }
-    read_long(bytes)
+    Some((first % 128 + 128 * (two * second), 1 + two as usize))
 }
 
 /// The same for a spelling of any length, byte by byte.
