@@ -26,3 +26,4 @@ pub mod Rising
 pub mod Shares
 pub mod Means
 pub mod Steps
+pub mod Filled

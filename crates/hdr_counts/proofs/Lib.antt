@@ -2,3 +2,4 @@ pub mod BlockSums
 pub mod Places
 pub mod CappedSums
 pub mod OpenSums
+pub mod NonzeroPlaces

@@ -16,6 +16,18 @@ abbrev pub IsFirstToReach : List ℕ → ℕ → ℕ → Type 0
 IsFirstToReach numbers rank i =
     (i < length numbers) × (sum_below numbers i < rank) × (rank ≤ sum_below numbers (i + 1))
 
+-- all numbers are 0
+abbrev pub AreZeros : List ℕ → Type 0
+AreZeros numbers = (i : ℕ) → slice_index numbers i ≡ 0
+
+-- m is the last place of a number above 0
+abbrev pub IsLastNonzero : List ℕ → ℕ → Type 0
+IsLastNonzero numbers m = (0 < slice_index numbers m) × ((i : ℕ) → m < i → slice_index numbers i ≡ 0)
+
+-- m is the first place of a number above 0
+abbrev pub IsFirstNonzero : List ℕ → ℕ → Type 0
+IsFirstNonzero numbers m = (0 < slice_index numbers m) × ((i : ℕ) → i < m → slice_index numbers i ≡ 0)
+
 -- numbers that are searched for ranks that do not fall, and the sum of those that were passed over
 pub record Searched : Type 0 where
   pub numbers : List ℕ

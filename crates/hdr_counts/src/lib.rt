@@ -3,6 +3,7 @@
 
 mod adding;
 mod clearing;
+mod ends;
 mod open_counts;
 mod search;
 
@@ -206,21 +207,6 @@ impl<T: Counter> Counts<T> {
             Some(place) => from + place,
             None => from,
         }
-    }
-
-    /// The last place of a counter above 0.
-    pub fn last_nonzero(&self) -> Option<usize>
-        ensures within { IfSome result (λ m. m < 6291456) }
-        ensures place { MatchOption result ((i : ℕ) → slice_index self.now.numbers i ≡ 0) (λ m. (0 < slice_index self.now.numbers m) × ((i : ℕ) → m < i → slice_index self.now.numbers i ≡ 0)) }
-    {
-        let len = self.counters.len();
-        for passed in 0..len {
-            let i = len - 1 - passed;
-            if self.counters[i].as_u64() > 0 {
-                return Some(i);
-            }
-        }
-        None
     }
 
     /// Adds the counters of a list of the same shape place by place, each sum up to the greatest counter. A block that
