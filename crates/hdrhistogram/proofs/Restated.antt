@@ -1,5 +1,5 @@
 -- An empty histogram whose bins were set.
-use Rattle.std.proofs.Common.{◌≡◌, ℕ, zero, suc, false, None, List, length, get_or, replicate, sum, sym, ap, ◌∙◌, subst}
+use Rattle.std.proofs.Common.{◌≡◌, ℕ, false, List, length, replicate, sym, ap, ◌∙◌, subst}
 use Rattle.std.proofs.lemmas.List.{length-replicate}
 use Rattle.hdr_base.specs.Classes.{bins_to, grain_of}
 use Rattle.hdr_core.specs.Plain.{Plain, empty_plain}
