@@ -1,18 +1,22 @@
 //! Setting bins, with total and marks made once when that is done.
 
-ghost use Rattle.std.specs.Prelude.{◌≡◌, ◌<◌, ◌≤◌, length, slice_set};
+ghost use Rattle.std.specs.Prelude.{◌≡◌, ◌<◌, ◌≤◌, MatchResult, false, length, slice_set};
 ghost use Rattle.hdr_core.specs.Filling.{opened, IsClosed};
+ghost use Rattle.hdr_core.specs.Plain.{empty_plain};
+ghost use Rattle.hdr_core.specs.Refusals.{RefusesBounds, IsBounds};
 
-use crate::histogram::Histogram;
+use crate::errors::CreationError;
+use crate::histogram::{Histogram, scale_for};
 use crate::merging::capped_sum;
 use crate::subtracting::marks_of;
 use hdr_base::{Counter, Scale};
 use hdr_counts::OpenCounts;
+use std::alloc::Global;
 use std::marker::Model;
 
 /// A histogram whose bins are being set, seen as its bounds and the number of each bin.
 ///
-/// A bin that is set costs about one store. Total and marks are made when the histogram is taken out again.
+/// A bin that is set costs about one store. Total and marks are made when the histogram is taken out of it.
 #[derive(Debug, Drop)]
 pub struct Filling<T: Counter> {
     scale: Scale,
@@ -33,33 +37,33 @@ impl<T: Counter> Model for Filling<T> {
     ghost invariant = { λ f. AreBinsFor f.low f.high f.sigfig f.scale f.counts };
 }
 
-impl<T: Counter> Histogram<T> {
-    /// The same bins, to be set. `sets` is about how many will be, and decides the time alone that it takes.
-    pub fn into_filling(self, sets: usize) -> Filling<T>
-        ensures { result ≡ opened self }
-    {
-        let Histogram {
-            scale,
-            low,
-            high,
-            sigfig,
-            auto_resize,
-            counts,
-            total: _,
-            marks: _,
-        } = self;
-        Filling {
-            scale,
-            low,
-            high,
-            sigfig,
-            auto_resize,
-            counts: counts.into_open(sets),
-        }
-    }
-}
-
 impl<T: Counter> Filling<T> {
+    /// Empty bins, as those of `Histogram::new_with_bounds`, which refuses the same bounds. `sets` is about how many bins
+    /// will be set, and decides the time alone that it takes.
+    pub fn new_with_bounds(
+        alloc: Global,
+        low: u64,
+        high: u64,
+        sigfig: u8,
+        sets: usize,
+    ) -> Result<Filling<T>, CreationError>
+        ensures { MatchResult result (λ f. (f ≡ opened (empty_plain low high sigfig false)) × IsBounds low high sigfig) (RefusesBounds low high sigfig) }
+    {
+        let scale = scale_for(low, high, sigfig)?;
+        let blocks = scale.buckets(high) + 1;
+        let Ok(counts) = OpenCounts::new(alloc, blocks, scale.block(), sets) else {
+            return Err(CreationError::OutOfMemory);
+        };
+        Ok(Filling {
+            scale,
+            low,
+            high,
+            sigfig,
+            auto_resize: false,
+            counts,
+        })
+    }
+
     /// How many bins there are.
     #[inline(always)]
     pub fn distinct_values(&self) -> usize

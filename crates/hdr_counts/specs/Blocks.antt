@@ -1,6 +1,6 @@
 -- A list of numbers in blocks of one length: its sums, the first place where they reach a rank, and the capped sums of
 -- two lists. (No item of the Rust crate: it keeps its counters in one vector and adds them up wherever a sum is asked for.)
-use Rattle.std.specs.Prelude.{◌≡◌, ℕ, Bool, false, ◌+◌, ◌*◌, ◌/◌, ◌%◌, ◌^◌, ◌<◌, ◌≤◌, min, List, ◌∷◌, length, take, sum, slice_index, All, Option, Some, None, IfSome}
+use Rattle.std.specs.Prelude.{◌≡◌, ℕ, Bool, false, ◌+◌, ◌-◌, ◌*◌, ◌/◌, ◌%◌, ◌^◌, ◌<◌, ◌≤◌, min, List, ◌∷◌, ◌++◌, length, replicate, take, sum, slice_index, All, Option, Some, None, IfSome}
 
 -- how long a block is, and the numbers of all blocks in order
 pub record Blocks : Type 0 where
@@ -63,12 +63,18 @@ pub record AreHeld (greatest block : ℕ) (numbers sums : List ℕ) (shift : Opt
   pub shift_is : IsShift block shift
   pub fit : All (λ n. n ≤ greatest) numbers
 
--- what is true of counters that are being set: there are as many sums as blocks, and where they are kept at each place
--- that is set they are those of the blocks
-pub record AreOpen (greatest block : ℕ) (numbers sums : List ℕ) (shift : Option ℕ) (late : Bool) : Type 0 where
+-- numbers, and zeros behind them up to a length
+abbrev pub with_zeros : List ℕ → ℕ → List ℕ
+with_zeros numbers len = numbers ++ replicate (len - length numbers) 0
+
+-- what is true of counters that are being set, of which the first are at hand and the others are 0: there is room for all of
+-- them, there are as many sums as blocks, and where sums are kept at each place that is set they are those of the blocks
+pub record AreOpen (greatest block len capacity : ℕ) (numbers sums : List ℕ) (shift : Option ℕ) (late : Bool) : Type 0 where
   pub some : 1 ≤ block
-  pub few : length numbers ≤ 6291456
-  pub whole : length numbers ≡ length sums * block
-  pub kept : late ≡ false → AreSums block numbers sums
+  pub few : len ≤ 6291456
+  pub whole : len ≡ length sums * block
+  pub within : length numbers ≤ len
+  pub room : len ≤ capacity
+  pub kept : late ≡ false → AreSums block (with_zeros numbers len) sums
   pub shift_is : IsShift block shift
   pub fit : All (λ n. n ≤ greatest) numbers

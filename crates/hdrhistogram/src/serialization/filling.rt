@@ -1,20 +1,18 @@
 //! A payload, read into the bins of a histogram.
 
-ghost use Rattle.std.specs.Prelude.{◌≡◌, ◌+◌, ◌<◌, ◌≤◌, IfOk, OnOk, length, replicate, false};
-ghost use Rattle.hdr_core.specs.Plain.{empty_plain};
+ghost use Rattle.std.specs.Prelude.{◌≡◌, ◌+◌, ◌<◌, IfNone, IfOk, IfSome, OnOk, length, replicate, false};
 ghost use Rattle.hdrhistogram.specs.Faults.{Gives, Checks};
-ghost use Rattle.hdrhistogram.specs.PayloadRead.{fault_at, move, with_count, counts_in};
-ghost use Rattle.hdrhistogram.specs.V2Read.{told_of, IsRestated};
+ghost use Rattle.hdrhistogram.specs.PayloadRead.{IsCountPut, fault_at, move, with_count, counts_in};
+ghost use Rattle.hdrhistogram.specs.V2Read.{told_by, told_of, IsRestated};
 
 use crate::serialization::errors::DeserializeError;
 use crate::serialization::fields::ended;
-use crate::serialization::varint::varint_at;
+use crate::serialization::varint::{short_varint_at, varint_at};
 use crate::serialization::zig_zag::zig_zag_decode;
 use hdr_base::Counter;
 use hdr_core::{Filling, Histogram};
 
 /// Puts a number at its place, and gives the place behind it.
-#[inline(always)]
 fn put_number<T: Counter>(
     filling: &mut Filling<T>,
     place: u64,
@@ -44,6 +42,30 @@ fn put_number<T: Counter>(
         .ok_or(DeserializeError::UsizeTypeTooSmall)
 }
 
+/// Puts the count that a byte or two spell at the front, and gives how many they are. `None`, with nothing put, where
+/// they spell another number or the front is spelt by more bytes, and where the count is a fault.
+#[inline(always)]
+fn put_short<T: Counter>(filling: &mut Filling<T>, place: u64, bytes: &[u8]) -> Option<usize>
+    ensures put { IfSome result (IsCountPut T.greatest place bytes.now filling.old.counts filling.new.counts) }
+    ensures few { IfSome result (λ _. place < 6291456) }
+    ensures rest { filling.new ≡ record filling.old { counts = filling.new.counts } }
+    ensures kept { IfNone result (filling.new ≡ filling.old) }
+{
+    let (encoded, len) = short_varint_at(bytes)?;
+    if encoded % 2 != 0 {
+        return None;
+    }
+    if encoded == 0 {
+        return None;
+    }
+    let count = T::from_u64(encoded / 2)?;
+    if place >= filling.distinct_values() as u64 {
+        return None;
+    }
+    filling.set(place as usize, count);
+    Some(len)
+}
+
 /// Reads a payload into bins that are all empty.
 fn fill<T: Counter>(filling: &mut Filling<T>, payload: &[u8]) -> Result<(), DeserializeError>
     requires { filling.old.counts ≡ replicate (length filling.old.counts) 0 }
@@ -54,6 +76,11 @@ fn fill<T: Counter>(filling: &mut Filling<T>, payload: &[u8]) -> Result<(), Dese
     let mut at = 0;
     let mut place = 0;
     while at < payload.len() {
+        if let Some(len) = put_short(filling, place, &payload[at..]) {
+            at += len;
+            place += 1;
+            continue;
+        }
         let Some((encoded, len)) = varint_at(&payload[at..]) else {
             return Err(ended());
         };
@@ -63,19 +90,19 @@ fn fill<T: Counter>(filling: &mut Filling<T>, payload: &[u8]) -> Result<(), Dese
     Ok(())
 }
 
-/// An empty histogram after its bins were read from a payload.
+/// The histogram of bins that are all empty, after they were read from a payload.
 pub(crate) fn filled<T: Counter>(
-    h: Histogram<T>,
+    mut filling: Filling<T>,
     payload: &[u8],
 ) -> Result<Histogram<T>, DeserializeError>
-    requires { h ≡ empty_plain h.low h.high h.sigfig false }
-    ensures counts { Gives (λ k. k.counts) result
-        (counts_in (length h.counts) T.greatest payload.now) }
-    ensures told { IfOk result (λ k. told_of k ≡ record (told_of h) { counts = k.counts }) }
-    ensures fixed { IfOk result (λ k. k.auto_resize ≡ false) }
-    ensures restated { IfOk result (λ k. IsRestated k) }
+    requires empty { filling.counts ≡ replicate (length filling.counts) 0 }
+    requires fixed { filling.auto_resize ≡ false }
+    ensures counts { Gives (λ h. h.counts) result
+        (counts_in (length filling.counts) T.greatest payload.now) }
+    ensures told { IfOk result (λ h. told_of h ≡ record (told_by filling) { counts = h.counts }) }
+    ensures fixed { IfOk result (λ h. h.auto_resize ≡ false) }
+    ensures restated { IfOk result (λ h. IsRestated h) }
 {
-    let mut filling = h.into_filling(payload.len());
     fill(&mut filling, payload)?;
     Ok(filling.into_histogram())
 }
