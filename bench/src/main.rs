@@ -1,8 +1,10 @@
 //! Times the same workloads over the Rust crate hdrhistogram and over this repository's crates, in one process and in turns.
-//! A line for each: `name upstream_ns ours_ns ratio`. The exit status is 1 where a checksum differs.
+//! A line for each: `name upstream_ns ours_ns ratio`. The exit status is 1 where a checksum differs. With the words `bytes
+//! SEED COUNT`, or `bytes` alone and texts on standard input, it compares how V2 texts are read (`bytes.rs`).
 //!
 //! A call of a workload makes its histograms first, so an operation's time is what many operations take above a few.
 
+mod bytes;
 mod ours;
 mod upstream;
 
@@ -86,8 +88,28 @@ fn run((name, n, upstream, ours): Workload) -> bool {
     same
 }
 
+/// The numbers of the words from the second on.
+fn numbers() -> Option<Vec<u64>> {
+    std::env::args().skip(2).map(|word| word.parse().ok()).collect()
+}
+
+/// Compares how V2 texts are read, where the words ask for it.
+fn compared(word: &str) -> Option<bool> {
+    if word != "bytes" {
+        return None;
+    }
+    match numbers()?.as_slice() {
+        [] => Some(bytes::compare_lines()),
+        [seed, count] => Some(bytes::compare(*seed, *count)),
+        _ => None,
+    }
+}
+
 fn main() -> ExitCode {
     let filter = std::env::args().nth(1).unwrap_or_default();
+    if let Some(same) = compared(&filter) {
+        return if same { ExitCode::SUCCESS } else { ExitCode::FAILURE };
+    }
     let mut same = true;
     for workload in WORKLOADS.into_iter().filter(|workload| workload.0.starts_with(&filter)) {
         same &= run(workload);

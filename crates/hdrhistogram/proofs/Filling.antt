@@ -1,6 +1,6 @@
 -- A payload that is read number by number.
-use Rattle.std.proofs.Common.{◌≡◌, ℕ, zero, suc, ◌+◌, ◌/◌, ◌%◌, ◌^◌, ◌<◌, ◌≤◌, ◌≢◌, Bool, true, false, cond, List, [], ◌∷◌, ◌++◌, length, take, drop, set, replicate, refl, sym, ap, eq-eqb, ◌∙◌, arith, append_assoc, append-nil, length-append, length-drop, drop_of_length-le, take-append-drop, ltb, leb, flat_map, ℤ, pos, negsuc, Option, Some, None, Result, Ok, Err, ⊎_elim, ◌&&◌, MatchBool}
-use Rattle.std.proofs.lemmas.Bool.{leb-false, and_cases, lt-leb, lt-ltb, le-ltb, true≢false}
+use Rattle.std.proofs.Common.{◌≡◌, ℕ, zero, suc, ◌+◌, ◌<◌, ◌≤◌, Bool, true, false, cond, List, [], ◌∷◌, ◌++◌, length, take, drop, set, replicate, refl, sym, ap, ◌∙◌, arith, append_assoc, append-nil, length-append, length-drop, drop_of_length-le, take-append-drop, ltb, leb, flat_map, ℤ, pos, negsuc, Option, Some, None, Result, Ok, Err, ⊎_elim, ◌&&◌, MatchBool}
+use Rattle.std.proofs.lemmas.Bool.{leb-false, and_cases, lt-ltb, le-ltb, true≢false}
 use Rattle.std.proofs.lemmas.List.{drop-drop, length-replicate}
 use Rattle.std.specs.List.{AllByRecursion}
 use Rattle.hdrhistogram.specs.Varint.{IsSpelling, spelled, Spells}
