@@ -10,7 +10,8 @@ mod exported {
         pub safe fn hdrb_serialize(seed: u64, n: u64) -> u64;
         pub safe fn hdrb_iter_recorded(seed: u64, n: u64) -> u64;
         pub safe fn hdrb_iter_all(seed: u64, n: u64) -> u64;
-        pub safe fn hdrb_deserialize(seed: u64, n: u64) -> u64;
+        pub safe fn hdrb_decode(seed: u64, n: u64) -> u64;
+        pub safe fn hdrb_decode_few(seed: u64, n: u64) -> u64;
         pub safe fn hdrb_log_line(seed: u64, n: u64) -> u64;
         pub safe fn hdrb_log_read(seed: u64, n: u64) -> u64;
     }
@@ -18,7 +19,8 @@ mod exported {
 
 pub use exported::hdrb_add as add;
 pub use exported::hdrb_correct as correct;
-pub use exported::hdrb_deserialize as deserialize;
+pub use exported::hdrb_decode as decode;
+pub use exported::hdrb_decode_few as decode_few;
 pub use exported::hdrb_generate as generate;
 pub use exported::hdrb_log_line as log_line;
 pub use exported::hdrb_log_read as log_read;

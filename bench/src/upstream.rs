@@ -23,13 +23,22 @@ fn empty() -> Histogram<u64> {
     Histogram::new_with_max(HIGH, 3).expect("lawful bounds")
 }
 
-/// A histogram in which every class up to the highest value holds 1 to 1024.
+/// A histogram in which each class up to the highest value holds 1 to 1024.
 fn filled(seed: u64) -> Histogram<u64> {
+    filled_at_each(seed, 1)
+}
+
+/// A histogram in which the first of each `every` classes up to the highest value holds 1 to 1024.
+fn filled_at_each(seed: u64, every: usize) -> Histogram<u64> {
     let mut histogram = empty();
-    let (mut x, mut value) = (seed, 0);
+    let (mut x, mut value, mut passed) = (seed, 0, 0);
     while value <= HIGH {
-        x = step(x);
-        histogram.record_n(value, (x >> 54) + 1).expect("inside the bins");
+        if passed == 0 {
+            passed = every;
+            x = step(x);
+            histogram.record_n(value, (x >> 54) + 1).expect("inside the bins");
+        }
+        passed -= 1;
         value = histogram.next_non_equivalent(value);
     }
     histogram
@@ -116,8 +125,17 @@ pub fn iter_all(seed: u64, n: u64) -> u64 {
     sum
 }
 
-pub fn deserialize(seed: u64, n: u64) -> u64 {
-    let histogram = filled(seed);
+pub fn decode(seed: u64, n: u64) -> u64 {
+    decode_each(seed, n, 1)
+}
+
+/// The first of each so many classes is filled, 100 of them.
+pub fn decode_few(seed: u64, n: u64) -> u64 {
+    decode_each(seed, n, 233)
+}
+
+fn decode_each(seed: u64, n: u64, every: usize) -> u64 {
+    let histogram = filled_at_each(seed, every);
     let mut bytes = Vec::new();
     let _ = V2Serializer::new().serialize(&histogram, &mut bytes).expect("counts below 2^63");
     let (mut deserializer, mut sum) = (Deserializer::new(), 0u64);

@@ -4,6 +4,8 @@
 
 ghost use Rattle.std.specs.Prelude.{◌<◌, ◌^◌, ◌≤◌};
 
+mod bytes;
+
 use hdrhistogram::serialization::interval_log::{IntervalLogIterator, IntervalLogWriter, LogEntry};
 use hdrhistogram::serialization::{Deserializer, V2Serializer};
 use hdrhistogram::{Histogram, Quantile};
@@ -12,6 +14,9 @@ use std::time::Duration;
 
 /// The highest value of each histogram: an hour in microseconds.
 const HIGH: u64 = 3_600_000_000;
+
+/// The first of each so many classes is filled where few are, 100 of them.
+const FEW: usize = 233;
 
 /// The next number of the generator, in 64 bits.
 fn step(x: u64) -> u64 {
@@ -30,17 +35,27 @@ fn empty(alloc: Global) -> Option<Histogram<u64>> {
     Histogram::new_with_max(alloc, HIGH, 3).ok()
 }
 
-/// A histogram in which every class up to the highest value holds 1 to 1024.
+/// A histogram in which each class up to the highest value holds 1 to 1024.
 fn filled(alloc: Global, seed: u64) -> Option<Histogram<u64>> {
+    filled_at_each(alloc, seed, 1)
+}
+
+/// A histogram in which the first of each `every` classes up to the highest value holds 1 to 1024.
+fn filled_at_each(alloc: Global, seed: u64, every: usize) -> Option<Histogram<u64>> {
     let mut histogram = empty(alloc)?;
     let mut x = seed;
     let mut value = 0;
+    let mut passed: usize = 0;
     for _ in 0..histogram.distinct_values() {
         if value > HIGH {
             break;
         }
-        x = step(x);
-        histogram.record_n(value, (x >> 54).saturating_add(1)).ok()?;
+        if passed == 0 {
+            passed = every;
+            x = step(x);
+            histogram.record_n(value, (x >> 54).saturating_add(1)).ok()?;
+        }
+        passed = passed.saturating_sub(1);
         value = histogram.next_non_equivalent(value);
     }
     Some(histogram)
@@ -129,8 +144,8 @@ fn iterated_all(alloc: Global, seed: u64, n: u64) -> Option<u64> {
     Some(sum)
 }
 
-fn deserialized(alloc: Global, seed: u64, n: u64) -> Option<u64> {
-    let histogram = filled(alloc, seed)?;
+fn decoded(alloc: Global, seed: u64, n: u64, every: usize) -> Option<u64> {
+    let histogram = filled_at_each(alloc, seed, every)?;
     let mut serializer = V2Serializer::new(alloc);
     let bytes = serializer.to_bytes(&histogram).ok()?;
     let mut deserializer = Deserializer::new(alloc);
@@ -265,10 +280,16 @@ pub extern "C" fn hdrb_iter_all(alloc: Global, seed: u64, n: u64) -> u64 {
     iterated_all(alloc, seed, n).unwrap_or(0)
 }
 
-/// `decode_slice` of one text: the sum of the lengths.
+/// `decode_slice` of the text of a histogram with each class filled: the sum of the lengths.
 #[unsafe(no_mangle)]
-pub extern "C" fn hdrb_deserialize(alloc: Global, seed: u64, n: u64) -> u64 {
-    deserialized(alloc, seed, n).unwrap_or(0)
+pub extern "C" fn hdrb_decode(alloc: Global, seed: u64, n: u64) -> u64 {
+    decoded(alloc, seed, n, 1).unwrap_or(0)
+}
+
+/// `decode_slice` of the text of a histogram with 100 filled classes, likewise.
+#[unsafe(no_mangle)]
+pub extern "C" fn hdrb_decode_few(alloc: Global, seed: u64, n: u64) -> u64 {
+    decoded(alloc, seed, n, FEW).unwrap_or(0)
 }
 
 /// `write_histogram` of an interval with 2,000 filled bins: the sum of the lines' lengths.

@@ -1,3 +1,5 @@
 pub mod BlockSums
 pub mod Places
 pub mod CappedSums
+pub mod OpenSums
+pub mod NonzeroPlaces

@@ -1,5 +1,5 @@
 -- A payload that is read number by number.
-use Rattle.std.proofs.Common.{◌≡◌, ℕ, zero, suc, ◌+◌, ◌<◌, ◌≤◌, Bool, true, false, cond, List, [], ◌∷◌, ◌++◌, length, take, drop, set, get_or, replicate, refl, sym, ap, ◌∙◌, arith, append_assoc, append-nil, length-append, length-drop, drop_of_length-le, take-append-drop, ltb, leb, flat_map, ℤ, pos, negsuc, Option, Some, None, Result, Ok, Err, ⊎_elim, ◌&&◌, MatchBool}
+use Rattle.std.proofs.Common.{◌≡◌, ℕ, zero, suc, ◌+◌, ◌<◌, ◌≤◌, Bool, true, false, cond, List, [], ◌∷◌, ◌++◌, length, take, drop, set, replicate, refl, sym, ap, ◌∙◌, arith, append_assoc, append-nil, length-append, length-drop, drop_of_length-le, take-append-drop, ltb, leb, flat_map, ℤ, pos, negsuc, Option, Some, None, Result, Ok, Err, ⊎_elim, ◌&&◌, MatchBool}
 use Rattle.std.proofs.lemmas.Bool.{leb-false, and_cases, lt-ltb, le-ltb, true≢false}
 use Rattle.std.proofs.lemmas.List.{drop-drop, length-replicate}
 use Rattle.std.specs.List.{AllByRecursion}
@@ -7,7 +7,7 @@ use Rattle.hdrhistogram.specs.Varint.{IsSpelling, spelled, Spells}
 use Rattle.hdrhistogram.specs.ZigZag.{from_zig_zag}
 use Rattle.hdrhistogram.specs.declared.serialization.errors.DeserializeError.{DeserializeError}
 use Rattle.hdrhistogram.specs.Faults.{Fault, cut, unless, named, FailsBy, Gives}
-use Rattle.hdrhistogram.specs.PayloadRead.{Parted, last_byte, put_before, parted, numbers, bins_read, move, fault_at, first_fault, fitted, with_count, ended, counts_in, IsCut}
+use Rattle.hdrhistogram.specs.PayloadRead.{Parted, last_byte, put_before, parted, numbers, bins_read, move, fault_at, first_fault, fitted, with_count, IsCountPut, ended, counts_in, IsCut}
 
 -- ---- the spellings of a payload
 
@@ -59,14 +59,6 @@ fitted_set zero front n h = absurd (omega arith)
 fitted_set (suc bins) [] n h = refl
 fitted_set (suc bins) (m ∷ front) n h = ap (λ l. m ∷ l) (fitted_set bins front n (omega arith))
 
-pub fitted_behind : (bins : ℕ) (front : List ℕ) (i : ℕ) → length front ≤ i → get_or (fitted bins front) i 0 ≡ 0
-unfolding fitted
-fitted_behind zero front i h = refl
-fitted_behind (suc bins) [] zero h = refl
-fitted_behind (suc bins) [] (suc i) h = fitted_behind bins [] i (omega arith)
-fitted_behind (suc bins) (n ∷ front) zero h = absurd (omega arith)
-fitted_behind (suc bins) (n ∷ front) (suc i) h = fitted_behind bins front i (omega arith)
-
 -- ---- one number
 
 no_second : (a b : Bool) (x y : Fault) (m : Option Fault) → cond a (Some x) (cond b (Some y) m) ≡ None → b ≡ false
@@ -110,9 +102,6 @@ pub record IsFilledTo (bins greatest : ℕ) (payload counts : List ℕ) (at plac
 pub fill_start : (bins greatest : ℕ) (payload counts : List ℕ) → counts ≡ replicate bins 0 → IsFilledTo bins greatest payload counts 0 0
 unfolding counts_in from
 fill_start bins greatest payload counts e = record { front = []; long = refl; now = e ∙ sym (fitted_none bins); whole = refl; within = omega arith }
-
-pub fill_behind : (bins greatest : ℕ) (payload counts : List ℕ) (at place : ℕ) → IsFilledTo bins greatest payload counts at place → (i : ℕ) → place ≤ i → get_or counts i 0 ≡ 0
-fill_behind bins greatest payload counts at place d i h = ap (λ l. get_or l i 0) d.now ∙ fitted_behind bins d.front i (omega (arith, d.long))
 
 pub fill_bins : (bins greatest : ℕ) (payload counts : List ℕ) (at place : ℕ) → IsFilledTo bins greatest payload counts at place → length counts ≡ bins
 fill_bins bins greatest payload counts at place d = ap (length {A = ℕ}) d.now ∙ length_fitted bins d.front
@@ -182,6 +171,12 @@ pub fill_cut : (bins greatest : ℕ) (payload counts : List ℕ) (at place : ℕ
 fill_cut bins greatest payload counts at place d h c =
     d.whole ∙ ap (from bins greatest place d.front) (parted_rest 8 (drop at payload) c.short c.high)
     ∙ cut_from bins greatest place d.front (drop at payload) (omega (arith, length-drop at payload))
+
+-- the bins after a count was put, and after nothing was
+pub fill_short : (bins greatest : ℕ) (payload counts after : List ℕ) (at next place further len : ℕ) → IsFilledTo bins greatest payload counts at place
+    → IsCountPut greatest place (drop at payload) counts after len → next ≡ at + len → further ≡ place + 1 → IsFilledTo bins greatest payload after next further
+fill_short bins greatest payload counts after at next place further len d p next_is further_is =
+    fill_next bins greatest payload counts after (take len (drop at payload)) at next place further len p.encoded (from_zig_zag p.encoded) d p.within refl p.spells refl p.fine p.put next_is (further_is ∙ ap (λ k. place + k) (sym p.one))
 
 -- an error that names a check's fault names what it makes of the whole
 pub fails_so : {A : Type 0} (o fault : Option Fault) (whole : Result A Fault) → FailsBy {A = ℕ} o (unless fault 0) → ((f : Fault) → fault ≡ Some f → whole ≡ Err f) → FailsBy o whole
