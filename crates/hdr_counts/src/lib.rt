@@ -2,13 +2,15 @@
 #![tactic(auto)]
 
 mod adding;
+mod blocks;
 mod clearing;
 mod search;
 
 ghost use Rattle.std.specs.Prelude.{◌≡◌, ℕ, ◌+◌, ◌-◌, ◌*◌, ◌/◌, ◌%◌, ◌^◌, ◌<◌, ◌≤◌, length, take, map, sum, replicate, slice_index, slice_set, MatchOption, MatchResult, IfOk, IfSome, [], ◌++◌, All};
 ghost use Rattle.hdr_counts.specs.Blocks.{Blocks, sum_below, IsFirstToReach, looks, capped_sums, IsShift};
 
-use adding::{add_blocks, sum_of};
+use adding::add_blocks;
+use blocks::part_sum;
 use clearing::clear_blocks;
 use hdr_base::{Counter, Ticks};
 pub use search::Search;
@@ -141,7 +143,8 @@ impl<T: Counter> Counts<T> {
         for sum in &self.sums[..k] {
             total += *sum;
         }
-        total + sum_of(&self.counters[k * self.block..=i])
+        let whole = self.sums[k];
+        total + part_sum(&self.counters[k * self.block..=i], whole)
     }
 
     /// The first place where the sum up to and with it reaches `rank`, with a tick for each look at a block's sum or at
