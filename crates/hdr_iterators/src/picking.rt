@@ -1,6 +1,6 @@
 //! The engine of the iterators, and what a picker is.
 
-ghost use Rattle.std.specs.Prelude.{◌≡◌, ℕ, ◌+◌, ◌<◌, ◌≤◌, List, [], ◌∷◌, Option, Some, None, MatchOption, IsTrue, ◌↔◌, false, unwrap_or};
+ghost use Rattle.std.specs.Prelude.{◌≡◌, ℕ, ◌+◌, ◌^◌, ◌<◌, ◌≤◌, List, [], ◌∷◌, Option, Some, None, MatchOption, IsTrue, ◌↔◌, false, unwrap_or};
 ghost use Rattle.std.specs.Iterator.{YieldsFirst, item_count};
 ghost use Rattle.hdr_base.specs.Fractions.{Ratio};
 ghost use Rattle.hdr_iterators.specs.Seen.{Seen, AreEmpty, bins_in, top_in};
@@ -196,7 +196,8 @@ fn next_asked<T: Counter, P: PickyIterator<T>>(
     index: usize,
     count_at_index: T,
 ) -> usize
-    requires { index < bins_in bins.now }
+    requires inside { index < bins_in bins.now }
+    requires room { index + 1 < 2 ^ 64 }
     ensures onward { index < result }
     ensures within { result ≤ bins_in bins.now }
     ensures empty { AreEmpty bins.now.numbers (index + 1) result }

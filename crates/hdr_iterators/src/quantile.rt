@@ -155,6 +155,7 @@ impl<'a, T: Counter> PickyIterator<T> for Iter<'a, T> {
     fn more(&mut self, _: usize) -> bool {
         !self.done
     }
+
     fn skips_empty(&self) -> bool {
         true
     }

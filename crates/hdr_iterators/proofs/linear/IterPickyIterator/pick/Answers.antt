@@ -41,6 +41,6 @@ returns g c = λ h last w asked ahead.
     let rest : List Pick = levels_from h p.step (p.level / p.step + 1) in
     let first : Pick = record { place = i; tick = None; level = Some p.level } in
     let placed : level_pick h p.level ∷ rest ≡ first ∷ rest = ap (λ q. record { place = q; tick = None; level = Some p.level } ∷ rest) (sym here.0) in (
-      (w.0, c.place_of.ensures.value ∙ ap (λ q. place_of q c.saturating_add-self.result) w.0, stepped.step),
+      (w.0, c.place_of-self.ensures.value ∙ ap (λ q. place_of q c.saturating_add-self.result) w.0, stepped.step),
       rw c.new.ensures (ap (λ d. cond d [] coming) c.if-self.false ∙ (here.1 ∙ (placed ∙ ap (λ ps. first ∷ ps) (sym stepped.rest)))),
     )

@@ -44,9 +44,9 @@ returns g c = λ h last w asked ahead.
     let first : Pick = record { place = i; tick = None; level = Some c.saturating_sub-level.result } in
     let placed : level_pick h (p.power - 1) ∷ rest ≡ first ∷ rest = ap₂ (λ q v. record { place = q; tick = None; level = Some v } ∷ rest) (sym step.0) (sym c.saturating_sub-level.ensures) in (
       (
-          w.0,
-          c.place_of.ensures.value ∙ ap (λ v. place_of p.bins v) c.saturating_sub.ensures ∙ ap (λ q. place_of q (c.saturating_mul-self.result - 1)) w.0,
-          LogStep-next h p.power p.base c.saturating_mul-self.result w.2 c.saturating_mul-self.ensures,
+        w.0,
+        c.place_of-self.ensures.value ∙ ap (λ v. place_of p.bins v) c.saturating_sub.ensures ∙ ap (λ q. place_of q (c.saturating_mul-self.result - 1)) w.0,
+        LogStep-next h p.power p.base c.saturating_mul-self.result w.2 c.saturating_mul-self.ensures,
       ),
       rw c.new.ensures (ap (λ d. cond d [] coming) c.if-self.false ∙ (step.1 ∙ placed)),
     )
