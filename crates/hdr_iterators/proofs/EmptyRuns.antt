@@ -3,7 +3,7 @@ use Rattle.std.proofs.Common.{◌≡◌, ℕ, ◌+◌, ◌-◌, ◌*◌, ◌/◌
 use Rattle.std.proofs.lemmas.Bool.{cases_lt}
 use Rattle.std.proofs.lemmas.List.{take-map, drop-map, get_or-take, get_or-drop, get_or-map, length-map, length-take, length-drop}
 use Rattle.std.proofs.Math.Nat.{div-lt_iff_lt-mul, mul-le-mul_right}
-use Rattle.hdr_iterators.specs.Seen.{AreEmpty, TellEmpty}
+use Rattle.hdr_iterators.specs.Seen.{AreEmpty, IsFirstFilled, TellEmpty}
 
 pub AreEmpty-more : (ns : List ℕ) (a b : ℕ) → AreEmpty ns a b → get_or ns b 0 ≡ 0 → AreEmpty ns a (b + 1)
 AreEmpty-more ns a b e z = λ i from to.
@@ -50,7 +50,7 @@ pub record BlockPart {X : Type 0} (f : X → ℕ) (xs : List X) (ss : List ℕ) 
   pub within : e ≤ length xs
   pub none : get_or ss k 0 ≡ 0 → AreEmpty (map f (take (e - i) (drop i xs))) 0 (length (take (e - i) (drop i xs)))
   pub all : AreEmpty (map f (take (e - i) (drop i xs))) 0 (length (take (e - i) (drop i xs))) → AreEmpty (map f xs) i e
-  pub some : (p : ℕ) → p < length (take (e - i) (drop i xs)) → AreEmpty (map f (take (e - i) (drop i xs))) 0 p → AreEmpty (map f xs) i (i + p)
+  pub some : (p : ℕ) → IsFirstFilled (map f (take (e - i) (drop i xs))) p → (i + p < length xs) × (0 < get_or (map f xs) (i + p) 0) × AreEmpty (map f xs) i (i + p)
 
 pub BlockPart-of : {X : Type 0} (f : X → ℕ) (xs : List X) (ss : List ℕ) (b i k e : ℕ) → TellEmpty b (map f xs) ss → 1 ≤ b → i < length xs → k ≡ i / b → e ≡ (k + 1) * b → BlockPart f xs ss b i k e
 BlockPart-of f xs ss b i k e t p l q r =
@@ -74,5 +74,7 @@ BlockPart-of f xs ss b i k e t p l q r =
       all = λ n.
           let there : AreEmpty (map f (take (e - i) (drop i xs))) 0 (e - i) = subst (λ m. AreEmpty (map f (take (e - i) (drop i xs))) 0 m) long n in
           subst (λ m. AreEmpty (map f xs) i m) end (AreEmpty-part f xs i (e - i) (e - i) (omega arith) there);
-      some = λ m lt n. AreEmpty-part f xs i (e - i) m (omega (arith, lt, long)) n;
+      some = λ m found.
+          let lt : m < e - i = omega (arith, found.0, long, length-map (take (e - i) (drop i xs)) f) in
+          (omega (arith, lt, within), omega (arith, part_at f xs i (e - i) m lt, found.1), AreEmpty-part f xs i (e - i) m (omega (arith, lt)) found.2);
     }

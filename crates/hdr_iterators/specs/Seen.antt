@@ -52,6 +52,10 @@ pub record AreBins (h : Seen) : Type 0 where
 abbrev pub AreEmpty : List ℕ → ℕ → ℕ → Type 0
 AreEmpty numbers a b = (i : ℕ) → a ≤ i → i < b → slice_index numbers i ≡ 0
 
+-- place p is the first of a number above 0
+abbrev pub IsFirstFilled : List ℕ → ℕ → Type 0
+IsFirstFilled numbers p = (p < length numbers) × (0 < slice_index numbers p) × AreEmpty numbers 0 p
+
 -- the sums of blocks of bins tell where there is nothing: a block whose sum is 0 holds no sample
 pub record TellEmpty (block : ℕ) (numbers sums : List ℕ) : Type 0 where
   pub whole : length numbers ≡ length sums * block

@@ -121,6 +121,7 @@ impl<'a, T: Counter> Bins<'a, T> {
         ensures onward { from ≤ result }
         ensures within { result ≤ bins_in self.now }
         ensures empty { AreEmpty self.now.numbers from result }
+        ensures filled { result < bins_in self.now → 0 < slice_index self.now.numbers result }
     {
         let counters = self.counters;
         let sums = self.sums;

@@ -1,7 +1,7 @@
 //! Empty counters passed over.
 
-ghost use Rattle.std.specs.Prelude.{◌≡◌, ℕ, ◌<◌, ◌≤◌, IsTrue, MatchOption, length, map, slice_index};
-ghost use Rattle.hdr_iterators.specs.Seen.{AreEmpty};
+ghost use Rattle.std.specs.Prelude.{◌≡◌, ◌↔◌, ◌≤◌, IsTrue, MatchOption, length, map};
+ghost use Rattle.hdr_iterators.specs.Seen.{AreEmpty, IsFirstFilled};
 
 use hdr_base::Counter;
 
@@ -13,7 +13,7 @@ pub(crate) fn first_in_block<T: Counter>(counters: &[T], whole: u128) -> Option<
     requires few { length counters.now ≤ 6291456 }
     requires whole { whole ≡ 0 → AreEmpty (map T.number counters.now) 0 (length counters.now) }
     ensures { MatchOption result (AreEmpty (map T.number counters.now) 0 (length counters.now))
-        (λ p. (p < length counters.now) × AreEmpty (map T.number counters.now) 0 p) }
+        (IsFirstFilled (map T.number counters.now)) }
 {
     if whole == 0 {
         return None;
@@ -25,7 +25,7 @@ pub(crate) fn first_in_block<T: Counter>(counters: &[T], whole: u128) -> Option<
 fn first_filled<T: Counter>(counters: &[T]) -> Option<usize>
     requires { length counters.now ≤ 6291456 }
     ensures { MatchOption result (AreEmpty (map T.number counters.now) 0 (length counters.now))
-        (λ p. (p < length counters.now) × AreEmpty (map T.number counters.now) 0 p) }
+        (IsFirstFilled (map T.number counters.now)) }
 {
     let mut from = 0usize;
     while from < counters.len() {
@@ -41,7 +41,7 @@ fn first_filled<T: Counter>(counters: &[T]) -> Option<usize>
 /// The first place of a counter above 0, which is looked for where there is one.
 fn first_of_few<T: Counter>(few: &[T]) -> Option<usize>
     ensures { MatchOption result (AreEmpty (map T.number few.now) 0 (length few.now))
-        (λ p. (p < length few.now) × AreEmpty (map T.number few.now) 0 p) }
+        (IsFirstFilled (map T.number few.now)) }
 {
     if are_empty(few) {
         return None;
@@ -56,7 +56,7 @@ fn first_of_few<T: Counter>(few: &[T]) -> Option<usize>
 
 /// Whether all counters are 0; each is looked at, so that several can be at once.
 fn are_empty<T: Counter>(counters: &[T]) -> bool
-    ensures { IsTrue result → AreEmpty (map T.number counters.now) 0 (length counters.now) }
+    ensures { IsTrue result ↔ AreEmpty (map T.number counters.now) 0 (length counters.now) }
 {
     let mut empty = true;
     for counter in counters {
