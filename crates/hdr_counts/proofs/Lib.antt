@@ -1,3 +1,4 @@
 pub mod BlockSums
 pub mod Places
 pub mod CappedSums
+pub mod BlockParts

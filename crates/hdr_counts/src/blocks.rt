@@ -1,7 +1,7 @@
 //! The sums of blocks, handed out, and the sum of a part of a block.
 
-ghost use Rattle.std.specs.Prelude.{◌≡◌, ◌^◌, ◌<◌, ◌≤◌, length, map, sum};
-ghost use Rattle.hdr_counts.specs.Blocks.{AreSums};
+ghost use Rattle.std.specs.Prelude.{◌≡◌, ◌+◌, ◌*◌, ◌^◌, ◌<◌, ◌≤◌, length, map, sum};
+ghost use Rattle.hdr_counts.specs.Blocks.{AreSums, sum_below};
 
 use crate::Counts;
 use crate::adding::sum_of;
@@ -13,6 +13,21 @@ impl<T: Counter> Counts<T> {
         ensures { AreSums self.now.block self.now.numbers result.now }
     {
         self.sums.as_slice()
+    }
+
+    /// The exact sum of block `k` up to and including place `i`, by the counters of the nearer end.
+    pub(crate) fn sum_in_block(&self, k: usize, i: usize) -> u128
+        requires from { k * self.now.block ≤ i }
+        requires before { i < (k + 1) * self.now.block }
+        requires within { (k + 1) * self.now.block ≤ length self.now.numbers }
+        ensures { sum_below self.now.numbers (k * self.now.block) + result ≡ sum_below self.now.numbers (i + 1) }
+    {
+        let whole = self.sums[k];
+        let from = k * self.block;
+        if i - from < self.block / 2 {
+            return part_sum(&self.counters[from..=i], whole);
+        }
+        whole - part_sum(&self.counters[i + 1..from + self.block], whole)
     }
 }
 

@@ -10,7 +10,6 @@ ghost use Rattle.std.specs.Prelude.{◌≡◌, ℕ, ◌+◌, ◌-◌, ◌*◌, �
 ghost use Rattle.hdr_counts.specs.Blocks.{Blocks, sum_below, IsFirstToReach, looks, capped_sums, IsShift};
 
 use adding::add_blocks;
-use blocks::part_sum;
 use clearing::clear_blocks;
 use hdr_base::{Counter, Ticks};
 pub use search::Search;
@@ -143,8 +142,7 @@ impl<T: Counter> Counts<T> {
         for sum in &self.sums[..k] {
             total += *sum;
         }
-        let whole = self.sums[k];
-        total + part_sum(&self.counters[k * self.block..=i], whole)
+        total + self.sum_in_block(k, i)
     }
 
     /// The first place where the sum up to and with it reaches `rank`, with a tick for each look at a block's sum or at
