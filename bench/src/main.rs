@@ -17,7 +17,7 @@ const ROUNDS: usize = 15;
 /// A workload: its name, how many operations it does, and how both sides do them.
 type Workload = (&'static str, u64, fn(u64) -> u64, fn(u64) -> u64);
 
-const WORKLOADS: [Workload; 21] = [
+const WORKLOADS: [Workload; 22] = [
     ("generate", 4_000_000, |n| upstream::generate(SEED, n), |n| ours::generate(SEED, n)),
     ("record", 4_000_000, |n| upstream::record(SEED, n), |n| ours::record(SEED, n)),
     ("correct_2e3", 800, |n| upstream::correct(SEED, n, 1_000_000), |n| ours::correct(SEED, n, 1_000_000)),
@@ -33,6 +33,7 @@ const WORKLOADS: [Workload; 21] = [
     ("iter_log", 160, |n| upstream::iter_log(SEED, n), |n| ours::iter_log(SEED, n)),
     ("iter_quantiles", 160, |n| upstream::iter_quantiles(SEED, n), |n| ours::iter_quantiles(SEED, n)),
     ("values", 8_000, |n| upstream::values(SEED, n), |n| ours::values(SEED, n)),
+    ("below_median", 8_000, |n| upstream::quantile_below_median(SEED, n), |n| ours::quantile_below_median(SEED, n)),
     ("below", 8_000, |n| upstream::quantile_below(SEED, n), |n| ours::quantile_below(SEED, n)),
     ("iter_all", 160, |n| upstream::iter_all(SEED, n), |n| ours::iter_all(SEED, n)),
     ("deserialize", 400, |n| upstream::deserialize(SEED, n), |n| ours::deserialize(SEED, n)),

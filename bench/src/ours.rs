@@ -17,6 +17,7 @@ mod exported {
         pub safe fn hdrb_iter_quantiles(seed: u64, n: u64) -> u64;
         pub safe fn hdrb_values(seed: u64, n: u64) -> u64;
         pub safe fn hdrb_quantile_below(seed: u64, n: u64) -> u64;
+        pub safe fn hdrb_quantile_below_median(seed: u64, n: u64) -> u64;
         pub safe fn hdrb_deserialize(seed: u64, n: u64) -> u64;
         pub safe fn hdrb_log_line(seed: u64, n: u64) -> u64;
         pub safe fn hdrb_log_read(seed: u64, n: u64) -> u64;
@@ -39,5 +40,6 @@ pub use exported::hdrb_iter_recorded as iter_recorded;
 pub use exported::hdrb_iter_recorded_apart as iter_recorded_apart;
 pub use exported::hdrb_iter_recorded_few as iter_recorded_few;
 pub use exported::hdrb_quantile_below as quantile_below;
+pub use exported::hdrb_quantile_below_median as quantile_below_median;
 pub use exported::hdrb_serialize as serialize;
 pub use exported::hdrb_values as values;

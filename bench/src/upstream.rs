@@ -212,6 +212,18 @@ pub fn iter_all(seed: u64, n: u64) -> u64 {
     sum
 }
 
+pub fn quantile_below_median(seed: u64, n: u64) -> u64 {
+    let histogram = filled(seed);
+    let (len, median) = (histogram.len() as f64, histogram.value_at_quantile(0.5));
+    let (mut x, mut sum) = (seed, 0u64);
+    for _ in 0..n {
+        x = step(x);
+        let share = black_box(&histogram).quantile_below(median + (x & 1023));
+        sum = sum.wrapping_add((share * len).round() as u64);
+    }
+    sum
+}
+
 pub fn deserialize(seed: u64, n: u64) -> u64 {
     let histogram = filled(seed);
     let mut bytes = Vec::new();

@@ -249,6 +249,20 @@ fn counted_below(alloc: Global, seed: u64, n: u64) -> Option<u64> {
     Some(sum)
 }
 
+#[inline(never)]
+fn counted_below_median(alloc: Global, seed: u64, n: u64) -> Option<u64> {
+    let histogram = filled(alloc, seed)?;
+    let median = histogram.value_at_quantile(Quantile::new(1, 2)?);
+    let mut x = seed;
+    let mut sum: u64 = 0;
+    for _ in 0..n {
+        x = step(x);
+        let share = histogram.quantile_below(median.saturating_add(x & 1023));
+        sum = sum.wrapping_add(share.num as u64);
+    }
+    Some(sum)
+}
+
 fn deserialized(alloc: Global, seed: u64, n: u64) -> Option<u64> {
     let histogram = filled(alloc, seed)?;
     let mut serializer = V2Serializer::new(alloc);
@@ -425,6 +439,12 @@ pub extern "C" fn hdrb_values(alloc: Global, seed: u64, n: u64) -> u64 {
 #[unsafe(no_mangle)]
 pub extern "C" fn hdrb_quantile_below(alloc: Global, seed: u64, n: u64) -> u64 {
     counted_below(alloc, seed, n).unwrap_or(0)
+}
+
+/// `quantile_below` of values from the median on, likewise.
+#[unsafe(no_mangle)]
+pub extern "C" fn hdrb_quantile_below_median(alloc: Global, seed: u64, n: u64) -> u64 {
+    counted_below_median(alloc, seed, n).unwrap_or(0)
 }
 
 /// `decode_slice` of one text: the sum of the lengths.
