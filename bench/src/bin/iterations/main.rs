@@ -65,6 +65,15 @@ struct Row<'a, T: Counter> {
     theirs: Option<Histogram<T>>,
 }
 
+/// What all items come to, in 128 bits: each number is added to 31 times those before.
+fn digest(items: &[Item]) -> u128 {
+    let numbers = items.iter().flat_map(|item| {
+        let [value, count, since] = [item.value, item.count, item.since].map(u128::from);
+        [value, count, since, item.quantile.0, item.tick.0, item.tick.1]
+    });
+    numbers.fold(0, |digest: u128, number| digest.wrapping_mul(31).wrapping_add(number))
+}
+
 /// The text of items.
 fn listed(items: &[Item]) -> String {
     let mut text = String::new();
@@ -76,7 +85,7 @@ fn listed(items: &[Item]) -> String {
     match items.len() {
         0 => text.push_str("none"),
         SHOWN.. if items.len() > SHOWN => {
-            let _ = write!(text, " .. {}", items.len());
+            let _ = write!(text, " .. {} {}", items.len(), digest(items));
         }
         _ => {}
     }
