@@ -126,44 +126,35 @@ impl<'a, T: Counter, P: PickyIterator<T>> Iterator for HistogramIterator<'a, T, 
     fn next(&mut self) -> Option<IterationValue<T>> {
         let len = self.bins.len();
         while !self.ended {
-            if has_ended(
-                &mut self.picker,
-                self.last_picked_index,
-                self.bins.last(),
-                self.current_index,
-            ) {
+            let index = self.current_index;
+            let last = self.bins.last();
+            if has_ended(&mut self.picker, self.last_picked_index, last, index) {
                 self.ended = true;
                 return None;
             }
-            if let Some(picked) = self.picker.pick(
-                self.current_index,
-                self.total_count_to_index,
-                self.count_at_index,
-            ) {
+            let picked = self
+                .picker
+                .pick(index, self.total_count_to_index, self.count_at_index);
+            if let Some(picked) = picked {
                 let value = value_at(
                     &self.bins,
-                    self.current_index,
+                    index,
                     self.total_count_to_index,
                     self.count_at_index,
                     self.count_since_last_iteration,
                     picked,
                 );
                 self.count_since_last_iteration = 0;
-                self.last_picked_index = Some(self.current_index);
+                self.last_picked_index = Some(index);
                 return Some(value);
             }
-            let next = next_asked(
-                &self.bins,
-                &self.picker,
-                self.current_index,
-                self.count_at_index,
-            );
+            let next = next_asked(&self.bins, &self.picker, index, self.count_at_index);
             if next == len {
                 self.ended = true;
                 return None;
             }
             self.current_index = next;
-            self.count_at_index = self.bins.count(self.current_index);
+            self.count_at_index = self.bins.count(next);
             let count = self.count_at_index.as_u64();
             self.total_count_to_index = self.total_count_to_index.saturating_add(count);
             self.count_since_last_iteration = self.count_since_last_iteration.saturating_add(count);
