@@ -1,5 +1,5 @@
 # make: proves and builds the program, target/hdr. make install: puts it below PREFIX. make check: the gate.
-# make edits: the wrong bodies of crates/*/edits, which the prover has to refuse.
+# make edits: the wrong bodies of crates/*/edits alone, which the prover has to refuse.
 # make quick: what has changed since the last commit, over the work that earlier checks kept.
 # make bench: times beside the Rust crate hdrhistogram (bench/run says where that comes from).
 PREFIX ?= /usr/local

@@ -19,7 +19,7 @@ const ROUNDS: usize = 15;
 /// A workload: its name, how many operations it does, and how both sides do them.
 type Workload = (&'static str, u64, fn(u64) -> u64, fn(u64) -> u64);
 
-const WORKLOADS: [Workload; 15] = [
+const WORKLOADS: [Workload; 23] = [
     ("generate", 4_000_000, |n| upstream::generate(SEED, n), |n| ours::generate(SEED, n)),
     ("record", 4_000_000, |n| upstream::record(SEED, n), |n| ours::record(SEED, n)),
     ("correct_2e3", 800, |n| upstream::correct(SEED, n, 1_000_000), |n| ours::correct(SEED, n, 1_000_000)),
@@ -29,6 +29,14 @@ const WORKLOADS: [Workload; 15] = [
     ("quantile_999", 8_000, |n| upstream::quantile(SEED, n, 999, 1000), |n| ours::quantile(SEED, n, 999, 1000)),
     ("add", 1_600, |n| upstream::add(SEED, n), |n| ours::add(SEED, n)),
     ("iter_recorded", 160, |n| upstream::iter_recorded(SEED, n), |n| ours::iter_recorded(SEED, n)),
+    ("iter_recorded_few", 1_600, |n| upstream::iter_recorded_few(SEED, n), |n| ours::iter_recorded_few(SEED, n)),
+    ("iter_recorded_apart", 1_600, |n| upstream::iter_recorded_apart(SEED, n), |n| ours::iter_recorded_apart(SEED, n)),
+    ("iter_linear", 80, |n| upstream::iter_linear(SEED, n, 100_000), |n| ours::iter_linear(SEED, n, 100_000)),
+    ("iter_log", 160, |n| upstream::iter_log(SEED, n), |n| ours::iter_log(SEED, n)),
+    ("iter_quantiles", 160, |n| upstream::iter_quantiles(SEED, n), |n| ours::iter_quantiles(SEED, n)),
+    ("values", 8_000, |n| upstream::values(SEED, n), |n| ours::values(SEED, n)),
+    ("below_median", 8_000, |n| upstream::quantile_below_median(SEED, n), |n| ours::quantile_below_median(SEED, n)),
+    ("below", 8_000, |n| upstream::quantile_below(SEED, n), |n| ours::quantile_below(SEED, n)),
     ("iter_all", 160, |n| upstream::iter_all(SEED, n), |n| ours::iter_all(SEED, n)),
     ("decode", 400, |n| upstream::decode(SEED, n), |n| ours::decode(SEED, n)),
     ("decode_few", 4_000, |n| upstream::decode_few(SEED, n), |n| ours::decode_few(SEED, n)),

@@ -3,3 +3,4 @@ pub mod Places
 pub mod CappedSums
 pub mod OpenSums
 pub mod NonzeroPlaces
+pub mod BlockParts

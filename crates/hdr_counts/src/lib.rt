@@ -2,6 +2,7 @@
 #![tactic(auto)]
 
 mod adding;
+mod blocks;
 mod clearing;
 mod ends;
 mod open_counts;
@@ -10,7 +11,7 @@ mod search;
 ghost use Rattle.std.specs.Prelude.{◌≡◌, ℕ, ◌+◌, ◌-◌, ◌*◌, ◌/◌, ◌%◌, ◌^◌, ◌<◌, ◌≤◌, length, take, map, sum, replicate, slice_index, slice_set, MatchOption, MatchResult, IfOk, IfSome, [], ◌++◌, All};
 ghost use Rattle.hdr_counts.specs.Blocks.{Blocks, sum_below, IsFirstToReach, looks, capped_sums, IsShift};
 
-use adding::{add_blocks, sum_of};
+use adding::add_blocks;
 use clearing::clear_blocks;
 use hdr_base::{Counter, Ticks};
 pub use open_counts::OpenCounts;
@@ -144,7 +145,7 @@ impl<T: Counter> Counts<T> {
         for sum in &self.sums[..k] {
             total += *sum;
         }
-        total + sum_of(&self.counters[k * self.block..=i])
+        total + self.sum_in_block(k, i)
     }
 
     /// The first place where the sum up to and with it reaches `rank`, with a tick for each look at a block's sum or at

@@ -47,6 +47,11 @@ abbrev pub AllBefore : ℕ → List Pick → Type 0
 AllBefore n [] = Unit {0}
 AllBefore n (p ∷ ps) = (p.place < n) × AllBefore n ps
 
+-- each pick is of a bin that holds samples
+abbrev pub AllFilled : Seen → List Pick → Type 0
+AllFilled h [] = Unit {0}
+AllFilled h (p ∷ ps) = (0 < slice_index h.numbers p.place) × AllFilled h ps
+
 -- the bin behind the one that was picked last
 abbrev pub behind : Option ℕ → ℕ
 behind None = 0

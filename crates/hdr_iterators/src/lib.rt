@@ -5,6 +5,7 @@ pub mod all;
 mod bins;
 pub mod linear;
 pub mod log;
+mod passing;
 mod picking;
 pub mod quantile;
 pub mod recorded;

@@ -12,7 +12,8 @@
 //! - `to_bytes` and `encode_counts` answer hexadecimal digits. `decode HEX` puts what was read in the histogram's place, from a
 //!   slice and from a reader that gives one byte a call, with two bytes after the text; `decode_alone` has none after it.
 //! - Iterators answer their items between commas: the value, its counter, the samples since the item before, the quantile, and
-//!   the quantile iterated to. `value_at_quantiles` takes fractions, `NUM/DEN`.
+//!   the quantile iterated to. Of more than 16 they answer the first 16, how many there are, and a digest of all.
+//! - `value_at_quantiles` takes fractions, `NUM/DEN`.
 //! - `log_line START DURATION DIVISOR TAG` answers a log of one interval; times are seconds, a point and nanoseconds.
 //! - `bytes`, `counter`, `scale LOW SIGFIG VALUE`, `fraction` and `log` do calls that are on no histogram.
 //!
