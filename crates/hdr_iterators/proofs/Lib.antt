@@ -9,4 +9,5 @@ pub mod Halves
 pub mod TickLists
 pub mod TickSteps
 pub mod EmptyRuns
+pub mod PicksOnce
 pub mod Rows

@@ -3,6 +3,7 @@
 
 pub mod all;
 mod bins;
+pub mod laws;
 pub mod linear;
 pub mod log;
 mod passing;
