@@ -39,7 +39,7 @@ pub fn written(random: &mut Random) -> Vec<u8> {
 
 /// Adds a spelling of a number: the shortest one, or one with groups of 0 at its end.
 fn spell(text: &mut Vec<u8>, mut number: u64, random: &mut Random) {
-    let mut longer = if random.one_in(4) { random.below(9) } else { 0 };
+    let mut longer = if random.one_in(30) { random.below(9) } else { 0 };
     for group in 0..9 {
         let byte = (number & 0x7f) as u8;
         if group == 8 {
@@ -81,6 +81,28 @@ pub fn spelt(random: &mut Random) -> Vec<u8> {
     if random.one_in(4) {
         payload.extend(std::iter::repeat_n(0, random.below(70) as usize));
     }
+    text_of(low, high, sigfig, &payload)
+}
+
+/// A text of thousands of bins, most of them filled by counts of two bytes.
+pub fn dense(random: &mut Random) -> Vec<u8> {
+    let mut payload = Vec::new();
+    for _ in 0..500 + random.below(5000) {
+        let number = match random.below(40) {
+            0 => 0,
+            1 => 2 * random.below(30) + 1,
+            2 => 2 * (1 + random.below(60)),
+            3 => 2 * random.number(30),
+            _ => 2 * (64 + random.below(8000)),
+        };
+        spell(&mut payload, number, random);
+    }
+    let high = random.pick(&[1 << 20, 3_600_000_000, u64::MAX]);
+    text_of(1, high, random.pick(&[2, 3]), &payload)
+}
+
+/// A text of these bounds, digits and payload.
+fn text_of(low: u64, high: u64, sigfig: u8, payload: &[u8]) -> Vec<u8> {
     let mut text = vec![0x1c, 0x84, 0x93, 0x13];
     text.extend((payload.len() as u32).to_be_bytes());
     text.extend(0u32.to_be_bytes());
@@ -123,8 +145,13 @@ fn damage(text: &mut Vec<u8>, random: &mut Random) {
 
 /// A text of any kind, with bytes behind it, and whether the Rust crate wrote it and nothing was damaged.
 pub fn any(random: &mut Random) -> (Vec<u8>, bool) {
-    let is_written = random.one_in(2);
-    let mut text = if is_written { written(random) } else { spelt(random) };
+    let kind = random.below(64);
+    let is_written = kind < 32;
+    let mut text = match kind {
+        0..32 => written(random),
+        32 => dense(random),
+        _ => spelt(random),
+    };
     let damages = random.pick(&[0, 0, 1, 1, 1, 2, 3]);
     for _ in 0..damages {
         damage(&mut text, random);

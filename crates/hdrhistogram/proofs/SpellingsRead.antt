@@ -231,14 +231,14 @@ one_or_two_spelt bytes two more fits is low =
     let second = get_or bytes 1 0 in
     elim (cases_lt first 128) [
       | inl below ↦ (
-        let none : two ≡ 0 = omega arith in
-        let value : first % 128 + 128 * (0 * second) ≡ first = omega arith in
-        rw (none, value) (one_spelt bytes (omega arith) below)
-      )
+          let none : two ≡ 0 = omega arith in
+          let value : first % 128 + 128 * (0 * second) ≡ first = omega arith in
+          rw (none, value) (one_spelt bytes (omega arith) below)
+          )
       | inr above ↦ (
-        let one : two ≡ 1 = omega arith in
-        let last : second < 128 = omega (arith, ap (λ k. k * second) one) in
-        let value : first % 128 + 128 * (1 * second) ≡ first % 128 + 128 * second = omega arith in
-        rw (one, value) (two_spelt bytes more above fits last)
-      )
+          let one : two ≡ 1 = omega arith in
+          let last : second < 128 = omega (arith, ap (λ k. k * second) one) in
+          let value : first % 128 + 128 * (1 * second) ≡ first % 128 + 128 * second = omega arith in
+          rw (one, value) (two_spelt bytes more above fits last)
+          )
     ]

@@ -1,8 +1,8 @@
 //! A payload, read into the bins of a histogram.
 
-ghost use Rattle.std.specs.Prelude.{◌≡◌, ◌+◌, ◌<◌, IfNone, IfOk, IfSome, OnOk, length, replicate, false};
+ghost use Rattle.std.specs.Prelude.{◌≡◌, ◌+◌, ◌*◌, ◌%◌, ◌<◌, ◌≤◌, IfNone, IfOk, IfSome, OnOk, length, replicate, true, false};
 ghost use Rattle.hdrhistogram.specs.Faults.{Gives, Checks};
-ghost use Rattle.hdrhistogram.specs.PayloadRead.{IsCountPut, fault_at, move, with_count, counts_in};
+ghost use Rattle.hdrhistogram.specs.PayloadRead.{IsCountPut, IsPairPut, fault_at, move, with_count, counts_in};
 ghost use Rattle.hdrhistogram.specs.V2Read.{told_by, told_of, IsRestated};
 
 use crate::serialization::errors::DeserializeError;
@@ -66,6 +66,57 @@ fn put_short<T: Counter>(filling: &mut Filling<T>, place: u64, bytes: &[u8]) -> 
     Some(len)
 }
 
+/// The count above 0 that two bytes spell, where just two spell it.
+#[inline(always)]
+fn two_byte_count<T: Counter>(first: u8, second: u8) -> Option<T>
+    ensures bytes { IfSome result (λ _. (128 ≤ first) × (second < 128) × (first % 2 ≡ 0)) }
+    ensures count { IfSome result (λ c. (0 < T.number c) × (T.number c ≤ T.greatest) × (2 * T.number c ≡ first % 128 + 128 * second)) }
+{
+    if first < 128 {
+        return None;
+    }
+    if second >= 128 {
+        return None;
+    }
+    if first % 2 != 0 {
+        return None;
+    }
+    if second == 0 {
+        return None;
+    }
+    T::from_u64(u64::from(first) % 128 / 2 + 64 * u64::from(second))
+}
+
+/// Puts two counts that two bytes each spell at the front. Whether there are two such, and neither is a fault; else
+/// nothing is put.
+#[inline(always)]
+fn put_pair<T: Counter>(filling: &mut Filling<T>, place: u64, bytes: &[u8]) -> bool
+    ensures put { result ≡ true → IsPairPut T.greatest place bytes.now filling.old.counts filling.new.counts }
+    ensures few { result ≡ true → place < 6291456 }
+    ensures rest { filling.new ≡ record filling.old { counts = filling.new.counts } }
+    ensures kept { result ≡ false → filling.new ≡ filling.old }
+{
+    if bytes.len() < 4 {
+        return false;
+    }
+    let Some(first) = two_byte_count(bytes[0], bytes[1]) else {
+        return false;
+    };
+    let Some(second) = two_byte_count(bytes[2], bytes[3]) else {
+        return false;
+    };
+    if place >= filling.distinct_values() as u64 {
+        return false;
+    }
+    let bin = place as usize;
+    if bin + 1 >= filling.distinct_values() {
+        return false;
+    }
+    filling.set(bin, first);
+    filling.set(bin + 1, second);
+    true
+}
+
 /// Reads a payload into bins that are all empty.
 fn fill<T: Counter>(filling: &mut Filling<T>, payload: &[u8]) -> Result<(), DeserializeError>
     requires { filling.old.counts ≡ replicate (length filling.old.counts) 0 }
@@ -76,6 +127,11 @@ fn fill<T: Counter>(filling: &mut Filling<T>, payload: &[u8]) -> Result<(), Dese
     let mut at = 0;
     let mut place = 0;
     while at < payload.len() {
+        if put_pair(filling, place, &payload[at..]) {
+            at += 4;
+            place += 2;
+            continue;
+        }
         if let Some(len) = put_short(filling, place, &payload[at..]) {
             at += len;
             place += 1;

@@ -4,11 +4,11 @@ use Rattle.std.proofs.lemmas.Int.{to_z-of_z}
 use Rattle.std.proofs.lemmas.Result.{err_from_is_err_and}
 use mir.Val.{SFits}
 use Rattle.hdrhistogram.specs.Faults.{named, FailsBy}
-use Rattle.hdrhistogram.specs.PayloadRead.{IsCut, IsCountPut, counts_in}
+use Rattle.hdrhistogram.specs.PayloadRead.{IsCut, IsCountPut, IsPairPut, counts_in}
 use Rattle.hdr_core.specs.Filling.{Open}
 use Rattle.hdrhistogram.proofs.Spellings.{some_byte}
 use Rattle.hdrhistogram.proofs.Restated.{set-again}
-use Rattle.hdrhistogram.proofs.Filling.{IsFilledTo, fill_start, fill_short, fill_next, fill_faulty, fill_end, fill_cut, fails_so, gives_fails}
+use Rattle.hdrhistogram.proofs.Filling.{IsFilledTo, fill_start, fill_short, fill_pair, fill_next, fill_faulty, fill_end, fill_cut, fails_so, gives_fails}
 use Rattle.hdrhistogram.proofs.serialization.filling.fill.Goals as goal
 
 pub loop-at-init : goal.loop-at-init
@@ -28,7 +28,7 @@ returns-in_err-place-clause-counts g c =
     let p = c.args.payload.now in
     let bins = length c.args.filling.now.counts in
     let at = c.loop-at.at in
-    let same = ap (λ (o : Open). o.counts) c.in_default.ensures.kept in
+    let same = ap (λ (o : Open). o.counts) (c.in_default.ensures.kept ∙ c.put_pair.ensures.kept c.if-put_pair.false) in
     let d = subst (λ l. IsFilledTo bins g.T.Counter.greatest p l at c.loop-at.place) (sym same) c.loop-at.invariant.filled in
     let z = c.zig_zag_decode.result in
     let fits : SFits w64 z = search rules in
@@ -47,7 +47,7 @@ loop-at-preserved g c =
     let p = c.args.payload.now in
     let bins = length c.args.filling.now.counts in
     let at = c.loop-at.at in
-    let same = ap (λ (o : Open). o.counts) c.in_default.ensures.kept in
+    let same = ap (λ (o : Open). o.counts) (c.in_default.ensures.kept ∙ c.put_pair.ensures.kept c.if-put_pair.false) in
     let d = subst (λ l. IsFilledTo bins g.T.Counter.greatest p l at c.loop-at.place) (sym same) c.loop-at.invariant.filled in
     let slice = take (length p - at) (drop at p) in
     let z = c.zig_zag_decode.result in
@@ -57,7 +57,7 @@ loop-at-preserved g c =
           (omega (arith, c.in-Some-varint_at.ensures.within, length-take (length p - at) (drop at p))) (ap (take c.in-Some-varint_at.len) (take_rest p at)) c.in-Some-varint_at.ensures.found
           (to_z-of_z w64 z fits ∙ c.zig_zag_decode.ensures) c.in_ok-place.ensures.fault
           (ap (λ (o : Open). o.counts) c.in_ok-place.ensures.put) refl c.in_ok-place.ensures.next;
-      rest = set-again c.args.filling.now c.put_short.new.filling c.put_number.new.filling _ (set-again c.args.filling.now c.loop-at.filling c.put_short.new.filling _ c.loop-at.invariant.rest c.put_short.ensures.rest) c.in_ok-place.ensures.put;
+      rest = set-again c.args.filling.now c.put_short.new.filling c.put_number.new.filling _ (set-again c.args.filling.now c.put_pair.new.filling c.put_short.new.filling _ (set-again c.args.filling.now c.loop-at.filling c.put_pair.new.filling _ c.loop-at.invariant.rest c.put_pair.ensures.rest) c.put_short.ensures.rest) c.in_ok-place.ensures.put;
     }
 
 pub loop-at-smaller-in-Some : goal.loop-at-smaller-in-Some
@@ -68,10 +68,23 @@ loop-at-preserved-in-Some g c =
     let p = c.args.payload.now in
     let bins = length c.args.filling.now.counts in
     let at = c.loop-at.at in
-    let put = subst (λ l. IsCountPut g.T.Counter.greatest c.loop-at.place l c.loop-at.filling.counts c.put_short.new.filling.counts c.in-Some.len) (take_rest p at) c.in-Some.ensures.put in
+    let same = ap (λ (o : Open). o.counts) (c.put_pair.ensures.kept c.if-put_pair.false) in
+    let d = subst (λ l. IsFilledTo bins g.T.Counter.greatest p l at c.loop-at.place) (sym same) c.loop-at.invariant.filled in
+    let put = subst (λ l. IsCountPut g.T.Counter.greatest c.loop-at.place l c.put_pair.new.filling.counts c.put_short.new.filling.counts c.in-Some.len) (take_rest p at) c.in-Some.ensures.put in
     record {
-      filled = fill_short bins g.T.Counter.greatest p c.loop-at.filling.counts c.put_short.new.filling.counts at (at + c.in-Some.len) c.loop-at.place (c.loop-at.place + 1) c.in-Some.len c.loop-at.invariant.filled put refl refl;
-      rest = set-again c.args.filling.now c.loop-at.filling c.put_short.new.filling _ c.loop-at.invariant.rest c.put_short.ensures.rest;
+      filled = fill_short bins g.T.Counter.greatest p c.put_pair.new.filling.counts c.put_short.new.filling.counts at (at + c.in-Some.len) c.loop-at.place (c.loop-at.place + 1) c.in-Some.len d put refl refl;
+      rest = set-again c.args.filling.now c.put_pair.new.filling c.put_short.new.filling _ (set-again c.args.filling.now c.loop-at.filling c.put_pair.new.filling _ c.loop-at.invariant.rest c.put_pair.ensures.rest) c.put_short.ensures.rest;
+    }
+
+pub loop-at-preserved-then-put_pair : goal.loop-at-preserved-then-put_pair
+loop-at-preserved-then-put_pair g c =
+    let p = c.args.payload.now in
+    let bins = length c.args.filling.now.counts in
+    let at = c.loop-at.at in
+    let put = subst (λ l. IsPairPut g.T.Counter.greatest c.loop-at.place l c.loop-at.filling.counts c.put_pair.new.filling.counts) (take_rest p at) (c.put_pair.ensures.put c.if-put_pair.true) in
+    record {
+      filled = fill_pair bins g.T.Counter.greatest p c.loop-at.filling.counts c.put_pair.new.filling.counts at (at + 4) c.loop-at.place (c.loop-at.place + 2) c.loop-at.invariant.filled put refl refl;
+      rest = set-again c.args.filling.now c.loop-at.filling c.put_pair.new.filling _ c.loop-at.invariant.rest c.put_pair.ensures.rest;
     }
 
 pub returns-clause-counts : goal.returns-clause-counts
