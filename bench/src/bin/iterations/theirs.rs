@@ -1,7 +1,8 @@
 //! What the Rust crate answers, beside what the model says.
 //!
 //! Left out is what is known to differ: values in the last class of all, sums that pass a full counter, levels past the `u64`
-//! or past what an `f64` counts, ticks that no `f64` is, and marks behind a reset at a unit above 1.
+//! or past what an `f64` counts, ticks that no `f64` is, ticks where the last nonempty class is not the greatest that counts
+//! as recorded, and marks after a reset at a unit above 1.
 
 use crate::model::{Item, Model, Ratio};
 use hdrhistogram::iterators::IterationValue;
