@@ -1,5 +1,5 @@
 # make: proves and builds the program, target/hdr. make install: puts it below PREFIX. make check: the gate.
-# make edits: the wrong bodies of crates/*/edits, which the prover has to refuse.
+# make edits: the wrong bodies of crates/*/edits alone, which the prover has to refuse.
 # make quick: what has changed since the last commit, over the work that earlier checks kept.
 # make bench: times beside the Rust crate hdrhistogram (bench/run says where that comes from).
 PREFIX ?= /usr/local
@@ -12,12 +12,12 @@ install: all
 
 check:
 	tools/edits --control
-	rt ci
+	tools/edits --beside rt ci
 	tools/refused.sh
 	tools/refused_main.sh
 	tools/cases.sh
 
-# All edits of crates/*/edits: minutes over kept work, as long as the gate from nothing.
+# The edits alone.
 edits:
 	tools/edits
 

@@ -1,8 +1,10 @@
 //! Times the same workloads over the Rust crate hdrhistogram and over this repository's crates, in one process and in turns.
-//! A line for each: `name upstream_ns ours_ns ratio`. The exit status is 1 where a checksum differs.
+//! A line for each: `name upstream_ns ours_ns ratio`. The exit status is 1 where a checksum differs. With the words `bytes
+//! SEED COUNT`, or `bytes` alone and texts on standard input, it compares how V2 texts are read (`bytes.rs`).
 //!
 //! A call of a workload makes its histograms first, so an operation's time is what many operations take above a few.
 
+mod bytes;
 mod ours;
 mod upstream;
 
@@ -17,7 +19,7 @@ const ROUNDS: usize = 15;
 /// A workload: its name, how many operations it does, and how both sides do them.
 type Workload = (&'static str, u64, fn(u64) -> u64, fn(u64) -> u64);
 
-const WORKLOADS: [Workload; 14] = [
+const WORKLOADS: [Workload; 23] = [
     ("generate", 4_000_000, |n| upstream::generate(SEED, n), |n| ours::generate(SEED, n)),
     ("record", 4_000_000, |n| upstream::record(SEED, n), |n| ours::record(SEED, n)),
     ("correct_2e3", 800, |n| upstream::correct(SEED, n, 1_000_000), |n| ours::correct(SEED, n, 1_000_000)),
@@ -27,8 +29,17 @@ const WORKLOADS: [Workload; 14] = [
     ("quantile_999", 8_000, |n| upstream::quantile(SEED, n, 999, 1000), |n| ours::quantile(SEED, n, 999, 1000)),
     ("add", 1_600, |n| upstream::add(SEED, n), |n| ours::add(SEED, n)),
     ("iter_recorded", 160, |n| upstream::iter_recorded(SEED, n), |n| ours::iter_recorded(SEED, n)),
+    ("iter_recorded_few", 1_600, |n| upstream::iter_recorded_few(SEED, n), |n| ours::iter_recorded_few(SEED, n)),
+    ("iter_recorded_apart", 1_600, |n| upstream::iter_recorded_apart(SEED, n), |n| ours::iter_recorded_apart(SEED, n)),
+    ("iter_linear", 80, |n| upstream::iter_linear(SEED, n, 100_000), |n| ours::iter_linear(SEED, n, 100_000)),
+    ("iter_log", 160, |n| upstream::iter_log(SEED, n), |n| ours::iter_log(SEED, n)),
+    ("iter_quantiles", 160, |n| upstream::iter_quantiles(SEED, n), |n| ours::iter_quantiles(SEED, n)),
+    ("values", 8_000, |n| upstream::values(SEED, n), |n| ours::values(SEED, n)),
+    ("below_median", 8_000, |n| upstream::quantile_below_median(SEED, n), |n| ours::quantile_below_median(SEED, n)),
+    ("below", 8_000, |n| upstream::quantile_below(SEED, n), |n| ours::quantile_below(SEED, n)),
     ("iter_all", 160, |n| upstream::iter_all(SEED, n), |n| ours::iter_all(SEED, n)),
-    ("deserialize", 400, |n| upstream::deserialize(SEED, n), |n| ours::deserialize(SEED, n)),
+    ("decode", 400, |n| upstream::decode(SEED, n), |n| ours::decode(SEED, n)),
+    ("decode_few", 4_000, |n| upstream::decode_few(SEED, n), |n| ours::decode_few(SEED, n)),
     ("log_line", 4_000, |n| upstream::log_line(SEED, n), |n| ours::log_line(SEED, n)),
     ("log_read", 80, |n| upstream::log_read(SEED, n), |n| ours::log_read(SEED, n)),
     ("serialize", 800, |n| upstream::serialize(SEED, n), |n| ours::serialize(SEED, n)),
@@ -85,8 +96,28 @@ fn run((name, n, upstream, ours): Workload) -> bool {
     same
 }
 
+/// The numbers of the words from the second on.
+fn numbers() -> Option<Vec<u64>> {
+    std::env::args().skip(2).map(|word| word.parse().ok()).collect()
+}
+
+/// Compares how V2 texts are read, where the words ask for it.
+fn compared(word: &str) -> Option<bool> {
+    if word != "bytes" {
+        return None;
+    }
+    match numbers()?.as_slice() {
+        [] => Some(bytes::compare_lines()),
+        [seed, count] => Some(bytes::compare(*seed, *count)),
+        _ => None,
+    }
+}
+
 fn main() -> ExitCode {
     let filter = std::env::args().nth(1).unwrap_or_default();
+    if let Some(same) = compared(&filter) {
+        return if same { ExitCode::SUCCESS } else { ExitCode::FAILURE };
+    }
     let mut same = true;
     for workload in WORKLOADS.into_iter().filter(|workload| workload.0.starts_with(&filter)) {
         same &= run(workload);

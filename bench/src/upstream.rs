@@ -23,13 +23,22 @@ fn empty() -> Histogram<u64> {
     Histogram::new_with_max(HIGH, 3).expect("lawful bounds")
 }
 
-/// A histogram in which every class up to the highest value holds 1 to 1024.
+/// A histogram in which each class up to the highest value holds 1 to 1024.
 fn filled(seed: u64) -> Histogram<u64> {
+    filled_at_each(seed, 1)
+}
+
+/// A histogram in which the first of each `every` classes up to the highest value holds 1 to 1024.
+fn filled_at_each(seed: u64, every: usize) -> Histogram<u64> {
     let mut histogram = empty();
-    let (mut x, mut value) = (seed, 0);
+    let (mut x, mut value, mut passed) = (seed, 0, 0);
     while value <= HIGH {
-        x = step(x);
-        histogram.record_n(value, (x >> 54) + 1).expect("inside the bins");
+        if passed == 0 {
+            passed = every;
+            x = step(x);
+            histogram.record_n(value, (x >> 54) + 1).expect("inside the bins");
+        }
+        passed -= 1;
         value = histogram.next_non_equivalent(value);
     }
     histogram
@@ -94,13 +103,109 @@ pub fn serialize(seed: u64, n: u64) -> u64 {
     sum
 }
 
+/// A histogram in which 100 classes hold 1 to 1024: 99 in a row from 1 ms on, and that of the highest value.
+fn sparse(seed: u64) -> Histogram<u64> {
+    let mut histogram = empty();
+    let (mut x, mut value) = (seed, 1000);
+    for _ in 0..99 {
+        x = step(x);
+        histogram.record_n(value, (x >> 54) + 1).expect("inside the bins");
+        value = histogram.next_non_equivalent(value);
+    }
+    histogram.record(HIGH).expect("inside the bins");
+    histogram
+}
+
+/// A histogram in which one class in 235 holds 1 to 1024.
+fn scattered(seed: u64) -> Histogram<u64> {
+    let mut histogram = empty();
+    let (mut x, mut value, mut class) = (seed, 0, 0);
+    while value <= HIGH {
+        if class % 235 == 117 {
+            x = step(x);
+            histogram.record_n(value, (x >> 54) + 1).expect("inside the bins");
+        }
+        value = histogram.next_non_equivalent(value);
+        class += 1;
+    }
+    histogram
+}
+
+fn recorded_sum(histogram: &Histogram<u64>, n: u64) -> u64 {
+    let mut sum = 0u64;
+    for _ in 0..n {
+        for item in black_box(histogram).iter_recorded() {
+            sum = sum.wrapping_add(item.value_iterated_to() ^ item.count_at_value());
+        }
+    }
+    sum
+}
+
 pub fn iter_recorded(seed: u64, n: u64) -> u64 {
+    recorded_sum(&filled(seed), n)
+}
+
+pub fn iter_recorded_few(seed: u64, n: u64) -> u64 {
+    recorded_sum(&sparse(seed), n)
+}
+
+pub fn iter_recorded_apart(seed: u64, n: u64) -> u64 {
+    recorded_sum(&scattered(seed), n)
+}
+
+pub fn iter_linear(seed: u64, n: u64, width: u64) -> u64 {
     let histogram = filled(seed);
     let mut sum = 0u64;
     for _ in 0..n {
-        for item in black_box(&histogram).iter_recorded() {
-            sum = sum.wrapping_add(item.value_iterated_to() ^ item.count_at_value());
+        for item in black_box(&histogram).iter_linear(width) {
+            sum = sum.wrapping_add(item.value_iterated_to() ^ item.count_since_last_iteration());
         }
+    }
+    sum
+}
+
+pub fn iter_log(seed: u64, n: u64) -> u64 {
+    let histogram = filled(seed);
+    let mut sum = 0u64;
+    for _ in 0..n {
+        for item in black_box(&histogram).iter_log(1, 2.0) {
+            sum = sum.wrapping_add(item.value_iterated_to() ^ item.count_since_last_iteration());
+        }
+    }
+    sum
+}
+
+pub fn iter_quantiles(seed: u64, n: u64) -> u64 {
+    let histogram = filled(seed);
+    let mut sum = 0u64;
+    for _ in 0..n {
+        for item in black_box(&histogram).iter_quantiles(5) {
+            sum = sum.wrapping_add(item.value_iterated_to() ^ item.count_since_last_iteration());
+        }
+    }
+    sum
+}
+
+pub fn values(seed: u64, n: u64) -> u64 {
+    let histogram = filled(seed);
+    let quantiles: Vec<f64> = (1..21).map(|num| f64::from(num) / 20.0).collect();
+    let mut sum = 0u64;
+    for _ in 0..n {
+        for value in black_box(&histogram).value_at_quantiles(quantiles.iter().copied()) {
+            sum = sum.wrapping_add(value);
+        }
+    }
+    sum
+}
+
+pub fn quantile_below(seed: u64, n: u64) -> u64 {
+    let histogram = filled(seed);
+    let len = histogram.len() as f64;
+    let (mut x, mut sum) = (seed, 0u64);
+    for _ in 0..n {
+        x = step(x);
+        let share = black_box(&histogram).quantile_below(HIGH >> (x & 31));
+        sum = sum.wrapping_add((share * len).round() as u64);
     }
     sum
 }
@@ -116,8 +221,29 @@ pub fn iter_all(seed: u64, n: u64) -> u64 {
     sum
 }
 
-pub fn deserialize(seed: u64, n: u64) -> u64 {
+pub fn quantile_below_median(seed: u64, n: u64) -> u64 {
     let histogram = filled(seed);
+    let (len, median) = (histogram.len() as f64, histogram.value_at_quantile(0.5));
+    let (mut x, mut sum) = (seed, 0u64);
+    for _ in 0..n {
+        x = step(x);
+        let share = black_box(&histogram).quantile_below(median + (x & 1023));
+        sum = sum.wrapping_add((share * len).round() as u64);
+    }
+    sum
+}
+
+pub fn decode(seed: u64, n: u64) -> u64 {
+    decode_each(seed, n, 1)
+}
+
+/// The first of each so many classes is filled, 100 of them.
+pub fn decode_few(seed: u64, n: u64) -> u64 {
+    decode_each(seed, n, 233)
+}
+
+fn decode_each(seed: u64, n: u64, every: usize) -> u64 {
+    let histogram = filled_at_each(seed, every);
     let mut bytes = Vec::new();
     let _ = V2Serializer::new().serialize(&histogram, &mut bytes).expect("counts below 2^63");
     let (mut deserializer, mut sum) = (Deserializer::new(), 0u64);

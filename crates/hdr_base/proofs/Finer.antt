@@ -4,7 +4,7 @@ use Rattle.std.proofs.lemmas.Bool.{cases_lt}
 use Rattle.std.proofs.lemmas.Nat.{mul-le, pow_pos, pow-add, div-add-mod', mod_below}
 use Rattle.hdr_base.specs.Classes.{Grain, bucket, width_of, lowest_of, bin_of, value_of, IsFiner}
 use Rattle.hdr_base.proofs.ClassLaws.{pow_mono_le, bucket-end, bucket-begin, two-halves, lowest-as-product, lowest-le, same-bin, bin-lowest, top-above, bin-width}
-use Rattle.hdr_base.proofs.ScaleLaws.{value-bin, value-lowest}
+use Rattle.hdr_base.proofs.ScaleLaws.{value-bin, value-lowest, value-width}
 
 module _ (g : Grain) (i : ℕ) (m : 0 < g.digits) where
   half-parts : let H = 2 ^ (g.digits - 1) in let k = i / H - 1 in (i - k * H < 2 ^ g.digits) × (0 < k → H ≤ i - k * H) × (k * H ≤ i)
@@ -32,6 +32,13 @@ module _ (g : Grain) (i : ℕ) (m : 0 < g.digits) where
       let H = 2 ^ (g.digits - 1) in
       let k = i / H - 1 in
       value-lowest g k (i - k * H) m half-parts.0 half-parts.1
+
+  pub width-value_of : width_of g (value_of g i) ≡ 2 ^ (g.unit + (i / 2 ^ (g.digits - 1) - 1))
+  unfolding value_of
+  width-value_of =
+      let H = 2 ^ (g.digits - 1) in
+      let k = i / H - 1 in
+      value-width g k (i - k * H) m half-parts.0 half-parts.1
 
   -- there is one lowest value of a class
   pub value_of-only : (v : ℕ) → bin_of g v ≡ i → lowest_of g v ≡ v → v ≡ value_of g i

@@ -5,3 +5,4 @@ pub mod Digits
 pub mod Reach
 pub mod Finer
 pub mod Intervals
+pub mod Tops

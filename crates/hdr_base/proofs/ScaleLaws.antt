@@ -8,7 +8,7 @@ use Rattle.std.proofs.Math.Nat.{mod-eq_of_lt}
 use Rattle.hdr_base.specs.Classes.{Grain, bucket, width_of, lowest_of, bin_of}
 use Rattle.hdr_base.specs.Classes.{unit_of, least_from}
 use Rattle.hdr_base.proofs.Least.{least_from-passes, least_from-le}
-use Rattle.hdr_base.proofs.ClassLaws.{below_own_power, ltb-from, ltb-to, pow_mono_le, bucket-is, bucket-least, two-halves, place-below, lowest-as-product, lowest-le, end-as-product}
+use Rattle.hdr_base.proofs.ClassLaws.{below_own_power, ltb-from, ltb-to, pow_mono_le, bucket-is, bucket-least, two-halves, place-below, lowest-as-product, lowest-le, end-as-product, bin-mono}
 
 module _ (g : Grain) (v : ℕ) (small : v < 2 ^ 64) (fits : g.unit + g.digits ≤ 63) where
   pub bucket-bound : g.unit + g.digits + bucket g v ≤ 64
@@ -79,7 +79,7 @@ module _ (g : Grain) (k q : ℕ) (m : 0 < g.digits) (below : q < 2 ^ g.digits) (
       let p : 2 ^ (g.unit + g.digits + (k - 1)) ≡ 2 ^ (g.digits - 1) * w = ap (λ (x : ℕ). 2 ^ x) e ∙ pow-add 2 (g.digits - 1) (g.unit + k) in
       omega (arith, mul-le (2 ^ (g.digits - 1)) w q w (above h) (omega arith)))
 
-  value-width : width_of g (q * 2 ^ (g.unit + k)) ≡ 2 ^ (g.unit + k)
+  pub value-width : width_of g (q * 2 ^ (g.unit + k)) ≡ 2 ^ (g.unit + k)
   unfolding width_of
   value-width = ap (λ (k : ℕ). 2 ^ (g.unit + k)) value-bucket
 
@@ -104,6 +104,14 @@ module _ (g : Grain) (i : ℕ) (m : 0 < g.digits) (d : g.digits ≤ 18) (fits : 
       let row : (bucket g last + 2) * H ≤ i / H * H =
       mul-le (bucket g last + 2) H (i / H) H (omega (arith, bucket-bound g last (omega arith) fits)) (omega arith) in
       omega (arith, place-below g last, two-halves g.digits m, div-add-mod' i H)
+
+  -- the bucket of a number that some value's class has
+  pub index-few : (v k : ℕ) → v < 2 ^ 64 → bin_of g v ≡ i → k ≡ i / 2 ^ (g.digits - 1) - 1 → k ≤ 64 - (g.unit + g.digits)
+  index-few v k small e is =
+      elim (cases_lt (64 - (g.unit + g.digits)) (i / 2 ^ (g.digits - 1) - 1)) [
+        | inl lt ↦ absurd (omega (arith, index-last lt, e, bin-mono g v (2 ^ 64 - 1) m (omega arith)))
+        | inr ge ↦ omega (arith, ge, is)
+      ]
 
   pub index-past : (k : ℕ) → k ≡ i / 2 ^ (g.digits - 1) - 1 → 64 - (g.unit + g.digits) < k → bin_of g (2 ^ 64 - 1) < i
   index-past k e h = index-last (omega arith)

@@ -164,6 +164,16 @@ impl Scale {
         let place = index - (bucket << half);
         Some((place as u64) << (self.unit + bucket as u8))
     }
+
+    /// The greatest value of the class of a number; `None` past the class of the greatest `u64`.
+    pub fn bin_top(self, index: usize) -> Option<u64>
+        ensures { MatchOption result (bin_of self (2 ^ 64 - 1) < index) (λ t. t ≡ top_of self (value_of self index)) }
+    {
+        let lowest = self.bin_value(index)?;
+        let bucket = (index >> (self.digits - 1)).saturating_sub(1);
+        let width: u64 = 1 << (self.unit + bucket as u8);
+        Some(lowest + (width - 1))
+    }
 }
 
 /// The exponent of the least power of two at or above twice that power of ten.

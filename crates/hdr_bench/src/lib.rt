@@ -4,6 +4,8 @@
 
 ghost use Rattle.std.specs.Prelude.{◌<◌, ◌^◌, ◌≤◌};
 
+mod bytes;
+
 use hdrhistogram::serialization::interval_log::{IntervalLogIterator, IntervalLogWriter, LogEntry};
 use hdrhistogram::serialization::{Deserializer, V2Serializer};
 use hdrhistogram::{Histogram, Quantile};
@@ -12,6 +14,9 @@ use std::time::Duration;
 
 /// The highest value of each histogram: an hour in microseconds.
 const HIGH: u64 = 3_600_000_000;
+
+/// The first of each so many classes is filled where few are, 100 of them.
+const FEW: usize = 233;
 
 /// The next number of the generator, in 64 bits.
 fn step(x: u64) -> u64 {
@@ -30,17 +35,27 @@ fn empty(alloc: Global) -> Option<Histogram<u64>> {
     Histogram::new_with_max(alloc, HIGH, 3).ok()
 }
 
-/// A histogram in which every class up to the highest value holds 1 to 1024.
+/// A histogram in which each class up to the highest value holds 1 to 1024.
 fn filled(alloc: Global, seed: u64) -> Option<Histogram<u64>> {
+    filled_at_each(alloc, seed, 1)
+}
+
+/// A histogram in which the first of each `every` classes up to the highest value holds 1 to 1024.
+fn filled_at_each(alloc: Global, seed: u64, every: usize) -> Option<Histogram<u64>> {
     let mut histogram = empty(alloc)?;
     let mut x = seed;
     let mut value = 0;
+    let mut passed: usize = 0;
     for _ in 0..histogram.distinct_values() {
         if value > HIGH {
             break;
         }
-        x = step(x);
-        histogram.record_n(value, (x >> 54).saturating_add(1)).ok()?;
+        if passed == 0 {
+            passed = every;
+            x = step(x);
+            histogram.record_n(value, (x >> 54).saturating_add(1)).ok()?;
+        }
+        passed = passed.saturating_sub(1);
         value = histogram.next_non_equivalent(value);
     }
     Some(histogram)
@@ -107,14 +122,7 @@ fn serialized(alloc: Global, seed: u64, n: u64) -> Option<u64> {
 
 #[inline(never)]
 fn iterated_recorded(alloc: Global, seed: u64, n: u64) -> Option<u64> {
-    let histogram = filled(alloc, seed)?;
-    let mut sum: u64 = 0;
-    for _ in 0..n {
-        for item in histogram.iter_recorded() {
-            sum = sum.wrapping_add(item.value_iterated_to() ^ item.count_at_value());
-        }
-    }
-    Some(sum)
+    Some(recorded_sum(&filled(alloc, seed)?, n))
 }
 
 #[inline(never)]
@@ -129,8 +137,149 @@ fn iterated_all(alloc: Global, seed: u64, n: u64) -> Option<u64> {
     Some(sum)
 }
 
-fn deserialized(alloc: Global, seed: u64, n: u64) -> Option<u64> {
+/// A histogram in which 100 classes hold 1 to 1024: 99 in a row from 1 ms on, and that of the highest value.
+fn sparse(alloc: Global, seed: u64) -> Option<Histogram<u64>> {
+    let mut histogram = empty(alloc)?;
+    let mut x = seed;
+    let mut value = 1000;
+    for _ in 0..99 {
+        x = step(x);
+        histogram.record_n(value, (x >> 54).saturating_add(1)).ok()?;
+        value = histogram.next_non_equivalent(value);
+    }
+    histogram.record(HIGH).ok()?;
+    Some(histogram)
+}
+
+/// A histogram in which one class in 235 holds 1 to 1024.
+fn scattered(alloc: Global, seed: u64) -> Option<Histogram<u64>> {
+    let mut histogram = empty(alloc)?;
+    let mut x = seed;
+    let mut value = 0;
+    for class in 0..histogram.distinct_values() {
+        if value > HIGH {
+            break;
+        }
+        if class % 235 == 117 {
+            x = step(x);
+            histogram.record_n(value, (x >> 54).saturating_add(1)).ok()?;
+        }
+        value = histogram.next_non_equivalent(value);
+    }
+    Some(histogram)
+}
+
+/// Passes over the nonempty bins: the sum of each value with its counter's bits turned by it.
+fn recorded_sum(histogram: &Histogram<u64>, n: u64) -> u64 {
+    let mut sum: u64 = 0;
+    for _ in 0..n {
+        for item in histogram.iter_recorded() {
+            sum = sum.wrapping_add(item.value_iterated_to() ^ item.count_at_value());
+        }
+    }
+    sum
+}
+
+#[inline(never)]
+fn iterated_few(alloc: Global, seed: u64, n: u64) -> Option<u64> {
+    Some(recorded_sum(&sparse(alloc, seed)?, n))
+}
+
+#[inline(never)]
+fn iterated_apart(alloc: Global, seed: u64, n: u64) -> Option<u64> {
+    Some(recorded_sum(&scattered(alloc, seed)?, n))
+}
+
+#[inline(never)]
+fn iterated_linear(alloc: Global, seed: u64, n: u64, width: u64) -> Option<u64> {
     let histogram = filled(alloc, seed)?;
+    if width == 0 {
+        return None;
+    }
+    let mut sum: u64 = 0;
+    for _ in 0..n {
+        for item in histogram.iter_linear(width) {
+            sum = sum.wrapping_add(item.value_iterated_to() ^ item.count_since_last_iteration());
+        }
+    }
+    Some(sum)
+}
+
+#[inline(never)]
+fn iterated_log(alloc: Global, seed: u64, n: u64) -> Option<u64> {
+    let histogram = filled(alloc, seed)?;
+    let mut sum: u64 = 0;
+    for _ in 0..n {
+        for item in histogram.iter_log(1, 2) {
+            sum = sum.wrapping_add(item.value_iterated_to() ^ item.count_since_last_iteration());
+        }
+    }
+    Some(sum)
+}
+
+#[inline(never)]
+fn iterated_quantiles(alloc: Global, seed: u64, n: u64) -> Option<u64> {
+    let histogram = filled(alloc, seed)?;
+    let mut sum: u64 = 0;
+    for _ in 0..n {
+        for item in histogram.iter_quantiles(5) {
+            sum = sum.wrapping_add(item.value_iterated_to() ^ item.count_since_last_iteration());
+        }
+    }
+    Some(sum)
+}
+
+/// Twenty quantiles: 1/20, 2/20, .. 20/20.
+fn twentieths(alloc: Global) -> Option<Vec<Quantile>> {
+    let mut quantiles = Vec::new(alloc);
+    for num in 1..21 {
+        quantiles.push(Quantile::new(num, 20)?).ok()?;
+    }
+    Some(quantiles)
+}
+
+#[inline(never)]
+fn ranked_in_one_pass(alloc: Global, seed: u64, n: u64) -> Option<u64> {
+    let histogram = filled(alloc, seed)?;
+    let quantiles = twentieths(alloc)?;
+    let mut sum: u64 = 0;
+    for _ in 0..n {
+        for value in histogram.value_at_quantiles(&quantiles) {
+            sum = sum.wrapping_add(value);
+        }
+    }
+    Some(sum)
+}
+
+#[inline(never)]
+fn counted_below(alloc: Global, seed: u64, n: u64) -> Option<u64> {
+    let histogram = filled(alloc, seed)?;
+    let mut x = seed;
+    let mut sum: u64 = 0;
+    for _ in 0..n {
+        x = step(x);
+        let share = histogram.quantile_below(HIGH >> (x & 31));
+        sum = sum.wrapping_add(share.num as u64);
+    }
+    Some(sum)
+}
+
+#[inline(never)]
+fn counted_below_median(alloc: Global, seed: u64, n: u64) -> Option<u64> {
+    let histogram = filled(alloc, seed)?;
+    let median = histogram.value_at_quantile(Quantile::new(1, 2)?);
+    let mut x = seed;
+    let mut sum: u64 = 0;
+    for _ in 0..n {
+        x = step(x);
+        let share = histogram.quantile_below(median.saturating_add(x & 1023));
+        sum = sum.wrapping_add(share.num as u64);
+    }
+    Some(sum)
+}
+
+fn decoded(alloc: Global, seed: u64, n: u64, every: usize) -> Option<u64> {
+    let histogram = filled_at_each(alloc, seed, every)?;
     let mut serializer = V2Serializer::new(alloc);
     let bytes = serializer.to_bytes(&histogram).ok()?;
     let mut deserializer = Deserializer::new(alloc);
@@ -265,10 +414,64 @@ pub extern "C" fn hdrb_iter_all(alloc: Global, seed: u64, n: u64) -> u64 {
     iterated_all(alloc, seed, n).unwrap_or(0)
 }
 
-/// `decode_slice` of one text: the sum of the lengths.
+/// Passes of `iter_recorded` over 100 filled bins, 99 of them in a row.
 #[unsafe(no_mangle)]
-pub extern "C" fn hdrb_deserialize(alloc: Global, seed: u64, n: u64) -> u64 {
-    deserialized(alloc, seed, n).unwrap_or(0)
+pub extern "C" fn hdrb_iter_recorded_few(alloc: Global, seed: u64, n: u64) -> u64 {
+    iterated_few(alloc, seed, n).unwrap_or(0)
+}
+
+/// Passes of `iter_recorded` over 100 filled bins that lie apart.
+#[unsafe(no_mangle)]
+pub extern "C" fn hdrb_iter_recorded_apart(alloc: Global, seed: u64, n: u64) -> u64 {
+    iterated_apart(alloc, seed, n).unwrap_or(0)
+}
+
+/// Passes of `iter_linear` by a step: the sum of each level with the bits of its count turned by it.
+#[unsafe(no_mangle)]
+pub extern "C" fn hdrb_iter_linear(alloc: Global, seed: u64, n: u64, width: u64) -> u64 {
+    iterated_linear(alloc, seed, n, width).unwrap_or(0)
+}
+
+/// Passes of `iter_log` from 1 by 2, likewise.
+#[unsafe(no_mangle)]
+pub extern "C" fn hdrb_iter_log(alloc: Global, seed: u64, n: u64) -> u64 {
+    iterated_log(alloc, seed, n).unwrap_or(0)
+}
+
+/// Passes of `iter_quantiles` by 5 ticks, likewise.
+#[unsafe(no_mangle)]
+pub extern "C" fn hdrb_iter_quantiles(alloc: Global, seed: u64, n: u64) -> u64 {
+    iterated_quantiles(alloc, seed, n).unwrap_or(0)
+}
+
+/// `value_at_quantiles` of twenty quantiles: the sum of the answers.
+#[unsafe(no_mangle)]
+pub extern "C" fn hdrb_values(alloc: Global, seed: u64, n: u64) -> u64 {
+    ranked_in_one_pass(alloc, seed, n).unwrap_or(0)
+}
+
+/// `quantile_below` of the highest value and its halves: the sum of the counts.
+#[unsafe(no_mangle)]
+pub extern "C" fn hdrb_quantile_below(alloc: Global, seed: u64, n: u64) -> u64 {
+    counted_below(alloc, seed, n).unwrap_or(0)
+}
+
+/// `quantile_below` of values from the median on, likewise.
+#[unsafe(no_mangle)]
+pub extern "C" fn hdrb_quantile_below_median(alloc: Global, seed: u64, n: u64) -> u64 {
+    counted_below_median(alloc, seed, n).unwrap_or(0)
+}
+
+/// `decode_slice` of the text of a histogram with each class filled: the sum of the lengths.
+#[unsafe(no_mangle)]
+pub extern "C" fn hdrb_decode(alloc: Global, seed: u64, n: u64) -> u64 {
+    decoded(alloc, seed, n, 1).unwrap_or(0)
+}
+
+/// `decode_slice` of the text of a histogram with 100 filled classes, likewise.
+#[unsafe(no_mangle)]
+pub extern "C" fn hdrb_decode_few(alloc: Global, seed: u64, n: u64) -> u64 {
+    decoded(alloc, seed, n, FEW).unwrap_or(0)
 }
 
 /// `write_histogram` of an interval with 2,000 filled bins: the sum of the lines' lengths.

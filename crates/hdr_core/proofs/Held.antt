@@ -1,9 +1,7 @@
 -- What the classes of another histogram hold of a class, one more at a time.
 use Rattle.std.proofs.Common.{◌≡◌, ◌≢◌, ℕ, zero, suc, ◌+◌, ◌-◌, ◌<◌, ◌≤◌, List, [], ◌∷◌, ◌++◌, length, get_or, take, drop, replicate, refl, sym, ap, subst, ◌∙◌, arith, inl, inr}
 use Rattle.std.proofs.lemmas.Bool.{cases_lt, cases_eq}
-use Rattle.std.proofs.Common.{Option, Some, None, IfSome, set, sum}
-use Rattle.hdr_core.specs.Plain.{IsAbove, IsBelow}
-use Rattle.hdr_core.specs.Plain.{IsTopMark, IsLowerMark}
+use Rattle.std.proofs.Common.{Option, Some, None, set, sum}
 use Rattle.std.proofs.lemmas.List.{get_or_past, get_or-set_same, get_or-set_other, append-nil, take_more, take_all, length-take-le, take-append-drop}
 use Rattle.hdr_base.specs.Classes.{Grain, bin_of, value_of}
 use Rattle.hdr_base.proofs.ClassLaws.{bin-mono}
@@ -153,19 +151,3 @@ taken-next g f ns was now i target lt pos here inside enough taken j =
       | inl e ↦ subst (λ k. get_or (set now target put) k 0 + held g f ns (i + 1) k ≡ get_or was k 0) e (omega (arith, step, taken target, get_or-set_same now target put 0 inside))
       | inr n ↦ omega (arith, get_or-set_other now target j put 0 (λ e. n (sym e)), held-other g f ns i j lt pos (λ e. n (here ∙ e)), taken j)
     ]
-
-top-mark-in : (counts : List ℕ) (mark : Option ℕ) → IsTopMark counts mark → IfSome mark (λ i. i < length counts)
-top-mark-in counts None t = tt
-top-mark-in counts (Some m) t = place-in counts m t.0
-
-lower-mark-in : (counts : List ℕ) (mark : Option ℕ) → IsLowerMark counts mark → IfSome mark (λ i. (0 < i) × (i < length counts))
-lower-mark-in counts None t = tt
-lower-mark-in counts (Some m) t = (t.0, place-in counts m t.1)
-
-top-mark-above : (counts : List ℕ) (mark : Option ℕ) → IsTopMark counts mark → (i : ℕ) → IsAbove mark i → get_or counts i 0 ≡ 0
-top-mark-above counts None t i a = t i
-top-mark-above counts (Some m) t i a = t.1 i a
-
-lower-mark-below : (counts : List ℕ) (mark : Option ℕ) → IsLowerMark counts mark → (i : ℕ) → IsBelow mark i → get_or counts i 0 ≡ 0
-lower-mark-below counts None t i a = t i a
-lower-mark-below counts (Some m) t i a = t.2 i a.0 a.1

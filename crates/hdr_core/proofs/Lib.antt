@@ -27,3 +27,4 @@ pub mod Shares
 pub mod Means
 pub mod Steps
 pub mod Joined
+pub mod Filled

@@ -15,3 +15,4 @@ pub mod Missing
 pub mod Statistics
 pub mod Iterated
 pub mod Joined
+pub mod Filling

@@ -1,7 +1,7 @@
 //! The histogram: how it is made, and what it tells of itself.
 
 ghost use Rattle.std.specs.Prelude.{◌≡◌, ◌↔◌, MatchResult, MatchOption, IsTrue, false, true, ◌+◌, ◌*◌, ◌<◌, ◌≤◌, IfSome, SomeIff, length, map, slice_index, unwrap_or};
-ghost use Rattle.hdr_base.specs.Classes.{bin_of, bucket, value_of, top_of};
+ghost use Rattle.hdr_base.specs.Classes.{bin_of, bucket, grain_of, value_of, top_of};
 ghost use Rattle.hdr_core.specs.Plain.{IsPlain, grain, reach, block_of, empty_plain, max_of, min_nz_of, min_of};
 ghost use Rattle.hdr_core.specs.Recording.{grown};
 ghost use Rattle.hdr_core.specs.Refusals.{RefusesBounds, IsBounds};
@@ -53,21 +53,7 @@ impl<T: Counter> Histogram<T> {
     ) -> Result<Histogram<T>, CreationError>
         ensures { MatchResult result (λ h. (h ≡ empty_plain low high sigfig false) × IsBounds low high sigfig) (RefusesBounds low high sigfig) }
     {
-        if low < 1 {
-            return Err(CreationError::LowIsZero);
-        }
-        if low > u64::MAX / 2 {
-            return Err(CreationError::LowExceedsMax);
-        }
-        if high < 2 * low {
-            return Err(CreationError::HighLessThanTwiceLow);
-        }
-        if sigfig > 5 {
-            return Err(CreationError::SigFigExceedsMax);
-        }
-        let Some(scale) = Scale::new(low, sigfig) else {
-            return Err(CreationError::CannotRepresentSigFigBeyondLow);
-        };
+        let scale = scale_for(low, high, sigfig)?;
         let Ok(counts) = Counts::new(alloc, scale.buckets(high) + 1, scale.block()) else {
             return Err(CreationError::OutOfMemory);
         };
@@ -288,4 +274,26 @@ impl<T: Counter> Histogram<T> {
         self.high = high;
         Ok(())
     }
+}
+
+/// The scale of a histogram's bounds; the first that does not hold is the error.
+pub(crate) fn scale_for(low: u64, high: u64, sigfig: u8) -> Result<Scale, CreationError>
+    ensures { MatchResult result (λ s. (s ≡ grain_of low sigfig) × IsBounds low high sigfig) (RefusesBounds low high sigfig) }
+{
+    if low < 1 {
+        return Err(CreationError::LowIsZero);
+    }
+    if low > u64::MAX / 2 {
+        return Err(CreationError::LowExceedsMax);
+    }
+    if high < 2 * low {
+        return Err(CreationError::HighLessThanTwiceLow);
+    }
+    if sigfig > 5 {
+        return Err(CreationError::SigFigExceedsMax);
+    }
+    let Some(scale) = Scale::new(low, sigfig) else {
+        return Err(CreationError::CannotRepresentSigFigBeyondLow);
+    };
+    Ok(scale)
 }

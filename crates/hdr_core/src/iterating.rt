@@ -16,7 +16,13 @@ impl<T: Counter> Binned<T> for Histogram<T> {
 
     fn binned(&self) -> Bins<'_, T> {
         let last = self.marks.top().unwrap_or(0);
-        Bins::new(self.scale, self.counts.as_slice(), self.total, last)
+        Bins::new(
+            self.scale,
+            self.counts.as_slice(),
+            self.counts.sums(),
+            self.total,
+            last,
+        )
     }
 }
 

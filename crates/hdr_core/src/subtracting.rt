@@ -1,6 +1,6 @@
 //! Subtracting one histogram from another.
 
-ghost use Rattle.std.specs.Prelude.{◌≡◌, ℕ, ◌+◌, ◌-◌, ◌<◌, ◌≤◌, OnOk, IfErr, IfSome, All, true, false, slice_index, slice_set, length};
+ghost use Rattle.std.specs.Prelude.{◌≡◌, ℕ, ◌+◌, ◌-◌, ◌<◌, ◌≤◌, OnOk, IfErr, All, true, false, slice_index, slice_set, length};
 ghost use Rattle.hdr_base.specs.Classes.{bin_of, value_of};
 ghost use Rattle.hdr_core.specs.Plain.{IsTopMark, IsLowerMark, grain, reach, max_of};
 ghost use Rattle.hdr_core.specs.Merging.{lowest_values};
@@ -111,22 +111,9 @@ fn take_from<T: Counter>(counts: &mut Counts<T>, target: usize, count: T)
 }
 
 /// The marks of counters.
-fn marks_of<T: Counter>(counts: &Counts<T>) -> Marks
+pub(crate) fn marks_of<T: Counter>(counts: &Counts<T>) -> Marks
     ensures top { IsTopMark counts.now.numbers result.top }
     ensures lower { IsLowerMark counts.now.numbers result.lower }
 {
-    Marks::new(counts.last_nonzero(), lower_mark_of(counts))
-}
-
-/// The first place behind the first of a counter above 0.
-fn lower_mark_of<T: Counter>(counts: &Counts<T>) -> Option<usize>
-    ensures mark { IsLowerMark counts.now.numbers result }
-    ensures within { IfSome result (λ i. (0 < i) × (i < 6291456)) }
-{
-    for i in 1..counts.len() {
-        if counts.get(i).as_u64() > 0 {
-            return Some(i);
-        }
-    }
-    None
+    Marks::new(counts.last_nonzero(), counts.next_nonzero())
 }

@@ -1,3 +1,6 @@
 pub mod BlockSums
 pub mod Places
 pub mod CappedSums
+pub mod OpenSums
+pub mod NonzeroPlaces
+pub mod BlockParts

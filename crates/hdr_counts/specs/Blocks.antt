@@ -1,6 +1,6 @@
 -- A list of numbers in blocks of one length: its sums, the first place where they reach a rank, and the capped sums of
 -- two lists. (No item of the Rust crate: it keeps its counters in one vector and adds them up wherever a sum is asked for.)
-use Rattle.std.specs.Prelude.{◌≡◌, ℕ, ◌+◌, ◌*◌, ◌/◌, ◌%◌, ◌^◌, ◌<◌, ◌≤◌, min, List, ◌∷◌, length, take, sum, slice_index, All, Option, Some, None, IfSome}
+use Rattle.std.specs.Prelude.{◌≡◌, ℕ, Bool, false, ◌+◌, ◌-◌, ◌*◌, ◌/◌, ◌%◌, ◌^◌, ◌<◌, ◌≤◌, min, List, ◌∷◌, ◌++◌, length, replicate, take, sum, slice_index, All, Option, Some, None, IfSome}
 
 -- how long a block is, and the numbers of all blocks in order
 pub record Blocks : Type 0 where
@@ -15,6 +15,18 @@ sum_below numbers i = sum (take i numbers)
 abbrev pub IsFirstToReach : List ℕ → ℕ → ℕ → Type 0
 IsFirstToReach numbers rank i =
     (i < length numbers) × (sum_below numbers i < rank) × (rank ≤ sum_below numbers (i + 1))
+
+-- all numbers are 0
+abbrev pub AreZeros : List ℕ → Type 0
+AreZeros numbers = (i : ℕ) → slice_index numbers i ≡ 0
+
+-- m is the last place of a number above 0
+abbrev pub IsLastNonzero : List ℕ → ℕ → Type 0
+IsLastNonzero numbers m = (0 < slice_index numbers m) × ((i : ℕ) → m < i → slice_index numbers i ≡ 0)
+
+-- m is the first place of a number above 0
+abbrev pub IsFirstNonzero : List ℕ → ℕ → Type 0
+IsFirstNonzero numbers m = (0 < slice_index numbers m) × ((i : ℕ) → i < m → slice_index numbers i ≡ 0)
 
 -- numbers that are searched for ranks that do not fall, and the sum of those that were passed over
 pub record Searched : Type 0 where
@@ -48,5 +60,21 @@ IsShift block shift = IfSome shift (λ s. (s < 64) × (block ≡ 2 ^ s))
 -- above the greatest counter
 pub record AreHeld (greatest block : ℕ) (numbers sums : List ℕ) (shift : Option ℕ) : Type 0 where
   pub sums_are : AreSums block numbers sums
+  pub shift_is : IsShift block shift
+  pub fit : All (λ n. n ≤ greatest) numbers
+
+-- numbers, and zeros behind them up to a length
+abbrev pub with_zeros : List ℕ → ℕ → List ℕ
+with_zeros numbers len = numbers ++ replicate (len - length numbers) 0
+
+-- what is true of counters that are being set, of which the first are at hand and the others are 0: there is room for all of
+-- them, there are as many sums as blocks, and where sums are kept at each place that is set they are those of the blocks
+pub record AreOpen (greatest block len capacity : ℕ) (numbers sums : List ℕ) (shift : Option ℕ) (late : Bool) : Type 0 where
+  pub some : 1 ≤ block
+  pub few : len ≤ 6291456
+  pub whole : len ≡ length sums * block
+  pub within : length numbers ≤ len
+  pub room : len ≤ capacity
+  pub kept : late ≡ false → AreSums block (with_zeros numbers len) sums
   pub shift_is : IsShift block shift
   pub fit : All (λ n. n ≤ greatest) numbers

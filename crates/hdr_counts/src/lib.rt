@@ -2,15 +2,19 @@
 #![tactic(auto)]
 
 mod adding;
+mod blocks;
 mod clearing;
+mod ends;
+mod open_counts;
 mod search;
 
 ghost use Rattle.std.specs.Prelude.{◌≡◌, ℕ, ◌+◌, ◌-◌, ◌*◌, ◌/◌, ◌%◌, ◌^◌, ◌<◌, ◌≤◌, length, take, map, sum, replicate, slice_index, slice_set, MatchOption, MatchResult, IfOk, IfSome, [], ◌++◌, All};
 ghost use Rattle.hdr_counts.specs.Blocks.{Blocks, sum_below, IsFirstToReach, looks, capped_sums, IsShift};
 
-use adding::{add_blocks, sum_of};
+use adding::add_blocks;
 use clearing::clear_blocks;
 use hdr_base::{Counter, Ticks};
+pub use open_counts::OpenCounts;
 pub use search::Search;
 use search::{first_reaching, first_reaching_looked, look};
 use std::alloc::{AllocError, Global};
@@ -141,7 +145,7 @@ impl<T: Counter> Counts<T> {
         for sum in &self.sums[..k] {
             total += *sum;
         }
-        total + sum_of(&self.counters[k * self.block..=i])
+        total + self.sum_in_block(k, i)
     }
 
     /// The first place where the sum up to and with it reaches `rank`, with a tick for each look at a block's sum or at
@@ -204,21 +208,6 @@ impl<T: Counter> Counts<T> {
             Some(place) => from + place,
             None => from,
         }
-    }
-
-    /// The last place of a counter above 0.
-    pub fn last_nonzero(&self) -> Option<usize>
-        ensures within { IfSome result (λ m. m < 6291456) }
-        ensures place { MatchOption result ((i : ℕ) → slice_index self.now.numbers i ≡ 0) (λ m. (0 < slice_index self.now.numbers m) × ((i : ℕ) → m < i → slice_index self.now.numbers i ≡ 0)) }
-    {
-        let len = self.counters.len();
-        for passed in 0..len {
-            let i = len - 1 - passed;
-            if self.counters[i].as_u64() > 0 {
-                return Some(i);
-            }
-        }
-        None
     }
 
     /// Adds the counters of a list of the same shape place by place, each sum up to the greatest counter. A block that

@@ -1,11 +1,11 @@
 -- The lists of all bins and of the nonempty ones, one bin on.
 use Rattle.std.proofs.Common.{◌≡◌, ◌≢◌, ℕ, ◌+◌, ◌-◌, ◌<◌, ◌≤◌, zero, suc, Bool, true, false, cond, eqb, ltb, [], ◌∷◌, get_or, map, Option, Some, None, sym, refl, ap, ◌∙◌, subst, ⊎_elim, arith, rules, tests, eq-eqb}
 use Rattle.std.proofs.lemmas.Bool.{false≢true, cases_lt, cases_Bool}
-use Rattle.std.proofs.lemmas.Bool.{eqb-true}
+use Rattle.std.proofs.lemmas.Bool.{eqb-true, ltb-true}
 use Rattle.std.specs.List.{range_with_len, filter}
 use Rattle.std.specs.Option.{option_eq}
 use Rattle.hdr_iterators.specs.Seen.{Seen, AreBins, bins_in}
-use Rattle.hdr_iterators.specs.Picks.{NoneBefore, AllBefore, IsAtEnd, behind}
+use Rattle.hdr_iterators.specs.Picks.{NoneBefore, AllBefore, AllFilled, IsAtEnd, behind}
 use Rattle.hdr_iterators.specs.Places.{bin_pick, bins_from, is_nonempty}
 
 range_within : (a n m : ℕ) → a + n ≤ m → AllBefore m (map bin_pick (range_with_len a n))
@@ -140,3 +140,19 @@ pub recorded_end : (h : Seen) (v last : Option ℕ) → AreBins h → v ≡ last
 recorded_end h v last p e end =
     let at : behind v ≡ behind last = ap behind e in
     ap (map bin_pick) (kept_none (is_nonempty h) (behind v) (bins_in h - behind v) (λ k l. empty_is h k (p.none_behind k (omega (arith, at, l, end)))))
+
+-- each pick of a nonempty bin is one
+kept_filled : (h : Seen) (a n : ℕ) → AllFilled h (map bin_pick (filter (is_nonempty h) (range_with_len a n)))
+kept_filled h a zero = tt
+kept_filled h a (suc n) =
+    let rest : AllFilled h (map bin_pick (filter (is_nonempty h) (range_with_len (a + 1) n))) = kept_filled h (a + 1) n in
+    ⊎_elim
+    (λ (yes : is_nonempty h a ≡ true).
+    let some : 0 < get_or h.numbers a 0 = ltb-true 0 (get_or h.numbers a 0) yes in
+    subst (λ b. AllFilled h (map bin_pick (cond b (a ∷ filter (is_nonempty h) (range_with_len (a + 1) n)) (filter (is_nonempty h) (range_with_len (a + 1) n))))) (sym yes) (some, rest))
+    (λ (no : is_nonempty h a ≡ false).
+    subst (λ b. AllFilled h (map bin_pick (cond b (a ∷ filter (is_nonempty h) (range_with_len (a + 1) n)) (filter (is_nonempty h) (range_with_len (a + 1) n))))) (sym no) rest)
+    (cases_Bool (is_nonempty h a))
+
+pub recorded_filled : (h : Seen) (v : Option ℕ) → AllFilled h (map bin_pick (filter (is_nonempty h) (bins_from h (behind v))))
+recorded_filled h v = kept_filled h (behind v) (bins_in h - behind v)

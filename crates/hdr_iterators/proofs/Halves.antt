@@ -1,7 +1,8 @@
 -- The ticks by halves: which are within a running count.
 use Rattle.std.proofs.Common.{◌≡◌, ℕ, ◌+◌, ◌-◌, ◌*◌, ◌/◌, ◌%◌, ◌^◌, ◌<◌, ◌≤◌, zero, suc, true, false, leb, sym, ap, ap₂, ◌∙◌, ⊎_elim, arith}
 use Rattle.std.proofs.lemmas.Bool.{false≢true, cases_lt, cases_Bool, leb-true, le-leb}
-use Rattle.std.proofs.Math.Nat.{pow-suc, mul-le-mul_right, mul-le-mul_left}
+use Rattle.std.proofs.lemmas.Bool.Decides.{leb_tells}
+use Rattle.std.proofs.Math.Nat.{pow-suc, div-lt_iff_lt-mul, mul-le-mul_right, mul-le-mul_left}
 use Rattle.std.proofs.Math.Pow.{pow_mono}
 use Rattle.hdr_base.specs.Fractions.{Ratio}
 use Rattle.hdr_iterators.specs.Places.{tick_of, is_within, ticks_within}
@@ -105,6 +106,25 @@ within_test t r n k d w l m e f =
     (λ (z : leb ((w - d) * n) (r * w) ≡ false). z ∙ sym no)
     (cases_Bool (leb ((w - d) * n) (r * w))))
     (cases_Bool (leb (n - r) (d * n / w)))
+
+-- what is left after a tick is within the whole
+pub left_within : (w d n : ℕ) → 1 ≤ w → d ≤ w → d * n / w ≤ n
+left_within w d n l m =
+    let a : d * n ≤ w * n = mul-le-mul_right n m in
+    let b : d * n < (n + 1) * w = omega (arith, a, l) in
+    omega (arith, (div-lt_iff_lt-mul {k = w} {x = d * n} {y = n + 1} l).1 b)
+
+-- a test by what is left is one by the count
+pub leb_turned : (n r f : ℕ) → r ≤ n → f ≤ n → leb (n - r) f ≡ leb (n - f) r
+leb_turned n r f l m =
+    ⊎_elim
+    (λ (y : (leb (n - r) f ≡ true) × (n - r ≤ f)). y.0 ∙ sym (le-leb (n - f) r (omega (arith, y.1, l, m))))
+    (λ (no : (leb (n - r) f ≡ false) × (f < n - r)).
+    ⊎_elim
+    (λ (z : (leb (n - f) r ≡ true) × (n - f ≤ r)). absurd (omega (arith, z.1, no.1, l, m)))
+    (λ (z : (leb (n - f) r ≡ false) × (r < n - f)). no.0 ∙ sym z.0)
+    (leb_tells (n - f) r))
+    (leb_tells (n - r) f)
 
 -- a tick within a running count below the total is in the first 64 halves
 pub within_few : (t r n k : ℕ) → 1 ≤ t → r < n → n < 2 ^ 64 → is_within t r n k ≡ true → k < 64 * t

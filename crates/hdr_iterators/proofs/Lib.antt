@@ -8,4 +8,6 @@ pub mod TickTests
 pub mod Halves
 pub mod TickLists
 pub mod TickSteps
+pub mod EmptyRuns
+pub mod PicksOnce
 pub mod Rows

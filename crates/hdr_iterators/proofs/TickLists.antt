@@ -1,13 +1,14 @@
 -- The list of picks of ticks, in parts by bins.
 use Rattle.std.proofs.Common.{◌≡◌, ◌≢◌, ℕ, ◌+◌, ◌-◌, ◌^◌, ◌<◌, ◌≤◌, zero, suc, Bool, true, false, cond, ltb, eqb, ◌&&◌, List, [], ◌∷◌, ◌++◌, length, get_or, map, drop, filter, flat_map, sum, Option, sym, refl, ap, ap₂, ◌∙◌, subst, ◌⊎◌, inr, ⊎_elim, arith}
-use Rattle.std.proofs.lemmas.Bool.{cases_lt, lt-ltb, le-ltb, eq-eqb}
+use Rattle.std.proofs.lemmas.Bool.{cases_lt, cases_Bool, lt-ltb, le-ltb, eq-eqb, ltb-true}
 use Rattle.std.proofs.lemmas.Bool.Decides.{eqb_tells}
+use Rattle.std.proofs.lemmas.Bool.{false≢true}
 use Rattle.std.proofs.lemmas.List.{append_assoc, length-append}
 use Rattle.std.proofs.lemmas.List.Sums.{sum_by-take-le}
 use Rattle.std.proofs.lemmas.List.FromFn.{length-map-range_with_len}
 use Rattle.std.specs.List.{range_with_len}
 use Rattle.hdr_iterators.specs.Seen.{Seen, AreBins, bins_in, below, running, capped}
-use Rattle.hdr_iterators.specs.Picks.{Pick, NoneBefore, AllBefore, behind}
+use Rattle.hdr_iterators.specs.Picks.{Pick, NoneBefore, AllBefore, AllFilled, behind}
 use Rattle.hdr_iterators.specs.Places.{tick_of, tick_pick, is_within, ticks_within, ticks_before, ticks_at, is_ticked, is_nonempty, quantile_picks, all_of_them}
 use Rattle.hdr_iterators.specs.Ticks.{IsOpen}
 use Rattle.hdr_iterators.proofs.Steps.{below_more, below-le}
@@ -101,6 +102,46 @@ ticked_ahead h t a (suc n) m l = subst (NoneBefore m) (sym (ticked_first h t a n
 
 pub picks_within : (h : Seen) (t : ℕ) → AllBefore (bins_in h) (quantile_picks h t)
 picks_within h t = ticked_within h t 0 (bins_in h - 0) (bins_in h) (omega arith)
+
+-- each pick of a tick is of a nonempty bin
+AllFilled-append : (h : Seen) (ps qs : List Pick) → AllFilled h ps → AllFilled h qs → AllFilled h (ps ++ qs)
+AllFilled-append h [] qs a b = b
+AllFilled-append h (p ∷ ps) qs a b = (a.0, AllFilled-append h ps qs a.1 b)
+
+ticks_here_filled : (h : Seen) (t b a n : ℕ) → 0 < get_or h.numbers b 0 → AllFilled h (map (λ k. tick_pick b (tick_of t k)) (range_with_len a n))
+ticks_here_filled h t b a zero l = tt
+ticks_here_filled h t b a (suc n) l = (l, ticks_here_filled h t b (a + 1) n l)
+
+ticked_some : (h : Seen) (b : ℕ) → is_ticked h b ≡ true → 0 < get_or h.numbers b 0
+ticked_some h b e =
+    ⊎_elim
+    (λ (yes : is_nonempty h b ≡ true). ltb-true 0 (get_or h.numbers b 0) yes)
+    (λ (no : is_nonempty h b ≡ false). absurd (false≢true (sym (ap (λ c. c && ltb (capped (below h b)) h.total) no) ∙ e)))
+    (cases_Bool (is_nonempty h b))
+
+own_filled : (h : Seen) (t b : ℕ) → AllFilled h (own h t b)
+own_filled h t b =
+    let open_part : List Pick = map (λ k. tick_pick b (tick_of t k)) (range_with_len (ticks_before h t b) (ticks_within t (running h b) h.total - ticks_before h t b)) in
+    let end_part : List Pick = tick_pick b (tick_of t (ticks_before h t b)) ∷ tick_pick b all_of_them ∷ [] in
+    ⊎_elim
+    (λ (yes : is_ticked h b ≡ true).
+    let l = ticked_some h b yes in
+    let here : AllFilled h (ticks_at h t b) = elim (ltb (running h b) h.total) as (λ c. AllFilled h (cond c open_part end_part)) [ true ↦ ticks_here_filled h t b (ticks_before h t b) (ticks_within t (running h b) h.total - ticks_before h t b) l | false ↦ (l, (l, tt)) ] in
+    subst (λ c. AllFilled h (cond c (ticks_at h t b) [])) (sym yes) here)
+    (λ (no : is_ticked h b ≡ false). subst (λ c. AllFilled h (cond c (ticks_at h t b) [])) (sym no) tt)
+    (cases_Bool (is_ticked h b))
+
+ticked_filled : (h : Seen) (t a n : ℕ) → AllFilled h (ticked_in h t a n)
+ticked_filled h t a zero = tt
+ticked_filled h t a (suc n) = subst (AllFilled h) (sym (ticked_first h t a n)) (AllFilled-append h (own h t a) (ticked_in h t (a + 1) n) (own_filled h t a) (ticked_filled h t (a + 1) n))
+
+drop_filled : (h : Seen) (k : ℕ) (ps : List Pick) → AllFilled h ps → AllFilled h (drop k ps)
+drop_filled h zero ps a = a
+drop_filled h (suc k) [] a = tt
+drop_filled h (suc k) (p ∷ ps) a = drop_filled h k ps a.1
+
+pub picks_filled : (h : Seen) (t k : ℕ) → AllFilled h (drop k (quantile_picks h t))
+picks_filled h t k = drop_filled h k (quantile_picks h t) (ticked_filled h t 0 (bins_in h - 0))
 
 -- a list behind its first picks
 drop_ahead : (i k : ℕ) (ps : List Pick) → NoneBefore i ps → NoneBefore i (drop k ps)

@@ -37,6 +37,16 @@ items_from h from (p ∷ ps) = item_of h from p ∷ items_from h (p.place + 1) p
 abbrev pub items_of : Seen → List Pick → List Item
 items_of h ps = items_from h 0 ps
 
+-- the bins of picks, in their order
+abbrev pub places : List Pick → List ℕ
+places [] = []
+places (p ∷ ps) = p.place ∷ places ps
+
+-- each number is above those before it, and the first is at least a
+abbrev pub RiseFrom : ℕ → List ℕ → Type 0
+RiseFrom a [] = Unit {0}
+RiseFrom a (n ∷ ns) = (a ≤ n) × RiseFrom (n + 1) ns
+
 -- no pick is of a bin before bin i
 abbrev pub NoneBefore : ℕ → List Pick → Type 0
 NoneBefore i [] = Unit {0}
@@ -46,6 +56,11 @@ NoneBefore i (p ∷ ps) = (i ≤ p.place) × NoneBefore i ps
 abbrev pub AllBefore : ℕ → List Pick → Type 0
 AllBefore n [] = Unit {0}
 AllBefore n (p ∷ ps) = (p.place < n) × AllBefore n ps
+
+-- each pick is of a bin that holds samples
+abbrev pub AllFilled : Seen → List Pick → Type 0
+AllFilled h [] = Unit {0}
+AllFilled h (p ∷ ps) = (0 < slice_index h.numbers p.place) × AllFilled h ps
 
 -- the bin behind the one that was picked last
 abbrev pub behind : Option ℕ → ℕ

@@ -1,13 +1,23 @@
 -- Where the picker of ticks stands.
-use Rattle.std.specs.Prelude.{◌≡◌, ℕ, ◌+◌, ◌<◌, ◌≤◌, [], ◌∷◌, drop, slice_index, Option, MatchOption, Bool, true, false, if◌then◌else◌, ◌⊎◌}
+use Rattle.std.specs.Prelude.{◌≡◌, ℕ, ◌+◌, ◌<◌, ◌≤◌, [], ◌∷◌, drop, slice_index, Option, MatchOption, Bool, true, false, nat_le, if◌then◌else◌, ◌⊎◌}
 use Rattle.hdr_iterators.specs.Seen.{Seen, AreBins, capped, below}
 use Rattle.hdr_iterators.specs.Picks.{behind}
-use Rattle.hdr_iterators.specs.Places.{quantile_picks, ticks_before, tick_pick, all_of_them}
+use Rattle.hdr_iterators.specs.Places.{quantile_picks, ticks_before, is_within, tick_pick, all_of_them}
 
 -- the tick of a number, of so many to each half of the distance
 pub record Ticked : Type 0 where
   pub per_half : ℕ
   pub number : ℕ
+
+-- the same of a total
+pub record TickOf : Type 0 where
+  pub per_half : ℕ
+  pub number : ℕ
+  pub total : ℕ
+
+-- the least count of n that tick number k is at most
+abbrev pub IsReachedAt : ℕ → ℕ → ℕ → ℕ → Type 0
+IsReachedAt t k n least = (r : ℕ) → r ≤ n → is_within t r n k ≡ nat_le least r
 
 -- how many picks were given: the ticks, and the one given as the total was reached
 abbrev pub given : ℕ → Bool → ℕ

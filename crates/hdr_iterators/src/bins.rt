@@ -1,8 +1,9 @@
 //! The bins of a histogram, as its iterators see them.
 
-ghost use Rattle.std.specs.Prelude.{◌≡◌, ℕ, ◌<◌, map, slice_index};
-ghost use Rattle.hdr_iterators.specs.Seen.{Seen, AreBins, bins_in, top_in, place_of};
+ghost use Rattle.std.specs.Prelude.{◌≡◌, ℕ, ◌-◌, ◌^◌, ◌<◌, ◌≤◌, map, slice_index};
+ghost use Rattle.hdr_iterators.specs.Seen.{Seen, AreBins, AreEmpty, TellEmpty, bins_in, top_in, place_of};
 
+use crate::passing::first_in_block;
 use hdr_base::{Counter, Scale};
 use std::marker::Model;
 
@@ -22,30 +23,41 @@ pub trait Binned<T: Counter> {
 pub struct Bins<'a, T: Counter> {
     scale: Scale,
     counters: &'a [T],
+    /// The sums of the scale's blocks of counters, which tell where there is nothing.
+    sums: &'a [u128],
     total: u64,
     last: usize,
 }
 
 impl<'a, T: Counter> Model for Bins<'a, T> {
-    ghost use Rattle.std.specs.Prelude.{map};
-    ghost use Rattle.hdr_iterators.specs.Seen.{Seen, AreBins};
+    ghost use Rattle.std.specs.Prelude.{◌-◌, ◌^◌, map};
+    ghost use Rattle.hdr_iterators.specs.Seen.{Seen, AreBins, TellEmpty};
 
     ghost Value = { Seen };
 
     ghost view = { λ b. record { grain = b.scale; numbers = map T.number b.counters.now; total = b.total; last = b.last } };
 
-    ghost invariant = { λ b. AreBins (record { grain = b.scale; numbers = map T.number b.counters.now; total = b.total; last = b.last }) };
+    ghost invariant = { λ b. AreBins (record { grain = b.scale; numbers = map T.number b.counters.now; total = b.total; last = b.last })
+        × TellEmpty (2 ^ (b.scale.digits - 1)) (map T.number b.counters.now) b.sums.now };
 }
 
 impl<'a, T: Counter> Bins<'a, T> {
-    /// The bins of these classes, from 0 on.
-    pub fn new(scale: Scale, counters: &'a [T], total: u64, last: usize) -> Bins<'a, T>
-        requires { AreBins (record { grain = scale; numbers = map T.number counters.now; total = total; last = last }) }
+    /// The bins of these classes, from 0 on, and the sums of the scale's blocks of them.
+    pub fn new(
+        scale: Scale,
+        counters: &'a [T],
+        sums: &'a [u128],
+        total: u64,
+        last: usize,
+    ) -> Bins<'a, T>
+        requires bins { AreBins (record { grain = scale; numbers = map T.number counters.now; total = total; last = last }) }
+        requires sums { TellEmpty (2 ^ (scale.digits - 1)) (map T.number counters.now) sums.now }
         ensures { result ≡ record { grain = scale; numbers = map T.number counters.now; total = total; last = last } }
     {
         Bins {
             scale,
             counters,
+            sums,
             total,
             last,
         }
@@ -58,6 +70,7 @@ impl<'a, T: Counter> Bins<'a, T> {
         Bins {
             scale: self.scale,
             counters: self.counters,
+            sums: self.sums,
             total: self.total,
             last: self.last,
         }
@@ -101,13 +114,38 @@ impl<'a, T: Counter> Bins<'a, T> {
         counters[bin]
     }
 
+    /// The first bin from one on that holds samples, or how many bins there are. A block whose sum is 0 is passed over.
+    #[inline(never)]
+    pub(crate) fn next_filled(&self, from: usize) -> usize
+        requires { from ≤ bins_in self.now }
+        ensures onward { from ≤ result }
+        ensures within { result ≤ bins_in self.now }
+        ensures empty { AreEmpty self.now.numbers from result }
+        ensures filled { result < bins_in self.now → 0 < slice_index self.now.numbers result }
+    {
+        let counters = self.counters;
+        let sums = self.sums;
+        let block = self.scale.block();
+        let shift = self.scale.digits() - 1;
+        let mut bin = from;
+        while bin < counters.len() {
+            let k = bin >> shift;
+            let end = (k + 1) * block;
+            match first_in_block(&counters[bin..end], sums[k]) {
+                Some(place) => return bin + place,
+                None => bin = end,
+            }
+        }
+        bin
+    }
+
     /// The greatest value of a bin.
     pub(crate) fn top(&self, bin: usize) -> u64
         requires { bin < bins_in self.now }
         ensures { result ≡ top_in self.now bin }
     {
-        match self.scale.bin_value(bin) {
-            Some(value) => self.scale.top(value),
+        match self.scale.bin_top(bin) {
+            Some(top) => top,
             None => 0,
         }
     }

@@ -3,8 +3,10 @@
 
 pub mod all;
 mod bins;
+pub mod laws;
 pub mod linear;
 pub mod log;
+mod passing;
 mod picking;
 pub mod quantile;
 pub mod recorded;

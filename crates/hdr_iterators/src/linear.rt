@@ -16,6 +16,8 @@ pub struct Iter<'a, T: Counter> {
     bins: Bins<'a, T>,
     step: u64,
     level: u64,
+    /// The bin of the level, or the last bin.
+    place: usize,
     /// The top of the class where the first level at the last recorded bin or behind it was picked.
     end: Option<u64>,
     done: bool,
@@ -30,6 +32,7 @@ impl<'a, T: Counter> Iter<'a, T> {
     {
         let bins = histogram.binned();
         let picker = Iter {
+            place: bins.place_of(step - 1),
             bins: bins.same(),
             step,
             level: step - 1,
@@ -42,19 +45,21 @@ impl<'a, T: Counter> Iter<'a, T> {
 
 impl<'a, T: Counter> PickyIterator<T> for Iter<'a, T> {
     ghost use Rattle.std.specs.Prelude.{◌≡◌, ◌/◌, [], if◌then◌else◌};
+    ghost use Rattle.hdr_iterators.specs.Seen.{place_of};
     ghost use Rattle.hdr_iterators.specs.Linear.{LinearStep, levels_from};
 
     ghost picks = { λ p h. if p.done then [] else levels_from h p.step (p.level / p.step) };
 
-    ghost goes_with = { λ p h last. (p.bins ≡ h) × LinearStep h p.step p.level p.end p.done };
+    ghost goes_with = { λ p h last. (p.bins ≡ h) × (p.place ≡ place_of h p.level) × LinearStep h p.step p.level p.end p.done };
 
     fn pick(&mut self, index: usize, _: u64, _: T) -> Option<PickMetadata> {
-        if self.done || !is_due(&self.bins, self.level, index) {
+        if self.done || !is_due(&self.bins, self.place, index) {
             return None;
         }
         let level = self.level;
         let end = end_after(&self.bins, self.end, index);
         self.level = level.saturating_add(self.step);
+        self.place = self.bins.place_of(self.level);
         self.done = was_last(level, self.level, end);
         self.end = end;
         Some(PickMetadata::new(None, Some(level)))

@@ -15,6 +15,8 @@ pub struct Iter<'a, T: Counter> {
     base: u64,
     /// One more than the next level.
     power: u64,
+    /// The bin of the next level, or the last bin.
+    place: usize,
     done: bool,
 }
 
@@ -32,6 +34,7 @@ impl<'a, T: Counter> Iter<'a, T> {
     {
         let bins = histogram.binned();
         let picker = Iter {
+            place: bins.place_of(start - 1),
             bins: bins.same(),
             base,
             power: start,
@@ -42,20 +45,22 @@ impl<'a, T: Counter> Iter<'a, T> {
 }
 
 impl<'a, T: Counter> PickyIterator<T> for Iter<'a, T> {
-    ghost use Rattle.std.specs.Prelude.{◌≡◌, [], if◌then◌else◌};
+    ghost use Rattle.std.specs.Prelude.{◌≡◌, ◌-◌, [], if◌then◌else◌};
+    ghost use Rattle.hdr_iterators.specs.Seen.{place_of};
     ghost use Rattle.hdr_iterators.specs.Places.{log_picks};
     ghost use Rattle.hdr_iterators.specs.Log.{LogStep};
 
     ghost picks = { λ p h. if p.done then [] else log_picks h p.power p.base };
 
-    ghost goes_with = { λ p h last. (p.bins ≡ h) × LogStep h p.power p.base };
+    ghost goes_with = { λ p h last. (p.bins ≡ h) × (p.place ≡ place_of h (p.power - 1)) × LogStep h p.power p.base };
 
     fn pick(&mut self, index: usize, _: u64, _: T) -> Option<PickMetadata> {
-        let level = self.power.saturating_sub(1);
-        if self.done || !is_due(&self.bins, level, index) {
+        if self.done || !is_due(&self.bins, self.place, index) {
             return None;
         }
+        let level = self.power.saturating_sub(1);
         self.power = self.power.saturating_mul(self.base);
+        self.place = self.bins.place_of(self.power.saturating_sub(1));
         self.done = index >= self.bins.last();
         Some(PickMetadata::new(None, Some(level)))
     }

@@ -1,10 +1,10 @@
 //! The engine of the iterators, and what a picker is.
 
-ghost use Rattle.std.specs.Prelude.{◌≡◌, ℕ, ◌+◌, ◌<◌, ◌≤◌, List, [], ◌∷◌, Option, Some, None, MatchOption, IsTrue, ◌↔◌, false, unwrap_or};
+ghost use Rattle.std.specs.Prelude.{◌≡◌, ℕ, ◌+◌, ◌^◌, ◌<◌, ◌≤◌, List, [], ◌∷◌, Option, Some, None, MatchOption, IsTrue, ◌↔◌, false, unwrap_or};
 ghost use Rattle.std.specs.Iterator.{YieldsFirst, item_count};
 ghost use Rattle.hdr_base.specs.Fractions.{Ratio};
-ghost use Rattle.hdr_iterators.specs.Seen.{Seen, bins_in, top_in, place_of};
-ghost use Rattle.hdr_iterators.specs.Picks.{Pick, NoneBefore, AllBefore, IsAsked, IsAtEnd, items_of};
+ghost use Rattle.hdr_iterators.specs.Seen.{Seen, AreEmpty, bins_in, top_in};
+ghost use Rattle.hdr_iterators.specs.Picks.{Pick, NoneBefore, AllBefore, AllFilled, IsAsked, IsAtEnd, items_of};
 
 use crate::bins::Bins;
 use hdr_base::{Counter, Fraction, IterationValue};
@@ -57,6 +57,13 @@ pub trait PickyIterator<T: Counter>: Drop {
     fn more(&mut self, index_to_pick: usize) -> bool
         ensures kept { (h : Seen) (last : Option ℕ) → goes_with self.old h last → goes_with self.new h last × (picks self.new h ≡ picks self.old h) }
         ensures end { (h : Seen) (last : Option ℕ) → goes_with self.old h last → IsAtEnd h last → result ≡ false → picks self.old h ≡ [] };
+
+    /// Whether each bin that is picked holds samples, so that no other need be asked.
+    fn skips_empty(&self) -> bool
+        ensures { (h : Seen) (last : Option ℕ) → goes_with self.now h last → IsTrue result → AllFilled h (picks self.now h) }
+    {
+        false
+    }
 }
 
 /// An iterator over the bins of a histogram that stops where its picker picks, seen as the list of items still to come.
@@ -119,38 +126,35 @@ impl<'a, T: Counter, P: PickyIterator<T>> Iterator for HistogramIterator<'a, T, 
     fn next(&mut self) -> Option<IterationValue<T>> {
         let len = self.bins.len();
         while !self.ended {
-            if has_ended(
-                &mut self.picker,
-                self.last_picked_index,
-                self.bins.last(),
-                self.current_index,
-            ) {
+            let index = self.current_index;
+            let last = self.bins.last();
+            if has_ended(&mut self.picker, self.last_picked_index, last, index) {
                 self.ended = true;
                 return None;
             }
-            if let Some(picked) = self.picker.pick(
-                self.current_index,
-                self.total_count_to_index,
-                self.count_at_index,
-            ) {
+            let picked = self
+                .picker
+                .pick(index, self.total_count_to_index, self.count_at_index);
+            if let Some(picked) = picked {
                 let value = value_at(
                     &self.bins,
-                    self.current_index,
+                    index,
                     self.total_count_to_index,
                     self.count_at_index,
                     self.count_since_last_iteration,
                     picked,
                 );
                 self.count_since_last_iteration = 0;
-                self.last_picked_index = Some(self.current_index);
+                self.last_picked_index = Some(index);
                 return Some(value);
             }
-            if self.current_index + 1 == len {
+            let next = next_asked(&self.bins, &self.picker, index, self.count_at_index);
+            if next == len {
                 self.ended = true;
                 return None;
             }
-            self.current_index += 1;
-            self.count_at_index = self.bins.count(self.current_index);
+            self.current_index = next;
+            self.count_at_index = self.bins.count(next);
             let count = self.count_at_index.as_u64();
             self.total_count_to_index = self.total_count_to_index.saturating_add(count);
             self.count_since_last_iteration = self.count_since_last_iteration.saturating_add(count);
@@ -172,6 +176,28 @@ fn has_ended<T: Counter, P: PickyIterator<T>>(
     match last_picked_index {
         Some(picked) if picked >= last => !picker.more(index),
         _ => false,
+    }
+}
+
+/// The bin to ask a picker at once it has declined one: the next that holds samples, where it picks no other and this one
+/// holds none. How many bins there are, where none is left.
+fn next_asked<T: Counter, P: PickyIterator<T>>(
+    bins: &Bins<'_, T>,
+    picker: &P,
+    index: usize,
+    count_at_index: T,
+) -> usize
+    requires inside { index < bins_in bins.now }
+    requires room { index + 1 < 2 ^ 64 }
+    ensures onward { index < result }
+    ensures within { result ≤ bins_in bins.now }
+    ensures empty { AreEmpty bins.now.numbers (index + 1) result }
+    ensures unasked { (last : Option ℕ) → P.goes_with picker.now bins.now last → NoneBefore (index + 1) (P.picks picker.now bins.now) → NoneBefore result (P.picks picker.now bins.now) }
+{
+    if count_at_index.as_u64() == 0 && picker.skips_empty() {
+        bins.next_filled(index + 1)
+    } else {
+        index + 1
     }
 }
 
@@ -200,9 +226,9 @@ fn value_at<T: Counter>(
     IterationValue::new(value, quantile, tick, count_at_index, since)
 }
 
-/// Whether the bin of a level, or the last bin, is the bin that is asked or lies before it.
-pub(crate) fn is_due<T: Counter>(bins: &Bins<'_, T>, level: u64, index: usize) -> bool
-    ensures { IsTrue result ↔ (index < bins_in bins.now) × (place_of bins.now level ≤ index) }
+/// Whether the bin of a level is the bin that is asked or lies before it.
+pub(crate) fn is_due<T: Counter>(bins: &Bins<'_, T>, place: usize, index: usize) -> bool
+    ensures { IsTrue result ↔ (index < bins_in bins.now) × (place ≤ index) }
 {
-    index < bins.len() && bins.place_of(level) <= index
+    index < bins.len() && place <= index
 }

@@ -3,6 +3,7 @@
 ghost use Rattle.std.specs.Prelude.{◌≡◌, ◌+◌, ◌*◌, ◌^◌, ◌<◌, ◌≤◌, IsTrue};
 ghost use Rattle.hdr_iterators.specs.Picks.{items_of};
 ghost use Rattle.hdr_iterators.specs.Places.{quantile_picks, tick_of, is_within};
+ghost use Rattle.hdr_iterators.specs.Ticks.{IsReachedAt};
 
 use crate::bins::{Binned, Bins};
 use crate::picking::{HistogramIterator, PickMetadata, PickyIterator};
@@ -66,13 +67,12 @@ impl Tick {
         }
     }
 
-    /// Whether the tick is at most `count` of `total`, by what is left behind both, so that 128 bits hold each product.
-    fn is_within(&self, count: u64, total: u64) -> bool
-        requires { count < total }
-        ensures value { result ≡ is_within self.now.per_half count total self.now.number }
-        ensures few { IsTrue result → self.now.number < 64 * self.now.per_half }
+    /// The least count of `total` that the tick is at most, by what is left after both, so that 128 bits hold each product.
+    fn reached_at(&self, total: u64) -> u64
+        ensures { IsReachedAt self.now.per_half self.now.number total result }
     {
-        self.behind() * u128::from(total) / self.whole() >= u128::from(total - count)
+        let left = self.behind() * u128::from(total) / self.whole();
+        total - left as u64
     }
 
     fn advance(&mut self)
@@ -87,11 +87,74 @@ impl Tick {
     }
 }
 
+/// The tick that comes next of a total, with the least count that it is at most.
+#[derive(Debug, Drop)]
+struct NextTick {
+    tick: Tick,
+    total: u64,
+    reached_at: u64,
+}
+
+impl Model for NextTick {
+    ghost use Rattle.std.specs.Prelude.{◌^◌, ◌<◌, ◌≤◌};
+    ghost use Rattle.hdr_iterators.specs.Ticks.{TickOf, IsReachedAt};
+
+    ghost Value = { TickOf };
+
+    ghost view = { λ n. record { per_half = n.tick.per_half; number = n.tick.number; total = n.total } };
+
+    ghost invariant = { λ n. (1 ≤ n.tick.per_half) × (n.total < 2 ^ 64) × IsReachedAt n.tick.per_half n.tick.number n.total n.reached_at };
+}
+
+impl NextTick {
+    fn first(per_half: u32, total: u64) -> NextTick
+        requires { 1 ≤ per_half }
+        ensures { result ≡ record { per_half = per_half; number = 0; total = total } }
+    {
+        let tick = Tick::first(per_half);
+        let reached_at = tick.reached_at(total);
+        NextTick {
+            tick,
+            total,
+            reached_at,
+        }
+    }
+
+    fn total(&self) -> u64
+        ensures { result ≡ self.now.total }
+    {
+        self.total
+    }
+
+    fn fraction(&self) -> Fraction
+        ensures { result ≡ tick_of self.now.per_half self.now.number }
+    {
+        self.tick.fraction()
+    }
+
+    /// Whether the tick is at most `count` of the total.
+    fn is_within(&self, count: u64) -> bool
+        requires { count < self.now.total }
+        ensures value { result ≡ is_within self.now.per_half count self.now.total self.now.number }
+        ensures few { IsTrue result → self.now.number < 64 * self.now.per_half }
+    {
+        count >= self.reached_at
+    }
+
+    fn advance(&mut self)
+        requires { self.old.number < 64 * self.old.per_half }
+        ensures { self.new ≡ record { per_half = self.old.per_half; number = self.old.number + 1; total = self.old.total } }
+    {
+        self.tick.advance();
+        self.reached_at = self.tick.reached_at(self.total);
+    }
+}
+
 /// The picker of ticks that halve the distance to the whole.
 #[derive(Debug, Drop)]
 pub struct Iter<'a, T: Counter> {
     bins: Bins<'a, T>,
-    next: Tick,
+    next: NextTick,
     /// The total was reached, and the whole is to come.
     closing: bool,
     done: bool,
@@ -110,7 +173,7 @@ impl<'a, T: Counter> Iter<'a, T> {
         let bins = histogram.binned();
         let picker = Iter {
             bins: bins.same(),
-            next: Tick::first(ticks_per_half_distance),
+            next: NextTick::first(ticks_per_half_distance, bins.total()),
             closing: false,
             done: false,
         };
@@ -125,7 +188,7 @@ impl<'a, T: Counter> PickyIterator<T> for Iter<'a, T> {
 
     ghost picks = { λ p h. if p.done then [] else drop (given p.next.number p.closing) (quantile_picks h p.next.per_half) };
 
-    ghost goes_with = { λ p h last. (p.bins ≡ h) × TickStep h p.next.per_half p.next.number p.closing p.done last };
+    ghost goes_with = { λ p h last. (p.bins ≡ h) × TickStep h p.next.per_half p.next.number p.closing p.done last × (p.next.total ≡ h.total) };
 
     fn pick(
         &mut self,
@@ -140,11 +203,10 @@ impl<'a, T: Counter> PickyIterator<T> for Iter<'a, T> {
             self.done = true;
             return Some(PickMetadata::new(Some(Fraction { num: 1, den: 1 }), None));
         }
-        let total = self.bins.total();
         let tick = self.next.fraction();
-        if total_count_to_index >= total {
+        if total_count_to_index >= self.next.total() {
             self.closing = true;
-        } else if self.next.is_within(total_count_to_index, total) {
+        } else if self.next.is_within(total_count_to_index) {
             self.next.advance();
         } else {
             return None;
@@ -154,5 +216,9 @@ impl<'a, T: Counter> PickyIterator<T> for Iter<'a, T> {
 
     fn more(&mut self, _: usize) -> bool {
         !self.done
+    }
+
+    fn skips_empty(&self) -> bool {
+        true
     }
 }

@@ -44,4 +44,8 @@ impl<T: Counter> PickyIterator<T> for Iter {
     fn more(&mut self, _: usize) -> bool {
         false
     }
+
+    fn skips_empty(&self) -> bool {
+        true
+    }
 }

@@ -1,7 +1,7 @@
 //! What a call answers.
 
 use hdr_core::{AdditionError, CallError, CreationError, RecordError, RunError, SubtractionError};
-use hdrhistogram::serialization::interval_log::IntervalLogWriterError;
+use hdrhistogram::serialization::interval_log::{IntervalLogWriterError, MergeError};
 use hdrhistogram::serialization::{DeserializeError, V2SerializeError};
 use std::alloc::Global;
 
@@ -26,6 +26,7 @@ pub enum Answer {
     Unserialized(V2SerializeError),
     Unread(DeserializeError),
     Unlogged(LogError),
+    Unmerged(MergeError),
     /// A run that was refused at a place.
     Stopped(RunError),
 }
@@ -99,6 +100,16 @@ fn log_name(error: &LogError) -> &'static str {
     }
 }
 
+fn merge_name(error: &MergeError) -> &'static str {
+    match error {
+        MergeError::Creation(error) => creation_name(error),
+        MergeError::Parse { .. } => "Parse",
+        MergeError::Base64 { .. } => "Base64",
+        MergeError::Decode { cause, .. } => deserialize_name(cause),
+        MergeError::OutOfMemory => "OutOfMemory",
+    }
+}
+
 fn cause_name(cause: &CallError) -> &'static str {
     match cause {
         CallError::Record(error) => record_name(error),
@@ -129,6 +140,7 @@ impl Answer {
             Answer::Unserialized(error) => Some(serialize_name(error)),
             Answer::Unread(error) => Some(deserialize_name(error)),
             Answer::Unlogged(error) => Some(log_name(error)),
+            Answer::Unmerged(error) => Some(merge_name(error)),
             Answer::Number(_) | Answer::Text(_) | Answer::Differ | Answer::Stopped(_) => None,
         }
     }
@@ -143,6 +155,7 @@ impl Answer {
             Answer::Unserialized(error) => error.to_string(alloc).ok(),
             Answer::Unread(error) => error.to_string(alloc).ok(),
             Answer::Unlogged(error) => error.to_string(alloc).ok(),
+            Answer::Unmerged(error) => error.to_string(alloc).ok(),
             Answer::Stopped(error) => error.to_string(alloc).ok(),
             _ => None,
         }

@@ -5,8 +5,10 @@ ghost use Rattle.std.specs.Prelude.{◌^◌, ◌≤◌};
 
 use hdr_base::{Counter, Fraction, Quantile, Ticks};
 use hdr_core::{
-    AdditionError, Call, CallError, CreationError, RecordError, RunError, SubtractionError,
+    AdditionError, Call, CallError, CallFrom, CreationError, RecordError, RunError,
+    SubtractionError,
 };
+use hdrhistogram::serialization::interval_log::{IntervalFilter, MergeError, merge_log};
 use hdrhistogram::serialization::{
     DeserializeError, Deserializer, Serializer, V2SerializeError, V2Serializer,
 };
@@ -271,6 +273,29 @@ impl<T: Counter> Histogram<T> {
 
     pub fn apply_all(&mut self, calls: &[Call<'_, T>]) -> Result<(), RunError> {
         self.inner.apply_all(calls)
+    }
+
+    pub fn apply_all_from<F: Counter>(
+        &mut self,
+        calls: &[CallFrom<'_, T, F>],
+    ) -> Result<(), RunError> {
+        self.inner.apply_all_from(calls)
+    }
+
+    /// The merge of a log's chosen intervals, and how many they are.
+    pub fn merge_log(
+        alloc: Global,
+        log: &[u8],
+        filter: &IntervalFilter<'_>,
+        sigfig: u8,
+    ) -> Result<(Histogram<T>, u64), MergeError> {
+        let merged = merge_log(alloc, log, filter, sigfig)?;
+        Ok((
+            Histogram {
+                inner: merged.histogram,
+            },
+            merged.chosen,
+        ))
     }
 
     pub fn equals<F: Counter>(&self, other: &Histogram<F>) -> bool {

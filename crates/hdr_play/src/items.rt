@@ -57,10 +57,28 @@ fn listed(told: String) -> Answer {
     }
 }
 
-/// The items of an iterator, between commas; of a long list the first ones, and how many there are.
+/// What all items so far come to, and one more: each of its numbers is added to 31 times those before, in 128 bits.
+fn digested<T: Counter>(digest: u128, item: &IterationValue<T>) -> u128 {
+    let (quantile, tick) = (item.quantile(), item.quantile_iterated_to());
+    let mut digest = digest;
+    for number in [
+        u128::from(item.value_iterated_to()),
+        u128::from(item.count_at_value().as_u64()),
+        u128::from(item.count_since_last_iteration()),
+        quantile.num,
+        tick.num,
+        tick.den,
+    ] {
+        digest = digest.wrapping_mul(31).wrapping_add(number);
+    }
+    digest
+}
+
+/// The items of an iterator, between commas; of a long list the first ones, how many there are, and what all come to.
 fn items<T: Counter>(alloc: Global, list: Option<Vec<IterationValue<T>>>) -> Option<Answer> {
     let mut told = String::new(alloc);
     let mut number: u64 = 0;
+    let mut digest: u128 = 0;
     for item in list?.as_slice() {
         if !is_whole(item) {
             return Some(Answer::Differ);
@@ -71,10 +89,11 @@ fn items<T: Counter>(alloc: Global, list: Option<Vec<IterationValue<T>>>) -> Opt
             }
             push_item(&mut told, item)?;
         }
+        digest = digested(digest, item);
         number = number.saturating_add(1);
     }
     if number > SHOWN {
-        write!(told, " .. {number}").ok()?;
+        write!(told, " .. {number} {digest}").ok()?;
     }
     Some(listed(told))
 }

@@ -12,8 +12,12 @@
 //! - `to_bytes` and `encode_counts` answer hexadecimal digits. `decode HEX` puts what was read in the histogram's place, from a
 //!   slice and from a reader that gives one byte a call, with two bytes after the text; `decode_alone` has none after it.
 //! - Iterators answer their items between commas: the value, its counter, the samples since the item before, the quantile, and
-//!   the quantile iterated to. `value_at_quantiles` takes fractions, `NUM/DEN`.
+//!   the quantile iterated to. Of more than 16 they answer the first 16, how many there are, and a digest of all.
+//! - `value_at_quantiles` takes fractions, `NUM/DEN`.
 //! - `log_line START DURATION DIVISOR TAG` answers a log of one interval; times are seconds, a point and nanoseconds.
+//! - `merge SIGFIG TAG FROM TO LOG` puts the merge of a log's chosen intervals in the histogram's place, and answers how many
+//!   there are; times are as in `log_line`, and a `-` chooses all. `run_from` is `run` in which `add_from` and `add_correct_from`
+//!   take `wide`.
 //! - `bytes`, `counter`, `scale LOW SIGFIG VALUE`, `fraction` and `log` do calls that are on no histogram.
 //!
 //! Empty lines, and lines that begin with `#`, are for the reader.
@@ -26,6 +30,7 @@ mod bytes;
 mod c12;
 mod items;
 mod logs;
+mod merging;
 mod names;
 mod one_by_one;
 mod play;

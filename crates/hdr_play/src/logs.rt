@@ -23,7 +23,7 @@ fn escaped(letter: char) -> Option<u8> {
 }
 
 /// The bytes that a text stands for.
-fn unescaped(alloc: Global, words: &str) -> Option<Vec<u8>> {
+pub fn unescaped(alloc: Global, words: &str) -> Option<Vec<u8>> {
     let mut bytes = Vec::new(alloc);
     for (place, piece) in words.split('\\').enumerate() {
         let mut rest = piece;
@@ -93,7 +93,7 @@ fn field(alloc: Global, words: &str) -> Option<Answer> {
 }
 
 /// A time of seconds and nanoseconds.
-fn time(words: &str) -> Option<Duration> {
+pub fn time(words: &str) -> Option<Duration> {
     let (seconds, nanos) = words.split_once('.')?;
     let nanos = nanos.parse::<u32>().ok()?;
     if nanos < 1_000_000_000 {

@@ -8,9 +8,9 @@ use crate::names::{
 };
 use crate::one_by_one::{agree, agree_below};
 use crate::single::{Numbers, call, same};
-use crate::{base, bytes, logs};
+use crate::{base, bytes, logs, merging};
 use hdr_base::Counter;
-use hdr_core::{AdditionError, Call, CreationError, RecordError};
+use hdr_core::{AdditionError, Call, CallFrom, CreationError, RecordError};
 use std::alloc::Global;
 
 /// Two histograms of one counter type, and one of u64.
@@ -67,6 +67,34 @@ fn calls_of<'a, T: Counter>(
     Some(calls)
 }
 
+/// The call of a run that words ask for, where `wide` is a source too.
+fn call_from_of<'a, T: Counter>(
+    words: &str,
+    other: &'a Histogram<T>,
+    wide: &'a Histogram<u64>,
+) -> Option<CallFrom<'a, T, u64>> {
+    let (name, [interval, _, _]) = split_name(words)?;
+    match name {
+        "add_from" => Some(CallFrom::AddFrom(&wide.inner)),
+        "add_correct_from" => Some(CallFrom::AddCorrectFrom(&wide.inner, interval)),
+        _ => Some(CallFrom::Own(call_of(words, other)?)),
+    }
+}
+
+/// The calls of such a run, between commas.
+fn calls_from_of<'a, T: Counter>(
+    alloc: Global,
+    words: &str,
+    other: &'a Histogram<T>,
+    wide: &'a Histogram<u64>,
+) -> Option<Vec<CallFrom<'a, T, u64>>> {
+    let mut calls = Vec::new(alloc);
+    for words in words.split(", ") {
+        calls.push(call_from_of(words, other, wide)?).ok()?;
+    }
+    Some(calls)
+}
+
 /// Does a call on one histogram that has words beside numbers, or that a text answers. None: it is no such call.
 fn worded<T: Counter>(alloc: Global, h: &mut Histogram<T>, words: &str) -> Option<Answer> {
     let (name, rest) = words.split_once(' ').unwrap_or((words, ""));
@@ -76,6 +104,7 @@ fn worded<T: Counter>(alloc: Global, h: &mut Histogram<T>, words: &str) -> Optio
         "decode" => bytes::decode(alloc, h, rest, false),
         "decode_alone" => bytes::decode(alloc, h, rest, true),
         "log_line" => logs::line(alloc, h, rest),
+        "merge" => merging::merge(alloc, h, rest),
         "value_at_quantiles" => value_at_quantiles(alloc, h, rest),
         "value_at_percentiles" => value_at_percentiles(alloc, h, rest),
         _ => None,
@@ -185,6 +214,12 @@ impl<T: Counter> Table<T> {
         Some(ran(self.one.apply_all(calls.as_slice())))
     }
 
+    /// The same, where `wide` is a source too.
+    fn run_from(&mut self, alloc: Global, words: &str) -> Option<Answer> {
+        let calls = calls_from_of(alloc, words, &self.other, &self.wide)?;
+        Some(ran(self.one.apply_all_from(calls.as_slice())))
+    }
+
     /// Does one call.
     fn apply(&mut self, words: &str) -> Option<Answer> {
         let call = call_of(words, &self.other)?;
@@ -195,6 +230,9 @@ impl<T: Counter> Table<T> {
     fn first(&mut self, alloc: Global, words: &str) -> Option<Answer> {
         if let Some(calls) = words.strip_prefix("run ") {
             return self.run(alloc, calls);
+        }
+        if let Some(calls) = words.strip_prefix("run_from ") {
+            return self.run_from(alloc, calls);
         }
         if let Some(call) = words.strip_prefix("apply ") {
             return self.apply(call);

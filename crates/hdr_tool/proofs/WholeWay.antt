@@ -213,10 +213,12 @@ whole_way log merge sigfig fewer options quantiles input written text fault Ls n
     let parted : AreParts (2 ^ 64 - 1) (grain k) m.1.0 (chosen_of filter Ls) = read_parts (grain k) (grain h) (chosen_of filter (ends_of h lines)) m.1.0 (chosen_of filter Ls) stand finer (chosen_hold filter (grain h) (ends_of h lines) Ls ended) m.1.1 in
     let plain : IsPlain greatest k = empty_is_plain new greatest fewer few_merged in
     let fit = subst (λ (g : Grain). Fits greatest g (joined_list (chosen_of filter Ls))) (sym (empty_grain fewer)) fits in
-    let one = some_greatest options.into in
-    (m.0, record {
-      histogram = merged_each greatest k m.1.0;
-      report = m.1.2;
-      stands = (joined.sum greatest (2 ^ 64 - 1) k m.1.0 [] (chosen_of filter Ls) one plain (made fewer) parted fit).0;
-      ranked = joined.ranked greatest (2 ^ 64 - 1) k m.1.0 [] (chosen_of filter Ls) one plain (made fewer) parted fit;
-    })
+    let one = some_greatest options.into in (
+      m.0,
+      record {
+        histogram = merged_each greatest k m.1.0;
+        report = m.1.2;
+        stands = (joined.sum greatest (2 ^ 64 - 1) k m.1.0 [] (chosen_of filter Ls) one plain (made fewer) parted fit).0;
+        ranked = joined.ranked greatest (2 ^ 64 - 1) k m.1.0 [] (chosen_of filter Ls) one plain (made fewer) parted fit;
+      },
+    )

@@ -42,10 +42,7 @@ fn push_quantiles<T: Counter>(
 }
 
 /// The histogram's bytes in hexadecimal, or `none` where a count is too great for bytes.
-fn bytes_field<T: Counter>(
-    alloc: Global,
-    histogram: &Histogram<T>,
-) -> Result<String, AllocError>
+fn bytes_field<T: Counter>(alloc: Global, histogram: &Histogram<T>) -> Result<String, AllocError>
     ensures { IfOk result (λ field. IsBytesField histogram.now (string_bytes field)) }
 {
     let mut serializer = V2Serializer::new(alloc);

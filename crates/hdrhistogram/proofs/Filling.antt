@@ -1,13 +1,14 @@
 -- A payload that is read number by number.
-use Rattle.std.proofs.Common.{◌≡◌, ℕ, zero, suc, ◌+◌, ◌<◌, ◌≤◌, Bool, true, false, cond, List, [], ◌∷◌, ◌++◌, length, take, drop, set, get_or, replicate, refl, sym, ap, ◌∙◌, arith, append_assoc, append-nil, length-append, length-drop, drop_of_length-le, take-append-drop, ltb, leb, flat_map, ℤ, pos, negsuc, Option, Some, None, Result, Ok, Err, ⊎_elim, ◌&&◌, MatchBool}
-use Rattle.std.proofs.lemmas.Bool.{leb-false, and_cases, lt-ltb, le-ltb, true≢false}
+use Rattle.std.proofs.Common.{◌≡◌, ℕ, zero, suc, ◌+◌, ◌*◌, ◌/◌, ◌%◌, ◌^◌, ◌<◌, ◌≤◌, Bool, true, false, cond, List, [], ◌∷◌, ◌++◌, length, take, drop, set, get_or, replicate, refl, sym, ap, subst, eq-eqb, ◌∙◌, arith, append_assoc, append-nil, length-append, length-drop, drop_of_length-le, take-append-drop, ltb, leb, flat_map, ℤ, pos, negsuc, Option, Some, None, Result, Ok, Err, ⊎_elim, ◌&&◌, MatchBool}
+use Rattle.std.proofs.lemmas.Bool.{leb-false, and_cases, lt-leb, lt-ltb, le-ltb, true≢false}
 use Rattle.std.proofs.lemmas.List.{drop-drop, length-replicate}
 use Rattle.std.specs.List.{AllByRecursion}
 use Rattle.hdrhistogram.specs.Varint.{IsSpelling, spelled, Spells}
 use Rattle.hdrhistogram.specs.ZigZag.{from_zig_zag}
 use Rattle.hdrhistogram.specs.declared.serialization.errors.DeserializeError.{DeserializeError}
+use Rattle.hdrhistogram.proofs.SpellingsRead.{two_spelt}
 use Rattle.hdrhistogram.specs.Faults.{Fault, cut, unless, named, FailsBy, Gives}
-use Rattle.hdrhistogram.specs.PayloadRead.{Parted, last_byte, put_before, parted, numbers, bins_read, move, fault_at, first_fault, fitted, with_count, ended, counts_in, IsCut}
+use Rattle.hdrhistogram.specs.PayloadRead.{Parted, last_byte, put_before, parted, numbers, bins_read, move, fault_at, first_fault, fitted, with_count, IsCountPut, IsPairPut, ended, counts_in, IsCut}
 
 -- ---- the spellings of a payload
 
@@ -59,14 +60,6 @@ fitted_set zero front n h = absurd (omega arith)
 fitted_set (suc bins) [] n h = refl
 fitted_set (suc bins) (m ∷ front) n h = ap (λ l. m ∷ l) (fitted_set bins front n (omega arith))
 
-pub fitted_behind : (bins : ℕ) (front : List ℕ) (i : ℕ) → length front ≤ i → get_or (fitted bins front) i 0 ≡ 0
-unfolding fitted
-fitted_behind zero front i h = refl
-fitted_behind (suc bins) [] zero h = refl
-fitted_behind (suc bins) [] (suc i) h = fitted_behind bins [] i (omega arith)
-fitted_behind (suc bins) (n ∷ front) zero h = absurd (omega arith)
-fitted_behind (suc bins) (n ∷ front) (suc i) h = fitted_behind bins front i (omega arith)
-
 -- ---- one number
 
 no_second : (a b : Bool) (x y : Fault) (m : Option Fault) → cond a (Some x) (cond b (Some y) m) ≡ None → b ≡ false
@@ -92,6 +85,38 @@ moved : (front : List ℕ) (n : ℤ) → length (front ++ bins_read n) ≡ lengt
 moved front (pos n) = length-append front (n ∷ [])
 moved front (negsuc n) = length-append front (replicate (suc n) 0) ∙ ap (λ k. length front + k) (length-replicate {A = ℕ} (suc n) 0)
 
+-- a count that goes in as it is
+with_positive : (counts : List ℕ) (place n : ℕ) → 0 < n → with_count counts place (pos n) ≡ set counts place n
+with_positive counts place zero some = absurd (omega arith)
+with_positive counts place (suc n) some = refl
+
+no_last : (a : Bool) → (a && false) ≡ false
+no_last true = refl
+no_last false = refl
+
+fine_at : (bins greatest place n : ℕ) → n ≤ greatest → place < bins → bins ≤ 6291456 → fault_at bins greatest place (pos n) ≡ None
+fine_at bins greatest place n fits inside few =
+    let no_past : leb bins place ≡ false = lt-leb bins place inside in
+    let no_far : leb (2 ^ 64) (place + 1) ≡ false = lt-leb (2 ^ 64) (place + 1) (omega arith) in
+    rw (le-ltb greatest n fits, no_past, no_last (ltb 0 n), no_far) refl
+
+-- a count of two bytes
+pub two-put : (greatest place : ℕ) (bytes old new : List ℕ) (n : ℕ) → 1 < length bytes → 128 ≤ get_or bytes 0 0 → get_or bytes 0 0 < 256 → get_or bytes 1 0 < 128 → get_or bytes 0 0 % 2 ≡ 0
+    → 2 * n ≡ get_or bytes 0 0 % 128 + 128 * get_or bytes 1 0 → 0 < n → n ≤ greatest → place < length old → length old ≤ 6291456 → new ≡ set old place n → IsCountPut greatest place bytes old new 2
+two-put greatest place bytes old new n two high fits low even is more most inside few e =
+    let encoded = get_or bytes 0 0 % 128 + 128 * get_or bytes 1 0 in
+    let parity : encoded % 2 ≡ 0 = omega arith in
+    let half : encoded / 2 ≡ n = omega arith in
+    let number : from_zig_zag encoded ≡ pos n = rw (eq-eqb (encoded % 2) 0 parity) (ap pos half) in
+    record {
+      encoded = encoded;
+      within = omega arith;
+      spells = two_spelt bytes two high fits low;
+      fine = rw number (fine_at (length old) greatest place n most inside few);
+      one = rw number refl;
+      put = rw number (e ∙ sym (with_positive old place n more));
+    }
+
 -- ---- the loop
 
 -- what is left of a payload, where these bins were read of it
@@ -110,9 +135,6 @@ pub record IsFilledTo (bins greatest : ℕ) (payload counts : List ℕ) (at plac
 pub fill_start : (bins greatest : ℕ) (payload counts : List ℕ) → counts ≡ replicate bins 0 → IsFilledTo bins greatest payload counts 0 0
 unfolding counts_in from
 fill_start bins greatest payload counts e = record { front = []; long = refl; now = e ∙ sym (fitted_none bins); whole = refl; within = omega arith }
-
-pub fill_behind : (bins greatest : ℕ) (payload counts : List ℕ) (at place : ℕ) → IsFilledTo bins greatest payload counts at place → (i : ℕ) → place ≤ i → get_or counts i 0 ≡ 0
-fill_behind bins greatest payload counts at place d i h = ap (λ l. get_or l i 0) d.now ∙ fitted_behind bins d.front i (omega (arith, d.long))
 
 pub fill_bins : (bins greatest : ℕ) (payload counts : List ℕ) (at place : ℕ) → IsFilledTo bins greatest payload counts at place → length counts ≡ bins
 fill_bins bins greatest payload counts at place d = ap (length {A = ℕ}) d.now ∙ length_fitted bins d.front
@@ -182,6 +204,19 @@ pub fill_cut : (bins greatest : ℕ) (payload counts : List ℕ) (at place : ℕ
 fill_cut bins greatest payload counts at place d h c =
     d.whole ∙ ap (from bins greatest place d.front) (parted_rest 8 (drop at payload) c.short c.high)
     ∙ cut_from bins greatest place d.front (drop at payload) (omega (arith, length-drop at payload))
+
+-- the bins after a count was put, and after nothing was
+pub fill_short : (bins greatest : ℕ) (payload counts after : List ℕ) (at next place further len : ℕ) → IsFilledTo bins greatest payload counts at place
+    → IsCountPut greatest place (drop at payload) counts after len → next ≡ at + len → further ≡ place + 1 → IsFilledTo bins greatest payload after next further
+fill_short bins greatest payload counts after at next place further len d p next_is further_is =
+    fill_next bins greatest payload counts after (take len (drop at payload)) at next place further len p.encoded (from_zig_zag p.encoded) d p.within refl p.spells refl p.fine p.put next_is (further_is ∙ ap (λ k. place + k) (sym p.one))
+
+pub fill_pair : (bins greatest : ℕ) (payload counts after : List ℕ) (at next place further : ℕ) → IsFilledTo bins greatest payload counts at place
+    → IsPairPut greatest place (drop at payload) counts after → next ≡ at + 4 → further ≡ place + 2 → IsFilledTo bins greatest payload after next further
+fill_pair bins greatest payload counts after at next place further d p next_is further_is =
+    let half = fill_short bins greatest payload counts p.between at (at + 2) place (place + 1) 2 d p.first refl refl in
+    let second : IsCountPut greatest (place + 1) (drop (at + 2) payload) p.between after 2 = subst (λ l. IsCountPut greatest (place + 1) l p.between after 2) (drop-drop 2 at payload) p.second in
+    fill_short bins greatest payload p.between after (at + 2) next (place + 1) further 2 half second (omega arith) (omega arith)
 
 -- an error that names a check's fault names what it makes of the whole
 pub fails_so : {A : Type 0} (o fault : Option Fault) (whole : Result A Fault) → FailsBy {A = ℕ} o (unless fault 0) → ((f : Fault) → fault ≡ Some f → whole ≡ Err f) → FailsBy o whole

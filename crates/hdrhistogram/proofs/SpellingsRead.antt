@@ -1,6 +1,6 @@
 -- Spellings that are read byte by byte, from a slice and from a reader.
-use Rattle.std.proofs.Common.{◌≡◌, ℕ, zero, suc, ◌+◌, ◌-◌, ◌*◌, ◌%◌, ◌^◌, ◌<◌, ◌≤◌, List, [], ◌∷◌, ◌++◌, length, take, get_or, refl, sym, ap, ◌∙◌, subst, arith, append_assoc, append-nil, length-append, Option, ◌≢◌, take_all}
-use Rattle.std.proofs.lemmas.Bool.{le-ltb, lt-ltb}
+use Rattle.std.proofs.Common.{◌≡◌, ℕ, zero, suc, ◌+◌, ◌-◌, ◌*◌, ◌/◌, ◌%◌, ◌^◌, ◌<◌, ◌≤◌, List, [], ◌∷◌, ◌++◌, length, take, get_or, refl, sym, ap, ◌∙◌, subst, arith, append_assoc, append-nil, length-append, Option, ◌≢◌, take_all, inl, inr}
+use Rattle.std.proofs.lemmas.Bool.{le-ltb, lt-ltb, cases_lt}
 use Rattle.std.specs.Io.KnownBytes.{Consumes}
 use Rattle.std.proofs.KnownBytes.{Consumes-nil, Consumes-trans}
 use Rattle.std.proofs.Math.Seq.{get_or-append_seam}
@@ -222,3 +222,23 @@ two_spelt (b ∷ c ∷ bytes) some high fits low = record {
   whole = rw (le-ltb b 128 high) (rw (lt-ltb c 128 low) refl);
   value = omega arith;
 }
+
+-- one byte or two, as the first byte tells
+pub one_or_two_spelt : (bytes : List ℕ) (two : ℕ) → 1 < length bytes → get_or bytes 0 0 < 256 → two ≡ get_or bytes 0 0 / 128 → two * get_or bytes 1 0 < 128
+    → Spells (take (1 + two) bytes) (get_or bytes 0 0 % 128 + 128 * (two * get_or bytes 1 0))
+one_or_two_spelt bytes two more fits is low =
+    let first = get_or bytes 0 0 in
+    let second = get_or bytes 1 0 in
+    elim (cases_lt first 128) [
+      | inl below ↦ (
+          let none : two ≡ 0 = omega arith in
+          let value : first % 128 + 128 * (0 * second) ≡ first = omega arith in
+          rw (none, value) (one_spelt bytes (omega arith) below)
+          )
+      | inr above ↦ (
+          let one : two ≡ 1 = omega arith in
+          let last : second < 128 = omega (arith, ap (λ k. k * second) one) in
+          let value : first % 128 + 128 * (1 * second) ≡ first % 128 + 128 * second = omega arith in
+          rw (one, value) (two_spelt bytes more above fits last)
+          )
+    ]

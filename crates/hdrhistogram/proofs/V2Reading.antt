@@ -1,11 +1,12 @@
 -- A histogram that is read: its header, its bounds, its payload, its counts.
-use Rattle.std.proofs.Common.{◌≡◌, ℕ, ◌+◌, ◌-◌, ◌*◌, ◌^◌, ◌<◌, ◌≤◌, Bool, true, false, cond, ltb, ◌&&◌, List, [], ◌++◌, length, take, drop, Option, Some, None, Result, Ok, Err, refl, sym, ap, ◌∙◌, subst, arith, length-append, length-take-le, take-append-drop, drop_at, drop_of_length-le, take_all}
+use Rattle.std.proofs.Common.{◌≡◌, ℕ, ◌+◌, ◌-◌, ◌*◌, ◌^◌, ◌<◌, ◌≤◌, Bool, true, false, cond, ltb, ◌&&◌, List, [], ◌++◌, length, replicate, take, drop, Option, Some, None, Result, Ok, Err, refl, sym, ap, ◌∙◌, subst, arith, length-append, length-take-le, take-append-drop, drop_at, drop_of_length-le, take_all}
 use Rattle.std.specs.Io.KnownBytes.{Consumes}
 use Rattle.std.proofs.KnownBytes.{Consumes-trans}
 use Rattle.std.proofs.lemmas.Bool.{ltb-false, le-ltb, lt-ltb, le-leb, lt-leb}
 use Rattle.std.proofs.lemmas.List.{take_at, length-replicate}
 use Rattle.hdr_base.specs.Classes.{unit_of, digits_of, grain_of, bins_to}
 use Rattle.hdr_core.specs.Plain.{Plain, empty_plain}
+use Rattle.hdr_core.specs.Filling.{Open, opened}
 use Rattle.hdr_core.specs.Refusals.{IsBounds, RefusesBounds}
 use Rattle.hdr_core.specs.declared.errors.CreationError.{CreationError}
 use Rattle.hdr_core.specs.declared.errors.CreationError.TheVariants as make
@@ -14,7 +15,7 @@ use Rattle.hdrhistogram.specs.declared.serialization.errors.DeserializeError.The
 use Rattle.hdrhistogram.specs.Streams.{IsStreamError}
 use Rattle.hdrhistogram.specs.Faults.{Fault, cut, bad_bounds, ◌>>=◌, unless, FailsBy, named}
 use Rattle.hdrhistogram.specs.PayloadRead.{counts_in}
-use Rattle.hdrhistogram.specs.V2Read.{Header, Contents, bytes_at, header_at, are_bounds, bounds_fault, bins_for, creation_fault, contents_of, v2_at, told_of, IsRestated, IsReadAs}
+use Rattle.hdrhistogram.specs.V2Read.{Header, Contents, bytes_at, header_at, are_bounds, bounds_fault, bins_for, creation_fault, contents_of, v2_at, told_by, told_of, IsRestated, IsReadAs}
 use Rattle.hdrhistogram.proofs.HeaderRead.{IsSteady, bind-steady, ok-steady, header-steady, TakenBy, TakenSo, field-then, field-failed, fails_bind, unless_fails}
 
 -- ---- the bounds
@@ -74,18 +75,21 @@ bounds-refused h e (Some f) r n =
     let bad : f ≡ bad_bounds = named_bad e f (sym n) in
     ap (λ (p : Option Fault). unless p 0) (fault-some h (bounds-no h.low h.high h.sigfig e f r (sym n))) ∙ ap Err (sym bad)
 
--- what an empty histogram tells
-pub record IsMade (h : Plain) (low high sigfig : ℕ) : Type 0 where
-  pub empty : h ≡ empty_plain h.low h.high h.sigfig false
-  pub told : told_of h ≡ record { low = low; high = high; sigfig = sigfig; counts = h.counts }
-  pub bins : length h.counts ≡ bins_to (grain_of low sigfig) high
+-- what empty bins tell
+pub record IsMade (f : Open) (low high sigfig : ℕ) : Type 0 where
+  pub empty : f.counts ≡ replicate (length f.counts) 0
+  pub fixed : f.auto_resize ≡ false
+  pub told : told_by f ≡ record { low = low; high = high; sigfig = sigfig; counts = f.counts }
+  pub bins : length f.counts ≡ bins_to (grain_of low sigfig) high
 
-made : (low high sigfig : ℕ) → IsMade (empty_plain low high sigfig false) low high sigfig
+made : (low high sigfig : ℕ) → IsMade (opened (empty_plain low high sigfig false)) low high sigfig
 unfolding empty_plain
-made low high sigfig = record { empty = refl; told = refl; bins = length-replicate {A = ℕ} (bins_to (grain_of low sigfig) high) 0 }
+made low high sigfig =
+    let size = length-replicate {A = ℕ} (bins_to (grain_of low sigfig) high) 0 in
+    record { empty = ap (λ n. replicate n 0) (sym size); fixed = refl; told = refl; bins = size }
 
-pub is-made : (h : Plain) (low high sigfig : ℕ) → h ≡ empty_plain low high sigfig false → IsMade h low high sigfig
-is-made h low high sigfig e = subst (λ k. IsMade k low high sigfig) (sym e) (made low high sigfig)
+pub is-made : (f : Open) (low high sigfig : ℕ) → f ≡ opened (empty_plain low high sigfig false) → IsMade f low high sigfig
+is-made f low high sigfig e = subst (λ g. IsMade g low high sigfig) (sym e) (made low high sigfig)
 
 -- ---- the steps
 

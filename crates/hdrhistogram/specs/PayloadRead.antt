@@ -1,8 +1,8 @@
 -- What a payload is read as (the Rust crate's `deser_v2`, its two loops): any spellings of numbers, runs in any pieces, and
 -- empty bins past the last.
-use Rattle.std.specs.Prelude.{slice_set, ◌≡◌, ℕ, zero, suc, ◌+◌, ◌^◌, ◌≤◌, ◌++◌, List, [], ◌∷◌, length, nat_lt, nat_le, ◌&&◌, if◌then◌else◌, ℤ, pos, negsuc, flat_map, map, replicate, Option, Some, None, Result, Ok, Err}
+use Rattle.std.specs.Prelude.{slice_set, ◌≡◌, ℕ, zero, suc, ◌+◌, ◌^◌, ◌≤◌, ◌++◌, List, [], ◌∷◌, length, nat_lt, nat_le, ◌&&◌, take, drop, if◌then◌else◌, ℤ, pos, negsuc, flat_map, map, replicate, Option, Some, None, Result, Ok, Err}
 use Rattle.std.specs.List.{AllByRecursion}
-use Rattle.hdrhistogram.specs.Varint.{IsSpelling, spelled}
+use Rattle.hdrhistogram.specs.Varint.{IsSpelling, Spells, spelled}
 use Rattle.hdrhistogram.specs.ZigZag.{from_zig_zag}
 use Rattle.hdrhistogram.specs.Faults.{Fault, cut, too_great, past_bins, too_far}
 
@@ -74,6 +74,21 @@ abbrev pub with_count : List ℕ → ℕ → ℤ → List ℕ
 with_count counts place (pos zero) = counts
 with_count counts place (pos (suc n)) = slice_set counts place (suc n)
 with_count counts place (negsuc n) = counts
+
+-- the first `taken` of the bytes spell a count, which has no fault and was put at its place
+pub record IsCountPut (greatest place : ℕ) (bytes old new : List ℕ) (taken : ℕ) : Type 0 where
+  pub encoded : ℕ
+  pub within : taken ≤ length bytes
+  pub spells : Spells (take taken bytes) encoded
+  pub fine : fault_at (length old) greatest place (from_zig_zag encoded) ≡ None
+  pub one : move (from_zig_zag encoded) ≡ 1
+  pub put : new ≡ with_count old place (from_zig_zag encoded)
+
+-- two counts of two bytes each were put, one after the other
+pub record IsPairPut (greatest place : ℕ) (bytes old new : List ℕ) : Type 0 where
+  pub between : List ℕ
+  pub first : IsCountPut greatest place bytes old between 2
+  pub second : IsCountPut greatest (place + 1) (drop 2 bytes) between new 2
 
 -- counts, unless there was a fault before or the bytes end inside a number
 abbrev pub ended : Option Fault → List ℕ → List ℕ → Result (List ℕ) Fault

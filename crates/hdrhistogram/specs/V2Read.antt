@@ -3,6 +3,7 @@ use Rattle.std.specs.Prelude.{◌≡◌, ◌==◌, ℕ, ◌+◌, ◌-◌, ◌*�
 use Rattle.byteorder.specs.Endian.{big_number}
 use Rattle.hdr_base.specs.Classes.{unit_of, digits_of, grain_of, bins_to}
 use Rattle.hdr_core.specs.Plain.{Plain, IsTopMark, IsLowerMark}
+use Rattle.hdr_core.specs.Filling.{Open}
 use Rattle.hdr_core.specs.declared.errors.CreationError.{CreationError}
 use Rattle.hdr_core.specs.declared.errors.CreationError.TheVariants.{LowIsZero, LowExceedsMax, HighLessThanTwiceLow, SigFigExceedsMax, CannotRepresentSigFigBeyondLow, UsizeTypeTooSmall, OutOfMemory}
 use Rattle.hdrhistogram.specs.declared.serialization.errors.DeserializeError.{DeserializeError}
@@ -108,6 +109,10 @@ v2_at greatest text = do
 
 abbrev pub told_of : Plain → Contents
 told_of h = record { low = h.low; high = h.high; sigfig = h.sigfig; counts = h.counts }
+
+-- the same of a histogram whose bins are being set
+abbrev pub told_by : Open → Contents
+told_by f = record { low = f.low; high = f.high; sigfig = f.sigfig; counts = f.counts }
 
 -- the total is the capped sum of the counts, and the marks are those of the nonempty classes
 pub record IsRestated (h : Plain) : Type 0 where

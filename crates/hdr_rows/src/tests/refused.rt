@@ -6,6 +6,7 @@ mod resting;
 
 use hdr_core::{AdditionError, CallError, CreationError, RecordError};
 use hdr_play::{Answer, Table};
+use hdrhistogram::serialization::interval_log::MergeError;
 use std::alloc::Global;
 use std::process::Abort;
 use std::test::Fail;
@@ -22,7 +23,7 @@ const TWINS: [&str; 7] = [
 ];
 
 /// Calls that make `one` of `TWINS` grow to 1023.
-const GROWING: [&str; 11] = [
+const GROWING: [&str; 14] = [
     "one record 1000",
     "one record_n 1000 0",
     "one record_correct 1000 10",
@@ -34,6 +35,9 @@ const GROWING: [&str; 11] = [
     "one apply correct 1000 5 9",
     "one run record 1000 5",
     "one run correct 1000 5 9, clear",
+    "one run_from record 1000 5",
+    "one run_from add_from, clear",
+    "one run_from add_correct_from 100",
 ];
 
 /// An empty histogram that grows, another up to 1023 with 1000 held once.
@@ -57,13 +61,14 @@ const MERGING: [&str; 8] = [
 ];
 
 /// Calls that make a histogram.
-const MAKERS: [&str; 6] = [
+const MAKERS: [&str; 7] = [
     "one new 3",
     "one new_with_max 1000 0",
     "one new_with_bounds 10 1000 2",
     "one clone_to_other",
     "one clone_correct_to_other 2",
     "one new_from_wide_to_other",
+    "one merge 3 a - - Tag=a,0.0,1.0,2.0,HISTEwAAAAMAAAAAAAAAAwAAAAAAAAABAAAAAAAAAAI/8AAAAAAAAAACCA==\\n",
 ];
 
 /// Whether a call was refused for memory.
@@ -72,6 +77,7 @@ fn is_memory(answer: &Answer) -> bool {
         Answer::Unmade(error) => *error == CreationError::OutOfMemory,
         Answer::Unrecorded(error) => *error == RecordError::OutOfMemory,
         Answer::Unadded(error) => *error == AdditionError::OutOfMemory,
+        Answer::Unmerged(error) => matches!(error, MergeError::OutOfMemory),
         Answer::Stopped(error) => match &error.cause {
             CallError::Record(error) => *error == RecordError::OutOfMemory,
             CallError::Addition(error) => *error == AdditionError::OutOfMemory,

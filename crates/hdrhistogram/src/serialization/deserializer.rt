@@ -1,21 +1,20 @@
 //! Reading V2 bytes.
 
-ghost use Rattle.std.specs.Prelude.{◌≡◌, ℕ, List, [], length, false, IfOk, IfErr};
+ghost use Rattle.std.specs.Prelude.{◌≡◌, ℕ, List, [], length, replicate, false, IfOk, IfErr};
 ghost use Rattle.std.specs.Io.KnownBytes.{Consumes};
-ghost use Rattle.hdr_core.specs.Plain.{empty_plain};
 ghost use Rattle.hdrhistogram.specs.Faults.{Gives, TakesAs, Checks, FailsBy, named};
-ghost use Rattle.hdrhistogram.specs.V2Read.{creation_fault, bounds_fault, bins_for, bytes_at, v2_at, told_of, IsRestated, IsReadAs};
+ghost use Rattle.hdrhistogram.specs.V2Read.{creation_fault, bounds_fault, bins_for, bytes_at, v2_at, told_by, told_of, IsRestated, IsReadAs};
 ghost use Rattle.hdrhistogram.specs.HeaderView.{header_of};
 
 pub use crate::serialization::errors::DeserializeError;
 use crate::serialization::fields::{Header, ended, header_at, read_header};
-use crate::serialization::filling::fill;
+use crate::serialization::filling::filled;
 use crate::serialization::header::HEADER_LEN;
 use crate::serialization::streams::read_piece;
 pub use crate::serialization::varint::{varint_read, varint_read_slice};
 pub use crate::serialization::zig_zag::zig_zag_decode;
 use hdr_base::Counter;
-use hdr_core::{CreationError, Histogram};
+use hdr_core::{CreationError, Filling, Histogram};
 use std::alloc::Global;
 use std::io::Read;
 use std::marker::Model;
@@ -90,15 +89,22 @@ impl Deserializer {
     }
 }
 
-/// An empty histogram of a header's bounds.
-fn empty_for<T: Counter>(alloc: Global, header: Header) -> Result<Histogram<T>, DeserializeError>
+/// Empty bins of a header's bounds.
+fn empty_for<T: Counter>(alloc: Global, header: Header) -> Result<Filling<T>, DeserializeError>
     ensures bounds { Checks result (bounds_fault (header_of header)) }
-    ensures empty { IfOk result (λ h. h ≡ empty_plain h.low h.high h.sigfig false) }
-    ensures told { IfOk result (λ h. told_of h ≡ record { low = header.low; high = header.high; sigfig = header.sigfig; counts = h.counts }) }
-    ensures bins { IfOk result (λ h. length h.counts ≡ bins_for (header_of header)) }
+    ensures empty { IfOk result (λ f. f.counts ≡ replicate (length f.counts) 0) }
+    ensures fixed { IfOk result (λ f. f.auto_resize ≡ false) }
+    ensures told { IfOk result (λ f. told_by f ≡ record { low = header.low; high = header.high; sigfig = header.sigfig; counts = f.counts }) }
+    ensures bins { IfOk result (λ f. length f.counts ≡ bins_for (header_of header)) }
 {
-    match Histogram::new_with_bounds(alloc, header.low, header.high, header.sigfig) {
-        Ok(h) => Ok(h),
+    let Header {
+        payload_len,
+        sigfig,
+        low,
+        high,
+    } = header;
+    match Filling::new_with_bounds(alloc, low, high, sigfig, payload_len as usize) {
+        Ok(filling) => Ok(filling),
         Err(error) => Err(refused(error)),
     }
 }
@@ -132,9 +138,9 @@ fn decode<T: Counter>(alloc: Global, text: &[u8]) -> Result<(Histogram<T>, &[u8]
     ensures restated { IfOk result (λ x. IsRestated x.0) }
 {
     let (header, rest) = header_at(text)?;
-    let mut h = empty_for(alloc, header)?;
+    let empty = empty_for(alloc, header)?;
     let (payload, rest) = bytes_at(rest, header.payload_len as usize)?;
-    fill(&mut h, payload)?;
+    let h = filled(empty, payload)?;
     Ok((h, rest))
 }
 
@@ -150,9 +156,9 @@ fn read_v2<T: Counter, R: Read>(
     ensures restated { IfOk result (λ h. IsRestated h) }
 {
     let header = read_header(reader)?;
-    let mut h = empty_for(*buffer.allocator(), header)?;
+    let empty = empty_for(*buffer.allocator(), header)?;
     read_payload(reader, buffer, header.payload_len as usize)?;
-    fill(&mut h, buffer)?;
+    let h = filled(empty, buffer)?;
     Ok(h)
 }
 

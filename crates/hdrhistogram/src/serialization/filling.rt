@@ -1,52 +1,27 @@
 //! A payload, read into the bins of a histogram.
 
-ghost use Rattle.std.specs.Prelude.{◌≡◌, ◌+◌, ◌<◌, ◌≤◌, ℕ, IfOk, OnOk, length, slice_index, slice_set, false};
-ghost use Rattle.hdr_core.specs.Plain.{empty_plain};
+ghost use Rattle.std.specs.Prelude.{◌≡◌, ◌+◌, ◌*◌, ◌%◌, ◌<◌, ◌≤◌, IfNone, IfOk, IfSome, OnOk, length, replicate, true, false};
 ghost use Rattle.hdrhistogram.specs.Faults.{Gives, Checks};
-ghost use Rattle.hdrhistogram.specs.PayloadRead.{fault_at, move, with_count, counts_in};
-ghost use Rattle.hdrhistogram.specs.V2Read.{told_of, IsRestated};
+ghost use Rattle.hdrhistogram.specs.PayloadRead.{IsCountPut, IsPairPut, fault_at, move, with_count, counts_in};
+ghost use Rattle.hdrhistogram.specs.V2Read.{told_by, told_of, IsRestated};
 
 use crate::serialization::errors::DeserializeError;
 use crate::serialization::fields::ended;
-use crate::serialization::varint::varint_at;
+use crate::serialization::varint::{short_varint_at, varint_at};
 use crate::serialization::zig_zag::zig_zag_decode;
 use hdr_base::Counter;
-use hdr_core::Histogram;
+use hdr_core::{Filling, Histogram};
 
-/// Records a count in a bin behind which all are empty, and which is empty too.
-fn put_count<T: Counter>(h: &mut Histogram<T>, bin: usize, count: T)
-    requires inside { bin < length h.old.counts }
-    requires some { 0 < T.number count }
-    requires fits { T.number count ≤ T.greatest }
-    requires empty { (i : ℕ) → bin ≤ i → slice_index h.old.counts i ≡ 0 }
-    requires restated { IsRestated h.old }
-    ensures told { told_of h.new ≡ record (told_of h.old)
-        { counts = slice_set h.old.counts bin (T.number count) } }
-    ensures fixed { h.new.auto_resize ≡ h.old.auto_resize }
-    ensures restated { IsRestated h.new }
-{
-    if let Some(value) = h.bin_value(bin) {
-        match h.record_n(value, count) {
-            Ok(()) => {}
-            Err(_) => {}
-        }
-    }
-}
-
-/// Puts a number at its place, from which on all bins are empty, and gives the place behind it.
+/// Puts a number at its place, and gives the place behind it.
 fn put_number<T: Counter>(
-    h: &mut Histogram<T>,
+    filling: &mut Filling<T>,
     place: u64,
     number: i64,
 ) -> Result<u64, DeserializeError>
-    requires empty { (i : ℕ) → place ≤ i → slice_index h.old.counts i ≡ 0 }
-    requires restated { IsRestated h.old }
-    ensures fault { Checks result (fault_at (length h.old.counts) T.greatest place number) }
+    ensures fault { Checks result (fault_at (length filling.old.counts) T.greatest place number) }
     ensures next { IfOk result (λ next. next ≡ place + move number) }
-    ensures told { OnOk result (told_of h.new ≡ record (told_of h.old)
-        { counts = with_count h.old.counts place number }) }
-    ensures fixed { h.new.auto_resize ≡ h.old.auto_resize }
-    ensures restated { OnOk result (IsRestated h.new) }
+    ensures put { OnOk result (filling.new ≡ record filling.old
+        { counts = with_count filling.old.counts place number }) }
 {
     if number < 0 {
         return place
@@ -57,33 +32,133 @@ fn put_number<T: Counter>(
         return Err(DeserializeError::UnsuitableCounterType);
     };
     if number > 0 {
-        if place >= h.distinct_values() as u64 {
+        if place >= filling.distinct_values() as u64 {
             return Err(DeserializeError::EncodedArrayTooLong);
         }
-        put_count(h, place as usize, count);
+        filling.set(place as usize, count);
     }
     place
         .checked_add(1)
         .ok_or(DeserializeError::UsizeTypeTooSmall)
 }
 
-/// Reads a payload into an empty histogram.
-pub(crate) fn fill<T: Counter>(h: &mut Histogram<T>, payload: &[u8]) -> Result<(), DeserializeError>
-    requires { h.old ≡ empty_plain h.old.low h.old.high h.old.sigfig false }
-    ensures counts { Gives (λ _. h.new.counts) result
-        (counts_in (length h.old.counts) T.greatest payload.now) }
-    ensures told { OnOk result (told_of h.new ≡ record (told_of h.old) { counts = h.new.counts }) }
-    ensures fixed { OnOk result (h.new.auto_resize ≡ false) }
-    ensures restated { OnOk result (IsRestated h.new) }
+/// Puts the count that a byte or two spell at the front, and gives how many they are. `None`, with nothing put, where
+/// they spell another number or the front is spelt by more bytes, and where the count is a fault.
+#[inline(always)]
+fn put_short<T: Counter>(filling: &mut Filling<T>, place: u64, bytes: &[u8]) -> Option<usize>
+    ensures put { IfSome result (IsCountPut T.greatest place bytes.now filling.old.counts filling.new.counts) }
+    ensures few { IfSome result (λ _. place < 6291456) }
+    ensures rest { filling.new ≡ record filling.old { counts = filling.new.counts } }
+    ensures kept { IfNone result (filling.new ≡ filling.old) }
+{
+    let (encoded, len) = short_varint_at(bytes)?;
+    if encoded % 2 != 0 {
+        return None;
+    }
+    if encoded == 0 {
+        return None;
+    }
+    let count = T::from_u64(encoded / 2)?;
+    if place >= filling.distinct_values() as u64 {
+        return None;
+    }
+    filling.set(place as usize, count);
+    Some(len)
+}
+
+/// The count above 0 that two bytes spell, where just two spell it.
+#[inline(always)]
+fn two_byte_count<T: Counter>(first: u8, second: u8) -> Option<T>
+    ensures bytes { IfSome result (λ _. (128 ≤ first) × (second < 128) × (first % 2 ≡ 0)) }
+    ensures count { IfSome result (λ c. (0 < T.number c) × (T.number c ≤ T.greatest) × (2 * T.number c ≡ first % 128 + 128 * second)) }
+{
+    if first < 128 {
+        return None;
+    }
+    if second >= 128 {
+        return None;
+    }
+    if first % 2 != 0 {
+        return None;
+    }
+    if second == 0 {
+        return None;
+    }
+    T::from_u64(u64::from(first) % 128 / 2 + 64 * u64::from(second))
+}
+
+/// Puts two counts that two bytes each spell at the front. Whether there are two such, and neither is a fault; else
+/// nothing is put.
+#[inline(always)]
+fn put_pair<T: Counter>(filling: &mut Filling<T>, place: u64, bytes: &[u8]) -> bool
+    ensures put { result ≡ true → IsPairPut T.greatest place bytes.now filling.old.counts filling.new.counts }
+    ensures few { result ≡ true → place < 6291456 }
+    ensures rest { filling.new ≡ record filling.old { counts = filling.new.counts } }
+    ensures kept { result ≡ false → filling.new ≡ filling.old }
+{
+    if bytes.len() < 4 {
+        return false;
+    }
+    let Some(first) = two_byte_count(bytes[0], bytes[1]) else {
+        return false;
+    };
+    let Some(second) = two_byte_count(bytes[2], bytes[3]) else {
+        return false;
+    };
+    if place >= filling.distinct_values() as u64 {
+        return false;
+    }
+    let bin = place as usize;
+    if bin + 1 >= filling.distinct_values() {
+        return false;
+    }
+    filling.set(bin, first);
+    filling.set(bin + 1, second);
+    true
+}
+
+/// Reads a payload into bins that are all empty.
+fn fill<T: Counter>(filling: &mut Filling<T>, payload: &[u8]) -> Result<(), DeserializeError>
+    requires { filling.old.counts ≡ replicate (length filling.old.counts) 0 }
+    ensures counts { Gives (λ _. filling.new.counts) result
+        (counts_in (length filling.old.counts) T.greatest payload.now) }
+    ensures rest { OnOk result (filling.new ≡ record filling.old { counts = filling.new.counts }) }
 {
     let mut at = 0;
     let mut place = 0;
     while at < payload.len() {
+        if put_pair(filling, place, &payload[at..]) {
+            at += 4;
+            place += 2;
+            continue;
+        }
+        if let Some(len) = put_short(filling, place, &payload[at..]) {
+            at += len;
+            place += 1;
+            continue;
+        }
         let Some((encoded, len)) = varint_at(&payload[at..]) else {
             return Err(ended());
         };
         at += len;
-        place = put_number(h, place, zig_zag_decode(encoded))?;
+        place = put_number(filling, place, zig_zag_decode(encoded))?;
     }
     Ok(())
+}
+
+/// The histogram of bins that are all empty, after they were read from a payload.
+pub(crate) fn filled<T: Counter>(
+    mut filling: Filling<T>,
+    payload: &[u8],
+) -> Result<Histogram<T>, DeserializeError>
+    requires empty { filling.counts ≡ replicate (length filling.counts) 0 }
+    requires fixed { filling.auto_resize ≡ false }
+    ensures counts { Gives (λ h. h.counts) result
+        (counts_in (length filling.counts) T.greatest payload.now) }
+    ensures told { IfOk result (λ h. told_of h ≡ record (told_by filling) { counts = h.counts }) }
+    ensures fixed { IfOk result (λ h. h.auto_resize ≡ false) }
+    ensures restated { IfOk result (λ h. IsRestated h) }
+{
+    fill(&mut filling, payload)?;
+    Ok(filling.into_histogram())
 }

@@ -48,7 +48,8 @@ pub(crate) fn read_whole<R: Read>(reader: &mut R, buffer: &mut [u8]) -> io::Resu
 const PIECE: usize = 4096;
 
 /// Reads the next of `left` bytes behind those that have come, which the buffer holds: at most
-/// 4,096 of them, so that the buffer is never longer than that past the bytes that have come.
+/// 4,096 of them, so that the buffer is never longer than that past the bytes that have come. It
+/// asks for room for no more.
 pub(crate) fn read_piece<R: Read>(
     reader: &mut R,
     buffer: &mut Vec<u8>,
@@ -64,6 +65,9 @@ pub(crate) fn read_piece<R: Read>(
 {
     let start = buffer.len();
     let piece = left.min(PIECE);
+    let Ok(()) = buffer.reserve_exact(piece) else {
+        return Err(DeserializeError::OutOfMemory);
+    };
     let Ok(()) = buffer.resize(start + piece, 0) else {
         return Err(DeserializeError::OutOfMemory);
     };

@@ -59,25 +59,36 @@ fn write_long(n: u64, buf: &mut [u8]) -> usize
 
 /// The number that is spelt at the front, and the length of its spelling; `None` where the bytes
 /// end inside it.
-#[inline]
 pub(crate) fn varint_at(bytes: &[u8]) -> Option<(u64, usize)>
     ensures within { IfSome result (λ found. found.1 ≤ length bytes.now) }
     ensures few { IfSome result (λ found. found.1 ≤ 9) }
     ensures found { IfSome result (λ found. Spells (take found.1 bytes.now) found.0) }
     ensures cut { IfNone result (IsCut bytes.now) }
 {
+    match short_varint_at(bytes) {
+        Some(found) => Some(found),
+        None => read_long(bytes),
+    }
+}
+
+/// The number that one byte or two spell at the front, and how many they are, without a branch on
+/// that; `None` where more bytes spell it or two are not at hand.
+#[inline(always)]
+pub(crate) fn short_varint_at(bytes: &[u8]) -> Option<(u64, usize)>
+    ensures within { IfSome result (λ found. found.1 ≤ length bytes.now) }
+    ensures few { IfSome result (λ found. found.1 ≤ 2) }
+    ensures found { IfSome result (λ found. Spells (take found.1 bytes.now) found.0) }
+{
     if bytes.len() < 2 {
-        return read_long(bytes);
+        return None;
     }
     let first = u64::from(bytes[0]);
-    if first < LAST_BELOW {
-        return Some((first, 1));
-    }
     let second = u64::from(bytes[1]);
-    if second < LAST_BELOW {
-        return Some((first % 128 + 128 * second, 2));
+    let two = first / LAST_BELOW;
+    if two * second >= LAST_BELOW {
+        return None;
     }
-    read_long(bytes)
+    Some((first % 128 + 128 * (two * second), 1 + two as usize))
 }
 
 /// The same for a spelling of any length, byte by byte.

@@ -1,10 +1,10 @@
 //! Calls that take no memory.
 
 use crate::tests::refused::is_refused;
-use hdr_play::Table;
 use hdr_base::Quantile;
 use hdr_core::{Call, Histogram};
 use hdr_log::{IntervalLogIterator, Tag};
+use hdr_play::Table;
 use hdrhistogram::serialization::deserializer::{varint_read, varint_read_slice};
 use hdrhistogram::serialization::interval_log::IntervalLogWriterBuilder;
 use hdrhistogram::serialization::v2_serializer::{

@@ -14,8 +14,8 @@ returns-clause-sum c = λ greatest sigfig filter log m hs Ls one bounds merges c
     let same = a.2 ∙ ap (merged_each greatest h) (c.merging_adds_the_chosen.ensures.only filter 0 (reading log) a.0 hs a.1 chosen) in
     let grain = sym (empty_grain sigfig) in
     let sum = c.joined_stands.ensures.sum greatest 18446744073709551615 h hs [] Ls one
-        (c.new_is_plain.ensures greatest 1 2 sigfig true bounds (lit< tt)) (c.clearing_stands.ensures.made 1 2 sigfig true)
-        (subst (λ (g : Grain). AreParts 18446744073709551615 g hs Ls) grain parts) (subst (λ (g : Grain). Fits greatest g (joined_list Ls)) grain fits) in
+    (c.new_is_plain.ensures greatest 1 2 sigfig true bounds (lit< tt)) (c.clearing_stands.ensures.made 1 2 sigfig true)
+    (subst (λ (g : Grain). AreParts 18446744073709551615 g hs Ls) grain parts) (subst (λ (g : Grain). Fits greatest g (joined_list Ls)) grain fits) in
     subst (λ (k : Plain). StandsFor k (joined_list Ls)) (sym same) sum.0
 
 pub returns-clause-ranked : goal.returns-clause-ranked
@@ -25,6 +25,6 @@ returns-clause-ranked c = λ greatest sigfig filter log m hs Ls one bounds merge
     let same = a.2 ∙ ap (merged_each greatest h) (c.merging_adds_the_chosen.ensures.only filter 0 (reading log) a.0 hs a.1 chosen) in
     let grain = sym (empty_grain sigfig) in
     let ranked = c.joined_stands.ensures.ranked greatest 18446744073709551615 h hs [] Ls one
-        (c.new_is_plain.ensures greatest 1 2 sigfig true bounds (lit< tt)) (c.clearing_stands.ensures.made 1 2 sigfig true)
-        (subst (λ (g : Grain). AreParts 18446744073709551615 g hs Ls) grain parts) (subst (λ (g : Grain). Fits greatest g (joined_list Ls)) grain fits) in
+    (c.new_is_plain.ensures greatest 1 2 sigfig true bounds (lit< tt)) (c.clearing_stands.ensures.made 1 2 sigfig true)
+    (subst (λ (g : Grain). AreParts 18446744073709551615 g hs Ls) grain parts) (subst (λ (g : Grain). Fits greatest g (joined_list Ls)) grain fits) in
     subst (λ (k : Plain). AnswersRanked k (joined_list Ls)) (sym same) ranked

@@ -51,11 +51,15 @@ pub enum MergeError {
 
     /// The line that begins at this byte is no line of a log.
     #[error("parse error at byte {offset}")]
-    Parse { offset: usize },
+    Parse {
+        offset: usize,
+    },
 
     /// The field of this interval is no Base64.
     #[error("interval {interval}: not base64")]
-    Base64 { interval: u64 },
+    Base64 {
+        interval: u64,
+    },
 
     /// The bytes of this interval are no histogram.
     #[error("interval {interval}: {cause}")]

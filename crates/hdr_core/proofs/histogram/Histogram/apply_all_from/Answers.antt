@@ -23,7 +23,7 @@ loop-at-preserved g c =
       same_classes = c.in_default.ensures.same_classes ∙ c.loop-at.invariant.same_classes;
       same_bounds = (c.in_default.ensures.same_bounds.0 ∙ c.loop-at.invariant.same_bounds.0, c.in_default.ensures.same_bounds.1 ∙ c.loop-at.invariant.same_bounds.1);
       run = rw more (WasRun-push (after_call_from greatest number) IsTakenFrom (CallFromTo number k) (Fits greatest k) (take at calls) call h c.loop-at.self c.apply_from.new.self c.loop-at.invariant.run c.in_default.ensures.can c.in_default.ensures.ok
-      (λ s t stands called fits. c.in_default.ensures.samples s t stands (subst (λ (k : Grain). CallFromTo number k call s t) same called) (subst (λ (k : Grain). Fits greatest k t.samples) same fits)));
+          (λ s t stands called fits. c.in_default.ensures.samples s t stands (subst (λ (k : Grain). CallFromTo number k call s t) same called) (subst (λ (k : Grain). Fits greatest k t.samples) same fits)));
     }
 
 pub returns-clause-samples : goal.returns-clause-samples

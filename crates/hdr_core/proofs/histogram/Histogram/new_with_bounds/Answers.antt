@@ -4,27 +4,27 @@ use Rattle.hdr_counts.specs.Blocks.{Blocks}
 use Rattle.hdr_core.proofs.Kept.{IsPlain-empty, empty-by, blocks-are, digits-pos-of}
 use Rattle.hdr_core.proofs.histogram.Histogram.new_with_bounds.Goals as goal
 
-pub new-requires-2-clause-few : goal.new-requires-2-clause-few
-new-requires-2-clause-few g c = rw (c.block.ensures.value) c.buckets.ensures.few
+pub new-requires-clause-few : goal.new-requires-clause-few
+new-requires-clause-few g c = rw (c.block.ensures.value) c.buckets.ensures.few
 
 pub invariant_of-result : goal.invariant_of-result
 invariant_of-result g c =
-    let same = c.in-Some.ensures.scale.1 in
+    let same = c.in_ok-scale.ensures.0 in
     let gr = grain_of c.args.low c.args.sigfig in
     let block : c.block.result ≡ 2 ^ (gr.digits - 1) = c.block.ensures.value ∙ ap (λ (s : Grain). 2 ^ (s.digits - 1)) same in
-    let n = blocks-are c.in-Some.scale gr c.args.high c.buckets.result c.block.result same c.buckets.ensures.value block (digits-pos-of c.args.low c.args.sigfig) in
+    let n = blocks-are c.in_ok-scale.scale gr c.args.high c.buckets.result c.block.result same c.buckets.ensures.value block (digits-pos-of c.args.low c.args.sigfig) in
     let made = empty-by c.args.low c.args.high c.args.sigfig (c.buckets.result + 1) c.block.result false c.in-Ok.counts.numbers (ap (λ (b : Blocks). b.numbers) c.in-Ok.ensures) n in
     record {
       scale = same;
       block = ap (λ (b : Blocks). b.block) c.in-Ok.ensures ∙ block;
-      plain = rw (c.none.ensures, made) (IsPlain-empty g.T.Counter.greatest c.args.low c.args.high c.args.sigfig false c.in-Some.ensures.scale.0 (omega arith) (omega arith));
+      plain = rw (c.none.ensures, made) (IsPlain-empty g.T.Counter.greatest c.args.low c.args.high c.args.sigfig false c.in_ok-scale.ensures.1.scale (omega arith) c.in_ok-scale.ensures.1.wide);
     }
 
 pub returns : goal.returns
 returns g c =
-    let same = c.in-Some.ensures.scale.1 in
+    let same = c.in_ok-scale.ensures.0 in
     let gr = grain_of c.args.low c.args.sigfig in
     let block : c.block.result ≡ 2 ^ (gr.digits - 1) = c.block.ensures.value ∙ ap (λ (s : Grain). 2 ^ (s.digits - 1)) same in
-    let n = blocks-are c.in-Some.scale gr c.args.high c.buckets.result c.block.result same c.buckets.ensures.value block (digits-pos-of c.args.low c.args.sigfig) in
+    let n = blocks-are c.in_ok-scale.scale gr c.args.high c.buckets.result c.block.result same c.buckets.ensures.value block (digits-pos-of c.args.low c.args.sigfig) in
     let made = empty-by c.args.low c.args.high c.args.sigfig (c.buckets.result + 1) c.block.result false c.in-Ok.counts.numbers (ap (λ (b : Blocks). b.numbers) c.in-Ok.ensures) n in
-    (rw c.none.ensures made, record { low_fits = omega arith; wide = omega arith; scale = c.in-Some.ensures.scale.0 })
+    (rw c.none.ensures made, c.in_ok-scale.ensures.1)

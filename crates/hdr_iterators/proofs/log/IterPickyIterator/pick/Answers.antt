@@ -21,10 +21,10 @@ returns-then-self g c = λ h last w asked ahead.
           (λ (lt : i < place_of h (p.power - 1)). lt)
           (λ (ge : place_of h (p.power - 1) ≤ i).
           let in_bins : i < bins_in p.bins = rw w.0 asked.inside in
-          let at : place_of p.bins c.saturating_sub-level.result ≤ i = rw (w.0, c.saturating_sub-level.ensures) ge in
+          let at : p.place ≤ i = rw w.1 ge in
           absurd (false≢true (sym b.if-not-is_due.true ∙ b.is_due.ensures.1 (in_bins, at))))
           (cases_lt i (place_of h (p.power - 1))) in
-          (w, refl, log_behind h p.power p.base i p.done w.1 behind)
+          (w, refl, log_behind h p.power p.base i p.done w.2 behind)
     ]
 
 pub returns : goal.returns
@@ -33,16 +33,20 @@ returns g c = λ h last w asked ahead.
     let i = c.args.index in
     let coming : List Pick = log_picks h p.power p.base in
     let ahead_there : NoneBefore i coming = subst (λ d. NoneBefore i (cond d [] coming)) c.if-self.false ahead in
-    let due : place_of h (p.power - 1) ≤ i = rw (w.0, c.saturating_sub-level.ensures) at (c.is_due.ensures.0 c.if-not-is_due.false).1 in
+    let due : place_of h (p.power - 1) ≤ i = rw w.1 at (c.is_due.ensures.0 c.if-not-is_due.false).1 in
     let told : ((leb c.last.result i ≡ true) × (h.last ≤ i)) ⊎ ((leb c.last.result i ≡ false) × (i < h.last)) =
     ⊎_elim
     (λ (y : (leb c.last.result i ≡ true) × (c.last.result ≤ i)). inl (y.0, rw (← w.0) (rw c.last.ensures at y.1)))
     (λ (y : (leb c.last.result i ≡ false) × (i < c.last.result)). inr (y.0, rw (← w.0) (rw c.last.ensures at y.1)))
     (leb_tells c.last.result i) in
-    let step = log_step h p.power p.base i c.saturating_mul-self.result (leb c.last.result i) w.1 due ahead_there c.saturating_mul-self.ensures told in
+    let step = log_step h p.power p.base i c.saturating_mul-self.result (leb c.last.result i) w.2 due ahead_there c.saturating_mul-self.ensures told in
     let rest : List Pick = cond (leb c.last.result i) [] (log_picks h c.saturating_mul-self.result p.base) in
     let first : Pick = record { place = i; tick = None; level = Some c.saturating_sub-level.result } in
     let placed : level_pick h (p.power - 1) ∷ rest ≡ first ∷ rest = ap₂ (λ q v. record { place = q; tick = None; level = Some v } ∷ rest) (sym step.0) (sym c.saturating_sub-level.ensures) in (
-      (w.0, LogStep-next h p.power p.base c.saturating_mul-self.result w.1 c.saturating_mul-self.ensures),
+      (
+        w.0,
+        c.place_of-self.ensures.value ∙ ap (λ v. place_of p.bins v) c.saturating_sub.ensures ∙ ap (λ q. place_of q (c.saturating_mul-self.result - 1)) w.0,
+        LogStep-next h p.power p.base c.saturating_mul-self.result w.2 c.saturating_mul-self.ensures,
+      ),
       rw c.new.ensures (ap (λ d. cond d [] coming) c.if-self.false ∙ (step.1 ∙ placed)),
     )

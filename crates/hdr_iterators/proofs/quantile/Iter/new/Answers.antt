@@ -1,7 +1,7 @@
 use Rattle.std.proofs.Common.{drop, sym, subst}
 use Rattle.hdr_iterators.specs.Seen.{bins_in}
 use Rattle.hdr_iterators.specs.Picks.{AllBefore}
-use Rattle.hdr_iterators.specs.Ticks.{Ticked}
+use Rattle.hdr_iterators.specs.Ticks.{TickOf}
 use Rattle.hdr_iterators.specs.Places.{quantile_picks}
 use Rattle.hdr_iterators.proofs.TickLists.{picks_within}
 use Rattle.hdr_iterators.proofs.quantile.Iter.new.Goals as goal
@@ -9,4 +9,4 @@ use Rattle.hdr_iterators.proofs.quantile.Iter.new.Goals as goal
 pub new-requires-clause-within : goal.new-requires-clause-within
 new-requires-clause-within g c =
     let h = c.binned-bins.result in
-    subst (λ (k : Ticked). AllBefore (bins_in h) (drop k.number (quantile_picks h k.per_half))) (sym c.first.ensures) (picks_within h c.args.ticks_per_half_distance)
+    subst (λ (k : TickOf). AllBefore (bins_in h) (drop k.number (quantile_picks h k.per_half))) (sym c.first.ensures) (picks_within h c.args.ticks_per_half_distance)

@@ -16,34 +16,34 @@ returns-in_err-header-clause-read g c =
     let (t, taken, fails) = header-failed (rem c.args.reader.now) (rem c.read_header.new.reader) greatest (named c.in_err-header.field-0.0) c.in_err-header.ensures in
     (t, taken, gives_fails _ c.from_residual.result q.0 c.in_err-header.field-0.0 (v2_at greatest t) q.1 q.2 fails)
 
-pub returns-in_err-h-clause-read : goal.returns-in_err-h-clause-read
-returns-in_err-h-clause-read g c =
+pub returns-in_err-empty-clause-read : goal.returns-in_err-empty-clause-read
+returns-in_err-empty-clause-read g c =
     let rem = g.R.Read.remaining in
     let greatest = g.T.Counter.greatest in
-    let q = err_from_is_err_and c.from_residual-in_err-h.result c.from_residual-in_err-h.ensures.1 in
-    let (t, taken, fails) = bounds-failed (rem c.args.reader.now) (rem c.read_header.new.reader) greatest (header_of c.in_ok-header.header) (named c.in_err-h.field-0.0) c.in_ok-header.ensures c.in_err-h.ensures.bounds in
-    (t, taken, gives_fails _ c.from_residual-in_err-h.result q.0 c.in_err-h.field-0.0 (v2_at greatest t) q.1 q.2 fails)
+    let q = err_from_is_err_and c.from_residual-in_err-empty.result c.from_residual-in_err-empty.ensures.1 in
+    let (t, taken, fails) = bounds-failed (rem c.args.reader.now) (rem c.read_header.new.reader) greatest (header_of c.in_ok-header.header) (named c.in_err-empty.field-0.0) c.in_ok-header.ensures c.in_err-empty.ensures.bounds in
+    (t, taken, gives_fails _ c.from_residual-in_err-empty.result q.0 c.in_err-empty.field-0.0 (v2_at greatest t) q.1 q.2 fails)
 
 pub returns-in_err-read_payload-clause-read : goal.returns-in_err-read_payload-clause-read
 returns-in_err-read_payload-clause-read g c =
     let rem = g.R.Read.remaining in
     let greatest = g.T.Counter.greatest in
     let q = err_from_is_err_and c.from_residual-in_err-read_payload.result c.from_residual-in_err-read_payload.ensures.1 in
-    let (t, taken, fails) = payload-failed (rem c.args.reader.now) (rem c.read_header.new.reader) greatest (header_of c.in_ok-header.header) c.in_ok-header.ensures c.in_ok-h.ensures.bounds (rem c.read_payload.new.reader) (named c.in_err-read_payload.field-0.0) c.in_err-read_payload.ensures in
+    let (t, taken, fails) = payload-failed (rem c.args.reader.now) (rem c.read_header.new.reader) greatest (header_of c.in_ok-header.header) c.in_ok-header.ensures c.in_ok-empty.ensures.bounds (rem c.read_payload.new.reader) (named c.in_err-read_payload.field-0.0) c.in_err-read_payload.ensures in
     (t, taken, gives_fails _ c.from_residual-in_err-read_payload.result q.0 c.in_err-read_payload.field-0.0 (v2_at greatest t) q.1 q.2 fails)
 
-pub returns-in_err-fill-clause-read : goal.returns-in_err-fill-clause-read
-returns-in_err-fill-clause-read g c =
+pub returns-in_err-h-clause-read : goal.returns-in_err-h-clause-read
+returns-in_err-h-clause-read g c =
     let rem = g.R.Read.remaining in
     let greatest = g.T.Counter.greatest in
     let header = header_of c.in_ok-header.header in
     let payload = c.read_payload.new.buffer.items in
-    let o = named c.in_err-fill.field-0.0 in
-    let q = err_from_is_err_and c.from_residual-in_err-fill.result c.from_residual-in_err-fill.ensures.1 in
+    let o = named c.in_err-h.field-0.0 in
+    let q = err_from_is_err_and c.from_residual-in_err-h.result c.from_residual-in_err-h.ensures.1 in
     let counts = subst (λ p. FailsBy o (counts_in (bins_for header) greatest p)) c.deref.ensures.value
-    (subst (λ n. FailsBy o (counts_in n greatest c.deref.result.now)) c.in_ok-h.ensures.bins c.in_err-fill.ensures.counts) in
-    let (t, taken, fails) = counts-failed (rem c.args.reader.now) (rem c.read_header.new.reader) greatest header c.in_ok-header.ensures c.in_ok-h.ensures.bounds (rem c.read_payload.new.reader) payload o c.in_ok-read_payload.ensures counts in
-    (t, taken, gives_fails _ c.from_residual-in_err-fill.result q.0 c.in_err-fill.field-0.0 (v2_at greatest t) q.1 q.2 fails)
+    (subst (λ n. FailsBy o (counts_in n greatest c.deref.result.now)) c.in_ok-empty.ensures.bins c.in_err-h.ensures.counts) in
+    let (t, taken, fails) = counts-failed (rem c.args.reader.now) (rem c.read_header.new.reader) greatest header c.in_ok-header.ensures c.in_ok-empty.ensures.bounds (rem c.read_payload.new.reader) payload o c.in_ok-read_payload.ensures counts in
+    (t, taken, gives_fails _ c.from_residual-in_err-h.result q.0 c.in_err-h.field-0.0 (v2_at greatest t) q.1 q.2 fails)
 
 pub returns-clause-read : goal.returns-clause-read
 returns-clause-read g c =
@@ -51,10 +51,10 @@ returns-clause-read g c =
     let greatest = g.T.Counter.greatest in
     let header = header_of c.in_ok-header.header in
     let payload = c.read_payload.new.buffer.items in
-    let counts = c.fill.new.h.counts in
+    let counts = c.in_ok-h.h.counts in
     let is : counts_in (bins_for header) greatest payload ≡ Ok counts
     = subst (λ p. counts_in (bins_for header) greatest p ≡ Ok counts) c.deref.ensures.value
-    (subst (λ n. counts_in n greatest c.deref.result.now ≡ Ok counts) c.in_ok-h.ensures.bins c.in_ok-fill.ensures.counts) in
-    let (t, taken, e) = whole-taken (rem c.args.reader.now) (rem c.read_header.new.reader) greatest header c.in_ok-header.ensures c.in_ok-h.ensures.bounds (rem c.read_payload.new.reader) payload counts c.in_ok-read_payload.ensures is in
-    let told : told_of c.fill.new.h ≡ contents_of header counts = c.in_ok-fill.ensures.told ∙ ap (λ (t : Contents). record t { counts = counts }) c.in_ok-h.ensures.told in
+    (subst (λ n. counts_in n greatest c.deref.result.now ≡ Ok counts) c.in_ok-empty.ensures.bins c.in_ok-h.ensures.counts) in
+    let (t, taken, e) = whole-taken (rem c.args.reader.now) (rem c.read_header.new.reader) greatest header c.in_ok-header.ensures c.in_ok-empty.ensures.bounds (rem c.read_payload.new.reader) payload counts c.in_ok-read_payload.ensures is in
+    let told : told_of c.in_ok-h.h ≡ contents_of header counts = c.in_ok-h.ensures.told ∙ ap (λ (t : Contents). record t { counts = counts }) c.in_ok-empty.ensures.told in
     (t, taken, e ∙ ap (λ (x : Contents). whole x) (sym told))

@@ -4,65 +4,88 @@ use Rattle.std.proofs.lemmas.Int.{to_z-of_z}
 use Rattle.std.proofs.lemmas.Result.{err_from_is_err_and}
 use mir.Val.{SFits}
 use Rattle.hdrhistogram.specs.Faults.{named, FailsBy}
-use Rattle.hdrhistogram.specs.PayloadRead.{IsCut, counts_in}
-use Rattle.hdrhistogram.specs.V2Read.{Contents}
+use Rattle.hdrhistogram.specs.PayloadRead.{IsCut, IsCountPut, IsPairPut, counts_in}
+use Rattle.hdr_core.specs.Filling.{Open}
 use Rattle.hdrhistogram.proofs.Spellings.{some_byte}
-use Rattle.hdrhistogram.proofs.Restated.{empty-nothing, told_step}
-use Rattle.hdrhistogram.proofs.Filling.{fill_start, fill_behind, fill_next, fill_faulty, fill_end, fill_cut, fails_so, gives_fails}
+use Rattle.hdrhistogram.proofs.Restated.{set-again}
+use Rattle.hdrhistogram.proofs.Filling.{IsFilledTo, fill_start, fill_short, fill_pair, fill_next, fill_faulty, fill_end, fill_cut, fails_so, gives_fails}
 use Rattle.hdrhistogram.proofs.serialization.filling.fill.Goals as goal
 
 pub loop-at-init : goal.loop-at-init
 loop-at-init g c =
-    let h = c.args.h.now in
-    let e = empty-nothing h c.requires in
-    record { filled = fill_start (length h.counts) g.T.Counter.greatest c.args.payload.now h.counts e.counts; told = refl; fixed = e.fixed; restated = e.restated }
+    let f = c.args.filling.now in
+    record { filled = fill_start (length f.counts) g.T.Counter.greatest c.args.payload.now f.counts c.requires; rest = refl }
 
-pub put_number-requires-clause-empty : goal.put_number-requires-clause-empty
-put_number-requires-clause-empty g c = fill_behind (length c.args.h.now.counts) g.T.Counter.greatest c.args.payload.now c.loop-at.h.counts c.loop-at.at c.loop-at.place c.loop-at.invariant.filled
-
-pub returns-in_default-clause-counts : goal.returns-in_default-clause-counts
-returns-in_default-clause-counts g c =
+pub returns-in_default-varint_at-clause-counts : goal.returns-in_default-varint_at-clause-counts
+returns-in_default-varint_at-clause-counts g c =
     let p = c.args.payload.now in
-    let rest : IsCut (drop c.loop-at.at p) = subst IsCut (take_rest p c.loop-at.at) c.in_default.ensures.cut in
-    subst (λ o. FailsBy o (counts_in (length c.args.h.now.counts) g.T.Counter.greatest p)) (sym c.ended.ensures)
-    (fill_cut (length c.args.h.now.counts) g.T.Counter.greatest p c.loop-at.h.counts c.loop-at.at c.loop-at.place c.loop-at.invariant.filled c.loop-at-test.true rest)
+    let rest : IsCut (drop c.loop-at.at p) = subst IsCut (take_rest p c.loop-at.at) c.in_default-varint_at.ensures.cut in
+    subst (λ o. FailsBy o (counts_in (length c.args.filling.now.counts) g.T.Counter.greatest p)) (sym c.ended.ensures)
+    (fill_cut (length c.args.filling.now.counts) g.T.Counter.greatest p c.loop-at.filling.counts c.loop-at.at c.loop-at.place c.loop-at.invariant.filled c.loop-at-test.true rest)
 
 pub returns-in_err-place-clause-counts : goal.returns-in_err-place-clause-counts
 returns-in_err-place-clause-counts g c =
     let p = c.args.payload.now in
-    let bins = length c.args.h.now.counts in
+    let bins = length c.args.filling.now.counts in
     let at = c.loop-at.at in
-    let d = c.loop-at.invariant.filled in
+    let same = ap (λ (o : Open). o.counts) (c.in_default.ensures.kept ∙ c.put_pair.ensures.kept c.if-put_pair.false) in
+    let d = subst (λ l. IsFilledTo bins g.T.Counter.greatest p l at c.loop-at.place) (sym same) c.loop-at.invariant.filled in
     let z = c.zig_zag_decode.result in
     let fits : SFits w64 z = search rules in
     let q = err_from_is_err_and c.from_residual.result c.from_residual.ensures.1 in
     gives_fails _ c.from_residual.result q.0 c.in_err-place.field-0.0 (counts_in bins g.T.Counter.greatest p) q.1 q.2
     (fails_so (named c.in_err-place.field-0.0) _ (counts_in bins g.T.Counter.greatest p) c.in_err-place.ensures.fault (λ f e.
-    fill_faulty bins g.T.Counter.greatest p c.loop-at.h.counts _ at c.loop-at.place c.in-Some.len c.in-Some.encoded _ f d
-    (omega (arith, c.in-Some.ensures.within, length-take (length p - at) (drop at p))) (ap (take c.in-Some.len) (take_rest p at)) c.in-Some.ensures.found
+    fill_faulty bins g.T.Counter.greatest p c.put_short.new.filling.counts _ at c.loop-at.place c.in-Some-varint_at.len c.in-Some-varint_at.encoded _ f d
+    (omega (arith, c.in-Some-varint_at.ensures.within, length-take (length p - at) (drop at p))) (ap (take c.in-Some-varint_at.len) (take_rest p at)) c.in-Some-varint_at.ensures.found
     (to_z-of_z w64 z fits ∙ c.zig_zag_decode.ensures) e))
 
 pub loop-at-smaller : goal.loop-at-smaller
-loop-at-smaller g c = omega (arith, some_byte 8 _ c.in-Some.ensures.found.whole, c.in-Some.ensures.within, length-take {A = ℕ}, length-drop {A = ℕ})
+loop-at-smaller g c = omega (arith, some_byte 8 _ c.in-Some-varint_at.ensures.found.whole, c.in-Some-varint_at.ensures.within, length-take {A = ℕ}, length-drop {A = ℕ})
 
 pub loop-at-preserved : goal.loop-at-preserved
 loop-at-preserved g c =
     let p = c.args.payload.now in
-    let bins = length c.args.h.now.counts in
+    let bins = length c.args.filling.now.counts in
     let at = c.loop-at.at in
-    let d = c.loop-at.invariant.filled in
+    let same = ap (λ (o : Open). o.counts) (c.in_default.ensures.kept ∙ c.put_pair.ensures.kept c.if-put_pair.false) in
+    let d = subst (λ l. IsFilledTo bins g.T.Counter.greatest p l at c.loop-at.place) (sym same) c.loop-at.invariant.filled in
     let slice = take (length p - at) (drop at p) in
     let z = c.zig_zag_decode.result in
     let fits : SFits w64 z = search rules in
     record {
-      filled = fill_next bins g.T.Counter.greatest p c.loop-at.h.counts c.put_number.new.h.counts (take c.in-Some.len slice) at (at + c.in-Some.len) c.loop-at.place c.in_ok-place.place c.in-Some.len c.in-Some.encoded _ d
-          (omega (arith, c.in-Some.ensures.within, length-take (length p - at) (drop at p))) (ap (take c.in-Some.len) (take_rest p at)) c.in-Some.ensures.found
+      filled = fill_next bins g.T.Counter.greatest p c.put_short.new.filling.counts c.put_number.new.filling.counts (take c.in-Some-varint_at.len slice) at (at + c.in-Some-varint_at.len) c.loop-at.place c.in_ok-place.place c.in-Some-varint_at.len c.in-Some-varint_at.encoded _ d
+          (omega (arith, c.in-Some-varint_at.ensures.within, length-take (length p - at) (drop at p))) (ap (take c.in-Some-varint_at.len) (take_rest p at)) c.in-Some-varint_at.ensures.found
           (to_z-of_z w64 z fits ∙ c.zig_zag_decode.ensures) c.in_ok-place.ensures.fault
-          (ap (λ (t : Contents). t.counts) c.in_ok-place.ensures.told) refl c.in_ok-place.ensures.next;
-      told = told_step c.args.h.now c.loop-at.h c.put_number.new.h _ c.loop-at.invariant.told c.in_ok-place.ensures.told;
-      fixed = c.in_ok-place.ensures.fixed ∙ c.loop-at.invariant.fixed;
-      restated = c.in_ok-place.ensures.restated;
+          (ap (λ (o : Open). o.counts) c.in_ok-place.ensures.put) refl c.in_ok-place.ensures.next;
+      rest = set-again c.args.filling.now c.put_short.new.filling c.put_number.new.filling _ (set-again c.args.filling.now c.put_pair.new.filling c.put_short.new.filling _ (set-again c.args.filling.now c.loop-at.filling c.put_pair.new.filling _ c.loop-at.invariant.rest c.put_pair.ensures.rest) c.put_short.ensures.rest) c.in_ok-place.ensures.put;
+    }
+
+pub loop-at-smaller-in-Some : goal.loop-at-smaller-in-Some
+loop-at-smaller-in-Some g c = omega (arith, some_byte 8 _ c.in-Some.ensures.put.spells.whole, c.in-Some.ensures.put.within, length-take {A = ℕ}, length-drop {A = ℕ})
+
+pub loop-at-preserved-in-Some : goal.loop-at-preserved-in-Some
+loop-at-preserved-in-Some g c =
+    let p = c.args.payload.now in
+    let bins = length c.args.filling.now.counts in
+    let at = c.loop-at.at in
+    let same = ap (λ (o : Open). o.counts) (c.put_pair.ensures.kept c.if-put_pair.false) in
+    let d = subst (λ l. IsFilledTo bins g.T.Counter.greatest p l at c.loop-at.place) (sym same) c.loop-at.invariant.filled in
+    let put = subst (λ l. IsCountPut g.T.Counter.greatest c.loop-at.place l c.put_pair.new.filling.counts c.put_short.new.filling.counts c.in-Some.len) (take_rest p at) c.in-Some.ensures.put in
+    record {
+      filled = fill_short bins g.T.Counter.greatest p c.put_pair.new.filling.counts c.put_short.new.filling.counts at (at + c.in-Some.len) c.loop-at.place (c.loop-at.place + 1) c.in-Some.len d put refl refl;
+      rest = set-again c.args.filling.now c.put_pair.new.filling c.put_short.new.filling _ (set-again c.args.filling.now c.loop-at.filling c.put_pair.new.filling _ c.loop-at.invariant.rest c.put_pair.ensures.rest) c.put_short.ensures.rest;
+    }
+
+pub loop-at-preserved-then-put_pair : goal.loop-at-preserved-then-put_pair
+loop-at-preserved-then-put_pair g c =
+    let p = c.args.payload.now in
+    let bins = length c.args.filling.now.counts in
+    let at = c.loop-at.at in
+    let put = subst (λ l. IsPairPut g.T.Counter.greatest c.loop-at.place l c.loop-at.filling.counts c.put_pair.new.filling.counts) (take_rest p at) (c.put_pair.ensures.put c.if-put_pair.true) in
+    record {
+      filled = fill_pair bins g.T.Counter.greatest p c.loop-at.filling.counts c.put_pair.new.filling.counts at (at + 4) c.loop-at.place (c.loop-at.place + 2) c.loop-at.invariant.filled put refl refl;
+      rest = set-again c.args.filling.now c.loop-at.filling c.put_pair.new.filling _ c.loop-at.invariant.rest c.put_pair.ensures.rest;
     }
 
 pub returns-clause-counts : goal.returns-clause-counts
-returns-clause-counts g c = fill_end (length c.args.h.now.counts) g.T.Counter.greatest c.args.payload.now c.loop-at.h.counts c.loop-at.at c.loop-at.place c.loop-at.invariant.filled c.loop-at-test.false
+returns-clause-counts g c = fill_end (length c.args.filling.now.counts) g.T.Counter.greatest c.args.payload.now c.loop-at.filling.counts c.loop-at.at c.loop-at.place c.loop-at.invariant.filled c.loop-at-test.false

@@ -7,11 +7,12 @@ returns-clause-ok g c =
     let old = c.args.buffer.now.items in
     let grown = c.deref_mut.result.now in
     let part = c.read_whole.new.buffer in
+    let items = rw (c.in-Ok.ensures.items, c.in-Ok.ensures.len) at c.in-Ok-resize.ensures.items in
     let start : c.len-start.result ≡ length old = c.len-start.ensures ∙ c.args.buffer.now.ok.0 in
-    let size : length grown ≡ c.len-start.result + c.min-piece.result = c.deref_mut.ensures.len ∙ c.in-Ok.ensures.len in
+    let size : length grown ≡ c.len-start.result + c.min-piece.result = c.deref_mut.ensures.len ∙ c.in-Ok-resize.ensures.len in
     let filled : length part ≡ c.min-piece.result = c.read_whole.auto.buffer ∙ simp (length-take, length-drop) (omega arith) in (
       part,
       (let most : c.min-piece.result ≡ min c.args.left 4096 = search rules in filled ∙ most),
-      piece_text old grown part _ c.len-start.result c.min-piece.result _ (grown_front old grown _ c.len-start.result c.min-piece.result start (c.deref_mut.ensures.value ∙ c.in-Ok.ensures.items)) start size filled c.in-Ok.ensures.len,
+      piece_text old grown part _ c.len-start.result c.min-piece.result _ (grown_front old grown _ c.len-start.result c.min-piece.result start (c.deref_mut.ensures.value ∙ items)) start size filled c.in-Ok-resize.ensures.len,
       c.in_ok-read_whole.ensures.ok,
     )

@@ -1,0 +1,6 @@
+use Rattle.std.proofs.Common.{◌-◌, length, map}
+use Rattle.hdr_counts.proofs.NonzeroPlaces.{ZerosBehind}
+use Rattle.hdr_counts.proofs.ends.last_of.Given as goal
+
+abbrev pub invariant-loop-passed : goal.invariant-loop-passed
+invariant-loop-passed g l = ZerosBehind (map g.T.Counter.number l.counters) (length l.counters - l.passed)

@@ -1,0 +1,56 @@
+//! The sums of blocks, handed out, and the sum of a part of a block.
+
+ghost use Rattle.std.specs.Prelude.{◌≡◌, ◌+◌, ◌*◌, ◌^◌, ◌<◌, ◌≤◌, length, map, sum};
+ghost use Rattle.hdr_counts.specs.Blocks.{AreSums, sum_below};
+
+use crate::Counts;
+use crate::adding::sum_of;
+use hdr_base::Counter;
+
+impl<T: Counter> Counts<T> {
+    /// The exact sums of the blocks, in their order.
+    pub fn sums(&self) -> &[u128]
+        ensures { AreSums self.now.block self.now.numbers result.now }
+    {
+        self.sums.as_slice()
+    }
+
+    /// The exact sum of block `k` up to and including place `i`, by the counters of the nearer end.
+    pub(crate) fn sum_in_block(&self, k: usize, i: usize) -> u128
+        requires from { k * self.now.block ≤ i }
+        requires before { i < (k + 1) * self.now.block }
+        requires within { (k + 1) * self.now.block ≤ length self.now.numbers }
+        ensures { sum_below self.now.numbers (k * self.now.block) + result ≡ sum_below self.now.numbers (i + 1) }
+    {
+        let whole = self.sums[k];
+        let from = k * self.block;
+        if i - from < self.block / 2 {
+            return part_sum(&self.counters[from..=i], whole);
+        }
+        whole - part_sum(&self.counters[i + 1..from + self.block], whole)
+    }
+}
+
+/// The sum of a part of a block, in 64 bits where the sum of the whole block fits them.
+pub(crate) fn part_sum<T: Counter>(part: &[T], whole: u128) -> u128
+    requires few { length part.now ≤ 6291456 }
+    requires within { sum (map T.number part.now) ≤ whole }
+    ensures { result ≡ sum (map T.number part.now) }
+{
+    if whole > u128::from(u64::MAX) {
+        return sum_of(part);
+    }
+    u128::from(small_sum(part))
+}
+
+/// The sum of counters that fits 64 bits.
+fn small_sum<T: Counter>(counters: &[T]) -> u64
+    requires { sum (map T.number counters.now) < 2 ^ 64 }
+    ensures { result ≡ sum (map T.number counters.now) }
+{
+    let mut total = 0;
+    for counter in counters {
+        total += counter.as_u64();
+    }
+    total
+}
