@@ -225,7 +225,7 @@ fn base64(bytes: &[u8]) -> Vec<u8> {
 const WRONG_GROUPS: [&[u8]; 8] = [b"====", b"A===", b"AA==", b"AB==", b"AAA=", b"AAB=", b"AAAA", b"\r "];
 
 /// Makes a text wrong as Base64, most often.
-fn damage(random: &mut Random, text: &mut Vec<u8>) {
+pub fn damage(random: &mut Random, text: &mut Vec<u8>) {
     let at = random.below(text.len() as u64 + 1) as usize;
     match random.below(8) {
         0 => drop(text.pop()),

@@ -1,6 +1,8 @@
 //! The logs that `merge` reads.
 
-use crate::fields::{empty_field, field};
+use crate::fields::{damage, empty_field, field};
+use crate::grammar::entry;
+use crate::model::ONE_SAMPLE;
 use crate::random::Random;
 use crate::records::tag;
 
@@ -17,6 +19,11 @@ const WRONG_TAGS: [&[u8]; 9] = [b" ", b"a b", b"a\r", b"\r", b"a\nb", b"\n", b"\
 const WRONG_SECONDS: [&str; 24] = [
     "", "1", ".5", "1.", "-1.0", "++1.0", "+", "+.5", " 1.0", "1.0 ", "1 .0", "1. 0", "1.0e3", "1e3", "1.0.0", "inf", "nan",
     "18446744073709551616.0", "0x1.0", "1_0.0", "1.+5", "1.-5", "\u{661}.0", "1,0",
+];
+/// Fractions whose sums reach a whole second, or just fail to. Nine digits count.
+const FRACTIONS: [&str; 10] = [
+    "123456789", "876543211", "876543210", "87654321", "8765432109", "12345678899", "999999999", "999999999999", "000000001",
+    "0000000009",
 ];
 const WRONG_MAXES: [&str; 24] = [
     "", ".", "1e3", "1E3", "1.5e3", "1e", "1e+3", ".5e1", "-1", "+1", "-0.0", "inf", "infinity", "nan", "NaN", "-inf", "1.2.3",
@@ -63,6 +70,52 @@ pub fn long_log(random: &mut Random) -> Vec<u8> {
     joined(random, lines)
 }
 
+/// A log of a few lines with small histograms, each of them damaged in front of its field, or seldom in it. The lines that
+/// are still right come first, since one that is wrong ends the reading. Many begin with a base time that is not damaged.
+pub fn damaged_log(random: &mut Random) -> Vec<u8> {
+    let lines = (0..1 + random.below(16)).map(|_| damaged_line(random));
+    let (mut lines, mut wrong): (Vec<_>, Vec<_>) = lines.partition(|line| is_right(line));
+    if random.one_in(2) {
+        lines.extend(wrong.pop());
+    }
+    if random.one_in(3) {
+        lines.insert(0, format!("#[BaseTime: {}.{} ", random.below(3), random.one_of(&FRACTIONS)).into_bytes());
+    }
+    joined(random, lines)
+}
+
+/// Whether a line, or each of the lines that damage made of it, is one of a log.
+fn is_right(line: &[u8]) -> bool {
+    line.split(|byte| *byte == b'\n').all(|part| entry(part).is_some())
+}
+
+/// A line that was damaged at one to three places.
+fn damaged_line(random: &mut Random) -> Vec<u8> {
+    let is_wrong = random.one_in(12);
+    let (mut line, field): (_, &[u8]) = match random.below(16) {
+        0..=10 => (interval(random, b"", is_wrong), ONE_SAMPLE),
+        11..=13 => (header(random).into_bytes(), b""),
+        14 => (other_line(random), b""),
+        _ => (random.one_of(&WRONG_LINES).to_vec(), ONE_SAMPLE),
+    };
+    let mut field = field.to_vec();
+    if random.one_in(16) {
+        damage(random, &mut field);
+    }
+    let field_too = random.one_in(12);
+    if field_too {
+        line.append(&mut field);
+    }
+    for _ in 0..1 + random.below(3) {
+        random.mutate(&mut line, usize::MAX);
+    }
+    line.append(&mut field);
+    if random.one_in(8) {
+        line.extend((0..=random.below(3)).map(|_| b'\r'));
+    }
+    line
+}
+
 /// The lines of a log with their ends, of which the last is seldom left out.
 fn joined(random: &mut Random, lines: Vec<Vec<u8>>) -> Vec<u8> {
     let mut log = Vec::new();
@@ -96,8 +149,8 @@ fn small_line(random: &mut Random) -> Vec<u8> {
 /// A right line without a histogram.
 fn other_line(random: &mut Random) -> Vec<u8> {
     let mut line = match random.below(8) {
-        0..=2 => comment(random),
-        3 | 4 => header(random).into_bytes(),
+        0 => comment(random),
+        1..=4 => header(random).into_bytes(),
         5 => header(random).replacen(['#', '[', 'S', ':', ' '], "#", 1).into_bytes(),
         6 => LEGEND.into(),
         _ => format!("\"StartTimestamp\"{}", random.number(20)).into_bytes(),
@@ -118,7 +171,7 @@ fn comment(random: &mut Random) -> Vec<u8> {
 
 /// A line that begins as a header, and is one or a comment.
 fn header(random: &mut Random) -> String {
-    let name = random.one_of(&["StartTime", "BaseTime", "StartTime", "BaseTime", "starttime", "MaxValueDivisor"]);
+    let name = random.one_of(&["StartTime", "BaseTime", "BaseTime", "BaseTime", "BaseTime", "starttime", "MaxValueDivisor"]);
     let is_wrong = random.one_in(8);
     let seconds = seconds(random, is_wrong);
     let end = random.one_of(&[" (seconds since epoch)]", " ", "", "]", " \u{e4}", "\t"]);
@@ -133,8 +186,12 @@ fn interval(random: &mut Random, field: &[u8], is_wrong: bool) -> Vec<u8> {
         line.extend_from_slice(b"Tag=");
         line.extend_from_slice(random.one_of(&WRONG_TAGS));
         line.push(b',');
-    } else if random.one_in(3) {
-        let tag = if random.one_in(8) { String::new() } else { tag(random) };
+    } else if random.one_in(2) {
+        let tag = match random.below(8) {
+            0 => String::new(),
+            1..=4 => random.one_of(&["a", "b"]).to_string(),
+            _ => tag(random),
+        };
         line.extend_from_slice(format!("Tag={tag},").as_bytes());
     }
     for part in 1..3 {
@@ -155,13 +212,14 @@ fn seconds(random: &mut Random, is_wrong: bool) -> String {
     if is_wrong {
         return random.one_of(&WRONG_SECONDS).to_string();
     }
-    let whole = match random.below(4) {
-        0 => random.below(3),
-        1 => u64::MAX - random.below(3),
+    let whole = match random.below(8) {
+        0..=3 => random.below(3),
+        4 => u64::MAX - random.below(3),
         _ => random.number(64),
     };
     let sign = if random.one_in(8) { "+" } else { "" };
-    format!("{sign}{}.{}", random.spelled(whole), digits(random))
+    let fraction = if random.one_in(4) { random.one_of(&FRACTIONS).to_string() } else { digits(random) };
+    format!("{sign}{}.{fraction}", random.spelled(whole))
 }
 
 /// A greatest value.

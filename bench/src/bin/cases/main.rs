@@ -1,8 +1,9 @@
 //! Compares two programs on random cases: words, and lines on standard input.
 //!
-//!     cases HDR OTHER SEED COUNT [report | log | merge | lines]
+//!     cases HDR OTHER SEED COUNT [report | log | merge | lines | grammar]
 //!
 //! The last word chooses the kind of the cases, which is random without it. `lines` is for merging logs of many lines.
+//! `grammar` is for logs of damaged lines: there HDR is compared with the grammar of the lines, and OTHER has no part.
 //!
 //! Prints each case in which standard output, standard error or the exit status differ, then how many differ, and how many
 //! lines of logs were read by HDR as right or as wrong. The exit status is 1 where some cases differ. The text of a failed
@@ -10,7 +11,10 @@
 
 mod case;
 mod fields;
+mod grammar;
 mod logs;
+mod model;
+mod options;
 mod random;
 mod records;
 mod words;
@@ -20,6 +24,7 @@ use random::Random;
 use std::fmt;
 use std::io::{self, Write};
 use std::num::NonZero;
+use std::os::unix::process::ExitStatusExt;
 use std::process::{Command, ExitCode, ExitStatus, Stdio};
 use std::sync::atomic::{AtomicU64, Ordering};
 use std::thread;
@@ -48,6 +53,15 @@ impl Answer {
         }
         let told = child.wait_with_output()?;
         Ok(Answer { status: told.status, output: told.stdout, error: without_cause(told.stderr) })
+    }
+
+    /// The answer that a model tells.
+    fn told(answer: Result<String, String>) -> Answer {
+        let exit = |status: i32| ExitStatus::from_raw(status << 8);
+        match answer {
+            Ok(report) => Answer { status: exit(0), output: report.into_bytes(), error: Vec::new() },
+            Err(fault) => Answer { status: exit(1), output: Vec::new(), error: fault.into_bytes() },
+        }
     }
 
     /// How many lines of the case's log were read.
@@ -94,7 +108,10 @@ struct Comparison {
 #[derive(Default)]
 struct Found {
     differing: u64,
+    /// The lines of logs that were read.
     lines: u64,
+    /// The cases of which the grammar alone does not tell the answer.
+    untold: u64,
 }
 
 impl Comparison {
@@ -104,17 +121,28 @@ impl Comparison {
         Some(Comparison { programs: [hdr, other], seed: seed.parse().ok()?, count: count.parse().ok()?, kind })
     }
 
-    /// Takes a case, and prints it where the answers differ.
+    /// Takes a case, and prints it where the answers differ. A case by the grammar is not compared where the grammar does
+    /// not tell the answer.
     fn take(&self, number: u64, found: &mut Found) -> io::Result<()> {
         let case = Case::new(&mut Random::of_case(self.seed, number), self.kind);
-        let [ours, theirs] = self.programs.each_ref().map(|program| Answer::of(program, &case));
-        let (ours, theirs) = (ours?, theirs?);
+        let [hdr, other] = &self.programs;
+        let ours = Answer::of(hdr, &case)?;
+        let theirs = if let Some(filter) = &case.filter {
+            let Some(told) = model::told(filter, &case.input) else {
+                found.untold += 1;
+                return Ok(());
+            };
+            found.lines += told.lines;
+            Answer::told(told.answer)
+        } else {
+            found.lines += ours.lines_read(&case);
+            Answer::of(other, &case)?
+        };
         if ours != theirs {
             let input = String::from_utf8_lossy(&case.input);
             println!("case {number}: {:?}\n{input}\n-- {ours}\n-- {theirs}\n", case.words);
             found.differing += 1;
         }
-        found.lines += ours.lines_read(&case);
         Ok(())
     }
 
@@ -141,6 +169,7 @@ impl Comparison {
                 let found = work.join().expect("no thread panics")?;
                 all.differing += found.differing;
                 all.lines += found.lines;
+                all.untold += found.untold;
             }
             Ok(all)
         })
@@ -149,12 +178,13 @@ impl Comparison {
 
 fn main() -> ExitCode {
     let Some(comparison) = Comparison::from_words(std::env::args().skip(1).collect()) else {
-        eprintln!("usage: cases HDR OTHER SEED COUNT [report | log | merge | lines]");
+        eprintln!("usage: cases HDR OTHER SEED COUNT [report | log | merge | lines | grammar]");
         return ExitCode::from(2);
     };
     match comparison.run() {
-        Ok(Found { differing, lines }) => {
-            println!("{} compared, {differing} differ, {lines} lines of logs read", comparison.count);
+        Ok(Found { differing, lines, untold }) => {
+            let compared = comparison.count - untold;
+            println!("{compared} compared, {differing} differ, {lines} lines of logs read");
             if differing == 0 { ExitCode::SUCCESS } else { ExitCode::FAILURE }
         }
         Err(error) => {

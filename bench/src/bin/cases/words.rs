@@ -1,6 +1,7 @@
 //! The words of a case.
 
 use crate::case::Kind;
+use crate::options::put_wrong_option;
 use crate::random::Random;
 
 const WRONG_NAMES: [&str; 11] = ["", "Report", "repor", "reports", "Log", "logs", "lo", "Merge", "merg", "merge ", "3"];
@@ -10,17 +11,18 @@ const WRONG_QUANTILES: [&str; 18] = [
     "1/18446744073709551616", "18446744073709551616/1",
 ];
 
+/// The words of a case but for options.
 pub fn words(random: &mut Random, kind: Kind) -> Vec<String> {
     let name = match kind {
         Kind::Report => "report",
         Kind::Log => "log",
-        Kind::Merge | Kind::Lines => "merge",
+        Kind::Merge | Kind::Lines | Kind::Grammar => "merge",
     };
     let mut words = vec![name.to_string(), random.below(6).to_string()];
     let has_quantiles = match kind {
         Kind::Report | Kind::Merge => !random.one_in(32),
         Kind::Log => random.one_in(48),
-        Kind::Lines => true,
+        Kind::Lines | Kind::Grammar => true,
     };
     let quantiles = if has_quantiles { 1 + random.below(4) } else { 0 };
     words.extend((0..quantiles).map(|_| quantile(random)));
@@ -44,6 +46,9 @@ fn damage(random: &mut Random, words: &mut Vec<String>) {
     }
     if random.one_in(64) {
         words.truncate(random.below(3) as usize);
+    }
+    if random.one_in(128) {
+        put_wrong_option(random, words);
     }
 }
 

@@ -5,6 +5,9 @@ use hdrhistogram::serialization::interval_log::IntervalLogWriterError;
 use hdrhistogram::serialization::{DeserializeError, V2SerializeError};
 use std::fmt;
 
+const USAGE: &str = "hdr: usage: hdr report SIGFIG Q.. | hdr log SIGFIG | \
+    hdr merge [--into COUNTER] [--tag T] [--from MS] [--to MS] SIGFIG Q..";
+
 /// Why a run is refused. Its text is the line on standard error.
 pub enum Fault {
     WrongWords,
@@ -31,7 +34,7 @@ impl Fault {
 impl fmt::Display for Fault {
     fn fmt(&self, f: &mut fmt::Formatter<'_>) -> fmt::Result {
         match self {
-            Fault::WrongWords => f.write_str("hdr: usage: hdr report SIGFIG Q.. | hdr log SIGFIG | hdr merge SIGFIG Q.."),
+            Fault::WrongWords => f.write_str(USAGE),
             Fault::NotACommand(line) => write!(f, "hdr: line {line}: not a command"),
             Fault::Refused(line, cause) => write!(f, "hdr: line {line}: {cause}"),
             Fault::NotWritten(line, cause) => write!(f, "hdr: line {line}: {cause}"),

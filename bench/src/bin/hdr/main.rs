@@ -10,11 +10,12 @@ mod field;
 mod lines;
 mod log;
 mod merge;
+mod options;
 mod report;
 mod words;
 
 use fault::Fault;
-use merge::Sum;
+use report::{Counted, report};
 use std::io::{self, Read, Write};
 use std::process::ExitCode;
 use words::Task;
@@ -32,13 +33,12 @@ fn run() -> Result<(), Fault> {
     io::stdin().lock().read_to_end(&mut input).map_err(|_| Fault::CannotRead)?;
     match task {
         Task::Report { sigfig, quantiles } => {
-            let histogram = lines::histogram_of(sigfig, &input)?;
-            print(&report::report(&histogram, bytes::high_of(&histogram), &quantiles))
+            print(&report(&Counted::of(lines::histogram_of(sigfig, &input)?), &quantiles))
         }
         Task::Log { sigfig } => log::write_log(sigfig, &input, &mut io::stdout().lock()),
-        Task::Merge { sigfig, quantiles } => {
-            let Sum { histogram, high } = merge::sum_of(sigfig, &input)?;
-            print(&report::report(&histogram, high, &quantiles))
+        Task::Merge { options, sigfig, quantiles } => {
+            let sum = merge::sum_of(&options, sigfig, &input)?;
+            print(&report(&sum.cut(options.greatest()), &quantiles))
         }
     }
 }

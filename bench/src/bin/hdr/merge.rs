@@ -7,16 +7,19 @@ use crate::bytes::{high_of, top};
 use crate::fault::Fault;
 use crate::field::{FieldError, FieldReader};
 use crate::lines::new_histogram;
+use crate::options::Options;
+use crate::report::Counted;
 use hdrhistogram::Histogram;
 use hdrhistogram::serialization::interval_log::{
     IntervalLogHistogram, IntervalLogIterator, LogEntry, LogIteratorError, Tag,
 };
+use std::time::Duration;
 
-/// Adds all intervals of a log to an empty histogram that grows.
-pub fn sum_of(sigfig: u8, log: &[u8]) -> Result<Sum, Fault> {
+/// Adds the chosen intervals of a log to an empty histogram that grows. The others are counted alone.
+pub fn sum_of(options: &Options<'_>, sigfig: u8, log: &[u8]) -> Result<Sum, Fault> {
     let mut sum = Sum::new(sigfig);
     let mut fields = FieldReader::new();
-    let mut intervals = 0;
+    let (mut intervals, mut base) = (0, Duration::ZERO);
     for entry in IntervalLogIterator::new(log) {
         match entry {
             Ok(LogEntry::Interval(interval)) => {
@@ -24,13 +27,19 @@ pub fn sum_of(sigfig: u8, log: &[u8]) -> Result<Sum, Fault> {
                     return Err(Fault::NotALog(line_start(log, &interval)));
                 }
                 intervals += 1;
+                let tag = interval.tag();
+                let time = base.as_nanos() + interval.start_timestamp().as_nanos();
+                if !options.choose(tag.as_ref().map(Tag::as_str), time) {
+                    continue;
+                }
                 let source = fields.read(interval.encoded_histogram()).map_err(|error| match error {
                     FieldError::NotBase64 => Fault::NotBase64(intervals),
                     FieldError::NotRead(cause) => Fault::NotRead(intervals, cause),
                 })?;
                 sum.add(&source);
             }
-            Ok(LogEntry::StartTime(_) | LogEntry::BaseTime(_)) => {}
+            Ok(LogEntry::StartTime(_)) => {}
+            Ok(LogEntry::BaseTime(time)) => base = time,
             Err(LogIteratorError::ParseError { offset }) => return Err(Fault::NotALog(offset)),
         }
     }
@@ -72,9 +81,9 @@ fn offset(log: &[u8], part: &str) -> usize {
 
 /// A sum of histograms.
 pub struct Sum {
-    pub histogram: Histogram<u64>,
+    histogram: Histogram<u64>,
     /// The greatest value that its bins were made for.
-    pub high: u64,
+    high: u64,
 }
 
 impl Sum {
@@ -89,6 +98,22 @@ impl Sum {
             self.high = max;
         }
         self.histogram.add(source).expect("a histogram that grows takes all");
+    }
+
+    /// The sum by counters up to a greatest count. Cutting at the end leaves what cutting at each step leaves.
+    pub fn cut(self, greatest: u64) -> Counted {
+        let Sum { histogram, high } = self;
+        let total = histogram.len();
+        if greatest == u64::MAX {
+            return Counted { bins: histogram, total, high };
+        }
+        let mut bins = histogram.clone();
+        bins.reset();
+        for class in histogram.iter_recorded() {
+            let count = class.count_at_value().min(greatest);
+            bins.record_n(class.value_iterated_to(), count).expect("the bins are the same");
+        }
+        Counted { bins, total, high }
     }
 
     /// The greatest value that has a bin, where the unit is 1.

@@ -2,19 +2,35 @@
 //!
 //! The crate's ranks are numbers of f64, and its sums overflow after full counters. Here both are exact.
 
-use crate::bytes::{bytes_of, top};
+use crate::bytes::{bytes_of, high_of, top};
 use hdrhistogram::Histogram;
 use std::fmt::Write;
 
-/// The report of a histogram, whose greatest value that its bins were made for is `high`.
-pub fn report(histogram: &Histogram<u64>, high: u64, quantiles: &[Quantile]) -> String {
-    let mut text = format!("len {}\n", histogram.len());
+/// What a report tells of.
+pub struct Counted {
+    pub bins: Histogram<u64>,
+    /// How many samples there are, which may be more than the bins hold where some are cut.
+    pub total: u64,
+    /// The greatest value that the bins were made for.
+    pub high: u64,
+}
+
+impl Counted {
+    /// What was counted in bins that grew by recording alone.
+    pub fn of(bins: Histogram<u64>) -> Counted {
+        Counted { total: bins.len(), high: high_of(&bins), bins }
+    }
+}
+
+/// The report of what was counted.
+pub fn report(counted: &Counted, quantiles: &[Quantile]) -> String {
+    let mut text = format!("len {}\n", counted.total);
     for quantile in quantiles {
         let Quantile { num, den } = quantile;
-        writeln!(text, "{num}/{den} {}", quantile.answer(histogram)).expect("a text takes all");
+        writeln!(text, "{num}/{den} {}", quantile.answer(counted)).expect("a text takes all");
     }
     text.push_str("v2 ");
-    match bytes_of(histogram, high) {
+    match bytes_of(&counted.bins, counted.high) {
         Some(bytes) => push_hexadecimal(&mut text, &bytes),
         None => text.push_str("none"),
     }
@@ -39,11 +55,11 @@ pub struct Quantile {
 
 impl Quantile {
     /// The top of the first class where the running sum reaches the place, or its lowest value for a quantile of 0. It is 0
-    /// where nothing was recorded.
-    fn answer(&self, histogram: &Histogram<u64>) -> u64 {
-        let place = self.place(histogram.len());
+    /// where nothing was recorded, or where cut bins do not reach the place.
+    fn answer(&self, counted: &Counted) -> u64 {
+        let place = self.place(counted.total);
         let mut sum = 0;
-        let reaching = histogram.iter_recorded().find(|class| {
+        let reaching = counted.bins.iter_recorded().find(|class| {
             sum += u128::from(class.count_at_value());
             sum >= place
         });
@@ -51,7 +67,7 @@ impl Quantile {
             return 0;
         };
         let value = class.value_iterated_to();
-        if self.num == 0 { histogram.lowest_equivalent(value) } else { top(histogram, value) }
+        if self.num == 0 { counted.bins.lowest_equivalent(value) } else { top(&counted.bins, value) }
     }
 
     /// The place of the quantile among so many samples, from 1.
