@@ -1,6 +1,6 @@
 //! Setting bins, with total and marks made once when that is done.
 
-ghost use Rattle.std.specs.Prelude.{◌≡◌, ◌<◌, ◌≤◌, MatchResult, false, length, slice_set};
+ghost use Rattle.std.specs.Prelude.{◌≡◌, ◌+◌, ◌<◌, ◌≤◌, MatchResult, false, length, slice_set};
 ghost use Rattle.hdr_core.specs.Filling.{opened, IsClosed};
 ghost use Rattle.hdr_core.specs.Plain.{empty_plain};
 ghost use Rattle.hdr_core.specs.Refusals.{RefusesBounds, IsBounds};
@@ -80,6 +80,15 @@ impl<T: Counter> Filling<T> {
         ensures { self.new ≡ record self.old { counts = slice_set self.old.counts bin (T.number count) } }
     {
         self.counts.set(bin, count);
+    }
+
+    /// Sets the counters of a bin and of the one behind it.
+    #[inline(always)]
+    pub fn set_two(&mut self, bin: usize, first: T, second: T)
+        requires { bin + 1 < length self.old.counts }
+        ensures { self.new ≡ record self.old { counts = slice_set (slice_set self.old.counts bin (T.number first)) (bin + 1) (T.number second) } }
+    {
+        self.counts.set_two(bin, first, second);
     }
 
     /// The histogram of the bins. Its total is the capped sum of its counters, and its marks are those of the ones above 0.

@@ -1,7 +1,7 @@
 -- Counters that are being set, and their sums when that is done.
-use Rattle.std.proofs.Common.{◌≡◌, ◌≢◌, ℕ, ◌+◌, ◌-◌, ◌*◌, ◌/◌, ◌<◌, ◌≤◌, ◌++◌, Bool, true, false, List, [], Option, length, get_or, set, take, drop, map, replicate, sum, append_assoc, refl, sym, ap, ◌∙◌, subst, arith, ⊎_elim}
+use Rattle.std.proofs.Common.{◌≡◌, ◌≢◌, ℕ, ◌+◌, ◌-◌, ◌*◌, ◌/◌, ◌<◌, ◌≤◌, ◌++◌, Bool, true, false, List, [], Option, length, get_or, set, take, drop, map, replicate, sum, append_assoc, sym, ap, ◌∙◌, subst, arith, ⊎_elim}
 use Rattle.std.specs.List.{All}
-use Rattle.std.proofs.lemmas.Bool.{cases_lt, cases_eq, true≢false}
+use Rattle.std.proofs.lemmas.Bool.{cases_eq, true≢false}
 use Rattle.std.proofs.lemmas.List.{length-set, length-append, length-replicate, get_or-set_same, get_or-set_other, get_or_append_left, set-append_left, replicate-append-replicate, take_all}
 use Rattle.std.proofs.lemmas.List.Elements.{All-nil, All-append, All-replicate, All-set, All-weaker}
 use Rattle.hdr_counts.specs.Blocks.{sum_below, AreSums, AreOpen, IsShift, with_zeros}

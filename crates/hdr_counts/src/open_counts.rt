@@ -10,7 +10,7 @@ use std::alloc::{AllocError, Global};
 use std::marker::Model;
 
 /// How many counters are made 0 at once.
-const PIECE: usize = 1024;
+const PIECE: usize = 128;
 
 /// Counters that are being set, seen as `Counts` are.
 ///
@@ -90,7 +90,24 @@ impl<T: Counter> OpenCounts<T> {
         self.set_further(i, value);
     }
 
-    /// The same, where the counter may not be at hand or the sum of its block is kept.
+    /// Puts a value at place `i` and another at the place behind it.
+    #[inline(always)]
+    pub fn set_two(&mut self, i: usize, first: T, second: T)
+        requires { i + 1 < length self.old.numbers }
+        ensures { self.new ≡ record { block = self.old.block; numbers = slice_set (slice_set self.old.numbers i (T.number first)) (i + 1) (T.number second) } }
+    {
+        let _ = first.as_u64();
+        let _ = second.as_u64();
+        if self.late && i + 1 < self.counters.len() {
+            self.counters[i] = first;
+            self.counters[i + 1] = second;
+            return;
+        }
+        self.set_further(i, first);
+        self.set_further(i + 1, second);
+    }
+
+    /// Puts a value at a place that may not be at hand, or where the sum of the block is kept.
     #[inline(never)]
     fn set_further(&mut self, i: usize, value: T)
         requires { i < length self.old.numbers }

@@ -174,7 +174,8 @@ impl<T: Counter> Row<'_, T> {
             2 | 3 => Call::Linear(random.number(bits).max(mark / LEVELS).max(1)),
             4 => Call::Log(random.number(bits).max(1), 2 + random.number(8)),
             5 | 6 => Call::Quantiles(1 + random.below(9) as u32),
-            7 => [Call::Below(random.number(bits)), Call::PercentBelow(random.number(64))].into_iter().nth(random.below(2) as usize).expect("two"),
+            7 if random.below(2) == 0 => Call::Below(random.number(bits)),
+            7 => Call::PercentBelow(random.number(64)),
             8 => Call::Mean,
             9 => Call::Between(random.number(bits), random.number(bits).min(reach)),
             _ => {

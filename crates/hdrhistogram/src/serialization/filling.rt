@@ -112,8 +112,7 @@ fn put_pair<T: Counter>(filling: &mut Filling<T>, place: u64, bytes: &[u8]) -> b
     if bin + 1 >= filling.distinct_values() {
         return false;
     }
-    filling.set(bin, first);
-    filling.set(bin + 1, second);
+    filling.set_two(bin, first, second);
     true
 }
 

@@ -1,5 +1,4 @@
-use Rattle.std.proofs.Common.{◌*◌, [], map, sym, ap, subst, arith}
-use Rattle.hdr_counts.specs.Blocks.{AreOpen}
+use Rattle.std.proofs.Common.{arith}
 use Rattle.hdr_counts.proofs.OpenSums.{open-none, none-resized}
 use Rattle.hdr_counts.proofs.open_counts.OpenCounts.new.Goals as goal
 

@@ -1,4 +1,4 @@
-use Rattle.std.proofs.Common.{◌≡◌, ◌<◌, length, map, ap, ◌∙◌, arith}
+use Rattle.std.proofs.Common.{◌<◌, length, map, ap, ◌∙◌, arith}
 use Rattle.std.proofs.lemmas.List.{map-set, length-map}
 use Rattle.hdr_counts.specs.Blocks.{with_zeros}
 use Rattle.hdr_counts.proofs.OpenSums.{open-set-late, set-with-zeros}

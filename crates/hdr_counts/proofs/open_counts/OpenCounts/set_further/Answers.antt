@@ -1,4 +1,4 @@
-use Rattle.std.proofs.Common.{◌≡◌, ◌+◌, ◌-◌, ◌*◌, ◌/◌, ◌<◌, ◌≤◌, length, get_or, set, map, sym, ap, ◌∙◌, arith}
+use Rattle.std.proofs.Common.{◌≡◌, ◌+◌, ◌-◌, ◌*◌, ◌/◌, ◌<◌, length, get_or, set, map, sym, ap, ◌∙◌, arith}
 use Rattle.std.proofs.lemmas.List.{get_or_read, map-set, get_or-map, length-map}
 use Rattle.hdr_counts.specs.Blocks.{with_zeros}
 use Rattle.hdr_counts.proofs.BlockSums.{sum_below-le, sum_below-le-sum, sum-fits, block_of, block_in, number-le-sum_below}

@@ -1,4 +1,4 @@
-use Rattle.std.proofs.Common.{◌≡◌, ◌+◌, length, drop, ap, ◌∙◌, length-drop, arith}
+use Rattle.std.proofs.Common.{◌+◌, drop, set, ap, refl, length-drop, arith}
 use Rattle.std.proofs.lemmas.List.{length-set, get_or-drop}
 use Rattle.hdr_core.specs.Filling.{Open}
 use Rattle.hdrhistogram.proofs.Filling.{two-put}
@@ -11,16 +11,15 @@ returns-clause-put g c = λ _.
     let old = c.args.filling.now.counts in
     let n = g.T.Counter.number c.in-Some.first in
     let m = g.T.Counter.number c.in-Some-two_byte_count.second in
-    let one = ap (λ (o : Open). o.counts) c.set.ensures in
-    let two = ap (λ (o : Open). o.counts) c.set-2.ensures in
-    let size : length c.set.new.self.counts ≡ length old = ap length one ∙ length-set old place n in
+    let two = ap (λ (o : Open). o.counts) c.set_two.ensures in
+    let size = length-set old place n in
     let third = get_or-drop 2 t 0 0 in
     let fourth = get_or-drop 2 t 1 0 in
     record {
-      between = c.set.new.self.counts;
+      between = set old place n;
       first = two-put g.T.Counter.greatest place t old _ n (omega arith) c.in-Some.ensures.bytes.0 (omega (arith, c.type_inv.bytes 0)) c.in-Some.ensures.bytes.1 c.in-Some.ensures.bytes.2
-          c.in-Some.ensures.count.2 c.in-Some.ensures.count.0 c.in-Some.ensures.count.1 (omega (arith, c.distinct_values.ensures.value)) (omega (arith, c.distinct_values.ensures.value, c.distinct_values.ensures.few)) one;
-      second = two-put g.T.Counter.greatest (place + 1) (drop 2 t) c.set.new.self.counts _ m (omega (arith, length-drop 2 t)) (omega (arith, third, c.in-Some-two_byte_count.ensures.bytes.0)) (omega (arith, third, c.type_inv.bytes 2))
+          c.in-Some.ensures.count.2 c.in-Some.ensures.count.0 c.in-Some.ensures.count.1 (omega (arith, c.distinct_values.ensures.value)) (omega (arith, c.distinct_values.ensures.value, c.distinct_values.ensures.few)) refl;
+      second = two-put g.T.Counter.greatest (place + 1) (drop 2 t) (set old place n) _ m (omega (arith, length-drop 2 t)) (omega (arith, third, c.in-Some-two_byte_count.ensures.bytes.0)) (omega (arith, third, c.type_inv.bytes 2))
           (omega (arith, fourth, c.in-Some-two_byte_count.ensures.bytes.1)) (omega (arith, third, c.in-Some-two_byte_count.ensures.bytes.2))
           (omega (arith, third, fourth, c.in-Some-two_byte_count.ensures.count.2)) c.in-Some-two_byte_count.ensures.count.0 c.in-Some-two_byte_count.ensures.count.1
           (omega (arith, size, c.distinct_values-2.ensures.value)) (omega (arith, size, c.distinct_values.ensures.value, c.distinct_values.ensures.few)) two;
