@@ -7,7 +7,7 @@ ghost use Rattle.hdr_log.specs.Reading.{item_seen};
 
 use crate::entry::{LogEntry, LogIteratorError};
 use crate::line::{entry, is_skipped};
-use crate::parts::split_once;
+use crate::parts::split_line;
 use std::marker::Model;
 
 /// The entries of a log in order, up to its end, or up to the first line that is no line of a log: that line's place is
@@ -49,7 +49,7 @@ impl<'a> Iterator for IntervalLogIterator<'a> {
     ghost remaining = { item_count (λ rest. rest) };
 
     fn next(&mut self) -> Option<Result<LogEntry<'a>, LogIteratorError>> {
-        while let Some((line, rest)) = split_once(self.input, b'\n') {
+        while let Some((line, rest)) = split_line(self.input) {
             let offset = self.offset;
             self.offset = offset + line.len() + 1;
             self.input = rest;

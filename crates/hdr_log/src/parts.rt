@@ -20,11 +20,30 @@ pub fn text(bytes: &[u8]) -> Option<&str>
     from_utf8(bytes).ok()
 }
 
-/// Where the first such byte stands.
+/// Where the first such byte stands. It is looked for byte by byte, since parts are short.
 fn position(text: &[u8], byte: u8) -> Option<usize>
     ensures { result ≡ position (λ x. x == byte) text.now }
 {
-    memchr(byte, text)
+    text.iter().position(|b| *b == byte)
+}
+
+/// Where the first line ends.
+fn line_end(text: &[u8]) -> Option<usize>
+    ensures { result ≡ position (λ x. x == 10) text.now }
+{
+    memchr(b'\n', text)
+}
+
+/// The first line of a text without its LF, and what stands behind it; `None` where no line ends. Lines of a log are long.
+#[tactic(auto, unfolding(crate::specs::Parts::parted))]
+pub(crate) fn split_line(text: &[u8]) -> Option<(&[u8], &[u8])>
+    ensures parts { option_map (λ p. (p.0.now, p.1.now)) result ≡ parted 10 text.now }
+    ensures length { IfSome result (λ p. length p.0.now + 1 + length p.1.now ≡ length text.now) }
+{
+    let at = line_end(text)?;
+    let line = &text[..at];
+    let rest = &text[at + 1..];
+    Some((line, rest))
 }
 
 /// What stands before the first such byte, and what stands behind it; `None` where there is none.

@@ -15,7 +15,7 @@ use crate::serialization::deserializer::Deserializer;
 use crate::serialization::errors::DeserializeError;
 use hdr_base::Counter;
 use hdr_core::{CreationError, Histogram};
-use hdr_log::field::{FieldError, decoded};
+use hdr_log::field::{FieldError, decode_into};
 use hdr_log::{IntervalLogHistogram, IntervalLogIterator, LogEntry, LogIteratorError, Tag};
 use std::alloc::Global;
 use std::time::Duration;
@@ -95,6 +95,7 @@ pub fn merge_log<T: Counter>(
     };
     let mut merging = Merging {
         histogram,
+        bytes: Vec::new(alloc),
         base: Duration::ZERO,
         intervals: 0,
         chosen: 0,
@@ -114,6 +115,8 @@ pub fn merge_log<T: Counter>(
 #[derive(Drop)]
 struct Merging<T: Counter> {
     histogram: Histogram<T>,
+    /// The bytes of the field that was read last: one buffer for all.
+    bytes: Vec<u8>,
     /// The log's base time.
     base: Duration,
     /// The intervals that were read, and those of them that were chosen.
@@ -179,12 +182,12 @@ fn merge_field<T: Counter>(
         (RefusesStep (λ e. FieldMerges T.greatest (merging_seen merging.old) (base64_bytes field.now) (Err e))) }
 {
     let interval = merging.intervals + 1;
-    let bytes = match decoded(alloc, field) {
-        Ok(bytes) => bytes,
+    match decode_into(field, &mut merging.bytes) {
+        Ok(()) => {}
         Err(FieldError::NotBase64) => return Err(MergeError::Base64 { interval }),
         Err(FieldError::OutOfMemory) => return Err(MergeError::OutOfMemory),
-    };
-    let source: Histogram<u64> = match Deserializer::new(alloc).decode_slice(&bytes) {
+    }
+    let source: Histogram<u64> = match Deserializer::new(alloc).decode_slice(&merging.bytes) {
         Ok((source, _)) => source,
         Err(cause) => return Err(not_decoded(interval, cause)),
     };
