@@ -82,6 +82,7 @@ impl<T: Counter> OpenCounts<T> {
         requires { i < length self.old.numbers }
         ensures { self.new ≡ record { block = self.old.block; numbers = slice_set self.old.numbers i (T.number value) } }
     {
+        // Shows that the number is at most the greatest.
         let _ = value.as_u64();
         if self.late && i < self.counters.len() {
             self.counters[i] = value;
@@ -96,6 +97,7 @@ impl<T: Counter> OpenCounts<T> {
         requires { i + 1 < length self.old.numbers }
         ensures { self.new ≡ record { block = self.old.block; numbers = slice_set (slice_set self.old.numbers i (T.number first)) (i + 1) (T.number second) } }
     {
+        // Show that the numbers are at most the greatest.
         let _ = first.as_u64();
         let _ = second.as_u64();
         if self.late && i + 1 < self.counters.len() {
