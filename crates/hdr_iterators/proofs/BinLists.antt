@@ -1,7 +1,6 @@
 -- The lists of all bins and of the nonempty ones, one bin on.
 use Rattle.std.proofs.Common.{◌≡◌, ◌≢◌, ℕ, ◌+◌, ◌-◌, ◌<◌, ◌≤◌, zero, suc, Bool, true, false, cond, eqb, ltb, [], ◌∷◌, get_or, map, Option, Some, None, sym, refl, ap, ◌∙◌, subst, ⊎_elim, arith, rules, tests, eq-eqb}
-use Rattle.std.proofs.lemmas.Bool.{false≢true, cases_lt, cases_Bool}
-use Rattle.std.proofs.lemmas.Bool.{eqb-true, ltb-true}
+use Rattle.std.proofs.lemmas.Bool.{false≢true, cases_lt, cases_Bool, eqb-true, ltb-true}
 use Rattle.std.specs.List.{range_with_len, filter}
 use Rattle.std.specs.Option.{option_eq}
 use Rattle.hdr_iterators.specs.Seen.{Seen, AreBins, bins_in}

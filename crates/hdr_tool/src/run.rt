@@ -1,7 +1,7 @@
 //! The program, over any reader and writer.
 
 ghost use Rattle.std.specs.Prelude.{◌≡◌, ◌≢◌, ◌↔◌, ◌<◌, ◌+◌, ◌^◌, ℕ, List, map, length, MatchResult, Ok, Err, Some, None, [], true, IfSome, string_bytes};
-ghost use Rattle.hdr_core.specs.Plain.{empty_plain};
+ghost use Rattle.hdr_model.specs.Plain.{empty_plain};
 ghost use Rattle.std.specs.List.{enumerate_from};
 ghost use Rattle.hdr_log.specs.Parts.{parts};
 ghost use Rattle.hdr_tool.specs.Words.{Report, task_of};

@@ -7,10 +7,11 @@ use Rattle.std.proofs.lemmas.List.Elements.{recursion_from_All}
 use Rattle.byteorder.specs.Endian.{big_number}
 use Rattle.byteorder.specs.Numbers.{big_number-reads_back}
 use Rattle.hdr_base.specs.Classes.{grain_of}
-use Rattle.hdr_core.specs.Plain.{Plain, IsPlain, IsTopMark, IsLowerMark, max_of, min_nz_of, top_of_mark, value_of_mark}
-use Rattle.hdr_core.specs.Equality.{same_plain}
-use Rattle.hdr_core.proofs.Bins.{few-bins, mark-inside}
-use Rattle.hdr_core.proofs.Sameness.{parts-same}
+use Rattle.hdr_model.specs.Plain.{Plain, IsPlain, max_of, min_nz_of}
+use Rattle.hdr_model.specs.Marks.{IsTopMark, IsLowerMark, top_of_mark, value_of_mark}
+use Rattle.hdr_model.specs.Equality.{same_plain}
+use Rattle.hdr_model.proofs.PlainBins.{few-bins, mark-inside}
+use Rattle.hdr_model.proofs.EqualityFacts.{parts-same}
 use Rattle.hdrhistogram.specs.Varint.{spelled}
 use Rattle.hdrhistogram.specs.ZigZag.{from_zig_zag}
 use Rattle.hdrhistogram.specs.Payload.{Part, run, bin, bins_of, AreMaximal, number_of, AreSpelt, IsPayload}

@@ -1,7 +1,7 @@
 -- What stands in a writer after a call that writes to a log.
 use Rattle.std.specs.Prelude.{◌≡◌, ℕ, Bool, true, false, List, Option, Result, Ok, Err}
 use Rattle.std.specs.Io.KnownBytes.{Appends, Keeps}
-use Rattle.hdr_core.specs.Plain.{Plain, max_of}
+use Rattle.hdr_model.specs.Plain.{Plain, max_of}
 use Rattle.hdr_log.specs.Texts.{to_thousandths, max_thousandths, base64_of}
 use Rattle.hdr_log.specs.Pieces.{Piece, Measured, IsPiece, piece_text}
 use Rattle.hdrhistogram.specs.Streams.{AppendsFront}

@@ -2,10 +2,11 @@
 use Rattle.std.specs.Prelude.{◌≡◌, ◌==◌, ℕ, ◌+◌, ◌-◌, ◌*◌, ◌^◌, ◌≤◌, Bool, ◌&&◌, nat_lt, nat_le, if◌then◌else◌, min, Option, Some, None, List, length, take, drop, sum, false, Result, Ok, Err}
 use Rattle.byteorder.specs.Endian.{big_number}
 use Rattle.hdr_base.specs.Classes.{unit_of, digits_of, grain_of, bins_to}
-use Rattle.hdr_core.specs.Plain.{Plain, IsTopMark, IsLowerMark}
-use Rattle.hdr_core.specs.Filling.{Open}
-use Rattle.hdr_core.specs.declared.errors.CreationError.{CreationError}
-use Rattle.hdr_core.specs.declared.errors.CreationError.TheVariants.{LowIsZero, LowExceedsMax, HighLessThanTwiceLow, SigFigExceedsMax, CannotRepresentSigFigBeyondLow, UsizeTypeTooSmall, OutOfMemory}
+use Rattle.hdr_model.specs.Plain.{Plain}
+use Rattle.hdr_model.specs.Marks.{IsTopMark, IsLowerMark}
+use Rattle.hdr_model.specs.Filling.{Open}
+use Rattle.hdr_model.specs.declared.errors.CreationError.{CreationError}
+use Rattle.hdr_model.specs.declared.errors.CreationError.TheVariants.{LowIsZero, LowExceedsMax, HighLessThanTwiceLow, SigFigExceedsMax, CannotRepresentSigFigBeyondLow, UsizeTypeTooSmall, OutOfMemory}
 use Rattle.hdrhistogram.specs.declared.serialization.errors.DeserializeError.{DeserializeError}
 use Rattle.hdrhistogram.specs.Faults.{Fault, cut, other_cookie, unsupported, bad_bounds, ◌>>=◌, unless, named}
 use Rattle.hdrhistogram.specs.PayloadRead.{counts_in}

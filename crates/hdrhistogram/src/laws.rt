@@ -1,13 +1,13 @@
 //! Laws of the definitions that the contracts cite. Each function does nothing: its contract is the
 //! law.
 
-ghost use Rattle.hdr_core.specs.Equality.{same_plain};
+ghost use Rattle.hdr_model.specs.Equality.{same_plain};
 ghost use Rattle.std.specs.Prelude.{◌≡◌, ℕ, ◌^◌, ◌<◌, ◌≤◌, ◌++◌, List, length, slice_index, All, sum, ℤ, true, Result, Ok};
 ghost use Rattle.hdr_base.specs.Classes.{grain_of};
-ghost use Rattle.hdr_core.specs.Plain.{Plain, IsPlain, grain, empty_plain};
-ghost use Rattle.hdr_core.specs.Samples.{StandsFor, Fits};
-ghost use Rattle.hdr_core.specs.Joined.{merged_each, AreParts, joined_list, AnswersRanked};
-ghost use Rattle.hdr_core.specs.Refusals.{IsBounds};
+ghost use Rattle.hdr_model.specs.Plain.{Plain, IsPlain, grain, empty_plain};
+ghost use Rattle.hdr_model.specs.Samples.{StandsFor, Fits};
+ghost use Rattle.hdr_model.specs.Joining.{after_adds, AreParts, joined_samples, AnswersRanked};
+ghost use Rattle.hdr_model.specs.Refusals.{IsBounds};
 ghost use Rattle.hdr_log.specs.Grammar.{Entry, reading};
 ghost use Rattle.hdrhistogram.specs.Chosen.{Filter};
 ghost use Rattle.hdrhistogram.specs.LogMerging.{Merging, Merges, AreChosen};
@@ -104,7 +104,7 @@ pub fn read_back_stands()
 pub fn merging_adds_the_chosen()
     ensures added { (greatest sigfig : ℕ) (filter : Filter) (log : List ℕ) (m : Merging) → Merges greatest filter sigfig log (Ok m)
         → (hs : List Plain) × AreChosen filter 0 (reading log) hs
-        × (m.histogram ≡ merged_each greatest (empty_plain 1 2 sigfig true) hs) × (m.chosen ≡ length hs) }
+        × (m.histogram ≡ after_adds greatest (empty_plain 1 2 sigfig true) hs) × (m.chosen ≡ length hs) }
     ensures only { (filter : Filter) (base : ℕ) (entries : List (Result Entry ℕ)) (hs others : List Plain) → AreChosen filter base entries hs
         → AreChosen filter base entries others → hs ≡ others }
 {}
@@ -114,10 +114,10 @@ pub fn merging_adds_the_chosen()
 pub fn merged_log_stands()
     ensures sum { (greatest sigfig : ℕ) (filter : Filter) (log : List ℕ) (m : Merging) (hs : List Plain) (Ls : List (List ℕ)) → 1 ≤ greatest
         → IsBounds 1 2 sigfig → Merges greatest filter sigfig log (Ok m) → AreChosen filter 0 (reading log) hs
-        → AreParts 18446744073709551615 (grain_of 1 sigfig) hs Ls → Fits greatest (grain_of 1 sigfig) (joined_list Ls) → StandsFor m.histogram (joined_list Ls) }
+        → AreParts 18446744073709551615 (grain_of 1 sigfig) hs Ls → Fits greatest (grain_of 1 sigfig) (joined_samples Ls) → StandsFor m.histogram (joined_samples Ls) }
     ensures ranked { (greatest sigfig : ℕ) (filter : Filter) (log : List ℕ) (m : Merging) (hs : List Plain) (Ls : List (List ℕ)) → 1 ≤ greatest
         → IsBounds 1 2 sigfig → Merges greatest filter sigfig log (Ok m) → AreChosen filter 0 (reading log) hs
-        → AreParts 18446744073709551615 (grain_of 1 sigfig) hs Ls → Fits greatest (grain_of 1 sigfig) (joined_list Ls) → AnswersRanked m.histogram (joined_list Ls) }
+        → AreParts 18446744073709551615 (grain_of 1 sigfig) hs Ls → Fits greatest (grain_of 1 sigfig) (joined_samples Ls) → AnswersRanked m.histogram (joined_samples Ls) }
 {
     new_is_plain();
     clearing_stands();

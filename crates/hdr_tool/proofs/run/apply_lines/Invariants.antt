@@ -1,5 +1,5 @@
 use Rattle.std.proofs.Common.{Some, true}
-use Rattle.hdr_core.specs.Plain.{Plain, empty_plain}
+use Rattle.hdr_model.specs.Plain.{Plain, empty_plain}
 use Rattle.hdr_tool.specs.Parts.{numbered}
 use Rattle.hdr_tool.specs.Outcomes.{Outcome, Runs}
 use Rattle.hdr_tool.specs.Program.{LineDone}

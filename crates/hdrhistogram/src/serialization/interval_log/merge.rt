@@ -3,7 +3,7 @@
 ghost use Rattle.std.specs.Prelude.{◌≡◌, ◌+◌, ◌<◌, ◌≤◌, ◌^◌, ℕ, length, MatchResult, Ok, Err};
 ghost use Rattle.std.specs.Option.{option_map};
 ghost use Rattle.std.specs.Duration.{as_nanos};
-ghost use Rattle.hdr_core.specs.Refusals.{IsBounds, RefusesBounds};
+ghost use Rattle.hdr_model.specs.Refusals.{IsBounds, RefusesBounds};
 ghost use Rattle.hdr_log.specs.Tags.{tag_text};
 ghost use Rattle.hdr_log.specs.Texts.{base64_bytes};
 ghost use Rattle.hdr_log.specs.Reading.{interval_seen, item_seen};

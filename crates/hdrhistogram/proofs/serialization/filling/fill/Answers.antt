@@ -5,7 +5,7 @@ use Rattle.std.proofs.lemmas.Result.{err_from_is_err_and}
 use mir.Val.{SFits}
 use Rattle.hdrhistogram.specs.Faults.{named, FailsBy}
 use Rattle.hdrhistogram.specs.PayloadRead.{IsCut, IsCountPut, IsPairPut, counts_in}
-use Rattle.hdr_core.specs.Filling.{Open}
+use Rattle.hdr_model.specs.Filling.{Open}
 use Rattle.hdrhistogram.proofs.Spellings.{some_byte}
 use Rattle.hdrhistogram.proofs.Restated.{set-again}
 use Rattle.hdrhistogram.proofs.Filling.{IsFilledTo, fill_start, fill_short, fill_pair, fill_next, fill_faulty, fill_end, fill_cut, fails_so, gives_fails}
