@@ -1,5 +1,5 @@
 -- What calls do, by numbers and by samples.
-use Rattle.std.specs.Prelude.{◌≡◌, ◌==◌, ◌⊎◌, ℕ, ◌^◌, ◌<◌, if◌then◌else◌, List, [], ◌∷◌, ◌++◌, replicate, Result, Ok, Err}
+use Rattle.std.specs.Prelude.{◌≡◌, ◌⊎◌, ℕ, ◌^◌, ◌<◌, List, [], ◌∷◌, ◌++◌, replicate, Result, Ok, Err}
 use Rattle.hdr_base.specs.Classes.{Grain, reach_of}
 use Rattle.hdr_model.specs.Plain.{Plain, IsPlain, max_of}
 use Rattle.hdr_model.specs.Recording.{after_record, clamp_to_bins, after_clear, after_reset, samples_of, clamp, high_with}

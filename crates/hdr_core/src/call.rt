@@ -6,9 +6,9 @@ ghost use Rattle.hdr_model.specs.Samples.{Fits};
 ghost use Rattle.hdr_model.specs.Runs.{StandsAt, State};
 ghost use Rattle.hdr_core.specs.Calls.{after_call, after_calls, IsTaken, AreTaken, RefusesCall, CallTo, CallsTo, calls_done};
 
-use hdr_model::{AdditionError, RecordError};
 use crate::histogram::Histogram;
 use hdr_base::Counter;
+use hdr_model::{AdditionError, RecordError};
 use thiserror::Error;
 
 /// One call of a histogram.

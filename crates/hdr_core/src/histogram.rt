@@ -93,7 +93,7 @@ impl<T: Counter> Histogram<T> {
     }
 
     /// A histogram that grows to the values that are recorded, with units of 1.
-    #[tactic(auto, unfolding(crate::specs::Plain::empty_plain))]
+    #[tactic(auto, unfolding(hdr_model::specs::Plain::empty_plain))]
     pub fn new(alloc: Global, sigfig: u8) -> Result<Histogram<T>, CreationError>
         ensures { MatchResult result (λ h. (h ≡ empty_plain 1 2 sigfig true) × IsBounds 1 2 sigfig) (RefusesBounds 1 2 sigfig) }
     {

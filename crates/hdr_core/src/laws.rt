@@ -22,8 +22,9 @@ ghost use Rattle.hdr_model.specs.Equality.{same_plain, IsSame};
 
 use hdr_base::Counter;
 pub use hdr_model::laws::{
-    adding_associates, adding_commutes, adding_keeps, adding_stands, ascending_quantiles, clearing_stands, equality, first_class,
-    joined_stands, missing_values, new_is_plain, quantile_and_share, quantile_is_ranked, recording_stands, samples_are_counted,
+    adding_associates, adding_commutes, adding_keeps, adding_stands, ascending_quantiles,
+    clearing_stands, equality, first_class, joined_stands, missing_values, new_is_plain,
+    quantile_and_share, quantile_is_ranked, recording_stands, samples_are_counted,
     subtracting_undoes_adding,
 };
 

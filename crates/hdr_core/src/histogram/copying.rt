@@ -5,11 +5,11 @@ ghost use Rattle.hdr_model.specs.Plain.{IsPlain, empty_plain};
 ghost use Rattle.hdr_model.specs.Merging.{after_add_correct};
 ghost use Rattle.hdr_model.specs.declared.errors.CreationError.TheVariants.{OutOfMemory};
 
-use hdr_model::CreationError;
 use super::Histogram;
 use crate::marks::Marks;
 use hdr_base::Counter;
 use hdr_counts::Counts;
+use hdr_model::CreationError;
 use std::alloc::Global;
 
 impl<T: Counter> Histogram<T> {

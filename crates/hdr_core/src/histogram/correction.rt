@@ -8,9 +8,9 @@ ghost use Rattle.hdr_model.specs.Samples.{StandsFor, Fits};
 ghost use Rattle.hdr_model.specs.Refusals.{HasRoom, RefusesRecord};
 ghost use Rattle.hdr_model.specs.Correction.{missing, each_times, after_correct, classes_held, down_to};
 
-use hdr_model::RecordError;
 use super::Histogram;
 use hdr_base::{Counter, Ticks};
+use hdr_model::RecordError;
 
 impl<T: Counter> Histogram<T> {
     /// Records a value once, and each value that was missed while it lasted.

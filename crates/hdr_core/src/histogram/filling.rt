@@ -5,12 +5,12 @@ ghost use Rattle.hdr_model.specs.Filling.{open_of, IsClosed};
 ghost use Rattle.hdr_model.specs.Plain.{empty_plain};
 ghost use Rattle.hdr_model.specs.Refusals.{RefusesBounds, IsBounds};
 
-use hdr_model::CreationError;
-use super::{Histogram, scale_for};
 use super::merging::capped_sum;
 use super::subtracting::marks_of;
+use super::{Histogram, scale_for};
 use hdr_base::{Counter, Scale};
 use hdr_counts::OpenCounts;
+use hdr_model::CreationError;
 use std::alloc::Global;
 use std::marker::Model;
 

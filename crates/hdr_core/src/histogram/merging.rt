@@ -8,10 +8,10 @@ ghost use Rattle.hdr_model.specs.Merging.{classes_from, top_class, same_bins, af
 ghost use Rattle.hdr_model.specs.Refusals.{LeavesSet, HasRoom, RefusesAddition, RefusesRoom};
 ghost use Rattle.hdr_model.specs.Samples.{StandsFor, Fits};
 
-use hdr_model::AdditionError;
 use super::Histogram;
 use hdr_base::Counter;
 use hdr_counts::Counts;
+use hdr_model::AdditionError;
 
 impl<T: Counter> Histogram<T> {
     /// Adds what another histogram counted. An empty one changes nothing. Where its `max` is past the reach the bins grow

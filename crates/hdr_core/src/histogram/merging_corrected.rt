@@ -9,9 +9,9 @@ ghost use Rattle.hdr_model.specs.Refusals.{HasRoom, RefusesRecord, RefusesCorrec
 ghost use Rattle.hdr_model.specs.Correction.{missing, each_times};
 ghost use Rattle.hdr_model.specs.Merging.{corrections_from, highest_top, after_add_correct, corrected_samples};
 
-use hdr_model::RecordError;
 use super::Histogram;
 use hdr_base::{Counter, Ticks};
+use hdr_model::RecordError;
 
 impl<T: Counter> Histogram<T> {
     /// Adds each nonempty class of another histogram at its greatest value, corrected as `record_n_correct` does. Where

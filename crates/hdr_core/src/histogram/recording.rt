@@ -7,10 +7,10 @@ ghost use Rattle.hdr_model.specs.Recording.{after_add_to_bin, after_record, clam
 ghost use Rattle.hdr_model.specs.Samples.{StandsFor, Fits};
 ghost use Rattle.hdr_model.specs.Refusals.{HasRoom, RefusesRecord};
 
-use hdr_model::RecordError;
 use super::Histogram;
 use crate::marks::Marks;
 use hdr_base::Counter;
+use hdr_model::RecordError;
 
 impl<T: Counter> Histogram<T> {
     /// Records a value once.

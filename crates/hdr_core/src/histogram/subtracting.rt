@@ -9,12 +9,12 @@ ghost use Rattle.hdr_model.specs.Samples.{in_class};
 ghost use Rattle.hdr_model.specs.Subtracting.{IsDifference};
 ghost use Rattle.hdr_model.specs.Refusals.{RefusesSubtraction};
 
-use hdr_model::SubtractionError;
 use super::Histogram;
-use crate::marks::Marks;
 use super::merging::capped_sum;
+use crate::marks::Marks;
 use hdr_base::{Counter, Scale};
 use hdr_counts::Counts;
+use hdr_model::SubtractionError;
 
 impl<T: Counter> Histogram<T> {
     /// Takes out what another histogram counted, each of its classes at its lowest value. An empty one changes nothing.
