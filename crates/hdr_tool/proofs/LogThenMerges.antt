@@ -10,7 +10,7 @@ use Rattle.hdr_log.specs.Pieces.{Piece, IsPiece, piece_text, text_of, said_by, i
 use Rattle.hdr_log.proofs.Whole.{pieces_read}
 use Rattle.hdr_log.proofs.Base64Fields.{base64_decoded}
 use Rattle.hdrhistogram.specs.V2.{IsV2}
-use Rattle.hdrhistogram.specs.LogLeaving.{measured, IsIntervalText}
+use Rattle.hdrhistogram.specs.LogLeaving.{interval_piece, IsIntervalText}
 use Rattle.hdrhistogram.specs.V2Read.{told_of, v2_at, IsReadAs, IsReadBack, ReadsV2}
 use Rattle.hdrhistogram.specs.Chosen.{Filter, is_chosen}
 use Rattle.hdrhistogram.specs.LogMerging.{Merging, new_merging, past_interval, with_interval, BytesMerge, FieldMerges, IntervalMerges, MergesOn, EntriesMerge}
@@ -40,7 +40,7 @@ abbrev end_of : Logged → EndOf Plain
 end_of i = record { holds = i.histogram; tag = i.tag; start = i.start }
 
 abbrev piece_of : Logged → Piece
-piece_of i = measured i.histogram i.tag (i.start * 1_000_000) (i.duration * 1_000_000) 1 i.bytes
+piece_of i = interval_piece i.histogram i.tag (i.start * 1_000_000) (i.duration * 1_000_000) 1 i.bytes
 
 record IsLogged (i : Logged) : Type 0 where
   bytes : IsV2 i.histogram i.bytes

@@ -20,7 +20,7 @@ use Rattle.hdr_tool.specs.Parts.{each}
 use Rattle.hdr_tool.specs.declared.options.CounterType.{CounterType}
 use Rattle.hdr_tool.specs.declared.options.CounterType.TheVariants as counter
 use Rattle.hdr_tool.specs.Options.{Options, no_options, options_of, greatest_into, filter_of}
-use Rattle.hdr_tool.specs.Words.{sigfig_of, quantile_of_word, Task, Report, Log, Merge, figures_of, log_of, merge_of, command_named, task_named, task_of}
+use Rattle.hdr_tool.specs.Words.{sigfig_of, quantile_of_word, Task, Report, Log, Merge, figures_of, log_of, merge_of, command_of_word, task_of_command, task_of}
 use Rattle.hdr_tool.specs.Report.{IsReport}
 use Rattle.hdr_tool.specs.Program.{Program}
 use Rattle.hdr_tool.specs.LogMerges.{EndOf, chosen_of, ends_of, AreReadBack, EndsWith, AreEnds}
@@ -71,7 +71,7 @@ merge_few words =
     any HasFew (options_of no_options words) (λ given. figures_of given.1 >>= λ f. Some (Merge given.0 f.0 f.1)) (λ given.
     behind (λ (f : ℕ × List Ratio). Few f.0) HasFew (figures_of given.1) (λ f. Some (Merge given.0 f.0 f.1)) (figures_few given.1) (λ f few. few))
 
-named_few : (c : Option Command) (words : List (List ℕ)) → IfSome (task_named c words) HasFew
+named_few : (c : Option Command) (words : List (List ℕ)) → IfSome (task_of_command c words) HasFew
 named_few None words = tt
 named_few (Some command.Report) words = mapped (λ (f : ℕ × List Ratio). Few f.0) (λ f. Report f.0 f.1) (figures_of words) (figures_few words) (λ f few. few)
 named_few (Some command.Log) words = log_few words
@@ -80,7 +80,7 @@ named_few (Some command.Merge) words = merge_few words
 task_few : (words : List (List ℕ)) → IfSome (task_of words) HasFew
 unfolding task_of
 task_few [] = tt
-task_few (name ∷ words) = named_few (command_named name) words
+task_few (name ∷ words) = named_few (command_of_word name) words
 
 -- ---- an empty histogram of these digits
 

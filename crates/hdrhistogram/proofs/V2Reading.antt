@@ -13,7 +13,7 @@ use Rattle.hdr_model.specs.declared.errors.CreationError.TheVariants as make
 use Rattle.hdrhistogram.specs.declared.serialization.errors.DeserializeError.{DeserializeError}
 use Rattle.hdrhistogram.specs.declared.serialization.errors.DeserializeError.TheVariants as errors
 use Rattle.hdrhistogram.specs.Streams.{IsStreamError}
-use Rattle.hdrhistogram.specs.Faults.{Fault, cut, bad_bounds, ◌>>=◌, unless, FailsBy, named}
+use Rattle.hdrhistogram.specs.Faults.{Fault, cut, bad_bounds, ◌>>=◌, unless, FailsBy, fault_of_error}
 use Rattle.hdrhistogram.specs.PayloadRead.{counts_in}
 use Rattle.hdrhistogram.specs.V2Read.{Header, Contents, bytes_at, header_at, are_bounds, bounds_fault, bins_for, creation_fault, contents_of, v2_at, told_by, told_of, IsRestated, IsReadAs}
 use Rattle.hdrhistogram.proofs.HeaderRead.{IsSteady, bind-steady, ok-steady, header-steady, TakenBy, TakenSo, field-then, field-failed, fails_bind, unless_fails}
@@ -204,7 +204,7 @@ no_longer greatest text rest c e =
 
 -- ---- a payload that a reader gives
 
-pub stream_fails : {A : Type 0} (e : DeserializeError) (r : Result A Fault) → IsStreamError e → r ≡ Err cut → FailsBy (named e) r
+pub stream_fails : {A : Type 0} (e : DeserializeError) (r : Result A Fault) → IsStreamError e → r ≡ Err cut → FailsBy (fault_of_error e) r
 stream_fails (errors.IoError cause) r s h = h
 stream_fails errors.OutOfMemory r s h = tt
 stream_fails errors.InvalidCookie r s h = absurd s

@@ -73,13 +73,13 @@ abbrev pub Merges : ℕ → Filter → ℕ → List ℕ → Result Merging Merge
 Merges greatest filter sigfig log r = EntriesMerge greatest filter (reading log) (new_merging sigfig) r
 
 -- a histogram that was not made, and an interval whose bytes were refused
-abbrev pub creation_refused : CreationError → MergeError
-creation_refused make.OutOfMemory = OutOfMemory
-creation_refused e = Creation e
+abbrev pub creation_error : CreationError → MergeError
+creation_error make.OutOfMemory = OutOfMemory
+creation_error e = Creation e
 
-abbrev pub decode_refused : ℕ → DeserializeError → MergeError
-decode_refused interval read.OutOfMemory = OutOfMemory
-decode_refused interval e = Decode interval e
+abbrev pub decode_error : ℕ → DeserializeError → MergeError
+decode_error interval read.OutOfMemory = OutOfMemory
+decode_error interval e = Decode interval e
 
 -- a step is refused by name as it is told, and want of memory may come in place of any answer
 abbrev pub RefusesStep : (MergeError → Type 0) → MergeError → Type 0

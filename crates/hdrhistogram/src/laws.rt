@@ -15,7 +15,7 @@ ghost use Rattle.hdrhistogram.specs.Varint.{Spells, IsShortest};
 ghost use Rattle.hdrhistogram.specs.ZigZag.{zig_zag, from_zig_zag};
 ghost use Rattle.hdrhistogram.specs.Payload.{Part, IsSplit, IsPayload};
 ghost use Rattle.hdrhistogram.specs.V2.{IsV2, IsWrittenAlike};
-ghost use Rattle.hdrhistogram.specs.PayloadRead.{Parted, parted, AreSpellings};
+ghost use Rattle.hdrhistogram.specs.PayloadRead.{Parted, split_spellings, AreSpellings};
 ghost use Rattle.hdrhistogram.specs.V2Read.{v2_at, Contents, told_of, IsRestated, IsReadBack, IsReadAs};
 
 use hdr_core::laws::{clearing_stands, joined_stands, new_is_plain, samples_are_counted};
@@ -67,9 +67,9 @@ pub fn bytes_agree()
 
 /// A payload is spellings and a rest that is none in one way, which is how it is cut for reading.
 pub fn one_parting()
-    ensures are { (payload : List ℕ) → AreSpellings payload (parted 8 payload).texts (parted 8 payload).rest }
+    ensures are { (payload : List ℕ) → AreSpellings payload (split_spellings 8 payload).texts (split_spellings 8 payload).rest }
     ensures only { (payload rest : List ℕ) (texts : List (List ℕ)) → AreSpellings payload texts rest
-        → parted 8 payload ≡ record { texts = texts; rest = rest } }
+        → split_spellings 8 payload ≡ record { texts = texts; rest = rest } }
 {}
 
 /// What stands behind a histogram does not change how it is read, and reading takes a front of the
