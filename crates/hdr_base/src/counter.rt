@@ -39,11 +39,13 @@ pub trait Counter: Copy + Ord {
 
     /// The counter of the sum; `None` exactly where the sum is above the greatest.
     fn checked_add(self, other: Self) -> Option<Self>
-        ensures { MatchOption result (greatest < number self + number other) (λ c. number c ≡ number self + number other) };
+        ensures { MatchOption result (greatest < number self + number other)
+            (λ c. number c ≡ number self + number other) };
 
     /// The counter of the difference; `None` exactly where `other` is the greater.
     fn checked_sub(self, other: Self) -> Option<Self>
-        ensures { MatchOption result (number self < number other) (λ c. number c + number other ≡ number self) };
+        ensures { MatchOption result (number self < number other)
+            (λ c. number c + number other ≡ number self) };
 
     /// Every number fits in 64 bits.
     ghost fits: { greatest < 2 ^ 64 };

@@ -7,9 +7,11 @@ ghost use Rattle.hdr_base.specs.Classes.{Grain, grain_of, width_of, lowest_of, t
 pub fn equivalence()
     ensures reflexive { (g : Grain) (a : ℕ) → AreEquivalent g a a }
     ensures symmetric { (g : Grain) (a b : ℕ) → AreEquivalent g a b → AreEquivalent g b a }
-    ensures transitive { (g : Grain) (a b c : ℕ) → AreEquivalent g a b → AreEquivalent g b c → AreEquivalent g a c }
+    ensures transitive { (g : Grain) (a b c : ℕ) → AreEquivalent g a b → AreEquivalent g b c
+        → AreEquivalent g a c }
     ensures numbers { (low sigfig : ℕ) → HasScale low sigfig → (a b : ℕ)
-        → AreEquivalent (grain_of low sigfig) a b ↔ (bin_of (grain_of low sigfig) a ≡ bin_of (grain_of low sigfig) b) }
+        → AreEquivalent (grain_of low sigfig) a b
+        ↔ (bin_of (grain_of low sigfig) a ≡ bin_of (grain_of low sigfig) b) }
 {}
 
 /// Classes are intervals that cover 0 to `u64::MAX`, in the order of their numbers: the first begins at 0, each
@@ -18,15 +20,21 @@ pub fn intervals()
     ensures first { (g : Grain) → (lowest_of g 0 ≡ 0) × (bin_of g 0 ≡ 0) }
     ensures member { (g : Grain) (v : ℕ) → (lowest_of g v ≤ v) × (v ≤ top_of g v) }
     ensures whole { (low sigfig : ℕ) → HasScale low sigfig → (v x : ℕ)
-        → lowest_of (grain_of low sigfig) v ≤ x → x ≤ top_of (grain_of low sigfig) v → AreEquivalent (grain_of low sigfig) x v }
+        → lowest_of (grain_of low sigfig) v ≤ x → x ≤ top_of (grain_of low sigfig) v
+        → AreEquivalent (grain_of low sigfig) x v }
     ensures next { (low sigfig : ℕ) → HasScale low sigfig → (v : ℕ)
-        → (lowest_of (grain_of low sigfig) (top_of (grain_of low sigfig) v + 1) ≡ top_of (grain_of low sigfig) v + 1)
-        × (bin_of (grain_of low sigfig) (top_of (grain_of low sigfig) v + 1) ≡ bin_of (grain_of low sigfig) v + 1) }
-    ensures ends { (low sigfig : ℕ) → HasScale low sigfig → (v : ℕ) → v < 2 ^ 64 → top_of (grain_of low sigfig) v < 2 ^ 64 }
-    ensures order { (low sigfig : ℕ) → HasScale low sigfig → (a b : ℕ) → a ≤ b → bin_of (grain_of low sigfig) a ≤ bin_of (grain_of low sigfig) b }
+        → (lowest_of (grain_of low sigfig) (top_of (grain_of low sigfig) v + 1) ≡ top_of
+        (grain_of low sigfig) v + 1)
+        × (bin_of (grain_of low sigfig) (top_of (grain_of low sigfig) v + 1) ≡ bin_of
+        (grain_of low sigfig) v + 1) }
+    ensures ends { (low sigfig : ℕ) → HasScale low sigfig → (v : ℕ) → v < 2 ^ 64
+        → top_of (grain_of low sigfig) v < 2 ^ 64 }
+    ensures order { (low sigfig : ℕ) → HasScale low sigfig → (a b : ℕ) → a ≤ b
+        → bin_of (grain_of low sigfig) a ≤ bin_of (grain_of low sigfig) b }
     ensures numbers { (low sigfig : ℕ) → HasScale low sigfig → (i : ℕ)
         → (bin_of (grain_of low sigfig) (value_of (grain_of low sigfig) i) ≡ i)
-        × (lowest_of (grain_of low sigfig) (value_of (grain_of low sigfig) i) ≡ value_of (grain_of low sigfig) i) }
+        × (lowest_of (grain_of low sigfig) (value_of (grain_of low sigfig) i) ≡ value_of
+        (grain_of low sigfig) i) }
 {}
 
 /// A class is one unit wide below `2 ^ (unit + digits)`, and from there on so narrow that `sigfig` digits are kept.
@@ -40,7 +48,8 @@ pub fn widths()
 /// Where one scale has a unit no greater and no fewer digits than another, each of its classes lies in one of the other;
 /// and a `sigfig` no smaller gives no fewer digits.
 pub fn finer_classes()
-    ensures finer { (low sigfig base kept : ℕ) → (grain_of low sigfig).unit ≤ (grain_of base kept).unit → kept ≤ sigfig
+    ensures finer { (low sigfig base kept : ℕ)
+        → (grain_of low sigfig).unit ≤ (grain_of base kept).unit → kept ≤ sigfig
         → IsFiner (grain_of low sigfig) (grain_of base kept) }
     ensures classes { (low sigfig : ℕ) → HasScale low sigfig → (base kept : ℕ) → HasScale base kept
         → IsFiner (grain_of low sigfig) (grain_of base kept) → (a b : ℕ)

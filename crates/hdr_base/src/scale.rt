@@ -88,7 +88,8 @@ impl Scale {
     /// The width of the class of a value: the least power of two from the unit on that keeps the digits.
     pub fn width(self, value: u64) -> u64
         ensures value { result ≡ width_of self value }
-        ensures least { IsLeast (λ w. (k : ℕ) × (w ≡ 2 ^ (self.unit + k)) × (value < 2 ^ (self.unit + self.digits + k))) result }
+        ensures least { IsLeast (λ w. (k : ℕ) × (w ≡ 2 ^ (self.unit + k))
+            × (value < 2 ^ (self.unit + self.digits + k))) result }
         ensures at_least_one { 1 ≤ result }
     {
         1 << (self.unit as u32 + self.bucket(value))
@@ -113,7 +114,8 @@ impl Scale {
     /// The greatest value of the bucket of a value: how far bins reach that were made for it.
     pub fn reach(self, value: u64) -> u64
         ensures value { result ≡ reach_of self value }
-        ensures least { IsLeast (λ r. (k : ℕ) × (r ≡ 2 ^ (self.unit + self.digits + k) - 1) × (value ≤ r)) result }
+        ensures least { IsLeast (λ r. (k : ℕ) × (r ≡ 2 ^ (self.unit + self.digits + k) - 1)
+            × (value ≤ r)) result }
         ensures at_least { value ≤ result }
     {
         let exponent = (self.unit + self.digits) as u32 + self.bucket(value);
@@ -153,7 +155,8 @@ impl Scale {
 
     /// The lowest value of the class of a number; `None` past the class of `u64::MAX`.
     pub fn bin_value(self, index: usize) -> Option<u64>
-        ensures value { MatchOption result (bin_of self (2 ^ 64 - 1) < index) (λ v. (bin_of self v ≡ index) × (lowest_of self v ≡ v)) }
+        ensures value { MatchOption result (bin_of self (2 ^ 64 - 1) < index)
+            (λ v. (bin_of self v ≡ index) × (lowest_of self v ≡ v)) }
         ensures formula { IfSome result (λ v. v ≡ value_of self index) }
     {
         let half = self.digits - 1;
@@ -167,7 +170,8 @@ impl Scale {
 
     /// The greatest value of the class of a number; `None` past the class of `u64::MAX`.
     pub fn bin_top(self, index: usize) -> Option<u64>
-        ensures { MatchOption result (bin_of self (2 ^ 64 - 1) < index) (λ t. t ≡ top_of self (value_of self index)) }
+        ensures { MatchOption result (bin_of self (2 ^ 64 - 1) < index)
+            (λ t. t ≡ top_of self (value_of self index)) }
     {
         let lowest = self.bin_value(index)?;
         let bucket = (index >> (self.digits - 1)).saturating_sub(1);

@@ -52,11 +52,13 @@ impl<T: Counter> Histogram<T> {
     pub fn apply(&mut self, call: &Call<'_, T>) -> Result<(), CallError>
         ensures ok { OnOk result (self.new ≡ after_call T.greatest T.number call.now self.old) }
         ensures same_classes { grain self.new ≡ grain self.old }
-        ensures samples { OnOk result ((s t : State) → StandsAt self.old s → CallTo T.number (grain self.old) call.now s t
+        ensures samples { OnOk result ((s t : State) → StandsAt self.old s → CallTo T.number
+            (grain self.old) call.now s t
             → Fits T.greatest (grain self.old) t.samples → StandsAt self.new t) }
         ensures same_bounds { (self.new.low ≡ self.old.low) × (self.new.sigfig ≡ self.old.sigfig) }
         ensures can { OnOk result (IsTaken self.old call.now) }
-        ensures refused { IfErr result (λ e. RefusesCall self.old call.now e × (self.new ≡ self.old)) }
+        ensures refused { IfErr result (λ e. RefusesCall self.old call.now e
+            × (self.new ≡ self.old)) }
     {
         match call {
             Call::Record(value, count) => match self.record_n(*value, *count) {
@@ -94,12 +96,16 @@ impl<T: Counter> Histogram<T> {
 
     /// Does calls in their order, up to the first that is refused: that call changed nothing, and those before it stand.
     pub fn apply_all(&mut self, calls: &[Call<'_, T>]) -> Result<(), RunError>
-        ensures done { self.new ≡ after_calls T.greatest T.number (take (calls_done result (length calls.now)) calls.now) self.old }
+        ensures done { self.new ≡ after_calls T.greatest T.number
+            (take (calls_done result (length calls.now)) calls.now) self.old }
         ensures samples { (s t : State) → StandsAt self.old s
-            → CallsTo T.number (grain self.old) (Fits T.greatest (grain self.old)) (take (calls_done result (length calls.now)) calls.now) s t → StandsAt self.new t }
+            → CallsTo T.number (grain self.old) (Fits T.greatest (grain self.old))
+            (take (calls_done result (length calls.now)) calls.now) s t → StandsAt self.new t }
         ensures same_bounds { (self.new.low ≡ self.old.low) × (self.new.sigfig ≡ self.old.sigfig) }
-        ensures can { AreTaken T.greatest T.number (take (calls_done result (length calls.now)) calls.now) self.old }
-        ensures refused { IfErr result (λ e. IfSome (slice_get calls.now e.at) (λ call. RefusesCall self.new call e.cause)) }
+        ensures can { AreTaken T.greatest T.number
+            (take (calls_done result (length calls.now)) calls.now) self.old }
+        ensures refused { IfErr result (λ e. IfSome (slice_get calls.now e.at)
+            (λ call. RefusesCall self.new call e.cause)) }
         ensures at { IfErr result (λ e. e.at < length calls.now) }
     {
         for (at, call) in calls.iter().enumerate() {

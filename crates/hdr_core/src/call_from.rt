@@ -25,13 +25,16 @@ pub enum CallFrom<'a, T: Counter, F: Counter> {
 impl<T: Counter> Histogram<T> {
     /// Does one call, and refuses just what that call refuses. A refusal changes nothing.
     fn apply_from<F: Counter>(&mut self, call: &CallFrom<'_, T, F>) -> Result<(), CallError>
-        ensures ok { OnOk result (self.new ≡ after_call_from T.greatest T.number call.now self.old) }
+        ensures ok { OnOk result (self.new
+            ≡ after_call_from T.greatest T.number call.now self.old) }
         ensures same_classes { grain self.new ≡ grain self.old }
-        ensures samples { OnOk result ((s t : State) → StandsAt self.old s → CallFromTo T.number (grain self.old) call.now s t
+        ensures samples { OnOk result ((s t : State) → StandsAt self.old s → CallFromTo T.number
+            (grain self.old) call.now s t
             → Fits T.greatest (grain self.old) t.samples → StandsAt self.new t) }
         ensures same_bounds { (self.new.low ≡ self.old.low) × (self.new.sigfig ≡ self.old.sigfig) }
         ensures can { OnOk result (IsTakenFrom self.old call.now) }
-        ensures refused { IfErr result (λ e. RefusesCallFrom self.old call.now e × (self.new ≡ self.old)) }
+        ensures refused { IfErr result (λ e. RefusesCallFrom self.old call.now e
+            × (self.new ≡ self.old)) }
     {
         match call {
             CallFrom::Own(call) => self.apply(call),
@@ -54,12 +57,16 @@ impl<T: Counter> Histogram<T> {
         &mut self,
         calls: &[CallFrom<'_, T, F>],
     ) -> Result<(), RunError>
-        ensures done { self.new ≡ after_calls_from T.greatest T.number (take (calls_done result (length calls.now)) calls.now) self.old }
+        ensures done { self.new ≡ after_calls_from T.greatest T.number
+            (take (calls_done result (length calls.now)) calls.now) self.old }
         ensures samples { (s t : State) → StandsAt self.old s
-            → CallsFromTo T.number (grain self.old) (Fits T.greatest (grain self.old)) (take (calls_done result (length calls.now)) calls.now) s t → StandsAt self.new t }
+            → CallsFromTo T.number (grain self.old) (Fits T.greatest (grain self.old))
+            (take (calls_done result (length calls.now)) calls.now) s t → StandsAt self.new t }
         ensures same_bounds { (self.new.low ≡ self.old.low) × (self.new.sigfig ≡ self.old.sigfig) }
-        ensures can { AreTakenFrom T.greatest T.number (take (calls_done result (length calls.now)) calls.now) self.old }
-        ensures refused { IfErr result (λ e. IfSome (slice_get calls.now e.at) (λ call. RefusesCallFrom self.new call e.cause)) }
+        ensures can { AreTakenFrom T.greatest T.number
+            (take (calls_done result (length calls.now)) calls.now) self.old }
+        ensures refused { IfErr result (λ e. IfSome (slice_get calls.now e.at)
+            (λ call. RefusesCallFrom self.new call e.cause)) }
         ensures at { IfErr result (λ e. e.at < length calls.now) }
     {
         for (at, call) in calls.iter().enumerate() {

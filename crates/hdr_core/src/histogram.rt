@@ -67,7 +67,8 @@ impl<T: Counter> Histogram<T> {
         high: u64,
         sigfig: u8,
     ) -> Result<Histogram<T>, CreationError>
-        ensures { MatchResult result (λ h. (h ≡ empty_plain low high sigfig false) × IsBounds low high sigfig) (RefusesBounds low high sigfig) }
+        ensures { MatchResult result (λ h. (h ≡ empty_plain low high sigfig false)
+            × IsBounds low high sigfig) (RefusesBounds low high sigfig) }
     {
         let scale = scale_for(low, high, sigfig)?;
         let Ok(counts) = Counts::new(alloc, scale.buckets(high) + 1, scale.block()) else {
@@ -87,7 +88,8 @@ impl<T: Counter> Histogram<T> {
 
     /// A histogram of values from 0 to at least `high`, with units of 1.
     pub fn new_with_max(alloc: Global, high: u64, sigfig: u8) -> Result<Histogram<T>, CreationError>
-        ensures { MatchResult result (λ h. (h ≡ empty_plain 1 high sigfig false) × IsBounds 1 high sigfig) (RefusesBounds 1 high sigfig) }
+        ensures { MatchResult result (λ h. (h ≡ empty_plain 1 high sigfig false)
+            × IsBounds 1 high sigfig) (RefusesBounds 1 high sigfig) }
     {
         Histogram::new_with_bounds(alloc, 1, high, sigfig)
     }
@@ -95,7 +97,8 @@ impl<T: Counter> Histogram<T> {
     /// A histogram that grows to the values that are recorded, with units of 1.
     #[tactic(auto, unfolding(hdr_model::specs::Plain::empty_plain))]
     pub fn new(alloc: Global, sigfig: u8) -> Result<Histogram<T>, CreationError>
-        ensures { MatchResult result (λ h. (h ≡ empty_plain 1 2 sigfig true) × IsBounds 1 2 sigfig) (RefusesBounds 1 2 sigfig) }
+        ensures { MatchResult result (λ h. (h ≡ empty_plain 1 2 sigfig true) × IsBounds 1 2 sigfig)
+            (RefusesBounds 1 2 sigfig) }
     {
         let mut histogram = Histogram::new_with_bounds(alloc, 1, 2, sigfig)?;
         histogram.auto_resize = true;
@@ -199,7 +202,8 @@ impl<T: Counter> Histogram<T> {
 
     /// The lowest value of a bin's class, `None` past the bins.
     pub fn bin_value(&self, index: usize) -> Option<u64>
-        ensures value { SomeIff result (index < length self.now.counts) (value_of (grain self.now) index) }
+        ensures value { SomeIff result (index < length self.now.counts)
+            (value_of (grain self.now) index) }
         ensures bin { IfSome result (λ v. bin_of (grain self.now) v ≡ index) }
         ensures within { IfSome result (λ v. v ≤ reach self.now) }
     {
@@ -212,7 +216,9 @@ impl<T: Counter> Histogram<T> {
 
     /// The counter of a bin, `None` past the bins.
     pub fn bin_count(&self, index: usize) -> Option<T>
-        ensures { MatchOption result (length self.now.counts ≤ index) (λ c. (index < length self.now.counts) × (T.number c ≡ slice_index self.now.counts index)) }
+        ensures { MatchOption result (length self.now.counts ≤ index)
+            (λ c. (index < length self.now.counts)
+            × (T.number c ≡ slice_index self.now.counts index)) }
     {
         if index < self.counts.len() {
             Some(self.counts.get(index))
@@ -284,7 +290,8 @@ impl<T: Counter> Histogram<T> {
 
 /// The scale of a histogram's bounds; the first that does not hold is the error.
 fn scale_for(low: u64, high: u64, sigfig: u8) -> Result<Scale, CreationError>
-    ensures { MatchResult result (λ s. (s ≡ grain_of low sigfig) × IsBounds low high sigfig) (RefusesBounds low high sigfig) }
+    ensures { MatchResult result (λ s. (s ≡ grain_of low sigfig) × IsBounds low high sigfig)
+        (RefusesBounds low high sigfig) }
 {
     if low < 1 {
         return Err(CreationError::LowIsZero);

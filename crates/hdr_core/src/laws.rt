@@ -30,8 +30,12 @@ pub use hdr_model::laws::{
 
 /// What a call makes of a histogram is one again, with its classes, and stands for what the call makes of the samples.
 pub fn calls_stand<T: Counter>()
-    ensures plain { (most : ℕ) (h : Plain) (call : Call T) → IsCallOf most call → IsPlain T.greatest h → IsPlain T.greatest (after_call T.greatest T.number call h) }
-    ensures classes { (most : ℕ) (h : Plain) (call : Call T) → IsCallOf most call → grain (after_call T.greatest T.number call h) ≡ grain h }
-    ensures samples { (most : ℕ) (h : Plain) (call : Call T) (s t : State) → IsCallOf most call → IsPlain T.greatest h → StandsAt h s
-        → CallTo T.number (grain h) call s t → Fits T.greatest (grain h) t.samples → StandsAt (after_call T.greatest T.number call h) t }
+    ensures plain { (most : ℕ) (h : Plain) (call : Call T) → IsCallOf most call
+        → IsPlain T.greatest h → IsPlain T.greatest (after_call T.greatest T.number call h) }
+    ensures classes { (most : ℕ) (h : Plain) (call : Call T) → IsCallOf most call
+        → grain (after_call T.greatest T.number call h) ≡ grain h }
+    ensures samples { (most : ℕ) (h : Plain) (call : Call T) (s t : State) → IsCallOf most call
+        → IsPlain T.greatest h → StandsAt h s
+        → CallTo T.number (grain h) call s t → Fits T.greatest (grain h) t.samples
+        → StandsAt (after_call T.greatest T.number call h) t }
 {}

@@ -30,7 +30,8 @@ pub(crate) fn add_blocks<T: Counter, F: Counter>(
     requires more { AreSums block (map F.number source.now) more.now }
     requires len { length counters.old ≡ length source.now }
     requires fit { All (λ n. n ≤ T.greatest) (map T.number counters.old) }
-    ensures numbers { map T.number counters.new ≡ capped_sums T.greatest (map T.number counters.old) (map F.number source.now) }
+    ensures numbers { map T.number counters.new ≡ capped_sums T.greatest (map T.number counters.old)
+        (map F.number source.now) }
     ensures sums { AreSums block (map T.number counters.new) sums.new }
     ensures fit { All (λ n. n ≤ T.greatest) (map T.number counters.new) }
 {
@@ -55,7 +56,8 @@ fn add_block<T: Counter, F: Counter>(
     requires more { more ≡ sum (map F.number source.now) }
     requires fits { had + more < 2 ^ 128 }
     requires fit { All (λ n. n ≤ T.greatest) (map T.number counters.old) }
-    ensures numbers { map T.number counters.new ≡ capped_sums T.greatest (map T.number counters.old) (map F.number source.now) }
+    ensures numbers { map T.number counters.new ≡ capped_sums T.greatest (map T.number counters.old)
+        (map F.number source.now) }
     ensures sum { result ≡ sum (map T.number counters.new) }
 {
     if more == 0 {
@@ -73,7 +75,8 @@ fn add_block<T: Counter, F: Counter>(
 fn add_plain<T: Counter, F: Counter>(counters: &mut [T], source: &[F])
     requires len { length counters.old ≡ length source.now }
     requires fits { sum (map T.number counters.old) + sum (map F.number source.now) ≤ T.greatest }
-    ensures { map T.number counters.new ≡ capped_sums T.greatest (map T.number counters.old) (map F.number source.now) }
+    ensures { map T.number counters.new ≡ capped_sums T.greatest (map T.number counters.old)
+        (map F.number source.now) }
 {
     for i in 0..counters.len() {
         counters[i] = capped(counters[i].as_u64() + source[i].as_u64());
@@ -83,7 +86,8 @@ fn add_plain<T: Counter, F: Counter>(counters: &mut [T], source: &[F])
 /// Adds counters place by place, each sum up to the greatest.
 fn add_each<T: Counter, F: Counter>(counters: &mut [T], source: &[F])
     requires { length counters.old ≡ length source.now }
-    ensures { map T.number counters.new ≡ capped_sums T.greatest (map T.number counters.old) (map F.number source.now) }
+    ensures { map T.number counters.new ≡ capped_sums T.greatest (map T.number counters.old)
+        (map F.number source.now) }
 {
     for i in 0..counters.len() {
         counters[i] = capped(counters[i].as_u64().saturating_add(source[i].as_u64()));

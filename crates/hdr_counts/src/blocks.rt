@@ -20,7 +20,8 @@ impl<T: Counter> Counts<T> {
         requires from { k * self.now.block ≤ i }
         requires before { i < (k + 1) * self.now.block }
         requires within { (k + 1) * self.now.block ≤ length self.now.numbers }
-        ensures { sum_below self.now.numbers (k * self.now.block) + result ≡ sum_below self.now.numbers (i + 1) }
+        ensures { sum_below self.now.numbers (k * self.now.block) + result
+            ≡ sum_below self.now.numbers (i + 1) }
     {
         let whole = self.sums[k];
         let from = k * self.block;

@@ -10,7 +10,9 @@ impl<T: Counter> Counts<T> {
     /// The last place of a counter above 0. A block whose sum is 0 costs a look at it.
     pub fn last_nonzero(&self) -> Option<usize>
         ensures within { IfSome result (λ m. m < 6291456) }
-        ensures place { MatchOption result ((i : ℕ) → slice_index self.now.numbers i ≡ 0) (λ m. (0 < slice_index self.now.numbers m) × ((i : ℕ) → m < i → slice_index self.now.numbers i ≡ 0)) }
+        ensures place { MatchOption result ((i : ℕ) → slice_index self.now.numbers i ≡ 0)
+            (λ m. (0 < slice_index self.now.numbers m)
+            × ((i : ℕ) → m < i → slice_index self.now.numbers i ≡ 0)) }
     {
         last_place(&self.counters, &self.sums, self.block)
     }
@@ -18,7 +20,9 @@ impl<T: Counter> Counts<T> {
     /// The first place after place 0 of a counter above 0. A block whose sum is 0 costs a look at it.
     pub fn next_nonzero(&self) -> Option<usize>
         ensures within { IfSome result (λ m. (0 < m) × (m < 6291456)) }
-        ensures place { MatchOption result ((i : ℕ) → 0 < i → slice_index self.now.numbers i ≡ 0) (λ m. (0 < slice_index self.now.numbers m) × ((i : ℕ) → 0 < i → i < m → slice_index self.now.numbers i ≡ 0)) }
+        ensures place { MatchOption result ((i : ℕ) → 0 < i → slice_index self.now.numbers i ≡ 0)
+            (λ m. (0 < slice_index self.now.numbers m)
+            × ((i : ℕ) → 0 < i → i < m → slice_index self.now.numbers i ≡ 0)) }
     {
         next_place(&self.counters, &self.sums, self.block)
     }
@@ -28,7 +32,8 @@ impl<T: Counter> Counts<T> {
 fn last_place<T: Counter>(counters: &[T], sums: &[u128], block: usize) -> Option<usize>
     requires { AreSums block (map T.number counters.now) sums.now }
     ensures within { IfSome result (λ m. m < 6291456) }
-    ensures place { MatchOption result (AreZeros (map T.number counters.now)) (IsLastNonzero (map T.number counters.now)) }
+    ensures place { MatchOption result (AreZeros (map T.number counters.now))
+        (IsLastNonzero (map T.number counters.now)) }
 {
     for passed in 0..sums.len() {
         let k = sums.len() - 1 - passed;
@@ -44,8 +49,10 @@ fn last_place<T: Counter>(counters: &[T], sums: &[u128], block: usize) -> Option
 fn next_place<T: Counter>(counters: &[T], sums: &[u128], block: usize) -> Option<usize>
     requires { AreSums block (map T.number counters.now) sums.now }
     ensures within { IfSome result (λ m. (0 < m) × (m < 6291456)) }
-    ensures place { MatchOption result ((i : ℕ) → 0 < i → slice_index (map T.number counters.now) i ≡ 0)
-        (λ m. (0 < slice_index (map T.number counters.now) m) × ((i : ℕ) → 0 < i → i < m → slice_index (map T.number counters.now) i ≡ 0)) }
+    ensures place { MatchOption result ((i : ℕ) → 0 < i → slice_index (map T.number counters.now) i
+        ≡ 0)
+        (λ m. (0 < slice_index (map T.number counters.now) m)
+        × ((i : ℕ) → 0 < i → i < m → slice_index (map T.number counters.now) i ≡ 0)) }
 {
     for k in 0..sums.len() {
         let from = (k * block).max(1);
@@ -61,7 +68,8 @@ fn next_place<T: Counter>(counters: &[T], sums: &[u128], block: usize) -> Option
 fn last_of<T: Counter>(counters: &[T], most: u128) -> Option<usize>
     requires { sum (map T.number counters.now) ≤ most }
     ensures within { IfSome result (λ m. m < length counters.now) }
-    ensures place { MatchOption result (AreZeros (map T.number counters.now)) (IsLastNonzero (map T.number counters.now)) }
+    ensures place { MatchOption result (AreZeros (map T.number counters.now))
+        (IsLastNonzero (map T.number counters.now)) }
 {
     if most == 0 {
         return None;
@@ -79,7 +87,8 @@ fn last_of<T: Counter>(counters: &[T], most: u128) -> Option<usize>
 fn first_of<T: Counter>(counters: &[T], most: u128) -> Option<usize>
     requires { sum (map T.number counters.now) ≤ most }
     ensures within { IfSome result (λ m. m < length counters.now) }
-    ensures place { MatchOption result (AreZeros (map T.number counters.now)) (IsFirstNonzero (map T.number counters.now)) }
+    ensures place { MatchOption result (AreZeros (map T.number counters.now))
+        (IsFirstNonzero (map T.number counters.now)) }
 {
     if most == 0 {
         return None;

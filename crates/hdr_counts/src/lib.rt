@@ -48,7 +48,8 @@ impl<T: Counter> Counts<T> {
     pub fn new(alloc: Global, blocks: usize, block: usize) -> Result<Counts<T>, AllocError>
         requires some { 1 ≤ block }
         requires few { blocks * block ≤ 6291456 }
-        ensures { IfOk result (λ c. c ≡ record { block = block; numbers = replicate (blocks * block) 0 }) }
+        ensures { IfOk result (λ c. c
+            ≡ record { block = block; numbers = replicate (blocks * block) 0 }) }
     {
         let mut counts = Counts {
             counters: Vec::new(alloc),
@@ -64,7 +65,9 @@ impl<T: Counter> Counts<T> {
     pub fn grow(&mut self, blocks: usize) -> Result<(), AllocError>
         requires more { length self.old.numbers ≤ blocks * self.old.block }
         requires few { blocks * self.old.block ≤ 6291456 }
-        ensures { MatchResult result (λ _. self.new ≡ record { block = self.old.block; numbers = self.old.numbers ++ replicate (blocks * self.old.block - length self.old.numbers) 0 }) (λ _. self.new ≡ self.old) }
+        ensures { MatchResult result (λ _. self.new
+            ≡ record { block = self.old.block; numbers = self.old.numbers ++ replicate
+            (blocks * self.old.block - length self.old.numbers) 0 }) (λ _. self.new ≡ self.old) }
     {
         let len = blocks * self.block;
         self.counters.reserve(len - self.counters.len())?;
@@ -104,7 +107,8 @@ impl<T: Counter> Counts<T> {
     /// Puts `value` at place `i`.
     pub fn set(&mut self, i: usize, value: T)
         requires { i < length self.old.numbers }
-        ensures { self.new ≡ record { block = self.old.block; numbers = slice_set self.old.numbers i (T.number value) } }
+        ensures { self.new ≡ record { block = self.old.block; numbers = slice_set self.old.numbers i
+            (T.number value) } }
     {
         let k = quotient(i, self.block, self.shift);
         let old = self.counters[i].as_u64();
@@ -117,8 +121,11 @@ impl<T: Counter> Counts<T> {
     /// nothing is changed.
     pub fn try_add(&mut self, i: usize, number: u64) -> Option<()>
         requires { i < length self.old.numbers }
-        ensures { MatchOption result ((T.greatest < slice_index self.old.numbers i + number) × (self.new ≡ self.old))
-            (λ _. (slice_index self.old.numbers i + number ≤ T.greatest) × (self.new ≡ record { block = self.old.block; numbers = slice_set self.old.numbers i (slice_index self.old.numbers i + number) })) }
+        ensures { MatchOption result ((T.greatest < slice_index self.old.numbers i + number)
+            × (self.new ≡ self.old))
+            (λ _. (slice_index self.old.numbers i + number ≤ T.greatest)
+            × (self.new ≡ record { block = self.old.block; numbers = slice_set self.old.numbers i
+            (slice_index self.old.numbers i + number) })) }
     {
         let sum = self.counters[i].as_u64().checked_add(number)?;
         let counter = T::from_u64(sum)?;
@@ -130,7 +137,8 @@ impl<T: Counter> Counts<T> {
 
     /// Makes each counter 0. It looks at the sum of each block, and at the counters of those that hold something.
     pub fn clear(&mut self)
-        ensures { self.new ≡ record { block = self.old.block; numbers = replicate (length self.old.numbers) 0 } }
+        ensures { self.new ≡ record { block = self.old.block; numbers = replicate
+            (length self.old.numbers) 0 } }
     {
         clear_blocks(&mut self.counters, &mut self.sums, self.block);
     }
@@ -154,8 +162,10 @@ impl<T: Counter> Counts<T> {
     pub fn find(&self, rank: u64, ticks: &mut Ticks) -> Option<usize>
         requires some { 1 ≤ rank }
         requires room { ticks.old ≤ 2 ^ 63 }
-        ensures place { MatchOption result (sum self.now.numbers < rank) (IsFirstToReach self.now.numbers rank) }
-        ensures ticks { ticks.new ≡ ticks.old + looks self.now.block (length self.now.numbers) result }
+        ensures place { MatchOption result (sum self.now.numbers < rank)
+            (IsFirstToReach self.now.numbers rank) }
+        ensures ticks { ticks.new ≡ ticks.old + looks self.now.block
+            (length self.now.numbers) result }
     {
         let mut rest = rank;
         for (k, sum) in self.sums.iter().enumerate() {
@@ -177,7 +187,8 @@ impl<T: Counter> Counts<T> {
     /// The first place where the sum up to and including it reaches `rank`: the answer of `find`, without counting looks.
     pub fn first_reaching(&self, rank: u64) -> Option<usize>
         requires { 1 ≤ rank }
-        ensures { MatchOption result (sum self.now.numbers < rank) (IsFirstToReach self.now.numbers rank) }
+        ensures { MatchOption result (sum self.now.numbers < rank)
+            (IsFirstToReach self.now.numbers rank) }
     {
         Search::new(self).first_reaching(rank)
     }
@@ -185,7 +196,8 @@ impl<T: Counter> Counts<T> {
     /// The sum of a block; `None` past the blocks.
     fn block_sum(&self, k: usize) -> Option<u128>
         ensures sum { MatchOption result (length self.now.numbers ≤ k * self.now.block)
-            (λ s. (sum_below self.now.numbers (k * self.now.block) + s ≡ sum_below self.now.numbers ((k + 1) * self.now.block)) × ((k + 1) * self.now.block ≤ length self.now.numbers)) }
+            (λ s. (sum_below self.now.numbers (k * self.now.block) + s ≡ sum_below self.now.numbers
+            ((k + 1) * self.now.block)) × ((k + 1) * self.now.block ≤ length self.now.numbers)) }
         ensures inside { IfSome result (λ _. k < length self.now.numbers) }
         ensures few { length self.now.numbers ≤ 6291456 }
     {
@@ -200,8 +212,10 @@ impl<T: Counter> Counts<T> {
     fn first_in_block(&self, k: usize, rest: u64) -> usize
         requires some { 1 ≤ rest }
         requires within { (k + 1) * self.now.block ≤ length self.now.numbers }
-        requires reached { sum_below self.now.numbers (k * self.now.block) + rest ≤ sum_below self.now.numbers ((k + 1) * self.now.block) }
-        ensures { IsFirstToReach self.now.numbers (sum_below self.now.numbers (k * self.now.block) + rest) result }
+        requires reached { sum_below self.now.numbers (k * self.now.block) + rest
+            ≤ sum_below self.now.numbers ((k + 1) * self.now.block) }
+        ensures { IsFirstToReach self.now.numbers
+            (sum_below self.now.numbers (k * self.now.block) + rest) result }
     {
         let from = k * self.block;
         match first_reaching(&self.counters[from..from + self.block], rest, self.sums[k]) {

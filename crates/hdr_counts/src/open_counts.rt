@@ -52,7 +52,8 @@ impl<T: Counter> OpenCounts<T> {
     ) -> Result<OpenCounts<T>, AllocError>
         requires some { 1 ≤ block }
         requires few { blocks * block ≤ 6291456 }
-        ensures { IfOk result (λ c. c ≡ record { block = block; numbers = replicate (blocks * block) 0 }) }
+        ensures { IfOk result (λ c. c
+            ≡ record { block = block; numbers = replicate (blocks * block) 0 }) }
     {
         let len = blocks * block;
         let mut sums = Vec::new(alloc);
@@ -80,7 +81,8 @@ impl<T: Counter> OpenCounts<T> {
     #[inline(always)]
     pub fn set(&mut self, i: usize, value: T)
         requires { i < length self.old.numbers }
-        ensures { self.new ≡ record { block = self.old.block; numbers = slice_set self.old.numbers i (T.number value) } }
+        ensures { self.new ≡ record { block = self.old.block; numbers = slice_set self.old.numbers i
+            (T.number value) } }
     {
         // Shows that the number is at most the greatest.
         let _ = value.as_u64();
@@ -95,7 +97,8 @@ impl<T: Counter> OpenCounts<T> {
     #[inline(always)]
     pub fn set_two(&mut self, i: usize, first: T, second: T)
         requires { i + 1 < length self.old.numbers }
-        ensures { self.new ≡ record { block = self.old.block; numbers = slice_set (slice_set self.old.numbers i (T.number first)) (i + 1) (T.number second) } }
+        ensures { self.new ≡ record { block = self.old.block; numbers = slice_set
+            (slice_set self.old.numbers i (T.number first)) (i + 1) (T.number second) } }
     {
         // Show that the numbers are at most the greatest.
         let _ = first.as_u64();
@@ -113,7 +116,8 @@ impl<T: Counter> OpenCounts<T> {
     #[inline(never)]
     fn set_further(&mut self, i: usize, value: T)
         requires { i < length self.old.numbers }
-        ensures { self.new ≡ record { block = self.old.block; numbers = slice_set self.old.numbers i (T.number value) } }
+        ensures { self.new ≡ record { block = self.old.block; numbers = slice_set self.old.numbers i
+            (T.number value) } }
     {
         cover(&mut self.counters, i, self.len);
         let new = value.as_u64();
@@ -157,7 +161,8 @@ fn cover<T: Counter>(counters: &mut Vec<T>, i: usize, len: usize)
     requires few { len ≤ 6291456 }
     requires within { length counters.old.items ≤ len }
     requires room { len ≤ vec_capacity counters.old }
-    ensures numbers { (more : ℕ) × (map T.number counters.new.items ≡ map T.number counters.old.items ++ replicate more 0) }
+    ensures numbers { (more : ℕ) × (map T.number counters.new.items
+        ≡ map T.number counters.old.items ++ replicate more 0) }
     ensures covered { i < length counters.new.items }
     ensures within { length counters.new.items ≤ len }
     ensures room { len ≤ vec_capacity counters.new }
@@ -171,7 +176,8 @@ fn cover<T: Counter>(counters: &mut Vec<T>, i: usize, len: usize)
 fn fill_up<T: Counter>(counters: &mut Vec<T>, len: usize)
     requires within { length counters.old.items ≤ len }
     requires room { len ≤ vec_capacity counters.old }
-    ensures numbers { map T.number counters.new.items ≡ with_zeros (map T.number counters.old.items) len }
+    ensures numbers { map T.number counters.new.items ≡ with_zeros
+        (map T.number counters.old.items) len }
     ensures len { length counters.new.items ≡ len }
     ensures room { vec_capacity counters.old ≤ vec_capacity counters.new }
 {

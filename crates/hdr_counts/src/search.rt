@@ -44,7 +44,8 @@ impl<'a, T: Counter> Search<'a, T> {
         requires { self.old.passed < rank }
         ensures numbers { self.new.numbers ≡ self.old.numbers }
         ensures passed { self.new.passed < rank }
-        ensures place { MatchOption result (sum self.old.numbers < rank) (IsFirstToReach self.old.numbers rank) }
+        ensures place { MatchOption result (sum self.old.numbers < rank)
+            (IsFirstToReach self.old.numbers rank) }
     {
         let counts = self.counts;
         while let Some(sum) = counts.block_sum(self.block) {
@@ -80,8 +81,10 @@ pub(crate) fn first_reaching_looked<T: Counter>(
 ) -> Option<usize>
     requires some { 1 ≤ rest }
     requires room { ticks.old + length counters.now < 2 ^ 64 }
-    ensures place { MatchOption result (sum (map T.number counters.now) < rest) (IsFirstToReach (map T.number counters.now) rest) }
-    ensures ticks { MatchOption result (ticks.new ≡ ticks.old + length counters.now) (λ i. ticks.new ≡ ticks.old + i + 1) }
+    ensures place { MatchOption result (sum (map T.number counters.now) < rest)
+        (IsFirstToReach (map T.number counters.now) rest) }
+    ensures ticks { MatchOption result (ticks.new ≡ ticks.old + length counters.now)
+        (λ i. ticks.new ≡ ticks.old + i + 1) }
 {
     for (i, counter) in counters.iter().enumerate() {
         let number = look(u128::from(counter.as_u64()), ticks) as u64;
@@ -99,7 +102,8 @@ pub(crate) fn first_reaching<T: Counter>(counters: &[T], rest: u64, whole: u128)
     requires some { 1 ≤ rest }
     requires few { length counters.now ≤ 6291456 }
     requires whole { whole ≡ sum (map T.number counters.now) }
-    ensures { MatchOption result (sum (map T.number counters.now) < rest) (IsFirstToReach (map T.number counters.now) rest) }
+    ensures { MatchOption result (sum (map T.number counters.now) < rest)
+        (IsFirstToReach (map T.number counters.now) rest) }
 {
     if whole <= u128::from(u64::MAX) {
         by_few(counters, rest)
@@ -112,7 +116,8 @@ fn by_few<T: Counter>(counters: &[T], mut rest: u64) -> Option<usize>
     requires some { 1 ≤ rest }
     requires few { length counters.now ≤ 6291456 }
     requires fits { sum (map T.number counters.now) < 2 ^ 64 }
-    ensures { MatchOption result (sum (map T.number counters.now) < rest) (IsFirstToReach (map T.number counters.now) rest) }
+    ensures { MatchOption result (sum (map T.number counters.now) < rest)
+        (IsFirstToReach (map T.number counters.now) rest) }
 {
     let mut from = 0usize;
     while from < counters.len() {
@@ -131,7 +136,8 @@ fn by_few<T: Counter>(counters: &[T], mut rest: u64) -> Option<usize>
 
 fn one_by_one<T: Counter>(counters: &[T], mut rest: u64) -> Option<usize>
     requires { 1 ≤ rest }
-    ensures { MatchOption result (sum (map T.number counters.now) < rest) (IsFirstToReach (map T.number counters.now) rest) }
+    ensures { MatchOption result (sum (map T.number counters.now) < rest)
+        (IsFirstToReach (map T.number counters.now) rest) }
 {
     for (i, counter) in counters.iter().enumerate() {
         let number = counter.as_u64();

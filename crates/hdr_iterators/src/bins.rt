@@ -50,7 +50,8 @@ impl<'a, T: Counter> Bins<'a, T> {
         total: u64,
         last: usize,
     ) -> Bins<'a, T>
-        requires bins { AreBins (record { grain = scale; numbers = map T.number counters.now; total = total; last = last }) }
+        requires bins { AreBins
+            (record { grain = scale; numbers = map T.number counters.now; total = total; last = last }) }
         requires sums { TellEmpty (2 ^ (scale.digits - 1)) (map T.number counters.now) sums.now }
         ensures { result ≡ record { grain = scale; numbers = map T.number counters.now; total = total; last = last } }
     {

@@ -9,6 +9,7 @@ ghost use Rattle.hdr_iterators.specs.Places.{all_picks, recorded_picks};
 pub fn bins_once()
     ensures all { (h : Seen) (i : ℕ) → Contains (places (all_picks h)) i ↔ (i < bins_in h) }
     ensures all_rise { (h : Seen) → RiseFrom 0 (places (all_picks h)) }
-    ensures recorded { (h : Seen) (i : ℕ) → Contains (places (recorded_picks h)) i ↔ (i < bins_in h) × (0 < slice_index h.numbers i) }
+    ensures recorded { (h : Seen) (i : ℕ) → Contains (places (recorded_picks h)) i ↔ (i < bins_in h)
+        × (0 < slice_index h.numbers i) }
     ensures recorded_rise { (h : Seen) → RiseFrom 0 (places (recorded_picks h)) }
 {}

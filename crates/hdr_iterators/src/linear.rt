@@ -28,7 +28,8 @@ impl<'a, T: Counter> Iter<'a, T> {
     /// recorded class. A level past `u64::MAX` is that, and the last.
     pub fn new<H: Binned<T>>(histogram: &'a H, step: u64) -> HistogramIterator<'a, T, Iter<'a, T>>
         requires { 1 ≤ step }
-        ensures { result ≡ items_of (H.seen histogram.now) (linear_picks (H.seen histogram.now) step) }
+        ensures { result ≡ items_of (H.seen histogram.now)
+            (linear_picks (H.seen histogram.now) step) }
     {
         let bins = histogram.binned();
         let picker = Iter {

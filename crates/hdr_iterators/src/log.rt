@@ -30,7 +30,8 @@ impl<'a, T: Counter> Iter<'a, T> {
     ) -> HistogramIterator<'a, T, Iter<'a, T>>
         requires some { 1 ≤ start }
         requires wide { 2 ≤ base }
-        ensures { result ≡ items_of (H.seen histogram.now) (log_picks (H.seen histogram.now) start base) }
+        ensures { result ≡ items_of (H.seen histogram.now)
+            (log_picks (H.seen histogram.now) start base) }
     {
         let bins = histogram.binned();
         let picker = Iter {

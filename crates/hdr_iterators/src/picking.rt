@@ -49,18 +49,26 @@ pub trait PickyIterator<T: Counter>: Drop {
         total_count_to_index: u64,
         count_at_index: T,
     ) -> Option<PickMetadata>
-        ensures { (h : Seen) (last : Option ℕ) → goes_with self.old h last → IsAsked h last index total_count_to_index (T.number count_at_index) → NoneBefore index (picks self.old h)
-            → MatchOption result (goes_with self.new h last × (picks self.new h ≡ picks self.old h) × NoneBefore (index + 1) (picks self.old h))
-            (λ m. goes_with self.new h (Some index) × (picks self.old h ≡ record { place = index; tick = m.tick; level = m.level } ∷ picks self.new h)) };
+        ensures { (h : Seen) (last : Option ℕ) → goes_with self.old h last
+            → IsAsked h last index total_count_to_index (T.number count_at_index)
+            → NoneBefore index (picks self.old h)
+            → MatchOption result (goes_with self.new h last × (picks self.new h ≡ picks self.old h)
+            × NoneBefore (index + 1) (picks self.old h))
+            (λ m. goes_with self.new h (Some index)
+            × (picks self.old h
+            ≡ record { place = index; tick = m.tick; level = m.level } ∷ picks self.new h)) };
 
     /// Whether more may come, once a bin was picked that is the last recorded one or comes after it.
     fn more(&mut self, index_to_pick: usize) -> bool
-        ensures kept { (h : Seen) (last : Option ℕ) → goes_with self.old h last → goes_with self.new h last × (picks self.new h ≡ picks self.old h) }
-        ensures end { (h : Seen) (last : Option ℕ) → goes_with self.old h last → IsAtEnd h last → result ≡ false → picks self.old h ≡ [] };
+        ensures kept { (h : Seen) (last : Option ℕ) → goes_with self.old h last
+            → goes_with self.new h last × (picks self.new h ≡ picks self.old h) }
+        ensures end { (h : Seen) (last : Option ℕ) → goes_with self.old h last → IsAtEnd h last
+            → result ≡ false → picks self.old h ≡ [] };
 
     /// Whether each bin that is picked holds samples, so that no other need be asked.
     fn skips_empty(&self) -> bool
-        ensures { (h : Seen) (last : Option ℕ) → goes_with self.now h last → IsTrue result → AllFilled h (picks self.now h) }
+        ensures { (h : Seen) (last : Option ℕ) → goes_with self.now h last → IsTrue result
+            → AllFilled h (picks self.now h) }
     {
         false
     }
@@ -170,8 +178,10 @@ fn has_ended<T: Counter, P: PickyIterator<T>>(
     last: usize,
     index: usize,
 ) -> bool
-    ensures kept { (h : Seen) (picked : Option ℕ) → P.goes_with picker.old h picked → P.goes_with picker.new h picked × (P.picks picker.new h ≡ P.picks picker.old h) }
-    ensures end { (h : Seen) → P.goes_with picker.old h last_picked_index → last ≡ h.last → IsTrue result → P.picks picker.old h ≡ [] }
+    ensures kept { (h : Seen) (picked : Option ℕ) → P.goes_with picker.old h picked
+        → P.goes_with picker.new h picked × (P.picks picker.new h ≡ P.picks picker.old h) }
+    ensures end { (h : Seen) → P.goes_with picker.old h last_picked_index → last ≡ h.last
+        → IsTrue result → P.picks picker.old h ≡ [] }
 {
     match last_picked_index {
         Some(picked) if picked >= last => !picker.more(index),
@@ -192,7 +202,9 @@ fn next_asked<T: Counter, P: PickyIterator<T>>(
     ensures onward { index < result }
     ensures within { result ≤ bins_in bins.now }
     ensures empty { AreEmpty bins.now.numbers (index + 1) result }
-    ensures unasked { (last : Option ℕ) → P.goes_with picker.now bins.now last → NoneBefore (index + 1) (P.picks picker.now bins.now) → NoneBefore result (P.picks picker.now bins.now) }
+    ensures unasked { (last : Option ℕ) → P.goes_with picker.now bins.now last
+        → NoneBefore (index + 1) (P.picks picker.now bins.now)
+        → NoneBefore result (P.picks picker.now bins.now) }
 {
     if count_at_index.as_u64() == 0 && picker.skips_empty() {
         bins.next_filled(index + 1)
@@ -212,7 +224,8 @@ fn value_at<T: Counter>(
 ) -> IterationValue<T>
     requires { index < bins_in bins.now }
     ensures { let share : Ratio = record { num = total; den = bins.now.total } in
-        result ≡ record { value = unwrap_or picked.level (top_in bins.now index); quantile = share; tick = unwrap_or picked.tick share; count = T.number count_at_index; since = since } }
+        result ≡ record { value = unwrap_or picked.level
+        (top_in bins.now index); quantile = share; tick = unwrap_or picked.tick share; count = T.number count_at_index; since = since } }
 {
     let quantile = Fraction {
         num: u128::from(total),

@@ -51,7 +51,8 @@ impl Tick {
 
     /// How many of them are after the tick.
     fn behind(&self) -> u128
-        ensures value { (tick_of self.now.per_half self.now.number).num + result ≡ (tick_of self.now.per_half self.now.number).den }
+        ensures value { (tick_of self.now.per_half self.now.number).num + result
+            ≡ (tick_of self.now.per_half self.now.number).den }
         ensures few { result < 2 ^ 33 }
     {
         2 * u128::from(self.per_half) - u128::from(self.step)
@@ -168,7 +169,8 @@ impl<'a, T: Counter> Iter<'a, T> {
         ticks_per_half_distance: u32,
     ) -> HistogramIterator<'a, T, Iter<'a, T>>
         requires { 1 ≤ ticks_per_half_distance }
-        ensures { result ≡ items_of (H.seen histogram.now) (quantile_picks (H.seen histogram.now) ticks_per_half_distance) }
+        ensures { result ≡ items_of (H.seen histogram.now)
+            (quantile_picks (H.seen histogram.now) ticks_per_half_distance) }
     {
         let bins = histogram.binned();
         let picker = Iter {

@@ -1,5 +1,5 @@
 -- The samples that a histogram stands for.
-use Rattle.std.specs.Prelude.{◌≡◌, ◌==◌, ℕ, ◌^◌, ◌<◌, ◌≤◌, List, length, slice_index, count_by, All}
+use Rattle.std.specs.Prelude.{◌≡◌, ◌==◌, ℕ, ◌^◌, ◌<◌, ◌≤◌, List, ◌++◌, length, slice_index, count_by, All}
 use Rattle.hdr_base.specs.Classes.{Grain, bin_of}
 use Rattle.hdr_model.specs.Plain.{Plain, grain, reach}
 
@@ -17,3 +17,7 @@ pub record StandsFor (h : Plain) (S : List ℕ) : Type 0 where
 pub record Fits (greatest : ℕ) (g : Grain) (S : List ℕ) : Type 0 where
   pub in_all : length S < 2 ^ 64
   pub in_classes : (i : ℕ) → in_class g i S ≤ greatest
+
+-- of a histogram k that was made of h: where these samples fit beside those that h stands for, k stands for all of them
+abbrev pub GainsSamples : ℕ → Plain → Plain → List ℕ → Type 0
+GainsSamples greatest h k L = (S : List ℕ) → StandsFor h S → Fits greatest (grain h) (S ++ L) → StandsFor k (S ++ L)

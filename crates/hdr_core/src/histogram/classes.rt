@@ -24,7 +24,8 @@ impl<T: Counter> Histogram<T> {
 
     /// The lowest value of the next class, or `u64::MAX` where there is none.
     pub fn next_non_equivalent(&self, value: u64) -> u64
-        ensures { result ≡ min (lowest_of (grain self.now) value + width_of (grain self.now) value) (2 ^ 64 - 1) }
+        ensures { result ≡ min (lowest_of (grain self.now) value + width_of (grain self.now) value)
+            (2 ^ 64 - 1) }
     {
         let scale = self.scale;
         scale.lowest(value).saturating_add(scale.width(value))

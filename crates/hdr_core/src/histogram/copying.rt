@@ -18,7 +18,9 @@ impl<T: Counter> Histogram<T> {
         alloc: Global,
         source: &Histogram<F>,
     ) -> Result<Histogram<T>, CreationError>
-        ensures made { MatchResult result (λ h. h ≡ empty_plain source.now.low source.now.high source.now.sigfig source.now.auto_resize) (λ e. e ≡ OutOfMemory) }
+        ensures made { MatchResult result (λ h. h
+            ≡ empty_plain source.now.low source.now.high source.now.sigfig source.now.auto_resize)
+            (λ e. e ≡ OutOfMemory) }
         ensures source { IsPlain F.greatest source.now }
     {
         let scale = source.scale;
@@ -48,7 +50,8 @@ impl<T: Counter> Histogram<T> {
 
     /// An empty histogram of the same bounds, to which this one is added with correction. Refused for memory alone.
     pub fn clone_correct(&self, interval: u64) -> Result<Histogram<T>, CreationError>
-        ensures { MatchResult result (λ h. h ≡ after_add_correct T.greatest (empty_plain self.now.low self.now.high self.now.sigfig self.now.auto_resize) self.now interval) (λ e. e ≡ OutOfMemory) }
+        ensures { MatchResult result (λ h. h ≡ after_add_correct T.greatest
+            (empty_plain self.now.low self.now.high self.now.sigfig self.now.auto_resize) self.now interval) (λ e. e ≡ OutOfMemory) }
     {
         let mut copy = Histogram::new_from(self.counts.allocator(), self)?;
         copy.correct_classes(self, interval);

@@ -4,7 +4,7 @@ ghost use Rattle.std.specs.Prelude.{◌≡◌, ℕ, List, ◌∷◌, ◌++◌, �
 ghost use Rattle.hdr_base.specs.Classes.{bucket, reach_of};
 ghost use Rattle.hdr_model.specs.Plain.{grain, reach};
 ghost use Rattle.hdr_model.specs.Recording.{after_add_to_bin, after_records, samples_of, high_with};
-ghost use Rattle.hdr_model.specs.Samples.{StandsFor, Fits};
+ghost use Rattle.hdr_model.specs.Samples.{GainsSamples};
 ghost use Rattle.hdr_model.specs.Refusals.{HasRoom, RefusesRecord};
 ghost use Rattle.hdr_model.specs.Correction.{missing, each_times, after_correct, classes_held, down_to};
 
@@ -16,12 +16,13 @@ impl<T: Counter> Histogram<T> {
     /// Records a value once, and each value that was missed while it lasted.
     pub fn record_correct(&mut self, value: u64, interval: u64) -> Result<(), RecordError>
         ensures ok { OnOk result (self.new ≡ after_correct T.greatest self.old value 1 interval) }
-        ensures samples { OnOk result ((S : List ℕ) → StandsFor self.old S
-            → Fits T.greatest (grain self.old) (S ++ samples_of (each_times 1 (value ∷ missing value interval)))
-            → StandsFor self.new (S ++ samples_of (each_times 1 (value ∷ missing value interval)))) }
-        ensures high { OnOk result (self.new.high ≡ high_with (grain self.old) self.old.high value (reach_of (grain self.old) value)) }
+        ensures samples { OnOk result (GainsSamples T.greatest self.old self.new
+            (samples_of (each_times 1 (value ∷ missing value interval)))) }
+        ensures high { OnOk result (self.new.high ≡ high_with (grain self.old) self.old.high value
+            (reach_of (grain self.old) value)) }
         ensures can { OnOk result (HasRoom self.old value) }
-        ensures refused { IfErr result (λ e. RefusesRecord self.old value e × (self.new ≡ self.old)) }
+        ensures refused { IfErr result (λ e. RefusesRecord self.old value e
+            × (self.new ≡ self.old)) }
     {
         self.record_n_correct(value, T::one(), interval)
     }
@@ -34,13 +35,15 @@ impl<T: Counter> Histogram<T> {
         count: T,
         interval: u64,
     ) -> Result<(), RecordError>
-        ensures ok { OnOk result (self.new ≡ after_correct T.greatest self.old value (T.number count) interval) }
-        ensures samples { OnOk result ((S : List ℕ) → StandsFor self.old S
-            → Fits T.greatest (grain self.old) (S ++ samples_of (each_times (T.number count) (value ∷ missing value interval)))
-            → StandsFor self.new (S ++ samples_of (each_times (T.number count) (value ∷ missing value interval)))) }
-        ensures high { OnOk result (self.new.high ≡ high_with (grain self.old) self.old.high value (reach_of (grain self.old) value)) }
+        ensures ok { OnOk result (self.new ≡ after_correct T.greatest self.old value
+            (T.number count) interval) }
+        ensures samples { OnOk result (GainsSamples T.greatest self.old self.new
+            (samples_of (each_times (T.number count) (value ∷ missing value interval)))) }
+        ensures high { OnOk result (self.new.high ≡ high_with (grain self.old) self.old.high value
+            (reach_of (grain self.old) value)) }
         ensures can { OnOk result (HasRoom self.old value) }
-        ensures refused { IfErr result (λ e. RefusesRecord self.old value e × (self.new ≡ self.old)) }
+        ensures refused { IfErr result (λ e. RefusesRecord self.old value e
+            × (self.new ≡ self.old)) }
     {
         self.record_n_correct_counted(value, count, interval, &mut Ticks::new())
     }
@@ -55,15 +58,18 @@ impl<T: Counter> Histogram<T> {
         ticks: &mut Ticks,
     ) -> Result<(), RecordError>
         requires { ticks.old ≤ 2 ^ 63 }
-        ensures ok { OnOk result (self.new ≡ after_correct T.greatest self.old value (T.number count) interval) }
-        ensures ticks { OnOk result (ticks.new ≡ ticks.old + classes_held (grain self.new) (length self.new.counts) (missing value interval)) }
+        ensures ok { OnOk result (self.new ≡ after_correct T.greatest self.old value
+            (T.number count) interval) }
+        ensures ticks { OnOk result (ticks.new ≡ ticks.old + classes_held (grain self.new)
+            (length self.new.counts) (missing value interval)) }
         ensures at_most_bins { OnOk result (ticks.new ≤ ticks.old + length self.new.counts) }
-        ensures samples { OnOk result ((S : List ℕ) → StandsFor self.old S
-            → Fits T.greatest (grain self.old) (S ++ samples_of (each_times (T.number count) (value ∷ missing value interval)))
-            → StandsFor self.new (S ++ samples_of (each_times (T.number count) (value ∷ missing value interval)))) }
-        ensures high { OnOk result (self.new.high ≡ high_with (grain self.old) self.old.high value (reach_of (grain self.old) value)) }
+        ensures samples { OnOk result (GainsSamples T.greatest self.old self.new
+            (samples_of (each_times (T.number count) (value ∷ missing value interval)))) }
+        ensures high { OnOk result (self.new.high ≡ high_with (grain self.old) self.old.high value
+            (reach_of (grain self.old) value)) }
         ensures can { OnOk result (HasRoom self.old value) }
-        ensures refused { IfErr result (λ e. RefusesRecord self.old value e × (self.new ≡ self.old) × (ticks.new ≡ ticks.old)) }
+        ensures refused { IfErr result (λ e. RefusesRecord self.old value e × (self.new ≡ self.old)
+            × (ticks.new ≡ ticks.old)) }
     {
         self.record_n(value, count)?;
         if interval > 0 {
@@ -82,10 +88,12 @@ impl<T: Counter> Histogram<T> {
         requires step { 0 < interval }
         requires within { first ≤ reach self.old }
         requires room { ticks.old ≤ 2 ^ 63 }
-        ensures state { self.new ≡ after_records T.greatest self.old (each_times count (down_to first interval)) }
-        ensures ticks { ticks.new ≡ ticks.old + classes_held (grain self.old) (length self.old.counts) (down_to first interval) }
-        ensures samples { (S : List ℕ) → StandsFor self.old S → Fits T.greatest (grain self.old) (S ++ samples_of (each_times count (down_to first interval)))
-            → StandsFor self.new (S ++ samples_of (each_times count (down_to first interval))) }
+        ensures state { self.new ≡ after_records T.greatest self.old
+            (each_times count (down_to first interval)) }
+        ensures ticks { ticks.new ≡ ticks.old + classes_held (grain self.old)
+            (length self.old.counts) (down_to first interval) }
+        ensures samples { GainsSamples T.greatest self.old self.new
+            (samples_of (each_times count (down_to first interval))) }
         ensures same_classes { grain self.new ≡ grain self.old }
         ensures same_bins { length self.new.counts ≡ length self.old.counts }
     {
@@ -109,13 +117,19 @@ impl<T: Counter> Histogram<T> {
     ) -> u64
         requires step { 0 < interval }
         requires some { (interval ≤ start) × (start ≤ first) }
-        requires one_bucket { (x : ℕ) → start ≤ x → x ≤ first → bucket (grain self.old) x ≡ bucket (grain self.old) first }
+        requires one_bucket { (x : ℕ) → start ≤ x → x ≤ first
+            → bucket (grain self.old) x ≡ bucket (grain self.old) first }
         requires within { first ≤ reach self.old }
-        requires room { ticks.old + classes_held (grain self.old) (length self.old.counts) (down_to first interval) < 2 ^ 64 }
+        requires room { ticks.old + classes_held (grain self.old) (length self.old.counts)
+            (down_to first interval) < 2 ^ 64 }
         ensures less { result < first }
-        ensures state { after_records T.greatest self.new (each_times count (down_to result interval)) ≡ after_records T.greatest self.old (each_times count (down_to first interval)) }
-        ensures ticks { ticks.new + classes_held (grain self.old) (length self.old.counts) (down_to result interval)
-            ≡ ticks.old + classes_held (grain self.old) (length self.old.counts) (down_to first interval) }
+        ensures state { after_records T.greatest self.new
+            (each_times count (down_to result interval)) ≡ after_records T.greatest self.old
+            (each_times count (down_to first interval)) }
+        ensures ticks { ticks.new + classes_held (grain self.old) (length self.old.counts)
+            (down_to result interval)
+            ≡ ticks.old + classes_held (grain self.old) (length self.old.counts)
+            (down_to first interval) }
         ensures same_classes { grain self.new ≡ grain self.old }
         ensures same_bins { length self.new.counts ≡ length self.old.counts }
         ensures same_reach { reach self.new ≡ reach self.old }

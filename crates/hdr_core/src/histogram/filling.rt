@@ -47,7 +47,8 @@ impl<T: Counter> Filling<T> {
         sigfig: u8,
         sets: usize,
     ) -> Result<Filling<T>, CreationError>
-        ensures { MatchResult result (λ f. (f ≡ open_of (empty_plain low high sigfig false)) × IsBounds low high sigfig) (RefusesBounds low high sigfig) }
+        ensures { MatchResult result (λ f. (f ≡ open_of (empty_plain low high sigfig false))
+            × IsBounds low high sigfig) (RefusesBounds low high sigfig) }
     {
         let scale = scale_for(low, high, sigfig)?;
         let blocks = scale.buckets(high) + 1;
@@ -77,7 +78,8 @@ impl<T: Counter> Filling<T> {
     #[inline(always)]
     pub fn set(&mut self, bin: usize, count: T)
         requires { bin < length self.old.counts }
-        ensures { self.new ≡ record self.old { counts = slice_set self.old.counts bin (T.number count) } }
+        ensures { self.new ≡ record self.old { counts = slice_set self.old.counts bin
+            (T.number count) } }
     {
         self.counts.set(bin, count);
     }
@@ -86,7 +88,8 @@ impl<T: Counter> Filling<T> {
     #[inline(always)]
     pub fn set_two(&mut self, bin: usize, first: T, second: T)
         requires { bin + 1 < length self.old.counts }
-        ensures { self.new ≡ record self.old { counts = slice_set (slice_set self.old.counts bin (T.number first)) (bin + 1) (T.number second) } }
+        ensures { self.new ≡ record self.old { counts = slice_set
+            (slice_set self.old.counts bin (T.number first)) (bin + 1) (T.number second) } }
     {
         self.counts.set_two(bin, first, second);
     }

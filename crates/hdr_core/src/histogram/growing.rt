@@ -17,7 +17,8 @@ impl<T: Counter> Histogram<T> {
         ensures ok { OnOk result (self.new ≡ with_bins_for self.old value) }
         ensures kept { IsPlain T.greatest self.old }
         ensures can { OnOk result (HasRoom self.old value) }
-        ensures refused { IfErr result (λ e. RefusesRecord self.old value e × (self.new ≡ self.old)) }
+        ensures refused { IfErr result (λ e. RefusesRecord self.old value e
+            × (self.new ≡ self.old)) }
     {
         if value <= self.reach() {
             return Ok(());
@@ -53,7 +54,8 @@ impl<T: Counter> Histogram<T> {
     /// Makes bins up to the reach of a value past them, which becomes `high`. Refused for memory, it changes nothing.
     fn grow(&mut self, high: u64) -> Result<(), AllocError>
         requires { reach self.old < high }
-        ensures { MatchResult result (λ _. self.new ≡ with_bins_to self.old high) (λ _. self.new ≡ self.old) }
+        ensures { MatchResult result (λ _. self.new ≡ with_bins_to self.old high)
+            (λ _. self.new ≡ self.old) }
     {
         self.counts.grow(self.scale.buckets(high) + 1)?;
         self.high = high;

@@ -55,7 +55,8 @@ impl<T: Counter> Histogram<T> {
     pub fn iter_log(&self, start: u64, base: u64) -> HistogramIterator<'_, T, log::Iter<'_, T>>
         requires some { 1 ≤ start }
         requires wide { 2 ≤ base }
-        ensures { result ≡ items_of (bins_seen self.now) (log_picks (bins_seen self.now) start base) }
+        ensures { result ≡ items_of (bins_seen self.now)
+            (log_picks (bins_seen self.now) start base) }
     {
         log::Iter::new(self, start, base)
     }
@@ -67,7 +68,8 @@ impl<T: Counter> Histogram<T> {
         ticks_per_half_distance: u32,
     ) -> HistogramIterator<'_, T, quantile::Iter<'_, T>>
         requires { 1 ≤ ticks_per_half_distance }
-        ensures { result ≡ items_of (bins_seen self.now) (quantile_picks (bins_seen self.now) ticks_per_half_distance) }
+        ensures { result ≡ items_of (bins_seen self.now)
+            (quantile_picks (bins_seen self.now) ticks_per_half_distance) }
     {
         quantile::Iter::new(self, ticks_per_half_distance)
     }

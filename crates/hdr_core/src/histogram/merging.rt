@@ -6,7 +6,7 @@ ghost use Rattle.hdr_model.specs.Plain.{IsPlain, grain, reach, max_of};
 ghost use Rattle.hdr_model.specs.Recording.{after_record, after_records, after_reset, high_with};
 ghost use Rattle.hdr_model.specs.Merging.{classes_from, top_class, same_bins, after_add_same_bins, after_add_within, with_room, after_add};
 ghost use Rattle.hdr_model.specs.Refusals.{LeavesSet, HasRoom, RefusesAddition, RefusesRoom};
-ghost use Rattle.hdr_model.specs.Samples.{StandsFor, Fits};
+ghost use Rattle.hdr_model.specs.Samples.{StandsFor, GainsSamples};
 
 use super::Histogram;
 use hdr_base::Counter;
@@ -20,13 +20,16 @@ impl<T: Counter> Histogram<T> {
     /// the count 0.
     pub fn add(&mut self, source: &Histogram<T>) -> Result<(), AdditionError>
         ensures ok { OnOk result (self.new ≡ after_add T.greatest self.old source.now) }
-        ensures samples { OnOk result ((S L : List ℕ) → StandsFor self.old S → StandsFor source.now L → IsFiner (grain source.now) (grain self.old)
-            → Fits T.greatest (grain self.old) (S ++ L) → StandsFor self.new (S ++ L)) }
+        ensures samples { OnOk result ((L : List ℕ) → StandsFor source.now L → IsFiner
+            (grain source.now) (grain self.old)
+            → GainsSamples T.greatest self.old self.new L) }
         ensures same_classes { grain self.new ≡ grain self.old }
         ensures high { OnOk result (self.new.high
-            ≡ (if source.now.total == 0 then self.old.high else high_with (grain self.old) self.old.high (max_of source.now) (max_of source.now))) }
+            ≡ (if source.now.total == 0 then self.old.high else high_with
+            (grain self.old) self.old.high (max_of source.now) (max_of source.now))) }
         ensures can { OnOk result ((source.now.total ≡ 0) ⊎ HasRoom self.old (max_of source.now)) }
-        ensures refused { IfErr result (λ e. RefusesAddition self.old source.now e × (self.new ≡ self.old)) }
+        ensures refused { IfErr result (λ e. RefusesAddition self.old source.now e
+            × (self.new ≡ self.old)) }
     {
         self.add_from(source)
     }
@@ -35,13 +38,16 @@ impl<T: Counter> Histogram<T> {
     /// this histogram's greatest counter.
     pub fn add_from<F: Counter>(&mut self, source: &Histogram<F>) -> Result<(), AdditionError>
         ensures ok { OnOk result (self.new ≡ after_add T.greatest self.old source.now) }
-        ensures samples { OnOk result ((S L : List ℕ) → StandsFor self.old S → StandsFor source.now L → IsFiner (grain source.now) (grain self.old)
-            → Fits T.greatest (grain self.old) (S ++ L) → StandsFor self.new (S ++ L)) }
+        ensures samples { OnOk result ((L : List ℕ) → StandsFor source.now L → IsFiner
+            (grain source.now) (grain self.old)
+            → GainsSamples T.greatest self.old self.new L) }
         ensures same_classes { grain self.new ≡ grain self.old }
         ensures high { OnOk result (self.new.high
-            ≡ (if source.now.total == 0 then self.old.high else high_with (grain self.old) self.old.high (max_of source.now) (max_of source.now))) }
+            ≡ (if source.now.total == 0 then self.old.high else high_with
+            (grain self.old) self.old.high (max_of source.now) (max_of source.now))) }
         ensures can { OnOk result ((source.now.total ≡ 0) ⊎ HasRoom self.old (max_of source.now)) }
-        ensures refused { IfErr result (λ e. RefusesAddition self.old source.now e × (self.new ≡ self.old)) }
+        ensures refused { IfErr result (λ e. RefusesAddition self.old source.now e
+            × (self.new ≡ self.old)) }
     {
         if source.total == 0 {
             return Ok(());
@@ -54,9 +60,11 @@ impl<T: Counter> Histogram<T> {
     /// Forgets what was recorded and adds what another histogram counted. Refused for range it leaves the histogram
     /// reset, refused for memory unchanged.
     pub fn set_to(&mut self, source: &Histogram<T>) -> Result<(), AdditionError>
-        ensures ok { OnOk result (self.new ≡ after_add T.greatest (after_reset self.old) source.now) }
+        ensures ok { OnOk result (self.new ≡ after_add T.greatest
+            (after_reset self.old) source.now) }
         ensures can { OnOk result ((source.now.total ≡ 0) ⊎ HasRoom self.old (max_of source.now)) }
-        ensures refused { IfErr result (λ e. RefusesAddition self.old source.now e × LeavesSet self.old self.new e) }
+        ensures refused { IfErr result (λ e. RefusesAddition self.old source.now e
+            × LeavesSet self.old self.new e) }
     {
         if source.total == 0 {
             self.reset();
@@ -114,7 +122,9 @@ impl<T: Counter> Histogram<T> {
     /// Records the classes of a source, each at its lowest value.
     fn record_classes<F: Counter>(&mut self, source: &Histogram<F>)
         requires { max_of source.now ≤ reach self.old }
-        ensures { self.new ≡ after_records T.greatest self.old (classes_from (grain source.now) 0 source.now.counts ++ top_class (grain source.now) source.now.top_mark) }
+        ensures { self.new ≡ after_records T.greatest self.old
+            (classes_from (grain source.now) 0 source.now.counts ++ top_class
+            (grain source.now) source.now.top_mark) }
     {
         for bin in 0..source.counts.len() {
             let count = source.counts.get(bin).as_u64();

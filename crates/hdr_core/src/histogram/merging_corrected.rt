@@ -4,7 +4,7 @@ ghost use Rattle.std.specs.Prelude.{◌≡◌, ℕ, List, ◌∷◌, ◌++◌, �
 ghost use Rattle.hdr_base.specs.Classes.{reach_of};
 ghost use Rattle.hdr_model.specs.Plain.{IsPlain, grain, reach};
 ghost use Rattle.hdr_model.specs.Recording.{after_records, with_bins_for, after_reset, high_with};
-ghost use Rattle.hdr_model.specs.Samples.{StandsFor, Fits};
+ghost use Rattle.hdr_model.specs.Samples.{StandsFor, GainsSamples};
 ghost use Rattle.hdr_model.specs.Refusals.{HasRoom, RefusesRecord, RefusesCorrected, LeavesCorrected};
 ghost use Rattle.hdr_model.specs.Correction.{missing, each_times};
 ghost use Rattle.hdr_model.specs.Merging.{corrections_from, highest_top, after_add_correct, corrected_samples};
@@ -18,14 +18,17 @@ impl<T: Counter> Histogram<T> {
     /// the greatest value of its last nonempty class is past the reach the bins grow to it, or the call is refused; a
     /// refusal changes nothing.
     pub fn add_correct(&mut self, source: &Histogram<T>, interval: u64) -> Result<(), RecordError>
-        ensures ok { OnOk result (self.new ≡ after_add_correct T.greatest self.old source.now interval) }
-        ensures samples { OnOk result ((S L : List ℕ) → StandsFor self.old S → StandsFor source.now L
-            → Fits T.greatest (grain self.old) (S ++ corrected_samples (grain source.now) interval L)
-            → StandsFor self.new (S ++ corrected_samples (grain source.now) interval L)) }
+        ensures ok { OnOk result (self.new
+            ≡ after_add_correct T.greatest self.old source.now interval) }
+        ensures samples { OnOk result ((L : List ℕ) → StandsFor source.now L
+            → GainsSamples T.greatest self.old self.new
+            (corrected_samples (grain source.now) interval L)) }
         ensures same_classes { grain self.new ≡ grain self.old }
-        ensures high { OnOk result (self.new.high ≡ high_with (grain self.old) self.old.high (highest_top source.now) (reach_of (grain self.old) (highest_top source.now))) }
+        ensures high { OnOk result (self.new.high ≡ high_with (grain self.old) self.old.high
+            (highest_top source.now) (reach_of (grain self.old) (highest_top source.now))) }
         ensures can { OnOk result (HasRoom self.old (highest_top source.now)) }
-        ensures refused { IfErr result (λ e. RefusesCorrected self.old source.now e × (self.new ≡ self.old)) }
+        ensures refused { IfErr result (λ e. RefusesCorrected self.old source.now e
+            × (self.new ≡ self.old)) }
     {
         self.add_correct_from(source, interval)
     }
@@ -37,14 +40,17 @@ impl<T: Counter> Histogram<T> {
         source: &Histogram<F>,
         interval: u64,
     ) -> Result<(), RecordError>
-        ensures ok { OnOk result (self.new ≡ after_add_correct T.greatest self.old source.now interval) }
-        ensures samples { OnOk result ((S L : List ℕ) → StandsFor self.old S → StandsFor source.now L
-            → Fits T.greatest (grain self.old) (S ++ corrected_samples (grain source.now) interval L)
-            → StandsFor self.new (S ++ corrected_samples (grain source.now) interval L)) }
+        ensures ok { OnOk result (self.new
+            ≡ after_add_correct T.greatest self.old source.now interval) }
+        ensures samples { OnOk result ((L : List ℕ) → StandsFor source.now L
+            → GainsSamples T.greatest self.old self.new
+            (corrected_samples (grain source.now) interval L)) }
         ensures same_classes { grain self.new ≡ grain self.old }
-        ensures high { OnOk result (self.new.high ≡ high_with (grain self.old) self.old.high (highest_top source.now) (reach_of (grain self.old) (highest_top source.now))) }
+        ensures high { OnOk result (self.new.high ≡ high_with (grain self.old) self.old.high
+            (highest_top source.now) (reach_of (grain self.old) (highest_top source.now))) }
         ensures can { OnOk result (HasRoom self.old (highest_top source.now)) }
-        ensures refused { IfErr result (λ e. RefusesCorrected self.old source.now e × (self.new ≡ self.old)) }
+        ensures refused { IfErr result (λ e. RefusesCorrected self.old source.now e
+            × (self.new ≡ self.old)) }
     {
         self.cover(source.highest_top())?;
         self.correct_classes(source, interval);
@@ -58,9 +64,11 @@ impl<T: Counter> Histogram<T> {
         source: &Histogram<T>,
         interval: u64,
     ) -> Result<(), RecordError>
-        ensures ok { OnOk result (self.new ≡ after_add_correct T.greatest (after_reset self.old) source.now interval) }
+        ensures ok { OnOk result (self.new ≡ after_add_correct T.greatest
+            (after_reset self.old) source.now interval) }
         ensures can { OnOk result (HasRoom self.old (highest_top source.now)) }
-        ensures refused { IfErr result (λ e. RefusesCorrected self.old source.now e × LeavesCorrected self.old self.new e) }
+        ensures refused { IfErr result (λ e. RefusesCorrected self.old source.now e
+            × LeavesCorrected self.old self.new e) }
     {
         match self.cover(source.highest_top()) {
             Ok(()) => {
@@ -89,7 +97,8 @@ impl<T: Counter> Histogram<T> {
     /// Corrects each nonempty class of a source whose last one has a bin.
     pub(super) fn correct_classes<F: Counter>(&mut self, source: &Histogram<F>, interval: u64)
         requires { highest_top source.now ≤ reach self.old }
-        ensures made { self.new ≡ after_records T.greatest self.old (corrections_from (grain source.now) interval 0 source.now.counts) }
+        ensures made { self.new ≡ after_records T.greatest self.old
+            (corrections_from (grain source.now) interval 0 source.now.counts) }
         ensures source { IsPlain F.greatest source.now }
     {
         for bin in 0..source.counts.len() {
@@ -103,7 +112,8 @@ impl<T: Counter> Histogram<T> {
     /// Records a value that has a bin, and what it hides.
     fn correct_inside(&mut self, value: u64, count: u64, interval: u64)
         requires { value ≤ reach self.old }
-        ensures { self.new ≡ after_records T.greatest self.old (each_times count (value ∷ missing value interval)) }
+        ensures { self.new ≡ after_records T.greatest self.old
+            (each_times count (value ∷ missing value interval)) }
     {
         self.record_inside(value, count);
         if interval > 0 {

@@ -30,8 +30,10 @@ impl<T: Counter> Histogram<T> {
         ensures value { result ≡ quantile_of self.now quantile }
         ensures ranked { (S : List ℕ) → StandsFor self.now S → 0 < length S → 0 < quantile.num
             → IsTopNear self.now (ranked_sample quantile S) result }
-        ensures looks { ticks.new ≡ ticks.old + looks (block_of self.now) (length self.now.counts) (first_reaching self.now.counts (rank quantile self.now.total)) }
-        ensures at_most { ticks.new ≤ ticks.old + (bucket (grain self.now) self.now.high + 2 + block_of self.now) }
+        ensures looks { ticks.new ≡ ticks.old + looks (block_of self.now) (length self.now.counts)
+            (first_reaching self.now.counts (rank quantile self.now.total)) }
+        ensures at_most { ticks.new ≤ ticks.old +
+            (bucket (grain self.now) self.now.high + 2 + block_of self.now) }
     {
         let rank = rank_of(quantile.num(), u128::from(quantile.den()), self.total);
         let place = self.find(rank, ticks);
@@ -67,7 +69,8 @@ impl<T: Counter> Histogram<T> {
         requires room { ticks.old ≤ 2 ^ 63 }
         ensures place { result ≡ first_reaching self.now.counts rank }
         ensures within { IfSome result (λ i. i < length self.now.counts) }
-        ensures looks { ticks.new ≡ ticks.old + looks (block_of self.now) (length self.now.counts) result }
+        ensures looks { ticks.new ≡ ticks.old + looks (block_of self.now)
+            (length self.now.counts) result }
     {
         self.counts.find(rank, ticks)
     }
@@ -75,7 +78,8 @@ impl<T: Counter> Histogram<T> {
     /// What the first class that reaches a rank answers to a quantile of that numerator.
     pub(super) fn answer_found(&self, num: u64, rank: u64, place: Option<usize>) -> u64
         requires some { 1 ≤ rank }
-        requires first { MatchOption place (sum self.now.counts < rank) (IsFirstToReach self.now.counts rank) }
+        requires first { MatchOption place (sum self.now.counts < rank)
+            (IsFirstToReach self.now.counts rank) }
         ensures { result ≡ answer_at (grain self.now) num (first_reaching self.now.counts rank) }
     {
         self.answer(num, place)

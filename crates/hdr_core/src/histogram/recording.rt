@@ -4,7 +4,7 @@ ghost use Rattle.std.specs.Prelude.{◌≡◌, ℕ, List, ◌+◌, ◌-◌, ◌^
 ghost use Rattle.hdr_base.specs.Classes.{reach_of};
 ghost use Rattle.hdr_model.specs.Plain.{grain, reach};
 ghost use Rattle.hdr_model.specs.Recording.{after_add_to_bin, after_record, clamp_to_bins, after_clear, after_reset, high_with};
-ghost use Rattle.hdr_model.specs.Samples.{StandsFor, Fits};
+ghost use Rattle.hdr_model.specs.Samples.{GainsSamples};
 ghost use Rattle.hdr_model.specs.Refusals.{HasRoom, RefusesRecord};
 
 use super::Histogram;
@@ -17,11 +17,13 @@ impl<T: Counter> Histogram<T> {
     #[inline(always)]
     pub fn record(&mut self, value: u64) -> Result<(), RecordError>
         ensures ok { OnOk result (self.new ≡ after_record T.greatest self.old value 1) }
-        ensures samples { OnOk result ((S : List ℕ) → StandsFor self.old S
-            → Fits T.greatest (grain self.old) (S ++ replicate 1 value) → StandsFor self.new (S ++ replicate 1 value)) }
-        ensures high { OnOk result (self.new.high ≡ high_with (grain self.old) self.old.high value (reach_of (grain self.old) value)) }
+        ensures samples { OnOk result (GainsSamples T.greatest self.old self.new
+            (replicate 1 value)) }
+        ensures high { OnOk result (self.new.high ≡ high_with (grain self.old) self.old.high value
+            (reach_of (grain self.old) value)) }
         ensures can { OnOk result (HasRoom self.old value) }
-        ensures refused { IfErr result (λ e. RefusesRecord self.old value e × (self.new ≡ self.old)) }
+        ensures refused { IfErr result (λ e. RefusesRecord self.old value e
+            × (self.new ≡ self.old)) }
     {
         self.record_n(value, T::one())
     }
@@ -31,13 +33,15 @@ impl<T: Counter> Histogram<T> {
     /// then its reach becomes `high`. A refusal changes nothing, and lack of memory comes past the bins alone.
     #[inline(always)]
     pub fn record_n(&mut self, value: u64, count: T) -> Result<(), RecordError>
-        ensures ok { OnOk result (self.new ≡ after_record T.greatest self.old value (T.number count)) }
-        ensures samples { OnOk result ((S : List ℕ) → StandsFor self.old S
-            → Fits T.greatest (grain self.old) (S ++ replicate (T.number count) value)
-            → StandsFor self.new (S ++ replicate (T.number count) value)) }
-        ensures high { OnOk result (self.new.high ≡ high_with (grain self.old) self.old.high value (reach_of (grain self.old) value)) }
+        ensures ok { OnOk result (self.new ≡ after_record T.greatest self.old value
+            (T.number count)) }
+        ensures samples { OnOk result (GainsSamples T.greatest self.old self.new
+            (replicate (T.number count) value)) }
+        ensures high { OnOk result (self.new.high ≡ high_with (grain self.old) self.old.high value
+            (reach_of (grain self.old) value)) }
         ensures can { OnOk result (HasRoom self.old value) }
-        ensures refused { IfErr result (λ e. RefusesRecord self.old value e × (self.new ≡ self.old)) }
+        ensures refused { IfErr result (λ e. RefusesRecord self.old value e
+            × (self.new ≡ self.old)) }
     {
         match self.bin_of(value) {
             Some(bin) => {
@@ -53,9 +57,11 @@ impl<T: Counter> Histogram<T> {
     #[inline(never)]
     fn record_past(&mut self, value: u64, count: T) -> Result<(), RecordError>
         requires { reach self.old < value }
-        ensures ok { OnOk result (self.new ≡ after_record T.greatest self.old value (T.number count)) }
+        ensures ok { OnOk result (self.new ≡ after_record T.greatest self.old value
+            (T.number count)) }
         ensures can { OnOk result (self.old.auto_resize ≡ true) }
-        ensures refused { IfErr result (λ e. RefusesRecord self.old value e × (self.new ≡ self.old)) }
+        ensures refused { IfErr result (λ e. RefusesRecord self.old value e
+            × (self.new ≡ self.old)) }
     {
         self.cover(value)?;
         let bin = self.scale.bin(value);
@@ -65,10 +71,10 @@ impl<T: Counter> Histogram<T> {
 
     /// Records a value once, or `high` in its place where the value is past the bins.
     pub fn saturating_record(&mut self, value: u64)
-        ensures state { self.new ≡ after_record T.greatest self.old (clamp_to_bins self.old value) 1 }
-        ensures samples { (S : List ℕ) → StandsFor self.old S
-            → Fits T.greatest (grain self.old) (S ++ replicate 1 (clamp_to_bins self.old value))
-            → StandsFor self.new (S ++ replicate 1 (clamp_to_bins self.old value)) }
+        ensures state { self.new ≡ after_record T.greatest self.old
+            (clamp_to_bins self.old value) 1 }
+        ensures samples { GainsSamples T.greatest self.old self.new
+            (replicate 1 (clamp_to_bins self.old value)) }
     {
         self.saturating_record_n(value, T::one())
     }
@@ -76,10 +82,10 @@ impl<T: Counter> Histogram<T> {
     /// Records a value `count` times, or `high` in its place where the value is past the bins. It never grows, never
     /// fails and takes no memory.
     pub fn saturating_record_n(&mut self, value: u64, count: T)
-        ensures state { self.new ≡ after_record T.greatest self.old (clamp_to_bins self.old value) (T.number count) }
-        ensures samples { (S : List ℕ) → StandsFor self.old S
-            → Fits T.greatest (grain self.old) (S ++ replicate (T.number count) (clamp_to_bins self.old value))
-            → StandsFor self.new (S ++ replicate (T.number count) (clamp_to_bins self.old value)) }
+        ensures state { self.new ≡ after_record T.greatest self.old (clamp_to_bins self.old value)
+            (T.number count) }
+        ensures samples { GainsSamples T.greatest self.old self.new
+            (replicate (T.number count) (clamp_to_bins self.old value)) }
     {
         let value = self.clamped(value);
         let bin = self.scale.bin(value);

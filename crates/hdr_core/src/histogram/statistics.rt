@@ -23,7 +23,8 @@ impl<T: Counter> Histogram<T> {
     pub fn count_between(&self, low: u64, high: u64) -> u64
         ensures value { result ≡ min (sum_between self.now low high) (2 ^ 64 - 1) }
         ensures samples { (S : List ℕ) → StandsFor self.now S → low ≤ high → high ≤ reach self.now
-            → result ≡ samples_between (lowest_of (grain self.now) low) (top_of (grain self.now) high) S }
+            → result ≡ samples_between (lowest_of (grain self.now) low)
+            (top_of (grain self.now) high) S }
     {
         let from = self.held_bin(low);
         let to = self.held_bin(high);
@@ -43,7 +44,8 @@ impl<T: Counter> Histogram<T> {
     pub fn quantile_below(&self, value: u64) -> Fraction
         ensures value { result ≡ share_below self.now value }
         ensures samples { (S : List ℕ) → StandsFor self.now S → 0 < length S
-            → result ≡ record { num = samples_between 0 (top_of (grain self.now) value) S; den = length S } }
+            → result ≡ record { num = samples_between 0
+            (top_of (grain self.now) value) S; den = length S } }
         ensures fits { result.num < 2 ^ 64 }
     {
         if self.total == 0 {

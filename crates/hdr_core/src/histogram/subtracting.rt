@@ -24,7 +24,8 @@ impl<T: Counter> Histogram<T> {
         ensures none { other.now.total ≡ 0 → OnOk result (self.new ≡ self.old) }
         ensures ok { OnOk result (0 < other.now.total → IsDifference self.old other.now self.new) }
         ensures can { OnOk result (0 < other.now.total → max_of other.now ≤ reach self.old) }
-        ensures refused { IfErr result (λ e. RefusesSubtraction self.old other.now e × (self.new ≡ self.old)) }
+        ensures refused { IfErr result (λ e. RefusesSubtraction self.old other.now e
+            × (self.new ≡ self.old)) }
     {
         if other.total == 0 {
             return Ok(());
@@ -42,8 +43,12 @@ impl<T: Counter> Histogram<T> {
     /// Whether each bin holds what the classes of another histogram have there, each at its lowest value.
     fn holds(&self, other: &Histogram<T>) -> bool
         requires { max_of other.now ≤ reach self.now }
-        ensures yes { result ≡ true → (j : ℕ) → in_class (grain self.now) j (lowest_values other.now) ≤ slice_index self.now.counts j }
-        ensures no { result ≡ false → (j : ℕ) × (slice_index self.now.counts j < in_class (grain self.now) j (lowest_values other.now)) }
+        ensures yes { result ≡ true → (j : ℕ)
+            → in_class (grain self.now) j (lowest_values other.now)
+            ≤ slice_index self.now.counts j }
+        ensures no { result ≡ false → (j : ℕ)
+            × (slice_index self.now.counts j < in_class (grain self.now) j
+            (lowest_values other.now)) }
     {
         let mut at: usize = 0;
         let mut sum: u128 = 0;
@@ -74,7 +79,8 @@ impl<T: Counter> Histogram<T> {
 
     /// Takes out what another histogram holds, where each bin has enough.
     fn take_out(&mut self, other: &Histogram<T>)
-        requires { (j : ℕ) → in_class (grain self.old) j (lowest_values other.now) ≤ slice_index self.old.counts j }
+        requires { (j : ℕ) → in_class (grain self.old) j (lowest_values other.now)
+            ≤ slice_index self.old.counts j }
         ensures { IsDifference self.old other.now self.new }
     {
         take_each(&mut self.counts, self.scale, other);
@@ -85,12 +91,15 @@ impl<T: Counter> Histogram<T> {
 
 /// Takes out what the classes of a histogram hold, each at its lowest value.
 fn take_each<T: Counter>(counts: &mut Counts<T>, scale: Scale, other: &Histogram<T>)
-    requires enough { (j : ℕ) → in_class scale j (lowest_values other.now) ≤ slice_index counts.old.numbers j }
+    requires enough { (j : ℕ)
+        → in_class scale j (lowest_values other.now) ≤ slice_index counts.old.numbers j }
     requires fit { All (λ n. n ≤ T.greatest) counts.old.numbers }
     ensures block { counts.new.block ≡ counts.old.block }
     ensures bins { length counts.new.numbers ≡ length counts.old.numbers }
     ensures fit { All (λ n. n ≤ T.greatest) counts.new.numbers }
-    ensures numbers { (j : ℕ) → slice_index counts.new.numbers j + in_class scale j (lowest_values other.now) ≡ slice_index counts.old.numbers j }
+    ensures numbers { (j : ℕ)
+        → slice_index counts.new.numbers j + in_class scale j (lowest_values other.now)
+        ≡ slice_index counts.old.numbers j }
 {
     for bin in 0..other.counts.len() {
         let count = other.counts.get(bin);
@@ -105,7 +114,8 @@ fn take_each<T: Counter>(counts: &mut Counts<T>, scale: Scale, other: &Histogram
 fn take_from<T: Counter>(counts: &mut Counts<T>, target: usize, count: T)
     requires inside { target < length counts.old.numbers }
     requires enough { T.number count ≤ slice_index counts.old.numbers target }
-    ensures { counts.new ≡ record counts.old { numbers = slice_set counts.old.numbers target (slice_index counts.old.numbers target - T.number count) } }
+    ensures { counts.new ≡ record counts.old { numbers = slice_set counts.old.numbers target
+        (slice_index counts.old.numbers target - T.number count) } }
 {
     if let Some(rest) = counts.get(target).checked_sub(count) {
         counts.set(target, rest);

@@ -39,7 +39,8 @@ impl<T: Counter> Histogram<T> {
     /// first that is below the one before it. Where there are no samples, 0 for each of them, in any order.
     pub fn value_at_quantiles<'a>(&'a self, quantiles: &'a [Quantile]) -> Values<'a, T>
         ensures value { result ≡ quantiles_of self.now quantiles.now }
-        ensures ranked { (S : List ℕ) → StandsFor self.now S → 0 < length S → AreTopsNear self.now S (asked_from self.now nothing_of_it quantiles.now) result }
+        ensures ranked { (S : List ℕ) → StandsFor self.now S → 0 < length S
+            → AreTopsNear self.now S (asked_from self.now nothing_of_it quantiles.now) result }
     {
         self.values(quantiles, 1)
     }
@@ -47,7 +48,9 @@ impl<T: Counter> Histogram<T> {
     /// The answers of `value_at_percentile` to percentiles, likewise.
     pub fn value_at_percentiles<'a>(&'a self, percentiles: &'a [Quantile]) -> Values<'a, T>
         ensures value { result ≡ quantiles_of self.now (map hundredth percentiles.now) }
-        ensures ranked { (S : List ℕ) → StandsFor self.now S → 0 < length S → AreTopsNear self.now S (asked_from self.now nothing_of_it (map hundredth percentiles.now)) result }
+        ensures ranked { (S : List ℕ) → StandsFor self.now S → 0 < length S
+            → AreTopsNear self.now S (asked_from self.now nothing_of_it
+            (map hundredth percentiles.now)) result }
     {
         self.values(percentiles, 100)
     }
@@ -57,7 +60,9 @@ impl<T: Counter> Histogram<T> {
         requires some { 0 < whole }
         requires few { whole ≤ 100 }
         ensures value { result ≡ quantiles_of self.now (map (per whole) shares.now) }
-        ensures ranked { (S : List ℕ) → StandsFor self.now S → 0 < length S → AreTopsNear self.now S (asked_from self.now nothing_of_it (map (per whole) shares.now)) result }
+        ensures ranked { (S : List ℕ) → StandsFor self.now S → 0 < length S
+            → AreTopsNear self.now S (asked_from self.now nothing_of_it
+            (map (per whole) shares.now)) result }
     {
         Values {
             histogram: self,

@@ -19,7 +19,7 @@ returns-clause-ok g c =
     c.correct_classes.ensures.made ∙ ap (λ w. after_records g.T.Counter.greatest w (corrections_from (grain s) c.args.interval 0 s.counts)) new
 
 pub returns-clause-samples : goal.returns-clause-samples
-returns-clause-samples g c = λ S L stands source fits.
+returns-clause-samples g c = λ L source S stands fits.
     let s = c.args.source.now in
     subst (λ w. StandsFor w (S ++ corrected_samples (grain s) c.args.interval L)) (sym (returns-clause-ok g c))
     (StandsFor-merged_corrected g.T.Counter.greatest g.F.Counter.greatest c.args.self.now s c.args.interval S L g.met.T.Counter.one_fits c.cover.ensures.kept c.correct_classes.ensures.source

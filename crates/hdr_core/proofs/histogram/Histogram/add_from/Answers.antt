@@ -10,7 +10,7 @@ pub returns-then-source-eq0-clause-ok : goal.returns-then-source-eq0-clause-ok
 returns-then-source-eq0-clause-ok g c = sym (merged-none g.T.Counter.greatest c.args.self.now c.args.source.now (sym (ap (λ (p : Plain). p.total) c.source.view_is) ∙ c.if-source-eq0.true))
 
 pub returns-then-source-eq0-clause-samples : goal.returns-then-source-eq0-clause-samples
-returns-then-source-eq0-clause-samples g c = λ S L stands source fine fits.
+returns-then-source-eq0-clause-samples g c = λ L source fine S stands fits.
     stands-none c.args.self.now c.args.source.now S L (sym (ap (λ (p : Plain). p.total) c.source.view_is) ∙ c.if-source-eq0.true) stands source
 
 pub returns-then-source-eq0-clause-high : goal.returns-then-source-eq0-clause-high
@@ -35,7 +35,7 @@ returns-clause-same_classes g c =
     ap (λ (p : Plain). grain p) (returns-clause-ok g c) ∙ grain-merged g.T.Counter.greatest g.F.Counter.greatest c.args.self.now c.args.source.now (rw c.source.view_is at c.source.invariant.plain)
 
 pub returns-clause-samples : goal.returns-clause-samples
-returns-clause-samples g c = λ S L stands source fine fits.
+returns-clause-samples g c = λ L source fine S stands fits.
     let greatest = g.T.Counter.greatest in
     let s = c.args.source.now in
     subst (λ w. StandsFor w (S ++ L)) (sym (returns-clause-ok g c))

@@ -80,7 +80,7 @@ returns-in-Ok-add-clause-samples g c = λ s t stands to fits.
     let to = rw c.in-Add.is at to in
     let L = to.0 in
     let m = max_of c.in-Add.source.now in (
-      subst (λ N. StandsFor c.add.new.self N) (sym to.3) (c.in-Ok-add.ensures.samples s.samples L stands.0 to.1 to.2 (subst (λ N. Fits g.T.Counter.greatest (grain h) N) to.3 fits)),
+      subst (λ N. StandsFor c.add.new.self N) (sym to.3) (c.in-Ok-add.ensures.samples L to.1 to.2 s.samples stands.0 (subst (λ N. Fits g.T.Counter.greatest (grain h) N) to.3 fits)),
       c.in-Ok-add.ensures.high ∙ ap (λ n. cond (eqb n 0) h.high (high_with (grain h) h.high m m)) to.1.total ∙ ap (λ x. cond (eqb (length L) 0) x (high_with (grain h) x m m)) stands.1 ∙ sym to.4,
     )
 
@@ -90,7 +90,7 @@ returns-in-Ok-add_correct-clause-samples g c = λ s t stands to fits.
     let to = rw c.in-AddCorrect.is at to in
     let L = to.0 in
     let m = highest_top c.in-AddCorrect.source.now in (
-      subst (λ N. StandsFor c.add_correct.new.self N) (sym to.2) (c.in-Ok-add_correct.ensures.samples s.samples L stands.0 to.1 (subst (λ N. Fits g.T.Counter.greatest (grain h) N) to.2 fits)),
+      subst (λ N. StandsFor c.add_correct.new.self N) (sym to.2) (c.in-Ok-add_correct.ensures.samples L to.1 s.samples stands.0 (subst (λ N. Fits g.T.Counter.greatest (grain h) N) to.2 fits)),
       c.in-Ok-add_correct.ensures.high ∙ ap (λ x. high_with (grain h) x m (reach_of (grain h) m)) stands.1 ∙ sym to.3,
     )
 
