@@ -5,8 +5,7 @@ use lib.Count.{count_leading_zeros}
 use Rattle.std.proofs.lemmas.Bool.{cases_lt}
 use Rattle.std.proofs.lemmas.Nat.{shl-shr, mul-le, div-mul-add, pow_pos, pow-add, div-add-mod', mod_below, shr_le, shl_whole, one_shl, leading_length}
 use Rattle.std.proofs.Math.Nat.{mod-eq_of_lt}
-use Rattle.hdr_base.specs.Classes.{Grain, bucket, width_of, lowest_of, bin_of}
-use Rattle.hdr_base.specs.Classes.{unit_of, least_from}
+use Rattle.hdr_base.specs.Classes.{Grain, bucket, width_of, lowest_of, bin_of, unit_of, least_from}
 use Rattle.hdr_base.proofs.Least.{least_from-passes, least_from-le}
 use Rattle.hdr_base.proofs.ClassLaws.{below_own_power, ltb-from, ltb-to, pow_mono_le, bucket-is, bucket-least, two-halves, place-below, lowest-as-product, lowest-le, end-as-product, bin-mono}
 

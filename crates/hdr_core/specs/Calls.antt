@@ -1,27 +1,27 @@
 -- What calls do, by numbers and by samples.
-use Rattle.std.specs.Prelude.{◌≡◌, ◌==◌, ◌⊎◌, ℕ, ◌^◌, ◌<◌, nat_le, if◌then◌else◌, List, [], ◌∷◌, ◌++◌, length, replicate}
-use Rattle.hdr_base.specs.Classes.{Grain, reach_of, IsFiner}
-use Rattle.hdr_core.specs.Plain.{Plain, IsPlain, grain, max_of}
-use Rattle.hdr_core.specs.Recording.{recorded, clamped, cleared, restarted, spread}
-use Rattle.hdr_core.specs.Missing.{missing, each, corrected, highest_top, merged_corrected, corrected_samples}
-use Rattle.hdr_core.specs.Merging.{merged}
-use Rattle.hdr_core.specs.Samples.{StandsFor}
-use Rattle.hdr_core.specs.Refusals.{HasRoom, RefusesRecord, RefusesAddition, RefusesCorrected}
-use Rattle.hdr_core.specs.Runs.{State, after_each, EachIsTaken, EachTo}
+use Rattle.std.specs.Prelude.{◌≡◌, ◌⊎◌, ℕ, ◌^◌, ◌<◌, List, [], ◌∷◌, ◌++◌, replicate, Result, Ok, Err}
+use Rattle.hdr_base.specs.Classes.{Grain, reach_of}
+use Rattle.hdr_model.specs.Plain.{Plain, IsPlain, max_of}
+use Rattle.hdr_model.specs.Recording.{after_record, clamp_to_bins, after_clear, after_reset, samples_of, clamp, high_with}
+use Rattle.hdr_model.specs.Correction.{missing, each_times, after_correct}
+use Rattle.hdr_model.specs.Merging.{highest_top, after_add_correct, after_add}
+use Rattle.hdr_model.specs.Refusals.{HasRoom, RefusesRecord, RefusesAddition, RefusesCorrected}
+use Rattle.hdr_model.specs.Runs.{State, after_each, EachIsTaken, EachTo, AddCorrectedTo, AddTo}
 use Rattle.hdr_core.specs.declared.call.Call.{Call}
 use Rattle.hdr_core.specs.declared.call.Call.TheVariants.{Record, Clamp, Correct, Clear, Reset, Add, AddCorrect}
 use Rattle.hdr_core.specs.declared.call.CallError.{CallError}
 use Rattle.hdr_core.specs.declared.call.CallError.TheVariants as err
+use Rattle.hdr_core.specs.declared.call.RunError.{RunError}
 
 -- what a call makes of a histogram
 abbrev pub after_call : {T : Type 0} → ℕ → (T → ℕ) → Call T → Plain → Plain
-after_call greatest number (Record v n) h = recorded greatest h v (number n)
-after_call greatest number (Clamp v n) h = recorded greatest h (clamped h v) (number n)
-after_call greatest number (Correct v n i) h = corrected greatest h v (number n) i
-after_call greatest number Clear h = cleared h
-after_call greatest number Reset h = restarted h
-after_call greatest number (Add source) h = merged greatest h source.now
-after_call greatest number (AddCorrect source i) h = merged_corrected greatest h source.now i
+after_call greatest number (Record v n) h = after_record greatest h v (number n)
+after_call greatest number (Clamp v n) h = after_record greatest h (clamp_to_bins h v) (number n)
+after_call greatest number (Correct v n i) h = after_correct greatest h v (number n) i
+after_call greatest number Clear h = after_clear h
+after_call greatest number Reset h = after_reset h
+after_call greatest number (Add source) h = after_add greatest h source.now
+after_call greatest number (AddCorrect source i) h = after_add_correct greatest h source.now i
 
 -- what calls make of it, one after another
 abbrev pub after_calls : {T : Type 0} → ℕ → (T → ℕ) → List (Call T) → Plain → Plain
@@ -59,29 +59,6 @@ IsTaken h (AddCorrect source i) = HasRoom h (highest_top source.now)
 abbrev pub AreTaken : {T : Type 0} → ℕ → (T → ℕ) → List (Call T) → Plain → Type 0
 AreTaken greatest number = EachIsTaken (after_call greatest number) IsTaken
 
-abbrev pub StandsAt : Plain → State → Type 0
-StandsAt h s = StandsFor h s.samples × (h.high ≡ s.high)
-
--- `high` once there is a bin for x: `new` where the bins had to grow
-unfoldable pub high_with : Grain → ℕ → ℕ → ℕ → ℕ
-high_with g high x new = if nat_le x (reach_of g high) then high else new
-
--- the value that clamping records for v
-unfoldable pub clamp : Grain → ℕ → ℕ → ℕ
-clamp g high v = if nat_le v (reach_of g high) then v else high
-
--- adding a source takes one state to another, whatever list the source stands for; its classes are no coarser
-abbrev pub AddTo : Grain → Plain → State → State → Type 0
-AddTo g source s t =
-    (L : List ℕ) × StandsFor source L × IsFiner (grain source) g × (t.samples ≡ s.samples ++ L)
-    × (t.high ≡ (if length L == 0 then s.high else high_with g s.high (max_of source) (max_of source)))
-
--- adding a source with correction takes one state to another
-abbrev pub AddCorrectedTo : Grain → Plain → ℕ → State → State → Type 0
-AddCorrectedTo g source i s t =
-    (L : List ℕ) × StandsFor source L × (t.samples ≡ s.samples ++ corrected_samples (grain source) i L)
-    × (t.high ≡ high_with g s.high (highest_top source) (reach_of g (highest_top source)))
-
 -- a call takes one state to another
 abbrev pub CallTo : {T : Type 0} → (T → ℕ) → Grain → Call T → State → State → Type 0
 CallTo number g (Record v n) s t =
@@ -89,7 +66,7 @@ CallTo number g (Record v n) s t =
 CallTo number g (Clamp v n) s t =
     (t.samples ≡ s.samples ++ replicate (number n) (clamp g s.high v)) × (t.high ≡ s.high)
 CallTo number g (Correct v n i) s t =
-    (t.samples ≡ s.samples ++ spread (each (number n) (v ∷ missing v i))) × (t.high ≡ high_with g s.high v (reach_of g v))
+    (t.samples ≡ s.samples ++ samples_of (each_times (number n) (v ∷ missing v i))) × (t.high ≡ high_with g s.high v (reach_of g v))
 CallTo number g Clear s t = (t.samples ≡ []) × (t.high ≡ s.high)
 CallTo number g Reset s t = (t.samples ≡ []) × (t.high ≡ s.high)
 CallTo number g (Add source) s t = AddTo g source.now s t
@@ -98,3 +75,8 @@ CallTo number g (AddCorrect source i) s t = AddCorrectedTo g source.now i s t
 -- a run of calls takes one state to another, and after each call the samples fit
 abbrev pub CallsTo : {T : Type 0} → (T → ℕ) → Grain → (List ℕ → Type 0) → List (Call T) → State → State → Type 0
 CallsTo number g fits = EachTo (CallTo number g) fits
+
+-- how many of n calls were done
+abbrev pub calls_done : Result (Unit {0}) RunError → ℕ → ℕ
+calls_done (Ok u) n = n
+calls_done (Err e) n = e.at

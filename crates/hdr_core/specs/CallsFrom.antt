@@ -1,12 +1,11 @@
 -- What calls do whose sources may count in another type, by numbers and by samples.
 use Rattle.std.specs.Prelude.{◌≡◌, ◌⊎◌, ℕ, List}
 use Rattle.hdr_base.specs.Classes.{Grain}
-use Rattle.hdr_core.specs.Plain.{Plain, max_of}
-use Rattle.hdr_core.specs.Missing.{highest_top, merged_corrected}
-use Rattle.hdr_core.specs.Merging.{merged}
-use Rattle.hdr_core.specs.Refusals.{HasRoom, RefusesAddition, RefusesCorrected}
-use Rattle.hdr_core.specs.Runs.{State, after_each, EachIsTaken, EachTo}
-use Rattle.hdr_core.specs.Calls.{after_call, RefusesCall, IsTaken, CallTo, AddTo, AddCorrectedTo}
+use Rattle.hdr_model.specs.Plain.{Plain, max_of}
+use Rattle.hdr_model.specs.Merging.{highest_top, after_add_correct, after_add}
+use Rattle.hdr_model.specs.Refusals.{HasRoom, RefusesAddition, RefusesCorrected}
+use Rattle.hdr_model.specs.Runs.{State, after_each, EachIsTaken, EachTo, AddTo, AddCorrectedTo}
+use Rattle.hdr_core.specs.Calls.{after_call, RefusesCall, IsTaken, CallTo}
 use Rattle.hdr_core.specs.declared.call_from.CallFrom.{CallFrom}
 use Rattle.hdr_core.specs.declared.call_from.CallFrom.TheVariants.{Own, AddFrom, AddCorrectFrom}
 use Rattle.hdr_core.specs.declared.call.CallError.{CallError}
@@ -15,8 +14,8 @@ use Rattle.hdr_core.specs.declared.call.CallError.TheVariants as err
 -- what a call makes of a histogram
 abbrev pub after_call_from : {T F : Type 0} → ℕ → (T → ℕ) → CallFrom T F → Plain → Plain
 after_call_from greatest number (Own call) h = after_call greatest number call h
-after_call_from greatest number (AddFrom source) h = merged greatest h source.now
-after_call_from greatest number (AddCorrectFrom source i) h = merged_corrected greatest h source.now i
+after_call_from greatest number (AddFrom source) h = after_add greatest h source.now
+after_call_from greatest number (AddCorrectFrom source i) h = after_add_correct greatest h source.now i
 
 -- what calls make of it, one after another
 abbrev pub after_calls_from : {T F : Type 0} → ℕ → (T → ℕ) → List (CallFrom T F) → Plain → Plain

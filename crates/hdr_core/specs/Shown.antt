@@ -1,11 +1,11 @@
 -- A histogram's fields, as the numbers that contracts speak of.
 use Rattle.std.specs.Prelude.{◌≡◌, ℕ, ◌-◌, ◌^◌}
 use Rattle.hdr_base.specs.Classes.{grain_of}
-use Rattle.hdr_core.specs.Plain.{Plain, IsPlain}
+use Rattle.hdr_model.specs.Plain.{Plain, IsPlain}
 use Rattle.hdr_core.specs.declared.histogram.Histogram.TheInside.{Inside}
 
-abbrev pub shown : {T : Type 0} → Inside T → Plain
-shown h = record {
+abbrev pub plain_of : {T : Type 0} → Inside T → Plain
+plain_of h = record {
   low = h.low;
   high = h.high;
   sigfig = h.sigfig;
@@ -21,4 +21,4 @@ shown h = record {
 pub record IsHeld {T : Type 0} (greatest : ℕ) (h : Inside T) : Type 0 where
   pub scale : h.scale ≡ grain_of h.low h.sigfig
   pub block : h.counts.block ≡ 2 ^ ((grain_of h.low h.sigfig).digits - 1)
-  pub plain : IsPlain greatest (shown h)
+  pub plain : IsPlain greatest (plain_of h)

@@ -1,14 +1,14 @@
 //! Calls as values, and runs of them.
 
 ghost use Rattle.std.specs.Prelude.{◌≡◌, ◌<◌, OnOk, IfErr, length, take, slice_get, IfSome};
-ghost use Rattle.hdr_core.specs.Plain.{grain};
-ghost use Rattle.hdr_core.specs.Samples.{Fits};
-ghost use Rattle.hdr_core.specs.Calls.{StandsAt, after_call, after_calls, IsTaken, AreTaken, RefusesCall, CallTo, CallsTo};
-ghost use Rattle.hdr_core.specs.Runs.{State, calls_done};
+ghost use Rattle.hdr_model.specs.Plain.{grain};
+ghost use Rattle.hdr_model.specs.Samples.{Fits};
+ghost use Rattle.hdr_model.specs.Runs.{StandsAt, State};
+ghost use Rattle.hdr_core.specs.Calls.{after_call, after_calls, IsTaken, AreTaken, RefusesCall, CallTo, CallsTo, calls_done};
 
-use crate::errors::{AdditionError, RecordError};
 use crate::histogram::Histogram;
 use hdr_base::Counter;
+use hdr_model::{AdditionError, RecordError};
 use thiserror::Error;
 
 /// One call of a histogram.

@@ -1,10 +1,10 @@
 //! Calls as values whose sources may count in another type, and runs of them.
 
 ghost use Rattle.std.specs.Prelude.{◌≡◌, ◌<◌, OnOk, IfErr, length, take, slice_get, IfSome};
-ghost use Rattle.hdr_core.specs.Plain.{grain};
-ghost use Rattle.hdr_core.specs.Samples.{Fits};
-ghost use Rattle.hdr_core.specs.Runs.{State, calls_done};
-ghost use Rattle.hdr_core.specs.Calls.{StandsAt};
+ghost use Rattle.hdr_model.specs.Plain.{grain};
+ghost use Rattle.hdr_model.specs.Samples.{Fits};
+ghost use Rattle.hdr_model.specs.Runs.{State, StandsAt};
+ghost use Rattle.hdr_core.specs.Calls.{calls_done};
 ghost use Rattle.hdr_core.specs.CallsFrom.{after_call_from, after_calls_from, IsTakenFrom, AreTakenFrom, RefusesCallFrom, CallFromTo, CallsFromTo};
 
 use crate::call::{Call, CallError, RunError};

@@ -2,16 +2,32 @@
 
 ghost use Rattle.std.specs.Prelude.{◌≡◌, ◌↔◌, MatchResult, MatchOption, IsTrue, false, true, ◌+◌, ◌*◌, ◌<◌, ◌≤◌, IfSome, SomeIff, length, map, slice_index, unwrap_or};
 ghost use Rattle.hdr_base.specs.Classes.{bin_of, bucket, grain_of, value_of, top_of};
-ghost use Rattle.hdr_core.specs.Plain.{IsPlain, grain, reach, block_of, empty_plain, max_of, min_nz_of, min_of};
-ghost use Rattle.hdr_core.specs.Recording.{grown};
-ghost use Rattle.hdr_core.specs.Refusals.{RefusesBounds, IsBounds};
+ghost use Rattle.hdr_model.specs.Plain.{IsPlain, grain, reach, block_of, empty_plain, max_of, min_nz_of, min_of};
+ghost use Rattle.hdr_model.specs.Refusals.{RefusesBounds, IsBounds};
 
-use crate::errors::CreationError;
+mod classes;
+mod copying;
+mod correction;
+mod equality;
+mod filling;
+mod growing;
+mod iterating;
+mod merging;
+mod merging_corrected;
+mod quantiles;
+mod recording;
+mod statistics;
+mod subtracting;
+mod values;
+
 use crate::marks::Marks;
+pub use filling::Filling;
 use hdr_base::{Counter, Scale};
 use hdr_counts::Counts;
-use std::alloc::{AllocError, Global};
+use hdr_model::CreationError;
+use std::alloc::Global;
 use std::marker::Model;
+pub use values::Values;
 
 /// How often values were recorded, class by class, in counters of type `T`.
 ///
@@ -19,24 +35,24 @@ use std::marker::Model;
 /// to the reach, in order.
 #[derive(Debug, Drop)]
 pub struct Histogram<T: Counter> {
-    pub(crate) scale: Scale,
-    pub(crate) low: u64,
-    pub(crate) high: u64,
-    pub(crate) sigfig: u8,
-    pub(crate) auto_resize: bool,
-    pub(crate) counts: Counts<T>,
-    pub(crate) total: u64,
-    pub(crate) marks: Marks,
+    scale: Scale,
+    low: u64,
+    high: u64,
+    sigfig: u8,
+    auto_resize: bool,
+    counts: Counts<T>,
+    total: u64,
+    marks: Marks,
 }
 
 impl<T: Counter> Model for Histogram<T> {
-    ghost use Rattle.hdr_core.specs.Plain.{Plain};
+    ghost use Rattle.hdr_model.specs.Plain.{Plain};
 
     ghost Value = { Plain };
 
-    ghost use Rattle.hdr_core.specs.Shown.{shown, IsHeld};
+    ghost use Rattle.hdr_core.specs.Shown.{plain_of, IsHeld};
 
-    ghost view = { shown };
+    ghost view = { plain_of };
 
     ghost invariant = { λ h. IsHeld T.greatest h };
 }
@@ -77,7 +93,7 @@ impl<T: Counter> Histogram<T> {
     }
 
     /// A histogram that grows to the values that are recorded, with units of 1.
-    #[tactic(auto, unfolding(crate::specs::Plain::empty_plain))]
+    #[tactic(auto, unfolding(hdr_model::specs::Plain::empty_plain))]
     pub fn new(alloc: Global, sigfig: u8) -> Result<Histogram<T>, CreationError>
         ensures { MatchResult result (λ h. (h ≡ empty_plain 1 2 sigfig true) × IsBounds 1 2 sigfig) (RefusesBounds 1 2 sigfig) }
     {
@@ -161,7 +177,7 @@ impl<T: Counter> Histogram<T> {
     }
 
     /// The greatest value that has a bin.
-    pub(crate) fn reach(&self) -> u64
+    fn reach(&self) -> u64
         ensures { result ≡ reach self.now }
     {
         self.scale.reach(self.high)
@@ -213,7 +229,7 @@ impl<T: Counter> Histogram<T> {
     }
 
     /// The lowest value of the class of a bin.
-    pub(crate) fn class_value(&self, bin: usize) -> u64
+    fn class_value(&self, bin: usize) -> u64
         requires { bin < length self.now.counts }
         ensures { result ≡ value_of (grain self.now) bin }
     {
@@ -224,7 +240,7 @@ impl<T: Counter> Histogram<T> {
     }
 
     /// The greatest value of the class of a bin.
-    pub(crate) fn class_top(&self, bin: usize) -> u64
+    fn class_top(&self, bin: usize) -> u64
         requires { bin < length self.now.counts }
         ensures { result ≡ top_of (grain self.now) (value_of (grain self.now) bin) }
     {
@@ -264,20 +280,10 @@ impl<T: Counter> Histogram<T> {
             self.min_nz()
         }
     }
-
-    /// Makes bins up to the reach of a value past them, which becomes `high`. Refused for memory, it changes nothing.
-    pub(crate) fn grow(&mut self, high: u64) -> Result<(), AllocError>
-        requires { reach self.old < high }
-        ensures { MatchResult result (λ _. self.new ≡ grown self.old high) (λ _. self.new ≡ self.old) }
-    {
-        self.counts.grow(self.scale.buckets(high) + 1)?;
-        self.high = high;
-        Ok(())
-    }
 }
 
 /// The scale of a histogram's bounds; the first that does not hold is the error.
-pub(crate) fn scale_for(low: u64, high: u64, sigfig: u8) -> Result<Scale, CreationError>
+fn scale_for(low: u64, high: u64, sigfig: u8) -> Result<Scale, CreationError>
     ensures { MatchResult result (λ s. (s ≡ grain_of low sigfig) × IsBounds low high sigfig) (RefusesBounds low high sigfig) }
 {
     if low < 1 {

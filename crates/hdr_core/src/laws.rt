@@ -1,113 +1,32 @@
-//! Laws over the definitions, each the contract of a function with nothing to do.
+//! Laws over the definitions, each the contract of a function with nothing to do. Those that speak of no call stand in
+//! `hdr_model`.
 
 ghost use Rattle.std.specs.Prelude.{◌≡◌, ◌↔◌, ℕ, ◌+◌, ◌-◌, ◌/◌, ◌^◌, ◌<◌, ◌≤◌, Bool, true, List, [], ◌∷◌, ◌++◌, length, map, sum, replicate, slice_index, Contains, MatchOption};
 ghost use Rattle.hdr_base.specs.Classes.{IsFiner, top_of};
 ghost use Rattle.hdr_base.specs.Fractions.{Ratio};
 ghost use Rattle.hdr_counts.specs.Blocks.{IsFirstToReach};
-ghost use Rattle.hdr_core.specs.Plain.{Plain, IsPlain, grain, empty_plain};
-ghost use Rattle.hdr_core.specs.Recording.{recorded, clamped, cleared, restarted, spread};
-ghost use Rattle.hdr_core.specs.Samples.{StandsFor, Fits};
-ghost use Rattle.hdr_core.specs.Ranks.{ranked_sample, first_reaching, quantile_of, quantiles_of, IsAscending, IsTopNear};
-ghost use Rattle.hdr_core.specs.Missing.{missing, IsMissing, each, corrected, merged_corrected, corrected_samples};
-ghost use Rattle.hdr_core.specs.Statistics.{share_below, IsAtMost};
-ghost use Rattle.hdr_core.specs.Merging.{merged};
-ghost use Rattle.hdr_core.specs.Calls.{after_call, StandsAt, CallTo, IsCallOf};
-ghost use Rattle.hdr_core.specs.Runs.{State};
-ghost use Rattle.hdr_core.specs.Joined.{merged_each, AreParts, joined_list, AnswersRanked};
+ghost use Rattle.hdr_model.specs.Plain.{Plain, IsPlain, grain, empty_plain};
+ghost use Rattle.hdr_model.specs.Recording.{after_record, clamp_to_bins, after_clear, after_reset, samples_of};
+ghost use Rattle.hdr_model.specs.Samples.{StandsFor, Fits};
+ghost use Rattle.hdr_model.specs.Quantiles.{ranked_sample, first_reaching, quantile_of, quantiles_of, IsAscending, IsTopNear};
+ghost use Rattle.hdr_model.specs.Correction.{missing, IsMissing, each_times, after_correct};
+ghost use Rattle.hdr_model.specs.Merging.{after_add_correct, corrected_samples, after_add};
+ghost use Rattle.hdr_model.specs.Statistics.{share_below, IsAtMost};
+ghost use Rattle.hdr_core.specs.Calls.{after_call, CallTo, IsCallOf};
+ghost use Rattle.hdr_model.specs.Runs.{StandsAt, State};
+ghost use Rattle.hdr_model.specs.Joining.{after_adds, AreParts, joined_samples, AnswersRanked};
 ghost use Rattle.hdr_core.specs.declared.call.Call.{Call};
-ghost use Rattle.hdr_core.specs.Refusals.{IsBounds};
-ghost use Rattle.hdr_core.specs.Subtracting.{IsDifference};
-ghost use Rattle.hdr_core.specs.Equality.{same_plain, IsSame};
+ghost use Rattle.hdr_model.specs.Refusals.{IsBounds};
+ghost use Rattle.hdr_model.specs.Subtracting.{IsDifference};
+ghost use Rattle.hdr_model.specs.Equality.{same_plain, IsSame};
 
 use hdr_base::Counter;
-
-/// The missing values are those an interval apart below a value that are at least the interval, and how many.
-pub fn missing_values()
-    ensures which { (v i x : ℕ) → Contains (missing v i) x ↔ IsMissing v i x }
-    ensures count { (v i : ℕ) → length (missing v i) ≡ v / i - 1 }
-{}
-
-/// The class that answers is the first where the sum of the numbers up to it reaches the rank; none where no class does.
-pub fn first_class()
-    ensures { (counts : List ℕ) (r : ℕ) → 0 < r → MatchOption (first_reaching counts r) (sum counts < r) (IsFirstToReach counts r) }
-{}
-
-/// The answer to a quantile above 0 is the top of the class of the ranked sample, and near it.
-pub fn quantile_is_ranked()
-    ensures { (greatest : ℕ) (h : Plain) (q : Ratio) (S : List ℕ) → IsPlain greatest h → 0 < q.den → StandsFor h S → 0 < length S → 0 < q.num
-        → IsTopNear h (ranked_sample q S) (quantile_of h q) }
-{}
-
-/// Quantiles in ascending order are answered each by its own answer, in empty and in full histograms too.
-pub fn ascending_quantiles()
-    ensures { (h : Plain) (qs : List Ratio) → IsAscending qs → quantiles_of h qs ≡ map (quantile_of h) qs }
-{}
-
-/// For at least one sample and a quantile from above 0 to 1: the quantile lies in the classes up to that of a value exactly
-/// where it is at most the share of the samples there.
-pub fn quantile_and_share()
-    ensures { (greatest : ℕ) (h : Plain) (q : Ratio) (v : ℕ) (S : List ℕ) → IsPlain greatest h → StandsFor h S → 0 < length S → 0 < q.num → q.num ≤ q.den
-        → (quantile_of h q ≤ top_of (grain h) v) ↔ IsAtMost q (share_below h v) }
-{}
-
-/// What recording a value does to the samples that a histogram stands for.
-pub fn recording_stands()
-    ensures recorded { (greatest : ℕ) (h : Plain) (v n : ℕ) (S : List ℕ) → v < 2 ^ 64 → IsPlain greatest h → StandsFor h S
-        → Fits greatest (grain h) (S ++ replicate n v) → StandsFor (recorded greatest h v n) (S ++ replicate n v) }
-    ensures clamped { (greatest : ℕ) (h : Plain) (v n : ℕ) (S : List ℕ) → v < 2 ^ 64 → IsPlain greatest h → StandsFor h S
-        → Fits greatest (grain h) (S ++ replicate n (clamped h v)) → StandsFor (recorded greatest h (clamped h v) n) (S ++ replicate n (clamped h v)) }
-    ensures corrected { (greatest : ℕ) (h : Plain) (v n i : ℕ) (S : List ℕ) → v < 2 ^ 64 → 1 ≤ greatest → IsPlain greatest h → StandsFor h S
-        → Fits greatest (grain h) (S ++ spread (each n (v ∷ missing v i))) → StandsFor (corrected greatest h v n i) (S ++ spread (each n (v ∷ missing v i))) }
-{}
-
-/// The numbers of a histogram that stands for samples sum to how many there are.
-pub fn samples_are_counted()
-    ensures { (greatest : ℕ) (h : Plain) (S : List ℕ) → IsPlain greatest h → StandsFor h S → sum h.counts ≡ length S }
-{}
-
-/// What a constructor makes of lawful bounds is a histogram, for every counter type.
-pub fn new_is_plain()
-    ensures { (greatest low high sigfig : ℕ) (auto_resize : Bool) → IsBounds low high sigfig → high < 2 ^ 64
-        → IsPlain greatest (empty_plain low high sigfig auto_resize) }
-{}
-
-/// A new histogram stands for no samples, and so does one that was cleared or reset.
-pub fn clearing_stands()
-    ensures made { (low high sigfig : ℕ) (auto_resize : Bool) → StandsFor (empty_plain low high sigfig auto_resize) [] }
-    ensures cleared { (h : Plain) → StandsFor (cleared h) [] }
-    ensures restarted { (h : Plain) → StandsFor (restarted h) [] }
-{}
-
-/// What adding a histogram does to the samples: they are joined, where the source's classes are no coarser; corrected,
-/// they may be of any width.
-pub fn adding_stands()
-    ensures merged { (greatest most : ℕ) (h s : Plain) (S L : List ℕ) → 1 ≤ greatest → IsPlain greatest h → IsPlain most s → StandsFor h S → StandsFor s L
-        → IsFiner (grain s) (grain h) → Fits greatest (grain h) (S ++ L) → StandsFor (merged greatest h s) (S ++ L) }
-    ensures corrected { (greatest most : ℕ) (h s : Plain) (i : ℕ) (S L : List ℕ) → 1 ≤ greatest → IsPlain greatest h → IsPlain most s → StandsFor h S → StandsFor s L
-        → Fits greatest (grain h) (S ++ corrected_samples (grain s) i L) → StandsFor (merged_corrected greatest h s i) (S ++ corrected_samples (grain s) i L) }
-{}
-
-/// A sum is a histogram again, with the classes of the one that was added to; of any source, full counters included.
-pub fn adding_keeps()
-    ensures merged { (greatest most : ℕ) (h s : Plain) → 1 ≤ greatest → IsPlain greatest h → IsPlain most s → IsPlain greatest (merged greatest h s) }
-    ensures merged_classes { (greatest most : ℕ) (h s : Plain) → IsPlain most s → grain (merged greatest h s) ≡ grain h }
-    ensures corrected { (greatest most : ℕ) (h s : Plain) (i : ℕ) → 1 ≤ greatest → IsPlain greatest h → IsPlain most s → IsPlain greatest (merged_corrected greatest h s i) }
-    ensures corrected_classes { (greatest : ℕ) (h s : Plain) (i : ℕ) → grain (merged_corrected greatest h s i) ≡ grain h }
-{}
-
-/// Histograms that are added in order stand for their samples joined, where those fit; whatever counter type each counts
-/// in. The answer to each quantile is then that of the joined samples.
-pub fn joined_stands()
-    ensures sum { (greatest most : ℕ) (h : Plain) (ks : List Plain) (S : List ℕ) (Ls : List (List ℕ)) → 1 ≤ greatest → IsPlain greatest h → StandsFor h S
-        → AreParts most (grain h) ks Ls → Fits greatest (grain h) (S ++ joined_list Ls)
-        → StandsFor (merged_each greatest h ks) (S ++ joined_list Ls) × IsPlain greatest (merged_each greatest h ks) }
-    ensures ranked { (greatest most : ℕ) (h : Plain) (ks : List Plain) (S : List ℕ) (Ls : List (List ℕ)) → 1 ≤ greatest → IsPlain greatest h → StandsFor h S
-        → AreParts most (grain h) ks Ls → Fits greatest (grain h) (S ++ joined_list Ls) → AnswersRanked (merged_each greatest h ks) (S ++ joined_list Ls) }
-{
-    adding_keeps();
-    adding_stands();
-    quantile_is_ranked();
-}
+pub use hdr_model::laws::{
+    adding_associates, adding_commutes, adding_keeps, adding_stands, ascending_quantiles,
+    clearing_stands, equality, first_class, joined_stands, missing_values, new_is_plain,
+    quantile_and_share, quantile_is_ranked, recording_stands, samples_are_counted,
+    subtracting_undoes_adding,
+};
 
 /// What a call makes of a histogram is one again, with its classes, and stands for what the call makes of the samples.
 pub fn calls_stand<T: Counter>()
@@ -115,41 +34,4 @@ pub fn calls_stand<T: Counter>()
     ensures classes { (most : ℕ) (h : Plain) (call : Call T) → IsCallOf most call → grain (after_call T.greatest T.number call h) ≡ grain h }
     ensures samples { (most : ℕ) (h : Plain) (call : Call T) (s t : State) → IsCallOf most call → IsPlain T.greatest h → StandsAt h s
         → CallTo T.number (grain h) call s t → Fits T.greatest (grain h) t.samples → StandsAt (after_call T.greatest T.number call h) t }
-{}
-
-/// At one unit and as many digits a sum has the same numbers in either order.
-pub fn adding_commutes()
-    ensures { (greatest : ℕ) (h s : Plain) → 1 ≤ greatest → IsPlain greatest h → IsPlain greatest s → grain h ≡ grain s
-        → (i : ℕ) → slice_index (merged greatest h s).counts i ≡ slice_index (merged greatest s h).counts i }
-{}
-
-/// At one unit and as many digits a sum of three has the same numbers whichever two are added first.
-pub fn adding_associates()
-    ensures { (greatest : ℕ) (h s t : Plain) → 1 ≤ greatest → IsPlain greatest h → IsPlain greatest s → IsPlain greatest t → grain h ≡ grain s → grain s ≡ grain t
-        → (i : ℕ) → slice_index (merged greatest (merged greatest h s) t).counts i ≡ slice_index (merged greatest h (merged greatest s t)).counts i }
-{}
-
-/// Subtracting one of two histograms from their sum gives the numbers of the other, where no counter was full, and its
-/// total, where that is the sum of its numbers.
-pub fn subtracting_undoes_adding()
-    ensures numbers { (greatest : ℕ) (h s d : Plain) → 1 ≤ greatest → IsPlain greatest h → IsPlain greatest s → grain h ≡ grain s
-        → ((i : ℕ) → slice_index h.counts i + slice_index s.counts i ≤ greatest) → IsDifference (merged greatest h s) s d
-        → (i : ℕ) → slice_index d.counts i ≡ slice_index h.counts i }
-    ensures total { (greatest : ℕ) (h s d : Plain) → 1 ≤ greatest → IsPlain greatest h → IsPlain greatest s → grain h ≡ grain s
-        → ((i : ℕ) → slice_index h.counts i + slice_index s.counts i ≤ greatest) → IsDifference (merged greatest h s) s d
-        → h.total ≡ sum h.counts → d.total ≡ h.total }
-    ensures other { (greatest : ℕ) (h s d : Plain) → 1 ≤ greatest → IsPlain greatest h → IsPlain greatest s → grain h ≡ grain s
-        → ((i : ℕ) → slice_index h.counts i + slice_index s.counts i ≤ greatest) → IsDifference (merged greatest h s) h d
-        → (i : ℕ) → slice_index d.counts i ≡ slice_index s.counts i }
-    ensures other_total { (greatest : ℕ) (h s d : Plain) → 1 ≤ greatest → IsPlain greatest h → IsPlain greatest s → grain h ≡ grain s
-        → ((i : ℕ) → slice_index h.counts i + slice_index s.counts i ≤ greatest) → IsDifference (merged greatest h s) h d
-        → s.total ≡ sum s.counts → d.total ≡ s.total }
-{}
-
-/// What equality means, and that it is an equivalence.
-pub fn equality()
-    ensures meaning { (h k : Plain) → (same_plain h k ≡ true) ↔ IsSame h k }
-    ensures reflexive { (h : Plain) → same_plain h h ≡ true }
-    ensures symmetric { (h k : Plain) → same_plain h k ≡ true → same_plain k h ≡ true }
-    ensures transitive { (h k j : Plain) → same_plain h k ≡ true → same_plain k j ≡ true → same_plain h j ≡ true }
 {}

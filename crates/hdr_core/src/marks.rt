@@ -1,9 +1,7 @@
 //! The two marks of a histogram: the classes that enclose all nonempty ones.
 
 ghost use Rattle.std.specs.Prelude.{◌≡◌, ◌+◌, ◌-◌, ◌^◌, ◌<◌, None, IfSome};
-ghost use Rattle.hdr_core.specs.Recording.{later_mark, earlier_mark};
-ghost use Rattle.hdr_core.specs.Merging.{later_of, earlier_of};
-ghost use Rattle.hdr_core.specs.Marked.{top_by, lower_by};
+ghost use Rattle.hdr_model.specs.Marks.{later_mark, earlier_mark, later_of, earlier_of, top_by, lower_by};
 
 use std::marker::Model;
 
@@ -19,9 +17,9 @@ pub(crate) struct Marks {
 
 impl Model for Marks {
     ghost use Rattle.std.specs.Prelude.{◌^◌, ◌<◌};
-    ghost use Rattle.hdr_core.specs.Marked.{Marked, top_by, lower_by};
+    ghost use Rattle.hdr_model.specs.Marks.{MarkPair, top_by, lower_by};
 
-    ghost Value = { Marked };
+    ghost Value = { MarkPair };
 
     ghost view = { λ m. record { top = top_by m.classes; lower = lower_by m.before } };
 
@@ -30,7 +28,7 @@ impl Model for Marks {
 
 impl Marks {
     /// No marks.
-    #[tactic(auto, unfolding(crate::specs::Marked::top_by))]
+    #[tactic(auto, unfolding(hdr_model::specs::Marks::top_by))]
     pub(crate) fn none() -> Marks
         ensures { result ≡ record { top = None; lower = None } }
     {

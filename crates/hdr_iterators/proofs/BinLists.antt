@@ -1,11 +1,10 @@
 -- The lists of all bins and of the nonempty ones, one bin on.
 use Rattle.std.proofs.Common.{◌≡◌, ◌≢◌, ℕ, ◌+◌, ◌-◌, ◌<◌, ◌≤◌, zero, suc, Bool, true, false, cond, eqb, ltb, [], ◌∷◌, get_or, map, Option, Some, None, sym, refl, ap, ◌∙◌, subst, ⊎_elim, arith, rules, tests, eq-eqb}
-use Rattle.std.proofs.lemmas.Bool.{false≢true, cases_lt, cases_Bool}
-use Rattle.std.proofs.lemmas.Bool.{eqb-true, ltb-true}
+use Rattle.std.proofs.lemmas.Bool.{false≢true, cases_lt, cases_Bool, eqb-true, ltb-true}
 use Rattle.std.specs.List.{range_with_len, filter}
 use Rattle.std.specs.Option.{option_eq}
 use Rattle.hdr_iterators.specs.Seen.{Seen, AreBins, bins_in}
-use Rattle.hdr_iterators.specs.Picks.{NoneBefore, AllBefore, AllFilled, IsAtEnd, behind}
+use Rattle.hdr_iterators.specs.Picks.{NoneBefore, AllBefore, AllFilled, IsAtEnd, bin_after}
 use Rattle.hdr_iterators.specs.Places.{bin_pick, bins_from, is_nonempty}
 
 range_within : (a n m : ℕ) → a + n ≤ m → AllBefore m (map bin_pick (range_with_len a n))
@@ -75,21 +74,21 @@ all_within h = range_within 0 (bins_in h - 0) (bins_in h) (omega arith)
 pub recorded_within : (h : Seen) → AllBefore (bins_in h) (map bin_pick (filter (is_nonempty h) (bins_from h 0)))
 recorded_within h = kept_within (is_nonempty h) 0 (bins_in h - 0) (bins_in h) (omega arith)
 
-same_place : (v : Option ℕ) (i : ℕ) → option_eq eqb v (Some i) ≡ true → behind v ≡ i + 1
+same_place : (v : Option ℕ) (i : ℕ) → option_eq eqb v (Some i) ≡ true → bin_after v ≡ i + 1
 same_place None i e = absurd (false≢true e)
 same_place (Some j) i e = ap (λ k. k + 1) (eqb-true j i e)
 
-other_place : (v : Option ℕ) (i : ℕ) → option_eq eqb v (Some i) ≡ false → behind v ≡ i + 1 → ⊥
+other_place : (v : Option ℕ) (i : ℕ) → option_eq eqb v (Some i) ≡ false → bin_after v ≡ i + 1 → ⊥
 other_place None i e f = omega (arith, f)
 other_place (Some j) i e f =
     let same : j ≡ i = omega (arith, f) in
     false≢true (sym e ∙ eq-eqb j i same)
 
-pub all_past : (h : Seen) (v : Option ℕ) (i : ℕ) → option_eq eqb v (Some i) ≡ true → NoneBefore (i + 1) (map bin_pick (bins_from h (behind v)))
-all_past h v i e = range_ahead (behind v) (bins_in h - behind v) (i + 1) (omega (arith, same_place v i e))
+pub all_past : (h : Seen) (v : Option ℕ) (i : ℕ) → option_eq eqb v (Some i) ≡ true → NoneBefore (i + 1) (map bin_pick (bins_from h (bin_after v)))
+all_past h v i e = range_ahead (bin_after v) (bins_in h - bin_after v) (i + 1) (omega (arith, same_place v i e))
 
-pub recorded_past : (h : Seen) (v : Option ℕ) (i : ℕ) → option_eq eqb v (Some i) ≡ true → NoneBefore (i + 1) (map bin_pick (filter (is_nonempty h) (bins_from h (behind v))))
-recorded_past h v i e = kept_ahead (is_nonempty h) (behind v) (bins_in h - behind v) (i + 1) (omega (arith, same_place v i e))
+pub recorded_past : (h : Seen) (v : Option ℕ) (i : ℕ) → option_eq eqb v (Some i) ≡ true → NoneBefore (i + 1) (map bin_pick (filter (is_nonempty h) (bins_from h (bin_after v))))
+recorded_past h v i e = kept_ahead (is_nonempty h) (bin_after v) (bins_in h - bin_after v) (i + 1) (omega (arith, same_place v i e))
 
 -- the picks of a range that begins at k are at k first
 begins : (k n i : ℕ) → k ≤ i → 0 < n → NoneBefore i (map bin_pick (range_with_len k n)) → k ≡ i
@@ -97,10 +96,10 @@ begins k n i l m h =
     let q : NoneBefore i (map bin_pick (k ∷ range_with_len (k + 1) (n - 1))) = subst (λ z. NoneBefore i (map bin_pick z)) (range_more k n m) h in
     omega (arith, l, q.0)
 
-pub all_next : (h : Seen) (v : Option ℕ) (i : ℕ) → i < bins_in h → behind v ≤ i + 1 → option_eq eqb v (Some i) ≡ false → NoneBefore i (map bin_pick (bins_from h (behind v))) → map bin_pick (bins_from h (behind v)) ≡ bin_pick i ∷ map bin_pick (bins_from h (i + 1))
+pub all_next : (h : Seen) (v : Option ℕ) (i : ℕ) → i < bins_in h → bin_after v ≤ i + 1 → option_eq eqb v (Some i) ≡ false → NoneBefore i (map bin_pick (bins_from h (bin_after v))) → map bin_pick (bins_from h (bin_after v)) ≡ bin_pick i ∷ map bin_pick (bins_from h (i + 1))
 all_next h v i l m e a =
-    let ne : behind v ≢ i + 1 = other_place v i e in
-    let at : behind v ≡ i = begins (behind v) (bins_in h - behind v) i (omega arith) (omega arith) a in
+    let ne : bin_after v ≢ i + 1 = other_place v i e in
+    let at : bin_after v ≡ i = begins (bin_after v) (bins_in h - bin_after v) i (omega arith) (omega arith) a in
     let n_is : bins_in h - i - 1 ≡ bins_in h - (i + 1) = omega arith in
     ap (λ k. map bin_pick (bins_from h k)) at ∙ (ap (map bin_pick) (range_more i (bins_in h - i) (omega arith)) ∙ ap (λ k. bin_pick i ∷ map bin_pick (range_with_len (i + 1) k)) n_is)
 
@@ -119,27 +118,27 @@ nonempty_is h i l = search (rules, tests)
 empty_is : (h : Seen) (i : ℕ) → get_or h.numbers i 0 ≡ 0 → is_nonempty h i ≡ false
 empty_is h i e = ap (ltb 0) e
 
-pub recorded_next : (h : Seen) (v : Option ℕ) (i : ℕ) → i < bins_in h → behind v ≤ i + 1 → 0 < get_or h.numbers i 0 → option_eq eqb v (Some i) ≡ false → NoneBefore i (map bin_pick (filter (is_nonempty h) (bins_from h (behind v)))) → map bin_pick (filter (is_nonempty h) (bins_from h (behind v))) ≡ bin_pick i ∷ map bin_pick (filter (is_nonempty h) (bins_from h (i + 1)))
+pub recorded_next : (h : Seen) (v : Option ℕ) (i : ℕ) → i < bins_in h → bin_after v ≤ i + 1 → 0 < get_or h.numbers i 0 → option_eq eqb v (Some i) ≡ false → NoneBefore i (map bin_pick (filter (is_nonempty h) (bins_from h (bin_after v)))) → map bin_pick (filter (is_nonempty h) (bins_from h (bin_after v))) ≡ bin_pick i ∷ map bin_pick (filter (is_nonempty h) (bins_from h (i + 1)))
 recorded_next h v i l m n e a =
-    let ne : behind v ≢ i + 1 = other_place v i e in
-    let there = from_there h (behind v) i (omega arith) l a in
+    let ne : bin_after v ≢ i + 1 = other_place v i e in
+    let there = from_there h (bin_after v) i (omega arith) l a in
     let yes = ap (λ b. map bin_pick (cond b (i ∷ filter (is_nonempty h) (bins_from h (i + 1))) (filter (is_nonempty h) (bins_from h (i + 1))))) (nonempty_is h i n) in
     ap (map bin_pick) there ∙ yes
 
-pub recorded_empty : (h : Seen) (v : Option ℕ) (i : ℕ) → i < bins_in h → get_or h.numbers i 0 ≡ 0 → NoneBefore i (map bin_pick (filter (is_nonempty h) (bins_from h (behind v)))) → NoneBefore (i + 1) (map bin_pick (filter (is_nonempty h) (bins_from h (behind v))))
+pub recorded_empty : (h : Seen) (v : Option ℕ) (i : ℕ) → i < bins_in h → get_or h.numbers i 0 ≡ 0 → NoneBefore i (map bin_pick (filter (is_nonempty h) (bins_from h (bin_after v)))) → NoneBefore (i + 1) (map bin_pick (filter (is_nonempty h) (bins_from h (bin_after v))))
 recorded_empty h v i l z a =
     ⊎_elim
-    (λ (lt : i < behind v). kept_ahead (is_nonempty h) (behind v) (bins_in h - behind v) (i + 1) (omega arith))
-    (λ (ge : behind v ≤ i).
-    let there = from_there h (behind v) i ge l a in
+    (λ (lt : i < bin_after v). kept_ahead (is_nonempty h) (bin_after v) (bins_in h - bin_after v) (i + 1) (omega arith))
+    (λ (ge : bin_after v ≤ i).
+    let there = from_there h (bin_after v) i ge l a in
     let no = ap (λ b. map bin_pick (cond b (i ∷ filter (is_nonempty h) (bins_from h (i + 1))) (filter (is_nonempty h) (bins_from h (i + 1))))) (empty_is h i z) in
     subst (NoneBefore (i + 1)) (sym (ap (map bin_pick) there ∙ no)) (kept_ahead (is_nonempty h) (i + 1) (bins_in h - (i + 1)) (i + 1) (omega arith)))
-    (cases_lt i (behind v))
+    (cases_lt i (bin_after v))
 
-pub recorded_end : (h : Seen) (v last : Option ℕ) → AreBins h → v ≡ last → IsAtEnd h last → map bin_pick (filter (is_nonempty h) (bins_from h (behind v))) ≡ []
+pub recorded_end : (h : Seen) (v last : Option ℕ) → AreBins h → v ≡ last → IsAtEnd h last → map bin_pick (filter (is_nonempty h) (bins_from h (bin_after v))) ≡ []
 recorded_end h v last p e end =
-    let at : behind v ≡ behind last = ap behind e in
-    ap (map bin_pick) (kept_none (is_nonempty h) (behind v) (bins_in h - behind v) (λ k l. empty_is h k (p.none_behind k (omega (arith, at, l, end)))))
+    let at : bin_after v ≡ bin_after last = ap bin_after e in
+    ap (map bin_pick) (kept_none (is_nonempty h) (bin_after v) (bins_in h - bin_after v) (λ k l. empty_is h k (p.none_behind k (omega (arith, at, l, end)))))
 
 -- each pick of a nonempty bin is one
 kept_filled : (h : Seen) (a n : ℕ) → AllFilled h (map bin_pick (filter (is_nonempty h) (range_with_len a n)))
@@ -154,5 +153,5 @@ kept_filled h a (suc n) =
     subst (λ b. AllFilled h (map bin_pick (cond b (a ∷ filter (is_nonempty h) (range_with_len (a + 1) n)) (filter (is_nonempty h) (range_with_len (a + 1) n))))) (sym no) rest)
     (cases_Bool (is_nonempty h a))
 
-pub recorded_filled : (h : Seen) (v : Option ℕ) → AllFilled h (map bin_pick (filter (is_nonempty h) (bins_from h (behind v))))
-recorded_filled h v = kept_filled h (behind v) (bins_in h - behind v)
+pub recorded_filled : (h : Seen) (v : Option ℕ) → AllFilled h (map bin_pick (filter (is_nonempty h) (bins_from h (bin_after v))))
+recorded_filled h v = kept_filled h (bin_after v) (bins_in h - bin_after v)

@@ -5,7 +5,7 @@ use Rattle.std.proofs.lemmas.List.Sums.{sum_by_more, sum_by-take-le}
 use Rattle.std.proofs.lemmas.List.{take-take}
 use Rattle.hdr_base.specs.Fractions.{Ratio}
 use Rattle.hdr_iterators.specs.Seen.{Seen, AreEmpty, bins_in, below, top_in}
-use Rattle.hdr_iterators.specs.Picks.{Pick, NoneBefore, AllBefore, AllFilled, InStep, behind, item_of}
+use Rattle.hdr_iterators.specs.Picks.{Pick, NoneBefore, AllBefore, AllFilled, InStep, bin_after, item_of}
 
 pub NoneBefore-zero : (ps : List Pick) → NoneBefore 0 ps
 NoneBefore-zero [] = tt
@@ -67,7 +67,7 @@ pub InStep-passed : (h : Seen) (ps : List Pick) (i j total since old count total
 InStep-passed h ps i j total since old count total' since' last s m l e a c t u =
     let more = below_more h j l in
     let same = below-passed h (i + 1) j (omega (arith, m)) (omega (arith, l)) e in
-    let le = below-le h (behind last) (i + 1) s.asked.in_order in
+    let le = below-le h (bin_after last) (i + 1) s.asked.in_order in
     let total_is = s.asked.total_is in
     record {
       ahead = a;
@@ -88,5 +88,5 @@ InStep-picked h p ps i total since count last s = record {
 
 -- the item of a pick at the bin that is asked
 pub item_in_step : (h : Seen) (p : Pick) (ps qs : List Pick) (i total since count : ℕ) (last : Option ℕ) (t : Option Ratio) (v : Option ℕ) → InStep h qs i total since count last → p ≡ record { place = i; tick = t; level = v }
-    → item_of h (behind last) p ≡ record { value = unwrap_or v (top_in h i); quantile = record { num = total; den = h.total }; tick = unwrap_or t (record { num = total; den = h.total }); count = count; since = since }
+    → item_of h (bin_after last) p ≡ record { value = unwrap_or v (top_in h i); quantile = record { num = total; den = h.total }; tick = unwrap_or t (record { num = total; den = h.total }); count = count; since = since }
 item_in_step h p ps qs i total since count last t v s e = rw (e, s.asked.total_is, s.asked.count_is, s.since_is) refl

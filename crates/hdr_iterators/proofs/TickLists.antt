@@ -1,33 +1,32 @@
 -- The list of picks of ticks, in parts by bins.
 use Rattle.std.proofs.Common.{◌≡◌, ◌≢◌, ℕ, ◌+◌, ◌-◌, ◌^◌, ◌<◌, ◌≤◌, zero, suc, Bool, true, false, cond, ltb, eqb, ◌&&◌, List, [], ◌∷◌, ◌++◌, length, get_or, map, drop, filter, flat_map, sum, Option, sym, refl, ap, ap₂, ◌∙◌, subst, ◌⊎◌, inr, ⊎_elim, arith}
-use Rattle.std.proofs.lemmas.Bool.{cases_lt, cases_Bool, lt-ltb, le-ltb, eq-eqb, ltb-true}
+use Rattle.std.proofs.lemmas.Bool.{cases_lt, cases_Bool, lt-ltb, le-ltb, eq-eqb, ltb-true, false≢true}
 use Rattle.std.proofs.lemmas.Bool.Decides.{eqb_tells}
-use Rattle.std.proofs.lemmas.Bool.{false≢true}
 use Rattle.std.proofs.lemmas.List.{append_assoc, length-append}
 use Rattle.std.proofs.lemmas.List.Sums.{sum_by-take-le}
 use Rattle.std.proofs.lemmas.List.FromFn.{length-map-range_with_len}
 use Rattle.std.specs.List.{range_with_len}
 use Rattle.hdr_iterators.specs.Seen.{Seen, AreBins, bins_in, below, running, capped}
-use Rattle.hdr_iterators.specs.Picks.{Pick, NoneBefore, AllBefore, AllFilled, behind}
-use Rattle.hdr_iterators.specs.Places.{tick_of, tick_pick, is_within, ticks_within, ticks_before, ticks_at, is_ticked, is_nonempty, quantile_picks, all_of_them}
+use Rattle.hdr_iterators.specs.Picks.{Pick, NoneBefore, AllBefore, AllFilled, bin_after}
+use Rattle.hdr_iterators.specs.Places.{tick_of, tick_pick, is_within, ticks_within, ticks_before, ticks_at, has_tick, is_nonempty, quantile_picks, all_of_them}
 use Rattle.hdr_iterators.specs.Ticks.{IsOpen}
 use Rattle.hdr_iterators.proofs.Steps.{below_more, below-le}
 use Rattle.hdr_iterators.proofs.Halves.{within_counted, past_counted, ticks-le}
 
 -- the picks of n bins_in, from bin a on
 abbrev pub ticked_in : Seen → ℕ → ℕ → ℕ → List Pick
-ticked_in h t a n = flat_map (ticks_at h t) (filter (is_ticked h) (range_with_len a n))
+ticked_in h t a n = flat_map (ticks_at h t) (filter (has_tick h) (range_with_len a n))
 
 -- the picks of one bin
 abbrev pub own : Seen → ℕ → ℕ → List Pick
-own h t b = cond (is_ticked h b) (ticks_at h t b) []
+own h t b = cond (has_tick h b) (ticks_at h t b) []
 
 one_bin : (h : Seen) (t a : ℕ) (c : Bool) (bs : List ℕ) → flat_map (ticks_at h t) (cond c (a ∷ bs) bs) ≡ cond c (ticks_at h t a) [] ++ flat_map (ticks_at h t) bs
 one_bin h t a true bs = refl
 one_bin h t a false bs = refl
 
 pub ticked_first : (h : Seen) (t a n : ℕ) → ticked_in h t a (suc n) ≡ own h t a ++ ticked_in h t (a + 1) n
-ticked_first h t a n = one_bin h t a (is_ticked h a) (filter (is_ticked h) (range_with_len (a + 1) n))
+ticked_first h t a n = one_bin h t a (has_tick h a) (filter (has_tick h) (range_with_len (a + 1) n))
 
 ticked_split : (h : Seen) (t a m n : ℕ) → ticked_in h t a (m + n) ≡ ticked_in h t a m ++ ticked_in h t (a + m) n
 ticked_split h t a zero n =
@@ -83,14 +82,14 @@ own_within h t b m l =
     let open_part : List Pick = map (λ k. tick_pick b (tick_of t k)) (range_with_len (ticks_before h t b) (ticks_within t (running h b) h.total - ticks_before h t b)) in
     let end_part : List Pick = tick_pick b (tick_of t (ticks_before h t b)) ∷ tick_pick b all_of_them ∷ [] in
     let yes : AllBefore m (ticks_at h t b) = elim (ltb (running h b) h.total) as (λ c. AllBefore m (cond c open_part end_part)) [ true ↦ ticks_here_within t b m (ticks_before h t b) (ticks_within t (running h b) h.total - ticks_before h t b) l | false ↦ (l, (l, tt)) ] in
-    elim (is_ticked h b) as (λ c. AllBefore m (cond c (ticks_at h t b) [])) [ true ↦ yes | false ↦ tt ]
+    elim (has_tick h b) as (λ c. AllBefore m (cond c (ticks_at h t b) [])) [ true ↦ yes | false ↦ tt ]
 
 own_ahead : (h : Seen) (t b m : ℕ) → m ≤ b → NoneBefore m (own h t b)
 own_ahead h t b m l =
     let open_part : List Pick = map (λ k. tick_pick b (tick_of t k)) (range_with_len (ticks_before h t b) (ticks_within t (running h b) h.total - ticks_before h t b)) in
     let end_part : List Pick = tick_pick b (tick_of t (ticks_before h t b)) ∷ tick_pick b all_of_them ∷ [] in
     let yes : NoneBefore m (ticks_at h t b) = elim (ltb (running h b) h.total) as (λ c. NoneBefore m (cond c open_part end_part)) [ true ↦ ticks_here_ahead t b m (ticks_before h t b) (ticks_within t (running h b) h.total - ticks_before h t b) l | false ↦ (l, (l, tt)) ] in
-    elim (is_ticked h b) as (λ c. NoneBefore m (cond c (ticks_at h t b) [])) [ true ↦ yes | false ↦ tt ]
+    elim (has_tick h b) as (λ c. NoneBefore m (cond c (ticks_at h t b) [])) [ true ↦ yes | false ↦ tt ]
 
 ticked_within : (h : Seen) (t a n m : ℕ) → a + n ≤ m → AllBefore m (ticked_in h t a n)
 ticked_within h t a zero m l = tt
@@ -112,7 +111,7 @@ ticks_here_filled : (h : Seen) (t b a n : ℕ) → 0 < get_or h.numbers b 0 → 
 ticks_here_filled h t b a zero l = tt
 ticks_here_filled h t b a (suc n) l = (l, ticks_here_filled h t b (a + 1) n l)
 
-ticked_some : (h : Seen) (b : ℕ) → is_ticked h b ≡ true → 0 < get_or h.numbers b 0
+ticked_some : (h : Seen) (b : ℕ) → has_tick h b ≡ true → 0 < get_or h.numbers b 0
 ticked_some h b e =
     ⊎_elim
     (λ (yes : is_nonempty h b ≡ true). ltb-true 0 (get_or h.numbers b 0) yes)
@@ -124,12 +123,12 @@ own_filled h t b =
     let open_part : List Pick = map (λ k. tick_pick b (tick_of t k)) (range_with_len (ticks_before h t b) (ticks_within t (running h b) h.total - ticks_before h t b)) in
     let end_part : List Pick = tick_pick b (tick_of t (ticks_before h t b)) ∷ tick_pick b all_of_them ∷ [] in
     ⊎_elim
-    (λ (yes : is_ticked h b ≡ true).
+    (λ (yes : has_tick h b ≡ true).
     let l = ticked_some h b yes in
     let here : AllFilled h (ticks_at h t b) = elim (ltb (running h b) h.total) as (λ c. AllFilled h (cond c open_part end_part)) [ true ↦ ticks_here_filled h t b (ticks_before h t b) (ticks_within t (running h b) h.total - ticks_before h t b) l | false ↦ (l, (l, tt)) ] in
     subst (λ c. AllFilled h (cond c (ticks_at h t b) [])) (sym yes) here)
-    (λ (no : is_ticked h b ≡ false). subst (λ c. AllFilled h (cond c (ticks_at h t b) [])) (sym no) tt)
-    (cases_Bool (is_ticked h b))
+    (λ (no : has_tick h b ≡ false). subst (λ c. AllFilled h (cond c (ticks_at h t b) [])) (sym no) tt)
+    (cases_Bool (has_tick h b))
 
 ticked_filled : (h : Seen) (t a n : ℕ) → AllFilled h (ticked_in h t a n)
 ticked_filled h t a zero = tt
@@ -199,13 +198,13 @@ before-le h t a b l =
 nonempty_at : (h : Seen) (b : ℕ) → 0 < get_or h.numbers b 0 → is_nonempty h b ≡ true
 nonempty_at h b l = lt-ltb 0 (get_or h.numbers b 0) l
 
-ticked_yes : (h : Seen) (b : ℕ) → 0 < get_or h.numbers b 0 → capped (below h b) < h.total → is_ticked h b ≡ true
+ticked_yes : (h : Seen) (b : ℕ) → 0 < get_or h.numbers b 0 → capped (below h b) < h.total → has_tick h b ≡ true
 ticked_yes h b l m = ap₂ (λ x y. x && y) (nonempty_at h b l) (lt-ltb (capped (below h b)) h.total m)
 
-ticked_empty : (h : Seen) (b : ℕ) → get_or h.numbers b 0 ≡ 0 → is_ticked h b ≡ false
+ticked_empty : (h : Seen) (b : ℕ) → get_or h.numbers b 0 ≡ 0 → has_tick h b ≡ false
 ticked_empty h b e = ap (λ n. ltb 0 n && ltb (capped (below h b)) h.total) e
 
-ticked_full : (h : Seen) (b : ℕ) → h.total ≤ capped (below h b) → is_ticked h b ≡ false
+ticked_full : (h : Seen) (b : ℕ) → h.total ≤ capped (below h b) → has_tick h b ≡ false
 ticked_full h b l = ap (λ c. is_nonempty h b && c) (le-ltb (capped (below h b)) h.total l) ∙ elim (is_nonempty h b) as (λ c. (c && false) ≡ false) [ true ↦ refl | false ↦ refl ]
 
 own_empty : (h : Seen) (t b : ℕ) → get_or h.numbers b 0 ≡ 0 → own h t b ≡ []
@@ -325,26 +324,26 @@ first_full h (suc i) l p f =
     (cases_lt (capped (below h i)) h.total)
 
 -- no pick was made at the first bin where the running count is the total, or behind it
-not_behind : (h : Seen) (last : Option ℕ) (b : ℕ) → IsOpen h last → h.total ≤ running h b → behind last ≤ b
+not_behind : (h : Seen) (last : Option ℕ) (b : ℕ) → IsOpen h last → h.total ≤ running h b → bin_after last ≤ b
 not_behind h last b o f =
     ⊎_elim
-    (λ (z : behind last ≡ 0). omega (arith, z))
-    (λ (z : capped (below h (behind last)) < h.total).
+    (λ (z : bin_after last ≡ 0). omega (arith, z))
+    (λ (z : capped (below h (bin_after last)) < h.total).
     ⊎_elim
-    (λ (lt : b < behind last).
-    let m = below-le h (b + 1) (behind last) (omega (arith, lt)) in
+    (λ (lt : b < bin_after last).
+    let m = below-le h (b + 1) (bin_after last) (omega (arith, lt)) in
     absurd (omega (arith, z, f, m)))
-    (λ (ge : behind last ≤ b). ge)
-    (cases_lt b (behind last)))
+    (λ (ge : bin_after last ≤ b). ge)
+    (cases_lt b (bin_after last)))
     o
 
-ticked_none : (h : Seen) (t a n : ℕ) → ((b : ℕ) → a ≤ b → is_ticked h b ≡ false) → ticked_in h t a n ≡ []
+ticked_none : (h : Seen) (t a n : ℕ) → ((b : ℕ) → a ≤ b → has_tick h b ≡ false) → ticked_in h t a n ≡ []
 ticked_none h t a zero e = refl
 ticked_none h t a (suc n) e =
     ticked_first h t a n ∙ (ap (λ c. cond c (ticks_at h t a) [] ++ ticked_in h t (a + 1) n) (e a (omega arith)) ∙ ticked_none h t (a + 1) n (λ b l. e b (omega (arith, l))))
 
 -- at the first bin where the running count is the total come the next tick and 1
-pub closes : (h : Seen) (t i k : ℕ) (last : Option ℕ) → i < bins_in h → 0 < h.total → 0 < get_or h.numbers i 0 → h.total ≤ running h i → k ≤ ticks_before h t (behind last) → IsOpen h last → NoneBefore i (drop k (quantile_picks h t))
+pub closes : (h : Seen) (t i k : ℕ) (last : Option ℕ) → i < bins_in h → 0 < h.total → 0 < get_or h.numbers i 0 → h.total ≤ running h i → k ≤ ticks_before h t (bin_after last) → IsOpen h last → NoneBefore i (drop k (quantile_picks h t))
     → (drop k (quantile_picks h t) ≡ tick_pick i (tick_of t k) ∷ tick_pick i all_of_them ∷ []) × (drop (k + 1) (quantile_picks h t) ≡ tick_pick i all_of_them ∷ [])
 closes h t i k last l p m f g o a =
     let before : capped (below h i) < h.total =
@@ -355,7 +354,7 @@ closes h t i k last l p m f g o a =
     let b = r.0 in
     let in_bins : r.0 < bins_in h = omega (arith, r.1, l) in
     let len = given_before h t r.0 (omega (arith, in_bins)) (inr r.3) in
-    let le = before-le h t (behind last) r.0 (not_behind h last r.0 o r.4) in
+    let le = before-le h t (bin_after last) r.0 (not_behind h last r.0 o r.4) in
     let rest : List Pick = tick_pick r.0 all_of_them ∷ ticked_in h t (r.0 + 1) (bins_in h - (r.0 + 1)) in
     let parts : quantile_picks h t ≡ ticked_in h t 0 r.0 ++ (tick_pick r.0 (tick_of t (ticks_before h t r.0)) ∷ rest) = picks_at h t r.0 in_bins ∙ ap (λ ps. ticked_in h t 0 r.0 ++ (ps ++ ticked_in h t (r.0 + 1) (bins_in h - (r.0 + 1)))) (own_end h t r.0 r.2 r.3 r.4) in
     let no : i ≤ r.0 = not_given i k (ticked_in h t 0 r.0) rest (tick_pick r.0 (tick_of t (ticks_before h t r.0))) (omega (arith, g, le, len)) (subst (λ ps. NoneBefore i (drop k ps)) parts a) in
@@ -363,7 +362,7 @@ closes h t i k last l p m f g o a =
     (cases_lt (capped (below h i)) h.total) in
     let len = given_before h t i (omega (arith, l)) (inr before) in
     let there = given_there h t i k l a in
-    let le = before-le h t (behind last) i (not_behind h last i o f) in
+    let le = before-le h t (bin_after last) i (not_behind h last i o f) in
     let k_is : ticks_before h t i ≡ k = omega (arith, len, there, le, g) in
     let none : ticked_in h t (i + 1) (bins_in h - (i + 1)) ≡ [] = ticked_none h t (i + 1) (bins_in h - (i + 1)) (λ b q. ticked_full h b (let n = below-le h (i + 1) b q in omega (arith, f, n))) in
     let two : List Pick = tick_pick i (tick_of t k) ∷ tick_pick i all_of_them ∷ [] in

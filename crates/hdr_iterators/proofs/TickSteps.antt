@@ -2,7 +2,7 @@
 use Rattle.std.proofs.Common.{◌≡◌, ℕ, ◌+◌, ◌^◌, ◌<◌, ◌≤◌, true, false, [], ◌∷◌, get_or, drop, Option, Some, None, sym, refl, ap, ◌∙◌, subst, inl, inr, arith}
 use Rattle.std.proofs.lemmas.Bool.{false≢true}
 use Rattle.hdr_iterators.specs.Seen.{Seen, AreBins, bins_in, running}
-use Rattle.hdr_iterators.specs.Picks.{NoneBefore, behind}
+use Rattle.hdr_iterators.specs.Picks.{NoneBefore, bin_after}
 use Rattle.hdr_iterators.specs.Places.{quantile_picks, tick_pick, tick_of, is_within, all_of_them}
 use Rattle.hdr_iterators.specs.Ticks.{TickStep}
 use Rattle.hdr_iterators.proofs.TickLists.{more_given, next_open, closes, total_some}
@@ -30,7 +30,7 @@ begins_to_close h t k i last w l m f a =
     )
 
 -- 1 comes
-pub ends : (h : Seen) (t k i : ℕ) (last : Option ℕ) → TickStep h t k true false last → behind last ≤ i + 1 → NoneBefore i (drop (k + 1) (quantile_picks h t))
+pub ends : (h : Seen) (t k i : ℕ) (last : Option ℕ) → TickStep h t k true false last → bin_after last ≤ i + 1 → NoneBefore i (drop (k + 1) (quantile_picks h t))
     → TickStep h t k true true (Some i) × (drop (k + 1) (quantile_picks h t) ≡ tick_pick i all_of_them ∷ [])
 ends h t k i None w l a = absurd (w.whole refl refl)
 ends h t k i (Some b) w l a =

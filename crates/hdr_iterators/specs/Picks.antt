@@ -63,17 +63,17 @@ AllFilled h [] = Unit {0}
 AllFilled h (p ∷ ps) = (0 < slice_index h.numbers p.place) × AllFilled h ps
 
 -- the bin behind the one that was picked last
-abbrev pub behind : Option ℕ → ℕ
-behind None = 0
-behind (Some i) = i + 1
+abbrev pub bin_after : Option ℕ → ℕ
+bin_after None = 0
+bin_after (Some i) = i + 1
 
 -- a pick was made at the last bin that counts as recorded, or behind it
 abbrev pub IsAtEnd : Seen → Option ℕ → Type 0
-IsAtEnd h last = h.last < behind last
+IsAtEnd h last = h.last < bin_after last
 
 -- what is asked at a bin is its number and the capped sum up to it, and no bin behind it was picked
 pub record IsAsked (h : Seen) (last : Option ℕ) (index total count : ℕ) : Type 0 where
-  pub in_order : behind last ≤ index + 1
+  pub in_order : bin_after last ≤ index + 1
   pub inside : index < bins_in h
   pub total_is : total ≡ running h index
   pub count_is : count ≡ slice_index h.numbers index
@@ -83,4 +83,4 @@ pub record InStep (h : Seen) (picks : List Pick) (index total since count : ℕ)
   pub ahead : NoneBefore index picks
   pub within : AllBefore (bins_in h) picks
   pub asked : IsAsked h last index total count
-  pub since_is : since ≡ capped (below h (index + 1) - below h (behind last))
+  pub since_is : since ≡ capped (below h (index + 1) - below h (bin_after last))

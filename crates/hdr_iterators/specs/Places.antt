@@ -93,9 +93,9 @@ ticks_at h t b =
     else tick_pick b (tick_of t (ticks_before h t b)) ∷ tick_pick b all_of_them ∷ []
 
 -- a nonempty bin up to the first one where the running count is the total
-abbrev pub is_ticked : Seen → ℕ → Bool
-is_ticked h b = is_nonempty h b && nat_lt (capped (below h b)) h.total
+abbrev pub has_tick : Seen → ℕ → Bool
+has_tick h b = is_nonempty h b && nat_lt (capped (below h b)) h.total
 
 -- the ticks of each of these
 abbrev pub quantile_picks : Seen → ℕ → List Pick
-quantile_picks h t = flat_map (ticks_at h t) (filter (is_ticked h) (bins_from h 0))
+quantile_picks h t = flat_map (ticks_at h t) (filter (has_tick h) (bins_from h 0))

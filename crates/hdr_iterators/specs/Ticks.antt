@@ -1,7 +1,7 @@
 -- Where the picker of ticks stands.
 use Rattle.std.specs.Prelude.{◌≡◌, ℕ, ◌+◌, ◌<◌, ◌≤◌, [], ◌∷◌, drop, slice_index, Option, MatchOption, Bool, true, false, nat_le, if◌then◌else◌, ◌⊎◌}
 use Rattle.hdr_iterators.specs.Seen.{Seen, AreBins, capped, below}
-use Rattle.hdr_iterators.specs.Picks.{behind}
+use Rattle.hdr_iterators.specs.Picks.{bin_after}
 use Rattle.hdr_iterators.specs.Places.{quantile_picks, ticks_before, is_within, tick_pick, all_of_them}
 
 -- the tick of a number, of so many to each half of the distance
@@ -25,11 +25,11 @@ given k closing = if closing then k + 1 else k
 
 -- no bin up to the one that was picked last has the total as its running count
 abbrev pub IsOpen : Seen → Option ℕ → Type 0
-IsOpen h last = (behind last ≡ 0) ⊎ (capped (below h (behind last)) < h.total)
+IsOpen h last = (bin_after last ≡ 0) ⊎ (capped (below h (bin_after last)) < h.total)
 
 -- with k ticks given: these are within the running count at the last pick; or the total was reached there, and 1 is to come
 pub record TickStep (h : Seen) (t k : ℕ) (closing done : Bool) (last : Option ℕ) : Type 0 where
   pub plain : AreBins h
   pub some : 1 ≤ t
-  pub going : closing ≡ false → (k ≤ ticks_before h t (behind last)) × IsOpen h last
+  pub going : closing ≡ false → (k ≤ ticks_before h t (bin_after last)) × IsOpen h last
   pub whole : closing ≡ true → done ≡ false → MatchOption last ⊥ (λ b. (drop (k + 1) (quantile_picks h t) ≡ tick_pick b all_of_them ∷ []) × (0 < slice_index h.numbers b))

@@ -84,11 +84,11 @@ pub struct HistogramIterator<'a, T: Counter, P: PickyIterator<T>> {
 impl<'a, T: Counter, P: PickyIterator<T>> Model for HistogramIterator<'a, T, P> {
     ghost use Rattle.std.specs.Prelude.{List, ◌≡◌, IsTrue, []};
     ghost use Rattle.hdr_base.specs.Items.{Item};
-    ghost use Rattle.hdr_iterators.specs.Picks.{items_from, behind, InStep};
+    ghost use Rattle.hdr_iterators.specs.Picks.{items_from, bin_after, InStep};
 
     ghost Value = { List Item };
 
-    ghost view = { λ it. items_from it.bins (behind it.last_picked_index) (P.picks it.picker it.bins) };
+    ghost view = { λ it. items_from it.bins (bin_after it.last_picked_index) (P.picks it.picker it.bins) };
 
     ghost invariant = { λ it. P.goes_with it.picker it.bins it.last_picked_index
         × InStep it.bins (P.picks it.picker it.bins) it.current_index it.total_count_to_index it.count_since_last_iteration (T.number it.count_at_index) it.last_picked_index

@@ -26,10 +26,10 @@ impl Iter {
 impl<T: Counter> PickyIterator<T> for Iter {
     ghost use Rattle.std.specs.Prelude.{map, filter, ◌≡◌};
     ghost use Rattle.hdr_iterators.specs.Seen.{AreBins};
-    ghost use Rattle.hdr_iterators.specs.Picks.{behind};
+    ghost use Rattle.hdr_iterators.specs.Picks.{bin_after};
     ghost use Rattle.hdr_iterators.specs.Places.{bin_pick, bins_from, is_nonempty};
 
-    ghost picks = { λ p h. map bin_pick (filter (is_nonempty h) (bins_from h (behind p.visited))) };
+    ghost picks = { λ p h. map bin_pick (filter (is_nonempty h) (bins_from h (bin_after p.visited))) };
 
     ghost goes_with = { λ p h last. AreBins h × (p.visited ≡ last) };
 

@@ -15,7 +15,7 @@ use Rattle.hdr_log.proofs.Digits.{own, digits_text}
 use Rattle.std.specs.Result.{MatchResult, result_ok}
 use Rattle.std.proofs.lemmas.Str.{is_utf8-from_IsUtf8, IsUtf8-from_is_utf8, IsUtf8-append, IsUtf8-from_ascii}
 use Rattle.std.specs.Option.{MatchOption, option_map}
-use Rattle.hdr_log.specs.Parts.{parted}
+use Rattle.hdr_log.specs.Parts.{split_at_byte}
 use Rattle.hdr_log.specs.Grammar.{behind, without_crs, only_if, is_decimal, digits_around}
 
 pub behind_some : (front text : List ℕ) → pointwise nat_eq (take (length front) text) front ≡ true → behind front text ≡ Some (drop (length front) text)
@@ -69,8 +69,8 @@ pub lt_test : (a b : ℕ) → a < b → nat_lt a b ≡ true
 lt_test a b h = grind arith
 
 -- the first byte b parts a text
-pub parted_front : (b : ℕ) (xs ys : List ℕ) → list_all (λ x. not (x == b)) xs ≡ true → parted b (xs ++ b ∷ ys) ≡ Some (xs, ys)
-unfolding parted
+pub parted_front : (b : ℕ) (xs ys : List ℕ) → list_all (λ x. not (x == b)) xs ≡ true → split_at_byte b (xs ++ b ∷ ys) ≡ Some (xs, ys)
+unfolding split_at_byte
 parted_front b xs ys h =
     let f : position_or_len (λ x. x == b) (xs ++ b ∷ ys) ≡ length xs = first_at b xs ys h in
     let t : nat_lt (length xs) (length (xs ++ b ∷ ys)) ≡ true = lt_test _ _ (omega (arith, length-append xs (b ∷ ys))) in
@@ -80,8 +80,8 @@ joined_at : (b i : ℕ) (text : List ℕ) → i < length text → (get_or text i
 joined_at b i text h e = sym (take-append-drop i text) ∙ ap (λ t. take i text ++ t) (drop-cons text i 0 h ∙ ap (λ c. c ∷ drop (suc i) text) (eqb-true _ b e) ∙ ap (λ n. b ∷ drop n text) (sym (add-one i)))
 
 -- what is parted is joined again
-pub parted_whole : (b : ℕ) (text : List ℕ) (p : List ℕ × List ℕ) → parted b text ≡ Some p → text ≡ p.0 ++ b ∷ p.1
-unfolding parted
+pub parted_whole : (b : ℕ) (text : List ℕ) (p : List ℕ × List ℕ) → split_at_byte b text ≡ Some p → text ≡ p.0 ++ b ∷ p.1
+unfolding split_at_byte
 parted_whole b text p h = elim (cases_lt (position_or_len (λ x. x == b) text) (length text)) [
   | inl l ↦ (let t : nat_lt (position_or_len (λ x. x == b) text) (length text) ≡ true = lt_test _ _ l in
       let j : text ≡ take (position_or_len (λ x. x == b) text) text ++ b ∷ drop (position_or_len (λ x. x == b) text + 1) text = joined_at b _ text l (passes_at_first (λ x. x == b) text 0 l) in
@@ -95,7 +95,7 @@ parted_whole b text p h = elim (cases_lt (position_or_len (λ x. x == b) text) (
 pub digits_ascii : (text : List ℕ) → list_all is_ascii_digit text ≡ true → IsAscii text
 digits_ascii text h = IsAscii-from_digits text (own.to text h)
 
-around_text : (text : List ℕ) (o : Option (List ℕ × List ℕ)) → parted 46 text ≡ o → digits_around o text ≡ true → is_utf8 text ≡ true
+around_text : (text : List ℕ) (o : Option (List ℕ × List ℕ)) → split_at_byte 46 text ≡ o → digits_around o text ≡ true → is_utf8 text ≡ true
 around_text text None e h = is_utf8-from_IsUtf8 text (digits_text text h)
 around_text text (Some p) e h =
     let whole : list_all is_ascii_digit p.0 ≡ true = grind arith in
@@ -106,4 +106,4 @@ around_text text (Some p) e h =
 
 -- a decimal is a text
 pub decimal_text : (text : List ℕ) → is_decimal text ≡ true → is_utf8 text ≡ true
-decimal_text text h = around_text text (parted 46 text) refl h
+decimal_text text h = around_text text (split_at_byte 46 text) refl h

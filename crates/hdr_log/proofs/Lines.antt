@@ -6,7 +6,7 @@ use Rattle.std.specs.Fmt.{decimal}
 use Rattle.std.specs.Str.{is_utf8}
 use Rattle.std.proofs.lemmas.List.Folds.{list_all-append}
 use Rattle.std.proofs.lemmas.Fmt.{digits_decimal, decimal_nonempty}
-use Rattle.hdr_log.specs.Parts.{parted}
+use Rattle.hdr_log.specs.Parts.{split_at_byte}
 use Rattle.hdr_log.specs.Grammar.{behind, is_tag, is_tag_byte, tag_of, is_decimal, without_crs, time_before, interval_of}
 use Rattle.hdr_log.specs.Texts.{three_digits, thousandths, tag_front, interval_line, AreTags}
 use Rattle.hdr_log.proofs.Digits.{own}
@@ -36,7 +36,7 @@ no_byte b t n e h =
     let rest : list_all (λ x. not (x == b)) (three_digits (t % 1000)) ≡ true = not_among b (three_digits (t % 1000)) n (three_digits_all (t % 1000) (omega arith)) in
     list_all-append (λ x. not (x == b)) (decimal (t / 1000)) (46 ∷ three_digits (t % 1000)) ∙ (rw (whole, e, rest) refl)
 
-pub number_parted : (t : ℕ) (rest : List ℕ) → t / 1000 < 2 ^ 64 → parted 44 (thousandths t ++ 44 ∷ rest) ≡ Some (thousandths t, rest)
+pub number_parted : (t : ℕ) (rest : List ℕ) → t / 1000 < 2 ^ 64 → split_at_byte 44 (thousandths t ++ 44 ∷ rest) ≡ Some (thousandths t, rest)
 number_parted t rest h = parted_front 44 (thousandths t) rest (no_byte 44 t refl refl h)
 
 some_digits : (n : ℕ) → not (n == 0 && false) ≡ true
@@ -45,7 +45,7 @@ some_digits n = grind arith
 pub decimal_printed : (t : ℕ) → t / 1000 < 2 ^ 64 → is_decimal (thousandths t) ≡ true
 unfolding thousandths
 decimal_printed t h =
-    let p : parted 46 (decimal (t / 1000) ++ 46 ∷ three_digits (t % 1000)) ≡ Some (decimal (t / 1000), three_digits (t % 1000)) = parted_front 46 (decimal (t / 1000)) (three_digits (t % 1000)) (not_among 46 (decimal (t / 1000)) refl (digits_decimal own (t / 1000) h)) in
+    let p : split_at_byte 46 (decimal (t / 1000) ++ 46 ∷ three_digits (t % 1000)) ≡ Some (decimal (t / 1000), three_digits (t % 1000)) = parted_front 46 (decimal (t / 1000)) (three_digits (t % 1000)) (not_among 46 (decimal (t / 1000)) refl (digits_decimal own (t / 1000) h)) in
     let a : list_all is_ascii_digit (decimal (t / 1000)) ≡ true = digits_decimal own (t / 1000) h in
     let b : list_all is_ascii_digit (three_digits (t % 1000)) ≡ true = three_digits_all (t % 1000) (omega arith) in
     rw p (rw (a, b) (some_digits (length (decimal (t / 1000)))))
@@ -66,7 +66,7 @@ not_hash x h = grind arith
 regroup : (front tag rest : List ℕ) → (front ++ tag ++ 44 ∷ []) ++ rest ≡ front ++ (tag ++ 44 ∷ rest)
 regroup front tag rest = simp append_assoc
 
-some_tag : (tag rest behind_tag line : List ℕ) → parted 44 rest ≡ Some (tag, behind_tag) → is_tag tag ≡ true → tag_of (Some rest) line ≡ Some (Some tag, behind_tag)
+some_tag : (tag rest behind_tag line : List ℕ) → split_at_byte 44 rest ≡ Some (tag, behind_tag) → is_tag tag ≡ true → tag_of (Some rest) line ≡ Some (Some tag, behind_tag)
 some_tag tag rest behind_tag line p ok = rw (p, ok) refl
 
 -- the tag is read, and what stands behind it
@@ -80,13 +80,13 @@ tag_read None t rest ok h =
 tag_read (Some tag) t rest ok h =
     let g : (codes "Tag=" ++ tag ++ 44 ∷ []) ++ (thousandths t ++ rest) ≡ codes "Tag=" ++ (tag ++ 44 ∷ (thousandths t ++ rest)) = regroup (codes "Tag=") tag (thousandths t ++ rest) in
     let f : behind (codes "Tag=") ((codes "Tag=" ++ tag ++ 44 ∷ []) ++ (thousandths t ++ rest)) ≡ Some (tag ++ 44 ∷ (thousandths t ++ rest)) = ap (behind (codes "Tag=")) g ∙ behind_front (codes "Tag=") (tag ++ 44 ∷ (thousandths t ++ rest)) in
-    let p : parted 44 (tag ++ 44 ∷ (thousandths t ++ rest)) ≡ Some (tag, thousandths t ++ rest) = parted_front 44 tag (thousandths t ++ rest) (tag_no_comma tag (tag_bytes tag ok)) in
+    let p : split_at_byte 44 (tag ++ 44 ∷ (thousandths t ++ rest)) ≡ Some (tag, thousandths t ++ rest) = parted_front 44 tag (thousandths t ++ rest) (tag_no_comma tag (tag_bytes tag ok)) in
     ap (λ o. tag_of o ((codes "Tag=" ++ tag ++ 44 ∷ []) ++ (thousandths t ++ rest))) f ∙ some_tag tag (tag ++ 44 ∷ (thousandths t ++ rest)) (thousandths t ++ rest) ((codes "Tag=" ++ tag ++ 44 ∷ []) ++ (thousandths t ++ rest)) p ok
 
 pub time_read : (b t : ℕ) (rest : List ℕ) → is_ascii_digit b ≡ false → (46 == b) ≡ false → t / 1000 < 2 ^ 64 → time_before b (thousandths t ++ b ∷ rest) ≡ Some (t * 1_000_000, rest)
 unfolding time_before
 time_read b t rest n e h =
-    let p : parted b (thousandths t ++ b ∷ rest) ≡ Some (thousandths t, rest) = parted_front b (thousandths t) rest (no_byte b t n e h) in
+    let p : split_at_byte b (thousandths t ++ b ∷ rest) ≡ Some (thousandths t, rest) = parted_front b (thousandths t) rest (no_byte b t n e h) in
     rw (p, time_of_thousandths t h) refl
 
 -- what the line says
@@ -97,6 +97,6 @@ interval_read tag start duration max field ok hs hd hm u w =
     let t : tag_of (behind (codes "Tag=") (interval_line tag start duration max field)) (interval_line tag start duration max field) ≡ Some (tag, thousandths start ++ 44 ∷ (thousandths duration ++ 44 ∷ (thousandths max ++ 44 ∷ field))) = tag_read tag start (44 ∷ (thousandths duration ++ 44 ∷ (thousandths max ++ 44 ∷ field))) ok hs in
     let p1 : time_before 44 (thousandths start ++ 44 ∷ (thousandths duration ++ 44 ∷ (thousandths max ++ 44 ∷ field))) ≡ Some (start * 1_000_000, thousandths duration ++ 44 ∷ (thousandths max ++ 44 ∷ field)) = time_read 44 start _ refl refl hs in
     let p2 : time_before 44 (thousandths duration ++ 44 ∷ (thousandths max ++ 44 ∷ field)) ≡ Some (duration * 1_000_000, thousandths max ++ 44 ∷ field) = time_read 44 duration _ refl refl hd in
-    let p3 : parted 44 (thousandths max ++ 44 ∷ field) ≡ Some (thousandths max, field) = number_parted max field hm in
+    let p3 : split_at_byte 44 (thousandths max ++ 44 ∷ field) ≡ Some (thousandths max, field) = number_parted max field hm in
     let m : is_decimal (thousandths max) ≡ true = decimal_printed max hm in
     rw (t, p1, p2, p3) (rw (m, w, u) refl)

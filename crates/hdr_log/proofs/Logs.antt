@@ -6,9 +6,9 @@ use Rattle.std.specs.Char.{is_ascii_digit}
 use Rattle.std.specs.List.{list_all, AllByRecursion}
 use Rattle.std.specs.Option.{option_map, option_or}
 use Rattle.std.specs.Str.{is_utf8}
-use Rattle.hdr_log.specs.Parts.{parts, parted, number_of}
+use Rattle.hdr_log.specs.Parts.{parts, split_at_byte, number_of}
 use Rattle.hdr_log.specs.Grammar.{behind, Entry, Start, Base, Span, time_of, interval_of, header_of, entry_of, is_skipped, and_then, time_before, readings, without_crs}
-use Rattle.hdr_log.specs.Texts.{thousandths, ended, lines_text, tag_front, interval_line, start_line, AreTags}
+use Rattle.hdr_log.specs.Texts.{thousandths, with_line_feed, lines_text, tag_front, interval_line, start_line, AreTags}
 use Rattle.hdr_log.specs.Pieces.{and_entry, header_said, is_read}
 use Rattle.hdr_log.proofs.Fronts.{parted_front, parted_whole}
 use Rattle.hdr_log.proofs.Steps.{readings_step, readings_nothing}
@@ -32,10 +32,10 @@ chosen None skip at entries h = let s : skip ≡ true = h refl in rw s refl
 pub lines_read : (lines : List (List ℕ)) (at : ℕ) → AllByRecursion IsLine lines → readings at (parts 10 (lines_text lines)) ≡ map is_read (entries_of lines)
 lines_read [] at h = readings_nothing at [] refl
 lines_read (line ∷ lines) at h =
-    let e : ended line ++ lines_text lines ≡ line ++ 10 ∷ lines_text lines = append_assoc line (10 ∷ []) (lines_text lines) in
-    let p : parted 10 (ended line ++ lines_text lines) ≡ Some (line, lines_text lines) = ap (parted 10) e ∙ parted_front 10 line (lines_text lines) h.0.whole in
+    let e : with_line_feed line ++ lines_text lines ≡ line ++ 10 ∷ lines_text lines = append_assoc line (10 ∷ []) (lines_text lines) in
+    let p : split_at_byte 10 (with_line_feed line ++ lines_text lines) ≡ Some (line, lines_text lines) = ap (split_at_byte 10) e ∙ parted_front 10 line (lines_text lines) h.0.whole in
     let rest : readings (at + length line + 1) (parts 10 (lines_text lines)) ≡ map is_read (entries_of lines) = lines_read lines (at + length line + 1) h.1 in
-    readings_step at (ended line ++ lines_text lines) line (lines_text lines) p ∙ ap (and_then (entry_of line) (is_skipped line) at) rest ∙ chosen (entry_of line) (is_skipped line) at (entries_of lines) h.0.known
+    readings_step at (with_line_feed line ++ lines_text lines) line (lines_text lines) p ∙ ap (and_then (entry_of line) (is_skipped line) at) rest ∙ chosen (entry_of line) (is_skipped line) at (entries_of lines) h.0.known
 
 -- a line that doesn't begin with # has no header
 no_header : (x : ℕ) (line name : List ℕ) → (35 == x) ≡ false → header_of (35 ∷ name) (x ∷ line) ≡ None
@@ -53,7 +53,7 @@ number_none : (text : List ℕ) → number_of (35 ∷ text) ≡ None
 unfolding number_of
 number_none text = grind arith
 
-time_none_by : (line : List ℕ) (o : Option (List ℕ × List ℕ)) → parted 46 (35 ∷ line) ≡ o → time_of (35 ∷ line) ≡ None
+time_none_by : (line : List ℕ) (o : Option (List ℕ × List ℕ)) → split_at_byte 46 (35 ∷ line) ≡ o → time_of (35 ∷ line) ≡ None
 unfolding time_of
 time_none_by line None e = rw e refl
 time_none_by line (Some p) e =
@@ -61,18 +61,18 @@ time_none_by line (Some p) e =
     let n : number_of p.0 ≡ None = ap number_of k.1 ∙ number_none k.0 in
     rw e (rw n refl)
 
-before_none_by : (b : ℕ) (line : List ℕ) (o : Option (List ℕ × List ℕ)) → (35 == b) ≡ false → parted b (35 ∷ line) ≡ o → time_before b (35 ∷ line) ≡ None
+before_none_by : (b : ℕ) (line : List ℕ) (o : Option (List ℕ × List ℕ)) → (35 == b) ≡ false → split_at_byte b (35 ∷ line) ≡ o → time_before b (35 ∷ line) ≡ None
 unfolding time_before
 before_none_by b line None n e = rw e refl
 before_none_by b line (Some p) n e =
     let k : (more : List ℕ) × (p.0 ≡ 35 ∷ more) = first_kept b 35 line p.0 p.1 n (parted_whole b (35 ∷ line) p e) in
-    let t : time_of p.0 ≡ None = ap time_of k.1 ∙ time_none_by k.0 (parted 46 (35 ∷ k.0)) refl in
+    let t : time_of p.0 ≡ None = ap time_of k.1 ∙ time_none_by k.0 (split_at_byte 46 (35 ∷ k.0)) refl in
     rw e (rw t refl)
 
 -- a line that begins with # is no interval
 no_interval : (line : List ℕ) → interval_of (35 ∷ line) ≡ None
 unfolding interval_of
-no_interval line = let t : time_before 44 (35 ∷ line) ≡ None = before_none_by 44 line (parted 44 (35 ∷ line)) refl refl in rw t refl
+no_interval line = let t : time_before 44 (35 ∷ line) ≡ None = before_none_by 44 line (split_at_byte 44 (35 ∷ line)) refl refl in rw t refl
 
 pub interval_begins : (tag : Option (List ℕ)) (t : ℕ) (rest : List ℕ) → t / 1000 < 2 ^ 64 → (x : ℕ) × (more : List ℕ) × (tag_front tag ++ (thousandths t ++ rest) ≡ x ∷ more) × ((35 == x) ≡ false)
 interval_begins None t rest h = let b : (x : ℕ) × (more : List ℕ) × (thousandths t ≡ x ∷ more) × (is_ascii_digit x ≡ true) = begins t h in (b.0, b.1 ++ rest, ap (λ s. s ++ rest) b.2, not_hash b.0 b.3)

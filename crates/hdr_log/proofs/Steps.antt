@@ -4,13 +4,13 @@ use Rattle.std.specs.List.{position_or_len, before_first, after_first}
 use Rattle.std.proofs.lemmas.List.Splits.{slice_split_first}
 use Rattle.std.proofs.lemmas.Bool.{cases_lt}
 use Rattle.std.proofs.lemmas.Option.{same_Some, none-some}
-use Rattle.hdr_log.specs.Parts.{parts, parted}
+use Rattle.hdr_log.specs.Parts.{parts, split_at_byte}
 use Rattle.hdr_log.specs.Grammar.{Entry, entry_of, is_skipped, and_then, readings}
 use Rattle.hdr_log.proofs.Fronts.{lt_test, not_lt_test, parted_whole}
 
 -- the lines behind a line
-pub split_parted : (text line rest : List ℕ) → parted 10 text ≡ Some (line, rest) → parts 10 text ≡ line ∷ parts 10 rest
-unfolding parted
+pub split_parted : (text line rest : List ℕ) → split_at_byte 10 text ≡ Some (line, rest) → parts 10 text ≡ line ∷ parts 10 rest
+unfolding split_at_byte
 split_parted text line rest h = elim (cases_lt (position_or_len (λ x. x == 10) text) (length text)) [
   | inl l ↦ (let t : nat_lt (position_or_len (λ x. x == 10) text) (length text) ≡ true = lt_test _ _ l in
       let q : Some (before_first (λ x. x == 10) text, after_first (λ x. x == 10) text) ≡ Some (line, rest) = rw t at h in
@@ -25,8 +25,8 @@ no_first : (text : List ℕ) → length text ≤ position_or_len (λ x. x == 10)
 no_first [] h = refl
 no_first (x ∷ text) h = grind (arith, no_first text)
 
-pub split_none : (text : List ℕ) → parted 10 text ≡ None → parts 10 text ≡ text ∷ []
-unfolding parted
+pub split_none : (text : List ℕ) → split_at_byte 10 text ≡ None → parts 10 text ≡ text ∷ []
+unfolding split_at_byte
 split_none text h = elim (cases_lt (position_or_len (λ x. x == 10) text) (length text)) [
   | inl l ↦ (let t : nat_lt (position_or_len (λ x. x == 10) text) (length text) ≡ true = lt_test _ _ l in
       absurd (none-some _ (sym (rw t at h))))
@@ -47,14 +47,14 @@ lines_step at [] next lines = refl
 lines_step at (x ∷ line) next lines = refl
 
 -- one line is read
-pub readings_step : (at : ℕ) (text line rest : List ℕ) → parted 10 text ≡ Some (line, rest) → readings at (parts 10 text) ≡ and_then (entry_of line) (is_skipped line) at (readings (at + length line + 1) (parts 10 rest))
+pub readings_step : (at : ℕ) (text line rest : List ℕ) → split_at_byte 10 text ≡ Some (line, rest) → readings at (parts 10 text) ≡ and_then (entry_of line) (is_skipped line) at (readings (at + length line + 1) (parts 10 rest))
 unfolding readings
 readings_step at text line rest h = let p : (first : List ℕ) × (more : List (List ℕ)) × (parts 10 rest ≡ first ∷ more) = some_part rest in
     let e : parts 10 text ≡ line ∷ parts 10 rest = split_parted text line rest h in
     rw (e, p.2) (lines_step at line p.0 p.1)
 
 -- what is left without an LF
-pub readings_end : (at : ℕ) (text : List ℕ) → parted 10 text ≡ None → 0 < length text → readings at (parts 10 text) ≡ Err at ∷ []
+pub readings_end : (at : ℕ) (text : List ℕ) → split_at_byte 10 text ≡ None → 0 < length text → readings at (parts 10 text) ≡ Err at ∷ []
 unfolding readings
 readings_end at [] h n = absurd (omega arith)
 readings_end at (x ∷ text) h n = rw (split_none (x ∷ text) h) refl
@@ -64,21 +64,21 @@ unfolding readings
 readings_nothing at [] h = refl
 readings_nothing at (x ∷ text) h = absurd (omega arith)
 
-pub parted_length : (b : ℕ) (text line rest : List ℕ) → parted b text ≡ Some (line, rest) → length text ≡ length line + 1 + length rest
+pub parted_length : (b : ℕ) (text line rest : List ℕ) → split_at_byte b text ≡ Some (line, rest) → length text ≡ length line + 1 + length rest
 parted_length b text line rest h = ap length (parted_whole b text (line, rest) h) ∙ length-append line (b ∷ rest) ∙ omega arith
 
 -- the three ways to go on
-pub gives_entry : (at : ℕ) (text line rest : List ℕ) (e : Entry) (all : List (Result Entry ℕ)) → readings at (parts 10 text) ≡ all → Some (line, rest) ≡ parted 10 text → Some e ≡ entry_of line → all ≡ Ok e ∷ readings (at + length line + 1) (parts 10 rest)
+pub gives_entry : (at : ℕ) (text line rest : List ℕ) (e : Entry) (all : List (Result Entry ℕ)) → readings at (parts 10 text) ≡ all → Some (line, rest) ≡ split_at_byte 10 text → Some e ≡ entry_of line → all ≡ Ok e ∷ readings (at + length line + 1) (parts 10 rest)
 gives_entry at text line rest e all same h says = sym same ∙ readings_step at text line rest (sym h) ∙ ap (λ o. and_then o (is_skipped line) at (readings (at + length line + 1) (parts 10 rest))) (sym says)
 
-pub gives_next : (at : ℕ) (text line rest : List ℕ) (all : List (Result Entry ℕ)) → readings at (parts 10 text) ≡ all → Some (line, rest) ≡ parted 10 text → None ≡ entry_of line → true ≡ is_skipped line → readings (at + length line + 1) (parts 10 rest) ≡ all
+pub gives_next : (at : ℕ) (text line rest : List ℕ) (all : List (Result Entry ℕ)) → readings at (parts 10 text) ≡ all → Some (line, rest) ≡ split_at_byte 10 text → None ≡ entry_of line → true ≡ is_skipped line → readings (at + length line + 1) (parts 10 rest) ≡ all
 gives_next at text line rest all same h says skip = sym (sym same ∙ readings_step at text line rest (sym h) ∙ (let o : entry_of line ≡ None = sym says in let k : is_skipped line ≡ true = sym skip in rw (o, k) refl))
 
-pub gives_error : (at later : ℕ) (text line rest : List ℕ) (all : List (Result Entry ℕ)) → readings at (parts 10 text) ≡ all → Some (line, rest) ≡ parted 10 text → None ≡ entry_of line → false ≡ is_skipped line → all ≡ Err at ∷ readings later (parts 10 [])
+pub gives_error : (at later : ℕ) (text line rest : List ℕ) (all : List (Result Entry ℕ)) → readings at (parts 10 text) ≡ all → Some (line, rest) ≡ split_at_byte 10 text → None ≡ entry_of line → false ≡ is_skipped line → all ≡ Err at ∷ readings later (parts 10 [])
 gives_error at later text line rest all same h says skip = sym same ∙ readings_step at text line rest (sym h) ∙ (let o : entry_of line ≡ None = sym says in let k : is_skipped line ≡ false = sym skip in rw (o, k) (ap (λ t. Err at ∷ t) (sym (readings_nothing later [] refl))))
 
 pub gives_end : (at : ℕ) (text : List ℕ) (all : List (Result Entry ℕ)) → readings at (parts 10 text) ≡ all → length text ≡ 0 → (all ≡ []) × (readings at (parts 10 text) ≡ [])
 gives_end at text all same h = (sym same ∙ readings_nothing at text h, readings_nothing at text h)
 
-pub gives_last_error : (at : ℕ) (text : List ℕ) (all : List (Result Entry ℕ)) → readings at (parts 10 text) ≡ all → None ≡ parted 10 text → 0 < length text → all ≡ Err at ∷ readings at (parts 10 [])
+pub gives_last_error : (at : ℕ) (text : List ℕ) (all : List (Result Entry ℕ)) → readings at (parts 10 text) ≡ all → None ≡ split_at_byte 10 text → 0 < length text → all ≡ Err at ∷ readings at (parts 10 [])
 gives_last_error at text all same h n = sym same ∙ readings_end at text (sym h) n ∙ ap (λ t. Err at ∷ t) (sym (readings_nothing at [] refl))

@@ -6,7 +6,7 @@ use Rattle.std.proofs.lemmas.Option.{none-some}
 use Rattle.std.proofs.lemmas.List.Folds.{list_all-append}
 use Rattle.hdr_log.specs.Parts.{parts}
 use Rattle.hdr_log.specs.Grammar.{Entry, Start, Base, header_of, entry_of, reading, is_tag, is_tag_byte}
-use Rattle.hdr_log.specs.Texts.{thousandths, ended, lines_text, comment_line, start_line, base_line, divisor_line, tag_front, interval_line, AreTags}
+use Rattle.hdr_log.specs.Texts.{thousandths, with_line_feed, lines_text, comment_line, start_line, base_line, divisor_line, tag_front, interval_line, AreTags}
 use Rattle.hdr_log.specs.Pieces.{and_entry, Piece, Comment, StartsAt, BasedAt, Divided, Measured, lines_of, piece_text, header_said, headers_said, said_by, IsPiece, text_of, is_read}
 use Rattle.hdr_log.proofs.Lines.{no_byte}
 use Rattle.hdr_log.proofs.Logs.{IsLine, entries_of, lines_read, header_read, start_entry, interval_entry, comment_entry, comment_skipped}
@@ -118,7 +118,7 @@ pieces_lines (p ∷ ps) h =
 
 lines_append : (xs ys : List (List ℕ)) → lines_text (xs ++ ys) ≡ lines_text xs ++ lines_text ys
 lines_append [] ys = refl
-lines_append (x ∷ xs) ys = ap (λ t. ended x ++ t) (lines_append xs ys) ∙ sym (append_assoc (ended x) (lines_text xs) (lines_text ys))
+lines_append (x ∷ xs) ys = ap (λ t. with_line_feed x ++ t) (lines_append xs ys) ∙ sym (append_assoc (with_line_feed x) (lines_text xs) (lines_text ys))
 
 -- the text of pieces is that of their lines
 text_lines : (ps : List Piece) → text_of ps ≡ lines_text (flat_map lines_of ps)

@@ -6,7 +6,7 @@ use Rattle.std.specs.List.{list_all}
 use Rattle.std.specs.Str.{is_utf8}
 use Rattle.std.specs.Char.{is_ascii_digit}
 use Rattle.std.specs.Str.Parse.{digits_value, without_leading_plus}
-use Rattle.hdr_log.specs.Parts.{◌>>=◌, parts, parted, is_digits, number_of}
+use Rattle.hdr_log.specs.Parts.{◌>>=◌, parts, split_at_byte, is_digits, number_of}
 
 -- the nanoseconds that digits behind the point spell: the first nine count, and as many zeros as lack stand behind
 unfoldable pub nanos_of : List ℕ → Option ℕ
@@ -15,7 +15,7 @@ nanos_of text = if is_digits text then Some (digits_value 10 (take 9 text) * 10 
 -- a time in seconds: a plus or none, a number below 2 ^ 64, a point, and digits
 unfoldable pub time_of : List ℕ → Option ℕ
 time_of text = do
-  sides ← parted 46 (without_leading_plus text)
+  sides ← split_at_byte 46 (without_leading_plus text)
   seconds ← number_of sides.0
   nanos ← nanos_of sides.1
   Some (seconds * 1_000_000_000 + nanos)
@@ -23,7 +23,7 @@ time_of text = do
 -- a time that ends at the first byte b, and what stands behind that
 unfoldable pub time_before : ℕ → List ℕ → Option (ℕ × List ℕ)
 time_before b text = do
-  sides ← parted b text
+  sides ← split_at_byte b text
   time ← time_of sides.0
   Some (time, sides.1)
 
@@ -47,7 +47,7 @@ digits_around None text = is_digits text
 digits_around (Some p) text = list_all is_ascii_digit p.0 && list_all is_ascii_digit p.1 && not (length p.0 == 0 && length p.1 == 0)
 
 abbrev pub is_decimal : List ℕ → Bool
-is_decimal text = digits_around (parted 46 text) text
+is_decimal text = digits_around (split_at_byte 46 text) text
 
 -- a text without the CRs at its end
 abbrev pub without_crs : List ℕ → List ℕ
@@ -77,7 +77,7 @@ only_if b text = if b then Some text else None
 abbrev pub tag_of : Option (List ℕ) → List ℕ → Option (Option (List ℕ) × List ℕ)
 tag_of None line = Some (None, line)
 tag_of (Some rest) line = do
-  sides ← parted 44 rest
+  sides ← split_at_byte 44 rest
   tag ← only_if (is_tag sides.0) sides.0
   Some (Some tag, sides.1)
 
@@ -87,7 +87,7 @@ interval_of line = do
   tag ← tag_of (behind (codes "Tag=") line) line
   start ← time_before 44 tag.1
   duration ← time_before 44 start.1
-  max ← parted 44 duration.1
+  max ← split_at_byte 44 duration.1
   number ← only_if (is_decimal max.0) max.0
   field ← only_if (is_utf8 (without_crs max.1)) (without_crs max.1)
   Some (record { tag = tag.0; start = start.0; duration = duration.0; max = number; field = field })

@@ -16,8 +16,8 @@ abbrev pub parts : ℕ → List ℕ → List (List ℕ)
 parts b text = slice_split (λ x. x == b) text
 
 -- what stands before the first byte b, and what stands behind it
-unfoldable pub parted : ℕ → List ℕ → Option (List ℕ × List ℕ)
-parted b text = option_map (λ i. (take i text, drop (i + 1) text)) (position (λ x. x == b) text)
+unfoldable pub split_at_byte : ℕ → List ℕ → Option (List ℕ × List ℕ)
+split_at_byte b text = option_map (λ i. (take i text, drop (i + 1) text)) (position (λ x. x == b) text)
 
 -- one digit or more
 abbrev pub is_digits : List ℕ → Bool

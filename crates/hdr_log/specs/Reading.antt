@@ -10,15 +10,15 @@ use Rattle.hdr_log.specs.declared.entry.LogEntry.TheVariants.{StartTime, BaseTim
 use Rattle.hdr_log.specs.declared.entry.LogIteratorError.{LogIteratorError}
 use Rattle.hdr_log.specs.declared.entry.LogIteratorError.TheVariants.{ParseError}
 
-abbrev pub interval_seen : IntervalLogHistogram → grammar.Interval
-interval_seen h = record { tag = option_map tag_text h.tag; start = as_nanos h.start_timestamp; duration = as_nanos h.duration; max = h.max.now; field = h.encoded_histogram.now }
+abbrev pub view_of_interval : IntervalLogHistogram → grammar.Interval
+view_of_interval h = record { tag = option_map tag_text h.tag; start = as_nanos h.start_timestamp; duration = as_nanos h.duration; max = h.max.now; field = h.encoded_histogram.now }
 
-abbrev pub entry_seen : LogEntry → grammar.Entry
-entry_seen (StartTime time) = grammar.Start (as_nanos time)
-entry_seen (BaseTime time) = grammar.Base (as_nanos time)
-entry_seen (Interval h) = grammar.Span (interval_seen h)
+abbrev pub view_of_entry : LogEntry → grammar.Entry
+view_of_entry (StartTime time) = grammar.Start (as_nanos time)
+view_of_entry (BaseTime time) = grammar.Base (as_nanos time)
+view_of_entry (Interval h) = grammar.Span (view_of_interval h)
 
 -- an entry, or the place of the line that is none
-abbrev pub item_seen : Result LogEntry LogIteratorError → Result grammar.Entry ℕ
-item_seen (Ok entry) = Ok (entry_seen entry)
-item_seen (Err (ParseError offset)) = Err offset
+abbrev pub view_of_item : Result LogEntry LogIteratorError → Result grammar.Entry ℕ
+view_of_item (Ok entry) = Ok (view_of_entry entry)
+view_of_item (Err (ParseError offset)) = Err offset

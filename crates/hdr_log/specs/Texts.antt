@@ -27,12 +27,12 @@ abbrev pub max_thousandths : ℕ → ℕ → ℕ
 max_thousandths max divisor = (2000 * max + divisor) / (2 * divisor)
 
 -- a line's text with its LF
-abbrev pub ended : List ℕ → List ℕ
-ended line = line ++ 10 ∷ []
+abbrev pub with_line_feed : List ℕ → List ℕ
+with_line_feed line = line ++ 10 ∷ []
 
 -- the text of lines
 abbrev pub lines_text : List (List ℕ) → List ℕ
-lines_text lines = flat_map ended lines
+lines_text lines = flat_map with_line_feed lines
 
 -- each part of a comment stands on a line of its own, also an empty one
 abbrev pub comment_line : List ℕ → List ℕ

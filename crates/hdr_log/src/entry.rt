@@ -19,39 +19,39 @@ pub struct IntervalLogHistogram<'a> {
 }
 
 impl<'a> IntervalLogHistogram<'a> {
-    ghost use Rattle.hdr_log.specs.Reading.{interval_seen};
+    ghost use Rattle.hdr_log.specs.Reading.{view_of_interval};
 
     /// The tag, if the line has one.
     pub fn tag(&self) -> Option<Tag<'a>>
-        ensures { option_map tag_text result ≡ (interval_seen self.now).tag }
+        ensures { option_map tag_text result ≡ (view_of_interval self.now).tag }
     {
         self.tag
     }
 
     /// When the interval began: since the log's base time where it has one, else since the epoch.
     pub fn start_timestamp(&self) -> Duration
-        ensures { as_nanos result ≡ (interval_seen self.now).start }
+        ensures { as_nanos result ≡ (view_of_interval self.now).start }
     {
         self.start_timestamp
     }
 
     /// How long the interval was.
     pub fn duration(&self) -> Duration
-        ensures { as_nanos result ≡ (interval_seen self.now).duration }
+        ensures { as_nanos result ≡ (view_of_interval self.now).duration }
     {
         self.duration
     }
 
     /// The greatest value, in the decimal of the line: it may have been divided before it was written.
     pub fn max(&self) -> &'a str
-        ensures { result.now ≡ (interval_seen self.now).max }
+        ensures { result.now ≡ (view_of_interval self.now).max }
     {
         self.max
     }
 
     /// The histogram's bytes in Base64, as they stand in the line. Nothing has decoded them yet.
     pub fn encoded_histogram(&self) -> &'a str
-        ensures { result.now ≡ (interval_seen self.now).field }
+        ensures { result.now ≡ (view_of_interval self.now).field }
     {
         self.encoded_histogram
     }

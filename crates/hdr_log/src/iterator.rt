@@ -3,7 +3,7 @@
 ghost use Rattle.std.specs.Prelude.{◌≡◌, ◌≤◌, ◌+◌, length};
 ghost use Rattle.std.specs.Iterator.{YieldsFirstBy, item_count};
 ghost use Rattle.hdr_log.specs.Grammar.{reading};
-ghost use Rattle.hdr_log.specs.Reading.{item_seen};
+ghost use Rattle.hdr_log.specs.Reading.{view_of_item};
 
 use crate::entry::{LogEntry, LogIteratorError};
 use crate::line::{entry, is_skipped};
@@ -44,7 +44,7 @@ impl<'a> IntervalLogIterator<'a> {
 impl<'a> Iterator for IntervalLogIterator<'a> {
     type Item = Result<LogEntry<'a>, LogIteratorError>;
 
-    ghost next_gives = { YieldsFirstBy item_seen (λ rest. rest) };
+    ghost next_gives = { YieldsFirstBy view_of_item (λ rest. rest) };
 
     ghost remaining = { item_count (λ rest. rest) };
 

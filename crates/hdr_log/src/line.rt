@@ -5,7 +5,7 @@ ghost use Rattle.std.specs.Option.{option_map, is_some};
 ghost use Rattle.std.specs.Duration.{as_nanos};
 ghost use Rattle.hdr_log.specs.Grammar.{behind, time_before, tag_of, is_decimal, without_crs, only_if, interval_of, header_of, entry_of, is_skipped};
 ghost use Rattle.hdr_log.specs.Tags.{tag_text};
-ghost use Rattle.hdr_log.specs.Reading.{interval_seen, entry_seen};
+ghost use Rattle.hdr_log.specs.Reading.{view_of_interval, view_of_entry};
 ghost use Rattle.std.specs.Str.{is_utf8};
 
 use crate::entry::{IntervalLogHistogram, LogEntry};
@@ -91,7 +91,7 @@ fn decimal(bytes: &[u8]) -> Option<&str>
 /// The interval that a line says.
 #[tactic(auto, unfolding(crate::specs::Grammar::interval_of))]
 fn interval(line: &[u8]) -> Option<IntervalLogHistogram<'_>>
-    ensures { option_map interval_seen result ≡ interval_of line.now }
+    ensures { option_map view_of_interval result ≡ interval_of line.now }
 {
     let (tag, rest) = tag(line)?;
     let (start_timestamp, rest) = time_before(rest, b',')?;
@@ -111,7 +111,7 @@ fn interval(line: &[u8]) -> Option<IntervalLogHistogram<'_>>
 /// What a line says.
 #[tactic(auto, unfolding(crate::specs::Grammar::entry_of))]
 pub(crate) fn entry(line: &[u8]) -> Option<LogEntry<'_>>
-    ensures { option_map entry_seen result ≡ entry_of line.now }
+    ensures { option_map view_of_entry result ≡ entry_of line.now }
 {
     if let Some(start) = header(line, b"#[StartTime: ") {
         return Some(LogEntry::StartTime(start));

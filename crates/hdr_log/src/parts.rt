@@ -5,7 +5,7 @@ ghost use Rattle.std.specs.Option.{option_map};
 ghost use Rattle.std.specs.List.{list_all, position};
 ghost use Rattle.std.specs.Char.{is_ascii_digit, digit_value};
 ghost use Rattle.std.specs.Duration.{as_nanos};
-ghost use Rattle.hdr_log.specs.Parts.{parted, is_digits, number_of};
+ghost use Rattle.hdr_log.specs.Parts.{split_at_byte, is_digits, number_of};
 ghost use Rattle.std.specs.Str.{is_utf8};
 ghost use Rattle.hdr_log.specs.Grammar.{nanos_of, time_of, only_if};
 
@@ -35,9 +35,9 @@ fn line_end(text: &[u8]) -> Option<usize>
 }
 
 /// The first line of a text without its LF, and what stands behind it; `None` where no line ends. Lines of a log are long.
-#[tactic(auto, unfolding(crate::specs::Parts::parted))]
+#[tactic(auto, unfolding(crate::specs::Parts::split_at_byte))]
 pub(crate) fn split_line(text: &[u8]) -> Option<(&[u8], &[u8])>
-    ensures parts { option_map (λ p. (p.0.now, p.1.now)) result ≡ parted 10 text.now }
+    ensures parts { option_map (λ p. (p.0.now, p.1.now)) result ≡ split_at_byte 10 text.now }
     ensures length { IfSome result (λ p. length p.0.now + 1 + length p.1.now ≡ length text.now) }
 {
     let at = line_end(text)?;
@@ -47,9 +47,9 @@ pub(crate) fn split_line(text: &[u8]) -> Option<(&[u8], &[u8])>
 }
 
 /// What stands before the first such byte, and what stands behind it; `None` where there is none.
-#[tactic(auto, unfolding(crate::specs::Parts::parted))]
+#[tactic(auto, unfolding(crate::specs::Parts::split_at_byte))]
 pub fn split_once(text: &[u8], byte: u8) -> Option<(&[u8], &[u8])>
-    ensures parts { option_map (λ p. (p.0.now, p.1.now)) result ≡ parted byte text.now }
+    ensures parts { option_map (λ p. (p.0.now, p.1.now)) result ≡ split_at_byte byte text.now }
     ensures length { IfSome result (λ p. length p.0.now + 1 + length p.1.now ≡ length text.now) }
 {
     let at = position(text, byte)?;

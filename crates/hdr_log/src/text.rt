@@ -6,7 +6,7 @@ ghost use Rattle.std.specs.Fmt.{decimal};
 ghost use Rattle.std.specs.Option.{option_map};
 ghost use Rattle.std.specs.Duration.{as_nanos};
 ghost use Rattle.hdr_log.specs.Tags.{tag_text};
-ghost use Rattle.hdr_log.specs.Texts.{thousandths, to_thousandths, IsTimeInRange, max_thousandths, ended, comment_line, tag_front, AreTags, base64_of};
+ghost use Rattle.hdr_log.specs.Texts.{thousandths, to_thousandths, IsTimeInRange, max_thousandths, with_line_feed, comment_line, tag_front, AreTags, base64_of};
 ghost use Rattle.hdr_log.specs.Pieces.{Comment, StartsAt, BasedAt, Divided, Measured, piece_text, IsPiece};
 
 use crate::parts::split_once;
@@ -64,7 +64,7 @@ fn push_thousandths(text: &mut Vec<u8>, number: u128) -> Result<(), AllocError>
 }
 
 fn push_comment_line(text: &mut Vec<u8>, part: &[u8]) -> Result<(), AllocError>
-    ensures { OnOk result (text.new.items ≡ text.old.items ++ ended (comment_line part.now)) }
+    ensures { OnOk result (text.new.items ≡ text.old.items ++ with_line_feed (comment_line part.now)) }
 {
     text.push(b'#')?;
     text.extend_from_slice(part)?;
@@ -87,7 +87,7 @@ pub fn push_comment(text: &mut Vec<u8>, comment: &str) -> Result<(), AllocError>
 /// Adds a number of thousandths between two texts, and a line feed.
 fn push_line(text: &mut Vec<u8>, front: &[u8], number: u128, end: &[u8]) -> Result<(), AllocError>
     requires { number / 1000 < 2 ^ 64 }
-    ensures { OnOk result (text.new.items ≡ text.old.items ++ ended (front.now ++ (thousandths number ++ end.now))) }
+    ensures { OnOk result (text.new.items ≡ text.old.items ++ with_line_feed (front.now ++ (thousandths number ++ end.now))) }
 {
     text.extend_from_slice(front)?;
     push_thousandths(text, number)?;

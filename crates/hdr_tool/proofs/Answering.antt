@@ -1,7 +1,7 @@
 -- What stands where a run is refused.
 use Rattle.std.proofs.Common.{◌≡◌, ◌≢◌, ℕ, List, [], Option, Some, None, IfSome, Result, Ok, Err, refl, sym, inl, inr, ◌⊎◌, subst, true}
 use Rattle.std.specs.List.{enumerate_from}
-use Rattle.hdr_core.specs.Plain.{empty_plain}
+use Rattle.hdr_model.specs.Plain.{empty_plain}
 use Rattle.hdr_log.specs.Parts.{parts}
 use Rattle.std.specs.Io.KnownBytes.{IsAtEnd}
 use Rattle.hdr_tool.specs.declared.fault.Fault.{Fault}

@@ -1,11 +1,11 @@
 -- The samples before the ends of a log's input.
 use Rattle.std.proofs.Common.{◌≡◌, ℕ, ◌-◌, ◌^◌, List, [], ◌∷◌, Option, Some, None, IfSome, refl, sym, subst, lit<, lit≤}
 use Rattle.hdr_base.specs.Classes.{Grain}
-use Rattle.hdr_core.specs.Plain.{Plain, IsPlain, grain}
-use Rattle.hdr_core.specs.Recording.{restarted}
-use Rattle.hdr_core.specs.Samples.{Fits}
-use Rattle.hdr_core.specs.Calls.{after_call, StandsAt, CallTo, IsCallOf}
-use Rattle.hdr_core.specs.Runs.{State}
+use Rattle.hdr_model.specs.Plain.{Plain, IsPlain, grain}
+use Rattle.hdr_model.specs.Recording.{after_reset}
+use Rattle.hdr_model.specs.Samples.{Fits}
+use Rattle.hdr_core.specs.Calls.{after_call, CallTo, IsCallOf}
+use Rattle.hdr_model.specs.Runs.{StandsAt, State}
 use Rattle.hdr_core.specs.declared.call.Call.{Call}
 use Rattle.hdr_core.specs.declared.call.Call.TheVariants.{Reset}
 use Rattle.hdr_tool.specs.Lines.{LogCommand, Make, End, log_command_of}
@@ -34,11 +34,11 @@ command_ends (Some (Make call)) h s lines Ls calls p st fine a behind =
     subst E same (behind next a.0 Ls (calls.plain (2 ^ 64 - 1) h call fine p) (calls.samples (2 ^ 64 - 1) h call s a.0 fine p st a.1 a.2) (subst W (sym same) a.3))
 command_ends (Some (End start duration tag)) h s lines Ls calls p st fine a behind =
     let t : State = record { samples = []; high = s.high } in
-    let same : grain (restarted h) ≡ grain h = calls.classes (2 ^ 64 - 1) h Reset tt in
+    let same : grain (after_reset h) ≡ grain h = calls.classes (2 ^ 64 - 1) h Reset tt in
     let W : Grain → Type 0 = λ g. EndsWith g t lines a.0 in
-    let E : Grain → Type 0 = λ g. AreEnds g (ends_of (restarted h) lines) a.0 in
-    let A : List (EndOf (List ℕ)) → Type 0 = λ x. AreEnds (grain h) (record { holds = h; tag = tag; start = start } ∷ ends_of (restarted h) lines) x in
-    let rest = behind (restarted h) t a.0 (calls.plain (2 ^ 64 - 1) h Reset tt p) (calls.samples (2 ^ 64 - 1) h Reset s t tt p st (refl, refl) (nothing_fits (grain h))) (subst W (sym same) a.2) in
+    let E : Grain → Type 0 = λ g. AreEnds g (ends_of (after_reset h) lines) a.0 in
+    let A : List (EndOf (List ℕ)) → Type 0 = λ x. AreEnds (grain h) (record { holds = h; tag = tag; start = start } ∷ ends_of (after_reset h) lines) x in
+    let rest = behind (after_reset h) t a.0 (calls.plain (2 ^ 64 - 1) h Reset tt p) (calls.samples (2 ^ 64 - 1) h Reset s t tt p st (refl, refl) (nothing_fits (grain h))) (subst W (sym same) a.2) in
     subst A (sym a.1) (record { plain = p; stands = st.0; classes = refl; tag = refl; start = refl }, subst E same rest)
 
 pub ends_stand : CallsStand → (h : Plain) (s : State) (lines : List (ℕ × List ℕ)) (Ls : List (EndOf (List ℕ))) → IsPlain (2 ^ 64 - 1) h → StandsAt h s → EndsWith (grain h) s lines Ls

@@ -9,7 +9,7 @@ use Rattle.hdr_core.specs.Calls.{IsCallOf}
 use Rattle.hdr_core.specs.declared.call.Call.{Call}
 use Rattle.hdr_core.specs.declared.call.Call.TheVariants.{Record, Clamp, Correct, Clear, Reset}
 use Rattle.hdr_log.specs.Parts.{◌>>=◌, parts, is_digits, number_of}
-use Rattle.hdr_tool.specs.Lines.{LogCommand, Make, End, count_of, record_of, clamp_of, correct_of, alone, named, end_tag_of, end_of, log_named, log_command_of_fields, log_command_of}
+use Rattle.hdr_tool.specs.Lines.{LogCommand, Make, End, count_of, record_of, clamp_of, correct_of, alone, call_of_name, end_tag_of, end_of, log_command_of_name, log_command_of_fields, log_command_of}
 
 -- one of two answers, and one behind another
 one_of : {A : Type 0} (P : A → Type 0) (b : Bool) (x y : Option A) → IfSome x P → IfSome y P → IfSome (cond b x y) P
@@ -66,8 +66,8 @@ alone_fine : (call : Call ℕ) (fields : List (List ℕ)) → Fine call → IfSo
 alone_fine call [] f = f
 alone_fine call (x ∷ xs) f = tt
 
-named_fine : (name : List ℕ) (fields : List (List ℕ)) → IfSome (named name fields) Fine
-unfolding named
+named_fine : (name : List ℕ) (fields : List (List ℕ)) → IfSome (call_of_name name fields) Fine
+unfolding call_of_name
 named_fine name fields =
     one_of Fine (bytes_eq name (codes "r")) _ _ (record_fine fields)
     (one_of Fine (bytes_eq name (codes "s")) _ _ (clamp_fine fields)
@@ -89,9 +89,9 @@ end_fine (s ∷ []) = tt
 end_fine (s ∷ d ∷ rest) =
     any IsLineCommand (number_of s) _ (λ start. any IsLineCommand (number_of d) _ (λ duration. any IsLineCommand (end_tag_of rest) (λ tag. Some (End start duration tag)) (λ tag. tt)))
 
-log_named_fine : (name : List ℕ) (fields : List (List ℕ)) → IfSome (log_named name fields) IsLineCommand
-unfolding log_named
-log_named_fine name fields = one_of IsLineCommand (bytes_eq name (codes "end")) (end_of fields) _ (end_fine fields) (made (named name fields) (named_fine name fields))
+log_named_fine : (name : List ℕ) (fields : List (List ℕ)) → IfSome (log_command_of_name name fields) IsLineCommand
+unfolding log_command_of_name
+log_named_fine name fields = one_of IsLineCommand (bytes_eq name (codes "end")) (end_of fields) _ (end_fine fields) (made (call_of_name name fields) (named_fine name fields))
 
 fields_fine : (fields : List (List ℕ)) → IfSome (log_command_of_fields fields) IsLineCommand
 fields_fine [] = tt

@@ -2,15 +2,15 @@
 use Rattle.std.proofs.Common.{◌≡◌, ℕ, ◌+◌, ◌-◌, ◌*◌, ◌^◌, ◌<◌, Bool, true, false, cond, arith, List, length, slice_index, [], ◌∷◌, ◌++◌, Option, Some, None, Result, Ok, Err, map, refl, sym, ap, ◌∙◌, subst}
 use Rattle.std.specs.List.{AllByRecursion, enumerate_from, flat_map}
 use Rattle.hdr_base.specs.Fractions.{Ratio}
-use Rattle.hdr_core.specs.Plain.{Plain, IsPlain, empty_plain, max_of}
-use Rattle.hdr_core.specs.Joined.{merged_each}
+use Rattle.hdr_model.specs.Plain.{Plain, IsPlain, empty_plain, max_of}
+use Rattle.hdr_model.specs.Joining.{after_adds}
 use Rattle.hdr_log.specs.Grammar.{Entry, Span, Interval, reading}
 use Rattle.hdr_log.specs.Texts.{thousandths, to_thousandths, max_thousandths, base64_of, base64_bytes}
 use Rattle.hdr_log.specs.Pieces.{Piece, IsPiece, piece_text, text_of, said_by, is_read}
 use Rattle.hdr_log.proofs.Whole.{pieces_read}
 use Rattle.hdr_log.proofs.Base64Fields.{base64_decoded}
 use Rattle.hdrhistogram.specs.V2.{IsV2}
-use Rattle.hdrhistogram.specs.LogLeaving.{measured, IsIntervalText}
+use Rattle.hdrhistogram.specs.LogLeaving.{interval_piece, IsIntervalText}
 use Rattle.hdrhistogram.specs.V2Read.{told_of, v2_at, IsReadAs, IsReadBack, ReadsV2}
 use Rattle.hdrhistogram.specs.Chosen.{Filter, is_chosen}
 use Rattle.hdrhistogram.specs.LogMerging.{Merging, new_merging, past_interval, with_interval, BytesMerge, FieldMerges, IntervalMerges, MergesOn, EntriesMerge}
@@ -40,7 +40,7 @@ abbrev end_of : Logged → EndOf Plain
 end_of i = record { holds = i.histogram; tag = i.tag; start = i.start }
 
 abbrev piece_of : Logged → Piece
-piece_of i = measured i.histogram i.tag (i.start * 1_000_000) (i.duration * 1_000_000) 1 i.bytes
+piece_of i = interval_piece i.histogram i.tag (i.start * 1_000_000) (i.duration * 1_000_000) 1 i.bytes
 
 record IsLogged (i : Logged) : Type 0 where
   bytes : IsV2 i.histogram i.bytes
@@ -145,7 +145,7 @@ field_added greatest i m r back p v d =
 
 -- the merge ends well, and what was added is what these histograms were read as
 abbrev Added : ℕ → Merging → List Plain → Result Merging MergeError → Type 0
-Added greatest m hs r = (ks : List Plain) × AreReadBack hs ks × ((last : Merging) × (r ≡ Ok last) × (last.histogram ≡ merged_each greatest m.histogram ks))
+Added greatest m hs r = (ks : List Plain) × AreReadBack hs ks × ((last : Merging) × (r ≡ Ok last) × (last.histogram ≡ after_adds greatest m.histogram ks))
 
 -- an interval, chosen or not
 interval_merges : (greatest : ℕ) (filter : Filter) (i : Logged) (m : Merging) (entries : List (Result Entry ℕ)) (b : Bool) (hs : List Plain) (step r : Result Merging MergeError)
@@ -181,7 +181,7 @@ no_fault (Err f) e = absurd (let g = e in cc)
 -- the parts joined
 merged_log : (h : Plain) (lines : List (ℕ × List ℕ)) (fewer greatest : ℕ) (filter : Filter) (quantiles : List Ratio) (written text : List ℕ) (fault : Option Fault) → ReadsBack → AllByRecursion (λ (e : EndOf Plain). IsPlain (2 ^ 64 - 1) e.holds) (ends_of h lines)
     → LogDone h lines written None → MergeReported greatest filter fewer quantiles written text fault
-    → (fault ≡ None) × ((ks : List Plain) × AreReadBack (chosen_of filter (ends_of h lines)) ks × IsReport (merged_each greatest (empty_plain 1 2 fewer true) ks) quantiles text)
+    → (fault ≡ None) × ((ks : List Plain) × AreReadBack (chosen_of filter (ends_of h lines)) ks × IsReport (after_adds greatest (empty_plain 1 2 fewer true) ks) quantiles text)
 merged_log h lines fewer greatest filter quantiles written text fault back plain d t =
     let ok = no_fault d.0 d.2 in
     let l = lines_log lines h ok.0 (record { written = written; ended = d.0 }) d.1 ok.1 in

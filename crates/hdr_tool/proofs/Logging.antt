@@ -1,6 +1,6 @@
 -- An interval's text by equal numbers.
 use Rattle.std.proofs.Common.{◌≡◌, ℕ, List, Option, subst}
-use Rattle.hdr_core.specs.Plain.{Plain}
+use Rattle.hdr_model.specs.Plain.{Plain}
 use Rattle.hdrhistogram.specs.LogLeaving.{IsIntervalText}
 
 pub interval_same : (writes : Plain → List ℕ → Type 0) (h : Plain) (tag : Option (List ℕ)) (a b c d v w : ℕ) (t : List ℕ) → a ≡ b → c ≡ d → v ≡ w → IsIntervalText writes h tag a c v t → IsIntervalText writes h tag b d w t

@@ -4,7 +4,7 @@ use Rattle.std.specs.List.{slice_split, position_or_len, before_first, after_fir
 use Rattle.std.proofs.lemmas.List.Splits.{slice_split_first}
 use Rattle.std.proofs.lemmas.Bool.{cases_lt}
 use Rattle.std.proofs.lemmas.Option.{same_Some, none-some}
-use Rattle.hdr_log.specs.Parts.{parts, parted}
+use Rattle.hdr_log.specs.Parts.{parts, split_at_byte}
 
 lt_test : (a b : ℕ) → a < b → nat_lt a b ≡ true
 lt_test a b h = grind arith
@@ -13,8 +13,8 @@ not_lt_test : (a b : ℕ) → b ≤ a → nat_lt a b ≡ false
 not_lt_test a b h = grind arith
 
 -- the parts behind the first
-pub parts-parted : (b : ℕ) (text line rest : List ℕ) → parted b text ≡ Some (line, rest) → parts b text ≡ line ∷ parts b rest
-unfolding parted
+pub parts-parted : (b : ℕ) (text line rest : List ℕ) → split_at_byte b text ≡ Some (line, rest) → parts b text ≡ line ∷ parts b rest
+unfolding split_at_byte
 parts-parted b text line rest h = elim (cases_lt (position_or_len (λ x. x == b) text) (length text)) [
   | inl l ↦ (let t : nat_lt (position_or_len (λ x. x == b) text) (length text) ≡ true = lt_test _ _ l in
       let q : Some (before_first (λ x. x == b) text, after_first (λ x. x == b) text) ≡ Some (line, rest) = rw t at h in
@@ -29,8 +29,8 @@ no_first : (b : ℕ) (text : List ℕ) → length text ≤ position_or_len (λ x
 no_first b [] h = refl
 no_first b (x ∷ text) h = grind (arith, no_first b text)
 
-pub parts-whole : (b : ℕ) (text : List ℕ) → parted b text ≡ None → parts b text ≡ text ∷ []
-unfolding parted
+pub parts-whole : (b : ℕ) (text : List ℕ) → split_at_byte b text ≡ None → parts b text ≡ text ∷ []
+unfolding split_at_byte
 parts-whole b text h = elim (cases_lt (position_or_len (λ x. x == b) text) (length text)) [
   | inl l ↦ (let t : nat_lt (position_or_len (λ x. x == b) text) (length text) ≡ true = lt_test _ _ l in
       absurd (none-some _ (sym (rw t at h))))

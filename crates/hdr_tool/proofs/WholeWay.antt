@@ -5,12 +5,11 @@ use Rattle.std.specs.List.{AllByRecursion, enumerate_from}
 use Rattle.std.proofs.lemmas.Bool.{leb-true}
 use Rattle.hdr_base.specs.Classes.{least_from, Grain, unit_of, digits_of, grain_of, IsFiner}
 use Rattle.hdr_base.specs.Fractions.{Ratio}
-use Rattle.hdr_core.specs.Plain.{Plain, IsPlain, grain, empty_plain}
-use Rattle.hdr_core.specs.Samples.{StandsFor, Fits}
-use Rattle.hdr_core.specs.Calls.{StandsAt}
-use Rattle.hdr_core.specs.Runs.{State}
-use Rattle.hdr_core.specs.Refusals.{IsBounds}
-use Rattle.hdr_core.specs.Joined.{merged_each, IsPart, AreParts, joined_list, AnswersRanked}
+use Rattle.hdr_model.specs.Plain.{Plain, IsPlain, grain, empty_plain}
+use Rattle.hdr_model.specs.Samples.{StandsFor, Fits}
+use Rattle.hdr_model.specs.Runs.{StandsAt, State}
+use Rattle.hdr_model.specs.Refusals.{IsBounds}
+use Rattle.hdr_model.specs.Joining.{after_adds, IsPart, AreParts, joined_samples, AnswersRanked}
 use Rattle.hdrhistogram.specs.Chosen.{Filter, is_chosen}
 use Rattle.hdrhistogram.specs.V2Read.{IsReadBack}
 use Rattle.hdr_tool.specs.declared.fault.Fault.{Fault}
@@ -21,7 +20,7 @@ use Rattle.hdr_tool.specs.Parts.{each}
 use Rattle.hdr_tool.specs.declared.options.CounterType.{CounterType}
 use Rattle.hdr_tool.specs.declared.options.CounterType.TheVariants as counter
 use Rattle.hdr_tool.specs.Options.{Options, no_options, options_of, greatest_into, filter_of}
-use Rattle.hdr_tool.specs.Words.{sigfig_of, quantile_of_word, Task, Report, Log, Merge, figures_of, log_of, merge_of, command_named, task_named, task_of}
+use Rattle.hdr_tool.specs.Words.{sigfig_of, quantile_of_word, Task, Report, Log, Merge, figures_of, log_of, merge_of, command_of_word, task_of_command, task_of}
 use Rattle.hdr_tool.specs.Report.{IsReport}
 use Rattle.hdr_tool.specs.Program.{Program}
 use Rattle.hdr_tool.specs.LogMerges.{EndOf, chosen_of, ends_of, AreReadBack, EndsWith, AreEnds}
@@ -72,7 +71,7 @@ merge_few words =
     any HasFew (options_of no_options words) (λ given. figures_of given.1 >>= λ f. Some (Merge given.0 f.0 f.1)) (λ given.
     behind (λ (f : ℕ × List Ratio). Few f.0) HasFew (figures_of given.1) (λ f. Some (Merge given.0 f.0 f.1)) (figures_few given.1) (λ f few. few))
 
-named_few : (c : Option Command) (words : List (List ℕ)) → IfSome (task_named c words) HasFew
+named_few : (c : Option Command) (words : List (List ℕ)) → IfSome (task_of_command c words) HasFew
 named_few None words = tt
 named_few (Some command.Report) words = mapped (λ (f : ℕ × List Ratio). Few f.0) (λ f. Report f.0 f.1) (figures_of words) (figures_few words) (λ f few. few)
 named_few (Some command.Log) words = log_few words
@@ -81,7 +80,7 @@ named_few (Some command.Merge) words = merge_few words
 task_few : (words : List (List ℕ)) → IfSome (task_of words) HasFew
 unfolding task_of
 task_few [] = tt
-task_few (name ∷ words) = named_few (command_named name) words
+task_few (name ∷ words) = named_few (command_of_word name) words
 
 -- ---- an empty histogram of these digits
 
@@ -175,9 +174,9 @@ read_parts f g (h ∷ hs) (k ∷ ks) (L ∷ Ls) back fine e r =
 -- what the core's law on histograms that are added in order says
 pub record JoinedStand : Type 0 where
   pub sum : (greatest most : ℕ) (h : Plain) (ks : List Plain) (S : List ℕ) (Ls : List (List ℕ)) → 1 ≤ greatest → IsPlain greatest h → StandsFor h S
-      → AreParts most (grain h) ks Ls → Fits greatest (grain h) (S ++ joined_list Ls) → StandsFor (merged_each greatest h ks) (S ++ joined_list Ls) × IsPlain greatest (merged_each greatest h ks)
+      → AreParts most (grain h) ks Ls → Fits greatest (grain h) (S ++ joined_samples Ls) → StandsFor (after_adds greatest h ks) (S ++ joined_samples Ls) × IsPlain greatest (after_adds greatest h ks)
   pub ranked : (greatest most : ℕ) (h : Plain) (ks : List Plain) (S : List ℕ) (Ls : List (List ℕ)) → 1 ≤ greatest → IsPlain greatest h → StandsFor h S
-      → AreParts most (grain h) ks Ls → Fits greatest (grain h) (S ++ joined_list Ls) → AnswersRanked (merged_each greatest h ks) (S ++ joined_list Ls)
+      → AreParts most (grain h) ks Ls → Fits greatest (grain h) (S ++ joined_samples Ls) → AnswersRanked (after_adds greatest h ks) (S ++ joined_samples Ls)
 
 some_greatest : (into : Option CounterType) → 1 ≤ greatest_into into
 some_greatest None = lit≤ tt
@@ -195,8 +194,8 @@ pub record IsMerged (quantiles : List Ratio) (text samples : List ℕ) : Type 0 
 pub whole_way : (log merge : List (List ℕ)) (sigfig fewer : ℕ) (options : Options) (quantiles : List Ratio) (input written text : List ℕ) (fault : Option Fault) (Ls : List (EndOf (List ℕ)))
     → NewIsPlain → CallsStand → JoinedStand → ReadsBack → ReadsStand → ((n : ℕ) → StandsFor (empty_plain 1 2 n true) []) → IsFiner (grain_of 1 sigfig) (grain_of 1 fewer)
     → task_of log ≡ Some (Log sigfig) → task_of merge ≡ Some (Merge options fewer quantiles)
-    → EndsWith (grain_of 1 sigfig) (record { samples = []; high = 2 }) (enumerate_from 1 (parts 10 input)) Ls → Fits (greatest_into options.into) (grain_of 1 fewer) (joined_list (chosen_of (filter_of options) Ls))
-    → Program log input written None → Program merge written text fault → (fault ≡ None) × IsMerged quantiles text (joined_list (chosen_of (filter_of options) Ls))
+    → EndsWith (grain_of 1 sigfig) (record { samples = []; high = 2 }) (enumerate_from 1 (parts 10 input)) Ls → Fits (greatest_into options.into) (grain_of 1 fewer) (joined_samples (chosen_of (filter_of options) Ls))
+    → Program log input written None → Program merge written text fault → (fault ≡ None) × IsMerged quantiles text (joined_samples (chosen_of (filter_of options) Ls))
 whole_way log merge sigfig fewer options quantiles input written text fault Ls new calls joined back stand made fine tl tm ends fits wrote merged =
     let h = empty_plain 1 2 sigfig true in
     let k = empty_plain 1 2 fewer true in
@@ -212,11 +211,11 @@ whole_way log merge sigfig fewer options quantiles input written text fault Ls n
     let finer : IsFiner (grain h) (grain k) = subst (λ (g : Grain). IsFiner g (grain k)) (sym (empty_grain sigfig)) (subst (λ (g : Grain). IsFiner (grain_of 1 sigfig) g) (sym (empty_grain fewer)) fine) in
     let parted : AreParts (2 ^ 64 - 1) (grain k) m.1.0 (chosen_of filter Ls) = read_parts (grain k) (grain h) (chosen_of filter (ends_of h lines)) m.1.0 (chosen_of filter Ls) stand finer (chosen_hold filter (grain h) (ends_of h lines) Ls ended) m.1.1 in
     let plain : IsPlain greatest k = empty_is_plain new greatest fewer few_merged in
-    let fit = subst (λ (g : Grain). Fits greatest g (joined_list (chosen_of filter Ls))) (sym (empty_grain fewer)) fits in
+    let fit = subst (λ (g : Grain). Fits greatest g (joined_samples (chosen_of filter Ls))) (sym (empty_grain fewer)) fits in
     let one = some_greatest options.into in (
       m.0,
       record {
-        histogram = merged_each greatest k m.1.0;
+        histogram = after_adds greatest k m.1.0;
         report = m.1.2;
         stands = (joined.sum greatest (2 ^ 64 - 1) k m.1.0 [] (chosen_of filter Ls) one plain (made fewer) parted fit).0;
         ranked = joined.ranked greatest (2 ^ 64 - 1) k m.1.0 [] (chosen_of filter Ls) one plain (made fewer) parted fit;

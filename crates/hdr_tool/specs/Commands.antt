@@ -5,6 +5,6 @@ use Rattle.hdr_tool.specs.Lines as asked
 use Rattle.hdr_tool.specs.declared.command.LogCommand.{LogCommand}
 use Rattle.hdr_tool.specs.declared.command.LogCommand.TheVariants.{Make, End}
 
-abbrev pub log_command_seen : LogCommand → asked.LogCommand
-log_command_seen (Make call) = asked.Make call
-log_command_seen (End start duration tag) = asked.End start duration (option_map tag_text tag)
+abbrev pub view_of_log_command : LogCommand → asked.LogCommand
+view_of_log_command (Make call) = asked.Make call
+view_of_log_command (End start duration tag) = asked.End start duration (option_map tag_text tag)

@@ -3,8 +3,8 @@ use Rattle.std.specs.Prelude.{ℕ, List, ◌++◌, Option, Some, None, codes}
 use Rattle.std.specs.Fmt.{decimal}
 use Rattle.hdr_core.specs.declared.call.CallError.{CallError}
 use Rattle.hdr_core.specs.declared.call.CallError.TheVariants as call
-use Rattle.hdr_core.specs.declared.errors.RecordError.TheVariants as record_error
-use Rattle.hdr_core.specs.declared.errors.AdditionError.TheVariants as addition_error
+use Rattle.hdr_model.specs.declared.errors.RecordError.TheVariants as record_error
+use Rattle.hdr_model.specs.declared.errors.AdditionError.TheVariants as addition_error
 use Rattle.hdrhistogram.specs.declared.serialization.interval_log.merge.MergeError.{MergeError}
 use Rattle.hdrhistogram.specs.declared.serialization.interval_log.merge.MergeError.TheVariants as merging
 use Rattle.hdr_tool.specs.declared.fault.Fault.{Fault}

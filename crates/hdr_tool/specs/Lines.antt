@@ -44,8 +44,8 @@ alone call [] = Some call
 alone call _ = None
 
 -- the call of a name and of the fields behind it
-unfoldable pub named : List ℕ → List (List ℕ) → Option (Call ℕ)
-named name fields =
+unfoldable pub call_of_name : List ℕ → List (List ℕ) → Option (Call ℕ)
+call_of_name name fields =
     if bytes_eq name (codes "r") then record_of fields
     else if bytes_eq name (codes "s") then clamp_of fields
     else if bytes_eq name (codes "c") then correct_of fields
@@ -56,7 +56,7 @@ named name fields =
 -- the call of fields
 abbrev pub call_of_fields : List (List ℕ) → Option (Call ℕ)
 call_of_fields [] = None
-call_of_fields (name ∷ fields) = named name fields
+call_of_fields (name ∷ fields) = call_of_name name fields
 
 -- the call of a line, whose fields are parted by one space each
 abbrev pub call_of : List ℕ → Option (Call ℕ)
@@ -88,12 +88,12 @@ end_of (s ∷ d ∷ rest) = do
 end_of _ = None
 
 -- the command of a name and of the fields behind it
-unfoldable pub log_named : List ℕ → List (List ℕ) → Option LogCommand
-log_named name fields = if bytes_eq name (codes "end") then end_of fields else option_map Make (named name fields)
+unfoldable pub log_command_of_name : List ℕ → List (List ℕ) → Option LogCommand
+log_command_of_name name fields = if bytes_eq name (codes "end") then end_of fields else option_map Make (call_of_name name fields)
 
 abbrev pub log_command_of_fields : List (List ℕ) → Option LogCommand
 log_command_of_fields [] = None
-log_command_of_fields (name ∷ fields) = log_named name fields
+log_command_of_fields (name ∷ fields) = log_command_of_name name fields
 
 abbrev pub log_command_of : List ℕ → Option LogCommand
 log_command_of line = log_command_of_fields (parts 32 line)

@@ -2,12 +2,12 @@
 use Rattle.std.specs.Prelude.{◌≡◌, ℕ, ◌-◌, ◌*◌, ◌^◌, ◌≤◌, if◌then◌else◌, List, [], ◌∷◌, Option, Some, None, true}
 use Rattle.std.specs.List.{AllByRecursion, enumerate_from}
 use Rattle.hdr_base.specs.Fractions.{Ratio}
-use Rattle.hdr_core.specs.Plain.{Plain, IsPlain, grain, empty_plain}
-use Rattle.hdr_core.specs.Recording.{restarted}
-use Rattle.hdr_core.specs.Calls.{after_call, StandsAt, CallTo}
-use Rattle.hdr_core.specs.Runs.{State}
-use Rattle.hdr_core.specs.Samples.{StandsFor, Fits}
-use Rattle.hdr_core.specs.Joined.{merged_each, joined_list, AnswersRanked}
+use Rattle.hdr_model.specs.Plain.{Plain, IsPlain, grain, empty_plain}
+use Rattle.hdr_model.specs.Recording.{after_reset}
+use Rattle.hdr_core.specs.Calls.{after_call, CallTo}
+use Rattle.hdr_model.specs.Runs.{StandsAt, State}
+use Rattle.hdr_model.specs.Samples.{StandsFor, Fits}
+use Rattle.hdr_model.specs.Joining.{after_adds, joined_samples, AnswersRanked}
 use Rattle.hdr_base.specs.Classes.{Grain, grain_of}
 use Rattle.hdrhistogram.specs.Chosen.{Filter, is_chosen}
 use Rattle.hdrhistogram.specs.V2Read.{IsReadBack}
@@ -35,7 +35,7 @@ chosen_of filter (e ∷ ends) =
 abbrev pub at_command : Plain → Option LogCommand → (Plain → List (EndOf Plain)) → List (EndOf Plain)
 at_command h None behind = []
 at_command h (Some (Make call)) behind = behind (after_call (2 ^ 64 - 1) (λ n. n) call h)
-at_command h (Some (End start duration tag)) behind = record { holds = h; tag = tag; start = start } ∷ behind (restarted h)
+at_command h (Some (End start duration tag)) behind = record { holds = h; tag = tag; start = start } ∷ behind (after_reset h)
 
 -- the intervals that the lines of a log's input end, from a histogram on
 abbrev pub ends_of : Plain → List (ℕ × List ℕ) → List (EndOf Plain)
@@ -58,7 +58,7 @@ LogThenMerge =
     → AllByRecursion (λ (e : EndOf Plain). IsPlain (2 ^ 64 - 1) e.holds) (ends_of (empty_plain 1 2 sigfig true) (enumerate_from 1 (parts 10 input)))
     → Program log input written None → Program merge written text fault
     → (fault ≡ None) × ((ks : List Plain) × AreReadBack (chosen_of (filter_of options) (ends_of (empty_plain 1 2 sigfig true) (enumerate_from 1 (parts 10 input)))) ks
-    × IsReport (merged_each (greatest_into options.into) (empty_plain 1 2 fewer true) ks) quantiles text)
+    × IsReport (after_adds (greatest_into options.into) (empty_plain 1 2 fewer true) ks) quantiles text)
 
 -- a command takes samples to others that fit, or ends an interval with them and begins with none
 abbrev pub AfterCommand : Grain → State → Option LogCommand → (State → List (EndOf (List ℕ)) → Type 0) → List (EndOf (List ℕ)) → Type 0
@@ -99,7 +99,7 @@ LogMergeStands =
     (log merge : List (List ℕ)) (sigfig fewer : ℕ) (options : Options) (quantiles : List Ratio) (input written text : List ℕ) (fault : Option Fault) (Ls : List (EndOf (List ℕ)))
     → task_of log ≡ Some (Log sigfig) → task_of merge ≡ Some (Merge options fewer quantiles) → fewer ≤ sigfig
     → EndsWith (grain_of 1 sigfig) (record { samples = []; high = 2 }) (enumerate_from 1 (parts 10 input)) Ls
-    → Fits (greatest_into options.into) (grain_of 1 fewer) (joined_list (chosen_of (filter_of options) Ls))
+    → Fits (greatest_into options.into) (grain_of 1 fewer) (joined_samples (chosen_of (filter_of options) Ls))
     → Program log input written None → Program merge written text fault
-    → (fault ≡ None) × ((h : Plain) × IsReport h quantiles text × StandsFor h (joined_list (chosen_of (filter_of options) Ls))
-    × AnswersRanked h (joined_list (chosen_of (filter_of options) Ls)))
+    → (fault ≡ None) × ((h : Plain) × IsReport h quantiles text × StandsFor h (joined_samples (chosen_of (filter_of options) Ls))
+    × AnswersRanked h (joined_samples (chosen_of (filter_of options) Ls)))

@@ -24,8 +24,8 @@ abbrev pub no_options : Options
 no_options = record { into = None; tag = None; from = None; to = None }
 
 -- the counter type that a word names
-unfoldable pub counter_named : List ℕ → Option CounterType
-counter_named word =
+unfoldable pub counter_of_word : List ℕ → Option CounterType
+counter_of_word word =
     if bytes_eq word (codes "u8") then Some counter.U8
     else if bytes_eq word (codes "u16") then Some counter.U16
     else if bytes_eq word (codes "u32") then Some counter.U32
@@ -33,8 +33,8 @@ counter_named word =
     else None
 
 -- the option that a word names
-unfoldable pub option_named : List ℕ → Option OptionName
-option_named word =
+unfoldable pub option_of_word : List ℕ → Option OptionName
+option_of_word word =
     if bytes_eq word (codes "--into") then Some name.Into
     else if bytes_eq word (codes "--tag") then Some name.Tag
     else if bytes_eq word (codes "--from") then Some name.From
@@ -42,16 +42,16 @@ option_named word =
     else None
 
 -- a value that was not given before
-abbrev pub first_given : {A : Type 0} → Option A → Option A → Option A
-first_given None new = new
-first_given (Some old) new = None
+abbrev pub set_once : {A : Type 0} → Option A → Option A → Option A
+set_once None new = new
+set_once (Some old) new = None
 
 -- one option more, with the word behind its name
 abbrev pub with_option : Options → OptionName → List ℕ → Option Options
-with_option o name.Into word = option_map (λ x. record { into = Some x; tag = o.tag; from = o.from; to = o.to }) (first_given o.into (counter_named word))
-with_option o name.Tag word = option_map (λ x. record { into = o.into; tag = Some x; from = o.from; to = o.to }) (first_given o.tag (only_if (is_tag word) word))
-with_option o name.From word = option_map (λ x. record { into = o.into; tag = o.tag; from = Some x; to = o.to }) (first_given o.from (number_of word))
-with_option o name.To word = option_map (λ x. record { into = o.into; tag = o.tag; from = o.from; to = Some x }) (first_given o.to (number_of word))
+with_option o name.Into word = option_map (λ x. record { into = Some x; tag = o.tag; from = o.from; to = o.to }) (set_once o.into (counter_of_word word))
+with_option o name.Tag word = option_map (λ x. record { into = o.into; tag = Some x; from = o.from; to = o.to }) (set_once o.tag (only_if (is_tag word) word))
+with_option o name.From word = option_map (λ x. record { into = o.into; tag = o.tag; from = Some x; to = o.to }) (set_once o.from (number_of word))
+with_option o name.To word = option_map (λ x. record { into = o.into; tag = o.tag; from = o.from; to = Some x }) (set_once o.to (number_of word))
 
 -- an option and what comes behind it, or no option
 abbrev pub option_or_end : {A : Type 0} → Options → Option OptionName → List ℕ → (Options → Option A) → Option A → Option A
@@ -62,7 +62,7 @@ option_or_end o (Some name) word behind end = with_option o name word >>= behind
 abbrev pub options_of : Options → List (List ℕ) → Option (Options × List (List ℕ))
 options_of o [] = Some (o, [])
 options_of o (word ∷ []) = Some (o, word ∷ [])
-options_of o (name ∷ word ∷ words) = option_or_end o (option_named name) word (λ p. options_of p words) (Some (o, name ∷ word ∷ words))
+options_of o (name ∷ word ∷ words) = option_or_end o (option_of_word name) word (λ p. options_of p words) (Some (o, name ∷ word ∷ words))
 
 -- the greatest number of the sum's counters: u64 where no type is named
 abbrev pub greatest_into : Option CounterType → ℕ
@@ -77,5 +77,5 @@ abbrev pub filter_of : Options → Filter
 filter_of o = record { tag = o.tag; from = option_map (λ ms. ms * 1_000_000) o.from; to = option_map (λ ms. ms * 1_000_000) o.to }
 
 -- options as the code holds them
-abbrev pub options_seen : code.Options.Options → Options
-options_seen o = record { into = o.into; tag = option_map tag_text o.tag; from = o.from; to = o.to }
+abbrev pub view_of_options : code.Options.Options → Options
+view_of_options o = record { into = o.into; tag = option_map tag_text o.tag; from = o.from; to = o.to }

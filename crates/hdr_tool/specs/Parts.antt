@@ -12,10 +12,10 @@ each f (x ∷ xs) = do
   Some (y ∷ ys)
 
 -- the parts of what is left of a text, none where nothing is left
-abbrev pub parts_left : ℕ → Option (List ℕ) → List (List ℕ)
-parts_left b None = []
-parts_left b (Some text) = parts b text
+abbrev pub parts_of_rest : ℕ → Option (List ℕ) → List (List ℕ)
+parts_of_rest b None = []
+parts_of_rest b (Some text) = parts b text
 
 -- the lines that are left with their numbers, of which this is the first
-abbrev pub numbered : ℕ → Option (List ℕ) → List (ℕ × List ℕ)
-numbered number left = enumerate_from number (parts_left 10 left)
+abbrev pub number_lines : ℕ → Option (List ℕ) → List (ℕ × List ℕ)
+number_lines number left = enumerate_from number (parts_of_rest 10 left)

@@ -2,11 +2,11 @@
 -- it, nor is want of memory but where a call tells it.
 use Rattle.std.specs.Prelude.{◌≡◌, ℕ, ◌-◌, ◌*◌, ◌^◌, List, [], ◌∷◌, Option, Some, None, Result, Ok, Err, true}
 use Rattle.hdr_base.specs.Fractions.{Ratio}
-use Rattle.hdr_core.specs.Plain.{Plain, empty_plain}
+use Rattle.hdr_model.specs.Plain.{Plain, empty_plain}
 use Rattle.hdr_core.specs.Calls.{after_call, RefusesCall}
 use Rattle.hdr_core.specs.declared.call.Call.{Call}
 use Rattle.hdr_core.specs.declared.call.CallError.{CallError}
-use Rattle.hdr_core.specs.Recording.{restarted}
+use Rattle.hdr_model.specs.Recording.{after_reset}
 use Rattle.hdrhistogram.specs.V2.{IsV2, HasTooGreatCount}
 use Rattle.hdrhistogram.specs.LogLeaving.{IsIntervalText}
 use Rattle.hdrhistogram.specs.Chosen.{Filter}
@@ -43,7 +43,7 @@ LineDone h (k, b ∷ line) r = CommandDone k h (call_of (b ∷ line)) r
 -- the `end` of line k writes the histogram's interval, and the next one begins empty with the same bins; or a count is too
 -- great for bytes
 abbrev pub EndDone : ℕ → Plain → ℕ → ℕ → Option (List ℕ) → Result (List ℕ × Plain) Fault → Type 0
-EndDone k h start duration tag (Ok step) = IsIntervalText IsV2 h tag (start * 1_000_000) (duration * 1_000_000) 1 step.0 × (step.1 ≡ restarted h)
+EndDone k h start duration tag (Ok step) = IsIntervalText IsV2 h tag (start * 1_000_000) (duration * 1_000_000) 1 step.0 × (step.1 ≡ after_reset h)
 EndDone k h start duration tag (Err f) = HasTooGreatCount h × (f ≡ NotWritten k (SerializeError CountNotSerializable))
 
 -- line k of a log's input is done where it is a command

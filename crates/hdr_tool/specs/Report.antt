@@ -4,8 +4,8 @@ use Rattle.std.specs.List.{flat_map}
 use Rattle.std.specs.Fmt.{decimal}
 use Rattle.hex.specs.Hex.{encode_lower}
 use Rattle.hdr_base.specs.Fractions.{Ratio}
-use Rattle.hdr_core.specs.Plain.{Plain}
-use Rattle.hdr_core.specs.Ranks.{quantile_of}
+use Rattle.hdr_model.specs.Plain.{Plain}
+use Rattle.hdr_model.specs.Quantiles.{quantile_of}
 use Rattle.hdrhistogram.specs.V2.{IsV2, HasTooGreatCount}
 
 -- `NUM/DEN VALUE`, and a line end

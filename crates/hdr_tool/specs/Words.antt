@@ -7,7 +7,7 @@ use Rattle.hdr_tool.specs.declared.words.Command.{Command}
 use Rattle.hdr_tool.specs.declared.words.Command.TheVariants as command
 use Rattle.hdr_tool.specs.declared.fault.Fault.{Fault}
 use Rattle.hdr_tool.specs.declared.fault.Fault.TheVariants.{WrongWords, NoMemory}
-use Rattle.hdr_log.specs.Parts.{◌>>=◌, parted, number_of}
+use Rattle.hdr_log.specs.Parts.{◌>>=◌, split_at_byte, number_of}
 use Rattle.hdr_tool.specs.Parts.{each}
 use Rattle.hdr_tool.specs.Options.{Options, no_options, options_of}
 
@@ -19,7 +19,7 @@ sigfig_of _ = None
 -- `NUM/DEN`, with DEN at least 1
 unfoldable pub quantile_of_word : List ℕ → Option Ratio
 quantile_of_word word = do
-  sides ← parted 47 word
+  sides ← split_at_byte 47 word
   num ← number_of sides.0
   den ← number_of sides.1
   if den == 0 then None else Some (record { num = num; den = den })
@@ -51,24 +51,24 @@ merge_of words = do
   Some (Merge given.0 figures.0 figures.1)
 
 -- the command that a word names
-unfoldable pub command_named : List ℕ → Option Command
-command_named name =
+unfoldable pub command_of_word : List ℕ → Option Command
+command_of_word name =
     if bytes_eq name (codes "report") then Some command.Report
     else if bytes_eq name (codes "log") then Some command.Log
     else if bytes_eq name (codes "merge") then Some command.Merge
     else None
 
 -- the task of a command and of the words behind it
-abbrev pub task_named : Option Command → List (List ℕ) → Option Task
-task_named None words = None
-task_named (Some command.Report) words = option_map (λ f. Report f.0 f.1) (figures_of words)
-task_named (Some command.Log) words = log_of words
-task_named (Some command.Merge) words = merge_of words
+abbrev pub task_of_command : Option Command → List (List ℕ) → Option Task
+task_of_command None words = None
+task_of_command (Some command.Report) words = option_map (λ f. Report f.0 f.1) (figures_of words)
+task_of_command (Some command.Log) words = log_of words
+task_of_command (Some command.Merge) words = merge_of words
 
 -- the task of the words, none for wrong words
 unfoldable pub task_of : List (List ℕ) → Option Task
 task_of [] = None
-task_of (name ∷ words) = task_named (command_named name) words
+task_of (name ∷ words) = task_of_command (command_of_word name) words
 
 -- wrong words are refused as such, and right ones for want of memory alone
 abbrev pub RefusesWords : {A : Type 0} → Option A → Fault → Type 0

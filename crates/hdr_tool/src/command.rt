@@ -2,9 +2,9 @@
 
 ghost use Rattle.std.specs.Prelude.{◌≡◌};
 ghost use Rattle.std.specs.Option.{option_map};
-ghost use Rattle.hdr_tool.specs.Parts.{parts_left};
-ghost use Rattle.hdr_tool.specs.Lines.{count_of, record_of, clamp_of, correct_of, alone, named, call_of, tag_of_word, end_tag_of, end_of, log_named, log_command_of};
-ghost use Rattle.hdr_tool.specs.Commands.{log_command_seen};
+ghost use Rattle.hdr_tool.specs.Parts.{parts_of_rest};
+ghost use Rattle.hdr_tool.specs.Lines.{count_of, record_of, clamp_of, correct_of, alone, call_of_name, call_of, tag_of_word, end_tag_of, end_of, log_command_of_name, log_command_of};
+ghost use Rattle.hdr_tool.specs.Commands.{view_of_log_command};
 ghost use Rattle.hdr_log.specs.Tags.{tag_text};
 
 use crate::parts::split_first;
@@ -14,7 +14,7 @@ use hdrhistogram::serialization::interval_log::Tag;
 
 /// The count behind a value, 1 where nothing is left.
 fn count(left: Option<&[u8]>) -> Option<u64>
-    ensures { result ≡ count_of (parts_left 32 (option_map (λ t. t.now) left.entry)) }
+    ensures { result ≡ count_of (parts_of_rest 32 (option_map (λ t. t.now) left.entry)) }
 {
     let Some(text) = left else {
         return Some(1);
@@ -28,7 +28,7 @@ fn count(left: Option<&[u8]>) -> Option<u64>
 
 /// `V [N]`: a value, and how many times.
 fn record(left: Option<&[u8]>) -> Option<Call<'static, u64>>
-    ensures { result ≡ record_of (parts_left 32 (option_map (λ t. t.now) left.entry)) }
+    ensures { result ≡ record_of (parts_of_rest 32 (option_map (λ t. t.now) left.entry)) }
 {
     let (value, left) = split_first(left?, b' ');
     let value = number(value)?;
@@ -38,7 +38,7 @@ fn record(left: Option<&[u8]>) -> Option<Call<'static, u64>>
 
 /// `V [N]`, for a value that is brought down to the bins.
 fn clamp(left: Option<&[u8]>) -> Option<Call<'static, u64>>
-    ensures { result ≡ clamp_of (parts_left 32 (option_map (λ t. t.now) left.entry)) }
+    ensures { result ≡ clamp_of (parts_of_rest 32 (option_map (λ t. t.now) left.entry)) }
 {
     let (value, left) = split_first(left?, b' ');
     let value = number(value)?;
@@ -48,7 +48,7 @@ fn clamp(left: Option<&[u8]>) -> Option<Call<'static, u64>>
 
 /// `V I [N]`: a value, the interval at which values were expected, and how many times.
 fn correct(left: Option<&[u8]>) -> Option<Call<'static, u64>>
-    ensures { result ≡ correct_of (parts_left 32 (option_map (λ t. t.now) left.entry)) }
+    ensures { result ≡ correct_of (parts_of_rest 32 (option_map (λ t. t.now) left.entry)) }
 {
     let (value, left) = split_first(left?, b' ');
     let (interval, left) = split_first(left?, b' ');
@@ -60,7 +60,7 @@ fn correct(left: Option<&[u8]>) -> Option<Call<'static, u64>>
 
 /// A call by its name alone.
 fn alone(call: Call<'static, u64>, left: Option<&[u8]>) -> Option<Call<'static, u64>>
-    ensures { result ≡ alone call.entry (parts_left 32 (option_map (λ t. t.now) left.entry)) }
+    ensures { result ≡ alone call.entry (parts_of_rest 32 (option_map (λ t. t.now) left.entry)) }
 {
     if left.is_some() {
         return None;
@@ -69,9 +69,9 @@ fn alone(call: Call<'static, u64>, left: Option<&[u8]>) -> Option<Call<'static, 
 }
 
 /// The call of a name and of what is left behind it.
-#[tactic(auto, unfolding(crate::specs::Lines::named))]
+#[tactic(auto, unfolding(crate::specs::Lines::call_of_name))]
 fn named(name: &[u8], left: Option<&[u8]>) -> Option<Call<'static, u64>>
-    ensures { result ≡ named name.now (parts_left 32 (option_map (λ t. t.now) left.entry)) }
+    ensures { result ≡ call_of_name name.now (parts_of_rest 32 (option_map (λ t. t.now) left.entry)) }
 {
     match name {
         b"r" => record(left),
@@ -112,7 +112,7 @@ fn tag(word: &[u8]) -> Option<Tag<'_>>
 
 /// `[TAG]`: the tag behind the times, if there is one.
 fn end_tag(left: Option<&[u8]>) -> Option<Option<Tag<'_>>>
-    ensures { option_map (λ tag. option_map tag_text tag) result ≡ end_tag_of (parts_left 32 (option_map (λ t. t.now) left.entry)) }
+    ensures { option_map (λ tag. option_map tag_text tag) result ≡ end_tag_of (parts_of_rest 32 (option_map (λ t. t.now) left.entry)) }
 {
     let Some(text) = left else {
         return Some(None);
@@ -127,7 +127,7 @@ fn end_tag(left: Option<&[u8]>) -> Option<Option<Tag<'_>>>
 
 /// `START DURATION [TAG]`.
 fn end(left: Option<&[u8]>) -> Option<LogCommand<'_>>
-    ensures { option_map log_command_seen result ≡ end_of (parts_left 32 (option_map (λ t. t.now) left.entry)) }
+    ensures { option_map view_of_log_command result ≡ end_of (parts_of_rest 32 (option_map (λ t. t.now) left.entry)) }
 {
     let (start, left) = split_first(left?, b' ');
     let (duration, left) = split_first(left?, b' ');
@@ -138,9 +138,9 @@ fn end(left: Option<&[u8]>) -> Option<LogCommand<'_>>
 }
 
 /// The command that a line of a log's input asks for; `None` where the line is no command.
-#[tactic(auto, unfolding(crate::specs::Lines::log_named))]
+#[tactic(auto, unfolding(crate::specs::Lines::log_command_of_name))]
 pub(crate) fn log_command(line: &[u8]) -> Option<LogCommand<'_>>
-    ensures { option_map log_command_seen result ≡ log_command_of line.now }
+    ensures { option_map view_of_log_command result ≡ log_command_of line.now }
 {
     let (name, left) = split_first(line, b' ');
     match name {

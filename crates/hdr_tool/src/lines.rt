@@ -2,7 +2,7 @@
 
 ghost use Rattle.std.specs.Prelude.{◌≡◌, ◌<◌, ◌+◌, ◌^◌, length, Some};
 ghost use Rattle.std.specs.Iterator.{YieldsFirstBy, item_count};
-ghost use Rattle.hdr_tool.specs.Parts.{numbered};
+ghost use Rattle.hdr_tool.specs.Parts.{number_lines};
 
 use crate::parts::split_first;
 use std::marker::Model;
@@ -18,11 +18,11 @@ pub(crate) struct Lines<'a> {
 impl<'a> Model for Lines<'a> {
     ghost use Rattle.std.specs.Prelude.{ℕ, List, IfSome, ◌<◌, ◌+◌, ◌^◌, length};
     ghost use Rattle.std.specs.Option.{option_map};
-    ghost use Rattle.hdr_tool.specs.Parts.{numbered};
+    ghost use Rattle.hdr_tool.specs.Parts.{number_lines};
 
     ghost Value = { List (ℕ × List ℕ) };
 
-    ghost view = { λ it. numbered it.number (option_map (λ text. text.now) it.left) };
+    ghost view = { λ it. number_lines it.number (option_map (λ text. text.now) it.left) };
 
     ghost invariant = { λ it. IfSome it.left (λ text. it.number + length text.now + 1 < 2 ^ 64) };
 }
@@ -31,7 +31,7 @@ impl<'a> Lines<'a> {
     /// The lines of a text, numbered from 1.
     pub(crate) fn new(text: &'a [u8]) -> Lines<'a>
         requires { length text.now + 2 < 2 ^ 64 }
-        ensures { result ≡ numbered 1 (Some text.now) }
+        ensures { result ≡ number_lines 1 (Some text.now) }
     {
         Lines {
             number: 1,

@@ -1,9 +1,9 @@
 //! Merging a log.
 
 ghost use Rattle.std.specs.Prelude.{◌≡◌, ◌≢◌, [], Some, None, Err};
-ghost use Rattle.hdrhistogram.specs.Chosen.{filter_seen};
+ghost use Rattle.hdrhistogram.specs.Chosen.{view_of_filter};
 ghost use Rattle.hdr_tool.specs.Faults.{merge_fault};
-ghost use Rattle.hdr_tool.specs.Options.{options_seen};
+ghost use Rattle.hdr_tool.specs.Options.{view_of_options};
 ghost use Rattle.hdr_tool.specs.Outcomes.{Answers};
 ghost use Rattle.hdr_tool.specs.Program.{MergeReported, TaskDone, TaskStands, TaskWrites};
 ghost use Rattle.hdr_tool.specs.Words.{Merge};
@@ -26,7 +26,7 @@ pub(crate) fn report_log<W: Write>(
     writer: &mut W,
 ) -> Result<(), Fault>
     ensures words { result ≢ Err Fault.WrongWords }
-    ensures answers { Answers (TaskDone (Some (Merge (options_seen options.now) sigfig quantiles.now)) input.now)
+    ensures answers { Answers (TaskDone (Some (Merge (view_of_options options.now) sigfig quantiles.now)) input.now)
         (TaskStands (Some (Merge (options_seen options.now) sigfig quantiles.now)) input.now)
         (TaskWrites (Some (Merge (options_seen options.now) sigfig quantiles.now)) input.now) (W.contents writer.old) (W.contents writer.new) result }
 {
@@ -57,7 +57,7 @@ fn report_merged<T: Counter, W: Write>(
     writer: &mut W,
 ) -> Result<(), Fault>
     ensures words { result ≢ Err Fault.WrongWords }
-    ensures answers { Answers (MergeReported T.greatest (filter_seen filter.now) sigfig quantiles.now input.now) (λ text. text ≡ [])
+    ensures answers { Answers (MergeReported T.greatest (view_of_filter filter.now) sigfig quantiles.now input.now) (λ text. text ≡ [])
         (λ text. MergeReported T.greatest (filter_seen filter.now) sigfig quantiles.now input.now text None) (W.contents writer.old) (W.contents writer.new) result }
 {
     match merge_log::<T>(alloc, input, filter, sigfig) {

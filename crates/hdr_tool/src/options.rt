@@ -3,8 +3,8 @@
 ghost use Rattle.std.specs.Prelude.{◌≡◌, ◌∷◌, ◌*◌, ◌<◌, length, map, string_bytes, MatchOption, IfSome};
 ghost use Rattle.std.specs.Option.{option_map};
 ghost use Rattle.std.specs.Duration.{as_nanos};
-ghost use Rattle.hdrhistogram.specs.Chosen.{filter_seen};
-ghost use Rattle.hdr_tool.specs.Options.{no_options, counter_named, option_named, with_option, options_of, options_seen, filter_of};
+ghost use Rattle.hdrhistogram.specs.Chosen.{view_of_filter};
+ghost use Rattle.hdr_tool.specs.Options.{no_options, counter_of_word, option_of_word, with_option, options_of, view_of_options, filter_of};
 
 use crate::parts::is_word;
 use hdr_log::parts::number;
@@ -41,7 +41,7 @@ pub(crate) struct Options<'a> {
 impl<'a> Options<'a> {
     /// The intervals that are chosen.
     pub fn filter(&self) -> IntervalFilter<'a>
-        ensures { filter_seen result ≡ filter_of (options_seen self.now) }
+        ensures { view_of_filter result ≡ filter_of (view_of_options self.now) }
     {
         IntervalFilter {
             tag: self.tag,
@@ -53,7 +53,7 @@ impl<'a> Options<'a> {
 
 /// The options at the front of words, and the words behind them.
 pub(crate) fn take_options(words: &[String]) -> Option<(Options<'_>, &[String])>
-    ensures { option_map (λ p. (options_seen p.0, map string_bytes p.1.now)) result ≡ options_of no_options (map string_bytes words.now) }
+    ensures { option_map (λ p. (view_of_options p.0, map string_bytes p.1.now)) result ≡ options_of no_options (map string_bytes words.now) }
 {
     let mut left = words;
     let mut options = Options {
@@ -85,7 +85,7 @@ fn first_two(words: &[String]) -> Option<(&String, &String, &[String])>
 
 /// One option more, with the word behind its name.
 fn with_option<'a>(options: Options<'a>, name: OptionName, word: &'a str) -> Option<Options<'a>>
-    ensures { option_map options_seen result ≡ with_option (options_seen options.entry) name word.now }
+    ensures { option_map view_of_options result ≡ with_option (view_of_options options.entry) name word.now }
 {
     match name {
         OptionName::Into => match (options.into, counter_named(word.as_bytes())) {
@@ -120,9 +120,9 @@ fn with_option<'a>(options: Options<'a>, name: OptionName, word: &'a str) -> Opt
 }
 
 /// The option that a word names.
-#[tactic(auto, unfolding(crate::specs::Options::option_named))]
+#[tactic(auto, unfolding(crate::specs::Options::option_of_word))]
 fn option_named(word: &[u8]) -> Option<OptionName>
-    ensures { result ≡ option_named word.now }
+    ensures { result ≡ option_of_word word.now }
 {
     if is_word(word, b"--into") {
         Some(OptionName::Into)
@@ -138,9 +138,9 @@ fn option_named(word: &[u8]) -> Option<OptionName>
 }
 
 /// The counter type that a word names.
-#[tactic(auto, unfolding(crate::specs::Options::counter_named))]
+#[tactic(auto, unfolding(crate::specs::Options::counter_of_word))]
 fn counter_named(word: &[u8]) -> Option<CounterType>
-    ensures { result ≡ counter_named word.now }
+    ensures { result ≡ counter_of_word word.now }
 {
     if is_word(word, b"u8") {
         Some(CounterType::U8)

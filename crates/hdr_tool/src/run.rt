@@ -1,11 +1,11 @@
 //! The program, over any reader and writer.
 
 ghost use Rattle.std.specs.Prelude.{◌≡◌, ◌≢◌, ◌↔◌, ◌<◌, ◌+◌, ◌^◌, ℕ, List, map, length, MatchResult, Ok, Err, Some, None, [], true, IfSome, string_bytes};
-ghost use Rattle.hdr_core.specs.Plain.{empty_plain};
+ghost use Rattle.hdr_model.specs.Plain.{empty_plain};
 ghost use Rattle.std.specs.List.{enumerate_from};
 ghost use Rattle.hdr_log.specs.Parts.{parts};
 ghost use Rattle.hdr_tool.specs.Words.{Report, task_of};
-ghost use Rattle.hdr_tool.specs.Tasks.{task_seen};
+ghost use Rattle.hdr_tool.specs.Tasks.{view_of_task};
 ghost use Rattle.hdr_tool.specs.Faults.{refusal_at};
 ghost use Rattle.hdr_tool.specs.Outcomes.{Refuses, Answers, ReadsAll, Runs};
 ghost use Rattle.hdr_tool.specs.Program.{LineDone, TaskDone, TaskStands, TaskWrites, Program, Stands, IsWriting};
@@ -102,7 +102,7 @@ fn do_task<W: Write>(
 ) -> Result<(), Fault>
     requires { length input.now + 2 < 2 ^ 64 }
     ensures words { result ≢ Err Fault.WrongWords }
-    ensures answers { Answers (TaskDone (Some (task_seen task.now)) input.now) (TaskStands (Some (task_seen task.now)) input.now)
+    ensures answers { Answers (TaskDone (Some (view_of_task task.now)) input.now) (TaskStands (Some (view_of_task task.now)) input.now)
         (TaskWrites (Some (task_seen task.now)) input.now) (W.contents writer.old) (W.contents writer.new) result }
 {
     match task {

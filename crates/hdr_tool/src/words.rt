@@ -4,9 +4,9 @@ ghost use Rattle.std.specs.Prelude.{◌≡◌, map, is_some, Some, string_bytes,
 ghost use Rattle.std.specs.Option.{option_map};
 ghost use Rattle.std.specs.List.{list_all};
 ghost use Rattle.hdr_tool.specs.Parts.{each};
-ghost use Rattle.hdr_tool.specs.Words.{sigfig_of, quantile_of_word, figures_of, log_of, merge_of, command_named, task_of, RefusesWords};
+ghost use Rattle.hdr_tool.specs.Words.{sigfig_of, quantile_of_word, figures_of, log_of, merge_of, command_of_word, task_of, RefusesWords};
 ghost use Rattle.hdr_tool.specs.Options.{no_options};
-ghost use Rattle.hdr_tool.specs.Tasks.{task_seen};
+ghost use Rattle.hdr_tool.specs.Tasks.{view_of_task};
 
 use crate::fault::Fault;
 use crate::options::{Options, take_options};
@@ -104,7 +104,7 @@ fn figures(alloc: Global, words: &[String]) -> Result<(u8, Vec<Quantile>), Fault
 
 /// The digits of the words behind the word `log`.
 fn log(words: &[String]) -> Option<Task<'_>>
-    ensures { option_map task_seen result ≡ log_of (map string_bytes words.now) }
+    ensures { option_map view_of_task result ≡ log_of (map string_bytes words.now) }
 {
     let [digit] = words else {
         return None;
@@ -132,9 +132,9 @@ fn merge(alloc: Global, words: &[String]) -> Result<Task<'_>, Fault>
 }
 
 /// The command that a word names.
-#[tactic(auto, unfolding(crate::specs::Words::command_named))]
+#[tactic(auto, unfolding(crate::specs::Words::command_of_word))]
 fn named(word: &[u8]) -> Option<Command>
-    ensures { result ≡ command_named word.now }
+    ensures { result ≡ command_of_word word.now }
 {
     if is_word(word, b"report") {
         Some(Command::Report)

@@ -1,8 +1,9 @@
 -- What a merge of a log adds.
 use Rattle.std.proofs.Common.{◌≡◌, ◌∙◌, ℕ, ◌+◌, Bool, true, false, List, [], ◌∷◌, length, min, sum, Option, Some, None, Result, Ok, Err, refl, sym, ap, subst, arith}
 use Rattle.hdr_base.specs.Classes.{grain_of}
-use Rattle.hdr_core.specs.Plain.{Plain, IsTopMark, IsLowerMark, grain, empty_plain}
-use Rattle.hdr_core.specs.Joined.{merged_each}
+use Rattle.hdr_model.specs.Plain.{Plain, grain, empty_plain}
+use Rattle.hdr_model.specs.Marks.{IsTopMark, IsLowerMark}
+use Rattle.hdr_model.specs.Joining.{after_adds}
 use Rattle.hdr_log.specs.Grammar.{Entry, Start, Base, Span, Interval}
 use Rattle.hdr_log.specs.Texts.{base64_bytes}
 use Rattle.hdrhistogram.specs.Chosen.{Filter, is_chosen}
@@ -16,7 +17,7 @@ use Rattle.hdrhistogram.proofs.ReadBack.{top-unique, lower-unique}
 -- what is added from a state on
 abbrev Adds : ℕ → Filter → Merging → List (Result Entry ℕ) → Merging → Type 0
 Adds greatest filter m entries last =
-    (hs : List Plain) × AreChosen filter m.base entries hs × (last.histogram ≡ merged_each greatest m.histogram hs) × (last.chosen ≡ m.chosen + length hs)
+    (hs : List Plain) × AreChosen filter m.base entries hs × (last.histogram ≡ after_adds greatest m.histogram hs) × (last.chosen ≡ m.chosen + length hs)
 
 same_Ok : (m n : Merging) → (λ (r : Result Merging MergeError). r) (Ok m) ≡ Ok n → m ≡ n
 same_Ok m n e = cc
@@ -53,7 +54,7 @@ field_added greatest filter m last entries interval step (Some bytes) e f on =
 interval_added : (greatest : ℕ) (filter : Filter) (m last : Merging) (entries : List (Result Entry ℕ)) (interval : Interval) (b : Bool) (step : Result Merging MergeError)
     → IntervalMerges greatest m b interval step → MergesOn (EntriesMerge greatest filter entries) step (Ok last)
     → ((next : Merging) → EntriesMerge greatest filter entries next (Ok last) → Adds greatest filter next entries last)
-    → (hs : List Plain) × ChosenFirst b interval (AreChosen filter m.base entries) hs × (last.histogram ≡ merged_each greatest m.histogram hs) × (last.chosen ≡ m.chosen + length hs)
+    → (hs : List Plain) × ChosenFirst b interval (AreChosen filter m.base entries) hs × (last.histogram ≡ after_adds greatest m.histogram hs) × (last.chosen ≡ m.chosen + length hs)
 interval_added greatest filter m last entries interval true step i on rest =
     let f = field_added greatest filter m last entries interval step (base64_bytes interval.field) refl i on in
     let r = rest (with_interval greatest m f.0) f.2 in

@@ -3,59 +3,59 @@ use Rattle.std.proofs.Common.{◌≡◌, ℕ, zero, suc, ◌+◌, ◌*◌, ◌/�
 use Rattle.std.proofs.lemmas.Bool.{leb-false, and_cases, lt-leb, lt-ltb, le-ltb, true≢false}
 use Rattle.std.proofs.lemmas.List.{drop-drop, length-replicate}
 use Rattle.std.specs.List.{AllByRecursion}
-use Rattle.hdrhistogram.specs.Varint.{IsSpelling, spelled, Spells}
+use Rattle.hdrhistogram.specs.Varint.{IsSpelling, number_of_spelling, Spells}
 use Rattle.hdrhistogram.specs.ZigZag.{from_zig_zag}
 use Rattle.hdrhistogram.specs.declared.serialization.errors.DeserializeError.{DeserializeError}
 use Rattle.hdrhistogram.proofs.SpellingsRead.{two_spelt}
-use Rattle.hdrhistogram.specs.Faults.{Fault, cut, unless, named, FailsBy, Gives}
-use Rattle.hdrhistogram.specs.PayloadRead.{Parted, last_byte, put_before, parted, numbers, bins_read, move, fault_at, first_fault, fitted, with_count, IsCountPut, IsPairPut, ended, counts_in, IsCut}
+use Rattle.hdrhistogram.specs.Faults.{Fault, cut, unless, fault_of_error, FailsBy, Gives}
+use Rattle.hdrhistogram.specs.PayloadRead.{Parted, last_byte, put_before, split_spellings, numbers, bins_of_number, move, fault_at, first_fault, fit_bins, with_count, IsCountPut, IsPairPut, counts_or_fault, counts_in, IsCut}
 
 -- ---- the spellings of a payload
 
 parted_more : (t : Bool) (left b : ℕ) (bs more : List ℕ) → MatchBool t (bs ≡ []) (IsSpelling left bs)
-    → (IsSpelling left bs → parted left (bs ++ more) ≡ record { texts = bs ∷ (parted 8 more).texts; rest = (parted 8 more).rest })
-    → cond t (last_byte b (parted 8 (bs ++ more))) (put_before b (parted left (bs ++ more)).texts (parted left (bs ++ more)).rest)
-    ≡ record { texts = (b ∷ bs) ∷ (parted 8 more).texts; rest = (parted 8 more).rest }
+    → (IsSpelling left bs → split_spellings left (bs ++ more) ≡ record { texts = bs ∷ (split_spellings 8 more).texts; rest = (split_spellings 8 more).rest })
+    → cond t (last_byte b (split_spellings 8 (bs ++ more))) (put_before b (split_spellings left (bs ++ more)).texts (split_spellings left (bs ++ more)).rest)
+    ≡ record { texts = (b ∷ bs) ∷ (split_spellings 8 more).texts; rest = (split_spellings 8 more).rest }
 parted_more true left b bs more s again = rw s refl
 parted_more false left b bs more s again = rw (again s) refl
 
 -- a spelling is cut off whole
-pub parted_spelling : (left : ℕ) (text more : List ℕ) → IsSpelling left text → parted left (text ++ more) ≡ record { texts = text ∷ (parted 8 more).texts; rest = (parted 8 more).rest }
-unfolding IsSpelling parted
+pub parted_spelling : (left : ℕ) (text more : List ℕ) → IsSpelling left text → split_spellings left (text ++ more) ≡ record { texts = text ∷ (split_spellings 8 more).texts; rest = (split_spellings 8 more).rest }
+unfolding IsSpelling split_spellings
 parted_spelling left [] more s = absurd s
 parted_spelling zero (b ∷ bs) more s = rw s refl
 parted_spelling (suc left) (b ∷ bs) more s = parted_more (ltb b 128) left b bs more s (λ s'. parted_spelling left bs more s')
 
 -- a rest that is no whole spelling stays
-pub parted_rest : (left : ℕ) (rest : List ℕ) → length rest ≤ left → AllByRecursion (λ b. 128 ≤ b) rest → parted left rest ≡ record { texts = []; rest = rest }
-unfolding parted
+pub parted_rest : (left : ℕ) (rest : List ℕ) → length rest ≤ left → AllByRecursion (λ b. 128 ≤ b) rest → split_spellings left rest ≡ record { texts = []; rest = rest }
+unfolding split_spellings
 parted_rest left [] few high = refl
 parted_rest zero (b ∷ bs) few high = absurd (omega arith)
 parted_rest (suc left) (b ∷ bs) few high = rw (le-ltb b 128 high.0, parted_rest left bs (omega arith) high.1) refl
 
 -- ---- counts of as many bins as there are
 
-pub length_fitted : (bins : ℕ) (counts : List ℕ) → length (fitted bins counts) ≡ bins
-unfolding fitted
+pub length_fitted : (bins : ℕ) (counts : List ℕ) → length (fit_bins bins counts) ≡ bins
+unfolding fit_bins
 length_fitted zero counts = refl
 length_fitted (suc bins) [] = ap suc (length_fitted bins [])
 length_fitted (suc bins) (n ∷ counts) = ap suc (length_fitted bins counts)
 
-pub fitted_none : (bins : ℕ) → fitted bins [] ≡ replicate bins 0
-unfolding fitted
+pub fitted_none : (bins : ℕ) → fit_bins bins [] ≡ replicate bins 0
+unfolding fit_bins
 fitted_none zero = refl
 fitted_none (suc bins) = ap (λ l. 0 ∷ l) (fitted_none bins)
 
 -- empty bins at the end change nothing
-pub fitted_run : (bins : ℕ) (front : List ℕ) (k : ℕ) → fitted bins (front ++ replicate k 0) ≡ fitted bins front
-unfolding fitted
+pub fitted_run : (bins : ℕ) (front : List ℕ) (k : ℕ) → fit_bins bins (front ++ replicate k 0) ≡ fit_bins bins front
+unfolding fit_bins
 fitted_run zero front k = refl
 fitted_run (suc bins) [] zero = refl
 fitted_run (suc bins) [] (suc k) = ap (λ l. 0 ∷ l) (fitted_run bins [] k)
 fitted_run (suc bins) (n ∷ front) k = ap (λ l. n ∷ l) (fitted_run bins front k)
 
-fitted_set : (bins : ℕ) (front : List ℕ) (n : ℕ) → length front < bins → fitted bins (front ++ n ∷ []) ≡ set (fitted bins front) (length front) n
-unfolding fitted
+fitted_set : (bins : ℕ) (front : List ℕ) (n : ℕ) → length front < bins → fit_bins bins (front ++ n ∷ []) ≡ set (fit_bins bins front) (length front) n
+unfolding fit_bins
 fitted_set zero front n h = absurd (omega arith)
 fitted_set (suc bins) [] n h = refl
 fitted_set (suc bins) (m ∷ front) n h = ap (λ l. m ∷ l) (fitted_set bins front n (omega arith))
@@ -75,13 +75,13 @@ below_bins bins greatest place n h =
 
 -- a number without a fault adds its bins
 with_fitted : (bins greatest place : ℕ) (front : List ℕ) (n : ℤ) → length front ≡ place → fault_at bins greatest place n ≡ None
-    → with_count (fitted bins front) place n ≡ fitted bins (front ++ bins_read n)
+    → with_count (fit_bins bins front) place n ≡ fit_bins bins (front ++ bins_of_number n)
 with_fitted bins greatest place front (pos zero) e fine = sym (fitted_run bins front 1)
 with_fitted bins greatest place front (pos (suc n)) e fine =
-    ap (λ i. set (fitted bins front) i (suc n)) (sym e) ∙ sym (fitted_set bins front (suc n) (omega (arith, below_bins bins greatest place n fine, e)))
+    ap (λ i. set (fit_bins bins front) i (suc n)) (sym e) ∙ sym (fitted_set bins front (suc n) (omega (arith, below_bins bins greatest place n fine, e)))
 with_fitted bins greatest place front (negsuc n) e fine = sym (fitted_run bins front (suc n))
 
-moved : (front : List ℕ) (n : ℤ) → length (front ++ bins_read n) ≡ length front + move n
+moved : (front : List ℕ) (n : ℤ) → length (front ++ bins_of_number n) ≡ length front + move n
 moved front (pos n) = length-append front (n ∷ [])
 moved front (negsuc n) = length-append front (replicate (suc n) 0) ∙ ap (λ k. length front + k) (length-replicate {A = ℕ} (suc n) 0)
 
@@ -122,14 +122,14 @@ two-put greatest place bytes old new n two high fits low even is more most insid
 -- what is left of a payload, where these bins were read of it
 pub from : ℕ → ℕ → ℕ → List ℕ → Parted → Result (List ℕ) Fault
 from bins greatest place front later =
-    ended (first_fault bins greatest place (numbers later.texts)) later.rest (fitted bins (front ++ flat_map bins_read (numbers later.texts)))
+    counts_or_fault (first_fault bins greatest place (numbers later.texts)) later.rest (fit_bins bins (front ++ flat_map bins_of_number (numbers later.texts)))
 
 -- the numbers before `at` are read into the counts
 pub record IsFilledTo (bins greatest : ℕ) (payload counts : List ℕ) (at place : ℕ) : Type 0 where
   pub front : List ℕ
   pub long : length front ≡ place
-  pub now : counts ≡ fitted bins front
-  pub whole : counts_in bins greatest payload ≡ from bins greatest place front (parted 8 (drop at payload))
+  pub now : counts ≡ fit_bins bins front
+  pub whole : counts_in bins greatest payload ≡ from bins greatest place front (split_spellings 8 (drop at payload))
   pub within : at ≤ length payload
 
 pub fill_start : (bins greatest : ℕ) (payload counts : List ℕ) → counts ≡ replicate bins 0 → IsFilledTo bins greatest payload counts 0 0
@@ -146,16 +146,16 @@ parts_of payload text at next len t e =
     ∙ ap (λ l. text ++ l) (drop-drop len at payload ∙ ap (λ k. drop k payload) (sym e))
 
 next_of : (payload text : List ℕ) (at next len : ℕ) → text ≡ take len (drop at payload) → next ≡ at + len → IsSpelling 8 text
-    → parted 8 (drop at payload) ≡ record { texts = text ∷ (parted 8 (drop next payload)).texts; rest = (parted 8 (drop next payload)).rest }
-next_of payload text at next len t e s = ap (parted 8) (parts_of payload text at next len t e) ∙ parted_spelling 8 text (drop next payload) s
+    → split_spellings 8 (drop at payload) ≡ record { texts = text ∷ (split_spellings 8 (drop next payload)).texts; rest = (split_spellings 8 (drop next payload)).rest }
+next_of payload text at next len t e s = ap (split_spellings 8) (parts_of payload text at next len t e) ∙ parted_spelling 8 text (drop next payload) s
 
-step_from : (bins greatest place : ℕ) (front text : List ℕ) (n : ℤ) (later : Parted) → from_zig_zag (spelled 8 text) ≡ n → fault_at bins greatest place n ≡ None
-    → from bins greatest place front (record { texts = text ∷ later.texts; rest = later.rest }) ≡ from bins greatest (place + move n) (front ++ bins_read n) later
+step_from : (bins greatest place : ℕ) (front text : List ℕ) (n : ℤ) (later : Parted) → from_zig_zag (number_of_spelling 8 text) ≡ n → fault_at bins greatest place n ≡ None
+    → from bins greatest place front (record { texts = text ∷ later.texts; rest = later.rest }) ≡ from bins greatest (place + move n) (front ++ bins_of_number n) later
 unfolding from first_fault
 step_from bins greatest place front text n later value fine =
-    rw (value, fine) (ap (λ l. ended (first_fault bins greatest (place + move n) (numbers later.texts)) later.rest (fitted bins l)) (sym (append_assoc front (bins_read n) _)))
+    rw (value, fine) (ap (λ l. counts_or_fault (first_fault bins greatest (place + move n) (numbers later.texts)) later.rest (fit_bins bins l)) (sym (append_assoc front (bins_of_number n) _)))
 
-stop_from : (bins greatest place : ℕ) (front text : List ℕ) (n : ℤ) (later : Parted) (f : Fault) → from_zig_zag (spelled 8 text) ≡ n → fault_at bins greatest place n ≡ Some f
+stop_from : (bins greatest place : ℕ) (front text : List ℕ) (n : ℤ) (later : Parted) (f : Fault) → from_zig_zag (number_of_spelling 8 text) ≡ n → fault_at bins greatest place n ≡ Some f
     → from bins greatest place front (record { texts = text ∷ later.texts; rest = later.rest }) ≡ Err f
 unfolding from first_fault
 stop_from bins greatest place front text n later f value e = rw (value, e) refl
@@ -166,14 +166,14 @@ pub fill_next : (bins greatest : ℕ) (payload counts after text : List ℕ) (at
     → IsFilledTo bins greatest payload after next further
 fill_next bins greatest payload counts after text at next place further len encoded n d h t s value fine' e next_is further_is =
     let fine : fault_at bins greatest place n ≡ None = ap (λ k. fault_at k greatest place n) (sym (fill_bins bins greatest payload counts at place d)) ∙ fine' in
-    let number : from_zig_zag (spelled 8 text) ≡ n = sym (value ∙ ap from_zig_zag s.value) in
+    let number : from_zig_zag (number_of_spelling 8 text) ≡ n = sym (value ∙ ap from_zig_zag s.value) in
     record {
-      front = d.front ++ bins_read n;
+      front = d.front ++ bins_of_number n;
       long = moved d.front n ∙ ap (λ k. k + move n) d.long ∙ sym further_is;
       now = e ∙ ap (λ l. with_count l place n) d.now ∙ with_fitted bins greatest place d.front n d.long fine;
       whole = d.whole ∙ ap (from bins greatest place d.front) (next_of payload text at next len t next_is s.whole)
-          ∙ step_from bins greatest place d.front text n (parted 8 (drop next payload)) number fine
-          ∙ ap (λ k. from bins greatest k (d.front ++ bins_read n) (parted 8 (drop next payload))) (sym further_is);
+          ∙ step_from bins greatest place d.front text n (split_spellings 8 (drop next payload)) number fine
+          ∙ ap (λ k. from bins greatest k (d.front ++ bins_of_number n) (split_spellings 8 (drop next payload))) (sym further_is);
       within = omega (arith, length-drop at payload, d.within);
     }
 
@@ -182,13 +182,13 @@ pub fill_faulty : (bins greatest : ℕ) (payload counts text : List ℕ) (at pla
     → fault_at (length counts) greatest place n ≡ Some f → counts_in bins greatest payload ≡ Err f
 fill_faulty bins greatest payload counts text at place len encoded n f d h t s value e' =
     let e : fault_at bins greatest place n ≡ Some f = ap (λ k. fault_at k greatest place n) (sym (fill_bins bins greatest payload counts at place d)) ∙ e' in
-    let number : from_zig_zag (spelled 8 text) ≡ n = sym (value ∙ ap from_zig_zag s.value) in
+    let number : from_zig_zag (number_of_spelling 8 text) ≡ n = sym (value ∙ ap from_zig_zag s.value) in
     d.whole ∙ ap (from bins greatest place d.front) (next_of payload text at (at + len) len t refl s.whole)
-    ∙ stop_from bins greatest place d.front text n (parted 8 (drop (at + len) payload)) f number e
+    ∙ stop_from bins greatest place d.front text n (split_spellings 8 (drop (at + len) payload)) f number e
 
-end_from : (bins greatest place : ℕ) (front : List ℕ) → from bins greatest place front (record { texts = []; rest = [] }) ≡ Ok (fitted bins front)
+end_from : (bins greatest place : ℕ) (front : List ℕ) → from bins greatest place front (record { texts = []; rest = [] }) ≡ Ok (fit_bins bins front)
 unfolding from first_fault
-end_from bins greatest place front = ap (λ l. Ok (fitted bins l)) (append-nil front)
+end_from bins greatest place front = ap (λ l. Ok (fit_bins bins l)) (append-nil front)
 
 cut_from : (bins greatest place : ℕ) (front rest : List ℕ) → 0 < length rest → from bins greatest place front (record { texts = []; rest = rest }) ≡ Err cut
 unfolding from first_fault
@@ -196,9 +196,9 @@ cut_from bins greatest place front [] h = absurd (omega arith)
 cut_from bins greatest place front (b ∷ rest) h = refl
 
 pub fill_end : (bins greatest : ℕ) (payload counts : List ℕ) (at place : ℕ) → IsFilledTo bins greatest payload counts at place → length payload ≤ at → counts_in bins greatest payload ≡ Ok counts
-unfolding parted
+unfolding split_spellings
 fill_end bins greatest payload counts at place d h =
-    d.whole ∙ ap (λ l. from bins greatest place d.front (parted 8 l)) (drop_of_length-le payload {i = at} h) ∙ end_from bins greatest place d.front ∙ ap Ok (sym d.now)
+    d.whole ∙ ap (λ l. from bins greatest place d.front (split_spellings 8 l)) (drop_of_length-le payload {i = at} h) ∙ end_from bins greatest place d.front ∙ ap Ok (sym d.now)
 
 pub fill_cut : (bins greatest : ℕ) (payload counts : List ℕ) (at place : ℕ) → IsFilledTo bins greatest payload counts at place → at < length payload → IsCut (drop at payload) → counts_in bins greatest payload ≡ Err cut
 fill_cut bins greatest payload counts at place d h c =
@@ -225,5 +225,5 @@ fails_so (Some f) None whole h so = cc
 fails_so (Some f) (Some g) whole h so = let same : g ≡ f = cc in so f (ap Some same)
 
 -- an answer that is this error
-pub gives_fails : {X Y : Type 0} (view : X → Y) (r : Result X DeserializeError) (e d : DeserializeError) (whole : Result Y Fault) → r ≡ Err e → e ≡ d → FailsBy (named d) whole → Gives view r whole
+pub gives_fails : {X Y : Type 0} (view : X → Y) (r : Result X DeserializeError) (e d : DeserializeError) (whole : Result Y Fault) → r ≡ Err e → e ≡ d → FailsBy (fault_of_error d) whole → Gives view r whole
 gives_fails view r e d whole p q h = rw (p, q) h

@@ -6,7 +6,7 @@ use Rattle.std.proofs.lemmas.Bool.{ltb-false, le-ltb, lt-ltb}
 use Rattle.byteorder.specs.Endian.{big_number}
 use Rattle.byteorder.specs.Numbers.{big_from-append, big_from-take}
 use Rattle.hdrhistogram.specs.Faults.{Fault, cut, ◌>>=◌, unless, FailsBy}
-use Rattle.hdrhistogram.specs.V2Read.{Header, four_of, eight_of, four_at, eight_at, checked, cookie_fault, offset_fault, sigfig_fault, ratio_fault, header_at}
+use Rattle.hdrhistogram.specs.V2Read.{Header, four_of, eight_of, four_at, eight_at, check_field, cookie_fault, offset_fault, sigfig_fault, ratio_fault, header_at}
 
 -- ---- a field whose bytes were taken
 
@@ -83,7 +83,7 @@ eight-whole t n e is =
 abbrev okay : ℕ × List ℕ → Result (ℕ × List ℕ) Fault
 okay x = Ok x
 
-checked_is : (fault : ℕ → Option Fault) (r : Result (ℕ × List ℕ) Fault) (y : ℕ × List ℕ) → checked fault r ≡ Ok y → (r ≡ Ok y) × (fault y.0 ≡ None)
+checked_is : (fault : ℕ → Option Fault) (r : Result (ℕ × List ℕ) Fault) (y : ℕ × List ℕ) → check_field fault r ≡ Ok y → (r ≡ Ok y) × (fault y.0 ≡ None)
 checked_is fault (Err e) y h = absurd cc
 checked_is fault (Ok f) y h = told (fault f.0) refl h
   where
@@ -91,7 +91,7 @@ checked_is fault (Ok f) y h = told (fault f.0) refl h
     told None e h = (h, (let same : f ≡ y = cc in subst (λ (g : ℕ × List ℕ). fault g.0 ≡ None) same e))
     told (Some g) e h = absurd cc
 
-pub checked-steady : (fault : ℕ → Option Fault) (p : List ℕ → Result (ℕ × List ℕ) Fault) → IsSteady p → IsSteady (λ t. checked fault (p t))
+pub checked-steady : (fault : ℕ → Option Fault) (p : List ℕ → Result (ℕ × List ℕ) Fault) → IsSteady p → IsSteady (λ t. check_field fault (p t))
 checked-steady fault p steady t rest x e =
     let h = checked_is fault (p t) (x, rest) e in
     let (front, parts, again) = steady t rest x h.0 in
@@ -126,7 +126,7 @@ TakenBy old new p x = (t : List ℕ) × Consumes old new t × (p t ≡ Ok (x, []
 abbrev pub TakenSo : {B : Type 0} → Option (List ℕ) → Option (List ℕ) → (List ℕ → Result B Fault) → (Result B Fault → Type 0) → Type 0
 TakenSo old new p G = (t : List ℕ) × Consumes old new t × G (p t)
 
-pub checked-taken : (old new : Option (List ℕ)) (fault : ℕ → Option Fault) (p : List ℕ → Result (ℕ × List ℕ) Fault) (n : ℕ) → TakenBy old new p n → fault n ≡ None → TakenBy old new (λ t. checked fault (p t)) n
+pub checked-taken : (old new : Option (List ℕ)) (fault : ℕ → Option Fault) (p : List ℕ → Result (ℕ × List ℕ) Fault) (n : ℕ) → TakenBy old new p n → fault n ≡ None → TakenBy old new (λ t. check_field fault (p t)) n
 checked-taken old new fault p n (t, q, e) fine = (t, q, rw e (rw fine refl))
 
 pub unless_fails : {A : Type 0} (o fault : Option Fault) (x : A) → FailsBy {A = ℕ} o (unless fault 0) → FailsBy o (unless fault x)
@@ -136,15 +136,15 @@ unless_fails (Some f) (Some g) x h = let same : g ≡ f = cc in ap Err same
 
 -- the field was taken, and its check fails
 pub checked-refused : (old new : Option (List ℕ)) (fault : ℕ → Option Fault) (p : List ℕ → Result (ℕ × List ℕ) Fault) (n : ℕ) (o : Option Fault) → TakenBy old new p n → FailsBy {A = ℕ} o (unless (fault n) 0)
-    → TakenSo old new (λ t. checked fault (p t)) (FailsBy o)
-checked-refused old new fault p n o (t, q, e) h = (t, q, subst (λ r. FailsBy o (checked fault r)) (sym e) (unless_fails o (fault n) (n, []) h))
+    → TakenSo old new (λ t. check_field fault (p t)) (FailsBy o)
+checked-refused old new fault p n o (t, q, e) h = (t, q, subst (λ r. FailsBy o (check_field fault r)) (sym e) (unless_fails o (fault n) (n, []) h))
 
 pub fails_bind : {A B : Type 0} (o : Option Fault) (r : Result A Fault) (f : A → Result B Fault) → FailsBy o r → FailsBy o (r >>= f)
 fails_bind None r f h = tt
 fails_bind (Some e) r f h = rw h refl
 
 -- the field could not be taken
-pub checked-failed : (old new : Option (List ℕ)) (fault : ℕ → Option Fault) (p : List ℕ → Result (ℕ × List ℕ) Fault) (o : Option Fault) → TakenSo old new p (FailsBy o) → TakenSo old new (λ t. checked fault (p t)) (FailsBy o)
+pub checked-failed : (old new : Option (List ℕ)) (fault : ℕ → Option Fault) (p : List ℕ → Result (ℕ × List ℕ) Fault) (o : Option Fault) → TakenSo old new p (FailsBy o) → TakenSo old new (λ t. check_field fault (p t)) (FailsBy o)
 checked-failed old new fault p o (t, q, h) = (t, q, fails_bind o (p t) (λ f. unless (fault f.0) f) h)
 
 -- a field fails, and so what goes on with it
@@ -162,7 +162,7 @@ field-then old mid new p q x G steady (t, c, e) (u, d, h) =
 
 abbrev pub from_ratio : ℕ → ℕ → ℕ → ℕ → List ℕ → Result (Header × List ℕ) Fault
 from_ratio len sigfig low high text =
-    checked ratio_fault (eight_at text) >>= λ ratio. Ok (record { payload_len = len; sigfig = sigfig; low = low; high = high }, ratio.1)
+    check_field ratio_fault (eight_at text) >>= λ ratio. Ok (record { payload_len = len; sigfig = sigfig; low = low; high = high }, ratio.1)
 
 abbrev pub from_high : ℕ → ℕ → ℕ → List ℕ → Result (Header × List ℕ) Fault
 from_high len sigfig low text = eight_at text >>= λ high. from_ratio len sigfig low high.0 high.1
@@ -171,15 +171,15 @@ abbrev pub from_low : ℕ → ℕ → List ℕ → Result (Header × List ℕ) F
 from_low len sigfig text = eight_at text >>= λ low. from_high len sigfig low.0 low.1
 
 abbrev pub from_sigfig : ℕ → List ℕ → Result (Header × List ℕ) Fault
-from_sigfig len text = checked sigfig_fault (four_at text) >>= λ sigfig. from_low len sigfig.0 sigfig.1
+from_sigfig len text = check_field sigfig_fault (four_at text) >>= λ sigfig. from_low len sigfig.0 sigfig.1
 
 abbrev pub from_offset : ℕ → List ℕ → Result (Header × List ℕ) Fault
-from_offset len text = checked offset_fault (four_at text) >>= λ offset. from_sigfig len offset.1
+from_offset len text = check_field offset_fault (four_at text) >>= λ offset. from_sigfig len offset.1
 
 abbrev pub from_len : List ℕ → Result (Header × List ℕ) Fault
 from_len text = four_at text >>= λ len. from_offset len.0 len.1
 
-pub from_cookie : (old new : Option (List ℕ)) (G : Result (Header × List ℕ) Fault → Type 0) → TakenSo old new (λ text. checked cookie_fault (four_at text) >>= λ cookie. from_len cookie.1) G → TakenSo old new header_at G
+pub from_cookie : (old new : Option (List ℕ)) (G : Result (Header × List ℕ) Fault → Type 0) → TakenSo old new (λ text. check_field cookie_fault (four_at text) >>= λ cookie. from_len cookie.1) G → TakenSo old new header_at G
 unfolding header_at
 from_cookie old new G h = h
 
@@ -193,13 +193,13 @@ ok-steady {A} x t rest y e =
 pub header-steady : IsSteady header_at
 unfolding header_at
 header-steady =
-    bind-steady (λ t. checked cookie_fault (four_at t)) (λ _ t. from_len t) (checked-steady cookie_fault four_at four-steady) (λ _.
+    bind-steady (λ t. check_field cookie_fault (four_at t)) (λ _ t. from_len t) (checked-steady cookie_fault four_at four-steady) (λ _.
     bind-steady four_at from_offset four-steady (λ len.
-    bind-steady (λ t. checked offset_fault (four_at t)) (λ _ t. from_sigfig len t) (checked-steady offset_fault four_at four-steady) (λ _.
-    bind-steady (λ t. checked sigfig_fault (four_at t)) (from_low len) (checked-steady sigfig_fault four_at four-steady) (λ sigfig.
+    bind-steady (λ t. check_field offset_fault (four_at t)) (λ _ t. from_sigfig len t) (checked-steady offset_fault four_at four-steady) (λ _.
+    bind-steady (λ t. check_field sigfig_fault (four_at t)) (from_low len) (checked-steady sigfig_fault four_at four-steady) (λ sigfig.
     bind-steady eight_at (from_high len sigfig) eight-steady (λ low.
     bind-steady eight_at (from_ratio len sigfig low) eight-steady (λ high.
-    bind-steady (λ t. checked ratio_fault (eight_at t)) (λ _ t. Ok (record { payload_len = len; sigfig = sigfig; low = low; high = high }, t)) (checked-steady ratio_fault eight_at eight-steady) (λ _.
+    bind-steady (λ t. check_field ratio_fault (eight_at t)) (λ _ t. Ok (record { payload_len = len; sigfig = sigfig; low = low; high = high }, t)) (checked-steady ratio_fault eight_at eight-steady) (λ _.
     ok-steady (record { payload_len = len; sigfig = sigfig; low = low; high = high }))))))))
 
 -- a header and the text behind it
@@ -210,14 +210,14 @@ ended_header len sigfig low high ratio text = Ok (record { payload_len = len; si
 abbrev pub headed : ℕ → ℕ → ℕ → ℕ → Result (Header × List ℕ) Fault
 headed len sigfig low high = Ok (record { payload_len = len; sigfig = sigfig; low = low; high = high }, [])
 
-pub ratio-ends : (old new : Option (List ℕ)) (len sigfig low high ratio : ℕ) → TakenBy old new (λ t. checked ratio_fault (eight_at t)) ratio
+pub ratio-ends : (old new : Option (List ℕ)) (len sigfig low high ratio : ℕ) → TakenBy old new (λ t. check_field ratio_fault (eight_at t)) ratio
     → TakenSo old new (from_ratio len sigfig low high) (λ r. r ≡ headed len sigfig low high)
 ratio-ends old new len sigfig low high ratio (t, c, e) = (t, c, rw e refl)
 
 module _ (s0 s1 : Option (List ℕ)) (cookie : ℕ) (cookie_taken : TakenBy s0 s1 four_at cookie) (cookie_fine : cookie_fault cookie ≡ None) (new : Option (List ℕ)) (G : Result (Header × List ℕ) Fault → Type 0) where
   pub after_cookie : TakenSo s1 new from_len G → TakenSo s0 new header_at G
   after_cookie h =
-      from_cookie s0 new G (field-then s0 s1 new (λ t. checked cookie_fault (four_at t)) (λ _ t. from_len t) cookie G
+      from_cookie s0 new G (field-then s0 s1 new (λ t. check_field cookie_fault (four_at t)) (λ _ t. from_len t) cookie G
       (checked-steady cookie_fault four_at four-steady) (checked-taken s0 s1 cookie_fault four_at cookie cookie_taken cookie_fine) h)
 
   module _ (s2 : Option (List ℕ)) (len : ℕ) (len_taken : TakenBy s1 s2 four_at len) where
@@ -226,12 +226,12 @@ module _ (s0 s1 : Option (List ℕ)) (cookie : ℕ) (cookie_taken : TakenBy s0 s
 
     module _ (s3 : Option (List ℕ)) (offset : ℕ) (offset_taken : TakenBy s2 s3 four_at offset) (offset_fine : offset_fault offset ≡ None) where
       pub after_offset : TakenSo s3 new (from_sigfig len) G → TakenSo s0 new header_at G
-      after_offset h = after_len (field-then s2 s3 new (λ t. checked offset_fault (four_at t)) (λ _ t. from_sigfig len t) offset G
+      after_offset h = after_len (field-then s2 s3 new (λ t. check_field offset_fault (four_at t)) (λ _ t. from_sigfig len t) offset G
           (checked-steady offset_fault four_at four-steady) (checked-taken s2 s3 offset_fault four_at offset offset_taken offset_fine) h)
 
       module _ (s4 : Option (List ℕ)) (sigfig : ℕ) (sigfig_taken : TakenBy s3 s4 four_at sigfig) (sigfig_fine : sigfig_fault sigfig ≡ None) where
         pub after_sigfig : TakenSo s4 new (from_low len sigfig) G → TakenSo s0 new header_at G
-        after_sigfig h = after_offset (field-then s3 s4 new (λ t. checked sigfig_fault (four_at t)) (from_low len) sigfig G
+        after_sigfig h = after_offset (field-then s3 s4 new (λ t. check_field sigfig_fault (four_at t)) (from_low len) sigfig G
             (checked-steady sigfig_fault four_at four-steady) (checked-taken s3 s4 sigfig_fault four_at sigfig sigfig_taken sigfig_fine) h)
 
         module _ (s5 : Option (List ℕ)) (low : ℕ) (low_taken : TakenBy s4 s5 eight_at low) where

@@ -3,7 +3,7 @@ use Rattle.std.proofs.Common.{◌≡◌, ℕ, zero, suc, ◌<◌, ◌≤◌, Boo
 use Rattle.std.proofs.lemmas.Bool.{ltb-false}
 use Rattle.std.specs.List.{AllByRecursion}
 use Rattle.hdrhistogram.specs.Varint.{IsSpelling}
-use Rattle.hdrhistogram.specs.PayloadRead.{Parted, parted, AreSpellings}
+use Rattle.hdrhistogram.specs.PayloadRead.{Parted, split_spellings, AreSpellings}
 use Rattle.hdrhistogram.proofs.Filling.{parted_spelling, parted_rest}
 
 -- ---- a payload has spellings and a rest
@@ -57,16 +57,16 @@ split_by (suc n) bytes h = split_either bytes (λ f. split_by n f.rest (omega (a
 
 -- ---- and is cut so
 
-texts_parted : (texts : List (List ℕ)) (rest : List ℕ) → AllByRecursion (IsSpelling 8) texts → length rest ≤ 8 → AllByRecursion (λ b. 128 ≤ b) rest → parted 8 (flat_map (λ t. t) texts ++ rest) ≡ record { texts = texts; rest = rest }
+texts_parted : (texts : List (List ℕ)) (rest : List ℕ) → AllByRecursion (IsSpelling 8) texts → length rest ≤ 8 → AllByRecursion (λ b. 128 ≤ b) rest → split_spellings 8 (flat_map (λ t. t) texts ++ rest) ≡ record { texts = texts; rest = rest }
 texts_parted [] rest each few high = parted_rest 8 rest few high
 texts_parted (text ∷ texts) rest each few high =
-    ap (parted 8) (append_assoc text (flat_map (λ t. t) texts) rest) ∙ parted_spelling 8 text (flat_map (λ t. t) texts ++ rest) each.0
+    ap (split_spellings 8) (append_assoc text (flat_map (λ t. t) texts) rest) ∙ parted_spelling 8 text (flat_map (λ t. t) texts ++ rest) each.0
     ∙ ap (λ (p : Parted). record { texts = text ∷ p.texts; rest = p.rest }) (texts_parted texts rest each.1 few high)
 
-pub parted_only : (payload rest : List ℕ) (texts : List (List ℕ)) → AreSpellings payload texts rest → parted 8 payload ≡ record { texts = texts; rest = rest }
-parted_only payload rest texts s = ap (parted 8) s.whole ∙ texts_parted texts rest s.each s.cut.short s.cut.high
+pub parted_only : (payload rest : List ℕ) (texts : List (List ℕ)) → AreSpellings payload texts rest → split_spellings 8 payload ≡ record { texts = texts; rest = rest }
+parted_only payload rest texts s = ap (split_spellings 8) s.whole ∙ texts_parted texts rest s.each s.cut.short s.cut.high
 
-pub parted_are : (payload : List ℕ) → AreSpellings payload (parted 8 payload).texts (parted 8 payload).rest
+pub parted_are : (payload : List ℕ) → AreSpellings payload (split_spellings 8 payload).texts (split_spellings 8 payload).rest
 parted_are payload =
     let s = split_by (length payload) payload (omega arith) in
     subst (λ (p : Parted). AreSpellings payload p.texts p.rest) (sym (parted_only payload s.rest s.texts s.are)) s.are

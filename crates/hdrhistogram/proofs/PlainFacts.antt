@@ -4,7 +4,8 @@ use Rattle.std.proofs.lemmas.Bool.{cases_lt}
 use Rattle.std.proofs.lemmas.List.{get_or-take}
 use Rattle.std.proofs.lemmas.Grind.{get_or_default_zero}
 use Rattle.hdrhistogram.specs.V2.{written_bins}
-use Rattle.hdr_core.specs.Plain.{Plain, IsPlain, IsAbove}
+use Rattle.hdr_model.specs.Plain.{Plain, IsPlain}
+use Rattle.hdr_model.specs.Marks.{IsAbove}
 
 above-mark : (mark : Option ℕ) (i : ℕ) → unwrap_or mark 0 + 1 ≤ i → IsAbove mark i
 above-mark None i h = tt

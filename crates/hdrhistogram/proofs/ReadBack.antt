@@ -7,17 +7,18 @@ use Rattle.std.proofs.lemmas.List.Elements.{recursion_from_All}
 use Rattle.byteorder.specs.Endian.{big_number}
 use Rattle.byteorder.specs.Numbers.{big_number-reads_back}
 use Rattle.hdr_base.specs.Classes.{grain_of}
-use Rattle.hdr_core.specs.Plain.{Plain, IsPlain, IsTopMark, IsLowerMark, max_of, min_nz_of, top_of_mark, value_of_mark}
-use Rattle.hdr_core.specs.Equality.{same_plain}
-use Rattle.hdr_core.proofs.Bins.{few-bins, mark-inside}
-use Rattle.hdr_core.proofs.Sameness.{parts-same}
-use Rattle.hdrhistogram.specs.Varint.{spelled}
+use Rattle.hdr_model.specs.Plain.{Plain, IsPlain, max_of, min_nz_of}
+use Rattle.hdr_model.specs.Marks.{IsTopMark, IsLowerMark, top_of_mark, value_of_mark}
+use Rattle.hdr_model.specs.Equality.{same_plain}
+use Rattle.hdr_model.proofs.PlainBins.{few-bins, mark-inside}
+use Rattle.hdr_model.proofs.EqualityFacts.{parts-same}
+use Rattle.hdrhistogram.specs.Varint.{number_of_spelling}
 use Rattle.hdrhistogram.specs.ZigZag.{from_zig_zag}
 use Rattle.hdrhistogram.specs.Payload.{Part, run, bin, bins_of, AreMaximal, number_of, AreSpelt, IsPayload}
 use Rattle.hdrhistogram.specs.V2.{four, eight, header, written_bins, written_counts, IsV2}
 use Rattle.hdrhistogram.specs.Faults.{Fault}
-use Rattle.hdrhistogram.specs.PayloadRead.{Parted, parted, numbers, bins_read, move, fault_at, or_else, first_fault, fitted, ended, counts_in}
-use Rattle.hdrhistogram.specs.V2Read.{Header, Contents, four_of, eight_of, four_at, eight_at, bytes_at, checked, cookie_fault, offset_fault, sigfig_fault, ratio_fault, header_at, bounds_fault, bins_for, v2_at, told_of, IsRestated, HasContents, IsReadAs}
+use Rattle.hdrhistogram.specs.PayloadRead.{Parted, split_spellings, numbers, bins_of_number, move, fault_at, or_else, first_fault, fit_bins, counts_or_fault, counts_in}
+use Rattle.hdrhistogram.specs.V2Read.{Header, Contents, four_of, eight_of, four_at, eight_at, bytes_at, check_field, cookie_fault, offset_fault, sigfig_fault, ratio_fault, header_at, bounds_fault, bins_for, v2_at, told_of, IsRestated, HasContents, IsReadAs}
 use Rattle.hdrhistogram.proofs.Spellings.{spelt_short}
 use Rattle.hdrhistogram.proofs.PlainFacts.{not-written}
 use Rattle.hdrhistogram.proofs.V2Text.{length-four, length-eight}
@@ -29,18 +30,18 @@ use Rattle.hdrhistogram.proofs.V2Reading.{bounds-yes, fault-none}
 
 pub record Found (parts : List Part) (text : List ℕ) : Type 0 where
   pub texts : List (List ℕ)
-  pub are : parted 8 text ≡ record { texts = texts; rest = [] }
+  pub are : split_spellings 8 text ≡ record { texts = texts; rest = [] }
   pub each : numbers texts ≡ map number_of parts
 
 found : (parts : List Part) (text : List ℕ) → AreSpelt parts text → Found parts text
-unfolding parted
-found [] text e = record { texts = []; are = ap (parted 8) e; each = refl }
+unfolding split_spellings
+found [] text e = record { texts = []; are = ap (split_spellings 8) e; each = refl }
 found (part ∷ parts) text (first, rest, e, s, more) =
     let f = found parts rest more in
-    let number : from_zig_zag (spelled 8 first) ≡ number_of part = ap from_zig_zag (sym s.spells.value) ∙ zig_back (number_of part) in
+    let number : from_zig_zag (number_of_spelling 8 first) ≡ number_of part = ap from_zig_zag (sym s.spells.value) ∙ zig_back (number_of part) in
     record {
       texts = first ∷ f.texts;
-      are = ap (parted 8) e ∙ parted_spelling 8 first rest s.spells.whole ∙ ap (λ (p : Parted). record { texts = first ∷ p.texts; rest = p.rest }) f.are;
+      are = ap (split_spellings 8) e ∙ parted_spelling 8 first rest s.spells.whole ∙ ap (λ (p : Parted). record { texts = first ∷ p.texts; rest = p.rest }) f.are;
       each = ap (λ z. z ∷ numbers f.texts) number ∙ ap (λ l. number_of part ∷ l) f.each;
     }
 
@@ -81,15 +82,15 @@ fine_from (bin c ∷ parts) p bins greatest m h k small =
     ∙ fine_from parts (p + 1) bins greatest m.1 (omega arith) k small.1
 
 -- the bins that the numbers stand for are those of the parts
-same_bins_read : (parts : List Part) → AreMaximal parts → flat_map bins_read (map number_of parts) ≡ flat_map bins_of parts
+same_bins_read : (parts : List Part) → AreMaximal parts → flat_map bins_of_number (map number_of parts) ≡ flat_map bins_of parts
 same_bins_read [] m = refl
 same_bins_read (run zero ∷ parts) m = absurd (omega (arith, m.0))
 same_bins_read (run (suc zero) ∷ parts) m = ap (λ l. 0 ∷ l) (same_bins_read parts m.2)
 same_bins_read (run (suc (suc z)) ∷ parts) m = ap (λ l. replicate (suc (suc z)) 0 ++ l) (same_bins_read parts m.2)
 same_bins_read (bin c ∷ parts) m = ap (λ l. c ∷ l) (same_bins_read parts m.1)
 
-fitted_get : (bins : ℕ) (counts : List ℕ) (i : ℕ) → i < bins → get_or (fitted bins counts) i 0 ≡ get_or counts i 0
-unfolding fitted
+fitted_get : (bins : ℕ) (counts : List ℕ) (i : ℕ) → i < bins → get_or (fit_bins bins counts) i 0 ≡ get_or counts i 0
+unfolding fit_bins
 fitted_get zero counts i h = absurd (omega arith)
 fitted_get (suc bins) [] zero h = refl
 fitted_get (suc bins) [] (suc i) h = fitted_get bins [] i (omega arith)
@@ -97,9 +98,9 @@ fitted_get (suc bins) (n ∷ counts) zero h = refl
 fitted_get (suc bins) (n ∷ counts) (suc i) h = fitted_get bins counts i (omega arith)
 
 -- the written counts, with empty bins behind, are all
-fitted_written : (greatest : ℕ) (h : Plain) → IsPlain greatest h → fitted (length h.counts) (written_counts h) ≡ h.counts
+fitted_written : (greatest : ℕ) (h : Plain) → IsPlain greatest h → fit_bins (length h.counts) (written_counts h) ≡ h.counts
 fitted_written greatest h p =
-    ext_get_or 0 (fitted (length h.counts) (written_counts h)) h.counts (length_fitted (length h.counts) (written_counts h)) (λ i lt.
+    ext_get_or 0 (fit_bins (length h.counts) (written_counts h)) h.counts (length_fitted (length h.counts) (written_counts h)) (λ i lt.
     fitted_get (length h.counts) (written_counts h) i (omega (arith, length_fitted (length h.counts) (written_counts h))) ∙ told i (cases_lt i (written_bins h)))
   where
     told : (i : ℕ) → (i < written_bins h) ⊎ (written_bins h ≤ i) → get_or (written_counts h) i 0 ≡ get_or h.counts i 0
@@ -122,10 +123,10 @@ counts_again greatest h text p w =
     let small : AllByRecursion (λ c. c ≤ greatest) (flat_map bins_of w.parts) = subst (AllByRecursion (λ c. c ≤ greatest)) (sym whole) (all_taken _ (written_bins h) h.counts (recursion_from_All _ h.counts p.numbers_fit)) in
     let none : first_fault bins greatest 0 (numbers f.texts) ≡ None
     = ap (first_fault bins greatest 0) f.each ∙ fine_from w.parts 0 bins greatest w.split.maximal (omega (arith, ap (length {A = ℕ}) whole, size, mark-inside greatest h p)) (omega (arith, few-bins greatest h p)) small in
-    let counts : fitted bins (flat_map bins_read (numbers f.texts)) ≡ h.counts
-    = ap (λ l. fitted bins (flat_map bins_read l)) f.each ∙ ap (fitted bins) (same_bins_read w.parts w.split.maximal ∙ whole) ∙ fitted_written greatest h p in
-    ap (λ (q : Parted). ended (first_fault bins greatest 0 (numbers q.texts)) q.rest (fitted bins (flat_map bins_read (numbers q.texts)))) f.are
-    ∙ ap (λ (o : Option Fault). ended o [] (fitted bins (flat_map bins_read (numbers f.texts)))) none ∙ ap Ok counts
+    let counts : fit_bins bins (flat_map bins_of_number (numbers f.texts)) ≡ h.counts
+    = ap (λ l. fit_bins bins (flat_map bins_of_number l)) f.each ∙ ap (fit_bins bins) (same_bins_read w.parts w.split.maximal ∙ whole) ∙ fitted_written greatest h p in
+    ap (λ (q : Parted). counts_or_fault (first_fault bins greatest 0 (numbers q.texts)) q.rest (fit_bins bins (flat_map bins_of_number (numbers q.texts)))) f.are
+    ∙ ap (λ (o : Option Fault). counts_or_fault o [] (fit_bins bins (flat_map bins_of_number (numbers f.texts)))) none ∙ ap Ok counts
 
 -- ---- its length
 
@@ -179,7 +180,7 @@ sigfig_fine : (n : ℕ) → n ≤ 5 → sigfig_fault n ≡ None
 unfolding sigfig_fault
 sigfig_fine n h = rw (le-ltb 255 n (omega arith)) refl
 
-checked_fine : (fault : ℕ → Option Fault) (r : Result (ℕ × List ℕ) Fault) (n : ℕ) (rest : List ℕ) → r ≡ Ok (n, rest) → fault n ≡ None → checked fault r ≡ Ok (n, rest)
+checked_fine : (fault : ℕ → Option Fault) (r : Result (ℕ × List ℕ) Fault) (n : ℕ) (rest : List ℕ) → r ≡ Ok (n, rest) → fault n ≡ None → check_field fault r ≡ Ok (n, rest)
 checked_fine fault r n rest e fine = rw e (rw fine refl)
 
 abbrev head_of : Plain → ℕ → Header

@@ -1,8 +1,9 @@
 -- A histogram that was written and read again.
 use Rattle.std.proofs.Common.{◌≡◌, ℕ, zero, suc, ◌-◌, ◌^◌, ◌<◌, ◌≤◌, min, List, [], ◌∷◌, length, sum, slice_index, All, Option, Some, None, IfSome, sym, ap, ap₂, ◌∙◌, subst, arith}
 use Rattle.hdr_base.specs.Classes.{grain_of, reach_of, bins_to}
-use Rattle.hdr_core.specs.Plain.{Plain, IsPlain, grain, reach, IsAbove, IsBelow, IsTopMark, IsLowerMark}
-use Rattle.hdr_core.specs.Samples.{StandsFor, in_class}
+use Rattle.hdr_model.specs.Plain.{Plain, IsPlain, grain, reach}
+use Rattle.hdr_model.specs.Marks.{IsAbove, IsBelow, IsTopMark, IsLowerMark}
+use Rattle.hdr_model.specs.Samples.{StandsFor, in_class}
 use Rattle.hdrhistogram.specs.V2Read.{Contents, IsReadBack}
 
 inside : (xs : List ℕ) (i : ℕ) → 0 < slice_index xs i → i < length xs

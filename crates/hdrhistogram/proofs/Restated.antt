@@ -1,7 +1,7 @@
 -- Bins that were set, and the histogram made of them.
 use Rattle.std.proofs.Common.{◌≡◌, ℕ, false, List, sym, ap, ◌∙◌}
-use Rattle.hdr_core.specs.Plain.{Plain}
-use Rattle.hdr_core.specs.Filling.{Open, opened, IsClosed}
+use Rattle.hdr_model.specs.Plain.{Plain}
+use Rattle.hdr_model.specs.Filling.{Open, open_of, IsClosed}
 use Rattle.hdrhistogram.specs.V2Read.{told_by, told_of, IsRestated}
 
 -- one bin set and then another
@@ -14,7 +14,7 @@ module _ (k : Plain) (f g : Open) (between : g ≡ record f { counts = g.counts 
   pub closed-counts : k.counts ≡ g.counts
   closed-counts = ap (λ (o : Open). o.counts) after.same
 
-  whole : opened k ≡ record f { counts = k.counts }
+  whole : open_of k ≡ record f { counts = k.counts }
   whole = after.same ∙ between ∙ ap (λ (n : List ℕ). record f { counts = n }) (sym closed-counts)
 
   pub closed-told : told_of k ≡ record (told_by f) { counts = k.counts }

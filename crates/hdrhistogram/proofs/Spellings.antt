@@ -2,7 +2,7 @@
 use Rattle.std.proofs.Common.{◌≡◌, ℕ, zero, suc, ◌+◌, ◌*◌, ◌/◌, ◌%◌, ◌^◌, ◌<◌, ◌≤◌, Bool, true, false, cond, List, [], ◌∷◌, ◌++◌, length, refl, sym, ap, ◌∙◌, arith, MatchBool, pow-add, ltb}
 use Rattle.std.proofs.lemmas.Bool.{ltb-true, ltb-false, le-ltb}
 use Rattle.std.specs.List.{AllByRecursion}
-use Rattle.hdrhistogram.specs.Varint.{IsSpelling, spelled, Spells, IsShortest}
+use Rattle.hdrhistogram.specs.Varint.{IsSpelling, number_of_spelling, Spells, IsShortest}
 
 -- ---- what is spelt
 
@@ -28,7 +28,7 @@ one_of (suc left) (c ∷ a) (d ∷ b) x y p q e =
 pub one_spelling_of : (a b x y : List ℕ) (m n : ℕ) → Spells a m → Spells b n → a ++ x ≡ b ++ y → (a ≡ b) × (m ≡ n)
 one_spelling_of a b x y m n p q e =
     let same = one_of 8 a b x y p.whole q.whole e in
-    (same, p.value ∙ ap (spelled 8) same ∙ sym q.value)
+    (same, p.value ∙ ap (number_of_spelling 8) same ∙ sym q.value)
 
 -- a spelling has a byte
 pub some_byte : (left : ℕ) (a : List ℕ) → IsSpelling left a → 0 < length a
@@ -36,16 +36,16 @@ unfolding IsSpelling
 some_byte left [] p = absurd p
 some_byte left (c ∷ a) p = omega arith
 
-pub nothing_spelled : (left : ℕ) → spelled left [] ≡ 0
-unfolding spelled
+pub nothing_spelled : (left : ℕ) → number_of_spelling left [] ≡ 0
+unfolding number_of_spelling
 nothing_spelled left = refl
 
 same_more : (t s : Bool) (left c d : ℕ) (a b : List ℕ) → ltb c 128 ≡ t → ltb d 128 ≡ s → MatchBool t (a ≡ []) (IsSpelling left a) → MatchBool s (b ≡ []) (IsSpelling left b)
-    → c < 256 → d < 256 → length a ≡ length b → c % 128 + 128 * spelled left a ≡ d % 128 + 128 * spelled left b
-    → (IsSpelling left a → IsSpelling left b → spelled left a ≡ spelled left b → a ≡ b) → (c ≡ d) × (a ≡ b)
+    → c < 256 → d < 256 → length a ≡ length b → c % 128 + 128 * number_of_spelling left a ≡ d % 128 + 128 * number_of_spelling left b
+    → (IsSpelling left a → IsSpelling left b → number_of_spelling left a ≡ number_of_spelling left b → a ≡ b) → (c ≡ d) × (a ≡ b)
 same_more true true left c d a b e f p q h k size value again =
-    let none : spelled left a ≡ 0 = ap (spelled left) p ∙ nothing_spelled left in
-    let no : spelled left b ≡ 0 = ap (spelled left) q ∙ nothing_spelled left in
+    let none : number_of_spelling left a ≡ 0 = ap (number_of_spelling left) p ∙ nothing_spelled left in
+    let no : number_of_spelling left b ≡ 0 = ap (number_of_spelling left) q ∙ nothing_spelled left in
     (omega (arith, ltb-true c 128 e, ltb-true d 128 f), p ∙ sym q)
 same_more false false left c d a b e f p q h k size value again =
     (omega (arith, ltb-false c 128 e, ltb-false d 128 f), again p q (omega arith))
@@ -54,8 +54,8 @@ same_more false true left c d a b e f p q h k size value again = absurd (omega (
 
 -- two spellings of one number that are equally long are one
 same_from : (left : ℕ) (a b : List ℕ) → IsSpelling left a → IsSpelling left b → AllByRecursion (λ x. x < 256) a → AllByRecursion (λ x. x < 256) b
-    → length a ≡ length b → spelled left a ≡ spelled left b → a ≡ b
-unfolding IsSpelling spelled
+    → length a ≡ length b → number_of_spelling left a ≡ number_of_spelling left b → a ≡ b
+unfolding IsSpelling number_of_spelling
 same_from left [] b p q h k size value = absurd p
 same_from left (c ∷ a) [] p q h k size value = absurd q
 same_from zero (c ∷ a) (d ∷ b) p q h k size value = cc
@@ -81,15 +81,15 @@ spelling_from (suc left) n = cond (ltb n 128) (n ∷ []) ((n % 128 + 128) ∷ sp
 unfoldable pub spelling : ℕ → List ℕ
 spelling n = spelling_from 8 n
 
-written_more : (b : Bool) (left n : ℕ) → ltb n 128 ≡ b → IsSpelling left (spelling_from left (n / 128)) → n / 128 ≡ spelled left (spelling_from left (n / 128))
+written_more : (b : Bool) (left n : ℕ) → ltb n 128 ≡ b → IsSpelling left (spelling_from left (n / 128)) → n / 128 ≡ number_of_spelling left (spelling_from left (n / 128))
     → IsSpelling (suc left) (cond b (n ∷ []) ((n % 128 + 128) ∷ spelling_from left (n / 128)))
-    × (n ≡ spelled (suc left) (cond b (n ∷ []) ((n % 128 + 128) ∷ spelling_from left (n / 128))))
-unfolding IsSpelling spelled
+    × (n ≡ number_of_spelling (suc left) (cond b (n ∷ []) ((n % 128 + 128) ∷ spelling_from left (n / 128))))
+unfolding IsSpelling number_of_spelling
 written_more true left n e p q = (rw e refl, omega (arith, ltb-true n 128 e))
 written_more false left n e p q = (rw (le-ltb (n % 128 + 128) 128 (omega arith)) p, omega (arith, ltb-false n 128 e))
 
-written_from : (left n : ℕ) → IsSpelling left (spelling_from left n) × (n ≡ spelled left (spelling_from left n))
-unfolding IsSpelling spelled spelling_from
+written_from : (left n : ℕ) → IsSpelling left (spelling_from left n) × (n ≡ number_of_spelling left (spelling_from left n))
+unfolding IsSpelling number_of_spelling spelling_from
 written_from zero n = (refl, refl)
 written_from (suc left) n = let rest = written_from left (n / 128) in written_more (ltb n 128) left n refl rest.0 rest.1
 
@@ -106,17 +106,17 @@ unfolding spelling_from
 bytes_from zero n h = (h, tt)
 bytes_from (suc left) n h = bytes_more (ltb n 128) left n refl (bytes_from left (n / 128) (omega (arith, power_more left)))
 
-least_more : (b t : Bool) (left n c : ℕ) (a : List ℕ) → ltb n 128 ≡ b → ltb c 128 ≡ t → MatchBool t (a ≡ []) (IsSpelling left a) → n ≡ c % 128 + 128 * spelled left a
-    → (IsSpelling left a → n / 128 ≡ spelled left a → length (spelling_from left (n / 128)) ≤ length a)
+least_more : (b t : Bool) (left n c : ℕ) (a : List ℕ) → ltb n 128 ≡ b → ltb c 128 ≡ t → MatchBool t (a ≡ []) (IsSpelling left a) → n ≡ c % 128 + 128 * number_of_spelling left a
+    → (IsSpelling left a → n / 128 ≡ number_of_spelling left a → length (spelling_from left (n / 128)) ≤ length a)
     → length (cond b (n ∷ []) ((n % 128 + 128) ∷ spelling_from left (n / 128))) ≤ suc (length a)
-unfolding spelled
+unfolding number_of_spelling
 least_more true t left n c a e f p q again = omega arith
 least_more false true left n c a e f p q again =
-    let none : spelled left a ≡ 0 = ap (spelled left) p in absurd (omega (arith, ltb-false n 128 e))
+    let none : number_of_spelling left a ≡ 0 = ap (number_of_spelling left) p in absurd (omega (arith, ltb-false n 128 e))
 least_more false false left n c a e f p q again = omega (arith, again p (omega arith))
 
-least_from : (left n : ℕ) (other : List ℕ) → IsSpelling left other → n ≡ spelled left other → length (spelling_from left n) ≤ length other
-unfolding IsSpelling spelled spelling_from
+least_from : (left n : ℕ) (other : List ℕ) → IsSpelling left other → n ≡ number_of_spelling left other → length (spelling_from left n) ≤ length other
+unfolding IsSpelling number_of_spelling spelling_from
 least_from left n [] p e = absurd p
 least_from zero n (c ∷ a) p e = omega arith
 least_from (suc left) n (c ∷ a) p e = least_more (ltb n 128) (ltb c 128) left n c a refl refl p e (λ p' e'. least_from left (n / 128) a p' e')

@@ -9,7 +9,7 @@ use Rattle.std.proofs.Math.Nat.{mul-le-mul_left}
 use Rattle.std.proofs.lemmas.List.{take-append-le, take_more}
 use Rattle.std.specs.List.{AllByRecursion}
 use Rattle.hdrhistogram.specs.Streams.{ConsumesFewer}
-use Rattle.hdrhistogram.specs.Varint.{IsSpelling, spelled, Spells}
+use Rattle.hdrhistogram.specs.Varint.{IsSpelling, number_of_spelling, Spells}
 use Rattle.hdrhistogram.specs.PayloadRead.{IsCut}
 use Rattle.hdrhistogram.proofs.Spellings.{nothing_spelled}
 use Rattle.hdrhistogram.proofs.Writing.{power_next}
@@ -34,7 +34,7 @@ bytes_push (c ∷ bytes) b fits h (suc i) = bytes_push bytes b (λ k. fits (suc 
 -- the bytes below `place` each ask for another, and give value, whatever follows
 pub record IsReadTo (bytes : List ℕ) (place value weight : ℕ) : Type 0 where
   pub whole : (tail : List ℕ) → IsSpelling (8 - place) tail → IsSpelling 8 (take place bytes ++ tail)
-  pub number : (tail : List ℕ) → spelled 8 (take place bytes ++ tail) ≡ value + weight * spelled (8 - place) tail
+  pub number : (tail : List ℕ) → number_of_spelling 8 (take place bytes ++ tail) ≡ value + weight * number_of_spelling (8 - place) tail
   pub high : AllByRecursion (λ b. 128 ≤ b) (take place bytes)
   pub weight_is : weight ≡ 2 ^ (7 * place)
   pub below : value < weight
@@ -56,9 +56,9 @@ unfolding IsSpelling
 low_first left next b e low =
     let at_next : IsSpelling (suc next) (b ∷ []) = rw (lt-ltb b 128 low) refl in subst (λ l. IsSpelling l (b ∷ [])) (sym e) at_next
 
-first_group : (left next b : ℕ) (tail : List ℕ) → left ≡ suc next → spelled left (b ∷ tail) ≡ b % 128 + 128 * spelled next tail
-unfolding spelled
-first_group left next b tail e = ap (λ l. spelled l (b ∷ tail)) e
+first_group : (left next b : ℕ) (tail : List ℕ) → left ≡ suc next → number_of_spelling left (b ∷ tail) ≡ b % 128 + 128 * number_of_spelling next tail
+unfolding number_of_spelling
+first_group left next b tail e = ap (λ l. number_of_spelling l (b ∷ tail)) e
 
 all_push : (P : ℕ → Type 0) (xs : List ℕ) (y : ℕ) → AllByRecursion P xs → P y → AllByRecursion P (xs ++ y ∷ [])
 all_push P [] y h p = (p, tt)
@@ -73,7 +73,7 @@ read_next bytes place value weight r h room high =
     let group : weight * (b % 128) ≤ weight * 127 = mul-le-mul_left weight (omega arith) in
     record {
       whole = λ tail t. rw (one_more bytes tail place room) (r.whole (b ∷ tail) (high_first _ _ b tail step high t));
-      number = λ tail. ap (spelled 8) (one_more bytes tail place room) ∙ r.number (b ∷ tail) ∙ ap (λ n. value + weight * n) (first_group _ _ b tail step) ∙ omega arith;
+      number = λ tail. ap (number_of_spelling 8) (one_more bytes tail place room) ∙ r.number (b ∷ tail) ∙ ap (λ n. value + weight * n) (first_group _ _ b tail step) ∙ omega arith;
       high = rw (take_more bytes place 0 room) (all_push (λ x. 128 ≤ x) (take place bytes) b r.high high);
       weight_is = ap (λ n. n * 128) r.weight_is ∙ sym (power_next place);
       below = omega (arith, r.below, group);
@@ -90,13 +90,13 @@ read_end bytes place value weight fits r h room low =
     record {
       bytes = bytes_taken (place + 1) bytes fits;
       whole = rw (take_more bytes place 0 room) (r.whole (b ∷ []) (low_first _ _ b step low));
-      value = sym (ap (spelled 8) (take_more bytes place 0 room) ∙ r.number (b ∷ []) ∙ ap (λ n. value + weight * n) (first_group _ _ b [] step ∙ omega (arith, none)));
+      value = sym (ap (number_of_spelling 8) (take_more bytes place 0 room) ∙ r.number (b ∷ []) ∙ ap (λ n. value + weight * n) (first_group _ _ b [] step ∙ omega (arith, none)));
     }
 
 -- the last byte, of eight
 pub read_last : (bytes : List ℕ) (place value weight : ℕ) → AreBytes bytes → IsReadTo bytes place value weight → place ≡ 8 → place < length bytes
     → Spells (take 9 bytes) (value + weight * get_or bytes place 0)
-unfolding IsSpelling spelled
+unfolding IsSpelling number_of_spelling
 read_last bytes place value weight fits r full room =
     let b = get_or bytes place 0 in
     let nine : 9 ≡ place + 1 = omega arith in
@@ -106,7 +106,7 @@ read_last bytes place value weight fits r full room =
     record {
       bytes = bytes_taken 9 bytes fits;
       whole = rw all (r.whole (b ∷ []) ninth);
-      value = sym (ap (spelled 8) all ∙ r.number (b ∷ []) ∙ ap (λ l. value + weight * spelled l (b ∷ [])) none);
+      value = sym (ap (number_of_spelling 8) all ∙ r.number (b ∷ []) ∙ ap (λ l. value + weight * number_of_spelling l (b ∷ [])) none);
     }
 
 -- where the bytes end
@@ -121,7 +121,7 @@ read_behind bytes more place value weight r e =
     let same : take place bytes ≡ take place (bytes ++ more) = sym (take-append-le place bytes more (omega arith)) in
     record {
       whole = λ tail h. subst (λ l. IsSpelling 8 (l ++ tail)) same (r.whole tail h);
-      number = λ tail. ap (λ l. spelled 8 (l ++ tail)) (sym same) ∙ r.number tail;
+      number = λ tail. ap (λ l. number_of_spelling 8 (l ++ tail)) (sym same) ∙ r.number tail;
       high = subst (AllByRecursion (λ b. 128 ≤ b)) same r.high;
       weight_is = r.weight_is;
       below = r.below;
@@ -208,13 +208,13 @@ value_fits place value weight b e h k v =
 
 -- a spelling of one byte, and of two
 pub one_spelt : (bytes : List ℕ) → 0 < length bytes → get_or bytes 0 0 < 128 → Spells (take 1 bytes) (get_or bytes 0 0)
-unfolding IsSpelling spelled
+unfolding IsSpelling number_of_spelling
 one_spelt [] some low = absurd (omega arith)
 one_spelt (b ∷ bytes) some low = record { bytes = (omega arith, tt); whole = rw (lt-ltb b 128 low) refl; value = omega arith }
 
 pub two_spelt : (bytes : List ℕ) → 1 < length bytes → 128 ≤ get_or bytes 0 0 → get_or bytes 0 0 < 256 → get_or bytes 1 0 < 128
     → Spells (take 2 bytes) (get_or bytes 0 0 % 128 + 128 * get_or bytes 1 0)
-unfolding IsSpelling spelled
+unfolding IsSpelling number_of_spelling
 two_spelt [] some high fits low = absurd (omega arith)
 two_spelt (b ∷ []) some high fits low = absurd (omega arith)
 two_spelt (b ∷ c ∷ bytes) some high fits low = record {

@@ -8,14 +8,14 @@ use Rattle.hdr_base.specs.Classes.{grain_of, bins_to, unit_of}
 use Rattle.hdr_base.proofs.Least.{least_from-passes}
 use Rattle.hdr_base.proofs.ClassLaws.{below_own_power, ltb-from, ltb-to, pow_mono_le}
 use Rattle.hdr_base.proofs.Digits.{digits-pos}
-use Rattle.hdr_core.specs.Plain.{Plain, IsPlain}
+use Rattle.hdr_model.specs.Plain.{Plain, IsPlain}
 use Rattle.hdrhistogram.specs.Varint.{IsShortest}
 use Rattle.hdrhistogram.specs.ZigZag.{zig_zag, from_zig_zag}
 use Rattle.hdrhistogram.specs.Payload.{Part, run, bin, bins_of, AreMaximal, number_of, AreSpelt, IsPayload}
 use Rattle.hdrhistogram.specs.V2.{four, eight, header, written_bins, written_counts, IsV2, IsWrittenAlike}
 use Rattle.hdrhistogram.proofs.Spellings.{one_spelling_of, one_shortest, some_byte}
 use Rattle.hdrhistogram.proofs.Payloads.{one_split}
-use Rattle.hdr_core.proofs.Bins.{mark-inside}
+use Rattle.hdr_model.proofs.PlainBins.{mark-inside}
 use Rattle.hdrhistogram.proofs.PlainFacts.{not-written}
 use Rattle.hdrhistogram.proofs.V2Text.{length-four, length-eight, length-header}
 

@@ -3,7 +3,7 @@ use Rattle.std.proofs.Common.{ℕ, zero, suc, ◌/◌, ◌%◌, ◌^◌, ◌<◌
 use Rattle.std.specs.Int.{byte_at}
 use Rattle.std.specs.List.{AllByRecursion}
 use Rattle.byteorder.specs.Endian.{big_bytes}
-use Rattle.hdr_core.specs.Plain.{Plain}
+use Rattle.hdr_model.specs.Plain.{Plain}
 use Rattle.hdrhistogram.specs.Payload.{Part, AreSpelt}
 use Rattle.hdrhistogram.specs.V2.{four, eight, header, IsV2}
 

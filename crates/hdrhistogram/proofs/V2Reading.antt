@@ -5,15 +5,15 @@ use Rattle.std.proofs.KnownBytes.{Consumes-trans}
 use Rattle.std.proofs.lemmas.Bool.{ltb-false, le-ltb, lt-ltb, le-leb, lt-leb}
 use Rattle.std.proofs.lemmas.List.{take_at, length-replicate}
 use Rattle.hdr_base.specs.Classes.{unit_of, digits_of, grain_of, bins_to}
-use Rattle.hdr_core.specs.Plain.{Plain, empty_plain}
-use Rattle.hdr_core.specs.Filling.{Open, opened}
-use Rattle.hdr_core.specs.Refusals.{IsBounds, RefusesBounds}
-use Rattle.hdr_core.specs.declared.errors.CreationError.{CreationError}
-use Rattle.hdr_core.specs.declared.errors.CreationError.TheVariants as make
+use Rattle.hdr_model.specs.Plain.{Plain, empty_plain}
+use Rattle.hdr_model.specs.Filling.{Open, open_of}
+use Rattle.hdr_model.specs.Refusals.{IsBounds, RefusesBounds}
+use Rattle.hdr_model.specs.declared.errors.CreationError.{CreationError}
+use Rattle.hdr_model.specs.declared.errors.CreationError.TheVariants as make
 use Rattle.hdrhistogram.specs.declared.serialization.errors.DeserializeError.{DeserializeError}
 use Rattle.hdrhistogram.specs.declared.serialization.errors.DeserializeError.TheVariants as errors
 use Rattle.hdrhistogram.specs.Streams.{IsStreamError}
-use Rattle.hdrhistogram.specs.Faults.{Fault, cut, bad_bounds, ◌>>=◌, unless, FailsBy, named}
+use Rattle.hdrhistogram.specs.Faults.{Fault, cut, bad_bounds, ◌>>=◌, unless, FailsBy, fault_of_error}
 use Rattle.hdrhistogram.specs.PayloadRead.{counts_in}
 use Rattle.hdrhistogram.specs.V2Read.{Header, Contents, bytes_at, header_at, are_bounds, bounds_fault, bins_for, creation_fault, contents_of, v2_at, told_by, told_of, IsRestated, IsReadAs}
 use Rattle.hdrhistogram.proofs.HeaderRead.{IsSteady, bind-steady, ok-steady, header-steady, TakenBy, TakenSo, field-then, field-failed, fails_bind, unless_fails}
@@ -82,13 +82,13 @@ pub record IsMade (f : Open) (low high sigfig : ℕ) : Type 0 where
   pub told : told_by f ≡ record { low = low; high = high; sigfig = sigfig; counts = f.counts }
   pub bins : length f.counts ≡ bins_to (grain_of low sigfig) high
 
-made : (low high sigfig : ℕ) → IsMade (opened (empty_plain low high sigfig false)) low high sigfig
+made : (low high sigfig : ℕ) → IsMade (open_of (empty_plain low high sigfig false)) low high sigfig
 unfolding empty_plain
 made low high sigfig =
     let size = length-replicate {A = ℕ} (bins_to (grain_of low sigfig) high) 0 in
     record { empty = ap (λ n. replicate n 0) (sym size); fixed = refl; told = refl; bins = size }
 
-pub is-made : (f : Open) (low high sigfig : ℕ) → f ≡ opened (empty_plain low high sigfig false) → IsMade f low high sigfig
+pub is-made : (f : Open) (low high sigfig : ℕ) → f ≡ open_of (empty_plain low high sigfig false) → IsMade f low high sigfig
 is-made f low high sigfig e = subst (λ g. IsMade g low high sigfig) (sym e) (made low high sigfig)
 
 -- ---- the steps
@@ -204,7 +204,7 @@ no_longer greatest text rest c e =
 
 -- ---- a payload that a reader gives
 
-pub stream_fails : {A : Type 0} (e : DeserializeError) (r : Result A Fault) → IsStreamError e → r ≡ Err cut → FailsBy (named e) r
+pub stream_fails : {A : Type 0} (e : DeserializeError) (r : Result A Fault) → IsStreamError e → r ≡ Err cut → FailsBy (fault_of_error e) r
 stream_fails (errors.IoError cause) r s h = h
 stream_fails errors.OutOfMemory r s h = tt
 stream_fails errors.InvalidCookie r s h = absurd s

@@ -3,7 +3,7 @@ use Rattle.std.proofs.Common.{◌≡◌, ℕ, ◌+◌, ◌-◌, ◌≤◌, List,
 use Rattle.std.proofs.Math.Seq.{take-append_seam}
 use Rattle.byteorder.specs.Numbers.{length-bytes_high_first}
 use borrow.Rule.Slice.PartMut.{put_mid, post_of}
-use Rattle.hdr_core.specs.Plain.{Plain}
+use Rattle.hdr_model.specs.Plain.{Plain}
 use Rattle.hdrhistogram.specs.Payload.{IsPayload}
 use Rattle.hdrhistogram.specs.V2.{four, eight, header, written_counts, IsV2}
 

@@ -12,8 +12,8 @@ pub record Filter : Type 0 where
   pub from : Option ℕ
   pub to : Option ℕ
 
-abbrev pub filter_seen : IntervalFilter → Filter
-filter_seen f = record { tag = option_map tag_text f.tag; from = option_map as_nanos f.from; to = option_map as_nanos f.to }
+abbrev pub view_of_filter : IntervalFilter → Filter
+view_of_filter f = record { tag = option_map tag_text f.tag; from = option_map as_nanos f.from; to = option_map as_nanos f.to }
 
 -- where no tag is asked for every interval is right, tagged or not
 abbrev pub has_tag : Option (List ℕ) → Option (List ℕ) → Bool

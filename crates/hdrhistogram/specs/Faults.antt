@@ -27,15 +27,15 @@ unless None x = Ok x
 unless (Some f) x = Err f
 
 -- the fault that an error names; want of memory names none
-abbrev pub named : DeserializeError → Option Fault
-named (IoError cause) = Some cut
-named InvalidCookie = Some other_cookie
-named UnsupportedFeature = Some unsupported
-named InvalidParameters = Some bad_bounds
-named UnsuitableCounterType = Some too_great
-named EncodedArrayTooLong = Some past_bins
-named UsizeTypeTooSmall = Some too_far
-named OutOfMemory = None
+abbrev pub fault_of_error : DeserializeError → Option Fault
+fault_of_error (IoError cause) = Some cut
+fault_of_error InvalidCookie = Some other_cookie
+fault_of_error UnsupportedFeature = Some unsupported
+fault_of_error InvalidParameters = Some bad_bounds
+fault_of_error UnsuitableCounterType = Some too_great
+fault_of_error EncodedArrayTooLong = Some past_bins
+fault_of_error UsizeTypeTooSmall = Some too_far
+fault_of_error OutOfMemory = None
 
 -- the bytes are read as the fault, where one is named
 abbrev pub FailsBy : {A : Type 0} → Option Fault → Result A Fault → Type 0
@@ -45,7 +45,7 @@ FailsBy (Some f) read = read ≡ Err f
 -- a function's answer, seen by `view`, is what the bytes are read as, want of memory aside
 abbrev pub Gives : {X Y : Type 0} → (X → Y) → Result X DeserializeError → Result Y Fault → Type 0
 Gives view (Ok x) read = read ≡ Ok (view x)
-Gives view (Err e) read = FailsBy (named e) read
+Gives view (Err e) read = FailsBy (fault_of_error e) read
 
 -- a function took bytes from a reader, and its answer is what they are read as, with nothing behind them
 abbrev pub TakesAs : {X Y : Type 0} → Option (List ℕ) → Option (List ℕ) → (X → Y) → (List ℕ → Result (Y × List ℕ) Fault) → Result X DeserializeError → Type 0
@@ -54,4 +54,4 @@ TakesAs old new view read result = (taken : List ℕ) × Consumes old new taken 
 -- a check's answer tells whether there is this fault
 abbrev pub Checks : {X : Type 0} → Result X DeserializeError → Option Fault → Type 0
 Checks (Ok x) fault = fault ≡ None
-Checks (Err e) fault = FailsBy {A = ℕ} (named e) (unless fault 0)
+Checks (Err e) fault = FailsBy {A = ℕ} (fault_of_error e) (unless fault 0)

@@ -1,7 +1,7 @@
 -- What stands in a writer after a call that writes to a log.
 use Rattle.std.specs.Prelude.{◌≡◌, ℕ, Bool, true, false, List, Option, Result, Ok, Err}
 use Rattle.std.specs.Io.KnownBytes.{Appends, Keeps}
-use Rattle.hdr_core.specs.Plain.{Plain, max_of}
+use Rattle.hdr_model.specs.Plain.{Plain, max_of}
 use Rattle.hdr_log.specs.Texts.{to_thousandths, max_thousandths, base64_of}
 use Rattle.hdr_log.specs.Pieces.{Piece, Measured, IsPiece, piece_text}
 use Rattle.hdrhistogram.specs.Streams.{AppendsFront}
@@ -37,12 +37,12 @@ RefusesSerialized Q TimeOutOfRange = ⊥
 RefusesSerialized Q OutOfMemory = Unit {0}
 
 -- a histogram's interval by its bytes; times are in nanoseconds
-abbrev pub measured : Plain → Option (List ℕ) → ℕ → ℕ → ℕ → List ℕ → Piece
-measured h tag start duration divisor bytes =
+abbrev pub interval_piece : Plain → Option (List ℕ) → ℕ → ℕ → ℕ → List ℕ → Piece
+interval_piece h tag start duration divisor bytes =
     Measured tag (to_thousandths start) (to_thousandths duration) (max_thousandths (max_of h) divisor) (base64_of bytes)
 
 -- the line of a histogram's interval, by bytes that the serializer may write
 abbrev pub IsIntervalText : (Plain → List ℕ → Type 0) → Plain → Option (List ℕ) → ℕ → ℕ → ℕ → List ℕ → Type 0
 IsIntervalText writes h tag start duration divisor text =
-    (bytes : List ℕ) × writes h bytes × IsPiece (measured h tag start duration divisor bytes)
-    × (text ≡ piece_text (measured h tag start duration divisor bytes))
+    (bytes : List ℕ) × writes h bytes × IsPiece (interval_piece h tag start duration divisor bytes)
+    × (text ≡ piece_text (interval_piece h tag start duration divisor bytes))

@@ -1,10 +1,10 @@
 -- What merging a log comes to: the histograms of its chosen intervals are added in order, up to the first fault.
 use Rattle.std.specs.Prelude.{◌≡◌, ℕ, ◌+◌, Bool, true, false, List, [], ◌∷◌, Option, Some, None, Result, Ok, Err}
-use Rattle.hdr_core.specs.Plain.{Plain, empty_plain}
-use Rattle.hdr_core.specs.Merging.{merged}
-use Rattle.hdr_core.specs.Refusals.{IsBounds, RefusesBounds}
-use Rattle.hdr_core.specs.declared.errors.CreationError.{CreationError}
-use Rattle.hdr_core.specs.declared.errors.CreationError.TheVariants as make
+use Rattle.hdr_model.specs.Plain.{Plain, empty_plain}
+use Rattle.hdr_model.specs.Merging.{after_add}
+use Rattle.hdr_model.specs.Refusals.{IsBounds, RefusesBounds}
+use Rattle.hdr_model.specs.declared.errors.CreationError.{CreationError}
+use Rattle.hdr_model.specs.declared.errors.CreationError.TheVariants as make
 use Rattle.hdr_log.specs.Grammar.{Entry, Start, Base, Span, Interval, reading}
 use Rattle.hdr_log.specs.Texts.{base64_bytes}
 use Rattle.hdrhistogram.specs.Chosen.{Filter, is_chosen}
@@ -34,7 +34,7 @@ past_interval m = record { histogram = m.histogram; base = m.base; intervals = m
 
 abbrev pub with_interval : ℕ → Merging → Plain → Merging
 with_interval greatest m source =
-    record { histogram = merged greatest m.histogram source; base = m.base; intervals = m.intervals + 1; chosen = m.chosen + 1 }
+    record { histogram = after_add greatest m.histogram source; base = m.base; intervals = m.intervals + 1; chosen = m.chosen + 1 }
 
 -- the histogram that was read of an interval's bytes is added, whatever stands behind it
 abbrev pub BytesMerge : ℕ → Merging → Result (Plain × ℕ) DeserializeError → Result Merging MergeError → Type 0
@@ -73,13 +73,13 @@ abbrev pub Merges : ℕ → Filter → ℕ → List ℕ → Result Merging Merge
 Merges greatest filter sigfig log r = EntriesMerge greatest filter (reading log) (new_merging sigfig) r
 
 -- a histogram that was not made, and an interval whose bytes were refused
-abbrev pub creation_refused : CreationError → MergeError
-creation_refused make.OutOfMemory = OutOfMemory
-creation_refused e = Creation e
+abbrev pub creation_error : CreationError → MergeError
+creation_error make.OutOfMemory = OutOfMemory
+creation_error e = Creation e
 
-abbrev pub decode_refused : ℕ → DeserializeError → MergeError
-decode_refused interval read.OutOfMemory = OutOfMemory
-decode_refused interval e = Decode interval e
+abbrev pub decode_error : ℕ → DeserializeError → MergeError
+decode_error interval read.OutOfMemory = OutOfMemory
+decode_error interval e = Decode interval e
 
 -- a step is refused by name as it is told, and want of memory may come in place of any answer
 abbrev pub RefusesStep : (MergeError → Type 0) → MergeError → Type 0

@@ -2,7 +2,7 @@
 -- empty bins past the last.
 use Rattle.std.specs.Prelude.{slice_set, ◌≡◌, ℕ, zero, suc, ◌+◌, ◌^◌, ◌≤◌, ◌++◌, List, [], ◌∷◌, length, nat_lt, nat_le, ◌&&◌, take, drop, if◌then◌else◌, ℤ, pos, negsuc, flat_map, map, replicate, Option, Some, None, Result, Ok, Err}
 use Rattle.std.specs.List.{AllByRecursion}
-use Rattle.hdrhistogram.specs.Varint.{IsSpelling, Spells, spelled}
+use Rattle.hdrhistogram.specs.Varint.{IsSpelling, Spells, number_of_spelling}
 use Rattle.hdrhistogram.specs.ZigZag.{from_zig_zag}
 use Rattle.hdrhistogram.specs.Faults.{Fault, cut, too_great, past_bins, too_far}
 
@@ -22,20 +22,20 @@ put_before b (text ∷ texts) rest = record { texts = (b ∷ text) ∷ texts; re
 
 -- The bytes are cut behind each that ends a spelling: a byte below 128 does, and the ninth of one. `left` more bytes of the
 -- spelling that has begun may come before its ninth.
-unfoldable pub parted : ℕ → List ℕ → Parted
-parted left [] = record { texts = []; rest = [] }
-parted zero (b ∷ bs) = last_byte b (parted 8 bs)
-parted (suc left) (b ∷ bs) =
-    if nat_lt b 128 then last_byte b (parted 8 bs) else put_before b (parted left bs).texts (parted left bs).rest
+unfoldable pub split_spellings : ℕ → List ℕ → Parted
+split_spellings left [] = record { texts = []; rest = [] }
+split_spellings zero (b ∷ bs) = last_byte b (split_spellings 8 bs)
+split_spellings (suc left) (b ∷ bs) =
+    if nat_lt b 128 then last_byte b (split_spellings 8 bs) else put_before b (split_spellings left bs).texts (split_spellings left bs).rest
 
 -- the numbers that spellings spell, by zig-zag
 abbrev pub numbers : List (List ℕ) → List ℤ
-numbers texts = map (λ text. from_zig_zag (spelled 8 text)) texts
+numbers texts = map (λ text. from_zig_zag (number_of_spelling 8 text)) texts
 
 -- the bins that a number stands for: -z for z empty ones, another for one bin with that count
-abbrev pub bins_read : ℤ → List ℕ
-bins_read (pos n) = n ∷ []
-bins_read (negsuc n) = replicate (suc n) 0
+abbrev pub bins_of_number : ℤ → List ℕ
+bins_of_number (pos n) = n ∷ []
+bins_of_number (negsuc n) = replicate (suc n) 0
 
 -- how many these are
 abbrev pub move : ℤ → ℕ
@@ -64,10 +64,10 @@ first_fault bins greatest place [] = None
 first_fault bins greatest place (n ∷ ns) = or_else (fault_at bins greatest place n) (first_fault bins greatest (place + move n) ns)
 
 -- the first of these counts, as many as there are bins, and empty bins behind them
-unfoldable pub fitted : ℕ → List ℕ → List ℕ
-fitted zero counts = []
-fitted (suc bins) [] = 0 ∷ fitted bins []
-fitted (suc bins) (n ∷ counts) = n ∷ fitted bins counts
+unfoldable pub fit_bins : ℕ → List ℕ → List ℕ
+fit_bins zero counts = []
+fit_bins (suc bins) [] = 0 ∷ fit_bins bins []
+fit_bins (suc bins) (n ∷ counts) = n ∷ fit_bins bins counts
 
 -- the counts with a number's count at its place
 abbrev pub with_count : List ℕ → ℕ → ℤ → List ℕ
@@ -91,16 +91,16 @@ pub record IsPairPut (greatest place : ℕ) (bytes old new : List ℕ) : Type 0 
   pub second : IsCountPut greatest (place + 1) (drop 2 bytes) between new 2
 
 -- counts, unless there was a fault before or the bytes end inside a number
-abbrev pub ended : Option Fault → List ℕ → List ℕ → Result (List ℕ) Fault
-ended (Some f) rest counts = Err f
-ended None [] counts = Ok counts
-ended None (b ∷ rest) counts = Err cut
+abbrev pub counts_or_fault : Option Fault → List ℕ → List ℕ → Result (List ℕ) Fault
+counts_or_fault (Some f) rest counts = Err f
+counts_or_fault None [] counts = Ok counts
+counts_or_fault None (b ∷ rest) counts = Err cut
 
 -- the payload as the counts of so many bins, each at most the greatest, or its first fault
 unfoldable pub counts_in : ℕ → ℕ → List ℕ → Result (List ℕ) Fault
 counts_in bins greatest payload =
-    let p = parted 8 payload in
-    ended (first_fault bins greatest 0 (numbers p.texts)) p.rest (fitted bins (flat_map bins_read (numbers p.texts)))
+    let p = split_spellings 8 payload in
+    counts_or_fault (first_fault bins greatest 0 (numbers p.texts)) p.rest (fit_bins bins (flat_map bins_of_number (numbers p.texts)))
 
 -- a beginning of a spelling that is not whole: fewer than nine bytes, each of which asks for another
 pub record IsCut (rest : List ℕ) : Type 0 where

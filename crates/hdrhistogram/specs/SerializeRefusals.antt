@@ -1,7 +1,7 @@
 -- Why the V2 serializer refuses, and what it leaves in the writer.
 use Rattle.std.specs.Prelude.{ℕ, List, Option}
 use Rattle.std.specs.Io.KnownBytes.{Keeps}
-use Rattle.hdr_core.specs.Plain.{Plain}
+use Rattle.hdr_model.specs.Plain.{Plain}
 use Rattle.hdrhistogram.specs.V2.{IsV2, HasTooGreatCount}
 use Rattle.hdrhistogram.specs.Streams.{AppendsFront}
 use Rattle.hdrhistogram.specs.declared.serialization.errors.V2SerializeError.{V2SerializeError}

@@ -2,7 +2,7 @@
 -- compression): a header of 40 bytes, then the payload of its counts.
 use Rattle.std.specs.Prelude.{◌≡◌, ℕ, ◌+◌, ◌^◌, ◌≤◌, ◌++◌, List, length, take, unwrap_or, Any}
 use Rattle.byteorder.specs.Endian.{big_bytes}
-use Rattle.hdr_core.specs.Plain.{Plain}
+use Rattle.hdr_model.specs.Plain.{Plain}
 use Rattle.hdrhistogram.specs.Payload.{IsPayload}
 
 -- how many bins are written: those up to the top mark's, or the first alone where there is no mark

@@ -2,12 +2,13 @@
 use Rattle.std.specs.Prelude.{◌≡◌, ◌==◌, ℕ, ◌+◌, ◌-◌, ◌*◌, ◌^◌, ◌≤◌, Bool, ◌&&◌, nat_lt, nat_le, if◌then◌else◌, min, Option, Some, None, List, length, take, drop, sum, false, Result, Ok, Err}
 use Rattle.byteorder.specs.Endian.{big_number}
 use Rattle.hdr_base.specs.Classes.{unit_of, digits_of, grain_of, bins_to}
-use Rattle.hdr_core.specs.Plain.{Plain, IsTopMark, IsLowerMark}
-use Rattle.hdr_core.specs.Filling.{Open}
-use Rattle.hdr_core.specs.declared.errors.CreationError.{CreationError}
-use Rattle.hdr_core.specs.declared.errors.CreationError.TheVariants.{LowIsZero, LowExceedsMax, HighLessThanTwiceLow, SigFigExceedsMax, CannotRepresentSigFigBeyondLow, UsizeTypeTooSmall, OutOfMemory}
+use Rattle.hdr_model.specs.Plain.{Plain}
+use Rattle.hdr_model.specs.Marks.{IsTopMark, IsLowerMark}
+use Rattle.hdr_model.specs.Filling.{Open}
+use Rattle.hdr_model.specs.declared.errors.CreationError.{CreationError}
+use Rattle.hdr_model.specs.declared.errors.CreationError.TheVariants.{LowIsZero, LowExceedsMax, HighLessThanTwiceLow, SigFigExceedsMax, CannotRepresentSigFigBeyondLow, UsizeTypeTooSmall, OutOfMemory}
 use Rattle.hdrhistogram.specs.declared.serialization.errors.DeserializeError.{DeserializeError}
-use Rattle.hdrhistogram.specs.Faults.{Fault, cut, other_cookie, unsupported, bad_bounds, ◌>>=◌, unless, named}
+use Rattle.hdrhistogram.specs.Faults.{Fault, cut, other_cookie, unsupported, bad_bounds, ◌>>=◌, unless, fault_of_error}
 use Rattle.hdrhistogram.specs.PayloadRead.{counts_in}
 
 -- the number in the first four bytes, and in the first eight, the highest byte first
@@ -28,8 +29,8 @@ unfoldable pub bytes_at : ℕ → List ℕ → Result (List ℕ × List ℕ) Fau
 bytes_at len text = if nat_lt (length text) len then Err cut else Ok (take len text, drop len text)
 
 -- a field, and then the check of its number
-abbrev pub checked : (ℕ → Option Fault) → Result (ℕ × List ℕ) Fault → Result (ℕ × List ℕ) Fault
-checked fault field = field >>= λ f. unless (fault f.0) f
+abbrev pub check_field : (ℕ → Option Fault) → Result (ℕ × List ℕ) Fault → Result (ℕ × List ℕ) Fault
+check_field fault field = field >>= λ f. unless (fault f.0) f
 
 -- the uncompressed form's cookie; the compressed form's is known, and not supported
 unfoldable pub cookie_fault : ℕ → Option Fault
@@ -57,13 +58,13 @@ pub record Header : Type 0 where
 -- the header at the front of a text, and the text behind it
 unfoldable pub header_at : List ℕ → Result (Header × List ℕ) Fault
 header_at text = do
-  cookie ← checked cookie_fault (four_at text)
+  cookie ← check_field cookie_fault (four_at text)
   payload_len ← four_at cookie.1
-  offset ← checked offset_fault (four_at payload_len.1)
-  sigfig ← checked sigfig_fault (four_at offset.1)
+  offset ← check_field offset_fault (four_at payload_len.1)
+  sigfig ← check_field sigfig_fault (four_at offset.1)
   low ← eight_at sigfig.1
   high ← eight_at low.1
-  ratio ← checked ratio_fault (eight_at high.1)
+  ratio ← check_field ratio_fault (eight_at high.1)
   Ok (record { payload_len = payload_len.0; sigfig = sigfig.0; low = low.0; high = high.0 }, ratio.1)
 
 -- bounds and digits that a histogram can have (`new_with_bounds`)
@@ -136,7 +137,7 @@ pub record IsReadAs (greatest : ℕ) (text : List ℕ) (h : Plain) (taken : ℕ)
 -- the text is read as a histogram, with the number of bytes that it takes, or is refused by an error that names its fault
 abbrev pub ReadsV2 : ℕ → List ℕ → Result (Plain × ℕ) DeserializeError → Type 0
 ReadsV2 greatest text (Ok found) = IsReadAs greatest text found.0 found.1
-ReadsV2 greatest text (Err e) = (f : Fault) × (named e ≡ Some f) × (v2_at greatest text ≡ Err f)
+ReadsV2 greatest text (Err e) = (f : Fault) × (fault_of_error e ≡ Some f) × (v2_at greatest text ≡ Err f)
 
 -- the second histogram is what is read of the first one's bytes
 abbrev pub IsReadBack : Plain → Plain → Type 0

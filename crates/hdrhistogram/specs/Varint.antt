@@ -12,16 +12,16 @@ IsSpelling zero (b ∷ bs) = bs ≡ []
 IsSpelling (suc left) (b ∷ bs) = MatchBool (nat_lt b 128) (bs ≡ []) (IsSpelling left bs)
 
 -- the number that it spells, the lowest seven bits first
-unfoldable pub spelled : ℕ → List ℕ → ℕ
-spelled left [] = 0
-spelled zero (b ∷ bs) = b
-spelled (suc left) (b ∷ bs) = b % 128 + 128 * spelled left bs
+unfoldable pub number_of_spelling : ℕ → List ℕ → ℕ
+number_of_spelling left [] = 0
+number_of_spelling zero (b ∷ bs) = b
+number_of_spelling (suc left) (b ∷ bs) = b % 128 + 128 * number_of_spelling left bs
 
 -- the bytes spell the number
 pub record Spells (text : List ℕ) (n : ℕ) : Type 0 where
   pub bytes : AllByRecursion (λ b. b < 256) text
   pub whole : IsSpelling 8 text
-  pub value : n ≡ spelled 8 text
+  pub value : n ≡ number_of_spelling 8 text
 
 -- the canonical spelling of the number, the one that is written: no spelling of it is shorter
 pub record IsShortest (text : List ℕ) (n : ℕ) : Type 0 where

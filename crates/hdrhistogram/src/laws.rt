@@ -1,13 +1,13 @@
 //! Laws of the definitions that the contracts cite. Each function does nothing: its contract is the
 //! law.
 
-ghost use Rattle.hdr_core.specs.Equality.{same_plain};
+ghost use Rattle.hdr_model.specs.Equality.{same_plain};
 ghost use Rattle.std.specs.Prelude.{◌≡◌, ℕ, ◌^◌, ◌<◌, ◌≤◌, ◌++◌, List, length, slice_index, All, sum, ℤ, true, Result, Ok};
 ghost use Rattle.hdr_base.specs.Classes.{grain_of};
-ghost use Rattle.hdr_core.specs.Plain.{Plain, IsPlain, grain, empty_plain};
-ghost use Rattle.hdr_core.specs.Samples.{StandsFor, Fits};
-ghost use Rattle.hdr_core.specs.Joined.{merged_each, AreParts, joined_list, AnswersRanked};
-ghost use Rattle.hdr_core.specs.Refusals.{IsBounds};
+ghost use Rattle.hdr_model.specs.Plain.{Plain, IsPlain, grain, empty_plain};
+ghost use Rattle.hdr_model.specs.Samples.{StandsFor, Fits};
+ghost use Rattle.hdr_model.specs.Joining.{after_adds, AreParts, joined_samples, AnswersRanked};
+ghost use Rattle.hdr_model.specs.Refusals.{IsBounds};
 ghost use Rattle.hdr_log.specs.Grammar.{Entry, reading};
 ghost use Rattle.hdrhistogram.specs.Chosen.{Filter};
 ghost use Rattle.hdrhistogram.specs.LogMerging.{Merging, Merges, AreChosen};
@@ -15,7 +15,7 @@ ghost use Rattle.hdrhistogram.specs.Varint.{Spells, IsShortest};
 ghost use Rattle.hdrhistogram.specs.ZigZag.{zig_zag, from_zig_zag};
 ghost use Rattle.hdrhistogram.specs.Payload.{Part, IsSplit, IsPayload};
 ghost use Rattle.hdrhistogram.specs.V2.{IsV2, IsWrittenAlike};
-ghost use Rattle.hdrhistogram.specs.PayloadRead.{Parted, parted, AreSpellings};
+ghost use Rattle.hdrhistogram.specs.PayloadRead.{Parted, split_spellings, AreSpellings};
 ghost use Rattle.hdrhistogram.specs.V2Read.{v2_at, Contents, told_of, IsRestated, IsReadBack, IsReadAs};
 
 use hdr_core::laws::{clearing_stands, joined_stands, new_is_plain, samples_are_counted};
@@ -67,9 +67,9 @@ pub fn bytes_agree()
 
 /// A payload is spellings and a rest that is none in one way, which is how it is cut for reading.
 pub fn one_parting()
-    ensures are { (payload : List ℕ) → AreSpellings payload (parted 8 payload).texts (parted 8 payload).rest }
+    ensures are { (payload : List ℕ) → AreSpellings payload (split_spellings 8 payload).texts (split_spellings 8 payload).rest }
     ensures only { (payload rest : List ℕ) (texts : List (List ℕ)) → AreSpellings payload texts rest
-        → parted 8 payload ≡ record { texts = texts; rest = rest } }
+        → split_spellings 8 payload ≡ record { texts = texts; rest = rest } }
 {}
 
 /// What stands behind a histogram does not change how it is read, and reading takes a front of the
@@ -104,7 +104,7 @@ pub fn read_back_stands()
 pub fn merging_adds_the_chosen()
     ensures added { (greatest sigfig : ℕ) (filter : Filter) (log : List ℕ) (m : Merging) → Merges greatest filter sigfig log (Ok m)
         → (hs : List Plain) × AreChosen filter 0 (reading log) hs
-        × (m.histogram ≡ merged_each greatest (empty_plain 1 2 sigfig true) hs) × (m.chosen ≡ length hs) }
+        × (m.histogram ≡ after_adds greatest (empty_plain 1 2 sigfig true) hs) × (m.chosen ≡ length hs) }
     ensures only { (filter : Filter) (base : ℕ) (entries : List (Result Entry ℕ)) (hs others : List Plain) → AreChosen filter base entries hs
         → AreChosen filter base entries others → hs ≡ others }
 {}
@@ -114,10 +114,10 @@ pub fn merging_adds_the_chosen()
 pub fn merged_log_stands()
     ensures sum { (greatest sigfig : ℕ) (filter : Filter) (log : List ℕ) (m : Merging) (hs : List Plain) (Ls : List (List ℕ)) → 1 ≤ greatest
         → IsBounds 1 2 sigfig → Merges greatest filter sigfig log (Ok m) → AreChosen filter 0 (reading log) hs
-        → AreParts 18446744073709551615 (grain_of 1 sigfig) hs Ls → Fits greatest (grain_of 1 sigfig) (joined_list Ls) → StandsFor m.histogram (joined_list Ls) }
+        → AreParts 18446744073709551615 (grain_of 1 sigfig) hs Ls → Fits greatest (grain_of 1 sigfig) (joined_samples Ls) → StandsFor m.histogram (joined_samples Ls) }
     ensures ranked { (greatest sigfig : ℕ) (filter : Filter) (log : List ℕ) (m : Merging) (hs : List Plain) (Ls : List (List ℕ)) → 1 ≤ greatest
         → IsBounds 1 2 sigfig → Merges greatest filter sigfig log (Ok m) → AreChosen filter 0 (reading log) hs
-        → AreParts 18446744073709551615 (grain_of 1 sigfig) hs Ls → Fits greatest (grain_of 1 sigfig) (joined_list Ls) → AnswersRanked m.histogram (joined_list Ls) }
+        → AreParts 18446744073709551615 (grain_of 1 sigfig) hs Ls → Fits greatest (grain_of 1 sigfig) (joined_samples Ls) → AnswersRanked m.histogram (joined_samples Ls) }
 {
     new_is_plain();
     clearing_stands();

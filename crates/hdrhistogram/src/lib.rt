@@ -5,7 +5,7 @@ pub mod laws;
 pub mod serialization;
 
 pub use hdr_core::{
-    AdditionError, Call, CallError, CallFrom, Counter, CreationError, Fraction, Histogram,
+    AdditionError, Call, CallError, CallFrom, Counter, CreationError, Filling, Fraction, Histogram,
     IterationValue, Quantile, RecordError, RunError, SubtractionError, Ticks, UsizeTypeTooSmall,
     Values, errors, iterators,
 };

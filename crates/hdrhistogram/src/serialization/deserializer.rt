@@ -2,7 +2,7 @@
 
 ghost use Rattle.std.specs.Prelude.{◌≡◌, ℕ, List, [], length, replicate, false, IfOk, IfErr};
 ghost use Rattle.std.specs.Io.KnownBytes.{Consumes};
-ghost use Rattle.hdrhistogram.specs.Faults.{Gives, TakesAs, Checks, FailsBy, named};
+ghost use Rattle.hdrhistogram.specs.Faults.{Gives, TakesAs, Checks, FailsBy, fault_of_error};
 ghost use Rattle.hdrhistogram.specs.V2Read.{creation_fault, bounds_fault, bins_for, bytes_at, v2_at, told_by, told_of, IsRestated, IsReadAs};
 ghost use Rattle.hdrhistogram.specs.HeaderView.{header_of};
 
@@ -56,7 +56,7 @@ impl Deserializer {
         text: &[u8],
     ) -> Result<(Histogram<T>, usize), DeserializeError>
         ensures read { IfOk result (λ found. IsReadAs T.greatest text.now found.0 found.1) }
-        ensures refused { IfErr result (λ e. FailsBy (named e) (v2_at T.greatest text.now)) }
+        ensures refused { IfErr result (λ e. FailsBy (fault_of_error e) (v2_at T.greatest text.now)) }
         ensures kept { self.new ≡ self.old }
     {
         let (h, rest) = decode(*self.payload.allocator(), text)?;
@@ -79,7 +79,7 @@ impl Deserializer {
             × IsReadAs T.greatest taken h (length taken)) }
         ensures refused { IfErr result (λ e. (taken : List ℕ)
             × Consumes (R.remaining reader.old) (R.remaining reader.new) taken
-            × FailsBy (named e) (v2_at T.greatest taken)) }
+            × FailsBy (fault_of_error e) (v2_at T.greatest taken)) }
         ensures as_new { self.new ≡ [] }
     {
         self.payload.clear();
@@ -111,7 +111,7 @@ fn empty_for<T: Counter>(alloc: Global, header: Header) -> Result<Filling<T>, De
 
 /// What it is for bytes that their bounds are refused.
 fn refused(error: CreationError) -> DeserializeError
-    ensures { named result ≡ creation_fault error }
+    ensures { fault_of_error result ≡ creation_fault error }
 {
     match error {
         CreationError::OutOfMemory => DeserializeError::OutOfMemory,

@@ -1,7 +1,7 @@
 //! The header of V2 bytes, read field by field.
 
 ghost use Rattle.std.specs.Prelude.{◌≡◌, Some, IfOk};
-ghost use Rattle.hdrhistogram.specs.Faults.{Gives, TakesAs, Checks, named, cut};
+ghost use Rattle.hdrhistogram.specs.Faults.{Gives, TakesAs, Checks, fault_of_error, cut};
 ghost use Rattle.hdrhistogram.specs.V2Read.{four_at, eight_at, cookie_fault, offset_fault, sigfig_fault, ratio_fault, header_at};
 ghost use Rattle.hdrhistogram.specs.HeaderView.{header_of};
 
@@ -25,7 +25,7 @@ pub(crate) struct Header {
 
 /// The error of bytes that end too soon.
 pub(crate) fn ended() -> DeserializeError
-    ensures { named result ≡ Some cut }
+    ensures { fault_of_error result ≡ Some cut }
 {
     DeserializeError::IoError(io::Error::from(ErrorKind::UnexpectedEof))
 }

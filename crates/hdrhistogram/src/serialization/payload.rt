@@ -1,9 +1,8 @@
 //! The payload of V2 bytes: the counts, with runs of empty bins.
 
-ghost use Rattle.std.specs.Prelude.{◌≡◌, ℕ, List, length, map, drop, take, slice_index, ◌++◌, ◌+◌, ◌*◌};
-ghost use Rattle.std.specs.Prelude.{◌≤◌, ◌<◌, ◌^◌, IfOk, IfErr, OnOk, All};
+ghost use Rattle.std.specs.Prelude.{◌≡◌, ℕ, List, length, map, drop, take, slice_index, ◌++◌, ◌+◌, ◌*◌, ◌≤◌, ◌<◌, ◌^◌, IfOk, IfErr, OnOk, All};
 ghost use Rattle.std.specs.Option.{SomeIff};
-ghost use Rattle.hdr_core.specs.Plain.{IsPlain};
+ghost use Rattle.hdr_model.specs.Plain.{IsPlain};
 ghost use Rattle.hdrhistogram.specs.Streams.{WritesFront};
 ghost use Rattle.hdrhistogram.specs.Varint.{IsShortest};
 ghost use Rattle.hdrhistogram.specs.ZigZag.{zig_zag};

@@ -2,7 +2,7 @@
 
 ghost use Rattle.std.specs.Prelude.{◌≡◌, ℕ, List, length, IfOk, IfErr};
 ghost use Rattle.std.specs.Io.KnownBytes.{Appends};
-ghost use Rattle.hdr_core.specs.Plain.{Plain};
+ghost use Rattle.hdr_model.specs.Plain.{Plain};
 
 use hdr_base::Counter;
 use hdr_core::Histogram;

@@ -1,7 +1,6 @@
 //! The V2 encoding, uncompressed: a header of 40 bytes, then the counts up to the top mark's bin.
 
-ghost use Rattle.std.specs.Prelude.{◌≡◌, ◌+◌, ◌*◌, ◌^◌, ◌≤◌, ◌<◌, ℕ, List, [], length, take, vec_len};
-ghost use Rattle.std.specs.Prelude.{All, OnOk, IfOk, IfErr};
+ghost use Rattle.std.specs.Prelude.{◌≡◌, ◌+◌, ◌*◌, ◌^◌, ◌≤◌, ◌<◌, ℕ, List, [], length, take, vec_len, All, OnOk, IfOk, IfErr};
 ghost use Rattle.std.specs.Io.KnownBytes.{Appends};
 ghost use Rattle.hdrhistogram.specs.V2.{IsV2, HasTooGreatCount, written_bins};
 ghost use Rattle.hdrhistogram.specs.SerializeRefusals.{RefusesBytes, RefusesNamed, RefusesWriting};

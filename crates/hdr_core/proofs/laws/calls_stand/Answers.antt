@@ -1,4 +1,4 @@
-use Rattle.hdr_core.proofs.Steps.{call-plain, call-classes, call-stands}
+use Rattle.hdr_core.proofs.CallsFacts.{call-plain, call-classes, call-stands}
 use Rattle.hdr_core.proofs.laws.calls_stand.Goals as goal
 
 pub returns-clause-plain : goal.returns-clause-plain

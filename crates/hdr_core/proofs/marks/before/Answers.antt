@@ -1,5 +1,5 @@
 use Rattle.std.proofs.Common.{◌∙◌, refl, sym}
-use Rattle.hdr_core.proofs.WidenedMarks.{lower-none, lower-of-class}
+use Rattle.hdr_model.proofs.MarksWidened.{lower-none, lower-of-class}
 use Rattle.hdr_core.proofs.marks.before.Goals as goal
 
 pub returns-in-Some : goal.returns-in-Some

@@ -1,5 +1,5 @@
 use Rattle.std.proofs.Common.{◌∙◌, refl, sym}
-use Rattle.hdr_core.proofs.WidenedMarks.{top-none, top-of-class}
+use Rattle.hdr_model.proofs.MarksWidened.{top-none, top-of-class}
 use Rattle.hdr_core.proofs.marks.behind.Goals as goal
 
 pub returns-in-Some : goal.returns-in-Some

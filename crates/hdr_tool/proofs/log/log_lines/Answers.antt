@@ -1,6 +1,6 @@
 use Rattle.std.proofs.Common.{[], true}
 use Rattle.std.specs.List.{enumerate_from}
-use Rattle.hdr_core.specs.Plain.{empty_plain}
+use Rattle.hdr_model.specs.Plain.{empty_plain}
 use Rattle.hdr_log.specs.Parts.{parts}
 use Rattle.hdr_tool.specs.Program.{LogLineDone}
 use Rattle.hdr_tool.proofs.Running.{begins_nothing}

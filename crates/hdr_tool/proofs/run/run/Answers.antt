@@ -1,5 +1,5 @@
 use Rattle.std.proofs.Common.{◌≡◌, ◌∙◌, Some, None, map, string_bytes, sym}
-use Rattle.hdr_tool.specs.Tasks.{task_seen}
+use Rattle.hdr_tool.specs.Tasks.{view_of_task}
 use Rattle.hdr_tool.proofs.Answering.{some_input, words_refused, not_read, chosen, reads_all}
 use Rattle.hdr_tool.proofs.run.run.Goals as goal
 
@@ -17,7 +17,7 @@ pub returns-clause-answers : goal.returns-clause-answers
 returns-clause-answers g c = (
   c.in-Ok-read_whole.input.items,
   c.in-Ok-read_whole.ensures.ok,
-  chosen (map string_bytes c.args.words.now) c.in-Ok-read_whole.input.items c.as_slice.result.now (task_seen c.in-Ok.task) _ _ c.do_task.result
+  chosen (map string_bytes c.args.words.now) c.in-Ok-read_whole.input.items c.as_slice.result.now (view_of_task c.in-Ok.task) _ _ c.do_task.result
       c.in-Ok.ensures c.as_slice.ensures.value c.do_task.ensures.answers,
 )
 
@@ -27,5 +27,5 @@ returns-clause-reads g c = reads_all _ _ c.do_task.result c.in-Ok-read_whole.ens
 pub returns-clause-wrong_words : goal.returns-clause-wrong_words
 returns-clause-wrong_words g c = (
   λ h. absurd (c.do_task.ensures.words h),
-  λ h. absurd (let e : None ≡ Some (task_seen c.in-Ok.task) = sym h ∙ c.in-Ok.ensures in cc),
+  λ h. absurd (let e : None ≡ Some (view_of_task c.in-Ok.task) = sym h ∙ c.in-Ok.ensures in cc),
 )

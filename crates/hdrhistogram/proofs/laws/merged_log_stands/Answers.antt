@@ -1,8 +1,8 @@
 use Rattle.std.proofs.Common.{◌∙◌, [], true, ap, sym, subst, lit<}
 use Rattle.hdr_base.specs.Classes.{Grain}
-use Rattle.hdr_core.specs.Plain.{Plain, empty_plain}
-use Rattle.hdr_core.specs.Samples.{StandsFor, Fits}
-use Rattle.hdr_core.specs.Joined.{merged_each, AreParts, joined_list, AnswersRanked}
+use Rattle.hdr_model.specs.Plain.{Plain, empty_plain}
+use Rattle.hdr_model.specs.Samples.{StandsFor, Fits}
+use Rattle.hdr_model.specs.Joining.{after_adds, AreParts, joined_samples, AnswersRanked}
 use Rattle.hdr_log.specs.Grammar.{reading}
 use Rattle.hdrhistogram.proofs.ChosenAdded.{empty_grain}
 use Rattle.hdrhistogram.proofs.laws.merged_log_stands.Goals as goal
@@ -11,20 +11,20 @@ pub returns-clause-sum : goal.returns-clause-sum
 returns-clause-sum c = λ greatest sigfig filter log m hs Ls one bounds merges chosen parts fits.
     let h = empty_plain 1 2 sigfig true in
     let a = c.merging_adds_the_chosen.ensures.added greatest sigfig filter log m merges in
-    let same = a.2 ∙ ap (merged_each greatest h) (c.merging_adds_the_chosen.ensures.only filter 0 (reading log) a.0 hs a.1 chosen) in
+    let same = a.2 ∙ ap (after_adds greatest h) (c.merging_adds_the_chosen.ensures.only filter 0 (reading log) a.0 hs a.1 chosen) in
     let grain = sym (empty_grain sigfig) in
     let sum = c.joined_stands.ensures.sum greatest 18446744073709551615 h hs [] Ls one
     (c.new_is_plain.ensures greatest 1 2 sigfig true bounds (lit< tt)) (c.clearing_stands.ensures.made 1 2 sigfig true)
-    (subst (λ (g : Grain). AreParts 18446744073709551615 g hs Ls) grain parts) (subst (λ (g : Grain). Fits greatest g (joined_list Ls)) grain fits) in
-    subst (λ (k : Plain). StandsFor k (joined_list Ls)) (sym same) sum.0
+    (subst (λ (g : Grain). AreParts 18446744073709551615 g hs Ls) grain parts) (subst (λ (g : Grain). Fits greatest g (joined_samples Ls)) grain fits) in
+    subst (λ (k : Plain). StandsFor k (joined_samples Ls)) (sym same) sum.0
 
 pub returns-clause-ranked : goal.returns-clause-ranked
 returns-clause-ranked c = λ greatest sigfig filter log m hs Ls one bounds merges chosen parts fits.
     let h = empty_plain 1 2 sigfig true in
     let a = c.merging_adds_the_chosen.ensures.added greatest sigfig filter log m merges in
-    let same = a.2 ∙ ap (merged_each greatest h) (c.merging_adds_the_chosen.ensures.only filter 0 (reading log) a.0 hs a.1 chosen) in
+    let same = a.2 ∙ ap (after_adds greatest h) (c.merging_adds_the_chosen.ensures.only filter 0 (reading log) a.0 hs a.1 chosen) in
     let grain = sym (empty_grain sigfig) in
     let ranked = c.joined_stands.ensures.ranked greatest 18446744073709551615 h hs [] Ls one
     (c.new_is_plain.ensures greatest 1 2 sigfig true bounds (lit< tt)) (c.clearing_stands.ensures.made 1 2 sigfig true)
-    (subst (λ (g : Grain). AreParts 18446744073709551615 g hs Ls) grain parts) (subst (λ (g : Grain). Fits greatest g (joined_list Ls)) grain fits) in
-    subst (λ (k : Plain). AnswersRanked k (joined_list Ls)) (sym same) ranked
+    (subst (λ (g : Grain). AreParts 18446744073709551615 g hs Ls) grain parts) (subst (λ (g : Grain). Fits greatest g (joined_samples Ls)) grain fits) in
+    subst (λ (k : Plain). AnswersRanked k (joined_samples Ls)) (sym same) ranked

@@ -3,13 +3,13 @@
 ghost use Rattle.std.specs.Prelude.{◌≡◌, ◌+◌, ◌<◌, ◌≤◌, ◌^◌, ℕ, length, MatchResult, Ok, Err};
 ghost use Rattle.std.specs.Option.{option_map};
 ghost use Rattle.std.specs.Duration.{as_nanos};
-ghost use Rattle.hdr_core.specs.Refusals.{IsBounds, RefusesBounds};
+ghost use Rattle.hdr_model.specs.Refusals.{IsBounds, RefusesBounds};
 ghost use Rattle.hdr_log.specs.Tags.{tag_text};
 ghost use Rattle.hdr_log.specs.Texts.{base64_bytes};
-ghost use Rattle.hdr_log.specs.Reading.{interval_seen, item_seen};
-ghost use Rattle.hdrhistogram.specs.Chosen.{has_tag, begins_from, begins_before, is_chosen, filter_seen};
-ghost use Rattle.hdrhistogram.specs.LogMerging.{FieldMerges, EntryMerges, Merges, RefusesStep, RefusesMerge, IsMergedBy, creation_refused, decode_refused};
-ghost use Rattle.hdrhistogram.specs.MergeView.{merging_seen};
+ghost use Rattle.hdr_log.specs.Reading.{view_of_interval, view_of_item};
+ghost use Rattle.hdrhistogram.specs.Chosen.{has_tag, begins_from, begins_before, is_chosen, view_of_filter};
+ghost use Rattle.hdrhistogram.specs.LogMerging.{FieldMerges, EntryMerges, Merges, RefusesStep, RefusesMerge, IsMergedBy, creation_error, decode_error};
+ghost use Rattle.hdrhistogram.specs.MergeView.{view_of_merging};
 
 use crate::serialization::deserializer::Deserializer;
 use crate::serialization::errors::DeserializeError;
@@ -126,7 +126,7 @@ struct Merging<T: Counter> {
 
 /// Why the empty histogram was not made.
 fn not_made(cause: CreationError) -> MergeError
-    ensures { result ≡ creation_refused cause }
+    ensures { result ≡ creation_error cause }
 {
     match cause {
         CreationError::OutOfMemory => MergeError::OutOfMemory,
@@ -202,7 +202,7 @@ fn merge_field<T: Counter>(
 
 /// Why the bytes of an interval were not read.
 fn not_decoded(interval: u64, cause: DeserializeError) -> MergeError
-    ensures { result ≡ decode_refused interval cause }
+    ensures { result ≡ decode_error interval cause }
 {
     match cause {
         DeserializeError::OutOfMemory => MergeError::OutOfMemory,
@@ -214,7 +214,7 @@ impl IntervalFilter<'_> {
     /// Whether an interval is chosen, with this base time.
     #[tactic(auto, unfolding(crate::specs::Chosen::is_chosen))]
     pub fn chooses(&self, base: Duration, interval: &IntervalLogHistogram<'_>) -> bool
-        ensures { result ≡ is_chosen (filter_seen self.now) (interval_seen interval.now).tag (as_nanos base + (interval_seen interval.now).start) }
+        ensures { result ≡ is_chosen (view_of_filter self.now) (view_of_interval interval.now).tag (as_nanos base + (view_of_interval interval.now).start) }
     {
         let time = base.as_nanos() + interval.start_timestamp().as_nanos();
         has_tag(self.tag, interval.tag())

@@ -1,21 +1,21 @@
 use Rattle.std.proofs.Common.{◌≡◌, ◌∙◌, ◌+◌, ◌-◌, ◌^◌, min, ap, arith, set, get_or}
 use Rattle.hdr_counts.specs.Blocks.{Blocks}
-use Rattle.hdr_core.specs.Marked.{Marked}
-use Rattle.hdr_core.specs.Shown.{shown}
-use Rattle.hdr_core.specs.Plain.{Plain}
-use Rattle.hdr_core.specs.Recording.{added}
-use Rattle.hdr_core.proofs.Kept.{added-parts, IsPlain-added}
-use Rattle.hdr_core.proofs.ByClass.{bins-few}
+use Rattle.hdr_model.specs.Marks.{MarkPair}
+use Rattle.hdr_core.specs.Shown.{plain_of}
+use Rattle.hdr_model.specs.Plain.{Plain}
+use Rattle.hdr_model.specs.Recording.{after_add_to_bin}
+use Rattle.hdr_model.proofs.PlainKept.{added-parts, IsPlain-added}
+use Rattle.hdr_model.proofs.CorrectionByClass.{bins-few}
 use Rattle.hdr_core.proofs.histogram.Histogram.add_capped.Goals as goal
 
 pub widen-requires : goal.widen-requires
 widen-requires g c =
     let in_bins = rw (← c.self.view_is) at c.requires.bin in
-    omega (arith, bins-few g.T.Counter.greatest (shown c.self.inside) c.self.invariant.plain)
+    omega (arith, bins-few g.T.Counter.greatest (plain_of c.self.inside) c.self.invariant.plain)
 
 pub invariant_of-self : goal.invariant_of-self
 invariant_of-self g c =
-    let h = shown c.self.inside in
+    let h = plain_of c.self.inside in
     let n = c.args.number in
     let greatest = g.T.Counter.greatest in
     let put : c.set.new.self.numbers ≡ set h.counts c.args.bin (min (get_or h.counts c.args.bin 0 + n) greatest) =
@@ -23,7 +23,7 @@ invariant_of-self g c =
     ∙ ap (λ k. set h.counts c.args.bin k) (c.capped.ensures ∙ ap (λ k. min (k + n) greatest) (c.from.ensures ∙ c.as_u64.ensures.value ∙ c.get.ensures)) in
     let parts = added-parts greatest h c.args.bin n c.set.new.self.numbers c.capped_total-self-inside.result c.widen.new.self.top c.widen.new.self.lower put
     (c.capped_total-self-inside.ensures ∙ ap (λ k. min (k + n) (2 ^ 64 - 1)) c.from-2.ensures)
-    (ap (λ (m : Marked). m.top) c.widen.ensures) (ap (λ (m : Marked). m.lower) c.widen.ensures) in
+    (ap (λ (m : MarkPair). m.top) c.widen.ensures) (ap (λ (m : MarkPair). m.lower) c.widen.ensures) in
     let in_bins = rw (← c.self.view_is) at c.requires.bin in
     record {
       scale = c.self.invariant.scale;
@@ -33,7 +33,7 @@ invariant_of-self g c =
 
 pub returns : goal.returns
 returns g c =
-    let h = shown c.self.inside in
+    let h = plain_of c.self.inside in
     let n = c.args.number in
     let greatest = g.T.Counter.greatest in
     let put : c.set.new.self.numbers ≡ set h.counts c.args.bin (min (get_or h.counts c.args.bin 0 + n) greatest) =
@@ -41,5 +41,5 @@ returns g c =
     ∙ ap (λ k. set h.counts c.args.bin k) (c.capped.ensures ∙ ap (λ k. min (k + n) greatest) (c.from.ensures ∙ c.as_u64.ensures.value ∙ c.get.ensures)) in
     let parts = added-parts greatest h c.args.bin n c.set.new.self.numbers c.capped_total-self-inside.result c.widen.new.self.top c.widen.new.self.lower put
     (c.capped_total-self-inside.ensures ∙ ap (λ k. min (k + n) (2 ^ 64 - 1)) c.from-2.ensures)
-    (ap (λ (m : Marked). m.top) c.widen.ensures) (ap (λ (m : Marked). m.lower) c.widen.ensures) in
-    parts ∙ ap (λ (h : Plain). added greatest h c.args.bin n) c.self.view_is
+    (ap (λ (m : MarkPair). m.top) c.widen.ensures) (ap (λ (m : MarkPair). m.lower) c.widen.ensures) in
+    parts ∙ ap (λ (h : Plain). after_add_to_bin greatest h c.args.bin n) c.self.view_is

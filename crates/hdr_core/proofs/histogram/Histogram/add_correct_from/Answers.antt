@@ -1,22 +1,22 @@
 use Rattle.std.proofs.Common.{◌≡◌, ◌∙◌, ◌≤◌, ◌++◌, ap, sym, subst, arith}
-use Rattle.hdr_core.specs.Plain.{Plain, grain, reach}
-use Rattle.hdr_core.specs.Recording.{recorded_each, widened}
-use Rattle.hdr_core.specs.Missing.{corrected_from, corrected_samples, highest_top, merged_corrected}
-use Rattle.hdr_core.specs.Samples.{StandsFor}
-use Rattle.hdr_core.proofs.Corrected.{widened-holds, StandsFor-merged_corrected, merged_corrected-high, grain-merged_corrected}
+use Rattle.hdr_model.specs.Plain.{Plain, grain, reach}
+use Rattle.hdr_model.specs.Recording.{after_records, with_bins_for}
+use Rattle.hdr_model.specs.Merging.{corrections_from, corrected_samples, highest_top, after_add_correct}
+use Rattle.hdr_model.specs.Samples.{StandsFor}
+use Rattle.hdr_model.proofs.MergingCorrects.{widened-holds, StandsFor-merged_corrected, merged_corrected-high, grain-merged_corrected}
 use Rattle.hdr_core.proofs.histogram.Histogram.add_correct_from.Goals as goal
 
 pub correct_classes-requires : goal.correct_classes-requires
 correct_classes-requires g c =
-    let new : c.cover.new.self ≡ widened c.args.self.now (highest_top c.args.source.now) = c.in_ok-cover.ensures.ok ∙ ap (λ x. widened c.args.self.now x) c.highest_top.ensures in
+    let new : c.cover.new.self ≡ with_bins_for c.args.self.now (highest_top c.args.source.now) = c.in_ok-cover.ensures.ok ∙ ap (λ x. with_bins_for c.args.self.now x) c.highest_top.ensures in
     subst (λ w. highest_top c.args.source.now ≤ reach w) (sym new) (widened-holds c.args.self.now (highest_top c.args.source.now))
 
 pub returns-clause-ok : goal.returns-clause-ok
-unfolding merged_corrected
+unfolding after_add_correct
 returns-clause-ok g c =
     let s = c.args.source.now in
-    let new : c.cover.new.self ≡ widened c.args.self.now (highest_top s) = c.in_ok-cover.ensures.ok ∙ ap (λ x. widened c.args.self.now x) c.highest_top.ensures in
-    c.correct_classes.ensures.made ∙ ap (λ w. recorded_each g.T.Counter.greatest w (corrected_from (grain s) c.args.interval 0 s.counts)) new
+    let new : c.cover.new.self ≡ with_bins_for c.args.self.now (highest_top s) = c.in_ok-cover.ensures.ok ∙ ap (λ x. with_bins_for c.args.self.now x) c.highest_top.ensures in
+    c.correct_classes.ensures.made ∙ ap (λ w. after_records g.T.Counter.greatest w (corrections_from (grain s) c.args.interval 0 s.counts)) new
 
 pub returns-clause-samples : goal.returns-clause-samples
 returns-clause-samples g c = λ S L stands source fits.

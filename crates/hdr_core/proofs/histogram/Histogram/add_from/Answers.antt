@@ -1,9 +1,9 @@
 use Rattle.std.proofs.Common.{◌≡◌, ◌∙◌, ◌≤◌, ◌++◌, ap, sym, subst, arith}
-use Rattle.hdr_core.specs.Plain.{Plain, grain, reach, max_of}
-use Rattle.hdr_core.specs.Merging.{taken_in, with_room}
-use Rattle.hdr_core.specs.Samples.{StandsFor}
-use Rattle.hdr_core.proofs.Merged.{merged-none, merged-some, with_room-reach}
-use Rattle.hdr_core.proofs.Spread.{StandsFor-merged, merged-high, grain-merged, stands-none}
+use Rattle.hdr_model.specs.Plain.{Plain, grain, reach, max_of}
+use Rattle.hdr_model.specs.Merging.{after_add_within, with_room}
+use Rattle.hdr_model.specs.Samples.{StandsFor}
+use Rattle.hdr_model.proofs.MergingKeeps.{merged-none, merged-some, with_room-reach}
+use Rattle.hdr_model.proofs.MergingStands.{StandsFor-merged, merged-high, grain-merged, stands-none}
 use Rattle.hdr_core.proofs.histogram.Histogram.add_from.Goals as goal
 
 pub returns-then-source-eq0-clause-ok : goal.returns-then-source-eq0-clause-ok
@@ -27,7 +27,7 @@ returns-clause-ok g c =
     let greatest = g.T.Counter.greatest in
     let s = c.args.source.now in
     let new : c.make_room.new.self ≡ with_room c.args.self.now (max_of s) = c.in_ok-make_room.ensures.ok ∙ ap (λ x. with_room c.args.self.now x) c.max.ensures.value in
-    c.take_in.ensures ∙ ap (λ w. taken_in greatest w s) new
+    c.take_in.ensures ∙ ap (λ w. after_add_within greatest w s) new
     ∙ sym (merged-some greatest c.args.self.now s (λ e. c.if-source-eq0.false (ap (λ (p : Plain). p.total) c.source.view_is ∙ e)))
 
 pub returns-clause-same_classes : goal.returns-clause-same_classes

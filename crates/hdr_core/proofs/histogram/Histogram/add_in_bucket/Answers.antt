@@ -1,12 +1,12 @@
 use Rattle.std.proofs.Common.{◌≡◌, ◌∙◌, ◌+◌, ◌-◌, ◌*◌, ◌/◌, ◌%◌, ◌<◌, ◌≤◌, ℕ, min, max, length, ap, sym, refl, arith}
 use Rattle.hdr_base.specs.Classes.{Grain, bucket, width_of, bin_of, lowest_of}
 use Rattle.hdr_base.proofs.Intervals.{place-le-bin, place-bin, place-span}
-use Rattle.hdr_core.specs.Plain.{Plain, grain, reach}
-use Rattle.hdr_core.specs.Recording.{added, recorded_each}
-use Rattle.hdr_core.specs.Missing.{each, down_to}
-use Rattle.hdr_core.proofs.Kept.{grain-digits, room-in}
-use Rattle.hdr_core.proofs.Fills.{grain-added, reach-added, bins-added}
-use Rattle.hdr_core.proofs.ByClass.{state-step, held-step, members-fit}
+use Rattle.hdr_model.specs.Plain.{Plain, grain, reach}
+use Rattle.hdr_model.specs.Recording.{after_add_to_bin, after_records}
+use Rattle.hdr_model.specs.Correction.{each_times, down_to}
+use Rattle.hdr_model.proofs.PlainKept.{grain-digits, room-in}
+use Rattle.hdr_model.proofs.RecordingFills.{grain-added, reach-added, bins-added}
+use Rattle.hdr_model.proofs.CorrectionByClass.{state-step, held-step, members-fit}
 use Rattle.hdr_core.proofs.histogram.Histogram.add_in_bucket.Goals as goal
 
 -- what the code finds of the class of a value, from the width of the classes in its bucket
@@ -85,10 +85,10 @@ loop-next-preserved g c =
     let within : x ≤ reach h = omega (arith, c.requires.within, inv.below) in
     let room : bin_of (grain h) x < length h.counts = room-in greatest h x plain within in
     let room_here : bin_of (grain k) x < length k.counts = rw inv.same_classes (omega (arith, room, inv.same_bins)) in
-    let new : c.add_counted.new.self ≡ added greatest k (bin_of (grain k) x) (m * n) =
-    c.add_counted.ensures.state ∙ ap (λ b. added greatest k b ((c.steps-members.result + 1) * n)) is_bin ∙ ap (λ q. added greatest k (bin_of (grain k) x) ((q + 1) * n)) steps in
+    let new : c.add_counted.new.self ≡ after_add_to_bin greatest k (bin_of (grain k) x) (m * n) =
+    c.add_counted.ensures.state ∙ ap (λ b. after_add_to_bin greatest k b ((c.steps-members.result + 1) * n)) is_bin ∙ ap (λ q. after_add_to_bin greatest k (bin_of (grain k) x) ((q + 1) * n)) steps in
     rw steps (record {
-      state = ap (λ (s : Plain). recorded_each greatest s (each n (down_to (x - m * i) i))) new
+      state = ap (λ (s : Plain). after_records greatest s (each_times n (down_to (x - m * i) i))) new
           ∙ state-step greatest k x i low m n (omega arith) digits_here ge is_low_here refl (omega (arith, within, inv.same_reach)) room_here ∙ inv.state;
       ticks = omega (arith, c.add_counted.ensures.ticks, inv.ticks, held-step (grain h) x i low m (omega arith) digits ge refl refl (length h.counts) room);
       same_classes = ap (λ (s : Plain). grain s) new ∙ grain-added greatest k (bin_of (grain k) x) (m * n) ∙ inv.same_classes;

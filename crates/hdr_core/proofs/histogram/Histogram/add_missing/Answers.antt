@@ -1,12 +1,12 @@
 use Rattle.std.proofs.Common.{◌≡◌, ◌∙◌, ◌≤◌, [], length, ap, sym, arith}
 use Rattle.std.proofs.lemmas.List.Elements.{All-weaker}
-use Rattle.hdr_core.specs.Plain.{grain, reach}
-use Rattle.hdr_core.specs.Recording.{recorded_each}
-use Rattle.hdr_core.specs.Missing.{each, classes_held, down_to}
-use Rattle.hdr_core.proofs.Missing.{down_to-end, down_to-within}
-use Rattle.hdr_core.proofs.ClassesHeld.{held-le, held-none}
-use Rattle.hdr_core.proofs.Spread.{StandsFor-each}
-use Rattle.hdr_core.proofs.ByClass.{bins-few, each-within}
+use Rattle.hdr_model.specs.Plain.{grain, reach}
+use Rattle.hdr_model.specs.Recording.{after_records}
+use Rattle.hdr_model.specs.Correction.{each_times, classes_held, down_to}
+use Rattle.hdr_model.proofs.CorrectionFacts.{down_to-end, down_to-within}
+use Rattle.hdr_model.proofs.CorrectionClasses.{held-le, held-none}
+use Rattle.hdr_model.proofs.MergingStands.{StandsFor-each}
+use Rattle.hdr_model.proofs.CorrectionByClass.{bins-few, each-within}
 use Rattle.hdr_core.proofs.histogram.Histogram.add_missing.Goals as goal
 
 pub add_in_bucket-next-requires-clause-room : goal.add_in_bucket-next-requires-clause-room
@@ -21,7 +21,7 @@ returns-clause-state g c =
     let greatest = g.T.Counter.greatest in
     let n = c.args.count in
     let end : down_to c.loop-next.next c.args.interval ≡ [] = down_to-end c.loop-next.next c.args.interval (omega arith) in
-    sym (ap (λ ys. recorded_each greatest c.loop-next.self (each n ys)) end) ∙ c.loop-next.invariant.state
+    sym (ap (λ ys. after_records greatest c.loop-next.self (each_times n ys)) end) ∙ c.loop-next.invariant.state
 
 pub returns-clause-ticks : goal.returns-clause-ticks
 returns-clause-ticks g c =
@@ -38,4 +38,4 @@ returns-clause-samples g c = λ S stands fits.
     let values = down_to c.args.first c.args.interval in
     let within = All-weaker (λ y. (c.args.interval ≤ y) × (y ≤ c.args.first)) (λ y. y ≤ reach h) (λ y e. omega (arith, e, c.requires.within)) values (down_to-within c.args.first c.args.interval (omega arith)) in
     rw (returns-clause-state g c)
-    (StandsFor-each g.T.Counter.greatest h (each c.args.count values) S g.met.T.Counter.one_fits plain (each-within (reach h) c.args.count values within) stands fits)
+    (StandsFor-each g.T.Counter.greatest h (each_times c.args.count values) S g.met.T.Counter.one_fits plain (each-within (reach h) c.args.count values within) stands fits)

@@ -1,7 +1,7 @@
 use Rattle.std.proofs.Common.{ap, ◌∙◌, arith}
-use Rattle.hdr_core.specs.Plain.{grain}
-use Rattle.hdr_core.specs.Ranks.{answer_at}
-use Rattle.hdr_core.proofs.Firsts.{found-by-blocks}
+use Rattle.hdr_model.specs.Plain.{grain}
+use Rattle.hdr_model.specs.Quantiles.{answer_at}
+use Rattle.hdr_model.proofs.QuantilesFirst.{found-by-blocks}
 use Rattle.hdr_core.proofs.histogram.Histogram.answer_found.Goals as goal
 
 pub returns : goal.returns

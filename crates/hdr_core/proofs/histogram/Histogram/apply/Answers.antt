@@ -1,13 +1,13 @@
 use Rattle.std.proofs.Common.{◌∙◌, ◌++◌, [], cond, eqb, length, ap, sym, subst, replicate}
 use Rattle.hdr_base.specs.Classes.{reach_of}
-use Rattle.hdr_core.specs.Plain.{Plain, grain, max_of}
-use Rattle.hdr_core.specs.Samples.{StandsFor, Fits}
-use Rattle.hdr_core.specs.Missing.{highest_top}
-use Rattle.hdr_core.specs.Calls.{high_with, clamp}
-use Rattle.hdr_core.proofs.Bounds.{bounds, low-and-sigfig, bounds-recorded, bounds-corrected, bounds-cleared, bounds-restarted, bounds-merged, bounds-merged_corrected}
-use Rattle.hdr_core.proofs.Kept.{grain-recorded}
-use Rattle.hdr_core.proofs.Cleared.{grain-cleared, grain-restarted, high-cleared, high-restarted, high-clamped, clamped-is, stands-cleared, stands-restarted}
-use Rattle.hdr_core.proofs.ByClass.{grain-corrected}
+use Rattle.hdr_model.specs.Plain.{Plain, grain, max_of}
+use Rattle.hdr_model.specs.Samples.{StandsFor, Fits}
+use Rattle.hdr_model.specs.Merging.{highest_top}
+use Rattle.hdr_model.specs.Recording.{high_with, clamp}
+use Rattle.hdr_model.proofs.PlainBounds.{bounds, low-and-sigfig, bounds-recorded, bounds-corrected, bounds-cleared, bounds-restarted, bounds-merged, bounds-merged_corrected}
+use Rattle.hdr_model.proofs.PlainKept.{grain-recorded}
+use Rattle.hdr_model.proofs.RecordingClears.{grain-cleared, grain-restarted, high-cleared, high-restarted, high-clamped, clamped-is, stands-cleared, stands-restarted}
+use Rattle.hdr_model.proofs.CorrectionByClass.{grain-corrected}
 use Rattle.hdr_core.proofs.histogram.Histogram.apply.Goals as goal
 
 pub returns-in-Ok-clause-same_classes : goal.returns-in-Ok-clause-same_classes

@@ -1,11 +1,11 @@
 use Rattle.std.proofs.Common.{◌≡◌, ◌∙◌, ◌∷◌, [], ◌++◌, length, take, subst, sym, ap, arith}
 use Rattle.std.proofs.lemmas.List.{take_more}
 use Rattle.hdr_base.specs.Classes.{Grain}
-use Rattle.hdr_core.specs.Plain.{Plain, grain}
-use Rattle.hdr_core.specs.Samples.{Fits}
-use Rattle.hdr_core.specs.Calls.{StandsAt}
+use Rattle.hdr_model.specs.Plain.{Plain, grain}
+use Rattle.hdr_model.specs.Samples.{Fits}
+use Rattle.hdr_model.specs.Runs.{StandsAt}
 use Rattle.hdr_core.specs.CallsFrom.{RefusesCallFrom, after_call_from, after_calls_from, IsTakenFrom, AreTakenFrom, CallFromTo, CallsFromTo}
-use Rattle.hdr_core.proofs.Runs.{WasRun-push, at_place}
+use Rattle.hdr_core.proofs.RunsFacts.{WasRun-push, at_place}
 use Rattle.hdr_core.proofs.histogram.Histogram.apply_all_from.Goals as goal
 
 pub loop-at-preserved : goal.loop-at-preserved

@@ -1,6 +1,6 @@
 use Rattle.std.proofs.Common.{◌∙◌, ap}
-use Rattle.hdr_core.specs.Plain.{Plain}
-use Rattle.hdr_core.proofs.Bounds.{bounds, low-and-sigfig, bounds-merged, bounds-merged_corrected}
+use Rattle.hdr_model.specs.Plain.{Plain}
+use Rattle.hdr_model.proofs.PlainBounds.{bounds, low-and-sigfig, bounds-merged, bounds-merged_corrected}
 use Rattle.hdr_core.proofs.histogram.Histogram.apply_from.Goals as goal
 
 pub returns-in-Ok-clause-same_bounds : goal.returns-in-Ok-clause-same_bounds

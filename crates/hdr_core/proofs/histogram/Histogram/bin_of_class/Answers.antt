@@ -1,7 +1,7 @@
 use Rattle.std.proofs.Common.{◌∙◌, ap, arith}
 use Rattle.hdr_base.specs.Classes.{Grain, bin_of, value_of}
-use Rattle.hdr_core.specs.Plain.{Plain, grain}
-use Rattle.hdr_core.proofs.Kept.{room-in}
+use Rattle.hdr_model.specs.Plain.{Plain, grain}
+use Rattle.hdr_model.proofs.PlainKept.{room-in}
 use Rattle.hdr_core.proofs.histogram.Histogram.bin_of_class.Goals as goal
 
 pub returns-clause-value : goal.returns-clause-value

@@ -2,8 +2,8 @@ use Rattle.std.proofs.Common.{◌∙◌, ◌≤◌, ap, sym, subst, length, rule
 use Rattle.hdr_base.specs.Classes.{bin_of}
 use Rattle.hdr_base.proofs.Digits.{digits-pos-of}
 use Rattle.hdr_base.proofs.Finer.{bin-value_of}
-use Rattle.hdr_core.specs.Plain.{grain, reach}
-use Rattle.hdr_core.proofs.Bins.{value-has-bin}
+use Rattle.hdr_model.specs.Plain.{grain, reach}
+use Rattle.hdr_model.proofs.PlainBins.{value-has-bin}
 use Rattle.hdr_core.proofs.histogram.Histogram.bin_value.Goals as goal
 
 pub returns-then-index-len-clause-bin : goal.returns-then-index-len-clause-bin

@@ -1,7 +1,7 @@
 use Rattle.std.proofs.Common.{◌∙◌, ◌<◌, ap, sym, arith, inl, inr}
 use Rattle.std.proofs.lemmas.Bool.{cases_lt}
-use Rattle.hdr_core.specs.Plain.{Plain, reach}
-use Rattle.hdr_core.proofs.Cleared.{clamped-same, clamped-past, high-within}
+use Rattle.hdr_model.specs.Plain.{Plain, reach}
+use Rattle.hdr_model.proofs.RecordingClears.{clamped-same, clamped-past, high-within}
 use Rattle.hdr_core.proofs.histogram.Histogram.clamped.Goals as goal
 
 pub returns-in-Some-clause-value : goal.returns-in-Some-clause-value

@@ -1,6 +1,6 @@
 use Rattle.std.proofs.Common.{◌∙◌, ap}
 use Rattle.hdr_base.specs.Classes.{Grain, top_of}
-use Rattle.hdr_core.specs.Plain.{Plain, grain}
+use Rattle.hdr_model.specs.Plain.{Plain, grain}
 use Rattle.hdr_core.proofs.histogram.Histogram.class_top.Goals as goal
 
 pub returns : goal.returns

@@ -1,7 +1,7 @@
 use Rattle.std.proofs.Common.{◌∙◌, ◌-◌, ◌^◌, ◌<◌, ap, subst}
 use Rattle.hdr_base.specs.Classes.{Grain, bin_of, value_of}
-use Rattle.hdr_core.specs.Plain.{Plain, grain}
-use Rattle.hdr_core.proofs.Kept.{index-inside}
+use Rattle.hdr_model.specs.Plain.{Plain, grain}
+use Rattle.hdr_model.proofs.PlainKept.{index-inside}
 use Rattle.hdr_core.proofs.histogram.Histogram.class_value.Goals as goal
 
 pub returns-in-Some : goal.returns-in-Some

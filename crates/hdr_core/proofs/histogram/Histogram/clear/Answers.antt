@@ -1,14 +1,14 @@
 use Rattle.std.proofs.Common.{◌∙◌, ap}
 use Rattle.hdr_counts.specs.Blocks.{Blocks}
-use Rattle.hdr_core.specs.Shown.{shown}
-use Rattle.hdr_core.specs.Plain.{Plain}
-use Rattle.hdr_core.specs.Recording.{cleared}
-use Rattle.hdr_core.proofs.Cleared.{cleared-parts, IsPlain-cleared}
+use Rattle.hdr_core.specs.Shown.{plain_of}
+use Rattle.hdr_model.specs.Plain.{Plain}
+use Rattle.hdr_model.specs.Recording.{after_clear}
+use Rattle.hdr_model.proofs.RecordingClears.{cleared-parts, IsPlain-cleared}
 use Rattle.hdr_core.proofs.histogram.Histogram.clear.Goals as goal
 
 pub invariant_of-self : goal.invariant_of-self
 invariant_of-self g c =
-    let h = shown c.self.inside in
+    let h = plain_of c.self.inside in
     record {
       scale = c.self.invariant.scale;
       block = ap (λ (b : Blocks). b.block) c.clear.ensures ∙ c.self.invariant.block;
@@ -17,4 +17,4 @@ invariant_of-self g c =
 
 pub returns : goal.returns
 returns g c =
-    cleared-parts (shown c.self.inside) c.clear.new.self.numbers (ap (λ (b : Blocks). b.numbers) c.clear.ensures) ∙ ap (λ (p : Plain). cleared p) c.self.view_is
+    cleared-parts (plain_of c.self.inside) c.clear.new.self.numbers (ap (λ (b : Blocks). b.numbers) c.clear.ensures) ∙ ap (λ (p : Plain). after_clear p) c.self.view_is

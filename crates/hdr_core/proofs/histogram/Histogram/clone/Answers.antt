@@ -1,7 +1,7 @@
 use Rattle.std.proofs.Common.{◌≡◌, ◌∙◌, true, ap, sym, subst}
-use Rattle.hdr_core.specs.Plain.{Plain}
-use Rattle.hdr_core.specs.Merging.{same_bins, joined}
-use Rattle.hdr_core.proofs.Copied.{same-bins-empty, joined-copy}
+use Rattle.hdr_model.specs.Plain.{Plain}
+use Rattle.hdr_model.specs.Merging.{same_bins, after_add_same_bins}
+use Rattle.hdr_model.proofs.MergingCopies.{same-bins-empty, joined-copy}
 use Rattle.hdr_core.proofs.histogram.Histogram.clone.Goals as goal
 
 pub join-requires : goal.join-requires
@@ -12,4 +12,4 @@ join-requires g c =
 pub returns : goal.returns
 returns g c =
     let h = c.args.self.now in
-    c.join.ensures ∙ ap (λ (w : Plain). joined g.T.Counter.greatest w h) c.in_ok-copy.ensures.made ∙ joined-copy g.T.Counter.greatest h c.new_from.ensures.source
+    c.join.ensures ∙ ap (λ (w : Plain). after_add_same_bins g.T.Counter.greatest w h) c.in_ok-copy.ensures.made ∙ joined-copy g.T.Counter.greatest h c.new_from.ensures.source

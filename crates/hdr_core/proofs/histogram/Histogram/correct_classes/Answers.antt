@@ -3,13 +3,14 @@ use Rattle.std.specs.List.{All}
 use Rattle.std.proofs.lemmas.List.{take_all}
 use Rattle.std.proofs.lemmas.List.Elements.{All-cons}
 use Rattle.hdr_base.specs.Classes.{top_of, value_of}
-use Rattle.hdr_core.specs.Plain.{Plain, grain, reach}
-use Rattle.hdr_core.specs.Recording.{Times, recorded_each}
-use Rattle.hdr_core.specs.Missing.{missing, each, corrected_from}
-use Rattle.hdr_core.proofs.Missing.{missing-within}
-use Rattle.hdr_core.proofs.ByClass.{each-within}
-use Rattle.hdr_core.proofs.Spread.{reach-each}
-use Rattle.hdr_core.proofs.Corrected.{class-inside, corrected-next, corrected-same}
+use Rattle.hdr_model.specs.Plain.{Plain, grain, reach}
+use Rattle.hdr_model.specs.Recording.{Times, after_records}
+use Rattle.hdr_model.specs.Correction.{missing, each_times}
+use Rattle.hdr_model.specs.Merging.{corrections_from}
+use Rattle.hdr_model.proofs.CorrectionFacts.{missing-within}
+use Rattle.hdr_model.proofs.CorrectionByClass.{each-within}
+use Rattle.hdr_model.proofs.MergingStands.{reach-each}
+use Rattle.hdr_model.proofs.MergingCorrects.{class-inside, corrected-next, corrected-same}
 use Rattle.hdr_core.proofs.histogram.Histogram.correct_classes.Goals as goal
 use Rattle.hdr_core.proofs.histogram.Histogram.correct_classes.Goals.{then-count-gt0, else-count-gt0}
 
@@ -37,21 +38,21 @@ loop-bin-preserved g c =
       | then-count-gt0 w ↦ (
           let pos : 0 < get_or s.counts i 0 = omega (arith, at, w.if-count-gt0.true) in
           let le : v ≤ reach k = omega (arith, class-inside s i pos, c.requires, c.loop-bin.invariant.same_reach) in
-          let ts = each (get_or s.counts i 0) (v ∷ missing v t) in
-          let new : c.if-count-gt0.self ≡ recorded_each greatest k ts =
-          w.self-is ∙ w.correct_inside.ensures ∙ ap (λ x. recorded_each greatest k (each n (x ∷ missing x t))) w.class_top.ensures
-          ∙ ap (λ m. recorded_each greatest k (each m (v ∷ missing v t))) at in
+          let ts = each_times (get_or s.counts i 0) (v ∷ missing v t) in
+          let new : c.if-count-gt0.self ≡ after_records greatest k ts =
+          w.self-is ∙ w.correct_inside.ensures ∙ ap (λ x. after_records greatest k (each_times n (x ∷ missing x t))) w.class_top.ensures
+          ∙ ap (λ m. after_records greatest k (each_times m (v ∷ missing v t))) at in
           let values : All (λ (t : Times). t.value ≤ reach k) ts =
           each-within (reach k) (get_or s.counts i 0) (v ∷ missing v t) (All-cons (λ x. x ≤ reach k) v (missing v t) le (missing-within v t (reach k) le)) in
           record {
-            made = new ∙ ap (λ (h : Plain). recorded_each greatest h ts) c.loop-bin.invariant.made ∙ corrected-next greatest h (grain s) t s.counts i inside pos;
+            made = new ∙ ap (λ (h : Plain). after_records greatest h ts) c.loop-bin.invariant.made ∙ corrected-next greatest h (grain s) t s.counts i inside pos;
             same_reach = ap (λ (h : Plain). reach h) new ∙ reach-each greatest k ts values ∙ c.loop-bin.invariant.same_reach;
           }
           )
       | else-count-gt0 w ↦ (
           let none : get_or s.counts i 0 ≡ 0 = omega (arith, at, w.if-count-gt0.false) in
           record {
-            made = w.self-is ∙ c.loop-bin.invariant.made ∙ ap (λ ts. recorded_each greatest h ts) (corrected-same greatest h (grain s) t s.counts i inside none);
+            made = w.self-is ∙ c.loop-bin.invariant.made ∙ ap (λ ts. after_records greatest h ts) (corrected-same greatest h (grain s) t s.counts i inside none);
             same_reach = ap (λ (h : Plain). reach h) w.self-is ∙ c.loop-bin.invariant.same_reach;
           }
           )
@@ -62,4 +63,4 @@ returns-clause-made g c =
     let s = c.args.source.now in
     let same : length c.source.inside.counts.numbers ≡ length s.counts = ap (λ (p : Plain). length p.counts) c.source.view_is in
     let all : take c.loop-bin.bin s.counts ≡ s.counts = take_all c.loop-bin.bin s.counts (omega (arith, same, c.loop-bin-test.false, c.len-bin-end.ensures, c.loop-bin.auto.bin-end)) in
-    c.loop-bin.invariant.made ∙ ap (λ ns. recorded_each g.T.Counter.greatest c.args.self.now (corrected_from (grain s) c.args.interval 0 ns)) all
+    c.loop-bin.invariant.made ∙ ap (λ ns. after_records g.T.Counter.greatest c.args.self.now (corrections_from (grain s) c.args.interval 0 ns)) all

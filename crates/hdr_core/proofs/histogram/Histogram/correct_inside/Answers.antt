@@ -1,9 +1,9 @@
 use Rattle.std.proofs.Common.{◌≡◌, ◌∙◌, [], ap, sym, arith}
-use Rattle.hdr_core.specs.Plain.{Plain}
-use Rattle.hdr_core.specs.Recording.{recorded, recorded_each}
-use Rattle.hdr_core.specs.Missing.{missing, down_to, each}
-use Rattle.hdr_core.proofs.Missing.{missing-down, missing-none}
-use Rattle.hdr_core.proofs.ByClass.{recorded-holds}
+use Rattle.hdr_model.specs.Plain.{Plain}
+use Rattle.hdr_model.specs.Recording.{after_record, after_records}
+use Rattle.hdr_model.specs.Correction.{missing, down_to, each_times}
+use Rattle.hdr_model.proofs.CorrectionFacts.{missing-down, missing-none}
+use Rattle.hdr_model.proofs.CorrectionByClass.{recorded-holds}
 use Rattle.hdr_core.proofs.histogram.Histogram.correct_inside.Goals as goal
 
 pub add_missing-requires-clause-within : goal.add_missing-requires-clause-within
@@ -18,11 +18,11 @@ returns-then-interval-gt0 g c =
     let i = c.args.interval in
     let list : down_to c.saturating_sub.result i ≡ missing v i = ap (λ x. down_to x i) c.saturating_sub.ensures ∙ sym (missing-down v i (omega arith)) in
     c.add_missing.ensures.state
-    ∙ ap (λ (h : Plain). recorded_each greatest h (each n (down_to c.saturating_sub.result i))) c.record_inside.ensures
-    ∙ ap (λ xs. recorded_each greatest (recorded greatest c.args.self.now v n) (each n xs)) list
+    ∙ ap (λ (h : Plain). after_records greatest h (each_times n (down_to c.saturating_sub.result i))) c.record_inside.ensures
+    ∙ ap (λ xs. after_records greatest (after_record greatest c.args.self.now v n) (each_times n xs)) list
 
 pub returns-else-interval-gt0 : goal.returns-else-interval-gt0
 returns-else-interval-gt0 g c =
     let none : missing c.args.value c.args.interval ≡ [] = ap (λ i. missing c.args.value i) (let e : c.args.interval ≡ 0 = omega arith in e) ∙ missing-none c.args.value in
     c.record_inside.ensures
-    ∙ ap (λ xs. recorded_each g.T.Counter.greatest (recorded g.T.Counter.greatest c.args.self.now c.args.value c.args.count) (each c.args.count xs)) (sym none)
+    ∙ ap (λ xs. after_records g.T.Counter.greatest (after_record g.T.Counter.greatest c.args.self.now c.args.value c.args.count) (each_times c.args.count xs)) (sym none)

@@ -1,8 +1,8 @@
 use Rattle.std.proofs.Common.{◌≡◌, ◌∙◌, ◌+◌, ◌-◌, ◌^◌, min, sum, take, ap, sym, arith}
 use Rattle.std.specs.List.{slice_range}
-use Rattle.hdr_core.specs.Plain.{Plain}
-use Rattle.hdr_core.specs.Statistics.{held_bin}
-use Rattle.hdr_core.proofs.Between.{between-samples, held-order, part-sum}
+use Rattle.hdr_model.specs.Plain.{Plain}
+use Rattle.hdr_model.specs.Statistics.{held_bin}
+use Rattle.hdr_model.proofs.StatisticsBetween.{between-samples, held-order, part-sum}
 use Rattle.hdr_core.proofs.histogram.Histogram.count_between.Goals as goal
 use Rattle.hdr_core.proofs.histogram.Histogram.count_between.Goals.{then-from-eq0, else-from-eq0}
 

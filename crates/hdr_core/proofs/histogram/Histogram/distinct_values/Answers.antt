@@ -1,6 +1,6 @@
 use Rattle.std.proofs.Common.{◌∙◌, length, ap}
-use Rattle.hdr_core.specs.Plain.{Plain}
-use Rattle.hdr_core.proofs.Bins.{blocks-of}
+use Rattle.hdr_model.specs.Plain.{Plain}
+use Rattle.hdr_model.proofs.PlainBins.{blocks-of}
 use Rattle.hdr_core.proofs.histogram.Histogram.distinct_values.Goals as goal
 
 pub returns-clause-blocks : goal.returns-clause-blocks

@@ -1,8 +1,8 @@
 use Rattle.std.proofs.Common.{◌+◌, ◌∙◌, length, ap, arith}
 use Rattle.hdr_counts.specs.Blocks.{looks}
-use Rattle.hdr_core.specs.Plain.{Plain, block_of}
-use Rattle.hdr_core.specs.Ranks.{first_reaching}
-use Rattle.hdr_core.proofs.Firsts.{found-by-blocks}
+use Rattle.hdr_model.specs.Plain.{Plain, block_of}
+use Rattle.hdr_model.specs.Quantiles.{first_reaching}
+use Rattle.hdr_model.proofs.QuantilesFirst.{found-by-blocks}
 use Rattle.hdr_core.proofs.histogram.Histogram.find.Goals as goal
 
 pub returns-clause-place : goal.returns-clause-place

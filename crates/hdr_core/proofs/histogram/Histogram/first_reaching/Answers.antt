@@ -1,7 +1,7 @@
 use Rattle.std.proofs.Common.{◌∙◌, ap, arith}
-use Rattle.hdr_core.specs.Plain.{Plain}
-use Rattle.hdr_core.specs.Ranks.{first_reaching}
-use Rattle.hdr_core.proofs.Firsts.{found-by-blocks}
+use Rattle.hdr_model.specs.Plain.{Plain}
+use Rattle.hdr_model.specs.Quantiles.{first_reaching}
+use Rattle.hdr_model.proofs.QuantilesFirst.{found-by-blocks}
 use Rattle.hdr_core.proofs.histogram.Histogram.first_reaching.Goals as goal
 
 pub returns-clause-place : goal.returns-clause-place

@@ -1,8 +1,8 @@
 use Rattle.std.proofs.Common.{◌∙◌, ap, sym}
-use Rattle.hdr_core.specs.Plain.{Plain, grain}
-use Rattle.hdr_core.specs.Missing.{highest_top}
-use Rattle.hdr_core.proofs.Kept.{grain-digits}
-use Rattle.hdr_core.proofs.Corrected.{last-at, last-none}
+use Rattle.hdr_model.specs.Plain.{Plain, grain}
+use Rattle.hdr_model.specs.Merging.{highest_top}
+use Rattle.hdr_model.proofs.PlainKept.{grain-digits}
+use Rattle.hdr_model.proofs.MergingCorrects.{last-at, last-none}
 use Rattle.hdr_core.proofs.histogram.Histogram.highest_top.Goals as goal
 
 pub returns-in-Some : goal.returns-in-Some

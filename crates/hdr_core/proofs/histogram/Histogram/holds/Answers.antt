@@ -1,10 +1,10 @@
 use Rattle.std.proofs.Common.{◌≡◌, ◌≢◌, ◌∙◌, ◌+◌, ◌<◌, ◌≤◌, ap, subst, sym, arith, length, get_or}
 use Rattle.hdr_base.specs.Classes.{value_of}
 use Rattle.hdr_base.proofs.Finer.{bin-value_of}
-use Rattle.hdr_core.specs.Plain.{Plain, grain}
-use Rattle.hdr_core.proofs.Kept.{grain-digits}
-use Rattle.hdr_core.proofs.Merged.{number-le-max}
-use Rattle.hdr_core.proofs.Held.{held-all, held-le, IsTested, tested-init, tested-same, tested-sum, tested-next}
+use Rattle.hdr_model.specs.Plain.{Plain, grain}
+use Rattle.hdr_model.proofs.PlainKept.{grain-digits}
+use Rattle.hdr_model.proofs.MergingKeeps.{number-le-max}
+use Rattle.hdr_model.proofs.MergingHolds.{held-all, held-le, IsTested, tested-init, tested-same, tested-sum, tested-next}
 use Rattle.hdr_core.proofs.histogram.Histogram.holds.Goals as goal
 use Rattle.hdr_core.proofs.histogram.Histogram.holds.Goals.{then-count-gt0+else-sum-from, then-target-at, else-target-at, else-count-gt0}
 

@@ -1,16 +1,16 @@
 use Rattle.std.proofs.Common.{◌≡◌, ◌∙◌, ◌+◌, ◌-◌, ◌^◌, min, ap, sym, length, sum}
 use Rattle.hdr_counts.specs.Blocks.{Blocks, capped_sums}
-use Rattle.hdr_core.specs.Shown.{shown}
-use Rattle.hdr_core.specs.Marked.{Marked}
-use Rattle.hdr_core.specs.Plain.{Plain}
-use Rattle.hdr_core.specs.Merging.{joined}
-use Rattle.hdr_core.proofs.Merged.{same-bins, IsPlain-taken, IsPlain-summed, joined-empty, joined-some}
+use Rattle.hdr_core.specs.Shown.{plain_of}
+use Rattle.hdr_model.specs.Marks.{MarkPair}
+use Rattle.hdr_model.specs.Plain.{Plain}
+use Rattle.hdr_model.specs.Merging.{after_add_same_bins}
+use Rattle.hdr_model.proofs.MergingKeeps.{same-bins, IsPlain-taken, IsPlain-summed, joined-empty, joined-some}
 use Rattle.hdr_core.proofs.histogram.Histogram.join.Goals as goal
 
 pub invariant_of-self : goal.invariant_of-self
 invariant_of-self g c =
-    let h = shown c.self.inside in
-    let s = shown c.source.inside in
+    let h = plain_of c.self.inside in
+    let s = plain_of c.source.inside in
     let greatest = g.T.Counter.greatest in
     let same : length h.counts ≡ length s.counts = (ap (λ (p : Plain). length p.counts) c.self.view_is) ∙ (same-bins c.args.self.now c.args.source.now c.requires).1 ∙ sym (ap (λ (p : Plain). length p.counts) c.source.view_is) in
     let numbers : c.add_capped.new.self.numbers ≡ capped_sums greatest h.counts s.counts = ap (λ (b : Blocks). b.numbers) c.add_capped.ensures in
@@ -23,8 +23,8 @@ invariant_of-self g c =
 
 pub invariant_of-self-else-self-eq0 : goal.invariant_of-self-else-self-eq0
 invariant_of-self-else-self-eq0 g c =
-    let h = shown c.self.inside in
-    let s = shown c.source.inside in
+    let h = plain_of c.self.inside in
+    let s = plain_of c.source.inside in
     let greatest = g.T.Counter.greatest in
     let same : length h.counts ≡ length s.counts = (ap (λ (p : Plain). length p.counts) c.self.view_is) ∙ (same-bins c.args.self.now c.args.source.now c.requires).1 ∙ sym (ap (λ (p : Plain). length p.counts) c.source.view_is) in
     let numbers : c.add_capped.new.self.numbers ≡ capped_sums greatest h.counts s.counts = ap (λ (b : Blocks). b.numbers) c.add_capped.ensures in
@@ -38,25 +38,25 @@ invariant_of-self-else-self-eq0 g c =
 
 pub returns-then-self-eq0 : goal.returns-then-self-eq0
 returns-then-self-eq0 g c =
-    let h = shown c.self.inside in
-    let s = shown c.source.inside in
+    let h = plain_of c.self.inside in
+    let s = plain_of c.source.inside in
     let greatest = g.T.Counter.greatest in
     let numbers : c.add_capped.new.self.numbers ≡ capped_sums greatest h.counts s.counts = ap (λ (b : Blocks). b.numbers) c.add_capped.ensures in
     ap (λ ns. record h { counts = ns; total = s.total; top_mark = c.same-self-inside.result.top; lower_mark = c.same-self-inside.result.lower }) numbers
-    ∙ ap (λ (m : Marked). record h { counts = capped_sums greatest h.counts s.counts; total = s.total; top_mark = m.top; lower_mark = m.lower }) c.same-self-inside.ensures
+    ∙ ap (λ (m : MarkPair). record h { counts = capped_sums greatest h.counts s.counts; total = s.total; top_mark = m.top; lower_mark = m.lower }) c.same-self-inside.ensures
     ∙ joined-empty greatest h s c.if-self-eq0.true
-    ∙ ap (λ (p : Plain). joined greatest p s) c.self.view_is ∙ ap (λ (p : Plain). joined greatest c.args.self.now p) c.source.view_is
+    ∙ ap (λ (p : Plain). after_add_same_bins greatest p s) c.self.view_is ∙ ap (λ (p : Plain). after_add_same_bins greatest c.args.self.now p) c.source.view_is
 
 pub returns-else-self-eq0 : goal.returns-else-self-eq0
 returns-else-self-eq0 g c =
-    let h = shown c.self.inside in
-    let s = shown c.source.inside in
+    let h = plain_of c.self.inside in
+    let s = plain_of c.source.inside in
     let greatest = g.T.Counter.greatest in
     let m = c.widen_by.new.self in
     let numbers : c.add_capped.new.self.numbers ≡ capped_sums greatest h.counts s.counts = ap (λ (b : Blocks). b.numbers) c.add_capped.ensures in
     let total : c.saturating_add-self-inside.result ≡ min (h.total + min (sum s.counts) (2 ^ 64 - 1)) (2 ^ 64 - 1) = c.saturating_add-self-inside.ensures ∙ ap (λ k. min (h.total + k) (2 ^ 64 - 1)) c.capped_sum.ensures in
     ap (λ ns. record h { counts = ns; total = c.saturating_add-self-inside.result; top_mark = m.top; lower_mark = m.lower }) numbers
     ∙ ap (λ t. record h { counts = capped_sums greatest h.counts s.counts; total = t; top_mark = m.top; lower_mark = m.lower }) total
-    ∙ ap (λ (m : Marked). record h { counts = capped_sums greatest h.counts s.counts; total = min (h.total + min (sum s.counts) (2 ^ 64 - 1)) (2 ^ 64 - 1); top_mark = m.top; lower_mark = m.lower }) c.widen_by.ensures
+    ∙ ap (λ (m : MarkPair). record h { counts = capped_sums greatest h.counts s.counts; total = min (h.total + min (sum s.counts) (2 ^ 64 - 1)) (2 ^ 64 - 1); top_mark = m.top; lower_mark = m.lower }) c.widen_by.ensures
     ∙ joined-some greatest h s c.if-self-eq0.false
-    ∙ ap (λ (p : Plain). joined greatest p s) c.self.view_is ∙ ap (λ (p : Plain). joined greatest c.args.self.now p) c.source.view_is
+    ∙ ap (λ (p : Plain). after_add_same_bins greatest p s) c.self.view_is ∙ ap (λ (p : Plain). after_add_same_bins greatest c.args.self.now p) c.source.view_is

@@ -1,8 +1,8 @@
 use Rattle.std.proofs.Common.{◌∙◌, ◌≤◌, ap, sym, subst}
 use Rattle.hdr_base.specs.Classes.{bin_of}
-use Rattle.hdr_core.specs.Plain.{Plain, grain, reach}
-use Rattle.hdr_core.proofs.Bins.{bin-of-max, max-has-bin}
-use Rattle.hdr_core.proofs.Cleared.{max-marked, max-unmarked}
+use Rattle.hdr_model.specs.Plain.{Plain, grain, reach}
+use Rattle.hdr_model.proofs.PlainBins.{bin-of-max, max-has-bin}
+use Rattle.hdr_model.proofs.RecordingClears.{max-marked, max-unmarked}
 use Rattle.hdr_core.proofs.histogram.Histogram.max.Goals as goal
 
 pub returns-in-Some-clause-value : goal.returns-in-Some-clause-value

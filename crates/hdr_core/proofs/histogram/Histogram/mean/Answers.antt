@@ -1,6 +1,6 @@
 use Rattle.std.proofs.Common.{◌≡◌, sym, ap, ◌∙◌, arith}
-use Rattle.hdr_core.specs.Plain.{Plain}
-use Rattle.hdr_core.proofs.Means.{mean-full, mean-nothing, mean-some}
+use Rattle.hdr_model.specs.Plain.{Plain}
+use Rattle.hdr_model.proofs.StatisticsMeans.{mean-full, mean-nothing, mean-some}
 use Rattle.hdr_core.proofs.histogram.Histogram.mean.Goals as goal
 
 pub returns-then-self : goal.returns-then-self

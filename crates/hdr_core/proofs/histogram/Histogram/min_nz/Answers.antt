@@ -1,6 +1,6 @@
 use Rattle.std.proofs.Common.{◌∙◌, ap, sym}
-use Rattle.hdr_core.specs.Plain.{Plain}
-use Rattle.hdr_core.proofs.Cleared.{min_nz-marked, min_nz-unmarked}
+use Rattle.hdr_model.specs.Plain.{Plain}
+use Rattle.hdr_model.proofs.RecordingClears.{min_nz-marked, min_nz-unmarked}
 use Rattle.hdr_core.proofs.histogram.Histogram.min_nz.Goals as goal
 
 pub returns-in-Some : goal.returns-in-Some

@@ -1,9 +1,9 @@
 use Rattle.std.proofs.Common.{◌≡◌, ◌∙◌, ◌+◌, ◌-◌, ◌^◌, ap}
 use Rattle.hdr_base.specs.Classes.{Grain, grain_of}
 use Rattle.hdr_counts.specs.Blocks.{Blocks}
-use Rattle.hdr_core.specs.Plain.{Plain, empty_plain}
-use Rattle.hdr_core.specs.Shown.{shown}
-use Rattle.hdr_core.proofs.Kept.{IsPlain-empty, empty-by, blocks-are, digits-pos-of}
+use Rattle.hdr_model.specs.Plain.{Plain, empty_plain}
+use Rattle.hdr_core.specs.Shown.{plain_of}
+use Rattle.hdr_model.proofs.PlainKept.{IsPlain-empty, empty-by, blocks-are, digits-pos-of}
 use Rattle.hdr_core.proofs.histogram.Histogram.new_from.Goals as goal
 
 pub new-requires-clause-few : goal.new-requires-clause-few
@@ -11,7 +11,7 @@ new-requires-clause-few g c = rw (c.block.ensures.value) c.buckets.ensures.few
 
 pub invariant_of-result : goal.invariant_of-result
 invariant_of-result g c =
-    let s = shown c.source.inside in
+    let s = plain_of c.source.inside in
     let same = c.source.invariant.scale in
     let gr = grain_of s.low s.sigfig in
     let block : c.block.result ≡ 2 ^ (gr.digits - 1) = c.block.ensures.value ∙ ap (λ (s : Grain). 2 ^ (s.digits - 1)) same in
@@ -25,7 +25,7 @@ invariant_of-result g c =
 
 pub returns-clause-made : goal.returns-clause-made
 returns-clause-made g c =
-    let s = shown c.source.inside in
+    let s = plain_of c.source.inside in
     let same = c.source.invariant.scale in
     let gr = grain_of s.low s.sigfig in
     let block : c.block.result ≡ 2 ^ (gr.digits - 1) = c.block.ensures.value ∙ ap (λ (s : Grain). 2 ^ (s.digits - 1)) same in

@@ -1,7 +1,7 @@
 use Rattle.std.proofs.Common.{◌≡◌, ◌∙◌, ◌+◌, ◌-◌, ◌^◌, false, ap, arith}
 use Rattle.hdr_base.specs.Classes.{Grain, grain_of}
 use Rattle.hdr_counts.specs.Blocks.{Blocks}
-use Rattle.hdr_core.proofs.Kept.{IsPlain-empty, empty-by, blocks-are, digits-pos-of}
+use Rattle.hdr_model.proofs.PlainKept.{IsPlain-empty, empty-by, blocks-are, digits-pos-of}
 use Rattle.hdr_core.proofs.histogram.Histogram.new_with_bounds.Goals as goal
 
 pub new-requires-clause-few : goal.new-requires-clause-few

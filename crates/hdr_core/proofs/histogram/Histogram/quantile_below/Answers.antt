@@ -1,7 +1,7 @@
 use Rattle.std.proofs.Common.{◌≡◌, ◌+◌, ◌-◌, ◌^◌, min, take, sum, sym, ap, ◌∙◌, arith}
-use Rattle.hdr_core.specs.Plain.{Plain}
-use Rattle.hdr_core.specs.Statistics.{held_bin}
-use Rattle.hdr_core.proofs.Shares.{share-of-none, share-of-some, share-of-samples}
+use Rattle.hdr_model.specs.Plain.{Plain}
+use Rattle.hdr_model.specs.Statistics.{held_bin}
+use Rattle.hdr_model.proofs.StatisticsShares.{share-of-none, share-of-some, share-of-samples}
 use Rattle.hdr_core.proofs.histogram.Histogram.quantile_below.Goals as goal
 
 pub returns-then-self-eq0-clause-value : goal.returns-then-self-eq0-clause-value

@@ -2,11 +2,11 @@ use Rattle.std.proofs.Common.{◌≡◌, ◌∙◌, ◌<◌, ◌≤◌, ap, sym,
 use Rattle.std.proofs.lemmas.List.{take_all}
 use Rattle.hdr_base.specs.Classes.{value_of}
 use Rattle.hdr_base.proofs.Finer.{bin-value_of}
-use Rattle.hdr_core.specs.Plain.{Plain, grain, reach}
-use Rattle.hdr_core.specs.Recording.{recorded, recorded_each}
-use Rattle.hdr_core.specs.Merging.{classes_from}
-use Rattle.hdr_core.proofs.Kept.{grain-digits}
-use Rattle.hdr_core.proofs.Merged.{number-le-max, value-le-max, mark-in, classes-next, classes-same, classes-end, reach-recorded}
+use Rattle.hdr_model.specs.Plain.{Plain, grain, reach}
+use Rattle.hdr_model.specs.Recording.{after_record, after_records}
+use Rattle.hdr_model.specs.Merging.{classes_from}
+use Rattle.hdr_model.proofs.PlainKept.{grain-digits}
+use Rattle.hdr_model.proofs.MergingKeeps.{number-le-max, value-le-max, mark-in, classes-next, classes-same, classes-end, reach-recorded}
 use Rattle.hdr_core.proofs.histogram.Histogram.record_classes.Goals as goal
 use Rattle.hdr_core.proofs.histogram.Histogram.record_classes.Goals.{then-count-gt0, else-count-gt0}
 
@@ -37,9 +37,9 @@ loop-bin-preserved g c =
       | then-count-gt0 w ↦ (
           let pos : 0 < get_or s.counts i 0 = omega (arith, at, w.if-count-gt0.true) in
           let le : v ≤ reach c.loop-bin.self = omega (arith, number-le-max most s i v q pos (bin-value_of (grain s) i (grain-digits most s q)), c.requires, c.loop-bin.invariant.same_reach) in
-          let new : c.if-count-gt0.self ≡ recorded greatest c.loop-bin.self v n = w.self-is ∙ w.record_inside.ensures ∙ ap (λ x. recorded greatest c.loop-bin.self x n) w.class_value.ensures in
+          let new : c.if-count-gt0.self ≡ after_record greatest c.loop-bin.self v n = w.self-is ∙ w.record_inside.ensures ∙ ap (λ x. after_record greatest c.loop-bin.self x n) w.class_value.ensures in
           record {
-            made = new ∙ ap (λ k. recorded greatest c.loop-bin.self v k) at ∙ ap (λ (h : Plain). recorded greatest h v (get_or s.counts i 0)) before
+            made = new ∙ ap (λ k. after_record greatest c.loop-bin.self v k) at ∙ ap (λ (h : Plain). after_record greatest h v (get_or s.counts i 0)) before
                 ∙ classes-next greatest h (grain s) s.counts i inside pos;
             same_reach = ap (λ (h : Plain). reach h) new ∙ reach-recorded greatest c.loop-bin.self v n le ∙ c.loop-bin.invariant.same_reach;
           }
@@ -47,7 +47,7 @@ loop-bin-preserved g c =
       | else-count-gt0 w ↦ (
           let none : get_or s.counts i 0 ≡ 0 = omega (arith, at, w.if-count-gt0.false) in
           record {
-            made = w.self-is ∙ before ∙ ap (λ ts. recorded_each greatest h ts) (classes-same greatest h (grain s) s.counts i inside none);
+            made = w.self-is ∙ before ∙ ap (λ ts. after_records greatest h ts) (classes-same greatest h (grain s) s.counts i inside none);
             same_reach = ap (λ (h : Plain). reach h) w.self-is ∙ c.loop-bin.invariant.same_reach;
           }
           )
@@ -70,6 +70,6 @@ returns-in-Some g c =
     let i = c.in-Some.bin in
     let same : length c.source.inside.counts.numbers ≡ length s.counts = ap (λ (p : Plain). length p.counts) c.source.view_is in
     let all : take c.loop-bin.bin s.counts ≡ s.counts = take_all c.loop-bin.bin s.counts (omega (arith, same, c.loop-bin-test.false, c.len-bin-end.ensures, c.loop-bin.auto.bin-end)) in
-    c.record_inside-in-Some.ensures ∙ ap (λ x. recorded greatest c.loop-bin.self x 0) c.class_value-in-Some.ensures
-    ∙ ap (λ (h : Plain). recorded greatest h (value_of (grain s) i) 0) (c.loop-bin.invariant.made ∙ ap (λ ns. recorded_each greatest h (classes_from (grain s) 0 ns)) all)
+    c.record_inside-in-Some.ensures ∙ ap (λ x. after_record greatest c.loop-bin.self x 0) c.class_value-in-Some.ensures
+    ∙ ap (λ (h : Plain). after_record greatest h (value_of (grain s) i) 0) (c.loop-bin.invariant.made ∙ ap (λ ns. after_records greatest h (classes_from (grain s) 0 ns)) all)
     ∙ classes-end greatest h (grain s) s.counts s.top_mark i (sym (ap (λ (p : Plain). p.top_mark) c.source.view_is) ∙ sym c.top.ensures ∙ c.in-Some.is)

@@ -1,9 +1,9 @@
 use Rattle.std.proofs.Common.{◌≡◌, ◌∙◌, ap, arith}
 use Rattle.hdr_base.specs.Classes.{Grain, bin_of}
-use Rattle.hdr_core.specs.Plain.{Plain, grain}
-use Rattle.hdr_core.specs.Recording.{added}
-use Rattle.hdr_core.proofs.Kept.{room-in}
-use Rattle.hdr_core.proofs.Merged.{recorded-inside}
+use Rattle.hdr_model.specs.Plain.{Plain, grain}
+use Rattle.hdr_model.specs.Recording.{after_add_to_bin}
+use Rattle.hdr_model.proofs.PlainKept.{room-in}
+use Rattle.hdr_model.proofs.MergingKeeps.{recorded-inside}
 use Rattle.hdr_core.proofs.histogram.Histogram.record_inside.Goals as goal
 
 pub add_to_bin-requires : goal.add_to_bin-requires
@@ -21,5 +21,5 @@ returns g c =
     let v = c.args.value in
     let same : c.self.inside.scale ≡ grain h = c.self.invariant.scale ∙ ap (λ (p : Plain). grain p) c.self.view_is in
     let bin : c.bin-bin.result ≡ bin_of (grain h) v = c.bin-bin.ensures.value ∙ ap (λ (s : Grain). bin_of s v) same in
-    c.add_to_bin.ensures ∙ ap (λ b. added greatest h b c.args.number) bin
+    c.add_to_bin.ensures ∙ ap (λ b. after_add_to_bin greatest h b c.args.number) bin
     ∙ recorded-inside greatest h v c.args.number c.requires

@@ -1,14 +1,14 @@
 use Rattle.std.proofs.Common.{◌≡◌, ◌∙◌, ◌+◌, ◌++◌, ◌∷◌, [], length, replicate, ap, sym, subst, arith, append_assoc, append-nil}
 use Rattle.hdr_base.specs.Classes.{Grain}
-use Rattle.hdr_core.specs.Plain.{Plain, grain}
-use Rattle.hdr_core.specs.Recording.{recorded, recorded_each, spread}
-use Rattle.hdr_core.specs.Samples.{StandsFor, Fits}
-use Rattle.hdr_core.specs.Missing.{missing, down_to, each, corrected, classes_held}
-use Rattle.hdr_core.proofs.Kept.{grain-recorded}
-use Rattle.hdr_core.proofs.Missing.{missing-down, missing-none}
-use Rattle.hdr_core.proofs.ClassesHeld.{held-none, held-le}
-use Rattle.hdr_core.proofs.Spread.{Fits-front}
-use Rattle.hdr_core.proofs.ByClass.{recorded-holds, high-corrected}
+use Rattle.hdr_model.specs.Plain.{Plain, grain}
+use Rattle.hdr_model.specs.Recording.{after_record, after_records, samples_of}
+use Rattle.hdr_model.specs.Samples.{StandsFor, Fits}
+use Rattle.hdr_model.specs.Correction.{missing, down_to, each_times, after_correct, classes_held}
+use Rattle.hdr_model.proofs.PlainKept.{grain-recorded}
+use Rattle.hdr_model.proofs.CorrectionFacts.{missing-down, missing-none}
+use Rattle.hdr_model.proofs.CorrectionClasses.{held-none, held-le}
+use Rattle.hdr_model.proofs.MergingStands.{Fits-front}
+use Rattle.hdr_model.proofs.CorrectionByClass.{recorded-holds, high-corrected}
 use Rattle.hdr_core.proofs.histogram.Histogram.record_n_correct_counted.Goals as goal
 
 pub add_missing-requires-clause-within : goal.add_missing-requires-clause-within
@@ -16,7 +16,7 @@ add_missing-requires-clause-within g c =
     rw (c.in_ok-record_n.ensures.ok) (omega (arith, c.saturating_sub.ensures, recorded-holds g.T.Counter.greatest c.args.self.now c.args.value (g.T.Counter.number c.args.count)))
 
 pub returns-then-interval-gt0-clause-ok : goal.returns-then-interval-gt0-clause-ok
-unfolding corrected
+unfolding after_correct
 returns-then-interval-gt0-clause-ok g c =
     let greatest = g.T.Counter.greatest in
     let n = g.T.Counter.number c.args.count in
@@ -24,9 +24,9 @@ returns-then-interval-gt0-clause-ok g c =
     let i = c.args.interval in
     let list : down_to c.saturating_sub.result i ≡ missing v i = ap (λ x. down_to x i) c.saturating_sub.ensures ∙ sym (missing-down v i (omega arith)) in
     c.add_missing.ensures.state
-    ∙ ap (λ (h : Plain). recorded_each greatest h (each c.as_u64.result (down_to c.saturating_sub.result i))) c.in_ok-record_n.ensures.ok
-    ∙ ap (λ k. recorded_each greatest (recorded greatest c.args.self.now v n) (each k (down_to c.saturating_sub.result i))) c.as_u64.ensures.value
-    ∙ ap (λ xs. recorded_each greatest (recorded greatest c.args.self.now v n) (each n xs)) list
+    ∙ ap (λ (h : Plain). after_records greatest h (each_times c.as_u64.result (down_to c.saturating_sub.result i))) c.in_ok-record_n.ensures.ok
+    ∙ ap (λ k. after_records greatest (after_record greatest c.args.self.now v n) (each_times k (down_to c.saturating_sub.result i))) c.as_u64.ensures.value
+    ∙ ap (λ xs. after_records greatest (after_record greatest c.args.self.now v n) (each_times n xs)) list
 
 pub returns-then-interval-gt0-clause-ticks : goal.returns-then-interval-gt0-clause-ticks
 returns-then-interval-gt0-clause-ticks g c =
@@ -52,26 +52,26 @@ returns-then-interval-gt0-clause-samples g c = λ S stands fits.
     let v = c.args.value in
     let i = c.args.interval in
     let list : down_to c.saturating_sub.result i ≡ missing v i = ap (λ x. down_to x i) c.saturating_sub.ensures ∙ sym (missing-down v i (omega arith)) in
-    let joined : S ++ spread (each n (v ∷ missing v i)) ≡ (S ++ replicate n v) ++ spread (each c.as_u64.result (down_to c.saturating_sub.result i)) =
-    sym (append_assoc S (replicate n v) (spread (each n (missing v i)))) ∙ ap (λ xs. (S ++ replicate n v) ++ spread (each n xs)) (sym list)
-    ∙ ap (λ k. (S ++ replicate n v) ++ spread (each k (down_to c.saturating_sub.result i))) (sym c.as_u64.ensures.value) in
+    let joined : S ++ samples_of (each_times n (v ∷ missing v i)) ≡ (S ++ replicate n v) ++ samples_of (each_times c.as_u64.result (down_to c.saturating_sub.result i)) =
+    sym (append_assoc S (replicate n v) (samples_of (each_times n (missing v i)))) ∙ ap (λ xs. (S ++ replicate n v) ++ samples_of (each_times n xs)) (sym list)
+    ∙ ap (λ k. (S ++ replicate n v) ++ samples_of (each_times k (down_to c.saturating_sub.result i))) (sym c.as_u64.ensures.value) in
     let all = subst (λ xs. Fits greatest (grain c.args.self.now) xs) joined fits in
     let first = c.in_ok-record_n.ensures.samples S stands (Fits-front greatest (grain c.args.self.now) (S ++ replicate n v) _ all) in
     let same : grain c.record_n.new.self ≡ grain c.args.self.now = ap (λ (h : Plain). grain h) c.in_ok-record_n.ensures.ok ∙ grain-recorded greatest c.args.self.now v n in
     subst (λ xs. StandsFor c.add_missing.new.self xs) (sym joined)
-    (c.add_missing.ensures.samples (S ++ replicate n v) first (subst (λ (k : Grain). Fits greatest k ((S ++ replicate n v) ++ spread (each c.as_u64.result (down_to c.saturating_sub.result i)))) (sym same) all))
+    (c.add_missing.ensures.samples (S ++ replicate n v) first (subst (λ (k : Grain). Fits greatest k ((S ++ replicate n v) ++ samples_of (each_times c.as_u64.result (down_to c.saturating_sub.result i)))) (sym same) all))
 
 pub returns-then-interval-gt0-clause-high : goal.returns-then-interval-gt0-clause-high
 returns-then-interval-gt0-clause-high g c =
     ap (λ (p : Plain). p.high) (returns-then-interval-gt0-clause-ok g c) ∙ high-corrected g.T.Counter.greatest c.args.self.now c.args.value (g.T.Counter.number c.args.count) c.args.interval
 
 pub returns-else-interval-gt0-clause-ok : goal.returns-else-interval-gt0-clause-ok
-unfolding corrected
+unfolding after_correct
 returns-else-interval-gt0-clause-ok g c =
     let n = g.T.Counter.number c.args.count in
     let none : missing c.args.value c.args.interval ≡ [] = ap (λ i. missing c.args.value i) (let e : c.args.interval ≡ 0 = omega arith in e) ∙ missing-none c.args.value in
     c.in_ok-record_n.ensures.ok
-    ∙ ap (λ xs. recorded_each g.T.Counter.greatest (recorded g.T.Counter.greatest c.args.self.now c.args.value n) (each n xs)) (sym none)
+    ∙ ap (λ xs. after_records g.T.Counter.greatest (after_record g.T.Counter.greatest c.args.self.now c.args.value n) (each_times n xs)) (sym none)
 
 pub returns-else-interval-gt0-clause-ticks : goal.returns-else-interval-gt0-clause-ticks
 returns-else-interval-gt0-clause-ticks g c =
@@ -86,7 +86,7 @@ returns-else-interval-gt0-clause-samples g c = λ S stands fits.
     let n = g.T.Counter.number c.args.count in
     let v = c.args.value in
     let none : missing v c.args.interval ≡ [] = ap (λ i. missing v i) (let e : c.args.interval ≡ 0 = omega arith in e) ∙ missing-none v in
-    let list : S ++ spread (each n (v ∷ missing v c.args.interval)) ≡ S ++ replicate n v =
-    ap (λ xs. S ++ (replicate n v ++ spread (each n xs))) none ∙ ap (λ xs. S ++ xs) (append-nil (replicate n v)) in
+    let list : S ++ samples_of (each_times n (v ∷ missing v c.args.interval)) ≡ S ++ replicate n v =
+    ap (λ xs. S ++ (replicate n v ++ samples_of (each_times n xs))) none ∙ ap (λ xs. S ++ xs) (append-nil (replicate n v)) in
     subst (λ xs. StandsFor c.record_n.new.self xs) (sym list)
     (c.in_ok-record_n.ensures.samples S stands (subst (λ xs. Fits g.T.Counter.greatest (grain c.args.self.now) xs) list fits))

@@ -1,5 +1,5 @@
 use Rattle.std.proofs.Common.{◌∙◌}
-use Rattle.hdr_core.proofs.Cleared.{restarted-parts, IsPlain-unmarked}
+use Rattle.hdr_model.proofs.RecordingClears.{restarted-parts, IsPlain-unmarked}
 use Rattle.hdr_core.proofs.histogram.Histogram.reset.Goals as goal
 
 pub invariant_of-self : goal.invariant_of-self

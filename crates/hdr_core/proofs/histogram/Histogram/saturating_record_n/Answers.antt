@@ -1,11 +1,11 @@
 use Rattle.std.proofs.Common.{◌≡◌, ◌∙◌, ap, arith}
 use Rattle.hdr_base.specs.Classes.{Grain, bin_of}
-use Rattle.hdr_core.specs.Plain.{Plain, grain}
-use Rattle.hdr_core.specs.Recording.{clamped, added, recorded}
-use Rattle.hdr_core.proofs.Kept.{room-in}
-use Rattle.hdr_core.proofs.Cleared.{clamped-small}
-use Rattle.hdr_core.proofs.Merged.{recorded-inside}
-use Rattle.hdr_core.proofs.Stands.{StandsFor-recorded}
+use Rattle.hdr_model.specs.Plain.{Plain, grain}
+use Rattle.hdr_model.specs.Recording.{clamp_to_bins, after_add_to_bin, after_record}
+use Rattle.hdr_model.proofs.PlainKept.{room-in}
+use Rattle.hdr_model.proofs.RecordingClears.{clamped-small}
+use Rattle.hdr_model.proofs.MergingKeeps.{recorded-inside}
+use Rattle.hdr_model.proofs.RecordingStands.{StandsFor-recorded}
 use Rattle.hdr_core.proofs.histogram.Histogram.saturating_record_n.Goals as goal
 
 pub add_to_bin-requires : goal.add_to_bin-requires
@@ -24,12 +24,12 @@ returns-clause-state g c =
     let v = c.clamped-value.result in
     let same : c.self.inside.scale ≡ grain h = c.self.invariant.scale ∙ ap (λ (p : Plain). grain p) c.self.view_is in
     let bin : c.bin-bin.result ≡ bin_of (grain h) v = c.bin-bin.ensures.value ∙ ap (λ (s : Grain). bin_of s v) same in
-    c.add_to_bin.ensures ∙ ap (λ b. added greatest h b c.as_u64.result) bin ∙ ap (λ k. added greatest h (bin_of (grain h) v) k) c.as_u64.ensures.value
-    ∙ recorded-inside greatest h v n c.clamped-value.ensures.within ∙ ap (λ x. recorded greatest h x n) c.clamped-value.ensures.value
+    c.add_to_bin.ensures ∙ ap (λ b. after_add_to_bin greatest h b c.as_u64.result) bin ∙ ap (λ k. after_add_to_bin greatest h (bin_of (grain h) v) k) c.as_u64.ensures.value
+    ∙ recorded-inside greatest h v n c.clamped-value.ensures.within ∙ ap (λ x. after_record greatest h x n) c.clamped-value.ensures.value
 
 pub returns-clause-samples : goal.returns-clause-samples
 returns-clause-samples g c = λ S stands fits.
     let h = c.args.self.now in
     let plain = rw c.self.view_is at c.self.invariant.plain in
     rw (returns-clause-state g c)
-    (StandsFor-recorded g.T.Counter.greatest h (clamped h c.args.value) (g.T.Counter.number c.args.count) S (clamped-small g.T.Counter.greatest h c.args.value (omega arith) plain) plain stands fits)
+    (StandsFor-recorded g.T.Counter.greatest h (clamp_to_bins h c.args.value) (g.T.Counter.number c.args.count) S (clamped-small g.T.Counter.greatest h c.args.value (omega arith) plain) plain stands fits)

@@ -1,8 +1,8 @@
 use Rattle.std.proofs.Common.{◌≡◌, ◌∙◌, ap}
 use Rattle.hdr_base.specs.Fractions.{Ratio}
-use Rattle.hdr_core.specs.Plain.{Plain, grain}
-use Rattle.hdr_core.specs.Ranks.{rank, first_reaching, answer_at, quantile_of}
-use Rattle.hdr_core.proofs.Firsts.{quantile-ranked}
+use Rattle.hdr_model.specs.Plain.{Plain, grain}
+use Rattle.hdr_model.specs.Quantiles.{rank, first_reaching, answer_at, quantile_of}
+use Rattle.hdr_model.proofs.QuantilesFirst.{quantile-ranked}
 use Rattle.hdr_core.proofs.histogram.Histogram.value_at_quantile.Goals as goal
 
 pub returns-clause-value : goal.returns-clause-value

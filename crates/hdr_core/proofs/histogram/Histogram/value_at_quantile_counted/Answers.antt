@@ -1,14 +1,14 @@
 use Rattle.std.proofs.Common.{◌≡◌, ◌∙◌, ◌*◌, ◌+◌, ◌-◌, length, ap, arith}
 use Rattle.hdr_counts.specs.Blocks.{looks}
 use Rattle.hdr_base.specs.Fractions.{Ratio}
-use Rattle.hdr_core.specs.Plain.{Plain, grain, block_of}
-use Rattle.hdr_core.specs.Ranks.{rank, first_reaching, answer_at, quantile_of}
-use Rattle.hdr_core.proofs.Firsts.{quantile-ranked}
+use Rattle.hdr_model.specs.Plain.{Plain, grain, block_of}
+use Rattle.hdr_model.specs.Quantiles.{rank, first_reaching, answer_at, quantile_of}
+use Rattle.hdr_model.proofs.QuantilesFirst.{quantile-ranked}
 use Rattle.std.proofs.lemmas.Nat.{pow_pos}
 use Rattle.hdr_base.specs.Classes.{bucket}
 use Rattle.hdr_base.proofs.Reach.{bins-blocks}
-use Rattle.hdr_core.proofs.Kept.{grain-digits}
-use Rattle.hdr_core.proofs.RankedAnswers.{looks-most}
+use Rattle.hdr_model.proofs.PlainKept.{grain-digits}
+use Rattle.hdr_model.proofs.QuantilesAnswers.{looks-most}
 use Rattle.hdr_core.proofs.histogram.Histogram.value_at_quantile_counted.Goals as goal
 
 pub returns-clause-value : goal.returns-clause-value

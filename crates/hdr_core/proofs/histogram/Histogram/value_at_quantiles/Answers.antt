@@ -1,7 +1,7 @@
 use Rattle.std.proofs.Common.{List, ap, ◌∙◌, subst}
 use Rattle.hdr_base.specs.Fractions.{Ratio}
-use Rattle.hdr_core.specs.Ranks.{nothing_of_it, asked_from, quantiles_of, AreTopsNear}
-use Rattle.hdr_core.proofs.Rising.{per-one}
+use Rattle.hdr_model.specs.Quantiles.{nothing_of_it, asked_from, quantiles_of, AreTopsNear}
+use Rattle.hdr_model.proofs.QuantilesAscend.{per-one}
 use Rattle.hdr_core.proofs.histogram.Histogram.value_at_quantiles.Goals as goal
 
 pub returns-clause-value : goal.returns-clause-value

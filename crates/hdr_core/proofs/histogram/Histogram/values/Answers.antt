@@ -1,9 +1,9 @@
 use Rattle.std.proofs.Common.{map, ap, ◌∙◌, subst, sym, arith}
 use Rattle.hdr_counts.specs.Blocks.{Searched}
-use Rattle.hdr_core.specs.Plain.{Plain}
-use Rattle.hdr_core.proofs.RankedAnswers.{rank-pos}
-use Rattle.hdr_core.specs.Ranks.{per, nothing_of_it, asked_from, AreTopsNear}
-use Rattle.hdr_core.proofs.Rising.{answers-first, answers-near}
+use Rattle.hdr_model.specs.Plain.{Plain}
+use Rattle.hdr_model.proofs.QuantilesAnswers.{rank-pos}
+use Rattle.hdr_model.specs.Quantiles.{per, nothing_of_it, asked_from, AreTopsNear}
+use Rattle.hdr_model.proofs.QuantilesAscend.{answers-first, answers-near}
 use Rattle.hdr_core.proofs.histogram.Histogram.values.Goals as goal
 
 pub returns-clause-value : goal.returns-clause-value

@@ -2,18 +2,18 @@ use Rattle.std.proofs.Common.{◌≡◌, ◌+◌, ◌*◌, ◌<◌, length, get_
 use Rattle.std.proofs.lemmas.List.{length-map}
 use Rattle.hdr_base.specs.Classes.{Grain, value_of}
 use Rattle.hdr_counts.proofs.BlockSums.{number-at, sum_below_more, sum_below-le-sum}
-use Rattle.hdr_core.specs.Plain.{Plain, grain}
-use Rattle.hdr_core.specs.Shown.{shown}
-use Rattle.hdr_core.specs.Statistics.{median_of}
-use Rattle.hdr_core.proofs.Binned.{AreBins-binned}
-use Rattle.hdr_core.proofs.Means.{weighed-more}
+use Rattle.hdr_model.specs.Plain.{Plain, grain}
+use Rattle.hdr_core.specs.Shown.{plain_of}
+use Rattle.hdr_model.specs.Statistics.{median_of}
+use Rattle.hdr_core.proofs.IteratingFacts.{AreBins-binned}
+use Rattle.hdr_model.proofs.StatisticsMeans.{weighed-more}
 use Rattle.hdr_core.proofs.histogram.Histogram.weighed.Goals as goal
 
 pub weight-sum-requires : goal.weight-sum-requires
 weight-sum-requires g c =
     let n = g.T.Counter.number in
     let xs = c.as_slice-counter-items.result.now in
-    let h = shown c.self.inside in
+    let h = plain_of c.self.inside in
     let at : c.loop-bin.bin < length h.counts = omega (arith, c.loop-bin-test.true, length-map xs n, ap length c.as_slice-counter-items.ensures) in
     rw c.self.invariant.scale (omega (arith, at, (AreBins-binned g.T.Counter.greatest h c.self.invariant.plain).within))
 
@@ -21,7 +21,7 @@ pub overflow_add-sum : goal.overflow_add-sum
 overflow_add-sum g c =
     let n = g.T.Counter.number in
     let xs = c.as_slice-counter-items.result.now in
-    let h = shown c.self.inside in
+    let h = plain_of c.self.inside in
     let p = c.self.invariant.plain in
     let i = c.loop-bin.bin in
     let at : i < length h.counts = omega (arith, c.loop-bin-test.true, length-map xs n, ap length c.as_slice-counter-items.ensures) in
@@ -33,7 +33,7 @@ pub loop-bin-preserved : goal.loop-bin-preserved
 loop-bin-preserved g c =
     let n = g.T.Counter.number in
     let xs = c.as_slice-counter-items.result.now in
-    let h = shown c.self.inside in
+    let h = plain_of c.self.inside in
     let i = c.loop-bin.bin in
     let at : i < length h.counts = omega (arith, c.loop-bin-test.true, length-map xs n, ap length c.as_slice-counter-items.ensures) in
     let number : c.as_u64.result ≡ get_or h.counts i 0 = c.as_u64.ensures.value ∙ number-at n xs i c.counter-item.result c.loop-bin-test.true c.counter-item.is ∙ ap (λ l. get_or l i 0) c.as_slice-counter-items.ensures in

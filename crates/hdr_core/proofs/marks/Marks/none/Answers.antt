@@ -1,5 +1,5 @@
 use Rattle.std.proofs.Common.{refl}
-use Rattle.hdr_core.specs.Marked.{top_by, lower_by}
+use Rattle.hdr_model.specs.Marks.{top_by, lower_by}
 use Rattle.hdr_core.proofs.marks.Marks.none.Goals as goal
 
 pub returns : goal.returns

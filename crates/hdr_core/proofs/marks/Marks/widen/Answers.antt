@@ -1,5 +1,5 @@
 use Rattle.std.proofs.Common.{◌∙◌, arith, sym}
-use Rattle.hdr_core.proofs.WidenedMarks.{widened}
+use Rattle.hdr_model.proofs.MarksWidened.{widened}
 use Rattle.hdr_core.proofs.marks.Marks.widen.Goals as goal
 
 pub returns-else-class-self : goal.returns-else-class-self

@@ -1,7 +1,6 @@
 use Rattle.std.proofs.Common.{◌≡◌, ◌∙◌, Option, ℕ, ap, arith}
-use Rattle.hdr_core.specs.Marked.{Marked, top_by, lower_by}
-use Rattle.hdr_core.specs.Merging.{later_of, earlier_of}
-use Rattle.hdr_core.proofs.WidenedMarks.{top-later_of, lower-earlier_of}
+use Rattle.hdr_model.specs.Marks.{MarkPair, top_by, lower_by, later_of, earlier_of}
+use Rattle.hdr_model.proofs.MarksWidened.{top-later_of, lower-earlier_of}
 use Rattle.hdr_core.proofs.marks.Marks.widen_by.Goals as goal
 
 pub returns : goal.returns
@@ -13,5 +12,5 @@ returns c =
     lower-earlier_of m.before n.before c.min-self-inside.result (omega (arith, c.self.invariant)) (omega (arith, c.other.invariant)) c.min-self-inside.ensures in
     ap (λ (o : Option ℕ). record { top = o; lower = lower_by c.min-self-inside.result }) top
     ∙ ap (λ (o : Option ℕ). record { top = later_of (top_by m.classes) (top_by n.classes); lower = o }) lower
-    ∙ ap (λ (v : Marked). record { top = later_of v.top (top_by n.classes); lower = earlier_of v.lower (lower_by n.before) }) c.self.view_is
-    ∙ ap (λ (v : Marked). record { top = later_of c.args.self.now.top v.top; lower = earlier_of c.args.self.now.lower v.lower }) c.other.view_is
+    ∙ ap (λ (v : MarkPair). record { top = later_of v.top (top_by n.classes); lower = earlier_of v.lower (lower_by n.before) }) c.self.view_is
+    ∙ ap (λ (v : MarkPair). record { top = later_of c.args.self.now.top v.top; lower = earlier_of c.args.self.now.lower v.lower }) c.other.view_is

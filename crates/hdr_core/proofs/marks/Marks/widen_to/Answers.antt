@@ -1,5 +1,5 @@
 use Rattle.std.proofs.Common.{◌+◌, arith}
-use Rattle.hdr_core.proofs.WidenedMarks.{widened}
+use Rattle.hdr_model.proofs.MarksWidened.{widened}
 use Rattle.hdr_core.proofs.marks.Marks.widen_to.Goals as goal
 use Rattle.hdr_core.proofs.marks.Marks.widen_to.Goals.{then-self-class, else-self-class}
 

@@ -1,6 +1,6 @@
 use Rattle.std.proofs.Common.{◌≡◌, ◌+◌, ◌-◌, ◌^◌, ◌<◌, [], min, sym, ap, ◌∙◌, arith}
 use Rattle.hdr_iterators.specs.Seen.{bins_in}
-use Rattle.hdr_iterators.specs.Picks.{NoneBefore, behind, items_from}
+use Rattle.hdr_iterators.specs.Picks.{NoneBefore, bin_after, items_from}
 use Rattle.hdr_iterators.proofs.Steps.{NoneBefore-end, InStep-passed}
 use Rattle.hdr_iterators.proofs.picking.HistogramIteratorIterator.next.Goals as goal
 
@@ -32,7 +32,7 @@ returns-then-next-len-clause-steps g c =
     let none : NoneBefore c.next_asked-next.result (P.picks c.pick-picked.new.self h) = c.next_asked-next.ensures.unasked s.last_picked_index told.0 (rw told.1 told.2) in
     let e : c.next_asked-next.result ≡ bins_in h = c.if-next-len.true ∙ inv.6 in
     let empty : P.picks s.picker h ≡ [] = NoneBefore-end (bins_in h) (P.picks s.picker h) (rw (e, same) at none) inv.1.within in
-    (sym c.self.view_is ∙ ap (items_from c.self.inside.bins (behind c.self.inside.last_picked_index)) (sym inv.3 ∙ empty), ap (items_from h (behind s.last_picked_index)) (same ∙ empty))
+    (sym c.self.view_is ∙ ap (items_from c.self.inside.bins (bin_after c.self.inside.last_picked_index)) (sym inv.3 ∙ empty), ap (items_from h (bin_after s.last_picked_index)) (same ∙ empty))
 
 pub loop-self-preserved : goal.loop-self-preserved
 loop-self-preserved g c =

@@ -1,5 +1,5 @@
 use Rattle.std.proofs.Common.{sym, refl, ap, ◌∙◌, arith}
-use Rattle.hdr_iterators.specs.Picks.{behind}
+use Rattle.hdr_iterators.specs.Picks.{bin_after}
 use Rattle.hdr_iterators.proofs.BinLists.{recorded_next, recorded_past, recorded_empty}
 use Rattle.hdr_iterators.proofs.recorded.IterPickyIterator.pick.Goals as goal
 use Rattle.hdr_iterators.proofs.recorded.IterPickyIterator.pick.Goals.{then-as_u64-eq0-via-then-as_u64-eq0, then-as_u64-eq0-via-else-as_u64-eq0+then-eq}
@@ -12,4 +12,4 @@ returns-then-as_u64-eq0 g c = λ h last e asked ahead.
     ]
 
 pub returns : goal.returns
-returns g c = λ h last e asked ahead. ((e.0, refl), rw c.new.ensures (recorded_next h c.args.self.now.visited c.args.index asked.inside (omega (arith, asked.in_order, ap behind e.1)) (omega (arith, asked.count_is, c.if-as_u64-eq0.false, c.as_u64.ensures.value)) (sym c.eq.ensures ∙ c.if-eq.false) ahead))
+returns g c = λ h last e asked ahead. ((e.0, refl), rw c.new.ensures (recorded_next h c.args.self.now.visited c.args.index asked.inside (omega (arith, asked.in_order, ap bin_after e.1)) (omega (arith, asked.count_is, c.if-as_u64-eq0.false, c.as_u64.ensures.value)) (sym c.eq.ensures ∙ c.if-eq.false) ahead))

@@ -2,7 +2,7 @@ use Rattle.std.proofs.Common.{rules, ◌≡◌, ℕ, ◌+◌, ◌<◌, length, a
 use Rattle.std.proofs.lemmas.Bool.{eqb-true}
 use Rattle.hdr_log.specs.Parts.{parts}
 use Rattle.hdr_log.specs.Grammar.{readings}
-use Rattle.hdr_log.specs.Reading.{entry_seen}
+use Rattle.hdr_log.specs.Reading.{view_of_entry}
 use Rattle.hdr_log.proofs.Steps.{gives_entry, gives_next, gives_error, gives_end, gives_last_error}
 use Rattle.hdr_log.proofs.iterator.IntervalLogIteratorIterator.next.Goals as goal
 
@@ -14,7 +14,7 @@ returns-in-Some-entry-clause-steps c = gives_entry c.loop-line.self-inside.offse
 
 pub returns-in-Some-entry-clause-goes : goal.returns-in-Some-entry-clause-goes
 returns-in-Some-entry-clause-goes c =
-    let step : c.args.self.now ≡ Ok (entry_seen c.in-Some-entry.entry) ∷ readings (c.loop-line.self-inside.offset + length c.in-Some.line.now + 1) (parts 10 c.in-Some.rest.now) = gives_entry c.loop-line.self-inside.offset c.loop-line.self-inside.input.now c.in-Some.line.now c.in-Some.rest.now _ c.args.self.now c.loop-line.invariant.same c.in-Some.ensures.parts c.in-Some-entry.ensures in
+    let step : c.args.self.now ≡ Ok (view_of_entry c.in-Some-entry.entry) ∷ readings (c.loop-line.self-inside.offset + length c.in-Some.line.now + 1) (parts 10 c.in-Some.rest.now) = gives_entry c.loop-line.self-inside.offset c.loop-line.self-inside.input.now c.in-Some.line.now c.in-Some.rest.now _ c.args.self.now c.loop-line.invariant.same c.in-Some.ensures.parts c.in-Some-entry.ensures in
     let shorter = ap length step in search rules
 
 pub returns-then-not-is_skipped-clause-steps : goal.returns-then-not-is_skipped-clause-steps

@@ -1,5 +1,5 @@
 use Rattle.hdrhistogram.specs.HeaderView.{header_of}
-use Rattle.hdrhistogram.specs.Faults.{named}
+use Rattle.hdrhistogram.specs.Faults.{fault_of_error}
 use Rattle.hdrhistogram.proofs.V2Reading.{bounds-yes, bounds-refused, fault-none, is-made}
 use Rattle.hdrhistogram.proofs.serialization.deserializer.empty_for.Goals as goal
 
@@ -19,4 +19,4 @@ pub returns-in-Ok-clause-bins : goal.returns-in-Ok-clause-bins
 returns-in-Ok-clause-bins g c = (is-made c.in-Ok.filling c.args.header.low c.args.header.high c.args.header.sigfig c.in-Ok.ensures.0).bins
 
 pub returns-in-Err-clause-bounds : goal.returns-in-Err-clause-bounds
-returns-in-Err-clause-bounds g c = bounds-refused (header_of c.args.header) c.in-Err.error (named c.refused.result) c.in-Err.ensures c.refused.ensures
+returns-in-Err-clause-bounds g c = bounds-refused (header_of c.args.header) c.in-Err.error (fault_of_error c.refused.result) c.in-Err.ensures c.refused.ensures

@@ -3,9 +3,9 @@ use Rattle.std.proofs.lemmas.List.{take_rest}
 use Rattle.std.proofs.lemmas.Int.{to_z-of_z}
 use Rattle.std.proofs.lemmas.Result.{err_from_is_err_and}
 use mir.Val.{SFits}
-use Rattle.hdrhistogram.specs.Faults.{named, FailsBy}
+use Rattle.hdrhistogram.specs.Faults.{fault_of_error, FailsBy}
 use Rattle.hdrhistogram.specs.PayloadRead.{IsCut, IsCountPut, IsPairPut, counts_in}
-use Rattle.hdr_core.specs.Filling.{Open}
+use Rattle.hdr_model.specs.Filling.{Open}
 use Rattle.hdrhistogram.proofs.Spellings.{some_byte}
 use Rattle.hdrhistogram.proofs.Restated.{set-again}
 use Rattle.hdrhistogram.proofs.Filling.{IsFilledTo, fill_start, fill_short, fill_pair, fill_next, fill_faulty, fill_end, fill_cut, fails_so, gives_fails}
@@ -34,7 +34,7 @@ returns-in_err-place-clause-counts g c =
     let fits : SFits w64 z = search rules in
     let q = err_from_is_err_and c.from_residual.result c.from_residual.ensures.1 in
     gives_fails _ c.from_residual.result q.0 c.in_err-place.field-0.0 (counts_in bins g.T.Counter.greatest p) q.1 q.2
-    (fails_so (named c.in_err-place.field-0.0) _ (counts_in bins g.T.Counter.greatest p) c.in_err-place.ensures.fault (λ f e.
+    (fails_so (fault_of_error c.in_err-place.field-0.0) _ (counts_in bins g.T.Counter.greatest p) c.in_err-place.ensures.fault (λ f e.
     fill_faulty bins g.T.Counter.greatest p c.put_short.new.filling.counts _ at c.loop-at.place c.in-Some-varint_at.len c.in-Some-varint_at.encoded _ f d
     (omega (arith, c.in-Some-varint_at.ensures.within, length-take (length p - at) (drop at p))) (ap (take c.in-Some-varint_at.len) (take_rest p at)) c.in-Some-varint_at.ensures.found
     (to_z-of_z w64 z fits ∙ c.zig_zag_decode.ensures) e))

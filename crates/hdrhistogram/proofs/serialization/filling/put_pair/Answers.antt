@@ -1,6 +1,6 @@
 use Rattle.std.proofs.Common.{◌+◌, drop, set, ap, refl, length-drop, arith}
 use Rattle.std.proofs.lemmas.List.{length-set, get_or-drop}
-use Rattle.hdr_core.specs.Filling.{Open}
+use Rattle.hdr_model.specs.Filling.{Open}
 use Rattle.hdrhistogram.proofs.Filling.{two-put}
 use Rattle.hdrhistogram.proofs.serialization.filling.put_pair.Goals as goal
 

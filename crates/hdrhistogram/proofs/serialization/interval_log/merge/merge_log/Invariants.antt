@@ -1,7 +1,7 @@
 use Rattle.std.proofs.Common.{◌+◌, ◌≤◌, length, Result}
-use Rattle.hdrhistogram.specs.Chosen.{filter_seen}
+use Rattle.hdrhistogram.specs.Chosen.{view_of_filter}
 use Rattle.hdrhistogram.specs.LogMerging.{Merging, EntriesMerge, Merges}
-use Rattle.hdrhistogram.specs.MergeView.{merging_seen}
+use Rattle.hdrhistogram.specs.MergeView.{view_of_merging}
 use Rattle.hdrhistogram.specs.declared.serialization.interval_log.merge.MergeError.{MergeError}
 use Rattle.hdrhistogram.proofs.serialization.interval_log.merge.merge_log.Given as goal
 
@@ -10,5 +10,5 @@ abbrev pub invariant-loop-entry : goal.invariant-loop-entry
 invariant-loop-entry g l = record {
   few : l.merging.intervals + length l.entry-iterator ≤ length l.fn.log + 1;
   chosen : l.merging.chosen ≤ l.merging.intervals;
-  ending : (r : Result Merging MergeError) → EntriesMerge g.T.Counter.greatest (filter_seen l.fn.filter) l.entry-iterator (merging_seen l.merging) r → Merges g.T.Counter.greatest (filter_seen l.fn.filter) l.fn.sigfig l.fn.log r;
+  ending : (r : Result Merging MergeError) → EntriesMerge g.T.Counter.greatest (view_of_filter l.fn.filter) l.entry-iterator (view_of_merging l.merging) r → Merges g.T.Counter.greatest (view_of_filter l.fn.filter) l.fn.sigfig l.fn.log r;
 }

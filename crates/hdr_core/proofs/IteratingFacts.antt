@@ -1,0 +1,45 @@
+-- The bins of a histogram are such that iterators can go over them.
+use Rattle.std.proofs.Common.{ℕ, List, length, ◌+◌, ◌*◌, ◌≤◌, ◌-◌, ◌^◌, ◌<◌, Option, Some, None, unwrap_or, arith}
+use Rattle.hdr_base.specs.Classes.{reach_of}
+use Rattle.hdr_base.proofs.ClassLaws.{bin-mono}
+use Rattle.hdr_base.proofs.Digits.{digits-pos-of}
+use Rattle.hdr_base.proofs.Reach.{bins_by, reach-fits}
+use Rattle.hdr_model.specs.Plain.{Plain, IsPlain, grain}
+use Rattle.hdr_model.specs.Marks.{IsAbove}
+use Rattle.hdr_core.specs.Iterating.{bins_seen}
+use Rattle.hdr_model.proofs.PlainBins.{few-bins, fits-of, mark-inside}
+use Rattle.hdr_counts.specs.Blocks.{AreSums}
+use Rattle.hdr_counts.proofs.BlockSums.{number-le-sum_below, sum_below-le, block_past}
+use Rattle.hdr_iterators.specs.Seen.{AreBins, TellEmpty}
+
+behind-mark : (mark : Option ℕ) (i : ℕ) → unwrap_or mark 0 < i → IsAbove mark i
+behind-mark None i lt = tt
+behind-mark (Some m) i lt = lt
+
+pub AreBins-binned : (greatest : ℕ) (h : Plain) → IsPlain greatest h → AreBins (bins_seen h)
+AreBins-binned greatest h p =
+    let g = grain h in
+    let digits : 0 < g.digits = digits-pos-of h.low h.sigfig in
+    let fits = fits-of h.low h.sigfig p.scale.fits in
+    let reached = reach-fits g h.high p.high_fits fits in
+    record {
+      some = omega (arith, p.bins, bins_by g h.high);
+      few = few-bins greatest h p;
+      digits = digits;
+      grain_fits = fits;
+      within = omega (arith, p.bins, bins_by g h.high, bin-mono g (reach_of g h.high) (2 ^ 64 - 1) digits (omega (arith, reached)));
+      total_fits = p.total_fits;
+      counted = p.total_covers;
+      last_inside = mark-inside greatest h p;
+      none_behind = λ i lt. p.none_above i (behind-mark h.top_mark i lt);
+    }
+
+-- the sums of the blocks tell which of them hold no sample
+pub TellEmpty-sums : (block : ℕ) (numbers sums : List ℕ) → AreSums block numbers sums → TellEmpty block numbers sums
+TellEmpty-sums block numbers sums s = record {
+  whole = s.whole;
+  none = λ k l z i from to.
+      let end : (k + 1) * block ≤ length sums * block = block_past block k (length sums) l in
+      let inside : i < length numbers = omega (arith, end, s.whole, to) in
+      omega (arith, s.each k l, z, number-le-sum_below numbers i ((k + 1) * block) to inside, sum_below-le numbers (k * block) i from);
+}

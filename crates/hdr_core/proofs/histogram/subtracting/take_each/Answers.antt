@@ -1,0 +1,103 @@
+use Rattle.std.proofs.Common.{◌≡◌, ◌∙◌, ◌+◌, ◌-◌, ◌<◌, ◌≤◌, ℕ, List, ap, subst, sym, refl, arith, length, get_or, set}
+use Rattle.std.specs.List.{All}
+use Rattle.std.proofs.lemmas.List.{length-set}
+use Rattle.std.proofs.lemmas.List.Elements.{All-set}
+use Rattle.hdr_base.specs.Classes.{bin_of}
+use Rattle.hdr_counts.specs.Blocks.{Blocks}
+use Rattle.hdr_model.specs.Plain.{Plain, grain}
+use Rattle.hdr_model.proofs.MergingHolds.{held, held-all, held-none, held-le, held-here, held-same, taken-next, place-in}
+use Rattle.hdr_core.proofs.histogram.subtracting.take_each.Goals as goal
+use Rattle.hdr_core.proofs.histogram.subtracting.take_each.Goals.{then-as_u64-gt0, else-as_u64-gt0}
+
+pub loop-bin-init : goal.loop-bin-init
+loop-bin-init g c = record {
+  block = refl;
+  bins = refl;
+  fit = c.requires.fit;
+  taken = λ j. omega (arith, held-none c.args.scale (grain c.args.other.now) c.args.other.now.counts j);
+}
+
+pub take_from-requires-clause-inside : goal.take_from-requires-clause-inside
+take_from-requires-clause-inside g c =
+    let f = grain c.args.other.now in
+    let k = c.args.scale in
+    let s = c.args.other.now in
+    let i = c.loop-bin.bin in
+    let was = c.args.counts.now.numbers in
+    let now = c.loop-bin.counts.numbers in
+    let inside : i < length s.counts = omega (arith, ap (λ (p : Plain). length p.counts) c.other.view_is, c.loop-bin-test.true, c.len-bin-end.ensures, c.loop-bin.auto.bin-end) in
+    let at : g.T.Counter.number c.get-count.result ≡ get_or s.counts i 0 = c.get-count.ensures ∙ ap (λ (p : Plain). get_or p.counts i 0) c.other.view_is in
+    let pos : 0 < get_or s.counts i 0 = omega (arith, at, c.as_u64.ensures.value, c.if-as_u64-gt0.true) in
+    let target = c.bin-target.result in
+    let step : held k f s.counts (i + 1) target ≡ held k f s.counts i target + get_or s.counts i 0 =
+    subst (λ b. held k f s.counts (i + 1) b ≡ held k f s.counts i b + get_or s.counts i 0) (sym (c.bin-target.ensures.value ∙ ap (λ v. bin_of k v) c.class_value.ensures)) (held-here k f s.counts i inside pos) in
+    let enough : get_or s.counts i 0 ≤ get_or now target 0 = omega (arith, step, held-le k f s.counts (i + 1) target, c.requires.enough target, c.loop-bin.invariant.taken target) in
+    let room : target < length now = place-in now target (omega (arith, enough, pos)) in
+    room
+
+pub take_from-requires-clause-enough : goal.take_from-requires-clause-enough
+take_from-requires-clause-enough g c =
+    let f = grain c.args.other.now in
+    let k = c.args.scale in
+    let s = c.args.other.now in
+    let i = c.loop-bin.bin in
+    let was = c.args.counts.now.numbers in
+    let now = c.loop-bin.counts.numbers in
+    let inside : i < length s.counts = omega (arith, ap (λ (p : Plain). length p.counts) c.other.view_is, c.loop-bin-test.true, c.len-bin-end.ensures, c.loop-bin.auto.bin-end) in
+    let at : g.T.Counter.number c.get-count.result ≡ get_or s.counts i 0 = c.get-count.ensures ∙ ap (λ (p : Plain). get_or p.counts i 0) c.other.view_is in
+    let pos : 0 < get_or s.counts i 0 = omega (arith, at, c.as_u64.ensures.value, c.if-as_u64-gt0.true) in
+    let target = c.bin-target.result in
+    let step : held k f s.counts (i + 1) target ≡ held k f s.counts i target + get_or s.counts i 0 =
+    subst (λ b. held k f s.counts (i + 1) b ≡ held k f s.counts i b + get_or s.counts i 0) (sym (c.bin-target.ensures.value ∙ ap (λ v. bin_of k v) c.class_value.ensures)) (held-here k f s.counts i inside pos) in
+    let enough : get_or s.counts i 0 ≤ get_or now target 0 = omega (arith, step, held-le k f s.counts (i + 1) target, c.requires.enough target, c.loop-bin.invariant.taken target) in
+    let room : target < length now = place-in now target (omega (arith, enough, pos)) in
+    omega (arith, at, enough)
+
+pub loop-bin-preserved : goal.loop-bin-preserved
+loop-bin-preserved g c =
+    let f = grain c.args.other.now in
+    let k = c.args.scale in
+    let s = c.args.other.now in
+    let i = c.loop-bin.bin in
+    let was = c.args.counts.now.numbers in
+    let now = c.loop-bin.counts.numbers in
+    let inside : i < length s.counts = omega (arith, ap (λ (p : Plain). length p.counts) c.other.view_is, c.loop-bin-test.true, c.len-bin-end.ensures, c.loop-bin.auto.bin-end) in
+    let at : g.T.Counter.number c.get-count.result ≡ get_or s.counts i 0 = c.get-count.ensures ∙ ap (λ (p : Plain). get_or p.counts i 0) c.other.view_is in
+    elim c.if-as_u64-gt0.branch [
+      | then-as_u64-gt0 w ↦ (
+          let pos : 0 < get_or s.counts i 0 = omega (arith, at, c.as_u64.ensures.value, w.if-as_u64-gt0.true) in
+          let target = w.bin-target.result in
+          let step : held k f s.counts (i + 1) target ≡ held k f s.counts i target + get_or s.counts i 0 =
+          subst (λ b. held k f s.counts (i + 1) b ≡ held k f s.counts i b + get_or s.counts i 0) (sym (w.bin-target.ensures.value ∙ ap (λ v. bin_of k v) w.class_value.ensures)) (held-here k f s.counts i inside pos) in
+          let enough : get_or s.counts i 0 ≤ get_or now target 0 = omega (arith, step, held-le k f s.counts (i + 1) target, c.requires.enough target, c.loop-bin.invariant.taken target) in
+          let room : target < length now = place-in now target (omega (arith, enough, pos)) in
+          let put = get_or now target 0 - get_or s.counts i 0 in
+          let new : c.if-as_u64-gt0.counts ≡ record { block = c.loop-bin.counts.block; numbers = set now target put } =
+          w.counts-is ∙ w.take_from.ensures ∙ ap (λ n. record { block = c.loop-bin.counts.block; numbers = set now target (get_or now target 0 - n) }) at in
+          let numbers : c.if-as_u64-gt0.counts.numbers ≡ set now target put = ap (λ (b : Blocks). b.numbers) new in
+          let bound : put ≤ g.T.Counter.greatest = omega (arith, c.loop-bin.invariant.fit target 0 room) in
+          record {
+            block = ap (λ (b : Blocks). b.block) new ∙ c.loop-bin.invariant.block;
+            bins = ap (λ (l : List ℕ). length l) numbers ∙ length-set now target put ∙ c.loop-bin.invariant.bins;
+            fit = subst (λ l. All (λ n. n ≤ g.T.Counter.greatest) l) (sym numbers) (All-set (λ n. n ≤ g.T.Counter.greatest) now target put bound c.loop-bin.invariant.fit);
+            taken = λ j. ap (λ l. get_or l j 0 + held k f s.counts (i + 1) j) numbers ∙ taken-next k f s.counts was now i target inside pos (w.bin-target.ensures.value ∙ ap (λ v. bin_of k v) w.class_value.ensures) room enough c.loop-bin.invariant.taken j;
+          }
+          )
+      | else-as_u64-gt0 w ↦ (
+          let none : get_or s.counts i 0 ≡ 0 = omega (arith, at, c.as_u64.ensures.value, w.if-as_u64-gt0.false) in
+          record {
+            block = ap (λ (b : Blocks). b.block) w.counts-is ∙ c.loop-bin.invariant.block;
+            bins = ap (λ (b : Blocks). length b.numbers) w.counts-is ∙ c.loop-bin.invariant.bins;
+            fit = subst (λ (b : Blocks). All (λ n. n ≤ g.T.Counter.greatest) b.numbers) (sym w.counts-is) c.loop-bin.invariant.fit;
+            taken = λ j. ap (λ (b : Blocks). get_or b.numbers j 0 + held k f s.counts (i + 1) j) w.counts-is
+                ∙ ap (λ n. get_or now j 0 + n) (held-same k f s.counts i j inside none) ∙ c.loop-bin.invariant.taken j;
+          }
+          )
+    ]
+
+pub returns-clause-numbers : goal.returns-clause-numbers
+returns-clause-numbers g c =
+    let s = c.args.other.now in
+    let i = c.loop-bin.bin in
+    let end : length s.counts ≤ i = omega (arith, ap (λ (p : Plain). length p.counts) c.other.view_is, c.loop-bin-test.false, c.len-bin-end.ensures, c.loop-bin.auto.bin-end) in
+    λ j. omega (arith, c.loop-bin.invariant.taken j, held-all c.args.scale (grain s) s.counts i j end)

@@ -1,6 +1,0 @@
-use Rattle.hdr_core.proofs.Adding.{associates}
-use Rattle.hdr_core.proofs.Spread.{grain-merged}
-use Rattle.hdr_core.proofs.laws.adding_associates.Goals as goal
-
-pub returns : goal.returns
-returns c = λ greatest h s t one p q r hs st. associates greatest h s t one p q r hs st (grain-merged greatest greatest h s q) (grain-merged greatest greatest s t r)

@@ -1,5 +1,0 @@
-use Rattle.hdr_core.proofs.Shares.{quantile-below}
-use Rattle.hdr_core.proofs.laws.quantile_and_share.Goals as goal
-
-pub returns : goal.returns
-returns c = λ greatest h q v S. quantile-below greatest h q v S

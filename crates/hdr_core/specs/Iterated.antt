@@ -1,8 +1,0 @@
--- What the iterators see of a histogram.
-use Rattle.std.specs.Prelude.{unwrap_or}
-use Rattle.hdr_core.specs.Plain.{Plain, grain}
-use Rattle.hdr_iterators.specs.Seen.{Seen}
-
--- its classes, its numbers, the total, and the top mark's bin: the first where there is none
-abbrev pub binned : Plain → Seen
-binned h = record { grain = grain h; numbers = h.counts; total = h.total; last = unwrap_or h.top_mark 0 }

@@ -1,0 +1,54 @@
+//! The classes of values, for every `u64`, past the bins too.
+
+ghost use Rattle.std.specs.Prelude.{◌≡◌, ◌↔◌, ◌+◌, ◌-◌, ◌/◌, ◌^◌, IsTrue, min};
+ghost use Rattle.hdr_base.specs.Classes.{width_of, lowest_of, top_of, AreEquivalent};
+ghost use Rattle.hdr_model.specs.Plain.{grain};
+
+use super::Histogram;
+use hdr_base::Counter;
+
+impl<T: Counter> Histogram<T> {
+    /// The lowest value of the class of a value.
+    pub fn lowest_equivalent(&self, value: u64) -> u64
+        ensures { result ≡ lowest_of (grain self.now) value }
+    {
+        self.scale.lowest(value)
+    }
+
+    /// The greatest value of the class of a value.
+    pub fn highest_equivalent(&self, value: u64) -> u64
+        ensures { result ≡ top_of (grain self.now) value }
+    {
+        self.scale.top(value)
+    }
+
+    /// The lowest value of the next class, or the greatest `u64` where there is none.
+    pub fn next_non_equivalent(&self, value: u64) -> u64
+        ensures { result ≡ min (lowest_of (grain self.now) value + width_of (grain self.now) value) (2 ^ 64 - 1) }
+    {
+        let scale = self.scale;
+        scale.lowest(value).saturating_add(scale.width(value))
+    }
+
+    /// The value half a width above the lowest of the class of a value.
+    pub fn median_equivalent(&self, value: u64) -> u64
+        ensures { result ≡ lowest_of (grain self.now) value + width_of (grain self.now) value / 2 }
+    {
+        let scale = self.scale;
+        scale.lowest(value) + scale.width(value) / 2
+    }
+
+    /// The width of the class of a value.
+    pub fn equivalent_range(&self, value: u64) -> u64
+        ensures { result ≡ width_of (grain self.now) value }
+    {
+        self.scale.width(value)
+    }
+
+    /// Whether two values have one class.
+    pub fn equivalent(&self, a: u64, b: u64) -> bool
+        ensures { IsTrue result ↔ AreEquivalent (grain self.now) a b }
+    {
+        self.scale.bin(a) == self.scale.bin(b)
+    }
+}

@@ -1,0 +1,57 @@
+//! Histograms made from others.
+
+ghost use Rattle.std.specs.Prelude.{◌≡◌, ℕ, List, ◌++◌, MatchResult};
+ghost use Rattle.hdr_model.specs.Plain.{IsPlain, empty_plain};
+ghost use Rattle.hdr_model.specs.Merging.{after_add_correct};
+ghost use Rattle.hdr_model.specs.declared.errors.CreationError.TheVariants.{OutOfMemory};
+
+use super::Histogram;
+use crate::marks::Marks;
+use hdr_base::Counter;
+use hdr_counts::Counts;
+use hdr_model::CreationError;
+use std::alloc::Global;
+
+impl<T: Counter> Histogram<T> {
+    /// An empty histogram of the bounds of another, which grows where that one does. Refused for memory alone.
+    pub fn new_from<F: Counter>(
+        alloc: Global,
+        source: &Histogram<F>,
+    ) -> Result<Histogram<T>, CreationError>
+        ensures made { MatchResult result (λ h. h ≡ empty_plain source.now.low source.now.high source.now.sigfig source.now.auto_resize) (λ e. e ≡ OutOfMemory) }
+        ensures source { IsPlain F.greatest source.now }
+    {
+        let scale = source.scale;
+        let Ok(counts) = Counts::new(alloc, scale.buckets(source.high) + 1, scale.block()) else {
+            return Err(CreationError::OutOfMemory);
+        };
+        Ok(Histogram {
+            scale,
+            low: source.low,
+            high: source.high,
+            sigfig: source.sigfig,
+            auto_resize: source.auto_resize,
+            counts,
+            total: 0,
+            marks: Marks::none(),
+        })
+    }
+
+    /// A histogram that holds the same. Refused for memory alone.
+    pub fn clone(&self) -> Result<Histogram<T>, CreationError>
+        ensures { MatchResult result (λ h. h ≡ self.now) (λ e. e ≡ OutOfMemory) }
+    {
+        let mut copy = Histogram::new_from(self.counts.allocator(), self)?;
+        copy.join(self);
+        Ok(copy)
+    }
+
+    /// An empty histogram of the same bounds, to which this one is added with correction. Refused for memory alone.
+    pub fn clone_correct(&self, interval: u64) -> Result<Histogram<T>, CreationError>
+        ensures { MatchResult result (λ h. h ≡ after_add_correct T.greatest (empty_plain self.now.low self.now.high self.now.sigfig self.now.auto_resize) self.now interval) (λ e. e ≡ OutOfMemory) }
+    {
+        let mut copy = Histogram::new_from(self.counts.allocator(), self)?;
+        copy.correct_classes(self, interval);
+        Ok(copy)
+    }
+}

@@ -1,0 +1,167 @@
+//! Recording with correction for coordinated omission, class by class.
+
+ghost use Rattle.std.specs.Prelude.{◌≡◌, ℕ, List, ◌∷◌, ◌++◌, ◌+◌, ◌-◌, ◌*◌, ◌/◌, ◌^◌, ◌<◌, ◌≤◌, OnOk, IfErr, length};
+ghost use Rattle.hdr_base.specs.Classes.{bucket, reach_of};
+ghost use Rattle.hdr_model.specs.Plain.{grain, reach};
+ghost use Rattle.hdr_model.specs.Recording.{after_add_to_bin, after_records, samples_of, high_with};
+ghost use Rattle.hdr_model.specs.Samples.{StandsFor, Fits};
+ghost use Rattle.hdr_model.specs.Refusals.{HasRoom, RefusesRecord};
+ghost use Rattle.hdr_model.specs.Correction.{missing, each_times, after_correct, classes_held, down_to};
+
+use super::Histogram;
+use hdr_base::{Counter, Ticks};
+use hdr_model::RecordError;
+
+impl<T: Counter> Histogram<T> {
+    /// Records a value once, and each value that was missed while it lasted.
+    pub fn record_correct(&mut self, value: u64, interval: u64) -> Result<(), RecordError>
+        ensures ok { OnOk result (self.new ≡ after_correct T.greatest self.old value 1 interval) }
+        ensures samples { OnOk result ((S : List ℕ) → StandsFor self.old S
+            → Fits T.greatest (grain self.old) (S ++ samples_of (each_times 1 (value ∷ missing value interval)))
+            → StandsFor self.new (S ++ samples_of (each_times 1 (value ∷ missing value interval)))) }
+        ensures high { OnOk result (self.new.high ≡ high_with (grain self.old) self.old.high value (reach_of (grain self.old) value)) }
+        ensures can { OnOk result (HasRoom self.old value) }
+        ensures refused { IfErr result (λ e. RefusesRecord self.old value e × (self.new ≡ self.old)) }
+    {
+        self.record_n_correct(value, T::one(), interval)
+    }
+
+    /// Records a value `count` times and then, for an interval of at least 1, each `value - j * interval` with `j` of at
+    /// least 1 that is at least the interval. Only the first record can be refused; a refusal changes nothing.
+    pub fn record_n_correct(
+        &mut self,
+        value: u64,
+        count: T,
+        interval: u64,
+    ) -> Result<(), RecordError>
+        ensures ok { OnOk result (self.new ≡ after_correct T.greatest self.old value (T.number count) interval) }
+        ensures samples { OnOk result ((S : List ℕ) → StandsFor self.old S
+            → Fits T.greatest (grain self.old) (S ++ samples_of (each_times (T.number count) (value ∷ missing value interval)))
+            → StandsFor self.new (S ++ samples_of (each_times (T.number count) (value ∷ missing value interval)))) }
+        ensures high { OnOk result (self.new.high ≡ high_with (grain self.old) self.old.high value (reach_of (grain self.old) value)) }
+        ensures can { OnOk result (HasRoom self.old value) }
+        ensures refused { IfErr result (λ e. RefusesRecord self.old value e × (self.new ≡ self.old)) }
+    {
+        self.record_n_correct_counted(value, count, interval, &mut Ticks::new())
+    }
+
+    /// The same, with a tick for each counter that is updated beside the first: one for each class that holds a missing
+    /// value, and so no more than there are bins.
+    pub fn record_n_correct_counted(
+        &mut self,
+        value: u64,
+        count: T,
+        interval: u64,
+        ticks: &mut Ticks,
+    ) -> Result<(), RecordError>
+        requires { ticks.old ≤ 2 ^ 63 }
+        ensures ok { OnOk result (self.new ≡ after_correct T.greatest self.old value (T.number count) interval) }
+        ensures ticks { OnOk result (ticks.new ≡ ticks.old + classes_held (grain self.new) (length self.new.counts) (missing value interval)) }
+        ensures at_most_bins { OnOk result (ticks.new ≤ ticks.old + length self.new.counts) }
+        ensures samples { OnOk result ((S : List ℕ) → StandsFor self.old S
+            → Fits T.greatest (grain self.old) (S ++ samples_of (each_times (T.number count) (value ∷ missing value interval)))
+            → StandsFor self.new (S ++ samples_of (each_times (T.number count) (value ∷ missing value interval)))) }
+        ensures high { OnOk result (self.new.high ≡ high_with (grain self.old) self.old.high value (reach_of (grain self.old) value)) }
+        ensures can { OnOk result (HasRoom self.old value) }
+        ensures refused { IfErr result (λ e. RefusesRecord self.old value e × (self.new ≡ self.old) × (ticks.new ≡ ticks.old)) }
+    {
+        self.record_n(value, count)?;
+        if interval > 0 {
+            self.add_missing(
+                value.saturating_sub(interval),
+                count.as_u64(),
+                interval,
+                ticks,
+            );
+        }
+        Ok(())
+    }
+
+    /// Records the values from `first` down to the interval, an interval apart, class by class.
+    pub(super) fn add_missing(&mut self, first: u64, count: u64, interval: u64, ticks: &mut Ticks)
+        requires step { 0 < interval }
+        requires within { first ≤ reach self.old }
+        requires room { ticks.old ≤ 2 ^ 63 }
+        ensures state { self.new ≡ after_records T.greatest self.old (each_times count (down_to first interval)) }
+        ensures ticks { ticks.new ≡ ticks.old + classes_held (grain self.old) (length self.old.counts) (down_to first interval) }
+        ensures samples { (S : List ℕ) → StandsFor self.old S → Fits T.greatest (grain self.old) (S ++ samples_of (each_times count (down_to first interval)))
+            → StandsFor self.new (S ++ samples_of (each_times count (down_to first interval))) }
+        ensures same_classes { grain self.new ≡ grain self.old }
+        ensures same_bins { length self.new.counts ≡ length self.old.counts }
+    {
+        let scale = self.scale;
+        let mut next = first;
+        while next >= interval {
+            let start = scale.bucket_start(next).max(interval);
+            next = self.add_in_bucket(next, start, count, interval, ticks);
+        }
+    }
+
+    /// Records those of these values that are at least `start`, and gives the next one below them. All of them lie in
+    /// one bucket, whose classes have one width.
+    fn add_in_bucket(
+        &mut self,
+        first: u64,
+        start: u64,
+        count: u64,
+        interval: u64,
+        ticks: &mut Ticks,
+    ) -> u64
+        requires step { 0 < interval }
+        requires some { (interval ≤ start) × (start ≤ first) }
+        requires one_bucket { (x : ℕ) → start ≤ x → x ≤ first → bucket (grain self.old) x ≡ bucket (grain self.old) first }
+        requires within { first ≤ reach self.old }
+        requires room { ticks.old + classes_held (grain self.old) (length self.old.counts) (down_to first interval) < 2 ^ 64 }
+        ensures less { result < first }
+        ensures state { after_records T.greatest self.new (each_times count (down_to result interval)) ≡ after_records T.greatest self.old (each_times count (down_to first interval)) }
+        ensures ticks { ticks.new + classes_held (grain self.old) (length self.old.counts) (down_to result interval)
+            ≡ ticks.old + classes_held (grain self.old) (length self.old.counts) (down_to first interval) }
+        ensures same_classes { grain self.new ≡ grain self.old }
+        ensures same_bins { length self.new.counts ≡ length self.old.counts }
+        ensures same_reach { reach self.new ≡ reach self.old }
+    {
+        let width = self.scale.width(first);
+        let bin = self.scale.bin(first) - (first / width) as usize;
+        let few = (width / interval).saturating_sub(1);
+        let mut next = first;
+        while next >= start {
+            let span = (next % width).min(next - interval);
+            let members = steps(span, interval, few) + 1;
+            self.add_counted(bin + (next / width) as usize, members, count, ticks);
+            next -= members * interval;
+        }
+        next
+    }
+
+    /// Adds members of a class, `count` times each, to its bin, with a tick: the one step that is counted.
+    fn add_counted(&mut self, bin: usize, members: u64, count: u64, ticks: &mut Ticks)
+        requires bin { bin < length self.old.counts }
+        requires room { ticks.old < 2 ^ 64 - 1 }
+        ensures state { self.new ≡ after_add_to_bin T.greatest self.old bin (members * count) }
+        ensures ticks { ticks.new ≡ ticks.old + 1 }
+    {
+        let number = u128::from(members) * u128::from(count);
+        match u64::try_from(number) {
+            Ok(number) => self.add_to_bin(bin, number),
+            Err(_) => self.add_capped(bin, number),
+        }
+        ticks.tick();
+    }
+}
+
+/// How many intervals a span holds. `few`, and one more, are tried before a division is done.
+fn steps(span: u64, interval: u64, few: u64) -> u64
+    requires some { 0 < interval }
+    requires fits { few * interval < 2 ^ 64 }
+    ensures { result ≡ span / interval }
+{
+    let tried = few * interval;
+    if span < tried || (span - tried) / 2 >= interval {
+        return span / interval;
+    }
+    if span - tried < interval {
+        few
+    } else {
+        few + 1
+    }
+}

@@ -1,0 +1,120 @@
+//! Setting bins, with total and marks made once when that is done.
+
+ghost use Rattle.std.specs.Prelude.{◌≡◌, ◌+◌, ◌<◌, ◌≤◌, MatchResult, false, length, slice_set};
+ghost use Rattle.hdr_model.specs.Filling.{open_of, IsClosed};
+ghost use Rattle.hdr_model.specs.Plain.{empty_plain};
+ghost use Rattle.hdr_model.specs.Refusals.{RefusesBounds, IsBounds};
+
+use super::merging::capped_sum;
+use super::subtracting::marks_of;
+use super::{Histogram, scale_for};
+use hdr_base::{Counter, Scale};
+use hdr_counts::OpenCounts;
+use hdr_model::CreationError;
+use std::alloc::Global;
+use std::marker::Model;
+
+/// A histogram whose bins are being set, seen as its bounds and the number of each bin.
+///
+/// A bin that is set costs about one store. Total and marks are made when the histogram is taken out of it.
+#[derive(Debug, Drop)]
+pub struct Filling<T: Counter> {
+    scale: Scale,
+    low: u64,
+    high: u64,
+    sigfig: u8,
+    auto_resize: bool,
+    counts: OpenCounts<T>,
+}
+
+impl<T: Counter> Model for Filling<T> {
+    ghost use Rattle.hdr_model.specs.Filling.{Open, AreBinsFor};
+
+    ghost Value = { Open };
+
+    ghost view = { λ f. record { low = f.low; high = f.high; sigfig = f.sigfig; auto_resize = f.auto_resize; counts = f.counts.numbers } };
+
+    ghost invariant = { λ f. AreBinsFor f.low f.high f.sigfig f.scale f.counts };
+}
+
+impl<T: Counter> Filling<T> {
+    /// Empty bins, as those of `Histogram::new_with_bounds`, which refuses the same bounds. `sets` is about how many bins
+    /// will be set, and decides the time alone that it takes.
+    pub fn new_with_bounds(
+        alloc: Global,
+        low: u64,
+        high: u64,
+        sigfig: u8,
+        sets: usize,
+    ) -> Result<Filling<T>, CreationError>
+        ensures { MatchResult result (λ f. (f ≡ open_of (empty_plain low high sigfig false)) × IsBounds low high sigfig) (RefusesBounds low high sigfig) }
+    {
+        let scale = scale_for(low, high, sigfig)?;
+        let blocks = scale.buckets(high) + 1;
+        let Ok(counts) = OpenCounts::new(alloc, blocks, scale.block(), sets) else {
+            return Err(CreationError::OutOfMemory);
+        };
+        Ok(Filling {
+            scale,
+            low,
+            high,
+            sigfig,
+            auto_resize: false,
+            counts,
+        })
+    }
+
+    /// How many bins there are.
+    #[inline(always)]
+    pub fn distinct_values(&self) -> usize
+        ensures value { result ≡ length self.now.counts }
+        ensures few { result ≤ 6291456 }
+    {
+        self.counts.len()
+    }
+
+    /// Sets the counter of a bin.
+    #[inline(always)]
+    pub fn set(&mut self, bin: usize, count: T)
+        requires { bin < length self.old.counts }
+        ensures { self.new ≡ record self.old { counts = slice_set self.old.counts bin (T.number count) } }
+    {
+        self.counts.set(bin, count);
+    }
+
+    /// Sets the counters of a bin and of the one behind it.
+    #[inline(always)]
+    pub fn set_two(&mut self, bin: usize, first: T, second: T)
+        requires { bin + 1 < length self.old.counts }
+        ensures { self.new ≡ record self.old { counts = slice_set (slice_set self.old.counts bin (T.number first)) (bin + 1) (T.number second) } }
+    {
+        self.counts.set_two(bin, first, second);
+    }
+
+    /// The histogram of the bins. Its total is the capped sum of its counters, and its marks are those of the ones above 0.
+    pub fn into_histogram(self) -> Histogram<T>
+        ensures { IsClosed self result }
+    {
+        let Filling {
+            scale,
+            low,
+            high,
+            sigfig,
+            auto_resize,
+            counts,
+        } = self;
+        let counts = counts.into_counts();
+        let total = capped_sum(&counts);
+        let marks = marks_of(&counts);
+        Histogram {
+            scale,
+            low,
+            high,
+            sigfig,
+            auto_resize,
+            counts,
+            total,
+            marks,
+        }
+    }
+}

@@ -1,0 +1,62 @@
+//! How a histogram grows.
+
+ghost use Rattle.std.specs.Prelude.{◌≡◌, ◌<◌, MatchResult, OnOk, IfErr};
+ghost use Rattle.hdr_model.specs.Plain.{IsPlain, reach};
+ghost use Rattle.hdr_model.specs.Recording.{with_bins_to, with_bins_for};
+ghost use Rattle.hdr_model.specs.Merging.{with_room};
+ghost use Rattle.hdr_model.specs.Refusals.{HasRoom, RefusesRecord, RefusesRoom};
+
+use super::Histogram;
+use hdr_base::Counter;
+use hdr_model::{AdditionError, RecordError};
+use std::alloc::AllocError;
+
+impl<T: Counter> Histogram<T> {
+    /// Makes bins up to a value, where it has none.
+    pub(super) fn cover(&mut self, value: u64) -> Result<(), RecordError>
+        ensures ok { OnOk result (self.new ≡ with_bins_for self.old value) }
+        ensures kept { IsPlain T.greatest self.old }
+        ensures can { OnOk result (HasRoom self.old value) }
+        ensures refused { IfErr result (λ e. RefusesRecord self.old value e × (self.new ≡ self.old)) }
+    {
+        if value <= self.reach() {
+            return Ok(());
+        }
+        if !self.auto_resize {
+            return Err(RecordError::ValueOutOfRangeResizeDisabled);
+        }
+        match self.grow(self.scale.reach(value)) {
+            Ok(()) => Ok(()),
+            Err(_) => Err(RecordError::OutOfMemory),
+        }
+    }
+
+    /// Bins up to a value, which becomes `high` where they had to grow.
+    pub(super) fn make_room(&mut self, value: u64) -> Result<(), AdditionError>
+        ensures ok { OnOk result (self.new ≡ with_room self.old value) }
+        ensures kept { IsPlain T.greatest self.old }
+        ensures can { OnOk result (HasRoom self.old value) }
+        ensures refused { IfErr result (λ e. RefusesRoom self.old value e × (self.new ≡ self.old)) }
+    {
+        if value <= self.reach() {
+            return Ok(());
+        }
+        if !self.auto_resize {
+            return Err(AdditionError::OtherAddendValueExceedsRange);
+        }
+        match self.grow(value) {
+            Ok(()) => Ok(()),
+            Err(_) => Err(AdditionError::OutOfMemory),
+        }
+    }
+
+    /// Makes bins up to the reach of a value past them, which becomes `high`. Refused for memory, it changes nothing.
+    fn grow(&mut self, high: u64) -> Result<(), AllocError>
+        requires { reach self.old < high }
+        ensures { MatchResult result (λ _. self.new ≡ with_bins_to self.old high) (λ _. self.new ≡ self.old) }
+    {
+        self.counts.grow(self.scale.buckets(high) + 1)?;
+        self.high = high;
+        Ok(())
+    }
+}

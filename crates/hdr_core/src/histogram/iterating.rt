@@ -1,0 +1,74 @@
+//! Iterators over a histogram.
+
+ghost use Rattle.std.specs.Prelude.{◌≡◌, ◌≤◌};
+ghost use Rattle.hdr_core.specs.Iterating.{bins_seen};
+ghost use Rattle.hdr_iterators.specs.Picks.{items_of};
+ghost use Rattle.hdr_iterators.specs.Places.{all_picks, recorded_picks, linear_picks, log_picks, quantile_picks};
+
+use super::Histogram;
+use hdr_base::Counter;
+use hdr_iterators::{Binned, Bins, HistogramIterator, all, linear, log, quantile, recorded};
+
+impl<T: Counter> Binned<T> for Histogram<T> {
+    ghost use Rattle.hdr_core.specs.Iterating.{bins_seen};
+
+    ghost seen = { bins_seen };
+
+    fn binned(&self) -> Bins<'_, T> {
+        let last = self.marks.top().unwrap_or(0);
+        Bins::new(
+            self.scale,
+            self.counts.as_slice(),
+            self.counts.sums(),
+            self.total,
+            last,
+        )
+    }
+}
+
+impl<T: Counter> Histogram<T> {
+    /// Every bin once, in ascending order, each at the greatest value of its class.
+    pub fn iter_all(&self) -> HistogramIterator<'_, T, all::Iter>
+        ensures { result ≡ items_of (bins_seen self.now) (all_picks (bins_seen self.now)) }
+    {
+        all::Iter::new(self)
+    }
+
+    /// Every bin that holds samples once, in ascending order, each at the greatest value of its class.
+    pub fn iter_recorded(&self) -> HistogramIterator<'_, T, recorded::Iter>
+        ensures { result ≡ items_of (bins_seen self.now) (recorded_picks (bins_seen self.now)) }
+    {
+        recorded::Iter::new(self)
+    }
+
+    /// The levels `step - 1`, `2 * step - 1`, .. each with the samples up to its class: those below the top mark's class,
+    /// the next one, and those that are no greater than the top of the class where that lies.
+    pub fn iter_linear(&self, step: u64) -> HistogramIterator<'_, T, linear::Iter<'_, T>>
+        requires { 1 ≤ step }
+        ensures { result ≡ items_of (bins_seen self.now) (linear_picks (bins_seen self.now) step) }
+    {
+        linear::Iter::new(self, step)
+    }
+
+    /// The levels `start - 1`, `start * base - 1`, `start * base ^ 2 - 1`, .. each with the samples up to its class: those
+    /// below the top mark's class, and the next one.
+    pub fn iter_log(&self, start: u64, base: u64) -> HistogramIterator<'_, T, log::Iter<'_, T>>
+        requires some { 1 ≤ start }
+        requires wide { 2 ≤ base }
+        ensures { result ≡ items_of (bins_seen self.now) (log_picks (bins_seen self.now) start base) }
+    {
+        log::Iter::new(self, start, base)
+    }
+
+    /// The shares of the samples that halve the distance to the whole again and again, so many to each half, each at the
+    /// first bin that reaches it; behind the last of them the whole.
+    pub fn iter_quantiles(
+        &self,
+        ticks_per_half_distance: u32,
+    ) -> HistogramIterator<'_, T, quantile::Iter<'_, T>>
+        requires { 1 ≤ ticks_per_half_distance }
+        ensures { result ≡ items_of (bins_seen self.now) (quantile_picks (bins_seen self.now) ticks_per_half_distance) }
+    {
+        quantile::Iter::new(self, ticks_per_half_distance)
+    }
+}

@@ -1,0 +1,147 @@
+//! Adding one histogram to another, of the same or of another counter type.
+
+ghost use Rattle.std.specs.Prelude.{◌==◌, if◌then◌else◌, ◌≡◌, ℕ, ◌+◌, ◌-◌, ◌^◌, ◌<◌, ◌≤◌, ◌⊎◌, ◌++◌, List, OnOk, IfErr, true, min, length, sum};
+ghost use Rattle.hdr_base.specs.Classes.{value_of, IsFiner};
+ghost use Rattle.hdr_model.specs.Plain.{IsPlain, grain, reach, max_of};
+ghost use Rattle.hdr_model.specs.Recording.{after_record, after_records, after_reset, high_with};
+ghost use Rattle.hdr_model.specs.Merging.{classes_from, top_class, same_bins, after_add_same_bins, after_add_within, with_room, after_add};
+ghost use Rattle.hdr_model.specs.Refusals.{LeavesSet, HasRoom, RefusesAddition, RefusesRoom};
+ghost use Rattle.hdr_model.specs.Samples.{StandsFor, Fits};
+
+use super::Histogram;
+use hdr_base::Counter;
+use hdr_counts::Counts;
+use hdr_model::AdditionError;
+
+impl<T: Counter> Histogram<T> {
+    /// Adds what another histogram counted. An empty one changes nothing. Where its `max` is past the reach the bins grow
+    /// to it, or the call is refused; a refusal changes nothing. With equal bins counters are added, and an empty target
+    /// takes total and marks too; else each nonempty class is recorded at its lowest value, and the top mark's class with
+    /// the count 0.
+    pub fn add(&mut self, source: &Histogram<T>) -> Result<(), AdditionError>
+        ensures ok { OnOk result (self.new ≡ after_add T.greatest self.old source.now) }
+        ensures samples { OnOk result ((S L : List ℕ) → StandsFor self.old S → StandsFor source.now L → IsFiner (grain source.now) (grain self.old)
+            → Fits T.greatest (grain self.old) (S ++ L) → StandsFor self.new (S ++ L)) }
+        ensures same_classes { grain self.new ≡ grain self.old }
+        ensures high { OnOk result (self.new.high
+            ≡ (if source.now.total == 0 then self.old.high else high_with (grain self.old) self.old.high (max_of source.now) (max_of source.now))) }
+        ensures can { OnOk result ((source.now.total ≡ 0) ⊎ HasRoom self.old (max_of source.now)) }
+        ensures refused { IfErr result (λ e. RefusesAddition self.old source.now e × (self.new ≡ self.old)) }
+    {
+        self.add_from(source)
+    }
+
+    /// `add` of a histogram that may count in another type. Its numbers are added whole, and only the sums are cut to
+    /// this histogram's greatest counter.
+    pub fn add_from<F: Counter>(&mut self, source: &Histogram<F>) -> Result<(), AdditionError>
+        ensures ok { OnOk result (self.new ≡ after_add T.greatest self.old source.now) }
+        ensures samples { OnOk result ((S L : List ℕ) → StandsFor self.old S → StandsFor source.now L → IsFiner (grain source.now) (grain self.old)
+            → Fits T.greatest (grain self.old) (S ++ L) → StandsFor self.new (S ++ L)) }
+        ensures same_classes { grain self.new ≡ grain self.old }
+        ensures high { OnOk result (self.new.high
+            ≡ (if source.now.total == 0 then self.old.high else high_with (grain self.old) self.old.high (max_of source.now) (max_of source.now))) }
+        ensures can { OnOk result ((source.now.total ≡ 0) ⊎ HasRoom self.old (max_of source.now)) }
+        ensures refused { IfErr result (λ e. RefusesAddition self.old source.now e × (self.new ≡ self.old)) }
+    {
+        if source.total == 0 {
+            return Ok(());
+        }
+        self.make_room(source.max())?;
+        self.take_in(source);
+        Ok(())
+    }
+
+    /// Forgets what was recorded and adds what another histogram counted. Refused for range it leaves the histogram
+    /// reset, refused for memory unchanged.
+    pub fn set_to(&mut self, source: &Histogram<T>) -> Result<(), AdditionError>
+        ensures ok { OnOk result (self.new ≡ after_add T.greatest (after_reset self.old) source.now) }
+        ensures can { OnOk result ((source.now.total ≡ 0) ⊎ HasRoom self.old (max_of source.now)) }
+        ensures refused { IfErr result (λ e. RefusesAddition self.old source.now e × LeavesSet self.old self.new e) }
+    {
+        if source.total == 0 {
+            self.reset();
+            return Ok(());
+        }
+        match self.make_room(source.max()) {
+            Ok(()) => {
+                self.reset();
+                self.take_in(source);
+                Ok(())
+            }
+            Err(AdditionError::OutOfMemory) => Err(AdditionError::OutOfMemory),
+            Err(e) => {
+                self.reset();
+                Err(e)
+            }
+        }
+    }
+
+    /// Adds a source whose greatest value has a bin.
+    pub(super) fn take_in<F: Counter>(&mut self, source: &Histogram<F>)
+        requires { max_of source.now ≤ reach self.old }
+        ensures { self.new ≡ after_add_within T.greatest self.old source.now }
+    {
+        if self.same_bins(source) {
+            self.join(source);
+        } else {
+            self.record_classes(source);
+        }
+    }
+
+    fn same_bins<F: Counter>(&self, other: &Histogram<F>) -> bool
+        ensures { result ≡ same_bins self.now other.now }
+    {
+        self.scale.unit() == other.scale.unit()
+            && self.scale.digits() == other.scale.digits()
+            && self.counts.len() == other.counts.len()
+    }
+
+    /// Adds a source of the same bins, block by block.
+    pub(super) fn join<F: Counter>(&mut self, source: &Histogram<F>)
+        requires { same_bins self.old source.now ≡ true }
+        ensures { self.new ≡ after_add_same_bins T.greatest self.old source.now }
+    {
+        self.counts.add_capped(&source.counts);
+        if self.total == 0 {
+            self.total = source.total;
+            self.marks = source.marks.same();
+        } else {
+            self.total = self.total.saturating_add(capped_sum(&source.counts));
+            self.marks.widen_by(&source.marks);
+        }
+    }
+
+    /// Records the classes of a source, each at its lowest value.
+    fn record_classes<F: Counter>(&mut self, source: &Histogram<F>)
+        requires { max_of source.now ≤ reach self.old }
+        ensures { self.new ≡ after_records T.greatest self.old (classes_from (grain source.now) 0 source.now.counts ++ top_class (grain source.now) source.now.top_mark) }
+    {
+        for bin in 0..source.counts.len() {
+            let count = source.counts.get(bin).as_u64();
+            if count > 0 {
+                self.record_inside(source.class_value(bin), count);
+            }
+        }
+        if let Some(bin) = source.marks.top() {
+            self.record_inside(source.class_value(bin), 0);
+        }
+    }
+
+    /// Records a value that has a bin.
+    pub(super) fn record_inside(&mut self, value: u64, number: u64)
+        requires { value ≤ reach self.old }
+        ensures { self.new ≡ after_record T.greatest self.old value number }
+    {
+        let bin = self.scale.bin(value);
+        self.add_to_bin(bin, number);
+    }
+}
+
+/// The sum of counters, up to the greatest `u64`.
+pub(super) fn capped_sum<T: Counter>(counts: &Counts<T>) -> u64
+    requires { 0 < length counts.now.numbers }
+    ensures { result ≡ min (sum counts.now.numbers) (2 ^ 64 - 1) }
+{
+    let sum = counts.sum_to(counts.len() - 1);
+    sum.min(u128::from(u64::MAX)) as u64
+}

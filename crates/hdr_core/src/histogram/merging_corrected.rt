@@ -1,0 +1,118 @@
+//! Adding what another histogram counted, with correction for coordinated omission.
+
+ghost use Rattle.std.specs.Prelude.{◌≡◌, ℕ, List, ◌∷◌, ◌++◌, ◌+◌, ◌≤◌, OnOk, IfErr};
+ghost use Rattle.hdr_base.specs.Classes.{reach_of};
+ghost use Rattle.hdr_model.specs.Plain.{IsPlain, grain, reach};
+ghost use Rattle.hdr_model.specs.Recording.{after_records, with_bins_for, after_reset, high_with};
+ghost use Rattle.hdr_model.specs.Samples.{StandsFor, Fits};
+ghost use Rattle.hdr_model.specs.Refusals.{HasRoom, RefusesRecord, RefusesCorrected, LeavesCorrected};
+ghost use Rattle.hdr_model.specs.Correction.{missing, each_times};
+ghost use Rattle.hdr_model.specs.Merging.{corrections_from, highest_top, after_add_correct, corrected_samples};
+
+use super::Histogram;
+use hdr_base::{Counter, Ticks};
+use hdr_model::RecordError;
+
+impl<T: Counter> Histogram<T> {
+    /// Adds each nonempty class of another histogram at its greatest value, corrected as `record_n_correct` does. Where
+    /// the greatest value of its last nonempty class is past the reach the bins grow to it, or the call is refused; a
+    /// refusal changes nothing.
+    pub fn add_correct(&mut self, source: &Histogram<T>, interval: u64) -> Result<(), RecordError>
+        ensures ok { OnOk result (self.new ≡ after_add_correct T.greatest self.old source.now interval) }
+        ensures samples { OnOk result ((S L : List ℕ) → StandsFor self.old S → StandsFor source.now L
+            → Fits T.greatest (grain self.old) (S ++ corrected_samples (grain source.now) interval L)
+            → StandsFor self.new (S ++ corrected_samples (grain source.now) interval L)) }
+        ensures same_classes { grain self.new ≡ grain self.old }
+        ensures high { OnOk result (self.new.high ≡ high_with (grain self.old) self.old.high (highest_top source.now) (reach_of (grain self.old) (highest_top source.now))) }
+        ensures can { OnOk result (HasRoom self.old (highest_top source.now)) }
+        ensures refused { IfErr result (λ e. RefusesCorrected self.old source.now e × (self.new ≡ self.old)) }
+    {
+        self.add_correct_from(source, interval)
+    }
+
+    /// `add_correct` of a histogram that may count in another type. Its numbers are added whole, and only the sums are
+    /// cut to this histogram's greatest counter.
+    pub fn add_correct_from<F: Counter>(
+        &mut self,
+        source: &Histogram<F>,
+        interval: u64,
+    ) -> Result<(), RecordError>
+        ensures ok { OnOk result (self.new ≡ after_add_correct T.greatest self.old source.now interval) }
+        ensures samples { OnOk result ((S L : List ℕ) → StandsFor self.old S → StandsFor source.now L
+            → Fits T.greatest (grain self.old) (S ++ corrected_samples (grain source.now) interval L)
+            → StandsFor self.new (S ++ corrected_samples (grain source.now) interval L)) }
+        ensures same_classes { grain self.new ≡ grain self.old }
+        ensures high { OnOk result (self.new.high ≡ high_with (grain self.old) self.old.high (highest_top source.now) (reach_of (grain self.old) (highest_top source.now))) }
+        ensures can { OnOk result (HasRoom self.old (highest_top source.now)) }
+        ensures refused { IfErr result (λ e. RefusesCorrected self.old source.now e × (self.new ≡ self.old)) }
+    {
+        self.cover(source.highest_top())?;
+        self.correct_classes(source, interval);
+        Ok(())
+    }
+
+    /// Forgets what was recorded and adds what another histogram counted, corrected. Refused for range it leaves the
+    /// histogram reset, refused for memory unchanged.
+    pub fn set_to_corrected(
+        &mut self,
+        source: &Histogram<T>,
+        interval: u64,
+    ) -> Result<(), RecordError>
+        ensures ok { OnOk result (self.new ≡ after_add_correct T.greatest (after_reset self.old) source.now interval) }
+        ensures can { OnOk result (HasRoom self.old (highest_top source.now)) }
+        ensures refused { IfErr result (λ e. RefusesCorrected self.old source.now e × LeavesCorrected self.old self.new e) }
+    {
+        match self.cover(source.highest_top()) {
+            Ok(()) => {
+                self.reset();
+                self.correct_classes(source, interval);
+                Ok(())
+            }
+            Err(RecordError::OutOfMemory) => Err(RecordError::OutOfMemory),
+            Err(e) => {
+                self.reset();
+                Err(e)
+            }
+        }
+    }
+
+    /// The greatest value of the last class that is not empty, 0 where all are.
+    pub(super) fn highest_top(&self) -> u64
+        ensures { result ≡ highest_top self.now }
+    {
+        match self.counts.last_nonzero() {
+            Some(bin) => self.class_top(bin),
+            None => 0,
+        }
+    }
+
+    /// Corrects each nonempty class of a source whose last one has a bin.
+    pub(super) fn correct_classes<F: Counter>(&mut self, source: &Histogram<F>, interval: u64)
+        requires { highest_top source.now ≤ reach self.old }
+        ensures made { self.new ≡ after_records T.greatest self.old (corrections_from (grain source.now) interval 0 source.now.counts) }
+        ensures source { IsPlain F.greatest source.now }
+    {
+        for bin in 0..source.counts.len() {
+            let count = source.counts.get(bin).as_u64();
+            if count > 0 {
+                self.correct_inside(source.class_top(bin), count, interval);
+            }
+        }
+    }
+
+    /// Records a value that has a bin, and what it hides.
+    fn correct_inside(&mut self, value: u64, count: u64, interval: u64)
+        requires { value ≤ reach self.old }
+        ensures { self.new ≡ after_records T.greatest self.old (each_times count (value ∷ missing value interval)) }
+    {
+        self.record_inside(value, count);
+        if interval > 0 {
+            self.add_missing(
+                value.saturating_sub(interval),
+                count,
+                interval,
+                &mut Ticks::new(),
+            );
+        }
+    }
+}

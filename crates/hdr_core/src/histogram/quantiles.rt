@@ -1,0 +1,106 @@
+//! Quantiles of what was recorded.
+
+ghost use Rattle.std.specs.Prelude.{◌≡◌, ℕ, ◌+◌, ◌^◌, ◌<◌, ◌≤◌, List, IfSome, MatchOption, length, sum};
+ghost use Rattle.hdr_base.specs.Classes.{bucket};
+ghost use Rattle.hdr_counts.specs.Blocks.{looks, IsFirstToReach};
+ghost use Rattle.hdr_model.specs.Plain.{grain, block_of};
+ghost use Rattle.hdr_model.specs.Samples.{StandsFor};
+ghost use Rattle.hdr_model.specs.Quantiles.{rank, ranked_sample, first_reaching, answer_at, quantile_of, IsTopNear, hundredth};
+
+use super::Histogram;
+use hdr_base::{Counter, Quantile, Ticks};
+
+impl<T: Counter> Histogram<T> {
+    /// The greatest value of the class that holds the sample of a quantile: the sample at the place
+    /// `ceil(num * len / den)` of all samples in order, or the first. The lowest value of that class for the quantile 0;
+    /// 0 where the counters, full ones among them, do not reach the place. A quantile above 1 counts as 1.
+    pub fn value_at_quantile(&self, quantile: Quantile) -> u64
+        ensures value { result ≡ quantile_of self.now quantile }
+        ensures ranked { (S : List ℕ) → StandsFor self.now S → 0 < length S → 0 < quantile.num
+            → IsTopNear self.now (ranked_sample quantile S) result }
+    {
+        let rank = rank_of(quantile.num(), u128::from(quantile.den()), self.total);
+        self.answer(quantile.num(), self.first_reaching(rank))
+    }
+
+    /// The same answer, with a tick for each look at a block's sum or at a counter: as many as there are blocks and as a
+    /// block has counters at the most. Block i holds the bins from `i * 2 ^ (digits - 1)` on to the next block's.
+    pub fn value_at_quantile_counted(&self, quantile: Quantile, ticks: &mut Ticks) -> u64
+        requires { ticks.old ≤ 2 ^ 63 }
+        ensures value { result ≡ quantile_of self.now quantile }
+        ensures ranked { (S : List ℕ) → StandsFor self.now S → 0 < length S → 0 < quantile.num
+            → IsTopNear self.now (ranked_sample quantile S) result }
+        ensures looks { ticks.new ≡ ticks.old + looks (block_of self.now) (length self.now.counts) (first_reaching self.now.counts (rank quantile self.now.total)) }
+        ensures at_most { ticks.new ≤ ticks.old + (bucket (grain self.now) self.now.high + 2 + block_of self.now) }
+    {
+        let rank = rank_of(quantile.num(), u128::from(quantile.den()), self.total);
+        let place = self.find(rank, ticks);
+        self.answer(quantile.num(), place)
+    }
+
+    /// The answer to a percentile: that to the quantile of a hundredth of it.
+    pub fn value_at_percentile(&self, percentile: Quantile) -> u64
+        ensures value { result ≡ quantile_of self.now (hundredth percentile) }
+        ensures ranked { (S : List ℕ) → StandsFor self.now S → 0 < length S → 0 < percentile.num
+            → IsTopNear self.now (ranked_sample (hundredth percentile) S) result }
+    {
+        let rank = rank_of(
+            percentile.num(),
+            u128::from(percentile.den()) * 100,
+            self.total,
+        );
+        self.answer(percentile.num(), self.first_reaching(rank))
+    }
+
+    /// The first class where the sum of the counters up to it reaches a rank.
+    fn first_reaching(&self, rank: u64) -> Option<usize>
+        requires { 1 ≤ rank }
+        ensures place { result ≡ first_reaching self.now.counts rank }
+        ensures within { IfSome result (λ i. i < length self.now.counts) }
+    {
+        self.counts.first_reaching(rank)
+    }
+
+    /// The same, with a tick for each look.
+    fn find(&self, rank: u64, ticks: &mut Ticks) -> Option<usize>
+        requires some { 1 ≤ rank }
+        requires room { ticks.old ≤ 2 ^ 63 }
+        ensures place { result ≡ first_reaching self.now.counts rank }
+        ensures within { IfSome result (λ i. i < length self.now.counts) }
+        ensures looks { ticks.new ≡ ticks.old + looks (block_of self.now) (length self.now.counts) result }
+    {
+        self.counts.find(rank, ticks)
+    }
+
+    /// What the first class that reaches a rank answers to a quantile of that numerator.
+    pub(super) fn answer_found(&self, num: u64, rank: u64, place: Option<usize>) -> u64
+        requires some { 1 ≤ rank }
+        requires first { MatchOption place (sum self.now.counts < rank) (IsFirstToReach self.now.counts rank) }
+        ensures { result ≡ answer_at (grain self.now) num (first_reaching self.now.counts rank) }
+    {
+        self.answer(num, place)
+    }
+
+    /// What a class answers to a quantile of that numerator.
+    fn answer(&self, num: u64, place: Option<usize>) -> u64
+        requires { IfSome place (λ i. i < length self.now.counts) }
+        ensures { result ≡ answer_at (grain self.now) num place }
+    {
+        match place {
+            Some(bin) if num == 0 => self.class_value(bin),
+            Some(bin) => self.class_top(bin),
+            None => 0,
+        }
+    }
+}
+
+/// The place of the share `num / whole` among so many samples, from 1.
+pub(super) fn rank_of(num: u64, whole: u128, total: u64) -> u64
+    requires { 0 < whole }
+    ensures value { result ≡ rank (record { num = num; den = whole }) total }
+    ensures at_least_one { 1 ≤ result }
+{
+    let share = u128::from(num).min(whole);
+    let place = (share * u128::from(total)).div_ceil(whole);
+    (place as u64).max(1)
+}

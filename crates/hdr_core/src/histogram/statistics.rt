@@ -1,0 +1,123 @@
+//! What the counters of a histogram hold.
+
+ghost use Rattle.std.specs.Prelude.{◌≡◌, ℕ, ◌+◌, ◌-◌, ◌*◌, ◌^◌, ◌<◌, ◌≤◌, min, slice_index, length, List};
+ghost use Rattle.hdr_base.specs.Classes.{lowest_of, top_of, value_of, bin_of};
+ghost use Rattle.hdr_model.specs.Plain.{IsPlain, grain, reach};
+ghost use Rattle.hdr_model.specs.Samples.{StandsFor};
+ghost use Rattle.hdr_model.specs.Statistics.{held_bin, sum_between, samples_between, share_below, in_hundredths, median_of, weight_from, mean_of};
+
+use super::Histogram;
+use super::recording::capped_total;
+use hdr_base::{Counter, Fraction, Scale};
+
+impl<T: Counter> Histogram<T> {
+    /// The counter of a value's class, or of the last bin where the value lies past the bins.
+    pub fn count_at(&self, value: u64) -> T
+        ensures { T.number result ≡ slice_index self.now.counts (held_bin self.now value) }
+    {
+        self.counts.get(self.held_bin(value))
+    }
+
+    /// The sum of the counters from one value's bin to another's, up to the greatest `u64`; 0 where the first is later.
+    /// A value past the bins counts as one of the last bin.
+    pub fn count_between(&self, low: u64, high: u64) -> u64
+        ensures value { result ≡ min (sum_between self.now low high) (2 ^ 64 - 1) }
+        ensures samples { (S : List ℕ) → StandsFor self.now S → low ≤ high → high ≤ reach self.now
+            → result ≡ samples_between (lowest_of (grain self.now) low) (top_of (grain self.now) high) S }
+    {
+        let from = self.held_bin(low);
+        let to = self.held_bin(high);
+        if from > to {
+            return 0;
+        }
+        let before = if from == 0 {
+            0
+        } else {
+            self.counts.sum_to(from - 1)
+        };
+        capped_total(self.counts.sum_to(to) - before)
+    }
+
+    /// The share of the samples in a value's class or before it: the sum of the counters up to its bin, or the last where
+    /// the value lies past the bins, over `len`. 1 of 1 where there are no samples.
+    pub fn quantile_below(&self, value: u64) -> Fraction
+        ensures value { result ≡ share_below self.now value }
+        ensures samples { (S : List ℕ) → StandsFor self.now S → 0 < length S
+            → result ≡ record { num = samples_between 0 (top_of (grain self.now) value) S; den = length S } }
+        ensures fits { result.num < 2 ^ 64 }
+    {
+        if self.total == 0 {
+            return Fraction { num: 1, den: 1 };
+        }
+        let up_to = self.counts.sum_to(self.held_bin(value));
+        Fraction {
+            num: u128::from(capped_total(up_to)),
+            den: u128::from(self.total),
+        }
+    }
+
+    /// The same share in hundredths.
+    pub fn percentile_below(&self, value: u64) -> Fraction
+        ensures { result ≡ in_hundredths (share_below self.now value) }
+    {
+        let share = self.quantile_below(value);
+        Fraction {
+            num: share.num * 100,
+            den: share.den,
+        }
+    }
+
+    /// The mean of the samples, each taken as the value in the middle of its class: the exact sum over `len`. 0 of 1 where
+    /// there are no samples; `None` where `len` is the greatest `u64`, which more samples than that may stand behind.
+    pub fn mean(&self) -> Option<Fraction>
+        ensures { result ≡ mean_of self.now }
+    {
+        if self.total == u64::MAX {
+            return None;
+        }
+        if self.total == 0 {
+            return Some(Fraction { num: 0, den: 1 });
+        }
+        Some(Fraction {
+            num: self.weighed(),
+            den: u128::from(self.total),
+        })
+    }
+
+    /// The sum of the counters, each times the value in the middle of its class.
+    fn weighed(&self) -> u128
+        requires { self.now.total < 2 ^ 64 - 1 }
+        ensures { result ≡ weight_from (grain self.now) 0 self.now.counts }
+    {
+        let mut sum: u128 = 0;
+        for (bin, counter) in self.counts.as_slice().iter().enumerate() {
+            sum += weight(self.scale, bin, counter.as_u64());
+        }
+        sum
+    }
+
+    /// The bin of a value, or the last bin where the value lies past the bins.
+    fn held_bin(&self, value: u64) -> usize
+        ensures value { result ≡ held_bin self.now value }
+        ensures within { result < length self.now.counts }
+        ensures plain { IsPlain T.greatest self.now }
+    {
+        self.scale.bin(value).min(self.counts.len() - 1)
+    }
+}
+
+/// A number times the value in the middle of the class of a bin; most bins hold nothing.
+fn weight(scale: Scale, bin: usize, number: u64) -> u128
+    requires { bin ≤ bin_of scale (2 ^ 64 - 1) }
+    ensures value { result ≡ median_of scale (value_of scale bin) * number }
+    ensures bound { result ≤ 2 ^ 64 * number }
+{
+    if number == 0 {
+        return 0;
+    }
+    let Some(lowest) = scale.bin_value(bin) else {
+        return 0;
+    };
+    let middle = scale.lowest(lowest) + scale.width(lowest) / 2;
+    u128::from(middle) * u128::from(number)
+}

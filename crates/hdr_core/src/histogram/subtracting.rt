@@ -1,0 +1,121 @@
+//! Subtracting one histogram from another.
+
+ghost use Rattle.std.specs.Prelude.{◌≡◌, ℕ, ◌+◌, ◌-◌, ◌<◌, ◌≤◌, OnOk, IfErr, All, true, false, slice_index, slice_set, length};
+ghost use Rattle.hdr_base.specs.Classes.{bin_of, value_of};
+ghost use Rattle.hdr_model.specs.Marks.{IsTopMark, IsLowerMark};
+ghost use Rattle.hdr_model.specs.Plain.{grain, reach, max_of};
+ghost use Rattle.hdr_model.specs.Merging.{lowest_values};
+ghost use Rattle.hdr_model.specs.Samples.{in_class};
+ghost use Rattle.hdr_model.specs.Subtracting.{IsDifference};
+ghost use Rattle.hdr_model.specs.Refusals.{RefusesSubtraction};
+
+use super::Histogram;
+use super::merging::capped_sum;
+use crate::marks::Marks;
+use hdr_base::{Counter, Scale};
+use hdr_counts::Counts;
+use hdr_model::SubtractionError;
+
+impl<T: Counter> Histogram<T> {
+    /// Takes out what another histogram counted, each of its classes at its lowest value. An empty one changes nothing.
+    /// Refused where its `max` is past the reach, and where what it takes from a class is more than the class holds; a
+    /// refusal changes nothing. Total and marks are then those of the counters. It takes no memory.
+    pub fn subtract(&mut self, other: &Histogram<T>) -> Result<(), SubtractionError>
+        ensures none { other.now.total ≡ 0 → OnOk result (self.new ≡ self.old) }
+        ensures ok { OnOk result (0 < other.now.total → IsDifference self.old other.now self.new) }
+        ensures can { OnOk result (0 < other.now.total → max_of other.now ≤ reach self.old) }
+        ensures refused { IfErr result (λ e. RefusesSubtraction self.old other.now e × (self.new ≡ self.old)) }
+    {
+        if other.total == 0 {
+            return Ok(());
+        }
+        if other.max() > self.reach() {
+            return Err(SubtractionError::SubtrahendValueExceedsMinuendRange);
+        }
+        if !self.holds(other) {
+            return Err(SubtractionError::SubtrahendCountExceedsMinuendCount);
+        }
+        self.take_out(other);
+        Ok(())
+    }
+
+    /// Whether each bin holds what the classes of another histogram have there, each at its lowest value.
+    fn holds(&self, other: &Histogram<T>) -> bool
+        requires { max_of other.now ≤ reach self.now }
+        ensures yes { result ≡ true → (j : ℕ) → in_class (grain self.now) j (lowest_values other.now) ≤ slice_index self.now.counts j }
+        ensures no { result ≡ false → (j : ℕ) × (slice_index self.now.counts j < in_class (grain self.now) j (lowest_values other.now)) }
+    {
+        let mut at: usize = 0;
+        let mut sum: u128 = 0;
+        for bin in 0..other.counts.len() {
+            let count = other.counts.get(bin).as_u64();
+            if count > 0 {
+                let target = self.bin_of_class(other, bin);
+                let before = if target == at { sum } else { 0 };
+                at = target;
+                sum = before + u128::from(count);
+                if sum > u128::from(self.counts.get(at).as_u64()) {
+                    return false;
+                }
+            }
+        }
+        true
+    }
+
+    /// The bin of the lowest value of another histogram's class.
+    fn bin_of_class(&self, other: &Histogram<T>, bin: usize) -> usize
+        requires inside { bin < length other.now.counts }
+        requires reached { value_of (grain other.now) bin ≤ reach self.now }
+        ensures value { result ≡ bin_of (grain self.now) (value_of (grain other.now) bin) }
+        ensures bound { result < length self.now.counts }
+    {
+        self.scale.bin(other.class_value(bin))
+    }
+
+    /// Takes out what another histogram holds, where each bin has enough.
+    fn take_out(&mut self, other: &Histogram<T>)
+        requires { (j : ℕ) → in_class (grain self.old) j (lowest_values other.now) ≤ slice_index self.old.counts j }
+        ensures { IsDifference self.old other.now self.new }
+    {
+        take_each(&mut self.counts, self.scale, other);
+        self.total = capped_sum(&self.counts);
+        self.marks = marks_of(&self.counts);
+    }
+}
+
+/// Takes out what the classes of a histogram hold, each at its lowest value.
+fn take_each<T: Counter>(counts: &mut Counts<T>, scale: Scale, other: &Histogram<T>)
+    requires enough { (j : ℕ) → in_class scale j (lowest_values other.now) ≤ slice_index counts.old.numbers j }
+    requires fit { All (λ n. n ≤ T.greatest) counts.old.numbers }
+    ensures block { counts.new.block ≡ counts.old.block }
+    ensures bins { length counts.new.numbers ≡ length counts.old.numbers }
+    ensures fit { All (λ n. n ≤ T.greatest) counts.new.numbers }
+    ensures numbers { (j : ℕ) → slice_index counts.new.numbers j + in_class scale j (lowest_values other.now) ≡ slice_index counts.old.numbers j }
+{
+    for bin in 0..other.counts.len() {
+        let count = other.counts.get(bin);
+        if count.as_u64() > 0 {
+            let target = scale.bin(other.class_value(bin));
+            take_from(counts, target, count);
+        }
+    }
+}
+
+/// Takes a counter from the one at a place.
+fn take_from<T: Counter>(counts: &mut Counts<T>, target: usize, count: T)
+    requires inside { target < length counts.old.numbers }
+    requires enough { T.number count ≤ slice_index counts.old.numbers target }
+    ensures { counts.new ≡ record counts.old { numbers = slice_set counts.old.numbers target (slice_index counts.old.numbers target - T.number count) } }
+{
+    if let Some(rest) = counts.get(target).checked_sub(count) {
+        counts.set(target, rest);
+    }
+}
+
+/// The marks of counters.
+pub(super) fn marks_of<T: Counter>(counts: &Counts<T>) -> Marks
+    ensures top { IsTopMark counts.now.numbers result.top }
+    ensures lower { IsLowerMark counts.now.numbers result.lower }
+{
+    Marks::new(counts.last_nonzero(), counts.next_nonzero())
+}

@@ -1,0 +1,16 @@
+use Rattle.hdr_model.proofs.MergingStands.{grain-merged}
+use Rattle.hdr_model.proofs.MergingCorrects.{grain-merged_corrected}
+use Rattle.hdr_model.proofs.PlainAfter.{IsPlain-merged, IsPlain-merged_corrected}
+use Rattle.hdr_model.proofs.laws.adding_keeps.Goals as goal
+
+pub returns-clause-merged : goal.returns-clause-merged
+returns-clause-merged c = IsPlain-merged
+
+pub returns-clause-merged_classes : goal.returns-clause-merged_classes
+returns-clause-merged_classes c = grain-merged
+
+pub returns-clause-corrected : goal.returns-clause-corrected
+returns-clause-corrected c = IsPlain-merged_corrected
+
+pub returns-clause-corrected_classes : goal.returns-clause-corrected_classes
+returns-clause-corrected_classes c = grain-merged_corrected

@@ -1,0 +1,14 @@
+pub mod Marks
+pub mod Plain
+pub mod Recording
+pub mod Correction
+pub mod Merging
+pub mod Samples
+pub mod Subtracting
+pub mod Refusals
+pub mod Quantiles
+pub mod Statistics
+pub mod Equality
+pub mod Joining
+pub mod Filling
+pub mod Runs

@@ -1,0 +1,70 @@
+-- A histogram as numbers alone. (Fields and read-outs of the Rust crate's `Histogram`: a vector of counters, a total and two
+-- marks; here there are no counters, only their numbers.)
+use Rattle.std.specs.Prelude.{◌≡◌, ◌==◌, ℕ, ◌-◌, ◌*◌, ◌^◌, ◌<◌, ◌≤◌, Bool, ◌||◌, nat_lt, if◌then◌else◌, min, Option, None, IfSome, List, length, replicate, slice_index, All, sum}
+use Rattle.hdr_base.specs.Classes.{Grain, grain_of, reach_of, bins_to, HasScale}
+use Rattle.hdr_model.specs.Marks.{IsAbove, IsBelow, top_of_mark, value_of_mark}
+
+-- the bounds, a number for each bin, how many samples there are, and the classes that enclose the nonempty ones: the top
+-- mark all of them, the lower mark those behind the first
+pub record Plain : Type 0 where
+  pub low : ℕ
+  pub high : ℕ
+  pub sigfig : ℕ
+  pub auto_resize : Bool
+  pub counts : List ℕ
+  pub total : ℕ
+  pub top_mark : Option ℕ
+  pub lower_mark : Option ℕ
+
+-- the unit and the digits of the classes
+abbrev pub grain : Plain → Grain
+grain h = grain_of h.low h.sigfig
+
+-- the greatest value that a bin holds
+unfoldable pub reach : Plain → ℕ
+reach h = reach_of (grain h) h.high
+
+-- how many bins a block holds: half as many as the first bucket
+abbrev pub block_of : Plain → ℕ
+block_of h = 2 ^ ((grain h).digits - 1)
+
+-- what is true of every histogram, for counters that go up to the greatest
+pub record IsPlain (greatest : ℕ) (h : Plain) : Type 0 where
+  pub scale : HasScale h.low h.sigfig
+  pub high_fits : h.high < 2 ^ 64
+  pub wide : 2 * h.low ≤ h.high
+  pub bins : length h.counts ≡ bins_to (grain h) h.high
+  pub numbers_fit : All (λ n. n ≤ greatest) h.counts
+  pub total_fits : h.total < 2 ^ 64
+  pub total_covers : min (sum h.counts) (2 ^ 64 - 1) ≤ h.total
+  pub empty : h.total ≡ 0 → sum h.counts ≡ 0
+  pub nothing : sum h.counts ≡ 0 → h.total ≡ 0
+  pub top_in_bins : IfSome h.top_mark (λ i. i < length h.counts)
+  pub lower_in_bins : IfSome h.lower_mark (λ i. (0 < i) × (i < length h.counts))
+  pub none_above : (i : ℕ) → IsAbove h.top_mark i → slice_index h.counts i ≡ 0
+  pub none_below : (i : ℕ) → IsBelow h.lower_mark i → slice_index h.counts i ≡ 0
+
+-- the greatest value that counts as recorded (`max`)
+unfoldable pub max_of : Plain → ℕ
+max_of h = top_of_mark (grain h) h.top_mark
+
+-- the lowest value behind the first class that counts as recorded (`min_nz`)
+unfoldable pub min_nz_of : Plain → ℕ
+min_nz_of h = value_of_mark (grain h) h.lower_mark
+
+-- the lowest value that counts as recorded (`min`)
+unfoldable pub min_of : Plain → ℕ
+min_of h = if (h.total == 0) || nat_lt 0 (slice_index h.counts 0) then 0 else min_nz_of h
+
+-- a histogram of those bounds in which nothing was recorded (`new_with_bounds`)
+unfoldable pub empty_plain : ℕ → ℕ → ℕ → Bool → Plain
+empty_plain low high sigfig auto_resize = record {
+  low = low;
+  high = high;
+  sigfig = sigfig;
+  auto_resize = auto_resize;
+  counts = replicate (bins_to (grain_of low sigfig) high) 0;
+  total = 0;
+  top_mark = None;
+  lower_mark = None;
+}

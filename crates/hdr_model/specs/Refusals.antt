@@ -1,0 +1,73 @@
+-- When a call is refused.
+use Rattle.std.specs.Prelude.{◌≡◌, ◌⊎◌, ◌+◌, ◌*◌, ◌^◌, ◌<◌, ◌≤◌, ℕ, true, false, slice_index}
+use Rattle.hdr_model.specs.Plain.{Plain, reach, max_of, grain}
+use Rattle.hdr_model.specs.Merging.{highest_top, lowest_values}
+use Rattle.hdr_model.specs.declared.errors.AdditionError.{AdditionError}
+use Rattle.hdr_model.specs.declared.errors.AdditionError.TheVariants as addition
+use Rattle.hdr_model.specs.declared.errors.RecordError.{RecordError}
+use Rattle.hdr_model.specs.declared.errors.RecordError.TheVariants.{ValueOutOfRangeResizeDisabled, ResizeFailedUsizeTypeTooSmall, OutOfMemory}
+use Rattle.hdr_base.specs.Classes.{unit_of, digits_of, HasScale}
+use Rattle.hdr_model.specs.declared.errors.CreationError.{CreationError}
+use Rattle.hdr_model.specs.declared.errors.CreationError.TheVariants as make
+use Rattle.hdr_model.specs.Recording.{after_reset}
+use Rattle.hdr_model.specs.Samples.{in_class}
+use Rattle.hdr_model.specs.declared.errors.SubtractionError.{SubtractionError}
+use Rattle.hdr_model.specs.declared.errors.SubtractionError.TheVariants.{SubtrahendValueExceedsMinuendRange, SubtrahendCountExceedsMinuendCount}
+
+-- a value has a bin, or bins can be made for it
+abbrev pub HasRoom : Plain → ℕ → Type 0
+HasRoom h x = (x ≤ reach h) ⊎ (h.auto_resize ≡ true)
+
+-- a value past the reach is refused where the bins may not grow, and else for want of memory alone
+abbrev pub RefusesRecord : Plain → ℕ → RecordError → Type 0
+RefusesRecord h v ValueOutOfRangeResizeDisabled = (reach h < v) × (h.auto_resize ≡ false)
+RefusesRecord h v ResizeFailedUsizeTypeTooSmall = ⊥
+RefusesRecord h v OutOfMemory = (reach h < v) × (h.auto_resize ≡ true)
+
+-- bounds that a histogram can have
+pub record IsBounds (low high sigfig : ℕ) : Type 0 where
+  pub low_fits : low < 2 ^ 63
+  pub wide : 2 * low ≤ high
+  pub scale : HasScale low sigfig
+
+-- the first bound that does not hold refuses a histogram, and where all hold, want of memory alone
+abbrev pub RefusesBounds : ℕ → ℕ → ℕ → CreationError → Type 0
+RefusesBounds low high sigfig make.LowIsZero = low < 1
+RefusesBounds low high sigfig make.LowExceedsMax = 2 ^ 63 ≤ low
+RefusesBounds low high sigfig make.HighLessThanTwiceLow = (0 < low) × (low < 2 ^ 63) × (high < 2 * low)
+RefusesBounds low high sigfig make.SigFigExceedsMax = (0 < low) × (low < 2 ^ 63) × (2 * low ≤ high) × (5 < sigfig)
+RefusesBounds low high sigfig make.CannotRepresentSigFigBeyondLow = (0 < low) × (low < 2 ^ 63) × (2 * low ≤ high) × (sigfig ≤ 5) × (63 < unit_of low + digits_of sigfig)
+RefusesBounds low high sigfig make.UsizeTypeTooSmall = ⊥
+RefusesBounds low high sigfig make.OutOfMemory = IsBounds low high sigfig
+
+-- room for a value past the reach is refused where the bins may not grow, and else for want of memory alone
+abbrev pub RefusesRoom : Plain → ℕ → AdditionError → Type 0
+RefusesRoom h x addition.OtherAddendValueExceedsRange = (reach h < x) × (h.auto_resize ≡ false)
+RefusesRoom h x addition.ResizeFailedUsizeTypeTooSmall = ⊥
+RefusesRoom h x addition.OutOfMemory = (reach h < x) × (h.auto_resize ≡ true)
+
+-- a source that isn't empty is refused where there is no room for its greatest value
+abbrev pub RefusesAddition : Plain → Plain → AdditionError → Type 0
+RefusesAddition h s e = (0 < s.total) × RefusesRoom h (max_of s) e
+
+-- a source to be corrected is refused where the top of its last nonempty class would be
+abbrev pub RefusesCorrected : Plain → Plain → RecordError → Type 0
+RefusesCorrected h s e = RefusesRecord h (highest_top s) e
+
+-- what `set_to` leaves where it is refused: for memory the target as it was, for range the target reset
+abbrev pub LeavesSet : Plain → Plain → AdditionError → Type 0
+LeavesSet old new addition.OutOfMemory = new ≡ old
+LeavesSet old new addition.OtherAddendValueExceedsRange = new ≡ after_reset old
+LeavesSet old new addition.ResizeFailedUsizeTypeTooSmall = ⊥
+
+-- what `set_to_corrected` leaves where it is refused: for memory the target as it was, for range the target reset
+abbrev pub LeavesCorrected : Plain → Plain → RecordError → Type 0
+LeavesCorrected old new OutOfMemory = new ≡ old
+LeavesCorrected old new ValueOutOfRangeResizeDisabled = new ≡ after_reset old
+LeavesCorrected old new ResizeFailedUsizeTypeTooSmall = ⊥
+
+-- a source that isn't empty is refused where its greatest value is past the reach, or a class holds less than it takes there
+abbrev pub RefusesSubtraction : Plain → Plain → SubtractionError → Type 0
+RefusesSubtraction h s SubtrahendValueExceedsMinuendRange = (0 < s.total) × (reach h < max_of s)
+RefusesSubtraction h s SubtrahendCountExceedsMinuendCount =
+    (0 < s.total) × (max_of s ≤ reach h) × ((i : ℕ) × (slice_index h.counts i < in_class (grain h) i (lowest_values s)))

@@ -1,0 +1,19 @@
+-- The samples that a histogram stands for.
+use Rattle.std.specs.Prelude.{◌≡◌, ◌==◌, ℕ, ◌^◌, ◌<◌, ◌≤◌, List, length, slice_index, count_by, All}
+use Rattle.hdr_base.specs.Classes.{Grain, bin_of}
+use Rattle.hdr_model.specs.Plain.{Plain, grain, reach}
+
+-- how many samples lie in a class
+abbrev pub in_class : Grain → ℕ → List ℕ → ℕ
+in_class g i S = count_by (λ s. bin_of g s == i) S
+
+-- each number of the histogram is how many of the samples lie in its class, none lies past the reach, and the total is how many there are
+pub record StandsFor (h : Plain) (S : List ℕ) : Type 0 where
+  pub numbers : (i : ℕ) → i < length h.counts → slice_index h.counts i ≡ in_class (grain h) i S
+  pub within : All (λ s. s ≤ reach h) S
+  pub total : h.total ≡ length S
+
+-- the samples can be counted: in all, and in each class
+pub record Fits (greatest : ℕ) (g : Grain) (S : List ℕ) : Type 0 where
+  pub in_all : length S < 2 ^ 64
+  pub in_classes : (i : ℕ) → in_class g i S ≤ greatest
