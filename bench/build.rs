@@ -1,5 +1,5 @@
 //! Links the program `bench` with the static library of the workloads over this repository's crates, and with the kit's C
-//! library behind it, where `run` names them. No other program needs them.
+//! library after it, where `run` names them. No other program needs them.
 
 fn main() {
     for variable in ["HDR_BENCH", "HDR_BENCH_C"] {

@@ -2,8 +2,8 @@
 //!
 //!     rows SEED COUNT | crates/hdr_rows/out/hdr_rows
 //!
-//! What is known to differ is left out: marks behind a reset at a unit above 1 or behind a subtraction, sums behind a
-//! subtraction from counters that may be full, the state behind a refused subtraction or corrected addition, equality of
+//! What is known to differ is left out: marks after a reset at a unit above 1 or after a subtraction, sums after a
+//! subtraction from counters that may be full, the state after a refused subtraction or corrected addition, equality of
 //! arrays of unequal length, and quantiles of more samples than an f64 counts.
 
 use hdrhistogram::{Counter, Histogram};

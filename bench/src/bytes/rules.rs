@@ -113,7 +113,7 @@ fn are_bounds(header: Header) -> bool {
         && unit_bits(low) + digit_bits(sigfig) <= 63
 }
 
-/// The number that is spelt at a place, and the place behind it.
+/// The number that is spelt at a place, and the place after it.
 fn spelled(payload: &[u8], mut at: usize) -> Result<(u64, usize), Fault> {
     let mut number = 0;
     for group in 0..9 {

@@ -143,7 +143,7 @@ fn damage(text: &mut Vec<u8>, random: &mut Random) {
     }
 }
 
-/// A text of any kind, with bytes behind it, and whether the Rust crate wrote it and nothing was damaged.
+/// A text of any kind, with bytes after it, and whether the Rust crate wrote it and nothing was damaged.
 pub fn any(random: &mut Random) -> (Vec<u8>, bool) {
     let kind = random.below(64);
     let is_written = kind < 32;

@@ -75,7 +75,7 @@ module _ (g : Grain) (v : ℕ) where
   unfolding width_of
   place-below = div_below v (2 ^ (g.unit + bucket g v)) (2 ^ g.digits) (pow_pos _) (rw (end-as-product (bucket g v)) at (bucket-end g v))
 
-  -- and behind the first bucket it is in the second half
+  -- and after the first bucket it is in the second half
   pub place-above : 0 < g.digits → 0 < bucket g v → 2 ^ (g.digits - 1) ≤ v / width_of g v
   unfolding width_of
   place-above m k =

@@ -1,4 +1,4 @@
--- Classes are intervals one behind the other, and their exponents are the least.
+-- Classes are intervals one after the other, and their exponents are the least.
 use Rattle.std.proofs.Common.{◌≡◌, ℕ, ◌+◌, ◌-◌, ◌*◌, ◌/◌, ◌^◌, ◌%◌, ◌<◌, ◌≤◌, refl, sym, ap, ◌∙◌, arith, inl, inr}
 use Rattle.std.proofs.lemmas.Bool.{cases_lt}
 use Rattle.std.proofs.lemmas.Nat.{pow_pos, pow-add, mul-le, one_shl}
@@ -68,7 +68,7 @@ pub inside-class : (g : Grain) (v x : ℕ) → 0 < g.digits → lowest_of g v �
 unfolding top_of
 inside-class g v x m from to = bin-equivalent g x v m (same-bin g v x m from (omega (arith, width-pos g v)))
 
--- the next class begins behind the top of one, and has the next number
+-- the next class begins after the top of one, and has the next number
 module _ (g : Grain) (v : ℕ) (m : 0 < g.digits) where
   next-begins : (k q : ℕ) → top_of g v + 1 ≡ q * 2 ^ (g.unit + k) → q < 2 ^ g.digits → (0 < k → 2 ^ (g.digits - 1) ≤ q)
       → (lowest_of g (top_of g v + 1) ≡ top_of g v + 1) × (bin_of g (top_of g v + 1) ≡ k * 2 ^ (g.digits - 1) + q)

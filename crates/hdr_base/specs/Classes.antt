@@ -1,4 +1,4 @@
--- The classes of values that are counted together. Where each definition comes from stands behind it: the Rust crate's
+-- The classes of values that are counted together. Where each definition comes from follows it: the Rust crate's
 -- documentation of that item.
 use Rattle.std.specs.Prelude.{◌≡◌, ℕ, ◌+◌, ◌-◌, ◌*◌, ◌/◌, ◌%◌, ◌^◌, ◌<◌, ◌≤◌, Bool, true, false, nat_lt, nat_le}
 use Rattle.std.proofs.Common.{zero, suc}

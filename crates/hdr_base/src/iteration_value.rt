@@ -90,7 +90,7 @@ impl<T: Counter> IterationValue<T> {
         self.count_at
     }
 
-    /// How many samples came since the step before, up to the greatest `u64`.
+    /// How many samples came since the step before, up to `u64::MAX`.
     pub fn count_since_last_iteration(&self) -> u64
         ensures { result ≡ self.now.since }
     {

@@ -12,8 +12,8 @@ pub fn equivalence()
         → AreEquivalent (grain_of low sigfig) a b ↔ (bin_of (grain_of low sigfig) a ≡ bin_of (grain_of low sigfig) b) }
 {}
 
-/// Classes are intervals that cover 0 to the greatest `u64`, in the order of their numbers: the first begins at 0, each
-/// other begins behind the one before, none overlaps another.
+/// Classes are intervals that cover 0 to `u64::MAX`, in the order of their numbers: the first begins at 0, each
+/// other begins after the one before, none overlaps another.
 pub fn intervals()
     ensures first { (g : Grain) → (lowest_of g 0 ≡ 0) × (bin_of g 0 ≡ 0) }
     ensures member { (g : Grain) (v : ℕ) → (lowest_of g v ≤ v) × (v ≤ top_of g v) }

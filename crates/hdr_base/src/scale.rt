@@ -151,7 +151,7 @@ impl Scale {
         1 << (self.digits - 1)
     }
 
-    /// The lowest value of the class of a number; `None` past the class of the greatest `u64`.
+    /// The lowest value of the class of a number; `None` past the class of `u64::MAX`.
     pub fn bin_value(self, index: usize) -> Option<u64>
         ensures value { MatchOption result (bin_of self (2 ^ 64 - 1) < index) (λ v. (bin_of self v ≡ index) × (lowest_of self v ≡ v)) }
         ensures formula { IfSome result (λ v. v ≡ value_of self index) }
@@ -165,7 +165,7 @@ impl Scale {
         Some((place as u64) << (self.unit + bucket as u8))
     }
 
-    /// The greatest value of the class of a number; `None` past the class of the greatest `u64`.
+    /// The greatest value of the class of a number; `None` past the class of `u64::MAX`.
     pub fn bin_top(self, index: usize) -> Option<u64>
         ensures { MatchOption result (bin_of self (2 ^ 64 - 1) < index) (λ t. t ≡ top_of self (value_of self index)) }
     {

@@ -33,7 +33,7 @@ impl Ticks {
         self.count
     }
 
-    /// One step more. The caller sees to it that the count is below the greatest `u64`.
+    /// One step more. The caller sees to it that the count is below `u64::MAX`.
     pub fn tick(&mut self)
         requires { self.old < 2 ^ 64 - 1 }
         ensures { self.new ≡ self.old + 1 }

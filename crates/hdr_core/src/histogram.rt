@@ -60,7 +60,7 @@ impl<T: Counter> Model for Histogram<T> {
 impl<T: Counter> Histogram<T> {
     /// A histogram of values from 0 to at least `high`, which keeps `sigfig` digits of those from `low` on and does not
     /// grow. `low` is 1 to `u64::MAX / 2`, `high` at least twice `low`, `sigfig` 0 to 5; the first of these that does
-    /// not hold is the error, and then want of memory.
+    /// not hold is the error, and then lack of memory.
     pub fn new_with_bounds(
         alloc: Global,
         low: u64,
@@ -141,7 +141,7 @@ impl<T: Counter> Histogram<T> {
         self.sigfig
     }
 
-    /// How many samples were recorded, up to the greatest `u64`.
+    /// How many samples were recorded, up to `u64::MAX`.
     pub fn len(&self) -> u64
         ensures { result ≡ self.now.total }
     {
@@ -259,7 +259,7 @@ impl<T: Counter> Histogram<T> {
         }
     }
 
-    /// The lowest value of the first class behind the first that counts as recorded, the greatest `u64` where none does.
+    /// The lowest value of the first class after the first that counts as recorded, `u64::MAX` where none does.
     pub fn min_nz(&self) -> u64
         ensures { result ≡ min_nz_of self.now }
     {

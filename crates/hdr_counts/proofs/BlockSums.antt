@@ -21,7 +21,7 @@ sum_below-set_in ns i j n h l =
     let g : get_or (take j ns) i 0 ≡ get_or ns i 0 = get_or-take j ns i 0 h in
     omega (arith, e, f, g)
 
--- a sum of more places, by the sum of those behind
+-- a sum of more places, by the sum of those after
 pub sum_below-add : (ns : List ℕ) (a j : ℕ) → sum_below ns (a + j) ≡ sum_below ns a + sum_below (drop a ns) j
 sum_below-add ns a j =
     let e : sum (take a (take (a + j) ns)) + sum (drop a (take (a + j) ns)) ≡ sum (take (a + j) ns) = sum_by-take-drop (λ x. x) (take (a + j) ns) a in
@@ -57,7 +57,7 @@ sum_below-of_zeros : (m j : ℕ) → sum_below (replicate m 0) j ≡ 0
 sum_below-of_zeros m j =
     omega (arith, sum_below-le-sum (replicate m 0) j, sum-zeros m)
 
--- zeros behind change no sum
+-- zeros after change no sum
 pub sum_below-zeros : (ns : List ℕ) (m j : ℕ) → sum_below (ns ++ replicate m 0) j ≡ sum_below ns j
 sum_below-zeros ns m j =
     ⊎_elim
@@ -255,7 +255,7 @@ block-sum f xs b k ss h lt =
     let e : k * b + b ≡ (k + 1) * b = omega arith in
     omega (arith, h.each k lt, part_whole f xs (k * b) b, ap (sum_below (map f xs)) e)
 
--- a block of a list written anew, and the sums up to a place before it and behind it
+-- a block of a list written anew, and the sums up to a place before it and after it
 module _ (ns part : List ℕ) (a b : ℕ) (len : length part ≡ b) (room : a + b ≤ length ns) where
   written : List ℕ
   written = take a ns ++ (part ++ drop (a + b) ns)

@@ -54,7 +54,7 @@ pub capped-next : (greatest : ℕ) (ms ns : List ℕ) (i : ℕ) → i < length m
     → set (capped_sums greatest ms (take i ns)) i (min (get_or (capped_sums greatest ms (take i ns)) i 0 + get_or ns i 0) greatest) ≡ capped_sums greatest ms (take (i + 1) ns)
 capped-next greatest ms ns i a b = rw add-one (sym (capped-more greatest ms ns i a b))
 
--- a front of both lists, and what stands behind it
+-- a front of both lists, and what follows it
 capped-front : (greatest : ℕ) (b : ℕ) (ms ns : List ℕ) → capped_sums greatest (take b ms) (take b ns) ++ drop b ms ≡ capped_sums greatest ms (take b ns)
 capped-front greatest zero ms ns = sym (capped-none greatest ms)
 capped-front greatest (suc b) [] ns = refl

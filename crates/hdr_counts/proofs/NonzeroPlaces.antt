@@ -56,7 +56,7 @@ last-before f xs a w e i end lt last behind = (
 abbrev pub ZerosUpTo : List ℕ → ℕ → Type 0
 ZerosUpTo ns e = (j : ℕ) → 0 < j → j < e → get_or ns j 0 ≡ 0
 
--- a block of zeros behind zeros
+-- a block of zeros after zeros
 pub zeros-behind : {X : Type 0} (f : X → ℕ) (xs : List X) (b a w e : ℕ) → a ≡ max b 1 → e ≡ a + w → ZerosUpTo (map f xs) b → AreZeros (map f (take w (drop a xs))) → ZerosUpTo (map f xs) e
 zeros-behind f xs b a w e from end before zeros j some lt =
     elim (cases_lt j a) [
@@ -64,7 +64,7 @@ zeros-behind f xs b a w e from end before zeros j some lt =
       | inr ge ↦ whole-get f xs a w j ge (omega arith) ∙ zeros (j - a)
     ]
 
--- the first place of a block behind zeros
+-- the first place of a block after zeros
 pub first-behind : {X : Type 0} (f : X → ℕ) (xs : List X) (b a w i : ℕ) → a ≡ max b 1 → i < w → ZerosUpTo (map f xs) b → IsFirstNonzero (map f (take w (drop a xs))) i
     → (0 < get_or (map f xs) (a + i) 0) × ZerosUpTo (map f xs) (a + i)
 first-behind f xs b a w i from lt before first = (

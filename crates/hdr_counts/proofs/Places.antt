@@ -18,7 +18,7 @@ less-left f xs i x rank rest at is left few =
     let more = sum_below_map_more f xs i x at is in
     omega (arith, more)
 
--- where something is left behind the last place, the rank is not reached
+-- where something is left after the last place, the rank is not reached
 pub none-left : {X : Type 0} (f : X → ℕ) (xs : List X) (i rank rest : ℕ) → length xs ≤ i → rest + sum_below (map f xs) i ≡ rank → 0 < rest → sum (map f xs) < rank
 none-left f xs i rank rest end left some =
     let len : length (map f xs) ≡ length xs = length-map xs f in

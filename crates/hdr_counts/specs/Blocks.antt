@@ -11,7 +11,7 @@ pub record Blocks : Type 0 where
 abbrev pub sum_below : List ℕ → ℕ → ℕ
 sum_below numbers i = sum (take i numbers)
 
--- i is the first place where the sum up to and with it reaches the rank
+-- i is the first place where the sum up to and including it reaches the rank
 abbrev pub IsFirstToReach : List ℕ → ℕ → ℕ → Type 0
 IsFirstToReach numbers rank i =
     (i < length numbers) × (sum_below numbers i < rank) × (rank ≤ sum_below numbers (i + 1))
@@ -33,13 +33,13 @@ pub record Searched : Type 0 where
   pub numbers : List ℕ
   pub passed : ℕ
 
--- how many sums and numbers are looked at to find a place: the sum of each block up to and with the place's, and each
--- number of that block up to and with the place; the sum of each block where there is no place
+-- how many sums and numbers are looked at to find a place: the sum of each block up to and including the place's, and each
+-- number of that block up to and including the place; the sum of each block where there is no place
 abbrev pub looks : ℕ → ℕ → Option ℕ → ℕ
 looks block places None = places / block
 looks block places (Some i) = i / block + 1 + (i % block + 1)
 
--- two lists added place by place, each sum at most the greatest; numbers behind the end of the second count as 0
+-- two lists added place by place, each sum at most the greatest; numbers after the end of the second count as 0
 abbrev pub capped_sums : ℕ → List ℕ → List ℕ → List ℕ
 capped_sums greatest (m ∷ ms) (n ∷ ns) = min (m + n) greatest ∷ capped_sums greatest ms ns
 capped_sums greatest ms ns = ms
@@ -63,7 +63,7 @@ pub record AreHeld (greatest block : ℕ) (numbers sums : List ℕ) (shift : Opt
   pub shift_is : IsShift block shift
   pub fit : All (λ n. n ≤ greatest) numbers
 
--- numbers, and zeros behind them up to a length
+-- numbers, and zeros after them up to a length
 abbrev pub with_zeros : List ℕ → ℕ → List ℕ
 with_zeros numbers len = numbers ++ replicate (len - length numbers) 0
 

@@ -44,7 +44,7 @@ impl<T: Counter> Model for Counts<T> {
 }
 
 impl<T: Counter> Counts<T> {
-    /// Counters of 0, `blocks` times `block` of them. Refused for want of memory alone.
+    /// Counters of 0, `blocks` times `block` of them. Refused for lack of memory alone.
     pub fn new(alloc: Global, blocks: usize, block: usize) -> Result<Counts<T>, AllocError>
         requires some { 1 ≤ block }
         requires few { blocks * block ≤ 6291456 }
@@ -60,7 +60,7 @@ impl<T: Counter> Counts<T> {
         Ok(counts)
     }
 
-    /// As many blocks as `blocks`, the new ones all zero. Refused for want of memory alone, and then unchanged.
+    /// As many blocks as `blocks`, the new ones all zero. Refused for lack of memory alone, and then unchanged.
     pub fn grow(&mut self, blocks: usize) -> Result<(), AllocError>
         requires more { length self.old.numbers ≤ blocks * self.old.block }
         requires few { blocks * self.old.block ≤ 6291456 }
@@ -135,7 +135,7 @@ impl<T: Counter> Counts<T> {
         clear_blocks(&mut self.counters, &mut self.sums, self.block);
     }
 
-    /// The exact sum of the counters up to and with place `i`, by the sums of the blocks before its own.
+    /// The exact sum of the counters up to and including place `i`, by the sums of the blocks before its own.
     pub fn sum_to(&self, i: usize) -> u128
         requires { i < length self.now.numbers }
         ensures { result ≡ sum_below self.now.numbers (i + 1) }
@@ -148,8 +148,8 @@ impl<T: Counter> Counts<T> {
         total + self.sum_in_block(k, i)
     }
 
-    /// The first place where the sum up to and with it reaches `rank`, with a tick for each look at a block's sum or at
-    /// a counter: at the sums up to and with that of the place's block, and then at that block's counters up to and
+    /// The first place where the sum up to and including it reaches `rank`, with a tick for each look at a block's sum or at
+    /// a counter: at the sums up to and including that of the place's block, and then at that block's counters up to and
     /// with the place. Where no place reaches the rank, each block's sum was looked at.
     pub fn find(&self, rank: u64, ticks: &mut Ticks) -> Option<usize>
         requires some { 1 ≤ rank }
@@ -174,7 +174,7 @@ impl<T: Counter> Counts<T> {
         None
     }
 
-    /// The first place where the sum up to and with it reaches `rank`: the answer of `find`, without counting looks.
+    /// The first place where the sum up to and including it reaches `rank`: the answer of `find`, without counting looks.
     pub fn first_reaching(&self, rank: u64) -> Option<usize>
         requires { 1 ≤ rank }
         ensures { MatchOption result (sum self.now.numbers < rank) (IsFirstToReach self.now.numbers rank) }
@@ -196,7 +196,7 @@ impl<T: Counter> Counts<T> {
         }
     }
 
-    /// The place where the sum up to and with it reaches `rest` more than the sum before a block, in a block that does.
+    /// The place where the sum up to and including it reaches `rest` more than the sum before a block, in a block that does.
     fn first_in_block(&self, k: usize, rest: u64) -> usize
         requires some { 1 ≤ rest }
         requires within { (k + 1) * self.now.block ≤ length self.now.numbers }

@@ -19,7 +19,7 @@ const PIECE: usize = 128;
 /// changes the sum of its block.
 #[derive(Debug, Drop)]
 pub struct OpenCounts<T: Counter> {
-    /// The first counters; those behind them are 0.
+    /// The first counters; those after them are 0.
     counters: Vec<T>,
     sums: Vec<u128>,
     block: usize,
@@ -43,7 +43,7 @@ impl<T: Counter> Model for OpenCounts<T> {
 
 impl<T: Counter> OpenCounts<T> {
     /// Counters of 0, `blocks` times `block` of them. `sets` is about how many will be set, and decides the time alone that
-    /// it takes. Refused for want of memory alone.
+    /// it takes. Refused for lack of memory alone.
     pub fn new(
         alloc: Global,
         blocks: usize,
@@ -91,7 +91,7 @@ impl<T: Counter> OpenCounts<T> {
         self.set_further(i, value);
     }
 
-    /// Puts a value at place `i` and another at the place behind it.
+    /// Puts a value at place `i` and another at the place after it.
     #[inline(always)]
     pub fn set_two(&mut self, i: usize, first: T, second: T)
         requires { i + 1 < length self.old.numbers }
@@ -151,7 +151,7 @@ impl<T: Counter> OpenCounts<T> {
     }
 }
 
-/// Has the counter at a place at hand, with zeros before it and behind it where it was not.
+/// Has the counter at a place at hand, with zeros before it and after it where it was not.
 fn cover<T: Counter>(counters: &mut Vec<T>, i: usize, len: usize)
     requires inside { i < len }
     requires few { len ≤ 6291456 }

@@ -39,7 +39,7 @@ impl<'a, T: Counter> Search<'a, T> {
         }
     }
 
-    /// The first place where the sum up to and with it reaches `rank`, which is above the sum that was passed over.
+    /// The first place where the sum up to and including it reaches `rank`, which is above the sum that was passed over.
     pub fn first_reaching(&mut self, rank: u64) -> Option<usize>
         requires { self.old.passed < rank }
         ensures numbers { self.new.numbers ≡ self.old.numbers }
@@ -72,7 +72,7 @@ pub(crate) fn look(number: u128, ticks: &mut Ticks) -> u128
     number
 }
 
-/// The first place where the sum up to and with it reaches `rest`, with a look at each counter on the way.
+/// The first place where the sum up to and including it reaches `rest`, with a look at each counter on the way.
 pub(crate) fn first_reaching_looked<T: Counter>(
     counters: &[T],
     mut rest: u64,
@@ -93,7 +93,7 @@ pub(crate) fn first_reaching_looked<T: Counter>(
     None
 }
 
-/// The first place where the sum up to and with it reaches `rest`; `whole` is the sum of all. Where that fits a `u64`,
+/// The first place where the sum up to and including it reaches `rest`; `whole` is the sum of all. Where that fits a `u64`,
 /// a few counters are added up at once.
 pub(crate) fn first_reaching<T: Counter>(counters: &[T], rest: u64, whole: u128) -> Option<usize>
     requires some { 1 ≤ rest }

@@ -92,7 +92,7 @@ within_front t r n l = λ k e.
     rises_over t r n (k / t) (k % t) last (ap (is_within t r n) on ∙ e))
     (cases_lt (k % t + 1) t)
 
--- the test of the code, with d behind the tick
+-- the test of the code, with d after the tick
 pub within_test : (t r n k d w : ℕ) → 1 ≤ w → r ≤ n → (tick_of t k).num + d ≡ w → (tick_of t k).den ≡ w → is_within t r n k ≡ leb (n - r) (d * n / w)
 within_test t r n k d w l m e f =
     let num : (tick_of t k).num ≡ w - d = omega (arith, e) in

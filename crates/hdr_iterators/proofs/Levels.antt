@@ -73,7 +73,7 @@ level_below h s j p q l =
     let b : linear_level s j < lowest_in h h.last = omega (arith, a, q) in
     omega (arith, before-class h.grain (linear_level s j) h.last p.digits b)
 
--- the others are picked at its bin or behind it
+-- the others are picked at its bin or after it
 pub level_not_below : (h : Seen) (s j : ℕ) → AreBins h → 1 ≤ s → first_end h s ≤ j → h.last ≤ place_of h (linear_level s j)
 level_not_below h s j p q l =
     let a : lowest_in h h.last < (j + 1) * s = lt_div (lowest_in h h.last) (j + 1) s q (omega (arith, l)) in
@@ -236,7 +236,7 @@ linear_step h s v i next end end' done' w f n e d =
     (verdict h s (v / s) v next p q ge w.level_is n))
     (cases_lt (v / s) (first_end h s))
 
--- no level to come is picked at or before a bin that the next one is behind
+-- no level to come is picked at or before a bin that the next one comes after
 pub levels_behind : (h : Seen) (s v i : ℕ) (end : Option ℕ) (done : Bool) → LinearStep h s v end done → i < place_of h v → NoneBefore (i + 1) (cond done [] (levels_from h s (v / s)))
 levels_behind h s v i end true w l = tt
 levels_behind h s v i end false w l =

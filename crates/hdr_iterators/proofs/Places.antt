@@ -19,7 +19,7 @@ before-class g v i m lt =
           )
     ]
 
--- any other lies in it or behind it
+-- any other lies in it or after it
 pub from-class : (g : Grain) (v i : ℕ) → 0 < g.digits → value_of g i ≤ v → i ≤ bin_of g v
 from-class g v i m le = omega (arith, bin-mono g (value_of g i) v m le, bin-value_of g i m)
 
@@ -57,7 +57,7 @@ wide-above g v fits le =
           )
     ]
 
--- the greatest u64 is not the lowest value of its class
+-- `u64::MAX` is not the lowest value of its class
 pub lowest-small : (h : Seen) (i : ℕ) → AreBins h → i < bins_in h → lowest_in h i < 2 ^ 64 - 1
 lowest-small h i p l =
     elim (cases_lt (lowest_in h i) (2 ^ 64 - 1)) [

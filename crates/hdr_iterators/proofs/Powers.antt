@@ -118,7 +118,7 @@ log_more h p b w l =
     ∙ (ap (λ q. q ∷ map (λ j. level_pick h (log_level p b j)) (range_with_len 1 (log_count h (capped (p * b)) b))) (first_pick h p b w.fits)
     ∙ ap (λ ps. level_pick h (p - 1) ∷ ps) (map_shift (λ j. level_pick h (log_level p b j)) (λ j. level_pick h (log_level (capped (p * b)) b j)) (λ j. ap (level_pick h) (level_shift p b j wide)) 0 (log_count h (capped (p * b)) b))))
 
--- the first level picked at the last recorded bin or behind it is the last one
+-- the first level picked at the last recorded bin or after it is the last one
 pub log_last : (h : Seen) (p b : ℕ) → LogStep h p b → h.last ≤ place_of h (p - 1) → log_picks h p b ≡ level_pick h (p - 1) ∷ []
 log_last h p b w l =
     let high : lowest_in h h.last ≤ p - 1 =
@@ -139,7 +139,7 @@ pub log_within : (h : Seen) (p b a n : ℕ) → 0 < bins_in h → AllBefore (bin
 log_within h p b a zero l = tt
 log_within h p b a (suc n) l = (omega (arith, l), log_within h p b (a + 1) n l)
 
--- no level to come is picked at or before a bin that the next one is behind
+-- no level to come is picked at or before a bin that the next one comes after
 pub log_behind : (h : Seen) (p b i : ℕ) (done : Bool) → LogStep h p b → i < place_of h (p - 1) → NoneBefore (i + 1) (cond done [] (log_picks h p b))
 log_behind h p b i true w l = tt
 log_behind h p b i false w l =

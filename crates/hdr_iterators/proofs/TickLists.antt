@@ -142,7 +142,7 @@ drop_filled h (suc k) (p ∷ ps) a = drop_filled h k ps a.1
 pub picks_filled : (h : Seen) (t k : ℕ) → AllFilled h (drop k (quantile_picks h t))
 picks_filled h t k = drop_filled h k (quantile_picks h t) (ticked_filled h t 0 (bins_in h - 0))
 
--- a list behind its first picks
+-- a list after its first picks
 drop_ahead : (i k : ℕ) (ps : List Pick) → NoneBefore i ps → NoneBefore i (drop k ps)
 drop_ahead i zero ps a = a
 drop_ahead i (suc k) [] a = tt
@@ -323,7 +323,7 @@ first_full h (suc i) l p f =
     (r.0, omega (arith, r.1), r.2, r.3, r.4))
     (cases_lt (capped (below h i)) h.total)
 
--- no pick was made at the first bin where the running count is the total, or behind it
+-- no pick was made at the first bin where the running count is the total, or after it
 not_behind : (h : Seen) (last : Option ℕ) (b : ℕ) → IsOpen h last → h.total ≤ running h b → bin_after last ≤ b
 not_behind h last b o f =
     ⊎_elim

@@ -11,7 +11,7 @@ le_div : (x y s : ℕ) → 1 ≤ s → y ≤ x / s → y * s ≤ x
 le_div x y s p l =
     ⊎_elim (λ (lt : x < y * s). absurd (omega (arith, (div-lt_iff_lt-mul {k = s} {x = x} {y = y} p).1 lt, l))) (λ (ge : y * s ≤ x). ge) (cases_lt x (y * s))
 
--- with what is behind the tick, d of d + e, and what is behind the count, a of a + r
+-- with what is after the tick, d of d + e, and what is after the count, a of a + r
 pub cross : (a r d e : ℕ) → e * (a + r) ≤ r * (d + e) → a * (d + e) ≤ d * (a + r)
 cross a r d e h = omega (arith, h)
 

@@ -9,7 +9,7 @@ use Rattle.hdr_iterators.specs.Places.{level_pick, linear_level, linear_count, l
 abbrev pub levels_from : Seen → ℕ → ℕ → List Pick
 levels_from h step j = map (λ k. level_pick h (linear_level step k)) (range_with_len j (linear_count h step - j))
 
--- the first pick at the last recorded bin or behind it sets the end
+-- the first pick at the last recorded bin or after it sets the end
 abbrev pub end_at : Seen → Option ℕ → ℕ → Option ℕ
 end_at h (Some e) i = Some e
 end_at h None i = if nat_lt i h.last then None else Some (top_in h i)

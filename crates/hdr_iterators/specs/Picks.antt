@@ -62,16 +62,16 @@ abbrev pub AllFilled : Seen → List Pick → Type 0
 AllFilled h [] = Unit {0}
 AllFilled h (p ∷ ps) = (0 < slice_index h.numbers p.place) × AllFilled h ps
 
--- the bin behind the one that was picked last
+-- the bin after the one that was picked last
 abbrev pub bin_after : Option ℕ → ℕ
 bin_after None = 0
 bin_after (Some i) = i + 1
 
--- a pick was made at the last bin that counts as recorded, or behind it
+-- a pick was made at the last bin that counts as recorded, or after it
 abbrev pub IsAtEnd : Seen → Option ℕ → Type 0
 IsAtEnd h last = h.last < bin_after last
 
--- what is asked at a bin is its number and the capped sum up to it, and no bin behind it was picked
+-- what is asked at a bin is its number and the capped sum up to it, and no bin after it was picked
 pub record IsAsked (h : Seen) (last : Option ℕ) (index total count : ℕ) : Type 0 where
   pub in_order : bin_after last ≤ index + 1
   pub inside : index < bins_in h

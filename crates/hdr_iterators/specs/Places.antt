@@ -27,7 +27,7 @@ recorded_picks h = map bin_pick (filter (is_nonempty h) (bins_from h 0))
 abbrev pub level_pick : Seen → ℕ → Pick
 level_pick h v = record { place = place_of h v; tick = None; level = Some v }
 
--- level number j of a step: the last value of the step, or the greatest u64 where that is above it
+-- level number j of a step: the last value of the step, or `u64::MAX` where that is above it
 abbrev pub linear_level : ℕ → ℕ → ℕ
 linear_level step j = capped ((j + 1) * step - 1)
 
@@ -40,7 +40,7 @@ abbrev pub linear_end : Seen → ℕ → ℕ
 linear_end h step = top_in h (place_of h (linear_level step (levels_below step (lowest_in h h.last))))
 
 -- how many levels come: those below the last recorded class and one more; and all that are at most the end, where the
--- greatest u64 comes once
+-- `u64::MAX` comes once
 abbrev pub linear_count : Seen → ℕ → ℕ
 linear_count h step =
     max (levels_below step (lowest_in h h.last) + 1)
@@ -49,7 +49,7 @@ linear_count h step =
 abbrev pub linear_picks : Seen → ℕ → List Pick
 linear_picks h step = map (λ j. level_pick h (linear_level step j)) (range_with_len 0 (linear_count h step))
 
--- level number j of a power: the start times the base so often, or the greatest u64 where that is above it, less 1
+-- level number j of a power: the start times the base so often, or `u64::MAX` where that is above it, less 1
 abbrev pub log_level : ℕ → ℕ → ℕ → ℕ
 log_level start base j = capped (start * base ^ j) - 1
 

@@ -10,7 +10,7 @@ pub record Seen : Type 0 where
   pub total : ℕ
   pub last : ℕ
 
--- a number, or the greatest u64 where it is above that
+-- a number, or `u64::MAX` where it is above that
 abbrev pub capped : ℕ → ℕ
 capped n = min n (2 ^ 64 - 1)
 
@@ -32,7 +32,7 @@ place_of h v = min (bin_of h.grain v) (bins_in h - 1)
 abbrev pub below : Seen → ℕ → ℕ
 below h i = sum (take i h.numbers)
 
--- the sum of the numbers up to bin i, up to the greatest u64
+-- the sum of the numbers up to bin i, up to `u64::MAX`
 abbrev pub running : Seen → ℕ → ℕ
 running h i = capped (below h (i + 1))
 

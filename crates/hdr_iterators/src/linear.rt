@@ -18,14 +18,14 @@ pub struct Iter<'a, T: Counter> {
     level: u64,
     /// The bin of the level, or the last bin.
     place: usize,
-    /// The top of the class where the first level at the last recorded bin or behind it was picked.
+    /// The top of the class where the first level at the last recorded bin or after it was picked.
     end: Option<u64>,
     done: bool,
 }
 
 impl<'a, T: Counter> Iter<'a, T> {
     /// The levels `step - 1`, `2 * step - 1`, .. up to the top of the class of the first that is not below the last
-    /// recorded class. A level past the greatest `u64` is that, and the last.
+    /// recorded class. A level past `u64::MAX` is that, and the last.
     pub fn new<H: Binned<T>>(histogram: &'a H, step: u64) -> HistogramIterator<'a, T, Iter<'a, T>>
         requires { 1 ≤ step }
         ensures { result ≡ items_of (H.seen histogram.now) (linear_picks (H.seen histogram.now) step) }

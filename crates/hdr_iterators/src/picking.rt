@@ -42,7 +42,7 @@ pub trait PickyIterator<T: Counter>: Drop {
     ghost goes_with: { Self → Seen → Option ℕ → Type 0 };
 
     /// Whether to stop at a bin, which is asked again until the picker declines. `total_count_to_index` is the sum of
-    /// the counters up to the bin, up to the greatest `u64`, and `count_at_index` the bin's counter.
+    /// the counters up to the bin, up to `u64::MAX`, and `count_at_index` the bin's counter.
     fn pick(
         &mut self,
         index: usize,
@@ -53,7 +53,7 @@ pub trait PickyIterator<T: Counter>: Drop {
             → MatchOption result (goes_with self.new h last × (picks self.new h ≡ picks self.old h) × NoneBefore (index + 1) (picks self.old h))
             (λ m. goes_with self.new h (Some index) × (picks self.old h ≡ record { place = index; tick = m.tick; level = m.level } ∷ picks self.new h)) };
 
-    /// Whether more may come, once a bin was picked that is the last recorded one or lies behind it.
+    /// Whether more may come, once a bin was picked that is the last recorded one or comes after it.
     fn more(&mut self, index_to_pick: usize) -> bool
         ensures kept { (h : Seen) (last : Option ℕ) → goes_with self.old h last → goes_with self.new h last × (picks self.new h ≡ picks self.old h) }
         ensures end { (h : Seen) (last : Option ℕ) → goes_with self.old h last → IsAtEnd h last → result ≡ false → picks self.old h ≡ [] };
@@ -70,9 +70,9 @@ pub trait PickyIterator<T: Counter>: Drop {
 #[derive(Drop)]
 pub struct HistogramIterator<'a, T: Counter, P: PickyIterator<T>> {
     bins: Bins<'a, T>,
-    /// The sum of the counters up to the current bin, up to the greatest `u64`.
+    /// The sum of the counters up to the current bin, up to `u64::MAX`.
     total_count_to_index: u64,
-    /// The sum of those behind the bin that was picked last, likewise.
+    /// The sum of those after the bin that was picked last, likewise.
     count_since_last_iteration: u64,
     count_at_index: T,
     current_index: usize,
@@ -163,7 +163,7 @@ impl<'a, T: Counter, P: PickyIterator<T>> Iterator for HistogramIterator<'a, T, 
     }
 }
 
-/// Whether a pick was made at the last recorded bin or behind it, and the picker has no more.
+/// Whether a pick was made at the last recorded bin or after it, and the picker has no more.
 fn has_ended<T: Counter, P: PickyIterator<T>>(
     picker: &mut P,
     last_picked_index: Option<usize>,

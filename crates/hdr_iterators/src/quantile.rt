@@ -49,7 +49,7 @@ impl Tick {
         u128::from(self.per_half) << (self.half + 1)
     }
 
-    /// How many of them are behind the tick.
+    /// How many of them are after the tick.
     fn behind(&self) -> u128
         ensures value { (tick_of self.now.per_half self.now.number).num + result ≡ (tick_of self.now.per_half self.now.number).den }
         ensures few { result < 2 ^ 33 }

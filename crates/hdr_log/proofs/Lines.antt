@@ -69,7 +69,7 @@ regroup front tag rest = simp append_assoc
 some_tag : (tag rest behind_tag line : List ℕ) → split_at_byte 44 rest ≡ Some (tag, behind_tag) → is_tag tag ≡ true → tag_of (Some rest) line ≡ Some (Some tag, behind_tag)
 some_tag tag rest behind_tag line p ok = rw (p, ok) refl
 
--- the tag is read, and what stands behind it
+-- the tag is read, and what follows it
 pub tag_read : (tag : Option (List ℕ)) (t : ℕ) (rest : List ℕ) → AreTags tag → t / 1000 < 2 ^ 64 → tag_of (behind (codes "Tag=") (tag_front tag ++ (thousandths t ++ rest))) (tag_front tag ++ (thousandths t ++ rest)) ≡ Some (tag, thousandths t ++ rest)
 tag_read None t rest ok h =
     let b : (x : ℕ) × (more : List ℕ) × (thousandths t ≡ x ∷ more) × (is_ascii_digit x ≡ true) = begins t h in

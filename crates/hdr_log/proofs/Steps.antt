@@ -8,7 +8,7 @@ use Rattle.hdr_log.specs.Parts.{parts, split_at_byte}
 use Rattle.hdr_log.specs.Grammar.{Entry, entry_of, is_skipped, and_then, readings}
 use Rattle.hdr_log.proofs.Fronts.{lt_test, not_lt_test, parted_whole}
 
--- the lines behind a line
+-- the lines after a line
 pub split_parted : (text line rest : List ℕ) → split_at_byte 10 text ≡ Some (line, rest) → parts 10 text ≡ line ∷ parts 10 rest
 unfolding split_at_byte
 split_parted text line rest h = elim (cases_lt (position_or_len (λ x. x == 10) text) (length text)) [

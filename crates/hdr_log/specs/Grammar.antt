@@ -8,7 +8,7 @@ use Rattle.std.specs.Char.{is_ascii_digit}
 use Rattle.std.specs.Str.Parse.{digits_value, without_leading_plus}
 use Rattle.hdr_log.specs.Parts.{◌>>=◌, parts, split_at_byte, is_digits, number_of}
 
--- the nanoseconds that digits behind the point spell: the first nine count, and as many zeros as lack stand behind
+-- the nanoseconds that digits after the point spell: the first nine count, and as many zeros as lack follow
 unfoldable pub nanos_of : List ℕ → Option ℕ
 nanos_of text = if is_digits text then Some (digits_value 10 (take 9 text) * 10 ^ (9 - length (take 9 text))) else None
 
@@ -20,14 +20,14 @@ time_of text = do
   nanos ← nanos_of sides.1
   Some (seconds * 1_000_000_000 + nanos)
 
--- a time that ends at the first byte b, and what stands behind that
+-- a time that ends at the first byte b, and what follows that
 unfoldable pub time_before : ℕ → List ℕ → Option (ℕ × List ℕ)
 time_before b text = do
   sides ← split_at_byte b text
   time ← time_of sides.0
   Some (time, sides.1)
 
--- what stands behind a front
+-- what follows a front
 abbrev pub behind : List ℕ → List ℕ → Option (List ℕ)
 behind [] text = Some text
 behind (c ∷ front) [] = None
@@ -41,7 +41,7 @@ is_tag_byte b = not (b == 44 || b == 13 || b == 10 || b == 32)
 abbrev pub is_tag : List ℕ → Bool
 is_tag text = is_utf8 text && list_all is_tag_byte text
 
--- a decimal, by its sides where it has a point: one digit or more, and at most one point before, among or behind them
+-- a decimal, by its sides where it has a point: one digit or more, and at most one point before, among or after them
 abbrev pub digits_around : Option (List ℕ × List ℕ) → List ℕ → Bool
 digits_around None text = is_digits text
 digits_around (Some p) text = list_all is_ascii_digit p.0 && list_all is_ascii_digit p.1 && not (length p.0 == 0 && length p.1 == 0)
@@ -73,7 +73,7 @@ pub data Entry : Type 0 where
 abbrev pub only_if : Bool → List ℕ → Option (List ℕ)
 only_if b text = if b then Some text else None
 
--- the tag in front of an interval, by what stands behind `Tag=`, and what stands behind the tag
+-- the tag in front of an interval, by what follows `Tag=`, and what follows the tag
 abbrev pub tag_of : Option (List ℕ) → List ℕ → Option (Option (List ℕ) × List ℕ)
 tag_of None line = Some (None, line)
 tag_of (Some rest) line = do
@@ -92,7 +92,7 @@ interval_of line = do
   field ← only_if (is_utf8 (without_crs max.1)) (without_crs max.1)
   Some (record { tag = tag.0; start = start.0; duration = duration.0; max = number; field = field })
 
--- the time of a header of this name: behind it stand a space and any text
+-- the time of a header of this name: after it stand a space and any text
 unfoldable pub header_of : List ℕ → List ℕ → Option ℕ
 header_of name line = do
   rest ← behind name line

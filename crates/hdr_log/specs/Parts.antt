@@ -15,7 +15,7 @@ None >>= f = None
 abbrev pub parts : ℕ → List ℕ → List (List ℕ)
 parts b text = slice_split (λ x. x == b) text
 
--- what stands before the first byte b, and what stands behind it
+-- what stands before the first byte b, and what follows it
 unfoldable pub split_at_byte : ℕ → List ℕ → Option (List ℕ × List ℕ)
 split_at_byte b text = option_map (λ i. (take i text, drop (i + 1) text)) (position (λ x. x == b) text)
 

@@ -62,7 +62,7 @@ impl<'a> IntervalLogHistogram<'a> {
 pub enum LogEntry<'a> {
     /// The start time of a header, since the epoch. It bears on no interval's time.
     StartTime(Duration),
-    /// The base time of a header, since the epoch: intervals behind it count from there.
+    /// The base time of a header, since the epoch: intervals after it count from there.
     BaseTime(Duration),
     /// An interval.
     Interval(IntervalLogHistogram<'a>),

@@ -13,7 +13,7 @@ use crate::parts::{has_only_digits, is_digits, split_once, text, time};
 use crate::tag::Tag;
 use std::time::Duration;
 
-/// What stands behind a front.
+/// What follows a front.
 fn strip<'a>(text: &'a [u8], front: &[u8]) -> Option<&'a [u8]>
     ensures { option_map (λ x. x.now) result ≡ behind front.now text.now }
 {
@@ -35,7 +35,7 @@ fn trimmed(field: &[u8]) -> &[u8]
     field
 }
 
-/// The tag in front of an interval, if it has one, and what stands behind it.
+/// The tag in front of an interval, if it has one, and what follows it.
 fn tag(line: &[u8]) -> Option<(Option<Tag<'_>>, &[u8])>
     ensures { option_map (λ p. (option_map tag_text p.0, p.1.now)) result ≡ tag_of (behind (codes "Tag=") line.now) line.now }
 {
@@ -47,7 +47,7 @@ fn tag(line: &[u8]) -> Option<(Option<Tag<'_>>, &[u8])>
     Some((Some(tag), rest))
 }
 
-/// A time that ends at the first such byte, and what stands behind it.
+/// A time that ends at the first such byte, and what follows it.
 #[tactic(auto, unfolding(crate::specs::Grammar::time_before))]
 fn time_before(text: &[u8], byte: u8) -> Option<(Duration, &[u8])>
     ensures { option_map (λ p. (as_nanos p.0, p.1.now)) result ≡ time_before byte text.now }

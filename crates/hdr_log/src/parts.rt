@@ -34,7 +34,7 @@ fn line_end(text: &[u8]) -> Option<usize>
     memchr(b'\n', text)
 }
 
-/// The first line of a text without its LF, and what stands behind it; `None` where no line ends. Lines of a log are long.
+/// The first line of a text without its LF, and what follows it; `None` where no line ends. Lines of a log are long.
 #[tactic(auto, unfolding(crate::specs::Parts::split_at_byte))]
 pub(crate) fn split_line(text: &[u8]) -> Option<(&[u8], &[u8])>
     ensures parts { option_map (λ p. (p.0.now, p.1.now)) result ≡ split_at_byte 10 text.now }
@@ -46,7 +46,7 @@ pub(crate) fn split_line(text: &[u8]) -> Option<(&[u8], &[u8])>
     Some((line, rest))
 }
 
-/// What stands before the first such byte, and what stands behind it; `None` where there is none.
+/// What stands before the first such byte, and what follows it; `None` where there is none.
 #[tactic(auto, unfolding(crate::specs::Parts::split_at_byte))]
 pub fn split_once(text: &[u8], byte: u8) -> Option<(&[u8], &[u8])>
     ensures parts { option_map (λ p. (p.0.now, p.1.now)) result ≡ split_at_byte byte text.now }
@@ -97,7 +97,7 @@ pub fn number(text: &[u8]) -> Option<u64>
     Some(value)
 }
 
-/// A number with one more decimal digit behind it, where that fits.
+/// A number with one more decimal digit after it, where that fits.
 fn appended(value: u64, digit: u64) -> Option<u64>
     requires { digit < 10 }
     ensures { MatchOption result (2 ^ 64 ≤ value * 10 + digit) (λ n. n ≡ value * 10 + digit) }
@@ -109,14 +109,14 @@ fn appended(value: u64, digit: u64) -> Option<u64>
     }
 }
 
-/// The digits behind a point that count.
+/// The digits after a point that count.
 fn kept(text: &[u8]) -> &[u8]
     ensures { result.now ≡ take 9 text.now }
 {
     &text[..text.len().min(9)]
 }
 
-/// The nanoseconds that the digits behind a point spell.
+/// The nanoseconds that the digits after a point spell.
 #[tactic(auto, unfolding(crate::specs::Grammar::nanos_of))]
 fn nanos(text: &[u8]) -> Option<u32>
     ensures value { result ≡ nanos_of text.now }

@@ -1,5 +1,5 @@
 //! The texts that a log is written by. Each call adds to a text, so that what is written can be built whole first. A
-//! refusal for want of memory may leave a part of what it was to add.
+//! refusal for lack of memory may leave a part of what it was to add.
 
 ghost use Rattle.std.specs.Prelude.{◌≡◌, ◌+◌, ◌*◌, ◌/◌, ◌<◌, ◌^◌, ◌++◌, ◌∷◌, [], OnOk, IfSome, SomeIff};
 ghost use Rattle.std.specs.Fmt.{decimal};

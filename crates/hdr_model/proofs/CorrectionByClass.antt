@@ -30,7 +30,7 @@ each-within r n [] h = All-nil (λ (t : Times). t.value ≤ r)
 each-within r n (x ∷ xs) h =
     All-cons (λ (t : Times). t.value ≤ r) (record { value = x; times = n }) (each_times n xs) (All-head (λ x. x ≤ r) x xs h) (each-within r n xs (All-tail (λ x. x ≤ r) x xs h))
 
--- the members of the class of x from x down are m in number, and the values behind them lie in other classes
+-- the members of the class of x from x down are m in number, and the values after them lie in other classes
 module _ (g : Grain) (x i low m : ℕ) (pos : 0 < i) (digits : 0 < g.digits) (ge : i ≤ x) (is_low : low ≡ max (lowest_of g x) i) (is_m : m ≡ (x - low) / i + 1) where
   pub low-le : low ≤ x
   low-le = omega (arith, lowest-le g x)

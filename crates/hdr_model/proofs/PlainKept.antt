@@ -105,7 +105,7 @@ IsPlain-added greatest h i n one room p =
           get_or-set_other h.counts i j _ 0 (λ e. other.1 (sym e)) ∙ p.none_below j other.0;
     }
 
--- zeros behind a list change no number and no sum
+-- zeros after a list change no number and no sum
 pub zeros-behind : (xs : List ℕ) (n i : ℕ) → get_or (xs ++ replicate n 0) i 0 ≡ get_or xs i 0
 zeros-behind [] n i =
     elim (cases_lt i n) [ inl lt ↦ get_or-replicate n i 0 0 lt | inr ge ↦ get_or_past (replicate n 0) i 0 (rw length-replicate ge) ]

@@ -17,7 +17,7 @@ abbrev pub without_end_zeros : List ℕ → List ℕ
 without_end_zeros [] = []
 without_end_zeros (x ∷ xs) = put_first x (without_end_zeros xs)
 
--- numbers behind the end of a list count as 0
+-- numbers after the end of a list count as 0
 abbrev pub same_numbers : List ℕ → List ℕ → Bool
 same_numbers = on without_end_zeros (pointwise ◌==◌)
 

@@ -29,7 +29,7 @@ abbrev pub IsTopMark : List ℕ → Option ℕ → Type 0
 IsTopMark counts None = (i : ℕ) → slice_index counts i ≡ 0
 IsTopMark counts (Some m) = (0 < slice_index counts m) × ((i : ℕ) → m < i → slice_index counts i ≡ 0)
 
--- the first place behind the first of a number above 0
+-- the first place after the first of a number above 0
 abbrev pub IsLowerMark : List ℕ → Option ℕ → Type 0
 IsLowerMark counts None = (i : ℕ) → 0 < i → slice_index counts i ≡ 0
 IsLowerMark counts (Some m) = (0 < m) × (0 < slice_index counts m) × ((i : ℕ) → 0 < i → i < m → slice_index counts i ≡ 0)
@@ -39,7 +39,7 @@ abbrev pub top_of_mark : Grain → Option ℕ → ℕ
 top_of_mark g None = 0
 top_of_mark g (Some i) = top_of g (value_of g i)
 
--- the lowest value of a mark's class, the greatest u64 for no mark
+-- the lowest value of a mark's class, `u64::MAX` for no mark
 abbrev pub value_of_mark : Grain → Option ℕ → ℕ
 value_of_mark g None = 2 ^ 64 - 1
 value_of_mark g (Some i) = value_of g i

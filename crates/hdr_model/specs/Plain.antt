@@ -5,7 +5,7 @@ use Rattle.hdr_base.specs.Classes.{Grain, grain_of, reach_of, bins_to, HasScale}
 use Rattle.hdr_model.specs.Marks.{IsAbove, IsBelow, top_of_mark, value_of_mark}
 
 -- the bounds, a number for each bin, how many samples there are, and the classes that enclose the nonempty ones: the top
--- mark all of them, the lower mark those behind the first
+-- mark all of them, the lower mark those after the first
 pub record Plain : Type 0 where
   pub low : ℕ
   pub high : ℕ
@@ -48,7 +48,7 @@ pub record IsPlain (greatest : ℕ) (h : Plain) : Type 0 where
 unfoldable pub max_of : Plain → ℕ
 max_of h = top_of_mark (grain h) h.top_mark
 
--- the lowest value behind the first class that counts as recorded (`min_nz`)
+-- the lowest value after the first class that counts as recorded (`min_nz`)
 unfoldable pub min_nz_of : Plain → ℕ
 min_nz_of h = value_of_mark (grain h) h.lower_mark
 

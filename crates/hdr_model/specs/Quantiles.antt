@@ -65,12 +65,12 @@ rising_from p (q ∷ qs) = if is_below q p then [] else q ∷ rising_from q qs
 abbrev pub nothing_of_it : Ratio
 nothing_of_it = record { num = 0; den = 1 }
 
--- the quantiles that are answered behind p: the longest front that rises, and all where there are no samples
+-- the quantiles that are answered after p: the longest front that rises, and all where there are no samples
 abbrev pub asked_from : Plain → Ratio → List Ratio → List Ratio
 asked_from h p qs = if h.total == 0 then qs else rising_from p qs
 
 -- the answers to quantiles, up to the first that is below the one before (`value_at_quantiles`; the Rust crate takes any
--- iterator, and may go on behind such a one)
+-- iterator, and may go on after such a one)
 abbrev pub quantiles_from : Plain → Ratio → List Ratio → List ℕ
 quantiles_from h p qs = map (quantile_of h) (asked_from h p qs)
 

@@ -11,7 +11,7 @@ use Rattle.hdr_core.specs.declared.call.Call.TheVariants.{Record, Clamp, Correct
 use Rattle.hdr_log.specs.Parts.{◌>>=◌, parts, is_digits, number_of}
 use Rattle.hdr_tool.specs.Lines.{LogCommand, Make, End, count_of, record_of, clamp_of, correct_of, alone, call_of_name, end_tag_of, end_of, log_command_of_name, log_command_of_fields, log_command_of}
 
--- one of two answers, and one behind another
+-- one of two answers, and one after another
 one_of : {A : Type 0} (P : A → Type 0) (b : Bool) (x y : Option A) → IfSome x P → IfSome y P → IfSome (cond b x y) P
 one_of P true x y p q = p
 one_of P false x y p q = q

@@ -83,7 +83,7 @@ line_logs (k, []) h step lines text d l =
     subst S (sym e) (λ m. m) l
 line_logs (k, b ∷ line) h step lines text d l = command_logs k h (log_command_of (b ∷ line)) step (λ g. ends_of g lines) text d l
 
--- one line, and what comes behind it
+-- one line, and what comes after it
 step_log : (x : ℕ × List ℕ) (lines : List (ℕ × List ℕ)) (h last : Plain) (out : Outcome Plain) (r : Result (List ℕ × Plain) Fault) → LogLineDone h x r → GoesOn (λ b. Runs LogLineDone b lines) r out → out.ended ≡ Ok last
     → ((b : Plain) (o : Outcome Plain) → Runs LogLineDone b lines o → o.ended ≡ Ok last → Logs (ends_of b lines) o.written) → Logs (ends_of h (x ∷ lines)) out.written
 step_log x lines h last out (Err f) s g e behind = absurd (let f : out.ended ≡ Err f = ap (λ (o : Outcome Plain). o.ended) g in cc)

@@ -12,7 +12,7 @@ lt_test a b h = grind arith
 not_lt_test : (a b : ℕ) → b ≤ a → nat_lt a b ≡ false
 not_lt_test a b h = grind arith
 
--- the parts behind the first
+-- the parts after the first
 pub parts-parted : (b : ℕ) (text line rest : List ℕ) → split_at_byte b text ≡ Some (line, rest) → parts b text ≡ line ∷ parts b rest
 unfolding split_at_byte
 parts-parted b text line rest h = elim (cases_lt (position_or_len (λ x. x == b) text) (length text)) [

@@ -25,8 +25,8 @@ begins_nothing Step a (x ∷ it) = inl refl
 begins_step : {A B : Type 0} (Step : A → B → Result (List ℕ × A) Fault → Type 0) (a : A) (it rest : List B) (x : B) (step : List ℕ × A) (t : List ℕ) → it ≡ x ∷ rest → Step a x (Ok step) → Begins Step step.1 rest t → Begins Step a it (step.0 ++ t)
 begins_step Step a it rest x step t e s r = rw e (inr (step, s, (t, r, refl)))
 
--- what was written stands in the writer; how what is left ends is how all ends behind it, and what stands of what is left
--- stands of all behind it
+-- what was written stands in the writer; how what is left ends is how all ends after it, and what stands of what is left
+-- stands of all after it
 pub record Goes {A B : Type 0} (Step : A → B → Result (List ℕ × A) Fault → Type 0) (All : Outcome A → Type 0) (Stands : List ℕ → Type 0) (o m : Option (List ℕ)) (a : A) (it : List B) : Type 0 where
   pub done : List ℕ
   pub written : Appends o m done
@@ -56,7 +56,7 @@ take_both : (xs ys : List ℕ) (k : ℕ) → take (length xs + k) (xs ++ ys) ≡
 take_both [] ys k = ap (λ n. take n ys) (zero-add k)
 take_both (x ∷ xs) ys k = let e : length (x ∷ xs) + k ≡ suc (length xs + k) = omega arith in ap (λ n. take n (x ∷ (xs ++ ys))) e ∙ ap (λ t. x ∷ t) (take_both xs ys k)
 
--- a beginning behind what stands
+-- a beginning after what stands
 front_behind : (o m n : Option (List ℕ)) (done text : List ℕ) → Appends o m done → AppendsFront m n text → AppendsFront o n (done ++ text)
 front_behind o m n done text a f =
     let A : List ℕ → Type 0 = λ t. Appends o n t in

@@ -7,13 +7,13 @@ use Rattle.hdr_core.specs.declared.call.Call.TheVariants.{Record, Clamp, Correct
 use Rattle.hdr_log.specs.Grammar.{is_tag}
 use Rattle.hdr_log.specs.Parts.{◌>>=◌, parts, number_of}
 
--- the count behind a value, 1 where there is none
+-- the count after a value, 1 where there is none
 abbrev pub count_of : List (List ℕ) → Option ℕ
 count_of [] = Some 1
 count_of (count ∷ []) = number_of count
 count_of _ = None
 
--- `r V [N]`, behind the name
+-- `r V [N]`, after the name
 abbrev pub record_of : List (List ℕ) → Option (Call ℕ)
 record_of [] = None
 record_of (v ∷ rest) = do
@@ -43,7 +43,7 @@ abbrev pub alone : Call ℕ → List (List ℕ) → Option (Call ℕ)
 alone call [] = Some call
 alone call _ = None
 
--- the call of a name and of the fields behind it
+-- the call of a name and of the fields after it
 unfoldable pub call_of_name : List ℕ → List (List ℕ) → Option (Call ℕ)
 call_of_name name fields =
     if bytes_eq name (codes "r") then record_of fields
@@ -58,7 +58,7 @@ abbrev pub call_of_fields : List (List ℕ) → Option (Call ℕ)
 call_of_fields [] = None
 call_of_fields (name ∷ fields) = call_of_name name fields
 
--- the call of a line, whose fields are parted by one space each
+-- the call of a line, whose fields are separated by one space each
 abbrev pub call_of : List ℕ → Option (Call ℕ)
 call_of line = call_of_fields (parts 32 line)
 
@@ -72,13 +72,13 @@ pub data LogCommand : Type 0 where
 abbrev pub tag_of_word : List ℕ → Option (List ℕ)
 tag_of_word word = if not (length word == 0) && is_tag word then Some word else None
 
--- the tag behind the times, none where there is none
+-- the tag after the times, none where there is none
 abbrev pub end_tag_of : List (List ℕ) → Option (Option (List ℕ))
 end_tag_of [] = Some None
 end_tag_of (word ∷ []) = option_map Some (tag_of_word word)
 end_tag_of _ = None
 
--- `end START DURATION [TAG]`, behind the name
+-- `end START DURATION [TAG]`, after the name
 abbrev pub end_of : List (List ℕ) → Option LogCommand
 end_of (s ∷ d ∷ rest) = do
   start ← number_of s
@@ -87,7 +87,7 @@ end_of (s ∷ d ∷ rest) = do
   Some (End start duration tag)
 end_of _ = None
 
--- the command of a name and of the fields behind it
+-- the command of a name and of the fields after it
 unfoldable pub log_command_of_name : List ℕ → List (List ℕ) → Option LogCommand
 log_command_of_name name fields = if bytes_eq name (codes "end") then end_of fields else option_map Make (call_of_name name fields)
 

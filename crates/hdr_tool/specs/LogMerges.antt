@@ -31,7 +31,7 @@ chosen_of filter [] = []
 chosen_of filter (e ∷ ends) =
     if is_chosen filter e.tag (e.start * 1_000_000) then e.holds ∷ chosen_of filter ends else chosen_of filter ends
 
--- the intervals that commands end: what a command adds to those that come behind it
+-- the intervals that commands end: what a command adds to those that come after it
 abbrev pub at_command : Plain → Option LogCommand → (Plain → List (EndOf Plain)) → List (EndOf Plain)
 at_command h None behind = []
 at_command h (Some (Make call)) behind = behind (after_call (2 ^ 64 - 1) (λ n. n) call h)

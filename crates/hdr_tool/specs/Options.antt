@@ -46,19 +46,19 @@ abbrev pub set_once : {A : Type 0} → Option A → Option A → Option A
 set_once None new = new
 set_once (Some old) new = None
 
--- one option more, with the word behind its name
+-- one option more, with the word after its name
 abbrev pub with_option : Options → OptionName → List ℕ → Option Options
 with_option o name.Into word = option_map (λ x. record { into = Some x; tag = o.tag; from = o.from; to = o.to }) (set_once o.into (counter_of_word word))
 with_option o name.Tag word = option_map (λ x. record { into = o.into; tag = Some x; from = o.from; to = o.to }) (set_once o.tag (only_if (is_tag word) word))
 with_option o name.From word = option_map (λ x. record { into = o.into; tag = o.tag; from = Some x; to = o.to }) (set_once o.from (number_of word))
 with_option o name.To word = option_map (λ x. record { into = o.into; tag = o.tag; from = o.from; to = Some x }) (set_once o.to (number_of word))
 
--- an option and what comes behind it, or no option
+-- an option and what comes after it, or no option
 abbrev pub option_or_end : {A : Type 0} → Options → Option OptionName → List ℕ → (Options → Option A) → Option A → Option A
 option_or_end o None word behind end = end
 option_or_end o (Some name) word behind end = with_option o name word >>= behind
 
--- the options at the front of words, after those that stood before, and the words behind them
+-- the options at the front of words, after those that stood before, and the words after them
 abbrev pub options_of : Options → List (List ℕ) → Option (Options × List (List ℕ))
 options_of o [] = Some (o, [])
 options_of o (word ∷ []) = Some (o, word ∷ [])

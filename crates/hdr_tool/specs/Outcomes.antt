@@ -10,7 +10,7 @@ pub record Outcome (A : Type 0) : Type 0 where
   pub written : List ℕ
   pub ended : Result A Fault
 
--- a text, and then what comes behind it
+-- a text, and then what comes after it
 abbrev pub after : {A : Type 0} → List ℕ → Outcome A → Outcome A
 after text out = record { written = text ++ out.written; ended = out.ended }
 
@@ -30,7 +30,7 @@ Begins Step a [] text = text ≡ []
 Begins {A = A} Step a (x ∷ xs) text =
     (text ≡ []) ⊎ ((step : List ℕ × A) × Step a x (Ok step) × ((rest : List ℕ) × Begins Step step.1 xs rest × (text ≡ step.0 ++ rest)))
 
--- a fault by name is one that the definition gives; want of memory may come in place of any answer
+-- a fault by name is one that the definition gives; lack of memory may come in place of any answer
 abbrev pub Refuses : (Fault → Type 0) → Fault → Type 0
 Refuses P NoMemory = Unit {0}
 Refuses P CannotRead = ⊥

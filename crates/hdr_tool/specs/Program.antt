@@ -1,5 +1,5 @@
 -- The program: its words, its input, what it writes, and the fault that ends it. Faults of the streams are no part of
--- it, nor is want of memory but where a call tells it.
+-- it, nor is lack of memory but where a call tells it.
 use Rattle.std.specs.Prelude.{◌≡◌, ℕ, ◌-◌, ◌*◌, ◌^◌, List, [], ◌∷◌, Option, Some, None, Result, Ok, Err, true}
 use Rattle.hdr_base.specs.Fractions.{Ratio}
 use Rattle.hdr_model.specs.Plain.{Plain, empty_plain}

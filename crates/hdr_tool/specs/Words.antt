@@ -30,7 +30,7 @@ pub data Task : Type 0 where
   Log : ℕ → Task
   Merge : Options → ℕ → List Ratio → Task
 
--- `SIGFIG Q..`, behind the word `report` or `merge`, with one Q or more
+-- `SIGFIG Q..`, after the word `report` or `merge`, with one Q or more
 abbrev pub figures_of : List (List ℕ) → Option (ℕ × List Ratio)
 figures_of (digit ∷ word ∷ words) = do
   sigfig ← sigfig_of digit
@@ -38,12 +38,12 @@ figures_of (digit ∷ word ∷ words) = do
   Some (sigfig, quantiles)
 figures_of _ = None
 
--- `SIGFIG`, behind the word `log`
+-- `SIGFIG`, after the word `log`
 abbrev pub log_of : List (List ℕ) → Option Task
 log_of (digit ∷ []) = option_map Log (sigfig_of digit)
 log_of _ = None
 
--- options, and then `SIGFIG Q..`, behind the word `merge`
+-- options, and then `SIGFIG Q..`, after the word `merge`
 unfoldable pub merge_of : List (List ℕ) → Option Task
 merge_of words = do
   given ← options_of no_options words
@@ -58,7 +58,7 @@ command_of_word name =
     else if bytes_eq name (codes "merge") then Some command.Merge
     else None
 
--- the task of a command and of the words behind it
+-- the task of a command and of the words after it
 abbrev pub task_of_command : Option Command → List (List ℕ) → Option Task
 task_of_command None words = None
 task_of_command (Some command.Report) words = option_map (λ f. Report f.0 f.1) (figures_of words)
@@ -70,7 +70,7 @@ unfoldable pub task_of : List (List ℕ) → Option Task
 task_of [] = None
 task_of (name ∷ words) = task_of_command (command_of_word name) words
 
--- wrong words are refused as such, and right ones for want of memory alone
+-- wrong words are refused as such, and right ones for lack of memory alone
 abbrev pub RefusesWords : {A : Type 0} → Option A → Fault → Type 0
 RefusesWords None f = f ≡ WrongWords
 RefusesWords (Some _) f = f ≡ NoMemory

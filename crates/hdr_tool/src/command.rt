@@ -12,7 +12,7 @@ use hdr_log::parts::{number, text};
 use hdrhistogram::Call;
 use hdrhistogram::serialization::interval_log::Tag;
 
-/// The count behind a value, 1 where nothing is left.
+/// The count after a value, 1 where nothing is left.
 fn count(left: Option<&[u8]>) -> Option<u64>
     ensures { result ≡ count_of (parts_of_rest 32 (option_map (λ t. t.now) left.entry)) }
 {
@@ -68,7 +68,7 @@ fn alone(call: Call<'static, u64>, left: Option<&[u8]>) -> Option<Call<'static, 
     Some(call)
 }
 
-/// The call of a name and of what is left behind it.
+/// The call of a name and of what is left after it.
 #[tactic(auto, unfolding(crate::specs::Lines::call_of_name))]
 fn named(name: &[u8], left: Option<&[u8]>) -> Option<Call<'static, u64>>
     ensures { result ≡ call_of_name name.now (parts_of_rest 32 (option_map (λ t. t.now) left.entry)) }
@@ -110,7 +110,7 @@ fn tag(word: &[u8]) -> Option<Tag<'_>>
     Tag::new(text(word)?)
 }
 
-/// `[TAG]`: the tag behind the times, if there is one.
+/// `[TAG]`: the tag after the times, if there is one.
 fn end_tag(left: Option<&[u8]>) -> Option<Option<Tag<'_>>>
     ensures { option_map (λ tag. option_map tag_text tag) result ≡ end_tag_of (parts_of_rest 32 (option_map (λ t. t.now) left.entry)) }
 {

@@ -29,7 +29,7 @@ enum OptionName {
     To,
 }
 
-/// The options that were given, each by the word behind its name. Times are in milliseconds.
+/// The options that were given, each by the word after its name. Times are in milliseconds.
 #[derive(Clone, Copy)]
 pub(crate) struct Options<'a> {
     pub into: Option<CounterType>,
@@ -51,7 +51,7 @@ impl<'a> Options<'a> {
     }
 }
 
-/// The options at the front of words, and the words behind them.
+/// The options at the front of words, and the words after them.
 pub(crate) fn take_options(words: &[String]) -> Option<(Options<'_>, &[String])>
     ensures { option_map (λ p. (view_of_options p.0, map string_bytes p.1.now)) result ≡ options_of no_options (map string_bytes words.now) }
 {
@@ -72,7 +72,7 @@ pub(crate) fn take_options(words: &[String]) -> Option<(Options<'_>, &[String])>
     Some((options, left))
 }
 
-/// The first two words and those behind them, where there are two.
+/// The first two words and those after them, where there are two.
 fn first_two(words: &[String]) -> Option<(&String, &String, &[String])>
     ensures words { MatchOption result (length words.now < 2)
         (λ p. map string_bytes words.now ≡ string_bytes p.0.now ∷ string_bytes p.1.now ∷ map string_bytes p.2.now) }
@@ -83,7 +83,7 @@ fn first_two(words: &[String]) -> Option<(&String, &String, &[String])>
     Some((first, second, behind))
 }
 
-/// One option more, with the word behind its name.
+/// One option more, with the word after its name.
 fn with_option<'a>(options: Options<'a>, name: OptionName, word: &'a str) -> Option<Options<'a>>
     ensures { option_map view_of_options result ≡ with_option (view_of_options options.entry) name word.now }
 {

@@ -103,7 +103,7 @@ fn do_task<W: Write>(
     requires { length input.now + 2 < 2 ^ 64 }
     ensures words { result ≢ Err Fault.WrongWords }
     ensures answers { Answers (TaskDone (Some (view_of_task task.now)) input.now) (TaskStands (Some (view_of_task task.now)) input.now)
-        (TaskWrites (Some (task_seen task.now)) input.now) (W.contents writer.old) (W.contents writer.new) result }
+        (TaskWrites (Some (view_of_task task.now)) input.now) (W.contents writer.old) (W.contents writer.new) result }
 {
     match task {
         Task::Report(sigfig, quantiles) => report_lines(

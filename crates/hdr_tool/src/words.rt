@@ -81,7 +81,7 @@ fn quantiles(alloc: Global, words: &[String]) -> Result<Vec<Quantile>, Fault>
     Ok(quantiles)
 }
 
-/// The digits and the quantiles of the words behind the word `report` or `merge`.
+/// The digits and the quantiles of the words after the word `report` or `merge`.
 fn figures(alloc: Global, words: &[String]) -> Result<(u8, Vec<Quantile>), Fault>
     ensures { MatchResult result
         (λ f. figures_of (map string_bytes words.now) ≡ Some (f.0, f.1.items))
@@ -102,7 +102,7 @@ fn figures(alloc: Global, words: &[String]) -> Result<(u8, Vec<Quantile>), Fault
     }
 }
 
-/// The digits of the words behind the word `log`.
+/// The digits of the words after the word `log`.
 fn log(words: &[String]) -> Option<Task<'_>>
     ensures { option_map view_of_task result ≡ log_of (map string_bytes words.now) }
 {
@@ -115,11 +115,11 @@ fn log(words: &[String]) -> Option<Task<'_>>
     }
 }
 
-/// The merge that the words behind the word `merge` ask for.
+/// The merge that the words after the word `merge` ask for.
 #[tactic(auto, unfolding(crate::specs::Words::merge_of))]
 fn merge(alloc: Global, words: &[String]) -> Result<Task<'_>, Fault>
     ensures { MatchResult result
-        (λ task. merge_of (map string_bytes words.now) ≡ Some (task_seen task))
+        (λ task. merge_of (map string_bytes words.now) ≡ Some (view_of_task task))
         (RefusesWords (merge_of (map string_bytes words.now))) }
 {
     let Some((options, words)) = take_options(words) else {
@@ -151,7 +151,7 @@ fn named(word: &[u8]) -> Option<Command>
 #[tactic(auto, unfolding(crate::specs::Words::task_of))]
 pub(crate) fn judge(alloc: Global, words: &[String]) -> Result<Task<'_>, Fault>
     ensures { MatchResult result
-        (λ task. task_of (map string_bytes words.now) ≡ Some (task_seen task))
+        (λ task. task_of (map string_bytes words.now) ≡ Some (view_of_task task))
         (RefusesWords (task_of (map string_bytes words.now))) }
 {
     let Some((name, words)) = words.split_first() else {

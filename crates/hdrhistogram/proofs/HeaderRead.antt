@@ -10,7 +10,7 @@ use Rattle.hdrhistogram.specs.V2Read.{Header, four_of, eight_of, four_at, eight_
 
 -- ---- a field whose bytes were taken
 
--- what is read takes a front of the text, and whatever stands behind that front does not change it
+-- what is read takes a front of the text, and whatever follows that front does not change it
 abbrev pub IsSteady : {A : Type 0} → (List ℕ → Result (A × List ℕ) Fault) → Type 0
 IsSteady {A} p = (t rest : List ℕ) (x : A) → p t ≡ Ok (x, rest) → (front : List ℕ) × (t ≡ front ++ rest) × ((more : List ℕ) → p (front ++ more) ≡ Ok (x, more))
 
@@ -189,7 +189,7 @@ ok-steady {A} x t rest y e =
     let first : x ≡ y = ap (λ (p : A × List ℕ). p.0) both in
     ([], ap (λ (p : A × List ℕ). p.1) both, λ more. rw first refl)
 
--- what stands behind a header does not change it
+-- what follows a header does not change it
 pub header-steady : IsSteady header_at
 unfolding header_at
 header-steady =
@@ -202,11 +202,11 @@ header-steady =
     bind-steady (λ t. check_field ratio_fault (eight_at t)) (λ _ t. Ok (record { payload_len = len; sigfig = sigfig; low = low; high = high }, t)) (checked-steady ratio_fault eight_at eight-steady) (λ _.
     ok-steady (record { payload_len = len; sigfig = sigfig; low = low; high = high }))))))))
 
--- a header and the text behind it
+-- a header and the text after it
 abbrev pub ended_header : ℕ → ℕ → ℕ → ℕ → ℕ → List ℕ → Result (Header × List ℕ) Fault
 ended_header len sigfig low high ratio text = Ok (record { payload_len = len; sigfig = sigfig; low = low; high = high }, text)
 
--- a header with nothing behind it
+-- a header with nothing after it
 abbrev pub headed : ℕ → ℕ → ℕ → ℕ → Result (Header × List ℕ) Fault
 headed len sigfig low high = Ok (record { payload_len = len; sigfig = sigfig; low = low; high = high }, [])
 

@@ -11,7 +11,7 @@ pub mod ReadBack
 pub mod V2Reading
 pub mod HeaderRead
 pub mod Restated
-pub mod Filling
+pub mod FillingFacts
 pub mod SpellingsRead
 pub mod LogTexts
 pub mod LogStartTexts

@@ -4,7 +4,7 @@ use Rattle.std.proofs.lemmas.Bool.{ltb-false}
 use Rattle.std.specs.List.{AllByRecursion}
 use Rattle.hdrhistogram.specs.Varint.{IsSpelling}
 use Rattle.hdrhistogram.specs.PayloadRead.{Parted, split_spellings, AreSpellings}
-use Rattle.hdrhistogram.proofs.Filling.{parted_spelling, parted_rest}
+use Rattle.hdrhistogram.proofs.FillingFacts.{parted_spelling, parted_rest}
 
 -- ---- a payload has spellings and a rest
 

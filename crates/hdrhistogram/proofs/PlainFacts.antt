@@ -1,4 +1,4 @@
--- What the bytes rest on of a histogram's numbers: the bins behind the top mark are empty.
+-- What the bytes rest on of a histogram's numbers: the bins after the top mark are empty.
 use Rattle.std.proofs.Common.{◌≡◌, ℕ, ◌+◌, ◌<◌, ◌≤◌, length, arith, Option, Some, None, unwrap_or, inl, inr, take, get_or}
 use Rattle.std.proofs.lemmas.Bool.{cases_lt}
 use Rattle.std.proofs.lemmas.List.{get_or-take}

@@ -23,7 +23,7 @@ use Rattle.hdrhistogram.proofs.Spellings.{spelt_short}
 use Rattle.hdrhistogram.proofs.PlainFacts.{not-written}
 use Rattle.hdrhistogram.proofs.V2Text.{length-four, length-eight}
 use Rattle.hdrhistogram.proofs.Telling.{zig_back, low-fits}
-use Rattle.hdrhistogram.proofs.Filling.{parted_spelling, length_fitted}
+use Rattle.hdrhistogram.proofs.FillingFacts.{parted_spelling, length_fitted}
 use Rattle.hdrhistogram.proofs.V2Reading.{bounds-yes, fault-none}
 
 -- ---- the numbers of a payload
@@ -97,7 +97,7 @@ fitted_get (suc bins) [] (suc i) h = fitted_get bins [] i (omega arith)
 fitted_get (suc bins) (n ∷ counts) zero h = refl
 fitted_get (suc bins) (n ∷ counts) (suc i) h = fitted_get bins counts i (omega arith)
 
--- the written counts, with empty bins behind, are all
+-- the written counts, with empty bins after, are all
 fitted_written : (greatest : ℕ) (h : Plain) → IsPlain greatest h → fit_bins (length h.counts) (written_counts h) ≡ h.counts
 fitted_written greatest h p =
     ext_get_or 0 (fit_bins (length h.counts) (written_counts h)) h.counts (length_fitted (length h.counts) (written_counts h)) (λ i lt.
@@ -221,7 +221,7 @@ bounds_again : (greatest : ℕ) (h : Plain) (len : ℕ) → IsPlain greatest h �
 bounds_again greatest h len p =
     fault-none (head_of h len) (bounds-yes h.low h.high h.sigfig (record { low_fits = omega (arith, p.wide, p.high_fits); wide = p.wide; scale = p.scale }))
 
--- what was written, with anything behind it, is read back
+-- what was written, with anything after it, is read back
 pub v2_again : (greatest : ℕ) (h : Plain) (bytes more : List ℕ) → IsPlain greatest h → IsV2 h bytes → v2_at greatest (bytes ++ more) ≡ Ok (told_of h, more)
 unfolding v2_at
 v2_again greatest h bytes more p v =

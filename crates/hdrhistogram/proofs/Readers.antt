@@ -7,7 +7,7 @@ use borrow.Rule.Slice.PartMut.{put_mid, post_of}
 use lib.Seq.{take-append-le}
 use Rattle.std.proofs.Math.Seq.{take-append-add, take-append_seam}
 
--- the part of a buffer behind a, filled by new, of which n bytes came
+-- the part of a buffer after a, filled by new, of which n bytes came
 filled_is : (buffer new : List ℕ) (a n : ℕ) → a ≤ length buffer → n ≤ length new
     → take a buffer ++ take n new ≡ take (a + n) (put_mid a (length buffer - a) buffer new)
 filled_is buffer new a n h k =

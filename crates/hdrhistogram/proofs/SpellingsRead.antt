@@ -115,7 +115,7 @@ read_cut bytes place value weight r h =
     let all : take place bytes ≡ bytes = take_all place bytes h in
     record { short = omega (arith, r.few); high = subst (AllByRecursion (λ b. 128 ≤ b)) all r.high }
 
--- one more byte behind those that were read
+-- one more byte after those that were read
 pub read_behind : (bytes more : List ℕ) (place value weight : ℕ) → IsReadTo bytes place value weight → length bytes ≡ place → IsReadTo (bytes ++ more) place value weight
 read_behind bytes more place value weight r e =
     let same : take place bytes ≡ take place (bytes ++ more) = sym (take-append-le place bytes more (omega arith)) in

@@ -135,7 +135,7 @@ bounds-steady greatest header (Some f) t rest x e = absurd cc
 bounds-steady greatest header None t rest x e =
     bind-steady (bytes_at header.payload_len) (from_counts greatest header) (bytes-steady header.payload_len) (λ payload. counts-steady header (counts_in (bins_for header) greatest payload)) t rest x e
 
--- what stands behind a histogram does not change it, and what is read of it is its front
+-- what follows a histogram does not change it, and what is read of it is its front
 pub v2-steady : (greatest : ℕ) → IsSteady (v2_at greatest)
 unfolding v2_at
 v2-steady greatest = bind-steady header_at (from_bounds greatest) header-steady (λ header. bounds-steady greatest header (bounds_fault header))
@@ -178,7 +178,7 @@ module _ (s0 s1 : Option (List ℕ)) (greatest : ℕ) (header : Header) (header_
       after_bounds (λ r. r ≡ Ok (contents_of header counts, []))
       (t, q, rw e (rw h refl))
 
--- contents with nothing behind them
+-- contents with nothing after them
 abbrev pub whole : Contents → Result (Contents × List ℕ) Fault
 whole c = Ok (c, [])
 

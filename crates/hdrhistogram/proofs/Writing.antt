@@ -13,7 +13,7 @@ use Rattle.hdrhistogram.proofs.Spellings.{spelling_from, spelling}
 
 -- ---- a text that is put at a place
 
--- what lies behind it
+-- what comes after it
 pub put_behind : (out part text : List ℕ) (at count : ℕ) → at ≤ length out → count ≡ length text
     → part ≡ text ++ drop count (drop at out)
     → drop (at + count) (put_mid at (length out - at) out part) ≡ drop (at + count) out

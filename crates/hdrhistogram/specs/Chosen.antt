@@ -6,7 +6,7 @@ use Rattle.std.specs.Str.{bytes_eq}
 use Rattle.hdr_log.specs.Tags.{tag_text}
 use Rattle.hdrhistogram.specs.declared.serialization.interval_log.merge.IntervalFilter.{IntervalFilter}
 
--- the tag that is asked for, the first time, and the time behind the last
+-- the tag that is asked for, the first time, and the time after the last
 pub record Filter : Type 0 where
   pub tag : Option (List ℕ)
   pub from : Option ℕ

@@ -5,7 +5,7 @@ use Rattle.hdrhistogram.specs.declared.serialization.errors.DeserializeError.{De
 use Rattle.hdrhistogram.specs.declared.serialization.errors.DeserializeError.TheVariants.{IoError, InvalidCookie, UnsupportedFeature, UnsuitableCounterType, InvalidParameters, UsizeTypeTooSmall, EncodedArrayTooLong, OutOfMemory}
 
 -- the bytes end too soon; their cookie is another; what they ask for is not supported; their bounds are no histogram's; a
--- count is above the counter's greatest, or past the bins; a place is past the greatest u64
+-- count is above the counter's greatest, or past the bins; a place is past `u64::MAX`
 pub data Fault : Type 0 where
   cut : Fault
   other_cookie : Fault
@@ -26,7 +26,7 @@ abbrev pub unless : {A : Type 0} → Option Fault → A → Result A Fault
 unless None x = Ok x
 unless (Some f) x = Err f
 
--- the fault that an error names; want of memory names none
+-- the fault that an error names; lack of memory names none
 abbrev pub fault_of_error : DeserializeError → Option Fault
 fault_of_error (IoError cause) = Some cut
 fault_of_error InvalidCookie = Some other_cookie
@@ -42,12 +42,12 @@ abbrev pub FailsBy : {A : Type 0} → Option Fault → Result A Fault → Type 0
 FailsBy None read = Unit {0}
 FailsBy (Some f) read = read ≡ Err f
 
--- a function's answer, seen by `view`, is what the bytes are read as, want of memory aside
+-- a function's answer, seen by `view`, is what the bytes are read as, lack of memory aside
 abbrev pub Gives : {X Y : Type 0} → (X → Y) → Result X DeserializeError → Result Y Fault → Type 0
 Gives view (Ok x) read = read ≡ Ok (view x)
 Gives view (Err e) read = FailsBy (fault_of_error e) read
 
--- a function took bytes from a reader, and its answer is what they are read as, with nothing behind them
+-- a function took bytes from a reader, and its answer is what they are read as, with nothing after them
 abbrev pub TakesAs : {X Y : Type 0} → Option (List ℕ) → Option (List ℕ) → (X → Y) → (List ℕ → Result (Y × List ℕ) Fault) → Result X DeserializeError → Type 0
 TakesAs old new view read result = (taken : List ℕ) × Consumes old new taken × Gives (λ x. (view x, [])) result (read taken)
 

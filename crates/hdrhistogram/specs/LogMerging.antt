@@ -36,7 +36,7 @@ abbrev pub with_interval : ℕ → Merging → Plain → Merging
 with_interval greatest m source =
     record { histogram = after_add greatest m.histogram source; base = m.base; intervals = m.intervals + 1; chosen = m.chosen + 1 }
 
--- the histogram that was read of an interval's bytes is added, whatever stands behind it
+-- the histogram that was read of an interval's bytes is added, whatever follows it
 abbrev pub BytesMerge : ℕ → Merging → Result (Plain × ℕ) DeserializeError → Result Merging MergeError → Type 0
 BytesMerge greatest m (Ok found) r = r ≡ Ok (with_interval greatest m found.0)
 BytesMerge greatest m (Err e) r = r ≡ Err (Decode (m.intervals + 1) e)
@@ -51,7 +51,7 @@ abbrev pub IntervalMerges : ℕ → Merging → Bool → Interval → Result Mer
 IntervalMerges greatest m true interval r = FieldMerges greatest m (base64_bytes interval.field) r
 IntervalMerges greatest m false interval r = r ≡ Ok (past_interval m)
 
--- what is read of a log is done: an interval begins at its start behind the last base time, and a start time says nothing
+-- what is read of a log is done: an interval begins at its start after the last base time, and a start time says nothing
 abbrev pub EntryMerges : ℕ → Filter → Merging → Result Entry ℕ → Result Merging MergeError → Type 0
 EntryMerges greatest filter m (Ok (Start time)) r = r ≡ Ok m
 EntryMerges greatest filter m (Ok (Base time)) r = r ≡ Ok (with_base m time)
@@ -81,7 +81,7 @@ abbrev pub decode_error : ℕ → DeserializeError → MergeError
 decode_error interval read.OutOfMemory = OutOfMemory
 decode_error interval e = Decode interval e
 
--- a step is refused by name as it is told, and want of memory may come in place of any answer
+-- a step is refused by name as it is told, and lack of memory may come in place of any answer
 abbrev pub RefusesStep : (MergeError → Type 0) → MergeError → Type 0
 RefusesStep Ends (Creation e) = ⊥
 RefusesStep Ends OutOfMemory = Unit {0}
@@ -99,7 +99,7 @@ abbrev pub IsMergedBy : (Result Merging MergeError → Type 0) → Plain → ℕ
 IsMergedBy Ends histogram chosen =
     (base : ℕ) × (intervals : ℕ) × Ends (Ok (record { histogram = histogram; base = base; intervals = intervals; chosen = chosen }))
 
--- an interval's field holds a histogram, whatever stands behind it
+-- an interval's field holds a histogram, whatever follows it
 abbrev pub IsHeldIn : Interval → Plain → Type 0
 IsHeldIn interval h = (bytes : List ℕ) × (base64_bytes interval.field ≡ Some bytes) × (taken : ℕ) × IsReadAs 18446744073709551615 bytes h taken
 

@@ -40,7 +40,7 @@ number_of (run (suc zero)) = pos 0
 number_of (run (suc (suc z))) = negsuc (suc z)
 number_of (bin c) = pos c
 
--- the bytes are the canonical spellings of the parts' numbers, one behind the other
+-- the bytes are the canonical spellings of the parts' numbers, one after the other
 abbrev pub AreSpelt : List Part → List ℕ → Type 0
 AreSpelt [] text = text ≡ []
 AreSpelt (part ∷ parts) text =

@@ -20,7 +20,7 @@ abbrev pub put_before : ℕ → List (List ℕ) → List ℕ → Parted
 put_before b [] rest = record { texts = []; rest = b ∷ rest }
 put_before b (text ∷ texts) rest = record { texts = (b ∷ text) ∷ texts; rest = rest }
 
--- The bytes are cut behind each that ends a spelling: a byte below 128 does, and the ninth of one. `left` more bytes of the
+-- The bytes are cut after each that ends a spelling: a byte below 128 does, and the ninth of one. `left` more bytes of the
 -- spelling that has begun may come before its ninth.
 unfoldable pub split_spellings : ℕ → List ℕ → Parted
 split_spellings left [] = record { texts = []; rest = [] }
@@ -57,13 +57,13 @@ abbrev pub or_else : Option Fault → Option Fault → Option Fault
 or_else (Some f) later = Some f
 or_else None later = later
 
--- the fault of the first number that has one; the first stands at this place, and each further one behind the bins of those
+-- the fault of the first number that has one; the first stands at this place, and each further one after the bins of those
 -- before it
 unfoldable pub first_fault : ℕ → ℕ → ℕ → List ℤ → Option Fault
 first_fault bins greatest place [] = None
 first_fault bins greatest place (n ∷ ns) = or_else (fault_at bins greatest place n) (first_fault bins greatest (place + move n) ns)
 
--- the first of these counts, as many as there are bins, and empty bins behind them
+-- the first of these counts, as many as there are bins, and empty bins after them
 unfoldable pub fit_bins : ℕ → List ℕ → List ℕ
 fit_bins zero counts = []
 fit_bins (suc bins) [] = 0 ∷ fit_bins bins []
@@ -107,7 +107,7 @@ pub record IsCut (rest : List ℕ) : Type 0 where
   pub short : length rest ≤ 8
   pub high : AllByRecursion (λ b. 128 ≤ b) rest
 
--- the payload is spellings, one behind the other, and a rest that is none
+-- the payload is spellings, one after the other, and a rest that is none
 pub record AreSpellings (payload : List ℕ) (texts : List (List ℕ)) (rest : List ℕ) : Type 0 where
   pub whole : payload ≡ flat_map (λ text. text) texts ++ rest
   pub each : AllByRecursion (IsSpelling 8) texts

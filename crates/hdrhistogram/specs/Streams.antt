@@ -4,7 +4,7 @@ use Rattle.std.specs.Io.KnownBytes.{Appends, Consumes}
 use Rattle.hdrhistogram.specs.declared.serialization.errors.DeserializeError.{DeserializeError}
 use Rattle.hdrhistogram.specs.declared.serialization.errors.DeserializeError.TheVariants.{IoError, InvalidCookie, UnsupportedFeature, UnsuitableCounterType, InvalidParameters, UsizeTypeTooSmall, EncodedArrayTooLong, OutOfMemory}
 
--- the first `count` bytes of a buffer are now a text of which P holds, and behind it the bytes are
+-- the first `count` bytes of a buffer are now a text of which P holds, and after it the bytes are
 -- as before
 abbrev pub WritesFront : (List ℕ → Type 0) → List ℕ → List ℕ → ℕ → Type 0
 WritesFront P old new count =

@@ -18,7 +18,7 @@ four_of text = big_number 4 text
 unfoldable pub eight_of : List ℕ → ℕ
 eight_of text = big_number 8 text
 
--- a field of four bytes or of eight, or any bytes: what it holds, and the text behind it
+-- a field of four bytes or of eight, or any bytes: what it holds, and the text after it
 unfoldable pub four_at : List ℕ → Result (ℕ × List ℕ) Fault
 four_at text = if nat_lt (length text) 4 then Err cut else Ok (four_of text, drop 4 text)
 
@@ -55,7 +55,7 @@ pub record Header : Type 0 where
   pub low : ℕ
   pub high : ℕ
 
--- the header at the front of a text, and the text behind it
+-- the header at the front of a text, and the text after it
 unfoldable pub header_at : List ℕ → Result (Header × List ℕ) Fault
 header_at text = do
   cookie ← check_field cookie_fault (four_at text)
@@ -75,7 +75,7 @@ are_bounds low high sigfig =
 unfoldable pub bounds_fault : Header → Option Fault
 bounds_fault h = if are_bounds h.low h.high h.sigfig then None else Some bad_bounds
 
--- what refused bounds are, want of memory aside
+-- what refused bounds are, lack of memory aside
 abbrev pub creation_fault : CreationError → Option Fault
 creation_fault OutOfMemory = None
 creation_fault LowIsZero = Some bad_bounds
@@ -99,7 +99,7 @@ pub record Contents : Type 0 where
 abbrev pub contents_of : Header → List ℕ → Contents
 contents_of h counts = record { low = h.low; high = h.high; sigfig = h.sigfig; counts = counts }
 
--- the histogram at the front of a text, for counters up to the greatest, and the text behind it
+-- the histogram at the front of a text, for counters up to the greatest, and the text after it
 unfoldable pub v2_at : ℕ → List ℕ → Result (Contents × List ℕ) Fault
 v2_at greatest text = do
   found ← header_at text

@@ -27,7 +27,7 @@ pub fn one_canonical_spelling()
     ensures short { (n : ℕ) (text : List ℕ) → Spells text n → length text ≤ 9 }
 {}
 
-/// No spelling begins another: what stands behind a spelling does not change what it spells.
+/// No spelling begins another: what follows a spelling does not change what it spells.
 pub fn spellings_end()
     ensures { (a b x y : List ℕ) (m n : ℕ) → Spells a m → Spells b n → a ++ x ≡ b ++ y
         → (a ≡ b) × (m ≡ n) }
@@ -72,15 +72,15 @@ pub fn one_parting()
         → split_spellings 8 payload ≡ record { texts = texts; rest = rest } }
 {}
 
-/// What stands behind a histogram does not change how it is read, and reading takes a front of the
+/// What follows a histogram does not change how it is read, and reading takes a front of the
 /// text. So a histogram that a reader gives is the one that the whole of its bytes begins with.
 pub fn reading_takes_a_front()
     ensures { (greatest : ℕ) (text rest : List ℕ) (c : Contents) → v2_at greatest text ≡ Ok (c, rest)
         → (front : List ℕ) × (text ≡ front ++ rest) × ((more : List ℕ) → v2_at greatest (front ++ more) ≡ Ok (c, more)) }
 {}
 
-/// The V2 bytes of a histogram, with anything behind them, are read for the same counters as its
-/// bounds, digits and counts, and what is behind them is left.
+/// The V2 bytes of a histogram, with anything after them, are read for the same counters as its
+/// bounds, digits and counts, and what is after them is left.
 pub fn bytes_read_back()
     ensures bytes { (h : Plain) (text : List ℕ) → IsV2 h text → (i : ℕ) → slice_index text i < 256 }
     ensures contents { (greatest : ℕ) (h : Plain) (bytes more : List ℕ) → IsPlain greatest h → IsV2 h bytes

@@ -22,7 +22,7 @@ impl<T: Counter> Histogram<T> {
         self.scale.top(value)
     }
 
-    /// The lowest value of the next class, or the greatest `u64` where there is none.
+    /// The lowest value of the next class, or `u64::MAX` where there is none.
     pub fn next_non_equivalent(&self, value: u64) -> u64
         ensures { result ≡ min (lowest_of (grain self.now) value + width_of (grain self.now) value) (2 ^ 64 - 1) }
     {

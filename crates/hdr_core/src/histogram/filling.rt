@@ -82,7 +82,7 @@ impl<T: Counter> Filling<T> {
         self.counts.set(bin, count);
     }
 
-    /// Sets the counters of a bin and of the one behind it.
+    /// Sets the counters of a bin and of the one after it.
     #[inline(always)]
     pub fn set_two(&mut self, bin: usize, first: T, second: T)
         requires { bin + 1 < length self.old.counts }

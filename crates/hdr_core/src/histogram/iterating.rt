@@ -61,7 +61,7 @@ impl<T: Counter> Histogram<T> {
     }
 
     /// The shares of the samples that halve the distance to the whole again and again, so many to each half, each at the
-    /// first bin that reaches it; behind the last of them the whole.
+    /// first bin that reaches it; after the last of them the whole.
     pub fn iter_quantiles(
         &self,
         ticks_per_half_distance: u32,

@@ -137,7 +137,7 @@ impl<T: Counter> Histogram<T> {
     }
 }
 
-/// The sum of counters, up to the greatest `u64`.
+/// The sum of counters, up to `u64::MAX`.
 pub(super) fn capped_sum<T: Counter>(counts: &Counts<T>) -> u64
     requires { 0 < length counts.now.numbers }
     ensures { result ≡ min (sum counts.now.numbers) (2 ^ 64 - 1) }

@@ -28,7 +28,7 @@ impl<T: Counter> Histogram<T> {
 
     /// Records a value `count` times: the counter of its bin and the total grow, each up to its greatest, and the marks
     /// are widened by its class, also where `count` is 0. A value past the bins is refused, unless the histogram grows;
-    /// then its reach becomes `high`. A refusal changes nothing, and want of memory comes past the bins alone.
+    /// then its reach becomes `high`. A refusal changes nothing, and lack of memory comes past the bins alone.
     #[inline(always)]
     pub fn record_n(&mut self, value: u64, count: T) -> Result<(), RecordError>
         ensures ok { OnOk result (self.new ≡ after_record T.greatest self.old value (T.number count)) }
@@ -154,7 +154,7 @@ pub(super) fn capped<T: Counter>(number: u128) -> T
     }
 }
 
-/// A number, or the greatest `u64` where the number is above it.
+/// A number, or `u64::MAX` where the number is above it.
 pub(super) fn capped_total(number: u128) -> u64
     ensures { result ≡ min number (2 ^ 64 - 1) }
 {

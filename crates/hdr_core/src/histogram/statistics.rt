@@ -18,7 +18,7 @@ impl<T: Counter> Histogram<T> {
         self.counts.get(self.held_bin(value))
     }
 
-    /// The sum of the counters from one value's bin to another's, up to the greatest `u64`; 0 where the first is later.
+    /// The sum of the counters from one value's bin to another's, up to `u64::MAX`; 0 where the first is later.
     /// A value past the bins counts as one of the last bin.
     pub fn count_between(&self, low: u64, high: u64) -> u64
         ensures value { result ≡ min (sum_between self.now low high) (2 ^ 64 - 1) }
@@ -68,7 +68,7 @@ impl<T: Counter> Histogram<T> {
     }
 
     /// The mean of the samples, each taken as the value in the middle of its class: the exact sum over `len`. 0 of 1 where
-    /// there are no samples; `None` where `len` is the greatest `u64`, which more samples than that may stand behind.
+    /// there are no samples; `None` where `len` is `u64::MAX`, which more samples than that may stand for.
     pub fn mean(&self) -> Option<Fraction>
         ensures { result ≡ mean_of self.now }
     {

@@ -46,11 +46,11 @@ impl Deserializer {
     }
 
     /// Reads the histogram at the front of a text, and gives it with the number of bytes that it
-    /// takes. What stands behind them is not looked at.
+    /// takes. What follows them is not looked at.
     ///
     /// The histogram does not grow, its total is the capped sum of its counters, and its marks are
     /// those of the nonempty ones. Bytes that are no histogram's are refused by their first fault;
-    /// beside that want of memory is. The deserializer is as before.
+    /// beside that lack of memory is. The deserializer is as before.
     pub fn decode_slice<T: Counter>(
         &mut self,
         text: &[u8],
@@ -63,13 +63,13 @@ impl Deserializer {
         Ok((h, text.len() - rest.len()))
     }
 
-    /// Reads a histogram from a reader by single calls of `read`, and takes no byte behind it. The
+    /// Reads a histogram from a reader by single calls of `read`, and takes no byte after it. The
     /// histogram is that of `decode_slice`.
     ///
     /// A refusal names the first fault of the bytes that were taken; they are the reader's up to
     /// and with the field that is refused, the whole payload where one of its numbers is, or what
     /// came before the reader failed, was interrupted or ended, which is `IoError`. Beside that
-    /// want of memory is answered. The deserializer is as new afterwards.
+    /// lack of memory is answered. The deserializer is as new afterwards.
     pub fn deserialize<T: Counter, R: Read>(
         &mut self,
         reader: &mut R,
@@ -119,7 +119,7 @@ fn refused(error: CreationError) -> DeserializeError
     }
 }
 
-/// So many bytes at the front of a text, and the text behind them.
+/// So many bytes at the front of a text, and the text after them.
 #[tactic(auto, unfolding(crate::specs::V2Read::bytes_at))]
 fn bytes_at(text: &[u8], len: usize) -> Result<(&[u8], &[u8]), DeserializeError>
     ensures { Gives (λ x. (x.0.now, x.1.now)) result (bytes_at len text.now) }
@@ -130,7 +130,7 @@ fn bytes_at(text: &[u8], len: usize) -> Result<(&[u8], &[u8]), DeserializeError>
     Ok((&text[..len], &text[len..]))
 }
 
-/// The histogram at the front of a text, and the text behind it.
+/// The histogram at the front of a text, and the text after it.
 #[tactic(auto, unfolding(crate::specs::V2Read::v2_at))]
 fn decode<T: Counter>(alloc: Global, text: &[u8]) -> Result<(Histogram<T>, &[u8]), DeserializeError>
     ensures read { Gives (λ x. (told_of x.0, x.1.now)) result (v2_at T.greatest text.now) }

@@ -59,7 +59,7 @@ pub enum DeserializeError {
     #[error("The serialized parameters were invalid(e.g. lowest value, highest value, etc)")]
     InvalidParameters,
 
-    /// A bin's number would be above the greatest `u64`.
+    /// A bin's number would be above `u64::MAX`.
     #[error("The current system's pointer width cannot represent the encoded histogram")]
     UsizeTypeTooSmall,
 

@@ -77,7 +77,7 @@ fn check_ratio(ratio: u64) -> Result<(), DeserializeError>
     }
 }
 
-/// The number in the first four bytes, and the text behind them.
+/// The number in the first four bytes, and the text after them.
 #[tactic(auto, unfolding(crate::specs::V2Read::four_at, crate::specs::V2Read::four_of))]
 fn four_at(text: &[u8]) -> Result<(u32, &[u8]), DeserializeError>
     ensures { Gives (λ x. (x.0, x.1.now)) result (four_at text.now) }
@@ -88,7 +88,7 @@ fn four_at(text: &[u8]) -> Result<(u32, &[u8]), DeserializeError>
     Ok((BigEndian::read_u32(text), &text[4..]))
 }
 
-/// The number in the first eight bytes, and the text behind them.
+/// The number in the first eight bytes, and the text after them.
 #[tactic(auto, unfolding(crate::specs::V2Read::eight_at, crate::specs::V2Read::eight_of))]
 fn eight_at(text: &[u8]) -> Result<(u64, &[u8]), DeserializeError>
     ensures { Gives (λ x. (x.0, x.1.now)) result (eight_at text.now) }
@@ -99,7 +99,7 @@ fn eight_at(text: &[u8]) -> Result<(u64, &[u8]), DeserializeError>
     Ok((BigEndian::read_u64(text), &text[8..]))
 }
 
-/// The header at the front of a text, and the text behind it.
+/// The header at the front of a text, and the text after it.
 #[tactic(auto, unfolding(crate::specs::V2Read::header_at))]
 pub(crate) fn header_at(text: &[u8]) -> Result<(Header, &[u8]), DeserializeError>
     ensures { Gives (λ x. (header_of x.0, x.1.now)) result (header_at text.now) }
@@ -142,7 +142,7 @@ fn read_eight<R: Read>(reader: &mut R) -> Result<u64, DeserializeError>
     Ok(BigEndian::read_u64(&bytes))
 }
 
-/// Takes a header from a reader, and nothing behind it.
+/// Takes a header from a reader, and nothing after it.
 pub(crate) fn read_header<R: Read>(reader: &mut R) -> Result<Header, DeserializeError>
     ensures { TakesAs (R.remaining reader.old) (R.remaining reader.new) header_of header_at result }
 {

@@ -12,7 +12,7 @@ use crate::serialization::zig_zag::zig_zag_decode;
 use hdr_base::Counter;
 use hdr_core::{Filling, Histogram};
 
-/// Puts a number at its place, and gives the place behind it.
+/// Puts a number at its place, and gives the place after it.
 fn put_number<T: Counter>(
     filling: &mut Filling<T>,
     place: u64,

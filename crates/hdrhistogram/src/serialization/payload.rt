@@ -50,7 +50,7 @@ fn count_of<T: Counter>(counters: &[T], bin: usize) -> u64
     counters[bin].as_u64()
 }
 
-/// Writes a number at a place, and gives the place behind it.
+/// Writes a number at a place, and gives the place after it.
 #[inline]
 fn put_number(buf: &mut [u8], at: usize, number: i64) -> usize
     requires { at + 9 ≤ length buf.old }
@@ -63,7 +63,7 @@ fn put_number(buf: &mut [u8], at: usize, number: i64) -> usize
     at + varint_write(zig_zag_encode(number), &mut buf[at..])
 }
 
-/// Writes a run of empty bins at a place, or nothing for none, and gives the place behind it.
+/// Writes a run of empty bins at a place, or nothing for none, and gives the place after it.
 #[inline]
 fn put_run(buf: &mut [u8], at: usize, empty: u64) -> usize
     requires room { at + 9 * empty ≤ length buf.old }

@@ -25,7 +25,7 @@ pub(crate) fn write_whole<W: Write>(writer: &mut W, text: &[u8]) -> io::Result<(
     Ok(())
 }
 
-/// Fills the buffer from a reader, and takes no byte behind it. The first call of `read` that
+/// Fills the buffer from a reader, and takes no byte after it. The first call of `read` that
 /// fails, is interrupted or gives no byte ends it with an error.
 pub(crate) fn read_whole<R: Read>(reader: &mut R, buffer: &mut [u8]) -> io::Result<()>
     ensures ok { OnOk result
@@ -47,7 +47,7 @@ pub(crate) fn read_whole<R: Read>(reader: &mut R, buffer: &mut [u8]) -> io::Resu
 /// How many bytes are asked for before they have come.
 const PIECE: usize = 4096;
 
-/// Reads the next of `left` bytes behind those that have come, which the buffer holds: at most
+/// Reads the next of `left` bytes after those that have come, which the buffer holds: at most
 /// 4,096 of them, so that the buffer is never longer than that past the bytes that have come. It
 /// asks for room for no more.
 pub(crate) fn read_piece<R: Read>(

@@ -72,7 +72,7 @@ impl V2Serializer {
     /// The V2 bytes of a histogram, lent from the serializer's own buffer: at most 40 bytes and
     /// nine for each bin up to the top mark's.
     ///
-    /// The buffer grows first and once, so want of memory is answered before a count above the
+    /// The buffer grows first and once, so lack of memory is answered before a count above the
     /// greatest `i64`. Nothing else is refused, and after a refusal the serializer is as new.
     pub fn to_bytes<T: Counter>(&mut self, h: &Histogram<T>) -> Result<&[u8], V2SerializeError>
         ensures bytes { IfOk result (λ bytes. IsV2 h.now bytes.now) }

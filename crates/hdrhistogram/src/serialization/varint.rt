@@ -128,7 +128,7 @@ pub fn varint_read_slice(slice: &[u8]) -> (u64, usize)
     }
 }
 
-/// Reads a number, byte by byte, and takes no byte behind its spelling. Any spelling is taken, not
+/// Reads a number, byte by byte, and takes no byte after its spelling. Any spelling is taken, not
 /// the shortest alone. Where the reader fails, what it gave is no whole spelling.
 pub fn varint_read<R: Read>(reader: &mut R) -> io::Result<u64>
     ensures ok { IfOk result (λ n. (text : List ℕ) × Spells text n

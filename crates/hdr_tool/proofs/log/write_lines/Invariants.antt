@@ -6,7 +6,7 @@ use Rattle.hdr_tool.specs.Program.{LogLineDone}
 use Rattle.hdr_tool.proofs.Running.{Goes}
 use Rattle.hdr_tool.proofs.log.write_lines.Given as goal
 
--- what was written stands in the writer, and how what is left ends is how all ends behind it
+-- what was written stands in the writer, and how what is left ends is how all ends after it
 abbrev pub invariant-loop-number : goal.invariant-loop-number
 invariant-loop-number g l = record {
   same : IsSameLog l.fn.log l.log;

@@ -37,7 +37,7 @@ impl Write for Buffer {
     }
 }
 
-/// The bytes of a histogram by a serializer. A refusal is want of memory where the buffer could not grow, and else that
+/// The bytes of a histogram by a serializer. A refusal is lack of memory where the buffer could not grow, and else that
 /// of the serializer.
 pub(crate) fn serialized<T: Counter, S: Serializer>(
     alloc: Global,

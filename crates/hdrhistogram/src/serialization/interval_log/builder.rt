@@ -61,7 +61,7 @@ impl IntervalLogWriterBuilder {
         }
     }
 
-    /// Adds a comment behind those that are there. Each part of it between line feeds is to stand on a line of its own; a
+    /// Adds a comment after those that are there. Each part of it between line feeds is to stand on a line of its own; a
     /// part that spells a header is read as that header.
     pub fn add_comment(&mut self, comment: &str) -> Result<(), CommentError>
         ensures ok { OnOk result (self.new ≡ record self.old { comments = self.old.comments ++ comment.now ∷ [] }) }

@@ -21,8 +21,8 @@ use std::alloc::Global;
 use std::time::Duration;
 use thiserror::Error;
 
-/// Which intervals of a log are chosen. An interval begins at its start behind the log's last base time before it, or
-/// behind the epoch where it has none.
+/// Which intervals of a log are chosen. An interval begins at its start after the log's last base time before it, or
+/// after the epoch where it has none.
 #[derive(Debug, PartialEq, Clone, Copy)]
 pub struct IntervalFilter<'a> {
     /// Intervals of this tag alone; `None` chooses every interval, tagged or not.
@@ -75,9 +75,9 @@ pub enum MergeError {
 
 /// Adds the histograms of a log's chosen intervals, in order, to an empty one of so many digits that grows. Intervals are
 /// decoded for counters of 64 bits, and their numbers are added whole. One that is not chosen is not decoded, and what
-/// stands behind a histogram in its field is not looked at.
+/// follows a histogram in its field is not looked at.
 ///
-/// Digits above 5 are refused first. Then the lines go in order, and the first fault decides. Every want of memory is
+/// Digits above 5 are refused first. Then the lines go in order, and the first fault decides. Every lack of memory is
 /// `OutOfMemory`, a cause's too.
 pub fn merge_log<T: Counter>(
     alloc: Global,
@@ -86,8 +86,8 @@ pub fn merge_log<T: Counter>(
     sigfig: u8,
 ) -> Result<Merged<T>, MergeError>
     ensures { MatchResult result
-        (λ m. IsBounds 1 2 sigfig × IsMergedBy (λ r. Merges T.greatest (filter_seen filter.now) sigfig log.now r) m.histogram m.chosen)
-        (RefusesMerge T.greatest (filter_seen filter.now) sigfig log.now) }
+        (λ m. IsBounds 1 2 sigfig × IsMergedBy (λ r. Merges T.greatest (view_of_filter filter.now) sigfig log.now r) m.histogram m.chosen)
+        (RefusesMerge T.greatest (view_of_filter filter.now) sigfig log.now) }
 {
     let histogram = match Histogram::new(alloc, sigfig) {
         Ok(histogram) => histogram,
@@ -146,8 +146,8 @@ fn merge_entry<T: Counter>(
     ensures few { merging.new.intervals ≤ merging.old.intervals + 1 }
     ensures chosen { merging.new.chosen ≤ merging.new.intervals }
     ensures done { MatchResult result
-        (λ _. EntryMerges T.greatest (filter_seen filter.now) (merging_seen merging.old) (item_seen entry.now) (Ok (merging_seen merging.new)))
-        (RefusesStep (λ e. EntryMerges T.greatest (filter_seen filter.now) (merging_seen merging.old) (item_seen entry.now) (Err e))) }
+        (λ _. EntryMerges T.greatest (view_of_filter filter.now) (view_of_merging merging.old) (view_of_item entry.now) (Ok (view_of_merging merging.new)))
+        (RefusesStep (λ e. EntryMerges T.greatest (view_of_filter filter.now) (view_of_merging merging.old) (view_of_item entry.now) (Err e))) }
 {
     match entry {
         Ok(LogEntry::StartTime(_)) => Ok(()),
@@ -178,8 +178,8 @@ fn merge_field<T: Counter>(
     ensures few { merging.new.intervals ≤ merging.old.intervals + 1 }
     ensures chosen { merging.new.chosen ≤ merging.new.intervals }
     ensures done { MatchResult result
-        (λ _. FieldMerges T.greatest (merging_seen merging.old) (base64_bytes field.now) (Ok (merging_seen merging.new)))
-        (RefusesStep (λ e. FieldMerges T.greatest (merging_seen merging.old) (base64_bytes field.now) (Err e))) }
+        (λ _. FieldMerges T.greatest (view_of_merging merging.old) (base64_bytes field.now) (Ok (view_of_merging merging.new)))
+        (RefusesStep (λ e. FieldMerges T.greatest (view_of_merging merging.old) (base64_bytes field.now) (Err e))) }
 {
     let interval = merging.intervals + 1;
     match decode_into(field, &mut merging.bytes) {

@@ -2,7 +2,7 @@ use Rattle.std.proofs.Common.{arith}
 use Rattle.std.proofs.lemmas.Result.{err_from_is_err_and}
 use Rattle.hdrhistogram.specs.V2Read.{eight_at}
 use Rattle.hdrhistogram.specs.declared.serialization.errors.DeserializeError.TheVariants.{IoError}
-use Rattle.hdrhistogram.proofs.Filling.{gives_fails}
+use Rattle.hdrhistogram.proofs.FillingFacts.{gives_fails}
 use Rattle.hdrhistogram.proofs.HeaderRead.{eight-short, eight-whole}
 use Rattle.hdrhistogram.proofs.serialization.fields.read_eight.Goals as goal
 

@@ -139,7 +139,7 @@ fill_start bins greatest payload counts e = record { front = []; long = refl; no
 pub fill_bins : (bins greatest : ℕ) (payload counts : List ℕ) (at place : ℕ) → IsFilledTo bins greatest payload counts at place → length counts ≡ bins
 fill_bins bins greatest payload counts at place d = ap (length {A = ℕ}) d.now ∙ length_fitted bins d.front
 
--- the next spelling, and what lies behind it
+-- the next spelling, and what comes after it
 parts_of : (payload text : List ℕ) (at next len : ℕ) → text ≡ take len (drop at payload) → next ≡ at + len → drop at payload ≡ text ++ drop next payload
 parts_of payload text at next len t e =
     sym (take-append-drop len (drop at payload)) ∙ ap (λ l. l ++ drop len (drop at payload)) (sym t)
