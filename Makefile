@@ -9,6 +9,7 @@ all:
 
 install: all
 	install -Dm755 target/hdr $(DESTDIR)$(PREFIX)/bin/hdr
+	install -Dm644 man/hdr.1 $(DESTDIR)$(PREFIX)/share/man/man1/hdr.1
 
 check:
 	tools/edits --control
