@@ -13,6 +13,16 @@ const WRONG_QUANTILES: [&str; 18] = [
 
 /// The words of a case but for options.
 pub fn words(random: &mut Random, kind: Kind) -> Vec<String> {
+    let mut words = right_words(random, kind);
+    // Cases of many lines are for their lines.
+    if kind != Kind::Lines {
+        damage(random, &mut words);
+    }
+    words
+}
+
+/// The words of a case but for options, most often right.
+pub fn right_words(random: &mut Random, kind: Kind) -> Vec<String> {
     let name = match kind {
         Kind::Report => "report",
         Kind::Log => "log",
@@ -26,10 +36,6 @@ pub fn words(random: &mut Random, kind: Kind) -> Vec<String> {
     };
     let quantiles = if has_quantiles { 1 + random.below(4) } else { 0 };
     words.extend((0..quantiles).map(|_| quantile(random)));
-    // Cases of many lines are for their lines.
-    if kind != Kind::Lines {
-        damage(random, &mut words);
-    }
     words
 }
 
