@@ -28,7 +28,9 @@ pub fn right_words(random: &mut Random, kind: Kind) -> Vec<String> {
         Kind::Log => "log",
         Kind::Merge | Kind::Lines | Kind::Grammar => "merge",
     };
-    let mut words = vec![name.to_string(), random.below(6).to_string()];
+    // Histograms of four and five digits take long.
+    let digits = if random.one_in(8) { random.below(6) } else { random.below(4) };
+    let mut words = vec![name.to_string(), digits.to_string()];
     let has_quantiles = match kind {
         Kind::Report | Kind::Merge => !random.one_in(32),
         Kind::Log => random.one_in(48),
