@@ -1,7 +1,8 @@
 #!/bin/sh
 # Runs the program that rt ci built with the first, second, .. request for memory refused, until a run meets no refusal. Each
 # run either answers as the run that meets none, or says 'hdr: no memory' with status 1: without output then, or for a log
-# with whole intervals from its beginning. No run may leak memory, the last one included.
+# with whole intervals from its beginning, at least those that stood where an earlier request was refused. No run may leak
+# memory, the last one included.
 set -eu
 cd "$(dirname "$0")/.."
 room=$(mktemp -d)
@@ -29,13 +30,15 @@ is_right() {
 is_refusal() {
     [ "$status" = 1 ] && [ "$(cat "$room/err")" = "hdr: no memory" ] || return 1
     size=$(wc -c <"$room/out")
+    [ "$size" -ge "$kept" ] || return 1
+    kept=$size
     [ "$size" = 0 ] && return 0
     [ "$1" = log ] && head -c "$size" "$room/right" | cmp -s - "$room/out" && [ "$(tail -c 1 "$room/out" | od -An -tx1)" = " 0a" ]
 }
 
 # Words on the input $room/in.
 each() {
-    n=0
+    n=0 kept=0
     run "$@"
     cp "$room/out" "$room/right" && cp "$room/err" "$room/fault" && wanted=$status refused=1
     if grep -q '^leaked' "$room/err"; then
@@ -64,11 +67,17 @@ each report 3 1/2
 each report 3 1/2 9/0
 printf 'r 1\nend 0 1000 a\nr 5000\nend 1000 1000\n' >"$room/in"
 each log 3
-"$program" log 3 <"$room/in" >"$room/log"
+first=$(head -n 1 "$room/right" | wc -c)
+if [ "$kept" != "$first" ]; then
+    echo "hdr log 3: $kept bytes where memory is refused to the second interval, and not the first interval's $first" >&2
+    failed=$((failed + 1))
+fi
+cp "$room/right" "$room/log"
 printf 'r 1\nend 0 1\nend 5 5 a,b\n' >"$room/in"
 each log 3
 cp "$room/log" "$room/in"
 each merge 3 1/2 1/1
+each merge --to 500 --tag a --into u8 --from 0 3 1/2
 printf '0.0,1.0,1.0,HISTFAAA\n' >"$room/in"
 each merge 3 1/2
 echo "refused: the program, $runs runs, $failed failures"

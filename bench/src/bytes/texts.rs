@@ -3,9 +3,14 @@
 use super::random::Random;
 use hdrhistogram::Histogram;
 use hdrhistogram::serialization::{Serializer, V2Serializer};
+use std::ops::Range;
 
 /// Bounds of a histogram, small ones more often.
 fn bounds(random: &mut Random) -> (u64, u64, u8) {
+    if random.one_in(1000) {
+        let low = random.number(30).max(1);
+        return (low, 2 * low + random.number(20), random.pick(&[4, 4, 5]));
+    }
     let sigfig = random.pick(&[0, 0, 1, 1, 1, 2, 2, 2, 2, 3]);
     let low = if random.one_in(2) { 1 } else { random.number(20).max(1) };
     let high = match random.below(4) {
@@ -120,13 +125,49 @@ fn place(text: &[u8], random: &mut Random) -> usize {
     random.below(end.max(1) as u64) as usize
 }
 
+/// A part of a text from a place on.
+fn part(text: &[u8], random: &mut Random) -> Range<usize> {
+    let begin = place(text, random);
+    let left = (text.len() - begin) as u64;
+    let most = if random.one_in(2) { left.min(9) } else { left };
+    begin..begin + random.below(most + 1) as usize
+}
+
+/// Puts a part of a text once more after itself, or many times.
+fn double(text: &mut Vec<u8>, random: &mut Random) {
+    let part = part(text, random);
+    let times = if random.one_in(4) { 1 + random.below(600) as usize / (part.len() + 1) } else { 1 };
+    let copies = text[part.clone()].repeat(times);
+    text.splice(part.end..part.end, copies);
+}
+
+/// Goes on as another text does from its own place, or puts a part of that one in.
+fn splice(text: &mut Vec<u8>, random: &mut Random) {
+    let other = if random.one_in(2) { written(random) } else { spelt(random) };
+    let (ours, theirs) = (part(text, random), part(&other, random));
+    if random.one_in(2) {
+        text.truncate(ours.start);
+        text.extend_from_slice(&other[theirs.start..]);
+    } else {
+        text.splice(ours, other[theirs].iter().copied());
+    }
+}
+
+/// States the length that a text's payload has.
+fn mend_length(text: &mut [u8]) {
+    let length = text.len().saturating_sub(40) as u32;
+    if let Some(field) = text.get_mut(4..8) {
+        field.copy_from_slice(&length.to_be_bytes());
+    }
+}
+
 /// Damages a text in one place.
 fn damage(text: &mut Vec<u8>, random: &mut Random) {
     let at = place(text, random);
     if text.is_empty() {
         return;
     }
-    match random.below(8) {
+    match random.below(12) {
         0 => text.truncate(at),
         1 => {
             text.remove(at);
@@ -139,6 +180,13 @@ fn damage(text: &mut Vec<u8>, random: &mut Random) {
             text[at..end].fill(random.pick(&[0, 0xff, 0x80]));
         }
         6 if text.len() > 7 => text[7] = text[7].wrapping_add(random.pick(&[1, 2, 0xff, 0xfe])),
+        7 => {
+            let part = part(text, random);
+            text.drain(part);
+        }
+        8 => double(text, random),
+        9 => splice(text, random),
+        10 => mend_length(text),
         _ => text[at] = random.next() as u8,
     }
 }

@@ -1,10 +1,11 @@
 //! Random cases.
 
+use crate::damage::mutate;
 use crate::logs;
 use crate::options::{Filter, put_options};
 use crate::random::Random;
 use crate::records;
-use crate::words::words;
+use crate::words::{right_words, words};
 
 /// What a case is for.
 #[derive(Clone, Copy, PartialEq)]
@@ -20,18 +21,6 @@ pub enum Kind {
 }
 
 impl Kind {
-    /// The kind that a word names.
-    pub fn from_word(word: &str) -> Option<Kind> {
-        match word {
-            "report" => Some(Kind::Report),
-            "log" => Some(Kind::Log),
-            "merge" => Some(Kind::Merge),
-            "lines" => Some(Kind::Lines),
-            "grammar" => Some(Kind::Grammar),
-            _ => None,
-        }
-    }
-
     /// A random kind whose answers come from another program.
     fn any(random: &mut Random) -> Kind {
         match random.below(16) {
@@ -39,6 +28,33 @@ impl Kind {
             4..=8 => Kind::Log,
             9..=14 => Kind::Merge,
             _ => Kind::Lines,
+        }
+    }
+}
+
+/// What cases are taken.
+#[derive(Clone, Copy)]
+pub enum Choice {
+    Any,
+    Of(Kind),
+    /// Inputs of each command, whose bytes are changed, cut, doubled and spliced. Half of them are logs to be merged.
+    Mutated,
+    /// Logs to be merged alone.
+    MutatedLogs,
+}
+
+impl Choice {
+    /// The choice that a word names.
+    pub fn from_word(word: &str) -> Option<Choice> {
+        match word {
+            "report" => Some(Choice::Of(Kind::Report)),
+            "log" => Some(Choice::Of(Kind::Log)),
+            "merge" => Some(Choice::Of(Kind::Merge)),
+            "lines" => Some(Choice::Of(Kind::Lines)),
+            "grammar" => Some(Choice::Of(Kind::Grammar)),
+            "mutated" => Some(Choice::Mutated),
+            "mutated_logs" => Some(Choice::MutatedLogs),
+            _ => None,
         }
     }
 }
@@ -52,9 +68,20 @@ pub struct Case {
 }
 
 impl Case {
-    /// A case of a kind, or of any.
-    pub fn new(random: &mut Random, kind: Option<Kind>) -> Case {
-        let kind = kind.unwrap_or_else(|| Kind::any(random));
+    /// A case of a choice.
+    pub fn new(random: &mut Random, choice: Choice) -> Case {
+        match choice {
+            Choice::Any => {
+                let kind = Kind::any(random);
+                Case::of_kind(random, kind)
+            }
+            Choice::Of(kind) => Case::of_kind(random, kind),
+            Choice::Mutated if random.one_in(2) => Case::of_mutated_lines(random),
+            Choice::Mutated | Choice::MutatedLogs => Case::of_mutated_log(random),
+        }
+    }
+
+    fn of_kind(random: &mut Random, kind: Kind) -> Case {
         match kind {
             Kind::Report | Kind::Log => {
                 Case { words: words(random, kind), input: records::input(random, kind), filter: None }
@@ -81,4 +108,39 @@ impl Case {
         put_options(random, &mut words, &filter, false);
         Case { words, input, filter: Some(filter) }
     }
+
+    /// A report or a log of damaged lines.
+    fn of_mutated_lines(random: &mut Random) -> Case {
+        let (kind, sort): (_, fn(&mut Random) -> Vec<u8>) = if random.one_in(2) {
+            (Kind::Report, |random| records::input(random, Kind::Report))
+        } else {
+            (Kind::Log, |random| records::input(random, Kind::Log))
+        };
+        let mut input = sort(random);
+        mutate(random, &mut input, sort);
+        Case { words: right_words(random, kind), input, filter: None }
+    }
+
+    /// A merge of a log that is damaged in its histograms' bytes, in its text, or in both.
+    fn of_mutated_log(random: &mut Random) -> Case {
+        let is_text_damaged = random.one_in(2);
+        let mut input = logs::log_of_mutated_fields(random, if is_text_damaged { 8 } else { 2 });
+        if is_text_damaged {
+            mutate(random, &mut input, logs::sound_log);
+        }
+        let filter = Filter::new(random, &input);
+        let mut words = right_words(random, Kind::Merge);
+        put_options(random, &mut words, &filter, false);
+        Case { words, input, filter: None }
+    }
+
+    /// Whether a program that makes corrections value by value would take long.
+    pub fn has_long_corrections(&self) -> bool {
+        let lines = self.input.split(|byte| *byte == b'\n');
+        let missing = lines.filter_map(records::missing_values).fold(0, u64::saturating_add);
+        self.words.first().is_some_and(|word| word != "merge") && missing > MOST_MISSING
+    }
 }
+
+/// How many missing values are recorded one by one in some tenths of a second.
+const MOST_MISSING: u64 = 20_000_000;

@@ -1,5 +1,6 @@
 //! The histograms of a log: V2 bytes in Base64.
 
+use crate::damage::mutate;
 use crate::random::Random;
 use hdrhistogram::Histogram;
 use hdrhistogram::serialization::{Serializer, V2Serializer};
@@ -21,6 +22,18 @@ pub fn field(random: &mut Random, is_sound: bool) -> Vec<u8> {
         damage(random, &mut text);
     }
     text
+}
+
+/// A field of bytes that were sound before they were damaged.
+pub fn mutated_field(random: &mut Random) -> Vec<u8> {
+    let mut bytes = sound_bytes(random);
+    mutate(random, &mut bytes, sound_bytes);
+    base64(&bytes)
+}
+
+/// Sound V2 bytes.
+fn sound_bytes(random: &mut Random) -> Vec<u8> {
+    if random.one_in(4) { recorded(random) } else { bytes(random, true) }
 }
 
 /// The field of an empty histogram of few bins.

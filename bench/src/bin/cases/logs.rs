@@ -1,6 +1,6 @@
 //! The logs that `merge` reads.
 
-use crate::fields::{damage, empty_field, field};
+use crate::fields::{damage, empty_field, field, mutated_field};
 use crate::grammar::entry;
 use crate::model::ONE_SAMPLE;
 use crate::random::Random;
@@ -48,6 +48,26 @@ pub fn log(random: &mut Random) -> Vec<u8> {
         }
     }
     log
+}
+
+/// A log of a few right lines.
+pub fn sound_log(random: &mut Random) -> Vec<u8> {
+    let lines = (0..1 + random.below(9)).map(|_| line(random, true)).collect();
+    joined(random, lines)
+}
+
+/// A log of a few right lines, of whose intervals one in so many holds damaged bytes.
+pub fn log_of_mutated_fields(random: &mut Random, throws: u64) -> Vec<u8> {
+    let mut lines = Vec::new();
+    for _ in 0..1 + random.below(6) {
+        lines.push(if random.one_in(throws) {
+            let field = mutated_field(random);
+            interval(random, &field, false)
+        } else {
+            line(random, true)
+        });
+    }
+    joined(random, lines)
 }
 
 /// A log of hundreds of lines, with small histograms, of which one line is damaged and the others are right.

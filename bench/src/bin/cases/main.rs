@@ -1,15 +1,21 @@
 //! Compares two programs on random cases: words, and lines on standard input.
 //!
-//!     cases HDR OTHER SEED COUNT [report | log | merge | lines | grammar]
+//!     cases HDR OTHER SEED COUNT [report | log | merge | lines | grammar | mutated | mutated_logs]
 //!
 //! The last word chooses the kind of the cases, which is random without it. `lines` is for merging logs of many lines.
 //! `grammar` is for logs of damaged lines: there HDR is compared with the grammar of the lines, and OTHER has no part.
+//! `mutated` is for inputs of each command, whose bytes are changed, cut, doubled and spliced; so are the bytes of the logs'
+//! histograms. `mutated_logs` is for those of `merge` alone.
 //!
-//! Prints each case in which standard output, standard error or the exit status differ, then how many differ, and how many
-//! lines of logs were read by HDR as right or as wrong. The exit status is 1 where some cases differ. The text of a failed
-//! read is not compared. A case depends on SEED, its kind and its own number alone.
+//! HDR has to end within five seconds, with a status of 0, 1 or 2, and with a fault and no output where that is not 0, but
+//! for whole intervals of a log. Prints each case in which it does not, or in which standard output, standard error or the
+//! exit status differ, then how many differ, and how many lines of logs were read by HDR as right or as wrong. The exit
+//! status is 1 where some cases differ. The text of a failed read is not compared. Not compared are cases whose corrections
+//! would take OTHER long. A case depends on SEED, its kind and its own number alone.
 
+mod answer;
 mod case;
+mod damage;
 mod fields;
 mod grammar;
 mod logs;
@@ -19,89 +25,21 @@ mod random;
 mod records;
 mod words;
 
-use case::{Case, Kind};
+use answer::Answer;
+use case::{Case, Choice};
 use random::Random;
-use std::fmt;
-use std::io::{self, Write};
+use std::io;
 use std::num::NonZero;
-use std::os::unix::process::ExitStatusExt;
-use std::process::{Command, ExitCode, ExitStatus, Stdio};
+use std::process::ExitCode;
 use std::sync::atomic::{AtomicU64, Ordering};
 use std::thread;
-
-/// What a program answers to a case.
-#[derive(PartialEq)]
-struct Answer {
-    status: ExitStatus,
-    output: Vec<u8>,
-    error: Vec<u8>,
-}
-
-impl Answer {
-    fn of(program: &str, case: &Case) -> io::Result<Answer> {
-        let mut child = Command::new(program)
-            .args(&case.words)
-            .stdin(Stdio::piped())
-            .stdout(Stdio::piped())
-            .stderr(Stdio::piped())
-            .spawn()
-            .map_err(|error| io::Error::new(error.kind(), format!("{program}: {error}")))?;
-        // A program with wrong words may end before it has read anything.
-        match child.stdin.take().expect("standard input is a pipe").write_all(&case.input) {
-            Err(error) if error.kind() != io::ErrorKind::BrokenPipe => return Err(error),
-            _ => {}
-        }
-        let told = child.wait_with_output()?;
-        Ok(Answer { status: told.status, output: told.stdout, error: without_cause(told.stderr) })
-    }
-
-    /// The answer that a model tells.
-    fn told(answer: Result<String, String>) -> Answer {
-        let exit = |status: i32| ExitStatus::from_raw(status << 8);
-        match answer {
-            Ok(report) => Answer { status: exit(0), output: report.into_bytes(), error: Vec::new() },
-            Err(fault) => Answer { status: exit(1), output: Vec::new(), error: fault.into_bytes() },
-        }
-    }
-
-    /// How many lines of the case's log were read.
-    fn lines_read(&self, case: &Case) -> u64 {
-        if case.words.first().is_none_or(|word| word != "merge") {
-            return 0;
-        }
-        let is_line_end = |byte: &&u8| **byte == b'\n';
-        if self.status.success() {
-            return case.input.iter().filter(is_line_end).count() as u64;
-        }
-        let error = String::from_utf8_lossy(&self.error);
-        let offset = error.trim_end().strip_prefix("hdr: log: parse error at byte ").and_then(|text| text.parse().ok());
-        // The line at fault is one of them.
-        offset.map_or(0, |offset| 1 + case.input.iter().take(offset).filter(is_line_end).count() as u64)
-    }
-}
-
-/// An error's text up to the cause of a failed read, which is left open.
-fn without_cause(mut error: Vec<u8>) -> Vec<u8> {
-    const FAILED: &[u8] = b"An i/o operation failed: ";
-    if let Some(at) = error.windows(FAILED.len()).position(|part| part == FAILED) {
-        error.truncate(at + FAILED.len());
-    }
-    error
-}
-
-impl fmt::Display for Answer {
-    fn fmt(&self, f: &mut fmt::Formatter<'_>) -> fmt::Result {
-        let (output, error) = (String::from_utf8_lossy(&self.output), String::from_utf8_lossy(&self.error));
-        write!(f, "{}\n{}{}", self.status, output.trim_end(), error.trim_end())
-    }
-}
 
 /// Two programs, and the cases that they are compared on.
 struct Comparison {
     programs: [String; 2],
     seed: u64,
     count: u64,
-    kind: Option<Kind>,
+    choice: Choice,
 }
 
 /// What a comparison found.
@@ -110,37 +48,54 @@ struct Found {
     differing: u64,
     /// The lines of logs that were read.
     lines: u64,
-    /// The cases of which the grammar alone does not tell the answer.
+    /// The cases of which neither the grammar alone nor the other program tells the answer.
     untold: u64,
+}
+
+impl Found {
+    /// What another program answers, or the grammar for its cases; `None` where they tell no answer, or take too long.
+    fn told(&mut self, other: &str, case: &Case, ours: &Answer) -> io::Result<Option<Answer>> {
+        let theirs = if let Some(filter) = &case.filter {
+            model::told(filter, &case.input).map(|told| {
+                self.lines += told.lines;
+                Answer::told(told.answer)
+            })
+        } else if case.has_long_corrections() {
+            None
+        } else {
+            self.lines += ours.lines_read(case);
+            Some(Answer::of(other, case)?).filter(|answer| !answer.is_late)
+        };
+        self.untold += u64::from(theirs.is_none());
+        Ok(theirs)
+    }
 }
 
 impl Comparison {
     fn from_words(mut words: Vec<String>) -> Option<Comparison> {
-        let kind = if words.len() == 5 { Some(Kind::from_word(&words.pop()?)?) } else { None };
+        let choice = if words.len() == 5 { Choice::from_word(&words.pop()?)? } else { Choice::Any };
         let [hdr, other, seed, count] = <[String; 4]>::try_from(words).ok()?;
-        Some(Comparison { programs: [hdr, other], seed: seed.parse().ok()?, count: count.parse().ok()?, kind })
+        Some(Comparison { programs: [hdr, other], seed: seed.parse().ok()?, count: count.parse().ok()?, choice })
     }
 
-    /// Takes a case, and prints it where the answers differ. A case by the grammar is not compared where the grammar does
-    /// not tell the answer.
+    /// Takes a case, and prints it where the answer is wrong by itself, or differs from what the other program or the
+    /// grammar tells.
     fn take(&self, number: u64, found: &mut Found) -> io::Result<()> {
-        let case = Case::new(&mut Random::of_case(self.seed, number), self.kind);
+        let case = Case::new(&mut Random::of_case(self.seed, number), self.choice);
         let [hdr, other] = &self.programs;
         let ours = Answer::of(hdr, &case)?;
-        let theirs = if let Some(filter) = &case.filter {
-            let Some(told) = model::told(filter, &case.input) else {
-                found.untold += 1;
-                return Ok(());
-            };
-            found.lines += told.lines;
-            Answer::told(told.answer)
-        } else {
-            found.lines += ours.lines_read(&case);
-            Answer::of(other, &case)?
+        let theirs = found.told(other, &case, &ours)?;
+        let wrong = match &theirs {
+            Some(theirs) if ours != *theirs => Some("another answer"),
+            _ => None,
         };
-        if ours != theirs {
-            let input = String::from_utf8_lossy(&case.input);
-            println!("case {number}: {:?}\n{input}\n-- {ours}\n-- {theirs}\n", case.words);
+        if let Some(wrong) = ours.wrong(&case).or(wrong) {
+            let input = case.input.escape_ascii();
+            println!("case {number}: {wrong}: {:?}\n{input}\n-- {ours}", case.words);
+            if let Some(theirs) = theirs {
+                println!("-- {theirs}");
+            }
+            println!();
             found.differing += 1;
         }
         Ok(())
@@ -178,7 +133,7 @@ impl Comparison {
 
 fn main() -> ExitCode {
     let Some(comparison) = Comparison::from_words(std::env::args().skip(1).collect()) else {
-        eprintln!("usage: cases HDR OTHER SEED COUNT [report | log | merge | lines | grammar]");
+        eprintln!("usage: cases HDR OTHER SEED COUNT [report | log | merge | lines | grammar | mutated | mutated_logs]");
         return ExitCode::from(2);
     };
     match comparison.run() {

@@ -2,6 +2,7 @@
 
 use crate::case::Kind;
 use crate::random::Random;
+use std::str;
 
 const WRONG_LINES: [&[u8]; 32] = [
     b" ", b"r", b"r ", b"rr 1", b"r x", b" r 1", b"r  1", b"r 1 ", b"r 1  2", b"r 1 2 3", b"r 1 2 ", b"r -1", b"r +1", b"r 1.5",
@@ -48,6 +49,13 @@ pub fn input(random: &mut Random, kind: Kind) -> Vec<u8> {
         input.push(b'\n');
     }
     input
+}
+
+/// How many values a line's correction has to record one by one, where it is one.
+pub fn missing_values(line: &[u8]) -> Option<u64> {
+    let mut words = str::from_utf8(line).ok()?.strip_prefix("c ")?.split(' ');
+    let (value, interval) = (words.next()?.parse::<u64>().ok()?, words.next()?.parse().ok()?);
+    value.checked_div(interval)
 }
 
 /// Damages a line, but never to a correction that may take too long.

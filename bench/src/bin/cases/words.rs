@@ -13,12 +13,24 @@ const WRONG_QUANTILES: [&str; 18] = [
 
 /// The words of a case but for options.
 pub fn words(random: &mut Random, kind: Kind) -> Vec<String> {
+    let mut words = right_words(random, kind);
+    // Cases of many lines are for their lines.
+    if kind != Kind::Lines {
+        damage(random, &mut words);
+    }
+    words
+}
+
+/// The words of a case but for options, most often right.
+pub fn right_words(random: &mut Random, kind: Kind) -> Vec<String> {
     let name = match kind {
         Kind::Report => "report",
         Kind::Log => "log",
         Kind::Merge | Kind::Lines | Kind::Grammar => "merge",
     };
-    let mut words = vec![name.to_string(), random.below(6).to_string()];
+    // Histograms of four and five digits take long.
+    let digits = if random.one_in(8) { random.below(6) } else { random.below(4) };
+    let mut words = vec![name.to_string(), digits.to_string()];
     let has_quantiles = match kind {
         Kind::Report | Kind::Merge => !random.one_in(32),
         Kind::Log => random.one_in(48),
@@ -26,10 +38,6 @@ pub fn words(random: &mut Random, kind: Kind) -> Vec<String> {
     };
     let quantiles = if has_quantiles { 1 + random.below(4) } else { 0 };
     words.extend((0..quantiles).map(|_| quantile(random)));
-    // Cases of many lines are for their lines.
-    if kind != Kind::Lines {
-        damage(random, &mut words);
-    }
     words
 }
 
