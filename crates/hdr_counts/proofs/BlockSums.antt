@@ -5,7 +5,7 @@ use Rattle.std.proofs.lemmas.List.Elements.{All-nil, All-cons, All-take, All-dro
 use Rattle.std.proofs.lemmas.List.Sums.{sum_by-set, sum_by-append, sum_by-cons, sum_by_more, sum_by-take-le, sum_by-le, sum_by-take-drop}
 use Rattle.std.proofs.lemmas.Bool.{cases_lt, cases_eq, false≢true}
 use Rattle.std.proofs.Math.Seq.{take-set-lt, take-append-add, take-append_seam}
-use Rattle.std.proofs.Math.Nat.{mul-le-mul_right, mul-le-mul_left, div-lt_iff_lt-mul}
+use Rattle.std.proofs.Math.Nat.{mul-le-mul_right, div-lt_iff_lt-mul}
 use Rattle.hdr_counts.specs.Blocks.{sum_below, AreSums}
 
 -- a write past the places summed
@@ -176,49 +176,6 @@ AreSums-grow b ns ss blocks h l m =
           omega (arith, none, zero_there))
           (cases_lt k (length ns));
     }
-
--- ---- where a block stands in a list, over plain variables: the goals about a block's bounds take these in place of a search
-
--- a bound of one list is that of another that is as long
-pub le_as : (k m n : ℕ) → k ≤ m → n ≡ m → k ≤ n
-le_as k m n le same = omega arith
-
-pub lt_as : (k m n : ℕ) → k < m → n ≡ m → k < n
-lt_as k m n lt same = omega arith
-
-pub le_more : (a b : ℕ) → a ≤ a + b
-le_more a b = omega arith
-
-pub block-within : {X : Type 0} (f : X → ℕ) (xs : List X) (b k : ℕ) (ss : List ℕ) → AreSums b (map f xs) ss → k < length ss → k * b + b ≤ length xs
-block-within f xs b k ss h lt = omega (arith, block_past b k (length ss) lt, h.whole, length-map xs f)
-
-pub block-begins : {X : Type 0} (f : X → ℕ) (xs : List X) (b k : ℕ) (ss : List ℕ) → AreSums b (map f xs) ss → k < length ss → k * b ≤ length xs
-block-begins f xs b k ss h lt = omega (arith, block-within f xs b k ss h lt)
-
--- so its places fit 64 bits
-pub block-begin-fits : {X : Type 0} (f : X → ℕ) (xs : List X) (b k : ℕ) (ss : List ℕ) → AreSums b (map f xs) ss → k < length ss → k * b < 2 ^ 64
-block-begin-fits f xs b k ss h lt = omega (arith, block-within f xs b k ss h lt, h.few, length-map xs f)
-
-pub block-end-fits : {X : Type 0} (f : X → ℕ) (xs : List X) (b k : ℕ) (ss : List ℕ) → AreSums b (map f xs) ss → k < length ss → k * b + b < 2 ^ 64
-block-end-fits f xs b k ss h lt = omega (arith, block-within f xs b k ss h lt, h.few, length-map xs f)
-
--- so do the places of its sum
-pub sum-offset-fits : (b k : ℕ) (ns ss : List ℕ) → AreSums b ns ss → k < length ss → k * 16 < 2 ^ 64
-sum-offset-fits b k ns ss h lt =
-    let some : length ss * 1 ≤ length ss * b = mul-le-mul_left (length ss) h.some in
-    omega (arith, some, h.whole, h.few)
-
--- lists of one length have as many blocks
-pub same-blocks : {X Y : Type 0} (f : X → ℕ) (h : Y → ℕ) (xs : List X) (ys : List Y) (b k : ℕ) (ss ts : List ℕ) → AreSums b (map f xs) ss → AreSums b (map h ys) ts → length xs ≡ length ys → k < length ss → k < length ts
-same-blocks f h xs ys b k ss ts of_xs of_ys same lt =
-    omega (arith, blocks_more b (length ss) (length ts) of_xs.some (omega (arith, of_xs.whole, of_ys.whole, same, length-map xs f, length-map ys h)))
-
--- a part has no more elements than the list
-pub part-few : {X : Type 0} (f : X → ℕ) (xs l : List X) (b a w : ℕ) (ss : List ℕ) → AreSums b (map f xs) ss → length l ≡ length xs → length (take w (drop a l)) ≤ 6291456
-part-few f xs l b a w ss h same = rw (length-take, length-drop) (omega (arith, h.few, length-map xs f))
-
-pub parts-same : {X Y : Type 0} (xs : List X) (ys : List Y) (a w : ℕ) → length xs ≡ length ys → length (take w (drop a xs)) ≡ length (take w (drop a ys))
-parts-same xs ys a w same = rw (length-take, length-drop) (rw (length-take, length-drop) (ap (λ n. min w (n - a)) same))
 
 -- a running sum of the numbers of a list, one element on
 pub sum_below_map_more : {X : Type 0} (f : X → ℕ) (xs : List X) (i : ℕ) (x : X) → i < length xs → x ≡ get_or xs i x → sum_below (map f xs) (i + 1) ≡ sum_below (map f xs) i + f x

@@ -4,7 +4,8 @@ use Rattle.std.specs.List.{All}
 use Rattle.std.proofs.lemmas.List.{length-map, length-set, length-take, length-drop, drop-drop, take_all}
 use Rattle.std.proofs.lemmas.List.Elements.{All-take, All-drop}
 use Rattle.hdr_counts.specs.Blocks.{capped_sums, AreSums}
-use Rattle.hdr_counts.proofs.BlockSums.{le_as, lt_as, le_more, block-within, block-begins, block-begin-fits, block-end-fits, sum-offset-fits, same-blocks, part-few, parts-same, block-sum, block_past, blocks_more, sum_below-le-sum, sum-fits, AreSums-written}
+use Rattle.hdr_counts.proofs.BlockBounds.{le_as, lt_as, le_more, block-within, block-begins, block-begin-fits, block-end-fits, sum-offset-fits, same-blocks, part-few, parts-same}
+use Rattle.hdr_counts.proofs.BlockSums.{block-sum, block_past, blocks_more, sum_below-le-sum, sum-fits, AreSums-written}
 use Rattle.hdr_counts.proofs.CappedSums.{capped-begin, capped-length, capped-fit, capped-fit-under, capped-step, map-part, map-middle}
 use Rattle.hdr_counts.proofs.adding.add_blocks.Goals as goal
 
@@ -143,7 +144,7 @@ loop-k-init g c = record {
 }
 
 pub offset_bounds-counters-from : goal.offset_bounds-counters-from
-offset_bounds-counters-from g c = 
+offset_bounds-counters-from g c =
     let here : c.loop-k.k * c.args.block ≤ length c.loop-k.counters = le_as _ _ _ (block-begins g.T.Counter.number c.args.counters.now c.args.block c.loop-k.k c.args.sums.now c.requires.sums c.loop-k-test.true) c.loop-k.auto.counters in
     search rules
 
