@@ -1,6 +1,6 @@
-use Rattle.std.proofs.Common.{◌≡◌, ◌+◌, ◌*◌, ◌∙◌, min, length, length-take-le, take, sym, ap, arith}
+use Rattle.std.proofs.Common.{◌≡◌, ◌∙◌, length, length-take-le, take, sym, ap, arith}
 use Rattle.std.proofs.lemmas.List.{length-take, take-map}
-use Rattle.hdrhistogram.specs.Payload.{nonempty, enough_bytes}
+use Rattle.hdrhistogram.specs.Payload.{nonempty}
 use Rattle.hdrhistogram.specs.V2.{written_bins}
 use Rattle.hdrhistogram.proofs.Payloads.{enough-each, enough-parts}
 use Rattle.hdrhistogram.proofs.serialization.payload.payload_room.Goals as goal
