@@ -1,5 +1,5 @@
 -- Two lists added place by place, each sum at most the greatest.
-use Rattle.std.proofs.Common.{add-one, ◌≡◌, ℕ, zero, suc, ◌+◌, ◌<◌, ◌≤◌, min, List, [], ◌∷◌, ◌++◌, length, get_or, set, take, drop, map, sum, refl, sym, ap, ◌∙◌, arith}
+use Rattle.std.proofs.Common.{add-one, ◌≡◌, ℕ, zero, suc, ◌+◌, ◌*◌, ◌<◌, ◌≤◌, min, List, [], ◌∷◌, ◌++◌, length, get_or, set, take, drop, map, sum, refl, sym, ap, ◌∙◌, arith}
 use Rattle.std.proofs.lemmas.List.{map-append, take-map, drop-map, drop-drop, length-map}
 use Rattle.std.specs.List.{All}
 use Rattle.std.proofs.lemmas.List.Sums.{sum_by-cons}
@@ -9,6 +9,12 @@ use Rattle.hdr_counts.specs.Blocks.{capped_sums}
 pub capped-none : (greatest : ℕ) (ms : List ℕ) → capped_sums greatest ms [] ≡ ms
 capped-none greatest [] = refl
 capped-none greatest (m ∷ ms) = refl
+
+-- before the first block nothing is added
+pub capped-begin : (greatest b : ℕ) (ms ns : List ℕ) → ms ≡ capped_sums greatest ms (take (0 * b) ns)
+capped-begin greatest b ms ns =
+    let none : 0 * b ≡ 0 = omega arith in
+    sym (ap (λ n. capped_sums greatest ms (take n ns)) none ∙ capped-none greatest ms)
 
 pub capped-more : (greatest : ℕ) (ms ns : List ℕ) (i : ℕ) → i < length ms → i < length ns
     → capped_sums greatest ms (take (suc i) ns) ≡ set (capped_sums greatest ms (take i ns)) i (min (get_or (capped_sums greatest ms (take i ns)) i 0 + get_or ns i 0) greatest)

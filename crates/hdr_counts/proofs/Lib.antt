@@ -3,4 +3,5 @@ pub mod Places
 pub mod CappedSums
 pub mod OpenSums
 pub mod NonzeroPlaces
+pub mod BlockBounds
 pub mod BlockParts

@@ -1,13 +1,14 @@
 -- The payload: counts in parts, and the loop that writes them.
-use Rattle.std.proofs.Common.{◌≡◌, ◌≢◌, ℕ, zero, suc, ◌+◌, ◌*◌, ◌^◌, ◌<◌, ◌≤◌, Bool, true, false, cond, List, [], ◌∷◌, ◌++◌, length, take, drop, get_or, replicate, refl, sym, ap, ◌∙◌, subst, arith, append_assoc, append-nil, length-take-le, length-append, drop_of_length-le, take-append-drop, eqb, flat_map, ℤ, pos, add-one, below_more, drop-cons}
-use Rattle.std.proofs.lemmas.Bool.{eqb-true, eqb-false, eq-eqb, ne_eqb}
+use Rattle.std.proofs.Common.{◌≡◌, ◌≢◌, ℕ, zero, suc, ◌+◌, ◌*◌, ◌^◌, ◌<◌, ◌≤◌, Bool, true, false, cond, List, [], ◌∷◌, ◌++◌, length, take, drop, get_or, replicate, refl, sym, ap, ◌∙◌, subst, arith, append_assoc, append-nil, length-take-le, length-append, drop_of_length-le, take-append-drop, eqb, flat_map, ℤ, pos, add-one, below_more, drop-cons, min, nat_lt, map}
+use Rattle.std.proofs.lemmas.Bool.{eqb-true, eqb-false, eq-eqb, ne_eqb, lt-ltb, le-ltb}
 use Rattle.std.proofs.lemmas.Grind.{get_or_default_zero}
-use Rattle.std.proofs.lemmas.List.{length-replicate, get_or-take}
+use Rattle.std.proofs.lemmas.List.{length-replicate, length-map, get_or-take, get_or-map, take-take}
 use Rattle.std.proofs.lemmas.List.Elements.{recursion_from_All}
+use Rattle.std.proofs.lemmas.List.Sums.{count_by_more_yes, count_by_more_no, sum_by-take-le}
 use Rattle.std.specs.List.{AllByRecursion}
 use Rattle.hdrhistogram.specs.Varint.{IsShortest}
 use Rattle.hdrhistogram.specs.ZigZag.{zig_zag}
-use Rattle.hdrhistogram.specs.Payload.{Part, run, bin, bins_of, BeginsNoRun, AreMaximal, IsSplit, number_of, AreSpelt, IsPayload, IsRunText}
+use Rattle.hdrhistogram.specs.Payload.{Part, run, bin, bins_of, BeginsNoRun, AreMaximal, IsSplit, number_of, AreSpelt, IsPayload, IsRunText, nonempty, enough_bytes}
 use Rattle.hdrhistogram.proofs.Spellings.{spelling, spelling_least, shortest_is}
 use Rattle.hdrhistogram.proofs.Writing.{drop_past}
 
@@ -124,15 +125,43 @@ stands_more whole out old next piece left written further s h front behind = rec
   behind = behind ∙ drop_past out old written further h s.behind;
 }
 
+-- one bin more
+nonempty_more : (counts : List ℕ) (index : ℕ) → nonempty (take index counts) ≤ nonempty (take (index + 1) counts)
+nonempty_more counts index =
+    let e : nonempty (take index (take (index + 1) counts)) ≡ nonempty (take index counts) = ap nonempty (take-take index (index + 1) counts (omega arith)) in
+    omega (arith, e, sum_by-take-le (λ n. cond (nat_lt 0 n) 1 0) (take (index + 1) counts) index)
+
+nonempty_one : (counts : List ℕ) (index : ℕ) → index < length counts → get_or counts index 0 ≢ 0 → nonempty (take (index + 1) counts) ≡ nonempty (take index counts) + 1
+nonempty_one counts index h full = count_by_more_yes (λ n. nat_lt 0 n) counts index 0 h (lt-ltb 0 (get_or counts index 0) (omega arith))
+
+-- a count of those of a list, one element on
+pub full_more : {X : Type 0} (f : X → ℕ) (xs : List X) (i : ℕ) (x : X) (full : ℕ) → i < length xs → x ≡ get_or xs i x → 0 < f x → full ≡ nonempty (take i (map f xs))
+    → full + 1 ≡ nonempty (take (i + 1) (map f xs))
+full_more f xs i x full h is some was =
+    let here : get_or (map f xs) i 0 ≡ f x = get_or-map f xs i x 0 h ∙ ap f (sym is) in
+    let inside : i < length (map f xs) = rw length-map h in
+    omega (arith, was, nonempty_one (map f xs) i inside (λ none. absurd (omega (arith, here, none, some))))
+
+pub full_same : {X : Type 0} (f : X → ℕ) (xs : List X) (i : ℕ) (x : X) (full : ℕ) → i < length xs → x ≡ get_or xs i x → f x ≤ 0 → full ≡ nonempty (take i (map f xs))
+    → full ≡ nonempty (take (i + 1) (map f xs))
+full_same f xs i x full h is none was =
+    let here : get_or (map f xs) i 0 ≡ f x = get_or-map f xs i x 0 h ∙ ap f (sym is) in
+    let inside : i < length (map f xs) = rw length-map h in
+    was ∙ sym (count_by_more_no (λ n. nat_lt 0 n) (map f xs) i 0 inside (le-ltb 0 (get_or (map f xs) i 0) (omega (arith, here))))
+
+nonempty_of : (counts : List ℕ) (index : ℕ) → nonempty (take index counts) ≤ nonempty counts
+nonempty_of counts index = sum_by-take-le (λ n. cond (nat_lt 0 n) 1 0) counts index
+
 -- the counts before `index` are written, but for the empty ones at their end
 pub record IsEncodedTo (counts out old : List ℕ) (index written empty : ℕ) : Type 0 where
   pub stands : StandsIn (text_from 0 counts) out old (text_from empty (drop index counts)) written
   pub some : empty ≤ index
   pub room : written + 9 * empty ≤ 9 * index
+  pub parts : written ≤ 18 * nonempty (take index counts)
   pub small : (k : ℕ) → k < index → get_or counts k 0 < 2 ^ 63
 
 pub encode_start : (counts old : List ℕ) → IsEncodedTo counts old old 0 0 0
-encode_start counts old = record { stands = record { text = refl; behind = refl }; some = omega arith; room = omega arith; small = λ k h. absurd (omega arith) }
+encode_start counts old = record { stands = record { text = refl; behind = refl }; some = omega arith; room = omega arith; parts = omega arith; small = λ k h. absurd (omega arith) }
 
 -- an empty bin waits
 pub encode_empty : (counts out old : List ℕ) (index written empty : ℕ) → IsEncodedTo counts out old index written empty → index < length counts → get_or counts index 0 ≡ 0
@@ -144,13 +173,14 @@ encode_empty counts out old index written empty e h zero_here =
       stands = subst (λ l. StandsIn (text_from 0 counts) out old l written) rest e.stands;
       some = omega (arith, e.some);
       room = omega (arith, e.room);
+      parts = omega (arith, e.parts, nonempty_more counts index);
       small = below_more _ index e.small (omega (arith, zero_here));
     }
 
 -- the run that waits is written, and a nonempty bin
 pub encode_full : (counts out mid next old : List ℕ) (index written between further empty : ℕ) → IsEncodedTo counts out old index written empty → index < length counts
     → get_or counts index 0 ≢ 0 → get_or counts index 0 < 2 ^ 63
-    → written ≤ between → between ≤ written + 9 * empty → take between mid ≡ take written out ++ run_text empty → drop between mid ≡ drop between out
+    → written ≤ between → between ≤ written + 9 * min empty 1 → take between mid ≡ take written out ++ run_text empty → drop between mid ≡ drop between out
     → between ≤ further → further ≤ between + 9 → take further next ≡ take between mid ++ spelling (zig_zag (pos (get_or counts index 0))) → drop further next ≡ drop further mid
     → IsEncodedTo counts next old (index + 1) further 0
 encode_full counts out mid next old index written between further empty e h full small h1 few1 front1 behind1 h2 few2 front2 behind2 =
@@ -163,8 +193,35 @@ encode_full counts out mid next old index written between further empty e h full
       stands = stands_more (text_from 0 counts) mid old next (spelling (zig_zag (pos c))) (text_from 0 (drop (index + 1) counts)) between further first h2 front2 behind2;
       some = omega arith;
       room = omega (arith, e.room);
+      parts = omega (arith, e.parts, nonempty_one counts index h full);
       small = below_more _ index e.small small;
     }
+
+-- ---- the room that is enough
+
+-- for a run and a nonempty bin behind it
+pub room_for_both : (counts out old : List ℕ) (index written empty room : ℕ) → IsEncodedTo counts out old index written empty → index < length counts → get_or counts index 0 ≢ 0
+    → enough_bytes counts ≤ room → written + 9 * min empty 1 + 9 ≤ room
+unfolding enough_bytes
+room_for_both counts out old index written empty room e h full enough =
+    omega (arith, e.room, e.parts, nonempty_one counts index h full, nonempty_of counts (index + 1))
+
+-- for a run at the end
+pub room_for_last : (counts out old : List ℕ) (index written empty room : ℕ) → IsEncodedTo counts out old index written empty → index ≤ length counts
+    → enough_bytes counts ≤ room → written + 9 * min empty 1 ≤ room
+unfolding enough_bytes
+room_for_last counts out old index written empty room e h enough =
+    omega (arith, e.room, e.parts, nonempty_of counts index)
+
+-- nine bytes for each bin
+pub enough-each : (counts : List ℕ) (bins : ℕ) → length counts ≤ bins → enough_bytes counts ≤ 9 * bins
+unfolding enough_bytes
+enough-each counts bins h = omega arith
+
+-- nine for each nonempty one and each run beside it
+pub enough-parts : (counts : List ℕ) (bins full least : ℕ) → length counts ≡ bins → full ≡ nonempty counts → least ≡ min bins (2 * full + 1) → enough_bytes counts ≡ 9 * least
+unfolding enough_bytes
+enough-parts counts bins full least size is e = omega arith
 
 -- ---- the text is the payload
 

@@ -1,6 +1,6 @@
 -- The payload of the V2 encoding (the Rust crate's `encode_counts`): the counts of some bins in
 -- order, where a run of empty bins is one number.
-use Rattle.std.specs.Prelude.{◌≡◌, ℕ, zero, suc, ◌<◌, ◌++◌, List, [], ◌∷◌, ℤ, pos, negsuc, flat_map, replicate}
+use Rattle.std.specs.Prelude.{◌≡◌, ℕ, zero, suc, ◌+◌, ◌*◌, ◌<◌, ◌++◌, min, List, [], ◌∷◌, ℤ, pos, negsuc, length, flat_map, replicate, count_by, nat_lt}
 use Rattle.hdrhistogram.specs.Varint.{IsShortest}
 use Rattle.hdrhistogram.specs.ZigZag.{zig_zag}
 
@@ -57,3 +57,12 @@ pub record IsPayload (counts text : List ℕ) : Type 0 where
 abbrev pub IsRunText : ℕ → List ℕ → Type 0
 IsRunText zero text = text ≡ []
 IsRunText (suc z) text = IsShortest text (zig_zag (number_of (run (suc z))))
+
+-- how many of the counts are above 0
+abbrev pub nonempty : List ℕ → ℕ
+nonempty counts = count_by (λ n. nat_lt 0 n) counts
+
+-- as many bytes as the payload of the counts takes at most: nine for each bin, or where fewer are
+-- nonempty nine for each of those, for a run before each, and for a last one
+unfoldable pub enough_bytes : List ℕ → ℕ
+enough_bytes counts = 9 * min (length counts) (2 * nonempty counts + 1)

@@ -1,12 +1,13 @@
 //! The payload of V2 bytes: the counts, with runs of empty bins.
 
-ghost use Rattle.std.specs.Prelude.{◌≡◌, ℕ, List, length, map, drop, take, slice_index, ◌++◌, ◌+◌, ◌*◌, ◌≤◌, ◌<◌, ◌^◌, IfOk, IfErr, OnOk, All};
+ghost use Rattle.std.specs.Prelude.{◌≡◌, ℕ, List, length, map, drop, take, slice_index, ◌++◌, ◌+◌, ◌*◌};
+ghost use Rattle.std.specs.Prelude.{◌≤◌, ◌<◌, ◌^◌, min, max, IfOk, IfErr, OnOk, All};
 ghost use Rattle.std.specs.Option.{SomeIff};
 ghost use Rattle.hdr_model.specs.Plain.{IsPlain};
 ghost use Rattle.hdrhistogram.specs.Streams.{WritesFront};
 ghost use Rattle.hdrhistogram.specs.Varint.{IsShortest};
 ghost use Rattle.hdrhistogram.specs.ZigZag.{zig_zag};
-ghost use Rattle.hdrhistogram.specs.Payload.{IsPayload, IsRunText};
+ghost use Rattle.hdrhistogram.specs.Payload.{IsPayload, IsRunText, nonempty, enough_bytes};
 ghost use Rattle.hdrhistogram.specs.V2.{written_bins, written_counts, HasTooGreatCount};
 
 use crate::serialization::errors::V2SerializeError;
@@ -17,6 +18,9 @@ use hdr_core::Histogram;
 
 /// The greatest count that zig-zag takes.
 const GREATEST_COUNT: u64 = i64::MAX as u64;
+
+/// Room of at most so many bytes is taken without a look at which bins are empty.
+const SMALL_ROOM: usize = 1_048_576;
 
 /// The most bytes that the payload of so many bins takes, nine for each; `None` where that is above
 /// the greatest `usize`.
@@ -39,6 +43,34 @@ pub(crate) fn written_bins<T: Counter>(h: &Histogram<T>) -> usize
         Some(bin) => bin + 1,
         None => bins,
     }
+}
+
+/// How much room the payload of a histogram takes at most: nine bytes for each bin that is written,
+/// or, where that is not little, nine for each nonempty one and for each run beside them.
+pub(crate) fn payload_room<T: Counter>(h: &Histogram<T>) -> usize
+    ensures enough { enough_bytes (written_counts h.now) ≤ result }
+    ensures near { result ≤ max 1048576 (enough_bytes (written_counts h.now)) }
+    ensures few { result ≤ 56623104 }
+{
+    let bins = written_bins(h);
+    if 9 * bins <= SMALL_ROOM {
+        return 9 * bins;
+    }
+    9 * bins.min(2 * nonempty(&h.counters()[..bins]) + 1)
+}
+
+/// How many of the counters are above 0.
+fn nonempty<T: Counter>(counters: &[T]) -> usize
+    ensures value { result ≡ nonempty (map T.number counters.now) }
+    ensures few { result ≤ length counters.now }
+{
+    let mut full = 0;
+    for counter in counters {
+        if counter.as_u64() > 0 {
+            full += 1;
+        }
+    }
+    full
 }
 
 /// The number of a bin's counter.
@@ -66,9 +98,9 @@ fn put_number(buf: &mut [u8], at: usize, number: i64) -> usize
 /// Writes a run of empty bins at a place, or nothing for none, and gives the place after it.
 #[inline]
 fn put_run(buf: &mut [u8], at: usize, empty: u64) -> usize
-    requires room { at + 9 * empty ≤ length buf.old }
+    requires room { at + 9 * min empty 1 ≤ length buf.old }
     requires fits { empty < 2 ^ 63 }
-    ensures few { result ≤ at + 9 * empty }
+    ensures few { result ≤ at + 9 * min empty 1 }
     ensures further { at ≤ result }
     ensures front { (text : List ℕ) × IsRunText empty text
         × (take result buf.new ≡ take at buf.old ++ text) }
@@ -93,6 +125,21 @@ pub fn encode_counts<T: Counter>(
     buf: &mut [u8],
 ) -> Result<usize, V2SerializeError>
     requires { 9 * written_bins h.now ≤ length buf.old }
+    ensures written { IfOk result (WritesFront (IsPayload (written_counts h.now)) buf.old buf.new) }
+    ensures few { IfOk result (λ n. (n ≤ 9 * written_bins h.now) × (n ≤ 56623104)) }
+    ensures ok { OnOk result (All (λ n. n < 2 ^ 63) h.now.counts) }
+    ensures refused { IfErr result (λ e. (e ≡ V2SerializeError.CountNotSerializable)
+        × HasTooGreatCount h.now) }
+{
+    encode_within(h, buf)
+}
+
+/// The same where the buffer has room enough for the nonempty bins and the runs beside them.
+pub(crate) fn encode_within<T: Counter>(
+    h: &Histogram<T>,
+    buf: &mut [u8],
+) -> Result<usize, V2SerializeError>
+    requires { enough_bytes (written_counts h.now) ≤ length buf.old }
     ensures written { IfOk result (WritesFront (IsPayload (written_counts h.now)) buf.old buf.new) }
     ensures few { IfOk result (λ n. (n ≤ 9 * written_bins h.now) × (n ≤ 56623104)) }
     ensures ok { OnOk result (All (λ n. n < 2 ^ 63) h.now.counts) }

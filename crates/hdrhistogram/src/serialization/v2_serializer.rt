@@ -2,12 +2,13 @@
 
 ghost use Rattle.std.specs.Prelude.{◌≡◌, ◌+◌, ◌*◌, ◌^◌, ◌≤◌, ◌<◌, ℕ, List, [], length, take, vec_len, All, OnOk, IfOk, IfErr};
 ghost use Rattle.std.specs.Io.KnownBytes.{Appends};
-ghost use Rattle.hdrhistogram.specs.V2.{IsV2, HasTooGreatCount, written_bins};
+ghost use Rattle.hdrhistogram.specs.Payload.{enough_bytes};
+ghost use Rattle.hdrhistogram.specs.V2.{IsV2, HasTooGreatCount, written_bins, written_counts};
 ghost use Rattle.hdrhistogram.specs.SerializeRefusals.{RefusesBytes, RefusesNamed, RefusesWriting};
 
 pub use crate::serialization::errors::V2SerializeError;
 use crate::serialization::header::{HEADER_LEN, write_header};
-use crate::serialization::payload::written_bins;
+use crate::serialization::payload::{encode_within, payload_room};
 pub use crate::serialization::payload::{counts_array_max_encoded_size, encode_counts};
 use crate::serialization::serializer::Serializer;
 use crate::serialization::streams::write_whole;
@@ -62,7 +63,7 @@ impl V2Serializer {
         ensures refused { IfErr result (λ e. RefusesBytes h.now e × (self.new ≡ [])) }
     {
         self.len = 0;
-        if make_room(&mut self.buffer, HEADER_LEN + 9 * written_bins(h)).is_err() {
+        if make_room(&mut self.buffer, HEADER_LEN + payload_room(h)).is_err() {
             return Err(V2SerializeError::OutOfMemory);
         }
         self.len = write_v2(h, &mut self.buffer)?;
@@ -72,8 +73,10 @@ impl V2Serializer {
     /// The V2 bytes of a histogram, lent from the serializer's own buffer: at most 40 bytes and
     /// nine for each bin up to the top mark's.
     ///
-    /// The buffer grows first and once, so lack of memory is answered before a count above the
-    /// greatest `i64`. Nothing else is refused, and after a refusal the serializer is as new.
+    /// The buffer grows first and once, so a lack of memory is answered before a count above the
+    /// greatest `i64`. Where nine bytes for each bin are more than 1 MiB, it grows to nine bytes for
+    /// each nonempty bin and for each run of empty ones at most. Nothing else is refused, and after
+    /// a refusal the serializer is as new.
     pub fn to_bytes<T: Counter>(&mut self, h: &Histogram<T>) -> Result<&[u8], V2SerializeError>
         ensures bytes { IfOk result (λ bytes. IsV2 h.now bytes.now) }
         ensures few { IfOk result (λ bytes. (length bytes.now ≤ 40 + 9 * written_bins h.now)
@@ -136,14 +139,14 @@ fn make_room(buffer: &mut Vec<u8>, room: usize) -> Result<(), AllocError>
 
 /// Writes the V2 bytes of a histogram at the front of the buffer, and gives their number.
 fn write_v2<T: Counter>(h: &Histogram<T>, buf: &mut [u8]) -> Result<usize, V2SerializeError>
-    requires { 40 + 9 * written_bins h.now ≤ length buf.old }
+    requires { 40 + enough_bytes (written_counts h.now) ≤ length buf.old }
     ensures written { IfOk result (λ n. (n ≤ length buf.new) × IsV2 h.now (take n buf.new)) }
     ensures few { IfOk result (λ n. (n ≤ 40 + 9 * written_bins h.now) × (n ≤ 56623144)) }
     ensures ok { OnOk result (All (λ n. n < 2 ^ 63) h.now.counts) }
     ensures refused { IfErr result (λ e. (e ≡ V2SerializeError.CountNotSerializable)
         × HasTooGreatCount h.now) }
 {
-    let payload_len = encode_counts(h, &mut buf[HEADER_LEN..])?;
+    let payload_len = encode_within(h, &mut buf[HEADER_LEN..])?;
     write_header(h, payload_len as u32, buf);
     Ok(HEADER_LEN + payload_len)
 }

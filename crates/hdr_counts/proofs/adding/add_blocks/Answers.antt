@@ -1,10 +1,12 @@
-use Rattle.std.proofs.Common.{◌≡◌, ◌∙◌, ◌+◌, ◌-◌, ◌*◌, ◌<◌, ◌≤◌, ◌++◌, ℕ, length, set, take, drop, map, sum, ap, sym, subst, arith}
+use borrow.Author.Count.{falls}
+use Rattle.std.proofs.Common.{refl, rules, ◌≡◌, ◌∙◌, ◌+◌, ◌-◌, ◌*◌, ◌<◌, ◌≤◌, ◌++◌, ℕ, length, set, take, drop, map, sum, ap, sym, subst, arith}
 use Rattle.std.specs.List.{All}
 use Rattle.std.proofs.lemmas.List.{length-map, length-set, length-take, length-drop, drop-drop, take_all}
 use Rattle.std.proofs.lemmas.List.Elements.{All-take, All-drop}
 use Rattle.hdr_counts.specs.Blocks.{capped_sums, AreSums}
+use Rattle.hdr_counts.proofs.BlockBounds.{le_as, lt_as, le_more, block-within, block-begins, block-begin-fits, block-end-fits, sum-offset-fits, same-blocks, part-few, parts-same}
 use Rattle.hdr_counts.proofs.BlockSums.{block-sum, block_past, blocks_more, sum_below-le-sum, sum-fits, AreSums-written}
-use Rattle.hdr_counts.proofs.CappedSums.{capped-length, capped-fit, capped-fit-under, capped-step, map-part, map-middle}
+use Rattle.hdr_counts.proofs.CappedSums.{capped-begin, capped-length, capped-fit, capped-fit-under, capped-step, map-part, map-middle}
 use Rattle.hdr_counts.proofs.adding.add_blocks.Goals as goal
 
 pub add_block-requires-clause-sum : goal.add_block-requires-clause-sum
@@ -91,3 +93,72 @@ pub returns-clause-fit : goal.returns-clause-fit
 returns-clause-fit g c =
     let P = λ (m : ℕ). m ≤ g.T.Counter.greatest in
     subst (λ l. All P l) (sym c.loop-k.invariant.numbers) (capped-fit g.T.Counter.greatest (map g.T.Counter.number c.args.counters.now) (take (c.loop-k.k * c.args.block) (map g.F.Counter.number c.args.source.now)) c.requires.fit)
+
+pub overflow_mul-from : goal.overflow_mul-from
+overflow_mul-from g c = record { fits = block-begin-fits g.T.Counter.number c.args.counters.now c.args.block c.loop-k.k c.args.sums.now c.requires.sums c.loop-k-test.true }
+
+pub overflow_add-to : goal.overflow_add-to
+overflow_add-to g c = record { fits = block-end-fits g.T.Counter.number c.args.counters.now c.args.block c.loop-k.k c.args.sums.now c.requires.sums c.loop-k-test.true }
+
+pub slice_bounds-add_block-count : goal.slice_bounds-add_block-count
+slice_bounds-add_block-count g c = le_more (c.loop-k.k * c.args.block) c.args.block
+
+pub slice_bounds-add_block-start : goal.slice_bounds-add_block-start
+slice_bounds-add_block-start g c = le_more (c.loop-k.k * c.args.block) c.args.block
+
+pub slice_bounds-add_block-end : goal.slice_bounds-add_block-end
+slice_bounds-add_block-end g c = le_as _ _ _ (block-within g.T.Counter.number c.args.counters.now c.args.block c.loop-k.k c.args.sums.now c.requires.sums c.loop-k-test.true) c.loop-k.auto.counters
+
+pub offset_bounds-source-from : goal.offset_bounds-source-from
+offset_bounds-source-from g c = le_as _ _ _ (block-begins g.T.Counter.number c.args.counters.now c.args.block c.loop-k.k c.args.sums.now c.requires.sums c.loop-k-test.true) (sym c.requires.len)
+
+pub slice_bounds-add_block-count-in-loop-k : goal.slice_bounds-add_block-count-in-loop-k
+slice_bounds-add_block-count-in-loop-k g c = le_more (c.loop-k.k * c.args.block) c.args.block
+
+pub slice_bounds-add_block-start-in-loop-k : goal.slice_bounds-add_block-start-in-loop-k
+slice_bounds-add_block-start-in-loop-k g c = le_more (c.loop-k.k * c.args.block) c.args.block
+
+pub slice_bounds-add_block-end-in-loop-k : goal.slice_bounds-add_block-end-in-loop-k
+slice_bounds-add_block-end-in-loop-k g c = le_as _ _ _ (block-within g.T.Counter.number c.args.counters.now c.args.block c.loop-k.k c.args.sums.now c.requires.sums c.loop-k-test.true) (sym c.requires.len)
+
+pub bounds-sums-k : goal.bounds-sums-k
+bounds-sums-k g c = lt_as _ _ _ c.loop-k-test.true c.loop-k.auto.sums
+
+pub add_block-requires-clause-len : goal.add_block-requires-clause-len
+add_block-requires-clause-len g c = parts-same c.loop-k.counters c.args.source.now _ _ (c.loop-k.auto.counters ∙ c.requires.len)
+
+pub add_block-requires-clause-few : goal.add_block-requires-clause-few
+add_block-requires-clause-few g c = part-few g.T.Counter.number c.args.counters.now c.loop-k.counters c.args.block _ _ c.args.sums.now c.requires.sums c.loop-k.auto.counters
+
+pub bounds-sums-k-in-loop-k : goal.bounds-sums-k-in-loop-k
+bounds-sums-k-in-loop-k g c = lt_as _ _ _ c.loop-k-test.true c.loop-k.auto.sums
+
+pub returns-clause-sums : goal.returns-clause-sums
+returns-clause-sums g c = c.loop-k.invariant.sums
+
+pub loop-k-init : goal.loop-k-init
+loop-k-init g c = record {
+  numbers = capped-begin g.T.Counter.greatest c.args.block (map g.T.Counter.number c.args.counters.now) (map g.F.Counter.number c.args.source.now);
+  sums = c.requires.sums;
+  same = refl;
+}
+
+pub offset_bounds-counters-from : goal.offset_bounds-counters-from
+offset_bounds-counters-from g c =
+    let here : c.loop-k.k * c.args.block ≤ length c.loop-k.counters = le_as _ _ _ (block-begins g.T.Counter.number c.args.counters.now c.args.block c.loop-k.k c.args.sums.now c.requires.sums c.loop-k-test.true) c.loop-k.auto.counters in
+    search rules
+
+pub offset_bounds-sums-k : goal.offset_bounds-sums-k
+offset_bounds-sums-k g c = record { fits = sum-offset-fits c.args.block c.loop-k.k (map g.T.Counter.number c.args.counters.now) c.args.sums.now c.requires.sums c.loop-k-test.true }
+
+pub offset_bounds-more-k : goal.offset_bounds-more-k
+offset_bounds-more-k g c = record { fits = sum-offset-fits c.args.block c.loop-k.k (map g.T.Counter.number c.args.counters.now) c.args.sums.now c.requires.sums c.loop-k-test.true }
+
+pub bounds-more-k : goal.bounds-more-k
+bounds-more-k g c = same-blocks g.T.Counter.number g.F.Counter.number c.args.counters.now c.args.source.now c.args.block c.loop-k.k c.args.sums.now c.args.more.now c.requires.sums c.requires.more c.requires.len c.loop-k-test.true
+
+pub offset_bounds-sums-k-in-loop-k : goal.offset_bounds-sums-k-in-loop-k
+offset_bounds-sums-k-in-loop-k g c = record { fits = sum-offset-fits c.args.block c.loop-k.k (map g.T.Counter.number c.args.counters.now) c.args.sums.now c.requires.sums c.loop-k-test.true }
+
+pub loop-k-smaller : goal.loop-k-smaller
+loop-k-smaller g c = falls (length c.args.sums.now) c.loop-k.k c.loop-k-test.true

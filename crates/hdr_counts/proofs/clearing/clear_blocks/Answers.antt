@@ -1,6 +1,8 @@
-use Rattle.std.proofs.Common.{◌≡◌, ◌∙◌, ◌+◌, ◌-◌, ◌*◌, ◌<◌, ◌≤◌, ◌++◌, length, set, take, drop, map, sum, replicate, ap, sym, subst, arith}
+use borrow.Author.Count.{falls}
+use Rattle.std.proofs.Common.{refl, rules, ◌≡◌, ◌∙◌, ◌+◌, ◌-◌, ◌*◌, ◌<◌, ◌≤◌, ◌++◌, length, set, take, drop, map, sum, replicate, ap, sym, subst, arith}
 use Rattle.std.proofs.lemmas.List.{length-map, length-set, length-take, length-drop, length-replicate, drop-drop, take_all}
 use Rattle.hdr_counts.specs.Blocks.{AreSums}
+use Rattle.hdr_counts.proofs.BlockBounds.{le_as, lt_as, le_more, block-within, block-begins, block-begin-fits, block-end-fits, sum-offset-fits, zeros-begin}
 use Rattle.hdr_counts.proofs.BlockSums.{block-sum, block_past, AreSums-written, All-zeros, sum-zeros, zeros-written}
 use Rattle.hdr_counts.proofs.CappedSums.{map-part}
 use Rattle.hdr_counts.proofs.clearing.clear_blocks.Goals as goal
@@ -45,3 +47,44 @@ returns-clause-numbers g c =
     let ns = map g.T.Counter.number c.loop-k.counters in
     let len : length ns ≡ c.loop-k.k * c.args.block = c.loop-k.invariant.sums.whole ∙ ap (λ m. m * c.args.block) (let e : length c.loop-k.sums ≡ c.loop-k.k = omega arith in e) in
     sym (take_all (c.loop-k.k * c.args.block) ns (omega (arith, len))) ∙ c.loop-k.invariant.zeros ∙ ap (λ e. replicate e 0) (omega (arith, len, length-map c.loop-k.counters g.T.Counter.number))
+
+pub loop-k-init : goal.loop-k-init
+loop-k-init g c = record { zeros = zeros-begin c.args.block (map g.T.Counter.number c.args.counters.now); sums = c.requires; same = refl }
+
+pub overflow_mul-from : goal.overflow_mul-from
+overflow_mul-from g c = record { fits = block-begin-fits g.T.Counter.number c.args.counters.now c.args.block c.loop-k.k c.args.sums.now c.requires c.loop-k-test.true }
+
+pub overflow_add-from : goal.overflow_add-from
+overflow_add-from g c = record { fits = block-end-fits g.T.Counter.number c.args.counters.now c.args.block c.loop-k.k c.args.sums.now c.requires c.loop-k-test.true }
+
+pub offset_bounds-counters-from : goal.offset_bounds-counters-from
+offset_bounds-counters-from g c =
+    let here : c.loop-k.k * c.args.block ≤ length c.loop-k.counters = le_as _ _ _ (block-begins g.T.Counter.number c.args.counters.now c.args.block c.loop-k.k c.args.sums.now c.requires c.loop-k-test.true) c.loop-k.auto.counters in
+    search rules
+
+pub slice_bounds-clear_block-count : goal.slice_bounds-clear_block-count
+slice_bounds-clear_block-count g c = le_more (c.loop-k.k * c.args.block) c.args.block
+
+pub slice_bounds-clear_block-start : goal.slice_bounds-clear_block-start
+slice_bounds-clear_block-start g c = le_more (c.loop-k.k * c.args.block) c.args.block
+
+pub slice_bounds-clear_block-end : goal.slice_bounds-clear_block-end
+slice_bounds-clear_block-end g c = le_as _ _ _ (block-within g.T.Counter.number c.args.counters.now c.args.block c.loop-k.k c.args.sums.now c.requires c.loop-k-test.true) c.loop-k.auto.counters
+
+pub offset_bounds-sums-k : goal.offset_bounds-sums-k
+offset_bounds-sums-k g c = record { fits = sum-offset-fits c.args.block c.loop-k.k (map g.T.Counter.number c.args.counters.now) c.args.sums.now c.requires c.loop-k-test.true }
+
+pub bounds-sums-k : goal.bounds-sums-k
+bounds-sums-k g c = lt_as _ _ _ c.loop-k-test.true c.loop-k.auto.sums
+
+pub offset_bounds-sums-k-in-loop-k : goal.offset_bounds-sums-k-in-loop-k
+offset_bounds-sums-k-in-loop-k g c = record { fits = sum-offset-fits c.args.block c.loop-k.k (map g.T.Counter.number c.args.counters.now) c.args.sums.now c.requires c.loop-k-test.true }
+
+pub bounds-sums-k-in-loop-k : goal.bounds-sums-k-in-loop-k
+bounds-sums-k-in-loop-k g c = lt_as _ _ _ c.loop-k-test.true c.loop-k.auto.sums
+
+pub loop-k-smaller : goal.loop-k-smaller
+loop-k-smaller g c = falls (length c.args.sums.now) c.loop-k.k c.loop-k-test.true
+
+pub returns-clause-sums : goal.returns-clause-sums
+returns-clause-sums g c = c.loop-k.invariant.sums

@@ -7,5 +7,5 @@ pub returns-clause-written : goal.returns-clause-written
 returns-clause-written g c =
     let n = c.in_ok-payload_len.payload_len in
     let (payload, p, size, same) = c.in_ok-payload_len.ensures.written in
-    v2_whole c.args.h.now c.args.buf.now c.encode_counts.new.buf c.write_header.new.buf payload n (omega arith) p size
+    v2_whole c.args.h.now c.args.buf.now c.encode_within.new.buf c.write_header.new.buf payload n (omega arith) p size
     (same ∙ ap (λ l. payload ++ drop n l) (take_rest c.args.buf.now 40)) c.write_header.ensures

@@ -1,6 +1,6 @@
 use Rattle.std.proofs.Common.{take}
 use Rattle.hdrhistogram.proofs.Payloads.{IsEncodedTo}
-use Rattle.hdrhistogram.proofs.serialization.payload.encode_counts.Given as goal
+use Rattle.hdrhistogram.proofs.serialization.payload.encode_within.Given as goal
 
 -- the bins before this one are written, but for the empty ones at their end
 abbrev pub invariant-loop-bin : goal.invariant-loop-bin
