@@ -1,4 +1,4 @@
-# make: proves and builds the program, target/hdr. make install: puts it below PREFIX. make check: the gate.
+# make: proves and builds the program, target/hdr. make install: puts it and its manual page below PREFIX. make check: the gate.
 # make edits: the wrong bodies of crates/*/edits alone, which the prover has to refuse.
 # make quick: what has changed since the last commit, over the work that earlier checks kept.
 # make bench: times beside the Rust crate hdrhistogram (bench/run says where that comes from).
@@ -17,6 +17,7 @@ check:
 	tools/refused.sh
 	tools/refused_main.sh
 	tools/cases.sh
+	tools/documents crates/hdr_tool/out/hdr_tool
 
 # The edits alone.
 edits:

@@ -129,7 +129,8 @@ impl<T: Counter> Histogram<T> {
         self.low
     }
 
-    /// The highest value that the bins were made for.
+    /// The highest value that the bins were made for. It moves where the bins grow: to the reach of a value that is recorded
+    /// past them, and to the `max` of a histogram that is added.
     pub fn high(&self) -> u64
         ensures { result ≡ self.now.high }
     {
@@ -265,7 +266,7 @@ impl<T: Counter> Histogram<T> {
         }
     }
 
-    /// The lowest value of the first class after the first that counts as recorded, `u64::MAX` where none does.
+    /// The lowest value of the first class other than class 0 that counts as recorded, `u64::MAX` where none does.
     pub fn min_nz(&self) -> u64
         ensures { result ≡ min_nz_of self.now }
     {

@@ -74,7 +74,7 @@ front_whole (Some tag) h = joined (codes "Tag=" ++ tag) (44 ∷ []) (joined (cod
 divided : (d : ℕ) → d < 2 ^ 64 → 1000 * d / 1000 < 2 ^ 64
 divided d h = omega (arith, h)
 
--- the header of a divisor is none to the reader
+-- the header of a divisor is not a header to the reader
 no_header_said : (rest : List ℕ) → header_said (codes "[MaxValueDivisor: " ++ rest) ≡ None
 unfolding header_of
 no_header_said rest = refl

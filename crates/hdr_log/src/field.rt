@@ -19,7 +19,8 @@ pub enum FieldError {
 
 /// The bytes of a field in Base64.
 pub fn decoded(alloc: Global, field: &str) -> Result<Vec<u8>, FieldError>
-    ensures { MatchResult result (λ bytes. base64_bytes field.now ≡ Some bytes.items) (RefusesField field.now) }
+    ensures { MatchResult result (λ bytes. base64_bytes field.now ≡ Some bytes.items)
+        (RefusesField field.now) }
 {
     let mut bytes = Vec::new(alloc);
     decode_into(field, &mut bytes)?;
@@ -29,7 +30,8 @@ pub fn decoded(alloc: Global, field: &str) -> Result<Vec<u8>, FieldError>
 /// Puts the bytes of a field in Base64 in place of what a buffer holds, so that one buffer serves for many fields.
 #[tactic(auto, unfolding(crate::specs::Texts::base64_bytes))]
 pub fn decode_into(field: &str, buffer: &mut Vec<u8>) -> Result<(), FieldError>
-    ensures { MatchResult result (λ _. base64_bytes field.now ≡ Some buffer.new.items) (RefusesField field.now) }
+    ensures { MatchResult result (λ _. base64_bytes field.now ≡ Some buffer.new.items)
+        (RefusesField field.now) }
 {
     buffer.clear();
     match STANDARD.decode_vec(field.as_bytes(), buffer) {

@@ -28,7 +28,8 @@ pub fn interval_is_read()
 /// Bytes in Base64 are a field that may be written, and they are decoded to themselves.
 pub fn base64_is_read()
     ensures field { (bytes : List ℕ) → IsField (base64_of bytes) }
-    ensures decoded { (bytes : List ℕ) → IsBytes bytes → base64_bytes (base64_of bytes) ≡ Some bytes }
+    ensures decoded { (bytes : List ℕ) → IsBytes bytes
+        → base64_bytes (base64_of bytes) ≡ Some bytes }
 {}
 
 /// All that is written to a log is read again, in order: headers and intervals, each time and greatest value to the

@@ -37,7 +37,8 @@ fn trimmed(field: &[u8]) -> &[u8]
 
 /// The tag in front of an interval, if it has one, and what follows it.
 fn tag(line: &[u8]) -> Option<(Option<Tag<'_>>, &[u8])>
-    ensures { option_map (λ p. (option_map tag_text p.0, p.1.now)) result ≡ tag_of (behind (codes "Tag=") line.now) line.now }
+    ensures { option_map (λ p. (option_map tag_text p.0, p.1.now)) result ≡ tag_of
+        (behind (codes "Tag=") line.now) line.now }
 {
     let Some(rest) = strip(line, b"Tag=") else {
         return Some((None, line));

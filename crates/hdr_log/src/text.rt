@@ -19,7 +19,8 @@ use std::time::Duration;
 
 /// A time to the nearest thousandth of a second; `None` where its seconds do not fit 64 bits.
 pub fn thousandths(time: Duration) -> Option<u128>
-    ensures value { SomeIff result (IsTimeInRange (as_nanos time)) (to_thousandths (as_nanos time)) }
+    ensures value { SomeIff result (IsTimeInRange (as_nanos time))
+        (to_thousandths (as_nanos time)) }
     ensures small { IfSome result (λ t. t / 1000 < 2 ^ 64) }
 {
     let rounded = (time.as_nanos() + 500_000) / 1_000_000;
@@ -64,7 +65,8 @@ fn push_thousandths(text: &mut Vec<u8>, number: u128) -> Result<(), AllocError>
 }
 
 fn push_comment_line(text: &mut Vec<u8>, part: &[u8]) -> Result<(), AllocError>
-    ensures { OnOk result (text.new.items ≡ text.old.items ++ with_line_feed (comment_line part.now)) }
+    ensures { OnOk result (text.new.items ≡ text.old.items ++ with_line_feed
+        (comment_line part.now)) }
 {
     text.push(b'#')?;
     text.extend_from_slice(part)?;
@@ -87,7 +89,8 @@ pub fn push_comment(text: &mut Vec<u8>, comment: &str) -> Result<(), AllocError>
 /// Adds a number of thousandths between two texts, and a line feed.
 fn push_line(text: &mut Vec<u8>, front: &[u8], number: u128, end: &[u8]) -> Result<(), AllocError>
     requires { number / 1000 < 2 ^ 64 }
-    ensures { OnOk result (text.new.items ≡ text.old.items ++ with_line_feed (front.now ++ (thousandths number ++ end.now))) }
+    ensures { OnOk result (text.new.items ≡ text.old.items ++ with_line_feed
+        (front.now ++ (thousandths number ++ end.now))) }
 {
     text.extend_from_slice(front)?;
     push_thousandths(text, number)?;
@@ -129,7 +132,8 @@ fn push_number(text: &mut Vec<u8>, number: u128) -> Result<(), AllocError>
 }
 
 fn push_tag(text: &mut Vec<u8>, tag: Option<Tag<'_>>) -> Result<(), AllocError>
-    ensures text { OnOk result (text.new.items ≡ text.old.items ++ tag_front (option_map tag_text tag.entry)) }
+    ensures text { OnOk result (text.new.items ≡ text.old.items ++ tag_front
+        (option_map tag_text tag.entry)) }
     ensures tag { AreTags (option_map tag_text tag.entry) }
 {
     if let Some(tag) = tag {
@@ -172,8 +176,10 @@ pub fn push_interval(
     requires duration { duration / 1000 < 2 ^ 64 }
     requires max { max / 1000 < 2 ^ 64 }
     ensures text { OnOk result (text.new.items ≡ text.old.items
-        ++ piece_text (Measured (option_map tag_text tag.entry) start duration max (base64_of bytes.now))) }
-    ensures piece { IsPiece (Measured (option_map tag_text tag.entry) start duration max (base64_of bytes.now)) }
+        ++ piece_text (Measured (option_map tag_text tag.entry) start duration max
+        (base64_of bytes.now))) }
+    ensures piece { IsPiece (Measured (option_map tag_text tag.entry) start duration max
+        (base64_of bytes.now)) }
 {
     push_tag(text, tag)?;
     push_number(text, start)?;

@@ -16,7 +16,7 @@ fn bound(word: &str) -> Option<Option<Duration>> {
     Some(Some(time(word)?))
 }
 
-/// The filter of three words; a `-` is none.
+/// The filter of three words; a `-` stands for no such word.
 fn filter<'a>(tag: &'a str, from: &str, to: &str) -> Option<IntervalFilter<'a>> {
     let tag = match tag {
         "-" => None,

@@ -111,7 +111,7 @@ fn worded<T: Counter>(alloc: Global, h: &mut Histogram<T>, words: &str) -> Optio
     }
 }
 
-/// Does a call on one histogram. None: the words are none of its calls.
+/// Does a call on one histogram. None: the words are not one of its calls.
 fn alone<T: Counter>(alloc: Global, h: &mut Histogram<T>, words: &str) -> Option<Answer> {
     if let Some(answer) = worded(alloc, h, words) {
         return Some(answer);
@@ -123,7 +123,7 @@ fn alone<T: Counter>(alloc: Global, h: &mut Histogram<T>, words: &str) -> Option
     }
 }
 
-/// Does a call that is on no histogram. None: the words are none of these.
+/// Does a call that is on no histogram. None: the words are not one of these.
 fn on_none<T: Counter>(who: &str, words: &str) -> Option<Answer> {
     let (name, numbers) = split_name(words)?;
     match who {
@@ -226,7 +226,7 @@ impl<T: Counter> Table<T> {
         Some(applied(self.one.apply(&call)))
     }
 
-    /// Does a call on the first histogram. None: the words are none of its calls.
+    /// Does a call on the first histogram. None: the words are not one of its calls.
     fn first(&mut self, alloc: Global, words: &str) -> Option<Answer> {
         if let Some(calls) = words.strip_prefix("run ") {
             return self.run(alloc, calls);
@@ -271,7 +271,7 @@ impl<T: Counter> Table<T> {
         }
     }
 
-    /// Does what a line asks for. None: the line is none of these.
+    /// Does what a line asks for. None: the line is not one of these.
     pub fn answer(&mut self, alloc: Global, line: &str) -> Option<Answer> {
         let (who, words) = line.split_once(' ')?;
         match who {

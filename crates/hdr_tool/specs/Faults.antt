@@ -24,7 +24,7 @@ merge_fault (merging.Base64 k) = NotBase64 k
 merge_fault (merging.Decode k e) = NotRead k e
 merge_fault merging.OutOfMemory = NoMemory
 
--- the line on standard error; the text of a refused call, of a refused interval and of bytes that are none is the library's
+-- the line on standard error; the text of a refused call, of a refused interval and of bytes that are not a histogram is the library's
 abbrev pub fault_text : Fault → Option (List ℕ)
 fault_text WrongWords = Some (codes "hdr: usage: hdr report SIGFIG Q.. | hdr log SIGFIG | hdr merge [--into COUNTER] [--tag T] [--from MS] [--to MS] SIGFIG Q..")
 fault_text (NotACommand k) = Some (codes "hdr: line " ++ decimal k ++ codes ": not a command")

@@ -71,7 +71,8 @@ fn alone(call: Call<'static, u64>, left: Option<&[u8]>) -> Option<Call<'static, 
 /// The call of a name and of what is left after it.
 #[tactic(auto, unfolding(crate::specs::Lines::call_of_name))]
 fn named(name: &[u8], left: Option<&[u8]>) -> Option<Call<'static, u64>>
-    ensures { result ≡ call_of_name name.now (parts_of_rest 32 (option_map (λ t. t.now) left.entry)) }
+    ensures { result ≡ call_of_name name.now (parts_of_rest 32
+        (option_map (λ t. t.now) left.entry)) }
 {
     match name {
         b"r" => record(left),
@@ -112,7 +113,8 @@ fn tag(word: &[u8]) -> Option<Tag<'_>>
 
 /// `[TAG]`: the tag after the times, if there is one.
 fn end_tag(left: Option<&[u8]>) -> Option<Option<Tag<'_>>>
-    ensures { option_map (λ tag. option_map tag_text tag) result ≡ end_tag_of (parts_of_rest 32 (option_map (λ t. t.now) left.entry)) }
+    ensures { option_map (λ tag. option_map tag_text tag) result ≡ end_tag_of
+        (parts_of_rest 32 (option_map (λ t. t.now) left.entry)) }
 {
     let Some(text) = left else {
         return Some(None);
@@ -127,7 +129,8 @@ fn end_tag(left: Option<&[u8]>) -> Option<Option<Tag<'_>>>
 
 /// `START DURATION [TAG]`.
 fn end(left: Option<&[u8]>) -> Option<LogCommand<'_>>
-    ensures { option_map view_of_log_command result ≡ end_of (parts_of_rest 32 (option_map (λ t. t.now) left.entry)) }
+    ensures { option_map view_of_log_command result ≡ end_of
+        (parts_of_rest 32 (option_map (λ t. t.now) left.entry)) }
 {
     let (start, left) = split_first(left?, b' ');
     let (duration, left) = split_first(left?, b' ');

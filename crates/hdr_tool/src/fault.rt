@@ -10,7 +10,7 @@ use std::fmt;
 /// Why a run is refused. Its text is the line on standard error, and takes no memory.
 #[derive(Debug, Drop)]
 pub enum Fault {
-    /// The words are none that the program knows.
+    /// The arguments are not a command of the program.
     WrongWords,
     /// The line of this number, from 1, is not a command.
     NotACommand(u64),

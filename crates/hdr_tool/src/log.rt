@@ -33,7 +33,8 @@ fn end<W: Write>(
     requires { divisor_of log.old ≡ 1 }
     ensures same { IsSameLog log.old log.new }
     ensures words { result ≢ Err Fault.WrongWords }
-    ensures answers { StepAnswers (EndDone line histogram.old start duration (option_map tag_text tag.entry)) histogram.new
+    ensures answers { StepAnswers (EndDone line histogram.old start duration
+        (option_map tag_text tag.entry)) histogram.new
         (W.contents (sink log.old).now) (W.contents (sink log.new).now) result }
 {
     let start = Duration::from_millis(start);
@@ -93,7 +94,8 @@ fn write_lines<W: Write>(
     ensures same { IsSameLog log.old log.new }
     ensures words { result ≢ Err Fault.WrongWords }
     ensures answers { let lines = enumerate_from 1 (parts 10 input.now) in
-        Answers (LogDone histogram.old lines) (Begins LogLineDone histogram.old lines) (Begins LogLineDone histogram.old lines)
+        Answers (LogDone histogram.old lines) (Begins LogLineDone histogram.old lines)
+        (Begins LogLineDone histogram.old lines)
         (W.contents (sink log.old).now) (W.contents (sink log.new).now) result }
 {
     for (number, line) in Lines::new(input) {
@@ -113,8 +115,10 @@ pub(crate) fn log_lines<W: Write>(
 ) -> Result<(), Fault>
     requires { length input.now + 2 < 2 ^ 64 }
     ensures words { result ≢ Err Fault.WrongWords }
-    ensures answers { Answers (TaskDone (Some (Log sigfig)) input.now) (TaskStands (Some (Log sigfig)) input.now)
-        (TaskWrites (Some (Log sigfig)) input.now) (W.contents writer.old) (W.contents writer.new) result }
+    ensures answers { Answers (TaskDone (Some (Log sigfig)) input.now)
+        (TaskStands (Some (Log sigfig)) input.now)
+        (TaskWrites (Some (Log sigfig)) input.now) (W.contents writer.old)
+        (W.contents writer.new) result }
 {
     // Each digit from 0 to 5 has a histogram, so that memory alone can be wanting.
     let Ok(mut histogram) = Histogram::new(alloc, sigfig) else {

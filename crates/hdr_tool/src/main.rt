@@ -1,4 +1,4 @@
-//! The program `hdr`: reads samples, line by line, and reports quantiles of them.
+//! The program `hdr`: reports quantiles of samples, logs their histograms interval by interval, and merges such logs.
 #![tactic(auto)]
 
 mod command;

@@ -26,9 +26,11 @@ pub(crate) fn report_log<W: Write>(
     writer: &mut W,
 ) -> Result<(), Fault>
     ensures words { result ≢ Err Fault.WrongWords }
-    ensures answers { Answers (TaskDone (Some (Merge (view_of_options options.now) sigfig quantiles.now)) input.now)
+    ensures answers { Answers (TaskDone
+        (Some (Merge (view_of_options options.now) sigfig quantiles.now)) input.now)
         (TaskStands (Some (Merge (view_of_options options.now) sigfig quantiles.now)) input.now)
-        (TaskWrites (Some (Merge (view_of_options options.now) sigfig quantiles.now)) input.now) (W.contents writer.old) (W.contents writer.new) result }
+        (TaskWrites (Some (Merge (view_of_options options.now) sigfig quantiles.now)) input.now)
+        (W.contents writer.old) (W.contents writer.new) result }
 {
     let filter = options.filter();
     match options.into {
@@ -57,8 +59,11 @@ fn report_merged<T: Counter, W: Write>(
     writer: &mut W,
 ) -> Result<(), Fault>
     ensures words { result ≢ Err Fault.WrongWords }
-    ensures answers { Answers (MergeReported T.greatest (view_of_filter filter.now) sigfig quantiles.now input.now) (λ text. text ≡ [])
-        (λ text. MergeReported T.greatest (view_of_filter filter.now) sigfig quantiles.now input.now text None) (W.contents writer.old) (W.contents writer.new) result }
+    ensures answers { Answers (MergeReported T.greatest
+        (view_of_filter filter.now) sigfig quantiles.now input.now) (λ text. text ≡ [])
+        (λ text. MergeReported T.greatest
+        (view_of_filter filter.now) sigfig quantiles.now input.now text None)
+        (W.contents writer.old) (W.contents writer.new) result }
 {
     match merge_log::<T>(alloc, input, filter, sigfig) {
         Ok(merged) => write_report(alloc, &merged.histogram, quantiles, writer),

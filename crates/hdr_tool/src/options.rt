@@ -53,7 +53,8 @@ impl<'a> Options<'a> {
 
 /// The options at the front of words, and the words after them.
 pub(crate) fn take_options(words: &[String]) -> Option<(Options<'_>, &[String])>
-    ensures { option_map (λ p. (view_of_options p.0, map string_bytes p.1.now)) result ≡ options_of no_options (map string_bytes words.now) }
+    ensures { option_map (λ p. (view_of_options p.0, map string_bytes p.1.now)) result
+        ≡ options_of no_options (map string_bytes words.now) }
 {
     let mut left = words;
     let mut options = Options {
@@ -75,7 +76,8 @@ pub(crate) fn take_options(words: &[String]) -> Option<(Options<'_>, &[String])>
 /// The first two words and those after them, where there are two.
 fn first_two(words: &[String]) -> Option<(&String, &String, &[String])>
     ensures words { MatchOption result (length words.now < 2)
-        (λ p. map string_bytes words.now ≡ string_bytes p.0.now ∷ string_bytes p.1.now ∷ map string_bytes p.2.now) }
+        (λ p. map string_bytes words.now
+        ≡ string_bytes p.0.now ∷ string_bytes p.1.now ∷ map string_bytes p.2.now) }
     ensures fewer { IfSome result (λ p. length p.2.now < length words.now) }
 {
     let (first, behind) = words.split_first()?;
@@ -85,7 +87,8 @@ fn first_two(words: &[String]) -> Option<(&String, &String, &[String])>
 
 /// One option more, with the word after its name.
 fn with_option<'a>(options: Options<'a>, name: OptionName, word: &'a str) -> Option<Options<'a>>
-    ensures { option_map view_of_options result ≡ with_option (view_of_options options.entry) name word.now }
+    ensures { option_map view_of_options result ≡ with_option
+        (view_of_options options.entry) name word.now }
 {
     match name {
         OptionName::Into => match (options.into, counter_named(word.as_bytes())) {

@@ -10,7 +10,8 @@ use hdr_log::parts::split_once;
 
 /// The first part of a text, and what is left after the byte that ends it.
 pub(crate) fn split_first(text: &[u8], byte: u8) -> (&[u8], Option<&[u8]>)
-    ensures parts { parts byte text.now ≡ result.0.now ∷ parts_of_rest byte (option_map (λ t. t.now) result.1) }
+    ensures parts { parts byte text.now ≡ result.0.now ∷ parts_of_rest byte
+        (option_map (λ t. t.now) result.1) }
     ensures length { IfSome result.1 (λ rest. length rest.now + 1 ≤ length text.now) }
 {
     match split_once(text, byte) {

@@ -19,7 +19,8 @@ fn push_quantile<T: Counter>(
     histogram: &Histogram<T>,
     quantile: Quantile,
 ) -> Result<(), AllocError>
-    ensures { OnOk result (string_bytes text.new ≡ string_bytes text.old ++ quantile_line histogram.now quantile) }
+    ensures { OnOk result (string_bytes text.new ≡ string_bytes text.old
+        ++ quantile_line histogram.now quantile) }
 {
     let num = quantile.num();
     let den = quantile.den();
@@ -33,7 +34,8 @@ fn push_quantiles<T: Counter>(
     histogram: &Histogram<T>,
     quantiles: &[Quantile],
 ) -> Result<(), AllocError>
-    ensures { OnOk result (string_bytes text.new ≡ string_bytes text.old ++ flat_map (quantile_line histogram.now) quantiles.now) }
+    ensures { OnOk result (string_bytes text.new ≡ string_bytes text.old ++ flat_map
+        (quantile_line histogram.now) quantiles.now) }
 {
     for quantile in quantiles {
         push_quantile(text, histogram, *quantile)?;
@@ -79,7 +81,8 @@ pub(crate) fn write_report<T: Counter, W: Write>(
 ) -> Result<(), Fault>
     ensures words { result ≢ Err Fault.WrongWords }
     ensures answers { Answers (Reported quantiles.now (Ok histogram.now)) (λ text. text ≡ [])
-        (λ text. Reported quantiles.now (Ok histogram.now) text None) (W.contents writer.old) (W.contents writer.new) result }
+        (λ text. Reported quantiles.now (Ok histogram.now) text None) (W.contents writer.old)
+        (W.contents writer.new) result }
 {
     let Ok(text) = report(alloc, histogram, quantiles) else {
         return Err(Fault::NoMemory);

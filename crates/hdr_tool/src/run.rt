@@ -58,8 +58,10 @@ fn apply_lines(alloc: Global, sigfig: u8, input: &[u8]) -> Result<Histogram<u64>
     requires { length input.now + 2 < 2 ^ 64 }
     ensures words { result ≢ Err Fault.WrongWords }
     ensures done { MatchResult result
-        (λ h. Runs LineDone (empty_plain 1 2 sigfig true) (enumerate_from 1 (parts 10 input.now)) (record { written = []; ended = Ok h }))
-        (Refuses (λ f. Runs LineDone (empty_plain 1 2 sigfig true) (enumerate_from 1 (parts 10 input.now)) (record { written = []; ended = Err f }))) }
+        (λ h. Runs LineDone (empty_plain 1 2 sigfig true) (enumerate_from 1 (parts 10 input.now))
+        (record { written = []; ended = Ok h }))
+        (Refuses (λ f. Runs LineDone (empty_plain 1 2 sigfig true)
+        (enumerate_from 1 (parts 10 input.now)) (record { written = []; ended = Err f }))) }
 {
     // Each digit from 0 to 5 has a histogram, so that memory alone can be wanting.
     let Ok(mut histogram) = Histogram::new(alloc, sigfig) else {
@@ -83,8 +85,10 @@ fn report_lines<W: Write>(
 ) -> Result<(), Fault>
     requires { length input.now + 2 < 2 ^ 64 }
     ensures words { result ≢ Err Fault.WrongWords }
-    ensures answers { Answers (TaskDone (Some (Report sigfig quantiles.now)) input.now) (TaskStands (Some (Report sigfig quantiles.now)) input.now)
-        (TaskWrites (Some (Report sigfig quantiles.now)) input.now) (W.contents writer.old) (W.contents writer.new) result }
+    ensures answers { Answers (TaskDone (Some (Report sigfig quantiles.now)) input.now)
+        (TaskStands (Some (Report sigfig quantiles.now)) input.now)
+        (TaskWrites (Some (Report sigfig quantiles.now)) input.now) (W.contents writer.old)
+        (W.contents writer.new) result }
 {
     let histogram = match apply_lines(alloc, sigfig, input) {
         Ok(histogram) => histogram,
@@ -102,8 +106,10 @@ fn do_task<W: Write>(
 ) -> Result<(), Fault>
     requires { length input.now + 2 < 2 ^ 64 }
     ensures words { result ≢ Err Fault.WrongWords }
-    ensures answers { Answers (TaskDone (Some (view_of_task task.now)) input.now) (TaskStands (Some (view_of_task task.now)) input.now)
-        (TaskWrites (Some (view_of_task task.now)) input.now) (W.contents writer.old) (W.contents writer.new) result }
+    ensures answers { Answers (TaskDone (Some (view_of_task task.now)) input.now)
+        (TaskStands (Some (view_of_task task.now)) input.now)
+        (TaskWrites (Some (view_of_task task.now)) input.now) (W.contents writer.old)
+        (W.contents writer.new) result }
 {
     match task {
         Task::Report(sigfig, quantiles) => report_lines(
@@ -134,10 +140,13 @@ pub fn run<R: Read, W: Write>(
     writer: &mut W,
 ) -> Result<(), Fault>
     ensures answers { (input : List ℕ) × IfSome (R.remaining reader.old) (λ bytes. input ≡ bytes)
-        × Answers (Program (map string_bytes words.now) input) (Stands (map string_bytes words.now) input)
-        (IsWriting (map string_bytes words.now) input) (W.contents writer.old) (W.contents writer.new) result }
+        × Answers (Program (map string_bytes words.now) input)
+        (Stands (map string_bytes words.now) input)
+        (IsWriting (map string_bytes words.now) input) (W.contents writer.old)
+        (W.contents writer.new) result }
     ensures reads { ReadsAll (R.remaining reader.old) (R.remaining reader.new) result }
-    ensures wrong_words { (result ≡ Err Fault.WrongWords) ↔ (task_of (map string_bytes words.now) ≡ None) }
+    ensures wrong_words { (result ≡ Err Fault.WrongWords)
+        ↔ (task_of (map string_bytes words.now) ≡ None) }
 {
     let task = match judge(alloc, words) {
         Ok(task) => task,

@@ -10,7 +10,8 @@ use std::io::{self, ErrorKind, Read, Write};
 
 /// The whole input. An interrupted read is tried again.
 pub(crate) fn read_whole<R: Read>(alloc: Global, reader: &mut R) -> Result<Vec<u8>, Fault>
-    ensures ok { IfOk result (λ input. IfSome (R.remaining reader.old) (λ bytes. input.items ≡ bytes)) }
+    ensures ok { IfOk result (λ input. IfSome (R.remaining reader.old)
+        (λ bytes. input.items ≡ bytes)) }
     ensures end { OnOk result (IsAtEnd (R.remaining reader.new)) }
     ensures err { IfErr result (λ f. (f ≡ Fault.NoMemory) ⊎ (f ≡ Fault.CannotRead)) }
 {
@@ -50,7 +51,8 @@ impl<W: Write> Write for Patient<W> {
 pub(crate) fn write_whole<W: Write>(writer: &mut W, text: &[u8]) -> Result<(), Fault>
     ensures { MatchResult result
         (λ _. Appends (W.contents writer.old) (W.contents writer.new) text.now)
-        (λ f. (f ≡ Fault.CannotWrite) × AppendsFront (W.contents writer.old) (W.contents writer.new) text.now) }
+        (λ f. (f ≡ Fault.CannotWrite)
+        × AppendsFront (W.contents writer.old) (W.contents writer.new) text.now) }
 {
     let mut at = 0;
     while at < text.len() {

@@ -199,7 +199,7 @@ encode_full counts out mid next old index written between further empty e h full
 
 -- ---- the room that is enough
 
--- for a run and a nonempty bin behind it
+-- for a run and a nonempty bin after it
 pub room_for_both : (counts out old : List ℕ) (index written empty room : ℕ) → IsEncodedTo counts out old index written empty → index < length counts → get_or counts index 0 ≢ 0
     → enough_bytes counts ≤ room → written + 9 * min empty 1 + 9 ≤ room
 unfolding enough_bytes

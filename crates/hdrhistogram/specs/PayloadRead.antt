@@ -107,7 +107,7 @@ pub record IsCut (rest : List ℕ) : Type 0 where
   pub short : length rest ≤ 8
   pub high : AllByRecursion (λ b. 128 ≤ b) rest
 
--- the payload is spellings, one after the other, and a rest that is none
+-- the payload is spellings, one after the other, and a rest that spells nothing
 pub record AreSpellings (payload : List ℕ) (texts : List (List ℕ)) (rest : List ℕ) : Type 0 where
   pub whole : payload ≡ flat_map (λ text. text) texts ++ rest
   pub each : AllByRecursion (IsSpelling 8) texts

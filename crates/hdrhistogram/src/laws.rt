@@ -65,9 +65,10 @@ pub fn bytes_agree()
         → IsV2 h a → IsV2 k b → a ≡ b → IsWrittenAlike h k }
 {}
 
-/// A payload is spellings and a rest that is none in one way, which is how it is cut for reading.
+/// A payload is cut in one way into spellings and a rest that spells nothing, which is how it is cut for reading.
 pub fn one_parting()
-    ensures are { (payload : List ℕ) → AreSpellings payload (split_spellings 8 payload).texts (split_spellings 8 payload).rest }
+    ensures are { (payload : List ℕ)
+        → AreSpellings payload (split_spellings 8 payload).texts (split_spellings 8 payload).rest }
     ensures only { (payload rest : List ℕ) (texts : List (List ℕ)) → AreSpellings payload texts rest
         → split_spellings 8 payload ≡ record { texts = texts; rest = rest } }
 {}
@@ -75,26 +76,32 @@ pub fn one_parting()
 /// What follows a histogram does not change how it is read, and reading takes a front of the
 /// text. So a histogram that a reader gives is the one that the whole of its bytes begins with.
 pub fn reading_takes_a_front()
-    ensures { (greatest : ℕ) (text rest : List ℕ) (c : Contents) → v2_at greatest text ≡ Ok (c, rest)
-        → (front : List ℕ) × (text ≡ front ++ rest) × ((more : List ℕ) → v2_at greatest (front ++ more) ≡ Ok (c, more)) }
+    ensures { (greatest : ℕ) (text rest : List ℕ) (c : Contents)
+        → v2_at greatest text ≡ Ok (c, rest)
+        → (front : List ℕ) × (text ≡ front ++ rest)
+        × ((more : List ℕ) → v2_at greatest (front ++ more) ≡ Ok (c, more)) }
 {}
 
 /// The V2 bytes of a histogram, with anything after them, are read for the same counters as its
 /// bounds, digits and counts, and what is after them is left.
 pub fn bytes_read_back()
     ensures bytes { (h : Plain) (text : List ℕ) → IsV2 h text → (i : ℕ) → slice_index text i < 256 }
-    ensures contents { (greatest : ℕ) (h : Plain) (bytes more : List ℕ) → IsPlain greatest h → IsV2 h bytes
+    ensures contents { (greatest : ℕ) (h : Plain) (bytes more : List ℕ) → IsPlain greatest h
+        → IsV2 h bytes
         → v2_at greatest (bytes ++ more) ≡ Ok (told_of h, more) }
-    ensures histogram { (greatest taken : ℕ) (h k : Plain) (bytes more : List ℕ) → IsPlain greatest h → IsV2 h bytes
+    ensures histogram { (greatest taken : ℕ) (h k : Plain) (bytes more : List ℕ)
+        → IsPlain greatest h → IsV2 h bytes
         → IsReadAs greatest (bytes ++ more) k taken → (taken ≡ length bytes) × IsReadBack h k }
     ensures equal { (h k : Plain) → IsRestated h → IsReadBack h k → same_plain k h ≡ true }
 {}
 
 /// What was written and read again is a histogram with the same classes, and stands for the same samples.
 pub fn read_back_stands()
-    ensures plain { (greatest : ℕ) (h k : Plain) → IsPlain greatest h → IsReadBack h k → IsPlain greatest k }
+    ensures plain { (greatest : ℕ) (h k : Plain) → IsPlain greatest h → IsReadBack h k
+        → IsPlain greatest k }
     ensures classes { (h k : Plain) → IsReadBack h k → grain k ≡ grain h }
-    ensures samples { (greatest : ℕ) (h k : Plain) (S : List ℕ) → IsPlain greatest h → IsReadBack h k → StandsFor h S
+    ensures samples { (greatest : ℕ) (h k : Plain) (S : List ℕ) → IsPlain greatest h
+        → IsReadBack h k → StandsFor h S
         → StandsFor k S }
 {
     samples_are_counted();
@@ -102,22 +109,33 @@ pub fn read_back_stands()
 
 /// Merging a log adds the histograms of its chosen intervals in order, and counts them.
 pub fn merging_adds_the_chosen()
-    ensures added { (greatest sigfig : ℕ) (filter : Filter) (log : List ℕ) (m : Merging) → Merges greatest filter sigfig log (Ok m)
+    ensures added { (greatest sigfig : ℕ) (filter : Filter) (log : List ℕ) (m : Merging)
+        → Merges greatest filter sigfig log (Ok m)
         → (hs : List Plain) × AreChosen filter 0 (reading log) hs
-        × (m.histogram ≡ after_adds greatest (empty_plain 1 2 sigfig true) hs) × (m.chosen ≡ length hs) }
-    ensures only { (filter : Filter) (base : ℕ) (entries : List (Result Entry ℕ)) (hs others : List Plain) → AreChosen filter base entries hs
+        × (m.histogram ≡ after_adds greatest (empty_plain 1 2 sigfig true) hs)
+        × (m.chosen ≡ length hs) }
+    ensures only { (filter : Filter) (base : ℕ) (entries : List (Result Entry ℕ))
+        (hs others : List Plain) → AreChosen filter base entries hs
         → AreChosen filter base entries others → hs ≡ others }
 {}
 
 /// Where the chosen intervals of a log stand for samples, by classes that are no coarser than those of the merge, the
 /// merge stands for the samples joined, as far as those fit; and its quantiles are theirs.
 pub fn merged_log_stands()
-    ensures sum { (greatest sigfig : ℕ) (filter : Filter) (log : List ℕ) (m : Merging) (hs : List Plain) (Ls : List (List ℕ)) → 1 ≤ greatest
-        → IsBounds 1 2 sigfig → Merges greatest filter sigfig log (Ok m) → AreChosen filter 0 (reading log) hs
-        → AreParts 18446744073709551615 (grain_of 1 sigfig) hs Ls → Fits greatest (grain_of 1 sigfig) (joined_samples Ls) → StandsFor m.histogram (joined_samples Ls) }
-    ensures ranked { (greatest sigfig : ℕ) (filter : Filter) (log : List ℕ) (m : Merging) (hs : List Plain) (Ls : List (List ℕ)) → 1 ≤ greatest
-        → IsBounds 1 2 sigfig → Merges greatest filter sigfig log (Ok m) → AreChosen filter 0 (reading log) hs
-        → AreParts 18446744073709551615 (grain_of 1 sigfig) hs Ls → Fits greatest (grain_of 1 sigfig) (joined_samples Ls) → AnswersRanked m.histogram (joined_samples Ls) }
+    ensures sum { (greatest sigfig : ℕ) (filter : Filter) (log : List ℕ) (m : Merging)
+        (hs : List Plain) (Ls : List (List ℕ)) → 1 ≤ greatest
+        → IsBounds 1 2 sigfig → Merges greatest filter sigfig log (Ok m)
+        → AreChosen filter 0 (reading log) hs
+        → AreParts 18446744073709551615 (grain_of 1 sigfig) hs Ls
+        → Fits greatest (grain_of 1 sigfig) (joined_samples Ls)
+        → StandsFor m.histogram (joined_samples Ls) }
+    ensures ranked { (greatest sigfig : ℕ) (filter : Filter) (log : List ℕ) (m : Merging)
+        (hs : List Plain) (Ls : List (List ℕ)) → 1 ≤ greatest
+        → IsBounds 1 2 sigfig → Merges greatest filter sigfig log (Ok m)
+        → AreChosen filter 0 (reading log) hs
+        → AreParts 18446744073709551615 (grain_of 1 sigfig) hs Ls
+        → Fits greatest (grain_of 1 sigfig) (joined_samples Ls)
+        → AnswersRanked m.histogram (joined_samples Ls) }
 {
     new_is_plain();
     clearing_stands();

@@ -1,4 +1,4 @@
-//! Histograms as bytes: the V2 encoding of HdrHistogram, uncompressed.
+//! Histograms as bytes and as lines: the V2 encoding of HdrHistogram, uncompressed, and interval logs.
 
 pub mod deserializer;
 mod errors;

@@ -13,7 +13,9 @@ use hdr_base::{Counter, Ticks};
 use hdr_model::RecordError;
 
 impl<T: Counter> Histogram<T> {
-    /// Records a value once, and each value that was missed while it lasted.
+    /// Records a value once and, for a caller that meant to take a sample every `interval`, each sample that it missed
+    /// while waiting for this one. Both are in the unit of the samples; an `interval` of 0 corrects nothing. Correct samples
+    /// once: not here and by `add_correct` again.
     pub fn record_correct(&mut self, value: u64, interval: u64) -> Result<(), RecordError>
         ensures ok { OnOk result (self.new ≡ after_correct T.greatest self.old value 1 interval) }
         ensures samples { OnOk result (GainsSamples T.greatest self.old self.new
@@ -27,8 +29,8 @@ impl<T: Counter> Histogram<T> {
         self.record_n_correct(value, T::one(), interval)
     }
 
-    /// Records a value `count` times and then, for an interval of at least 1, each `value - j * interval` with `j` of at
-    /// least 1 that is at least the interval. Only the first record can be refused; a refusal changes nothing.
+    /// The same, `count` times each: the value and then, for an interval of at least 1, each `value - j * interval` with `j`
+    /// of at least 1 that is at least the interval. Only the first record can be refused; a refusal changes nothing.
     pub fn record_n_correct(
         &mut self,
         value: u64,

@@ -23,8 +23,8 @@ impl<T: Counter> Histogram<T> {
         self.answer(quantile.num(), self.first_reaching(rank))
     }
 
-    /// The same answer, with a tick for each look at a block's sum or at a counter: as many as there are blocks and as a
-    /// block has counters at the most. Block i holds the bins from `i * 2 ^ (digits - 1)` on to the next block's.
+    /// The same answer, with a tick for each look at a block's sum or at a counter: at most as many as there are blocks
+    /// and counters in a block together. A block holds half as many bins as the first bucket.
     pub fn value_at_quantile_counted(&self, quantile: Quantile, ticks: &mut Ticks) -> u64
         requires { ticks.old ≤ 2 ^ 63 }
         ensures value { result ≡ quantile_of self.now quantile }

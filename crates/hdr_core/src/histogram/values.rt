@@ -1,4 +1,4 @@
-//! Answers to many quantiles in one pass.
+//! Answers to many quantiles in ascending order, in one pass.
 
 ghost use Rattle.std.specs.Prelude.{◌≡◌, ℕ, ◌*◌, ◌^◌, ◌<◌, ◌≤◌, List, map, length};
 ghost use Rattle.std.specs.Iterator.{YieldsFirst, item_count};
@@ -11,7 +11,7 @@ use hdr_base::{Counter, Fraction, Quantile};
 use hdr_counts::Search;
 use std::marker::Model;
 
-/// The answers to quantiles that do not fall, seen as the list of those still to come. It goes over the bins once.
+/// The answers to quantiles in ascending order, seen as the list of those still to come. It goes over the bins once.
 #[derive(Debug, Drop)]
 pub struct Values<'a, T: Counter> {
     histogram: &'a Histogram<T>,

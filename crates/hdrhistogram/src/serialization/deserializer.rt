@@ -56,7 +56,8 @@ impl Deserializer {
         text: &[u8],
     ) -> Result<(Histogram<T>, usize), DeserializeError>
         ensures read { IfOk result (λ found. IsReadAs T.greatest text.now found.0 found.1) }
-        ensures refused { IfErr result (λ e. FailsBy (fault_of_error e) (v2_at T.greatest text.now)) }
+        ensures refused { IfErr result (λ e. FailsBy (fault_of_error e)
+            (v2_at T.greatest text.now)) }
         ensures kept { self.new ≡ self.old }
     {
         let (h, rest) = decode(*self.payload.allocator(), text)?;
@@ -94,7 +95,8 @@ fn empty_for<T: Counter>(alloc: Global, header: Header) -> Result<Filling<T>, De
     ensures bounds { Checks result (bounds_fault (header_of header)) }
     ensures empty { IfOk result (λ f. f.counts ≡ replicate (length f.counts) 0) }
     ensures fixed { IfOk result (λ f. f.auto_resize ≡ false) }
-    ensures told { IfOk result (λ f. told_by f ≡ record { low = header.low; high = header.high; sigfig = header.sigfig; counts = f.counts }) }
+    ensures told { IfOk result (λ f. told_by f
+        ≡ record { low = header.low; high = header.high; sigfig = header.sigfig; counts = f.counts }) }
     ensures bins { IfOk result (λ f. length f.counts ≡ bins_for (header_of header)) }
 {
     let Header {

@@ -46,7 +46,8 @@ fn put_number<T: Counter>(
 /// they spell another number or the front is spelt by more bytes, and where the count is a fault.
 #[inline(always)]
 fn put_short<T: Counter>(filling: &mut Filling<T>, place: u64, bytes: &[u8]) -> Option<usize>
-    ensures put { IfSome result (IsCountPut T.greatest place bytes.now filling.old.counts filling.new.counts) }
+    ensures put { IfSome result
+        (IsCountPut T.greatest place bytes.now filling.old.counts filling.new.counts) }
     ensures few { IfSome result (λ _. place < 6291456) }
     ensures rest { filling.new ≡ record filling.old { counts = filling.new.counts } }
     ensures kept { IfNone result (filling.new ≡ filling.old) }
@@ -70,7 +71,8 @@ fn put_short<T: Counter>(filling: &mut Filling<T>, place: u64, bytes: &[u8]) -> 
 #[inline(always)]
 fn two_byte_count<T: Counter>(first: u8, second: u8) -> Option<T>
     ensures bytes { IfSome result (λ _. (128 ≤ first) × (second < 128) × (first % 2 ≡ 0)) }
-    ensures count { IfSome result (λ c. (0 < T.number c) × (T.number c ≤ T.greatest) × (2 * T.number c ≡ first % 128 + 128 * second)) }
+    ensures count { IfSome result (λ c. (0 < T.number c) × (T.number c ≤ T.greatest)
+        × (2 * T.number c ≡ first % 128 + 128 * second)) }
 {
     if first < 128 {
         return None;
@@ -91,7 +93,8 @@ fn two_byte_count<T: Counter>(first: u8, second: u8) -> Option<T>
 /// nothing is put.
 #[inline(always)]
 fn put_pair<T: Counter>(filling: &mut Filling<T>, place: u64, bytes: &[u8]) -> bool
-    ensures put { result ≡ true → IsPairPut T.greatest place bytes.now filling.old.counts filling.new.counts }
+    ensures put { result ≡ true
+        → IsPairPut T.greatest place bytes.now filling.old.counts filling.new.counts }
     ensures few { result ≡ true → place < 6291456 }
     ensures rest { filling.new ≡ record filling.old { counts = filling.new.counts } }
     ensures kept { result ≡ false → filling.new ≡ filling.old }

@@ -1,7 +1,6 @@
 //! The payload of V2 bytes: the counts, with runs of empty bins.
 
-ghost use Rattle.std.specs.Prelude.{◌≡◌, ℕ, List, length, map, drop, take, slice_index, ◌++◌, ◌+◌, ◌*◌};
-ghost use Rattle.std.specs.Prelude.{◌≤◌, ◌<◌, ◌^◌, min, max, IfOk, IfErr, OnOk, All};
+ghost use Rattle.std.specs.Prelude.{◌≡◌, ℕ, List, length, map, drop, take, slice_index, ◌++◌, ◌+◌, ◌*◌, ◌≤◌, ◌<◌, ◌^◌, min, max, IfOk, IfErr, OnOk, All};
 ghost use Rattle.std.specs.Option.{SomeIff};
 ghost use Rattle.hdr_model.specs.Plain.{IsPlain};
 ghost use Rattle.hdrhistogram.specs.Streams.{WritesFront};

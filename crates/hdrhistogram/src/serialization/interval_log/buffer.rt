@@ -46,7 +46,8 @@ pub(crate) fn serialized<T: Counter, S: Serializer>(
 ) -> Result<Vec<u8>, IntervalLogWriterError<S::SerializeError>>
 where
     S::SerializeError: Drop,
-    ensures { MatchResult result (λ bytes. S.writes h.now bytes.items) (RefusesSerialized (S.refuses h.now)) }
+    ensures { MatchResult result (λ bytes. S.writes h.now bytes.items)
+        (RefusesSerialized (S.refuses h.now)) }
 {
     let mut buffer = Buffer {
         bytes: Vec::new(alloc),

@@ -64,7 +64,8 @@ impl IntervalLogWriterBuilder {
     /// Adds a comment after those that are there. Each part of it between line feeds is to stand on a line of its own; a
     /// part that spells a header is read as that header.
     pub fn add_comment(&mut self, comment: &str) -> Result<(), CommentError>
-        ensures ok { OnOk result (self.new ≡ record self.old { comments = self.old.comments ++ comment.now ∷ [] }) }
+        ensures ok { OnOk result (self.new
+            ≡ record self.old { comments = self.old.comments ++ comment.now ∷ [] }) }
         ensures err { OnErr result (self.new ≡ self.old) }
     {
         let Ok(comment) = String::from_str(self.alloc, comment) else {
@@ -112,7 +113,8 @@ impl IntervalLogWriterBuilder {
         &self,
         writer: &mut W,
     ) -> Result<(), IntervalLogWriterError<E>>
-        ensures leaves { WritesText (IsStartText self.now) (λ _. ⊥) (W.contents writer.old) (W.contents writer.new) result }
+        ensures leaves { WritesText (IsStartText self.now) (λ _. ⊥) (W.contents writer.old)
+            (W.contents writer.new) result }
         ensures time { (is_time_error result ≡ false) ↔ AreTimesInRange self.now }
     {
         let Some(start_time) = header_time(self.start_time) else {
@@ -142,10 +144,12 @@ impl IntervalLogWriterBuilder {
         serializer: &'b mut S,
     ) -> Result<IntervalLogWriter<'a, 'b, W, S>, IntervalLogWriterError<S::SerializeError>>
         ensures writer { IfOk result (λ log. (sink log).ghost_name ≡ writer.entry.ghost_name) }
-        ensures serializer { IfOk result (λ log. (maker log).ghost_name ≡ serializer.entry.ghost_name) }
+        ensures serializer { IfOk result (λ log. (maker log).ghost_name
+            ≡ serializer.entry.ghost_name) }
         ensures written { IfOk result (λ log. (text : List ℕ) × IsStartText self.now text
             × Appends (W.contents writer.old) (W.contents (sink log).now) text) }
-        ensures lent { IfOk result (λ log. ((maker log).now ≡ serializer.old) × (divisor_of log ≡ self.now.divisor)) }
+        ensures lent { IfOk result (λ log. ((maker log).now ≡ serializer.old)
+            × (divisor_of log ≡ self.now.divisor)) }
         ensures time { (is_time_error result ≡ false) ↔ AreTimesInRange self.now }
     {
         match self.write_headers(writer) {
@@ -220,7 +224,8 @@ fn push_start(
 ) -> Result<(), AllocError>
     requires start { AreSmall start_time }
     requires base { AreSmall base_time }
-    ensures { OnOk result (text.new.items ≡ text.old.items ++ text_of (start_pieces (map string_bytes comments.now) start_time base_time divisor)) }
+    ensures { OnOk result (text.new.items ≡ text.old.items ++ text_of
+        (start_pieces (map string_bytes comments.now) start_time base_time divisor)) }
 {
     push_comments(text, comments)?;
     push_headers(text, start_time, base_time, divisor)

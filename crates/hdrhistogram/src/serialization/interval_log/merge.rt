@@ -86,7 +86,8 @@ pub fn merge_log<T: Counter>(
     sigfig: u8,
 ) -> Result<Merged<T>, MergeError>
     ensures { MatchResult result
-        (λ m. IsBounds 1 2 sigfig × IsMergedBy (λ r. Merges T.greatest (view_of_filter filter.now) sigfig log.now r) m.histogram m.chosen)
+        (λ m. IsBounds 1 2 sigfig × IsMergedBy (λ r. Merges T.greatest
+        (view_of_filter filter.now) sigfig log.now r) m.histogram m.chosen)
         (RefusesMerge T.greatest (view_of_filter filter.now) sigfig log.now) }
 {
     let histogram = match Histogram::new(alloc, sigfig) {
@@ -146,8 +147,10 @@ fn merge_entry<T: Counter>(
     ensures few { merging.new.intervals ≤ merging.old.intervals + 1 }
     ensures chosen { merging.new.chosen ≤ merging.new.intervals }
     ensures done { MatchResult result
-        (λ _. EntryMerges T.greatest (view_of_filter filter.now) (view_of_merging merging.old) (view_of_item entry.now) (Ok (view_of_merging merging.new)))
-        (RefusesStep (λ e. EntryMerges T.greatest (view_of_filter filter.now) (view_of_merging merging.old) (view_of_item entry.now) (Err e))) }
+        (λ _. EntryMerges T.greatest (view_of_filter filter.now) (view_of_merging merging.old)
+        (view_of_item entry.now) (Ok (view_of_merging merging.new)))
+        (RefusesStep (λ e. EntryMerges T.greatest (view_of_filter filter.now)
+        (view_of_merging merging.old) (view_of_item entry.now) (Err e))) }
 {
     match entry {
         Ok(LogEntry::StartTime(_)) => Ok(()),
@@ -178,8 +181,10 @@ fn merge_field<T: Counter>(
     ensures few { merging.new.intervals ≤ merging.old.intervals + 1 }
     ensures chosen { merging.new.chosen ≤ merging.new.intervals }
     ensures done { MatchResult result
-        (λ _. FieldMerges T.greatest (view_of_merging merging.old) (base64_bytes field.now) (Ok (view_of_merging merging.new)))
-        (RefusesStep (λ e. FieldMerges T.greatest (view_of_merging merging.old) (base64_bytes field.now) (Err e))) }
+        (λ _. FieldMerges T.greatest (view_of_merging merging.old) (base64_bytes field.now)
+        (Ok (view_of_merging merging.new)))
+        (RefusesStep (λ e. FieldMerges T.greatest (view_of_merging merging.old)
+        (base64_bytes field.now) (Err e))) }
 {
     let interval = merging.intervals + 1;
     match decode_into(field, &mut merging.bytes) {
@@ -214,7 +219,8 @@ impl IntervalFilter<'_> {
     /// Whether an interval is chosen, with this base time.
     #[tactic(auto, unfolding(crate::specs::Chosen::is_chosen))]
     pub fn chooses(&self, base: Duration, interval: &IntervalLogHistogram<'_>) -> bool
-        ensures { result ≡ is_chosen (view_of_filter self.now) (view_of_interval interval.now).tag (as_nanos base + (view_of_interval interval.now).start) }
+        ensures { result ≡ is_chosen (view_of_filter self.now) (view_of_interval interval.now).tag
+            (as_nanos base + (view_of_interval interval.now).start) }
     {
         let time = base.as_nanos() + interval.start_timestamp().as_nanos();
         has_tag(self.tag, interval.tag())

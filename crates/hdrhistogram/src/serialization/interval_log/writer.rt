@@ -34,7 +34,8 @@ pub(crate) fn write_text<W: Write, E>(
     writer: &mut W,
     text: &[u8],
 ) -> Result<(), IntervalLogWriterError<E>>
-    ensures leaves { WritesText (λ t. t ≡ text.now) (λ _. ⊥) (W.contents writer.old) (W.contents writer.new) result }
+    ensures leaves { WritesText (λ t. t ≡ text.now) (λ _. ⊥) (W.contents writer.old)
+        (W.contents writer.new) result }
     ensures time { is_time_error result ≡ false }
 {
     match write_whole(writer, text) {
