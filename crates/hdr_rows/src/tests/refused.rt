@@ -4,7 +4,7 @@
 mod bytes;
 mod resting;
 
-use hdr_core::{AdditionError, CallError, CreationError, RecordError};
+use hdr_core::{AdditionError, Call, CallError, CallFrom, CreationError, RecordError, RunError};
 use hdr_play::{Answer, Table};
 use hdrhistogram::serialization::interval_log::MergeError;
 use std::alloc::Global;
@@ -48,7 +48,17 @@ const MERGED: [&str; 4] = [
     "other saturating_record 1000",
 ];
 
-/// Calls that make `one` of `MERGED` grow to 1023 by `other`.
+/// The same, where the first two hold 3 once: what `set_to` forgets is there to be kept.
+const HELD: [&str; 6] = [
+    "one new 1",
+    "wide new 1",
+    "other new_with_max 1000 1",
+    "one saturating_record 3",
+    "wide saturating_record 3",
+    "other saturating_record 1000",
+];
+
+/// Calls that make `one` of `MERGED` or `HELD` grow to 1023 by `other`.
 const MERGING: [&str; 8] = [
     "one add",
     "one add_correct 100",
@@ -97,9 +107,25 @@ fn is_refused(alloc: Global, table: &mut Table<u64>, calls: &[&str]) -> bool {
     false
 }
 
+/// How the first histogram is compared with its twin in the second's place: all that it tells of itself, and `==`.
+const OTHER: [&str; 2] = ["one same", "one is_other"];
+
+/// How it is compared with a twin in the third's place.
+const WIDE: [&str; 2] = ["one same_wide", "one equals_wide"];
+
+/// Whether all comparisons find two histograms alike.
+fn are_alike(alloc: Global, table: &mut Table<u64>, twin: &[&str]) -> bool {
+    for comparison in twin {
+        if !matches!(table.answer(alloc, comparison), Some(Answer::Truth(true))) {
+            return false;
+        }
+    }
+    true
+}
+
 /// Whether memory was refused to a call, or to what is made before it. A call that was refused changed nothing: the first
-/// histogram and its twin, which a comparison names, are still alike.
-fn refuses(rt: &impl Abort, alloc: Global, making: &[&str], call: &str, twin: &str) -> bool {
+/// histogram and its twin, which comparisons name, are still alike.
+fn refuses(rt: &impl Abort, alloc: Global, making: &[&str], call: &str, twin: &[&str]) -> bool {
     let Ok(mut table) = Table::new(alloc) else {
         return true;
     };
@@ -108,10 +134,7 @@ fn refuses(rt: &impl Abort, alloc: Global, making: &[&str], call: &str, twin: &s
     }
     let refused = is_refused(alloc, &mut table, &[call]);
     if refused {
-        assert!(rt;
-            matches!(table.answer(alloc, twin), Some(Answer::Truth(true))),
-            "{call}"
-        );
+        assert!(rt; are_alike(alloc, &mut table, twin), "{call}");
     }
     refused
 }
@@ -122,7 +145,7 @@ fn any_refuses(
     alloc: Global,
     making: &[&str],
     calls: &[&str],
-    twin: &str,
+    twin: &[&str],
 ) -> bool {
     let mut refused = false;
     for call in calls {
@@ -140,7 +163,7 @@ fn growing(rt: HostRuntime) -> Result<(), Fail> {
         rt.alloc(),
         TWINS.as_slice(),
         GROWING.as_slice(),
-        "one same",
+        OTHER.as_slice(),
     ) {
         println!(rt; "no memory")?;
     }
@@ -154,7 +177,21 @@ fn merging(rt: HostRuntime) -> Result<(), Fail> {
         rt.alloc(),
         MERGED.as_slice(),
         MERGING.as_slice(),
-        "one same_wide",
+        WIDE.as_slice(),
+    ) {
+        println!(rt; "no memory")?;
+    }
+    Ok(())
+}
+
+#[test]
+fn merging_into_samples(rt: HostRuntime) -> Result<(), Fail> {
+    if any_refuses(
+        &rt,
+        rt.alloc(),
+        HELD.as_slice(),
+        MERGING.as_slice(),
+        WIDE.as_slice(),
     ) {
         println!(rt; "no memory")?;
     }
@@ -168,8 +205,62 @@ fn making(rt: HostRuntime) -> Result<(), Fail> {
         rt.alloc(),
         TWINS.as_slice(),
         MAKERS.as_slice(),
-        "one same",
+        OTHER.as_slice(),
     ) {
+        println!(rt; "no memory")?;
+    }
+    Ok(())
+}
+
+/// Whether memory was refused to the second call of a run, which leaves what the first call did: 4 is recorded as in the
+/// second histogram.
+fn is_stopped(
+    rt: &impl Abort,
+    alloc: Global,
+    table: &mut Table<u64>,
+    ran: Result<(), RunError>,
+) -> bool {
+    let Err(error) = ran else {
+        return false;
+    };
+    assert_eq!(rt; error.at, 1);
+    assert!(rt; is_memory(&Answer::Stopped(error)));
+    assert!(rt; !is_refused(alloc, table, &["other saturating_record 4"]));
+    assert!(rt; are_alike(alloc, table, OTHER.as_slice()));
+    true
+}
+
+#[test]
+fn running(rt: HostRuntime) -> Result<(), Fail> {
+    let Ok(mut table) = Table::<u64>::new(rt.alloc()) else {
+        return Ok(println!(rt; "no memory")?);
+    };
+    if is_refused(rt.alloc(), &mut table, TWINS.as_slice()) {
+        return Ok(println!(rt; "no memory")?);
+    }
+    let calls = [Call::Record(4, 1), Call::Record(1000, 5), Call::Clear];
+    let ran = table.one.apply_all(&calls);
+    if is_stopped(&rt, rt.alloc(), &mut table, ran) {
+        println!(rt; "no memory")?;
+    }
+    Ok(())
+}
+
+#[test]
+fn running_from(rt: HostRuntime) -> Result<(), Fail> {
+    let Ok(mut table) = Table::<u64>::new(rt.alloc()) else {
+        return Ok(println!(rt; "no memory")?);
+    };
+    if is_refused(rt.alloc(), &mut table, TWINS.as_slice()) {
+        return Ok(println!(rt; "no memory")?);
+    }
+    let calls = [
+        CallFrom::Own(Call::Record(4, 1)),
+        CallFrom::AddFrom(&table.wide.inner),
+        CallFrom::Own(Call::Clear),
+    ];
+    let ran = table.one.apply_all_from(&calls);
+    if is_stopped(&rt, rt.alloc(), &mut table, ran) {
         println!(rt; "no memory")?;
     }
     Ok(())

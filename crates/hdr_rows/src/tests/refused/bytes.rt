@@ -4,7 +4,7 @@ use crate::tests::FIRST_RUN;
 use hdr_log::field::{FieldError, decoded};
 use hdrhistogram::Histogram;
 use hdrhistogram::serialization::interval_log::{
-    CommentError, IntervalLogWriterBuilder, IntervalLogWriterError,
+    CommentError, IntervalLogWriter, IntervalLogWriterBuilder, IntervalLogWriterError,
 };
 use hdrhistogram::serialization::{
     DeserializeError, Deserializer, Serializer, V2SerializeError, V2Serializer,
@@ -61,6 +61,29 @@ fn serialize(rt: HostRuntime) -> Result<(), Fail> {
     Ok(())
 }
 
+/// A serializer that memory was refused to makes the right bytes then, lent and written.
+#[test]
+fn first_run_again(rt: HostRuntime) -> Result<(), Fail> {
+    let Ok(mut h) = Histogram::<u64>::new(rt.alloc(), 3) else {
+        return Ok(println!(rt; "no memory")?);
+    };
+    h.record_n(1, 1)?;
+    h.record_n(2, 4)?;
+    let Ok(mut written) = Vec::with_capacity(rt.alloc(), 100) else {
+        return Ok(println!(rt; "no memory")?);
+    };
+    let mut serializer = V2Serializer::new(rt.alloc());
+    if let Err(error) = serializer.serialize(&h, &mut written) {
+        assert!(rt; matches!(error, V2SerializeError::OutOfMemory));
+        assert!(rt; written.is_empty());
+        println!(rt; "no memory")?;
+        serializer.serialize(&h, &mut written)?;
+    }
+    assert!(rt; written.as_slice() == FIRST_RUN.as_slice());
+    assert!(rt; serializer.to_bytes(&h)? == FIRST_RUN.as_slice());
+    Ok(())
+}
+
 /// Whether a reading of a slice is done; else memory was refused to it.
 fn reads_a_slice(rt: &impl Abort, deserializer: &mut Deserializer) -> bool {
     match deserializer.decode_slice::<u64>(&FIRST_RUN) {
@@ -104,6 +127,50 @@ fn reads_a_reader(rt: &impl Abort, deserializer: &mut Deserializer) -> bool {
 fn deserialize(rt: HostRuntime) -> Result<(), Fail> {
     let mut deserializer = Deserializer::new(rt.alloc());
     if !reads_a_reader(&rt, &mut deserializer) {
+        println!(rt; "no memory")?;
+        assert!(rt; reads_a_reader(&rt, &mut deserializer));
+    }
+    Ok(())
+}
+
+/// The header of bytes with 5,000 numbers, and 0 held once, which is the first of them.
+const LONG: [u8; 41] = [
+    0x1c, 0x84, 0x93, 0x13, 0, 0, 0x13, 0x88, 0, 0, 0, 0, 0, 0, 0, 3, 0, 0, 0, 0, 0, 0, 0, 1, 0, 0,
+    0, 0, 0, 0, 0, 2, 0x3f, 0xf0, 0, 0, 0, 0, 0, 0, 2,
+];
+
+/// Bytes whose payload comes in two pieces. None: memory was refused.
+fn long_text(alloc: Global) -> Option<Vec<u8>> {
+    let mut text = Vec::with_capacity(alloc, 5_040).ok()?;
+    text.extend_from_slice(LONG.as_slice()).ok()?;
+    for _ in 1..5_000u64 {
+        text.push(0).ok()?;
+    }
+    Some(text)
+}
+
+/// Whether a reading of such bytes is done, and leaves nothing; else memory was refused to it.
+fn reads_pieces(rt: &impl Abort, deserializer: &mut Deserializer, text: &[u8]) -> bool {
+    let mut reader = text;
+    match deserializer.deserialize::<u64, &[u8]>(&mut reader) {
+        Ok(h) => {
+            assert!(rt; h.len() == 1 && reader.is_empty());
+            true
+        }
+        Err(error) => {
+            assert!(rt; matches!(error, DeserializeError::OutOfMemory));
+            false
+        }
+    }
+}
+
+#[test]
+fn deserialize_pieces(rt: HostRuntime) -> Result<(), Fail> {
+    let Some(text) = long_text(rt.alloc()) else {
+        return Ok(println!(rt; "no memory")?);
+    };
+    let mut deserializer = Deserializer::new(rt.alloc());
+    if !reads_pieces(&rt, &mut deserializer, text.as_slice()) {
         println!(rt; "no memory")?;
         assert!(rt; reads_a_reader(&rt, &mut deserializer));
     }
@@ -157,6 +224,61 @@ fn log(rt: HostRuntime) -> Result<(), Fail> {
             println!(rt; "no memory")?;
         }
         None => return Err(Fail::from("another error")),
+    }
+    Ok(())
+}
+
+/// A log of a comment of two lines, which ends at 6, and of two intervals of an empty histogram, of 75 bytes each.
+const LOG: &[u8; 156] =
+    b"#a\n#b\n0.000,0.000,0.000,HISTEwAAAAEAAAAAAAAAAAAAAAAAAAABAAAAAAAAAAI/8AAAAAAAAAA=\n0.000,0.000,0.000,HISTEwAAAAEAAAAAAAAAAAAAAAAAAAABAAAAAAAAAAI/8AAAAAAAAAA=\n";
+
+/// Whether a part of a log was written; else memory was refused to it. None: another error.
+fn is_done(answer: Result<(), IntervalLogWriterError<V2SerializeError>>) -> Option<bool> {
+    match answer {
+        Ok(()) => Some(true),
+        Err(IntervalLogWriterError::OutOfMemory) => Some(false),
+        Err(IntervalLogWriterError::SerializeError(V2SerializeError::OutOfMemory)) => Some(false),
+        Err(_) => None,
+    }
+}
+
+/// How many parts of `LOG` are written before memory is refused. None: another error.
+fn parts_written(alloc: Global, h: &Histogram<u64>, log: &mut Vec<u8>) -> Option<usize> {
+    let mut serializer = V2Serializer::new(alloc);
+    let mut writer = IntervalLogWriter::new(alloc, log, &mut serializer, 1);
+    if !is_done(writer.write_comment("a\nb"))? {
+        return Some(0);
+    }
+    for parts in 1..3usize {
+        let answer = writer.write_histogram(h, Duration::new(0, 0), Duration::new(0, 0), None);
+        if !is_done(answer)? {
+            return Some(parts);
+        }
+    }
+    Some(3)
+}
+
+/// A part that memory is refused to leaves the parts before it, and nothing of its own.
+#[test]
+fn log_part_by_part(rt: HostRuntime) -> Result<(), Fail> {
+    let Ok(h) = Histogram::<u64>::new(rt.alloc(), 0) else {
+        return Ok(println!(rt; "no memory")?);
+    };
+    let Ok(mut log) = Vec::with_capacity(rt.alloc(), 200) else {
+        return Ok(println!(rt; "no memory")?);
+    };
+    let Some(parts) = parts_written(rt.alloc(), &h, &mut log) else {
+        return Err(Fail::from("another error"));
+    };
+    let end = match parts {
+        0 => 0,
+        1 => 6,
+        2 => 81,
+        _ => 156,
+    };
+    assert!(rt; log.as_slice() == LOG.as_slice().get(..end).unwrap_or(&[]));
+    if parts < 3 {
+        println!(rt; "no memory")?;
     }
     Ok(())
 }

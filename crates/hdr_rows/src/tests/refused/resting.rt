@@ -2,7 +2,7 @@
 
 use crate::tests::refused::is_refused;
 use hdr_base::Quantile;
-use hdr_core::{Call, Histogram};
+use hdr_core::{Call, CallFrom, Histogram};
 use hdr_log::{IntervalLogIterator, Tag};
 use hdr_play::Table;
 use hdrhistogram::serialization::deserializer::{varint_read, varint_read_slice};
@@ -13,6 +13,7 @@ use hdrhistogram::serialization::v2_serializer::{
 use hdrhistogram::serialization::{Deserializer, V2Serializer};
 use std::alloc::Global;
 use std::test::Fail;
+use std::time::Duration;
 
 /// Histograms up to 1023, of which two hold a value.
 const SMALL: [&str; 5] = [
@@ -90,13 +91,27 @@ fn run_is_done(table: &mut Table<u64>) -> bool {
     table.one.apply_all(&calls).is_ok()
 }
 
+/// Whether a run is done that takes no memory, with a source of another type.
+fn run_from_is_done(table: &mut Table<u64>) -> bool {
+    let calls = [
+        CallFrom::Own(Call::Record(9, 1)),
+        CallFrom::AddFrom(&table.wide.inner),
+        CallFrom::AddCorrectFrom(&table.wide.inner, 2),
+    ];
+    table.one.apply_all_from(&calls).is_ok()
+}
+
 /// Whether calls that take no memory are done. None: memory was refused to what is made before them.
 fn rests(alloc: Global) -> Option<bool> {
     let mut table: Table<u64> = Table::new(alloc).ok()?;
     if is_refused(alloc, &mut table, SMALL.as_slice()) {
         return None;
     }
-    Some(!is_refused(alloc, &mut table, RESTING.as_slice()) && run_is_done(&mut table))
+    Some(
+        !is_refused(alloc, &mut table, RESTING.as_slice())
+            && run_is_done(&mut table)
+            && run_from_is_done(&mut table),
+    )
 }
 
 /// Whether the payload of a histogram and its parts are right, in a buffer that stands.
@@ -160,7 +175,10 @@ fn statistics_are_right(h: &Histogram<u64>, half: Quantile) -> bool {
 fn makes_and_reads(alloc: Global) -> bool {
     let _serializer = V2Serializer::new(alloc);
     let _deserializer = Deserializer::new(alloc);
-    let _builder = IntervalLogWriterBuilder::new(alloc);
+    let mut builder = IntervalLogWriterBuilder::new(alloc);
+    builder.with_start_time(Duration::new(1, 0));
+    builder.with_base_time(Duration::new(2, 0));
+    builder.with_max_value_divisor(3);
     let mut log = IntervalLogIterator::new(b"Tag=a,0.0,1.0,1,x\n");
     matches!(log.next(), Some(Ok(_))) && log.next().is_none() && Tag::new("a").is_some()
 }
