@@ -5,3 +5,4 @@ pub mod OpenSums
 pub mod NonzeroPlaces
 pub mod BlockBounds
 pub mod BlockParts
+pub mod WrittenSums

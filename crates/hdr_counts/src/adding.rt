@@ -17,6 +17,18 @@ pub(crate) fn sum_of<T: Counter>(counters: &[T]) -> u128
     total
 }
 
+/// The same where the sum fits a `u64`.
+pub(crate) fn short_sum<T: Counter>(counters: &[T]) -> u64
+    requires { sum (map T.number counters.now) < 2 ^ 64 }
+    ensures { result ≡ sum (map T.number counters.now) }
+{
+    let mut total = 0;
+    for counter in counters {
+        total += counter.as_u64();
+    }
+    total
+}
+
 /// Adds the blocks of `source` to those of `counters`, each sum of two up to the greatest counter. `sums` and `more`
 /// are the sums of their blocks.
 pub(crate) fn add_blocks<T: Counter, F: Counter>(

@@ -1,10 +1,10 @@
 //! The sums of blocks, handed out, and the sum of a part of a block.
 
-ghost use Rattle.std.specs.Prelude.{◌≡◌, ◌+◌, ◌*◌, ◌^◌, ◌<◌, ◌≤◌, length, map, sum};
+ghost use Rattle.std.specs.Prelude.{◌≡◌, ◌+◌, ◌*◌, ◌<◌, ◌≤◌, length, map, sum};
 ghost use Rattle.hdr_counts.specs.Blocks.{AreSums, sum_below};
 
 use crate::Counts;
-use crate::adding::sum_of;
+use crate::adding::{short_sum, sum_of};
 use hdr_base::Counter;
 
 impl<T: Counter> Counts<T> {
@@ -41,17 +41,5 @@ pub(crate) fn part_sum<T: Counter>(part: &[T], whole: u128) -> u128
     if whole > u128::from(u64::MAX) {
         return sum_of(part);
     }
-    u128::from(small_sum(part))
-}
-
-/// The sum of counters that fits 64 bits.
-fn small_sum<T: Counter>(counters: &[T]) -> u64
-    requires { sum (map T.number counters.now) < 2 ^ 64 }
-    ensures { result ≡ sum (map T.number counters.now) }
-{
-    let mut total = 0;
-    for counter in counters {
-        total += counter.as_u64();
-    }
-    total
+    u128::from(short_sum(part))
 }

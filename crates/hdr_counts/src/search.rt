@@ -4,6 +4,7 @@ ghost use Rattle.std.specs.Prelude.{◌≡◌, ℕ, ◌+◌, ◌-◌, ◌*◌, �
 ghost use Rattle.hdr_counts.specs.Blocks.{sum_below, IsFirstToReach};
 
 use crate::Counts;
+use crate::adding::short_sum;
 use hdr_base::{Counter, Ticks};
 use std::marker::Model;
 
@@ -147,16 +148,4 @@ fn one_by_one<T: Counter>(counters: &[T], mut rest: u64) -> Option<usize>
         rest -= number;
     }
     None
-}
-
-/// The sum of counters, where it fits a `u64`.
-fn short_sum<T: Counter>(counters: &[T]) -> u64
-    requires { sum (map T.number counters.now) < 2 ^ 64 }
-    ensures { result ≡ sum (map T.number counters.now) }
-{
-    let mut total = 0;
-    for counter in counters {
-        total += counter.as_u64();
-    }
-    total
 }

@@ -1,7 +1,7 @@
-use Rattle.std.proofs.Common.{◌≡◌, ◌+◌, ◌-◌, ◌*◌, ◌/◌, ◌<◌, length, get_or, set, map, sym, ap, ◌∙◌, arith}
-use Rattle.std.proofs.lemmas.List.{get_or_read, map-set, get_or-map, length-map}
+use Rattle.std.proofs.Common.{◌≡◌, ◌+◌, ◌-◌, ◌/◌, ◌<◌, length, get_or, set, map, sym, ap, ◌∙◌, arith}
+use Rattle.std.proofs.lemmas.List.{map-set, length-map}
 use Rattle.hdr_counts.specs.Blocks.{with_zeros}
-use Rattle.hdr_counts.proofs.BlockSums.{sum_below-le, sum_below-le-sum, sum-fits, block_of, block_in, number-le-sum_below}
+use Rattle.hdr_counts.proofs.WrittenSums.{number-read, within-sum, sum-small, sum-next}
 use Rattle.hdr_counts.proofs.OpenSums.{open-cover, open-set, open-set-late, more-zeros, get-with-zeros, set-with-zeros, length-with-zeros}
 use Rattle.hdr_counts.proofs.open_counts.OpenCounts.set_further.Goals as goal
 
@@ -40,17 +40,11 @@ exchanged-requires-clause-within g c =
     let o = open-cover g.T.Counter.greatest s.block s.len _ _ more (map n s.counters.items) (map n xs) s.sums.items s.shift s.late c.self.invariant zeros (omega (arith, size, c.cover.ensures.within)) c.cover.ensures.room in
     let sums_are = o.kept c.if-self.false in
     let all = with_zeros (map n xs) s.len in
-    let at : i < length xs = c.cover.ensures.covered in
-    let here : i < length (map n xs) = omega (arith, size, at) in
-    let len : i < length all = omega (arith, length-with-zeros (map n xs) s.len o.within, o.within, here) in
-    let b = block_of s.block i o.some in
-    let k_in : i / s.block < length s.sums.items = block_in s.block i (length s.sums.items) o.some (omega (arith, len, length-with-zeros (map n xs) s.len o.within, o.whole)) in
-    let was : n c.index.result.now ≡ get_or (map n xs) i 0 = ap n (get_or_read xs i c.index.result.now at c.index.ensures c.index.result.now) ∙ sym (get_or-map n xs i c.index.result.now 0 at) in
-    let sum_was : c.index-2.result.now ≡ get_or s.sums.items (i / s.block) 0 = get_or_read s.sums.items c.quotient-k.result c.index-2.result.now (rw c.quotient-k.ensures k_in) c.index-2.ensures 0 ∙ ap (λ q. get_or s.sums.items q 0) c.quotient-k.ensures in
-    let each = sums_are.each (i / s.block) k_in in
-    let le = number-le-sum_below all i ((i / s.block + 1) * s.block) b.1 len in
-    let from = sum_below-le all (i / s.block * s.block) i b.0 in
-    omega (arith, was, get-with-zeros (map n xs) s.len i here, sum_was, each, le, from, c.as_u64-old.ensures.value)
+    let here : i < length (map n xs) = omega (arith, size, c.cover.ensures.covered) in
+    let inside : i < length all = omega (arith, length-with-zeros (map n xs) s.len o.within, o.within, here) in
+    let old = number-read n xs i c.as_u64-old.result c.index.result.now here c.index.ensures c.as_u64-old.ensures.value in
+    let of_all = old ∙ sym (get-with-zeros (map n xs) s.len i here) in
+    within-sum s.block i c.quotient-k.result c.as_u64-old.result c.index-2.result.now all s.sums.items sums_are inside of_all c.quotient-k.ensures c.index-2.ensures
 
 pub exchanged-requires-clause-fits : goal.exchanged-requires-clause-fits
 exchanged-requires-clause-fits g c =
@@ -63,17 +57,12 @@ exchanged-requires-clause-fits g c =
     let o = open-cover g.T.Counter.greatest s.block s.len _ _ more (map n s.counters.items) (map n xs) s.sums.items s.shift s.late c.self.invariant zeros (omega (arith, size, c.cover.ensures.within)) c.cover.ensures.room in
     let sums_are = o.kept c.if-self.false in
     let all = with_zeros (map n xs) s.len in
-    let at : i < length xs = c.cover.ensures.covered in
-    let here : i < length (map n xs) = omega (arith, size, at) in
-    let len : i < length all = omega (arith, length-with-zeros (map n xs) s.len o.within, o.within, here) in
-    let b = block_of s.block i o.some in
-    let k_in : i / s.block < length s.sums.items = block_in s.block i (length s.sums.items) o.some (omega (arith, len, length-with-zeros (map n xs) s.len o.within, o.whole)) in
-    let was : n c.index.result.now ≡ get_or (map n xs) i 0 = ap n (get_or_read xs i c.index.result.now at c.index.ensures c.index.result.now) ∙ sym (get_or-map n xs i c.index.result.now 0 at) in
-    let sum_was : c.index-2.result.now ≡ get_or s.sums.items (i / s.block) 0 = get_or_read s.sums.items c.quotient-k.result c.index-2.result.now (rw c.quotient-k.ensures k_in) c.index-2.ensures 0 ∙ ap (λ q. get_or s.sums.items q 0) c.quotient-k.ensures in
-    let each = sums_are.each (i / s.block) k_in in
-    let fits = sum-fits all sums_are.few sums_are.fits in
-    let most = sum_below-le-sum all ((i / s.block + 1) * s.block) in
-    omega (arith, sum_was, each, fits, most)
+    let here : i < length (map n xs) = omega (arith, size, c.cover.ensures.covered) in
+    let inside : i < length all = omega (arith, length-with-zeros (map n xs) s.len o.within, o.within, here) in
+    let old = number-read n xs i c.as_u64-old.result c.index.result.now here c.index.ensures c.as_u64-old.ensures.value in
+    let of_all = old ∙ sym (get-with-zeros (map n xs) s.len i here) in
+    let small = sum-small s.block i c.quotient-k.result c.as_u64-old.result c.index-2.result.now all s.sums.items sums_are inside of_all c.quotient-k.ensures c.index-2.ensures in
+    omega (arith, small, c.as_u64-new.type_inv)
 
 pub invariant_of-self-2 : goal.invariant_of-self-2
 invariant_of-self-2 g c =
@@ -86,16 +75,14 @@ invariant_of-self-2 g c =
     let o = open-cover g.T.Counter.greatest s.block s.len _ _ more (map n s.counters.items) (map n xs) s.sums.items s.shift s.late c.self.invariant zeros (omega (arith, size, c.cover.ensures.within)) c.cover.ensures.room in
     let sums_are = o.kept c.if-self.false in
     let all = with_zeros (map n xs) s.len in
-    let at : i < length xs = c.cover.ensures.covered in
-    let here : i < length (map n xs) = omega (arith, size, at) in
-    let len : i < length all = omega (arith, length-with-zeros (map n xs) s.len o.within, o.within, here) in
-    let b = block_of s.block i o.some in
-    let k_in : i / s.block < length s.sums.items = block_in s.block i (length s.sums.items) o.some (omega (arith, len, length-with-zeros (map n xs) s.len o.within, o.whole)) in
-    let was : n c.index.result.now ≡ get_or (map n xs) i 0 = ap n (get_or_read xs i c.index.result.now at c.index.ensures c.index.result.now) ∙ sym (get_or-map n xs i c.index.result.now 0 at) in
-    let sum_was : c.index-2.result.now ≡ get_or s.sums.items (i / s.block) 0 = get_or_read s.sums.items c.quotient-k.result c.index-2.result.now (rw c.quotient-k.ensures k_in) c.index-2.ensures 0 ∙ ap (λ q. get_or s.sums.items q 0) c.quotient-k.ensures in
+    let here : i < length (map n xs) = omega (arith, size, c.cover.ensures.covered) in
+    let inside : i < length all = omega (arith, length-with-zeros (map n xs) s.len o.within, o.within, here) in
+    let old = number-read n xs i c.as_u64-old.result c.index.result.now here c.index.ensures c.as_u64-old.ensures.value in
+    let of_all = old ∙ sym (get-with-zeros (map n xs) s.len i here) in
     let put = open-set g.T.Counter.greatest s.block s.len _ (map n xs) s.sums.items s.shift s.late i (n c.args.value) o c.if-self.false here c.as_u64-new.ensures.bound (omega (arith, g.met.T.Counter.fits)) in
-    let e : get_or s.sums.items (i / s.block) 0 - get_or (map n xs) i 0 + n c.args.value ≡ c.exchanged.result = omega (arith, was, sum_was, c.as_u64-old.ensures.value, c.as_u64-new.ensures.value, c.exchanged.ensures) in
-    rw (map-set n xs i c.args.value, ← e, c.quotient-k.ensures) put
+    let next = sum-next s.block i c.quotient-k.result c.as_u64-old.result c.index-2.result.now all s.sums.items sums_are inside of_all c.quotient-k.ensures c.index-2.ensures (n c.args.value) c.exchanged.result (c.exchanged.ensures ∙ ap (λ v. c.index-2.result.now - c.as_u64-old.result + v) c.as_u64-new.ensures.value) in
+    let is : get_or s.sums.items (i / s.block) 0 - get_or (map n xs) i 0 + n c.args.value ≡ c.exchanged.result = ap (λ x. get_or s.sums.items (i / s.block) 0 - x + n c.args.value) (sym (get-with-zeros (map n xs) s.len i here)) ∙ next in
+    rw (map-set n xs i c.args.value, ← is, c.quotient-k.ensures) put
 
 pub returns : goal.returns
 returns g c =
