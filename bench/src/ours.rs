@@ -22,6 +22,9 @@ mod exported {
         pub safe fn hdrb_decode_few(seed: u64, n: u64) -> u64;
         pub safe fn hdrb_log_line(seed: u64, n: u64) -> u64;
         pub safe fn hdrb_log_read(seed: u64, n: u64) -> u64;
+        pub safe fn hdrb_log_ends(seed: u64, n: u64) -> u64;
+        pub safe fn hdrb_log_texts(seed: u64, n: u64) -> u64;
+        pub safe fn hdrb_log_floor(seed: u64, n: u64) -> u64;
     }
 }
 
@@ -30,8 +33,11 @@ pub use exported::hdrb_correct as correct;
 pub use exported::hdrb_decode as decode;
 pub use exported::hdrb_decode_few as decode_few;
 pub use exported::hdrb_generate as generate;
+pub use exported::hdrb_log_ends as log_ends;
+pub use exported::hdrb_log_floor as log_floor;
 pub use exported::hdrb_log_line as log_line;
 pub use exported::hdrb_log_read as log_read;
+pub use exported::hdrb_log_texts as log_texts;
 pub use exported::hdrb_quantile as quantile;
 pub use exported::hdrb_record as record;
 pub use exported::hdrb_iter_all as iter_all;

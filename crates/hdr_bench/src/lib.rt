@@ -5,12 +5,11 @@
 ghost use Rattle.std.specs.Prelude.{◌<◌, ◌^◌, ◌≤◌};
 
 mod bytes;
+mod log;
 
-use hdrhistogram::serialization::interval_log::{IntervalLogIterator, IntervalLogWriter, LogEntry};
 use hdrhistogram::serialization::{Deserializer, V2Serializer};
 use hdrhistogram::{Histogram, Quantile};
 use std::alloc::Global;
-use std::time::Duration;
 
 /// The highest value of each histogram: an hour in microseconds.
 const HIGH: u64 = 3_600_000_000;
@@ -291,75 +290,6 @@ fn decoded(alloc: Global, seed: u64, n: u64, every: usize) -> Option<u64> {
     Some(sum)
 }
 
-/// An interval's histogram: 2,000 classes from 1 ms on hold 1 to 1024 each.
-fn interval(alloc: Global, seed: u64) -> Option<Histogram<u64>> {
-    let mut histogram = empty(alloc)?;
-    let mut x = seed;
-    let mut value = 1000;
-    for _ in 0..2000 {
-        x = step(x);
-        histogram.record_n(value, (x >> 54).saturating_add(1)).ok()?;
-        value = histogram.next_non_equivalent(value);
-    }
-    Some(histogram)
-}
-
-/// Adds the line of an interval that began so many milliseconds after the epoch to a text.
-fn push_line(
-    alloc: Global,
-    text: &mut Vec<u8>,
-    serializer: &mut V2Serializer,
-    histogram: &Histogram<u64>,
-    start: u64,
-) -> Option<()> {
-    let mut log = IntervalLogWriter::new(alloc, text, serializer, 1);
-    let start = Duration::from_millis(start);
-    log.write_histogram(histogram, start, Duration::from_millis(1000), None)
-        .ok()
-}
-
-#[inline(never)]
-fn logged(alloc: Global, seed: u64, n: u64) -> Option<u64> {
-    let histogram = interval(alloc, seed)?;
-    let mut serializer = V2Serializer::new(alloc);
-    let mut text: Vec<u8> = Vec::new(alloc);
-    let mut sum: u64 = 0;
-    for start in 0..n {
-        text.clear();
-        push_line(alloc, &mut text, &mut serializer, &histogram, start)?;
-        sum = sum.wrapping_add(text.len() as u64);
-    }
-    Some(sum)
-}
-
-/// What is read of a log: the lengths of the fields and the milliseconds of the starts, added up.
-fn told(log: &[u8]) -> u64 {
-    let mut sum: u64 = 0;
-    for entry in IntervalLogIterator::new(log) {
-        if let Ok(LogEntry::Interval(interval)) = entry {
-            let start = interval.start_timestamp().as_millis() % 1000;
-            sum = sum.wrapping_add(interval.encoded_histogram().len() as u64);
-            sum = sum.wrapping_add(start as u64);
-        }
-    }
-    sum
-}
-
-#[inline(never)]
-fn log_read(alloc: Global, seed: u64, n: u64) -> Option<u64> {
-    let histogram = interval(alloc, seed)?;
-    let mut serializer = V2Serializer::new(alloc);
-    let mut text: Vec<u8> = Vec::new(alloc);
-    for start in 0..100 {
-        push_line(alloc, &mut text, &mut serializer, &histogram, start)?;
-    }
-    let mut sum: u64 = 0;
-    for _ in 0..n {
-        sum = sum.wrapping_add(told(&text));
-    }
-    Some(sum)
-}
-
 /// The generator alone: the sum of `n` values.
 #[unsafe(no_mangle)]
 pub extern "C" fn hdrb_generate(seed: u64, n: u64) -> u64 {
@@ -472,16 +402,4 @@ pub extern "C" fn hdrb_decode(alloc: Global, seed: u64, n: u64) -> u64 {
 #[unsafe(no_mangle)]
 pub extern "C" fn hdrb_decode_few(alloc: Global, seed: u64, n: u64) -> u64 {
     decoded(alloc, seed, n, FEW).unwrap_or(0)
-}
-
-/// `write_histogram` of an interval with 2,000 filled bins: the sum of the lines' lengths.
-#[unsafe(no_mangle)]
-pub extern "C" fn hdrb_log_line(alloc: Global, seed: u64, n: u64) -> u64 {
-    logged(alloc, seed, n).unwrap_or(0)
-}
-
-/// Passes over a log of 100 such intervals: the sum of the lengths of their fields and of their starts.
-#[unsafe(no_mangle)]
-pub extern "C" fn hdrb_log_read(alloc: Global, seed: u64, n: u64) -> u64 {
-    log_read(alloc, seed, n).unwrap_or(0)
 }
