@@ -11,8 +11,7 @@ pub use call::{Call, CallError, RunError};
 pub use call_from::CallFrom;
 pub use hdr_base::{Counter, Fraction, IterationValue, Quantile, Ticks};
 pub use hdr_iterators as iterators;
-pub use hdr_model::errors;
 pub use hdr_model::{
-    AdditionError, CreationError, RecordError, SubtractionError, UsizeTypeTooSmall,
+    AdditionError, CreationError, RecordError, SubtractionError, UsizeTypeTooSmall, errors,
 };
 pub use histogram::{Filling, Histogram, Values};

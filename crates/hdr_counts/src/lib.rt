@@ -66,8 +66,11 @@ impl<T: Counter> Counts<T> {
         requires more { length self.old.numbers ≤ blocks * self.old.block }
         requires few { blocks * self.old.block ≤ 6291456 }
         ensures { MatchResult result (λ _. self.new
-            ≡ record { block = self.old.block; numbers = self.old.numbers ++ replicate
-            (blocks * self.old.block - length self.old.numbers) 0 }) (λ _. self.new ≡ self.old) }
+            ≡ record {
+              block = self.old.block;
+              numbers = self.old.numbers ++ replicate
+                  (blocks * self.old.block - length self.old.numbers) 0;
+            }) (λ _. self.new ≡ self.old) }
     {
         let len = blocks * self.block;
         self.counters.reserve(len - self.counters.len())?;
@@ -107,8 +110,11 @@ impl<T: Counter> Counts<T> {
     /// Puts `value` at place `i`.
     pub fn set(&mut self, i: usize, value: T)
         requires { i < length self.old.numbers }
-        ensures { self.new ≡ record { block = self.old.block; numbers = slice_set self.old.numbers i
-            (T.number value) } }
+        ensures { self.new ≡ record {
+          block = self.old.block;
+          numbers = slice_set self.old.numbers i
+              (T.number value);
+        } }
     {
         let k = quotient(i, self.block, self.shift);
         let old = self.counters[i].as_u64();
@@ -124,8 +130,11 @@ impl<T: Counter> Counts<T> {
         ensures { MatchOption result ((T.greatest < slice_index self.old.numbers i + number)
             × (self.new ≡ self.old))
             (λ _. (slice_index self.old.numbers i + number ≤ T.greatest)
-            × (self.new ≡ record { block = self.old.block; numbers = slice_set self.old.numbers i
-            (slice_index self.old.numbers i + number) })) }
+            × (self.new ≡ record {
+              block = self.old.block;
+              numbers = slice_set self.old.numbers i
+                  (slice_index self.old.numbers i + number);
+            })) }
     {
         let sum = self.counters[i].as_u64().checked_add(number)?;
         let counter = T::from_u64(sum)?;
@@ -137,8 +146,11 @@ impl<T: Counter> Counts<T> {
 
     /// Makes each counter 0. It looks at the sum of each block, and at the counters of those that hold something.
     pub fn clear(&mut self)
-        ensures { self.new ≡ record { block = self.old.block; numbers = replicate
-            (length self.old.numbers) 0 } }
+        ensures { self.new ≡ record {
+          block = self.old.block;
+          numbers = replicate
+              (length self.old.numbers) 0;
+        } }
     {
         clear_blocks(&mut self.counters, &mut self.sums, self.block);
     }

@@ -81,8 +81,11 @@ impl<T: Counter> OpenCounts<T> {
     #[inline(always)]
     pub fn set(&mut self, i: usize, value: T)
         requires { i < length self.old.numbers }
-        ensures { self.new ≡ record { block = self.old.block; numbers = slice_set self.old.numbers i
-            (T.number value) } }
+        ensures { self.new ≡ record {
+          block = self.old.block;
+          numbers = slice_set self.old.numbers i
+              (T.number value);
+        } }
     {
         // Shows that the number is at most the greatest.
         let _ = value.as_u64();
@@ -97,8 +100,11 @@ impl<T: Counter> OpenCounts<T> {
     #[inline(always)]
     pub fn set_two(&mut self, i: usize, first: T, second: T)
         requires { i + 1 < length self.old.numbers }
-        ensures { self.new ≡ record { block = self.old.block; numbers = slice_set
-            (slice_set self.old.numbers i (T.number first)) (i + 1) (T.number second) } }
+        ensures { self.new ≡ record {
+          block = self.old.block;
+          numbers = slice_set
+              (slice_set self.old.numbers i (T.number first)) (i + 1) (T.number second);
+        } }
     {
         // Show that the numbers are at most the greatest.
         let _ = first.as_u64();
@@ -116,8 +122,11 @@ impl<T: Counter> OpenCounts<T> {
     #[inline(never)]
     fn set_further(&mut self, i: usize, value: T)
         requires { i < length self.old.numbers }
-        ensures { self.new ≡ record { block = self.old.block; numbers = slice_set self.old.numbers i
-            (T.number value) } }
+        ensures { self.new ≡ record {
+          block = self.old.block;
+          numbers = slice_set self.old.numbers i
+              (T.number value);
+        } }
     {
         cover(&mut self.counters, i, self.len);
         let new = value.as_u64();

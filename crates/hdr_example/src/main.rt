@@ -51,7 +51,11 @@ fn main(rt: HostRuntime) -> Result<()> {
     let mut log = Vec::new(alloc);
     write_interval(alloc, &histogram, &mut log)?;
 
-    let every = IntervalFilter { tag: None, from: None, to: None };
+    let every = IntervalFilter {
+        tag: None,
+        from: None,
+        to: None,
+    };
     let read = merge_log::<u64>(alloc, log.as_slice(), &every, 3)?;
     println!(rt; "intervals {}", read.chosen)?;
     println!(rt; "samples {}", read.histogram.len())?;

@@ -224,8 +224,14 @@ fn value_at<T: Counter>(
 ) -> IterationValue<T>
     requires { index < bins_in bins.now }
     ensures { let share : Ratio = record { num = total; den = bins.now.total } in
-        result ≡ record { value = unwrap_or picked.level
-        (top_in bins.now index); quantile = share; tick = unwrap_or picked.tick share; count = T.number count_at_index; since = since } }
+        result ≡ record {
+          value = unwrap_or picked.level
+              (top_in bins.now index);
+          quantile = share;
+          tick = unwrap_or picked.tick share;
+          count = T.number count_at_index;
+          since = since;
+        } }
 {
     let quantile = Fraction {
         num: u128::from(total),

@@ -78,8 +78,10 @@ impl<T: Counter> Filling<T> {
     #[inline(always)]
     pub fn set(&mut self, bin: usize, count: T)
         requires { bin < length self.old.counts }
-        ensures { self.new ≡ record self.old { counts = slice_set self.old.counts bin
-            (T.number count) } }
+        ensures { self.new ≡ record self.old {
+          counts = slice_set self.old.counts bin
+              (T.number count);
+        } }
     {
         self.counts.set(bin, count);
     }
@@ -88,8 +90,10 @@ impl<T: Counter> Filling<T> {
     #[inline(always)]
     pub fn set_two(&mut self, bin: usize, first: T, second: T)
         requires { bin + 1 < length self.old.counts }
-        ensures { self.new ≡ record self.old { counts = slice_set
-            (slice_set self.old.counts bin (T.number first)) (bin + 1) (T.number second) } }
+        ensures { self.new ≡ record self.old {
+          counts = slice_set
+              (slice_set self.old.counts bin (T.number first)) (bin + 1) (T.number second);
+        } }
     {
         self.counts.set_two(bin, first, second);
     }

@@ -44,8 +44,11 @@ impl<T: Counter> Histogram<T> {
     pub fn quantile_below(&self, value: u64) -> Fraction
         ensures value { result ≡ share_below self.now value }
         ensures samples { (S : List ℕ) → StandsFor self.now S → 0 < length S
-            → result ≡ record { num = samples_between 0
-            (top_of (grain self.now) value) S; den = length S } }
+            → result ≡ record {
+              num = samples_between 0
+                  (top_of (grain self.now) value) S;
+              den = length S;
+            } }
         ensures fits { result.num < 2 ^ 64 }
     {
         if self.total == 0 {

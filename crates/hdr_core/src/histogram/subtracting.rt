@@ -114,8 +114,10 @@ fn take_each<T: Counter>(counts: &mut Counts<T>, scale: Scale, other: &Histogram
 fn take_from<T: Counter>(counts: &mut Counts<T>, target: usize, count: T)
     requires inside { target < length counts.old.numbers }
     requires enough { T.number count ≤ slice_index counts.old.numbers target }
-    ensures { counts.new ≡ record counts.old { numbers = slice_set counts.old.numbers target
-        (slice_index counts.old.numbers target - T.number count) } }
+    ensures { counts.new ≡ record counts.old {
+      numbers = slice_set counts.old.numbers target
+          (slice_index counts.old.numbers target - T.number count);
+    } }
 {
     if let Some(rest) = counts.get(target).checked_sub(count) {
         counts.set(target, rest);
