@@ -1,7 +1,7 @@
 # make: proves and builds the program, target/hdr. make install: puts it and its manual page below PREFIX. make check: the gate.
 # make edits: the wrong bodies of crates/*/edits alone, which the prover has to refuse.
 # make quick: what has changed since the last commit, over the work that earlier checks kept.
-# make bench: times beside the Rust crate hdrhistogram (bench/run says where that comes from).
+# make bench: times beside the Rust crate hdrhistogram (compare/run says where that comes from).
 PREFIX ?= /usr/local
 
 all:
@@ -30,6 +30,6 @@ quick:
 	tools/edits --changed
 
 bench:
-	bench/run
+	compare/run
 
 .PHONY: all install check edits quick bench
