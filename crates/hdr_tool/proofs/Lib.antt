@@ -4,6 +4,8 @@ pub mod WordLemmas
 pub mod Sinks
 pub mod Answering
 pub mod Running
+pub mod Lists
+pub mod Streaming
 pub mod Logging
 pub mod LogThenMerges
 pub mod Ended

@@ -7,11 +7,11 @@ use Rattle.hdr_tool.specs.declared.fault.Fault.TheVariants.{WrongWords, NotAComm
 use Rattle.hdr_tool.specs.Outcomes.{Outcome, Runs, Begins, after, StepAnswers, Answers}
 use Rattle.hdr_tool.proofs.Sinks.{appends_both, appends_kept, append_nothing}
 
-after_after : {A : Type 0} (done text : List ℕ) (out : Outcome A) → after done (after text out) ≡ after (done ++ text) out
+pub after_after : {A : Type 0} (done text : List ℕ) (out : Outcome A) → after done (after text out) ≡ after (done ++ text) out
 after_after done text out = ap (λ t. record { written = t; ended = out.ended }) (sym (append_assoc done text out.written))
 
 -- a step that goes on
-goes_on : {A B : Type 0} (Step : A → B → Result (List ℕ × A) Fault → Type 0) (a b : A) (it rest : List B) (x : B) (text : List ℕ) (out : Outcome A) → it ≡ x ∷ rest → Step a x (Ok (text, b)) → Runs Step b rest out → Runs Step a it (after text out)
+pub goes_on : {A B : Type 0} (Step : A → B → Result (List ℕ × A) Fault → Type 0) (a b : A) (it rest : List B) (x : B) (text : List ℕ) (out : Outcome A) → it ≡ x ∷ rest → Step a x (Ok (text, b)) → Runs Step b rest out → Runs Step a it (after text out)
 goes_on Step a b it rest x text out e s r = rw e (Ok (text, b), s, (out, r, refl))
 
 -- a step that ends the run
@@ -57,7 +57,7 @@ take_both [] ys k = ap (λ n. take n ys) (zero-add k)
 take_both (x ∷ xs) ys k = let e : length (x ∷ xs) + k ≡ suc (length xs + k) = omega arith in ap (λ n. take n (x ∷ (xs ++ ys))) e ∙ ap (λ t. x ∷ t) (take_both xs ys k)
 
 -- a beginning after what stands
-front_behind : (o m n : Option (List ℕ)) (done text : List ℕ) → Appends o m done → AppendsFront m n text → AppendsFront o n (done ++ text)
+pub front_behind : (o m n : Option (List ℕ)) (done text : List ℕ) → Appends o m done → AppendsFront m n text → AppendsFront o n (done ++ text)
 front_behind o m n done text a f =
     let A : List ℕ → Type 0 = λ t. Appends o n t in
     (length done + f.0, omega (arith, length-append done text, f.1), subst A (sym (take_both done text f.0)) (appends_both o m n done (take f.0 text) a f.2))

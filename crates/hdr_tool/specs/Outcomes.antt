@@ -30,10 +30,10 @@ Begins Step a [] text = text ≡ []
 Begins {A = A} Step a (x ∷ xs) text =
     (text ≡ []) ⊎ ((step : List ℕ × A) × Step a x (Ok step) × ((rest : List ℕ) × Begins Step step.1 xs rest × (text ≡ step.0 ++ rest)))
 
--- a fault by name is one that the definition gives; lack of memory may come in place of any answer
+-- a fault by name is one that the definition gives; lack of memory, or a reader that fails, may come in place of any answer
 abbrev pub Refuses : (Fault → Type 0) → Fault → Type 0
 Refuses P NoMemory = Unit {0}
-Refuses P CannotRead = ⊥
+Refuses P CannotRead = Unit {0}
 Refuses P CannotWrite = ⊥
 Refuses P f = P f
 
@@ -46,19 +46,27 @@ StepAnswers P state old new (Err CannotRead) = ⊥
 StepAnswers {A = A} P state old new (Err CannotWrite) = (step : List ℕ × A) × P (Ok step) × AppendsFront old new step.0
 StepAnswers P state old new (Err f) = P (Err f) × Keeps old new
 
--- Ok and each fault by name are how a program ends (Ends), and the writer gets all that it writes. Want of memory may come
--- in place of any answer, where what was written so far stands (Stands). Where the reader fails nothing is written, and where
--- the writer itself fails, it has a beginning, not all, of what the program was writing (IsWriting).
+-- Ok and each fault by name are how a program ends (Ends), and the writer gets all that it writes. Want of memory, or a reader
+-- that fails, may come in place of any answer, where what was written so far stands (Stands). Where the writer itself fails, it
+-- has a beginning, not all, of what the program was writing (IsWriting).
 abbrev pub Answers : (List ℕ → Option Fault → Type 0) → (List ℕ → Type 0) → (List ℕ → Type 0) → Option (List ℕ) → Option (List ℕ) → Result (Unit {0}) Fault → Type 0
 Answers Ends Stands IsWriting old new (Ok u) = (text : List ℕ) × Ends text None × Appends old new text
 Answers Ends Stands IsWriting old new (Err NoMemory) = (text : List ℕ) × Stands text × Appends old new text
-Answers Ends Stands IsWriting old new (Err CannotRead) = Keeps old new
+Answers Ends Stands IsWriting old new (Err CannotRead) = (text : List ℕ) × Stands text × Appends old new text
 Answers Ends Stands IsWriting old new (Err CannotWrite) = (text : List ℕ) × IsWriting text × AppendsFront old new text
 Answers Ends Stands IsWriting old new (Err f) = (text : List ℕ) × Ends text (Some f) × Appends old new text
 
--- wrong words leave the input unread; else all of it is read, unless memory or the reader fails
-abbrev pub ReadsAll : Option (List ℕ) → Option (List ℕ) → Result (Unit {0}) Fault → Type 0
-ReadsAll old new (Err WrongWords) = Keeps old new
-ReadsAll old new (Err NoMemory) = Unit {0}
-ReadsAll old new (Err CannotRead) = Unit {0}
-ReadsAll old new _ = IsAtEnd new
+-- all of the input is read before a fault is told, unless memory or a stream fails
+abbrev pub ReadsTo : Fault → Option (List ℕ) → Type 0
+ReadsTo NoMemory new = Unit {0}
+ReadsTo CannotRead new = Unit {0}
+ReadsTo CannotWrite new = Unit {0}
+ReadsTo f new = IsAtEnd new
+
+-- wrong words leave the input unread; else all of it is read, unless memory or the reader fails. Leaves says what is left of it
+-- where the writer fails.
+abbrev pub ReadsAll : (Option (List ℕ) → Type 0) → Option (List ℕ) → Option (List ℕ) → Result (Unit {0}) Fault → Type 0
+ReadsAll Leaves old new (Ok u) = IsAtEnd new
+ReadsAll Leaves old new (Err WrongWords) = Keeps old new
+ReadsAll Leaves old new (Err CannotWrite) = Leaves new
+ReadsAll Leaves old new (Err f) = ReadsTo f new

@@ -1,6 +1,7 @@
 -- The program: its words, its input, what it writes, and the fault that ends it. Faults of the streams are no part of
 -- it, nor is lack of memory but where a call tells it.
 use Rattle.std.specs.Prelude.{◌≡◌, ℕ, ◌-◌, ◌*◌, ◌^◌, List, [], ◌∷◌, Option, Some, None, Result, Ok, Err, true}
+use Rattle.std.specs.Io.KnownBytes.{IsAtEnd}
 use Rattle.hdr_base.specs.Fractions.{Ratio}
 use Rattle.hdr_model.specs.Plain.{Plain, empty_plain}
 use Rattle.hdr_core.specs.Calls.{after_call, RefusesCall}
@@ -93,7 +94,7 @@ TaskDone (Some (Log sigfig)) input text fault = LogDone (empty_plain 1 2 sigfig 
 TaskDone (Some (Merge options sigfig quantiles)) input text fault =
     MergeReported (greatest_into options.into) (filter_of options) sigfig quantiles input text fault
 
--- what may stand where memory is wanting: of a log the intervals of some lines, and else nothing
+-- what may stand where memory is wanting or the reader fails: of a log the intervals of some lines, and else nothing
 abbrev pub TaskStands : Option Task → List ℕ → List ℕ → Type 0
 TaskStands (Some (Log sigfig)) input text = Begins LogLineDone (empty_plain 1 2 sigfig true) (enumerate_from 1 (parts 10 input)) text
 TaskStands task input text = text ≡ []
@@ -103,13 +104,22 @@ abbrev pub TaskWrites : Option Task → List ℕ → List ℕ → Type 0
 TaskWrites (Some (Log sigfig)) input text = Begins LogLineDone (empty_plain 1 2 sigfig true) (enumerate_from 1 (parts 10 input)) text
 TaskWrites task input text = TaskDone task input text None
 
+-- what is left of the input where the writer fails: a log is written while its input is read, and ends there
+abbrev pub TaskLeaves : Option Task → Option (List ℕ) → Type 0
+TaskLeaves (Some (Log sigfig)) left = Unit {0}
+TaskLeaves task left = IsAtEnd left
+
 -- the program: the words are judged first
 unfoldable pub Program : List (List ℕ) → List ℕ → List ℕ → Option Fault → Type 0
 Program words input text fault = TaskDone (task_of words) input text fault
 
--- what may stand of it where memory is wanting, and what it may be writing
+-- what may stand of it where memory is wanting or the reader fails, what it may be writing, and what is left of its input where
+-- the writer fails
 unfoldable pub Stands : List (List ℕ) → List ℕ → List ℕ → Type 0
 Stands words input text = TaskStands (task_of words) input text
 
 unfoldable pub IsWriting : List (List ℕ) → List ℕ → List ℕ → Type 0
 IsWriting words input text = TaskWrites (task_of words) input text
+
+unfoldable pub Leaves : List (List ℕ) → Option (List ℕ) → Type 0
+Leaves words left = TaskLeaves (task_of words) left

@@ -1,6 +1,6 @@
 //! The lines of a text.
 
-ghost use Rattle.std.specs.Prelude.{◌≡◌, ◌<◌, ◌+◌, ◌^◌, length, Some};
+ghost use Rattle.std.specs.Prelude.{◌≡◌, ◌+◌, ◌<◌, ◌^◌, length, Some, IfSome};
 ghost use Rattle.std.specs.Iterator.{YieldsFirstBy, item_count};
 ghost use Rattle.hdr_tool.specs.Parts.{number_lines};
 
@@ -28,15 +28,18 @@ impl<'a> Model for Lines<'a> {
 }
 
 impl<'a> Lines<'a> {
-    /// The lines of a text, numbered from 1.
-    pub(crate) fn new(text: &'a [u8]) -> Lines<'a>
-        requires { length text.now + 2 < 2 ^ 64 }
-        ensures { result ≡ number_lines 1 (Some text.now) }
+    /// The lines of a text, numbered from this number on; `None` where the numbers might not fit 64 bits.
+    pub(crate) fn new(number: u64, text: &'a [u8]) -> Option<Lines<'a>>
+        ensures lines { IfSome result (λ lines. lines ≡ number_lines number (Some text.now)) }
+        ensures bound { IfSome result (λ lines. number + length lines < 2 ^ 64) }
     {
-        Lines {
-            number: 1,
-            left: Some(text),
+        if number >= u64::MAX - text.len() as u64 {
+            return None;
         }
+        Some(Lines {
+            number,
+            left: Some(text),
+        })
     }
 }
 

@@ -1,24 +1,26 @@
 //! The log.
 
-ghost use Rattle.std.specs.Prelude.{◌≡◌, ◌≢◌, ◌*◌, ◌<◌, ◌+◌, ◌^◌, length, Ok, Err, Some};
-ghost use Rattle.std.specs.List.{enumerate_from};
+ghost use Rattle.std.specs.Prelude.{◌≡◌, ◌≢◌, ◌*◌, ◌+◌, ◌<◌, ℕ, List, length, MatchResult, IfSome, Ok, Err, Some};
 ghost use Rattle.std.specs.Option.{option_map};
+ghost use Rattle.std.specs.Io.KnownBytes.{Appends, IsAtEnd};
 ghost use Rattle.hdr_log.specs.Tags.{tag_text};
 ghost use Rattle.hdrhistogram.specs.LogWriters.{sink, divisor_of, IsSameLog};
-ghost use Rattle.hdr_log.specs.Parts.{parts};
+ghost use Rattle.hdr_tool.specs.Parts.{number_lines};
 ghost use Rattle.hdr_tool.specs.Words.{Log};
-ghost use Rattle.hdr_tool.specs.Outcomes.{Begins, Answers, StepAnswers};
-ghost use Rattle.hdr_tool.specs.Program.{EndDone, LogLineDone, LogDone, TaskDone, TaskStands, TaskWrites};
+ghost use Rattle.hdr_tool.specs.Outcomes.{Begins, Runs, Answers, StepAnswers, ReadsAll, ReadsTo};
+ghost use Rattle.hdr_tool.specs.Program.{EndDone, LogLineDone, LogDone, TaskDone, TaskStands, TaskWrites, TaskLeaves};
 
 use crate::command::{LogCommand, log_command};
 use crate::fault::Fault;
 use crate::lines::Lines;
+use crate::parts::{replace, take_lines};
 use crate::run::refusal;
+use crate::stream::{PIECE, read_piece, told_at_end};
 use hdrhistogram::Histogram;
 use hdrhistogram::serialization::interval_log::{IntervalLogWriter, IntervalLogWriterError, Tag};
 use hdrhistogram::serialization::{V2SerializeError, V2Serializer};
 use std::alloc::Global;
-use std::io::Write;
+use std::io::{Read, Write};
 use std::time::Duration;
 
 /// Writes the histogram's interval, and begins the next one.
@@ -83,48 +85,112 @@ fn log_line<W: Write>(
     }
 }
 
-/// Does what the lines say, up to the first fault.
+/// Does what the lines of a text say, the first of which has this number, up to the first fault, and answers the number of the
+/// line after them.
 fn write_lines<W: Write>(
     histogram: &mut Histogram<u64>,
-    input: &[u8],
+    number: u64,
+    text: &[u8],
     log: &mut IntervalLogWriter<'_, '_, W, V2Serializer>,
-) -> Result<(), Fault>
-    requires divisor { divisor_of log.old ≡ 1 }
-    requires room { length input.now + 2 < 2 ^ 64 }
+) -> Result<u64, Fault>
+    requires { divisor_of log.old ≡ 1 }
     ensures same { IsSameLog log.old log.new }
     ensures words { result ≢ Err Fault.WrongWords }
-    ensures answers { let lines = enumerate_from 1 (parts 10 input.now) in
-        Answers (LogDone histogram.old lines) (Begins LogLineDone histogram.old lines)
+    ensures answers { let lines = number_lines number (Some text.now) in MatchResult result
+        (λ next. (next ≡ number + length lines) × ((done : List ℕ)
+            × Runs LogLineDone histogram.old lines
+            (record { written = done; ended = Ok histogram.new })
+            × Appends (W.contents (sink log.old).now) (W.contents (sink log.new).now) done))
+        (λ f. Answers (LogDone histogram.old lines) (Begins LogLineDone histogram.old lines)
         (Begins LogLineDone histogram.old lines)
-        (W.contents (sink log.old).now) (W.contents (sink log.new).now) result }
+            (W.contents (sink log.old).now) (W.contents (sink log.new).now) (Err f)) }
 {
-    for (number, line) in Lines::new(input) {
+    let Some(lines) = Lines::new(number, text) else {
+        return Err(Fault::CannotRead);
+    };
+    let mut next = number;
+    for (number, line) in lines {
         if let Err(fault) = log_line(histogram, number, line, log) {
             return Err(fault);
         }
+        next = number + 1;
     }
-    Ok(())
+    Ok(next)
 }
 
-/// Writes the log of the lines, up to the first fault.
-pub(crate) fn log_lines<W: Write>(
+/// Does what the lines of the whole input say, piece by piece, up to the first fault.
+fn write_input<R: Read, W: Write>(
+    alloc: Global,
+    histogram: &mut Histogram<u64>,
+    reader: &mut R,
+    piece: &mut [u8],
+    log: &mut IntervalLogWriter<'_, '_, W, V2Serializer>,
+) -> Result<(), Fault>
+    requires divisor { divisor_of log.old ≡ 1 }
+    requires room { 0 < length piece.old }
+    ensures same { IsSameLog log.old log.new }
+    ensures words { result ≢ Err Fault.WrongWords }
+    ensures answers { (input : List ℕ) × IfSome (R.remaining reader.old) (λ bytes. input ≡ bytes)
+        × (let lines = number_lines 1 (Some input) in Answers (LogDone histogram.old lines)
+        (Begins LogLineDone histogram.old lines)
+            (Begins LogLineDone histogram.old lines) (W.contents (sink log.old).now)
+            (W.contents (sink log.new).now) result) }
+    ensures read { MatchResult result (λ _. IsAtEnd (R.remaining reader.new))
+        (λ f. ReadsTo f (R.remaining reader.new)) }
+{
+    let mut carry = Vec::new(alloc);
+    let mut number = 1;
+    for _ in 0..u64::MAX {
+        let count = match read_piece(reader, piece) {
+            Ok(count) => count,
+            Err(fault) => return Err(fault),
+        };
+        if count == 0 {
+            if let Err(fault) = write_lines(histogram, number, &carry, log) {
+                return Err(fault);
+            }
+            return Ok(());
+        }
+        let Ok(behind) = take_lines(&mut carry, &piece[..count]) else {
+            return Err(Fault::NoMemory);
+        };
+        let Some(behind) = behind else {
+            continue;
+        };
+        number = match write_lines(histogram, number, &carry, log) {
+            Ok(next) => next,
+            Err(fault) => return Err(told_at_end(reader, piece, fault)),
+        };
+        let Ok(()) = replace(&mut carry, behind) else {
+            return Err(Fault::NoMemory);
+        };
+    }
+    Err(Fault::CannotRead)
+}
+
+/// Writes the log of the lines of the input, up to the first fault. Each interval is written as its line is reached.
+pub(crate) fn log_lines<R: Read, W: Write>(
     alloc: Global,
     sigfig: u8,
-    input: &[u8],
+    reader: &mut R,
     writer: &mut W,
 ) -> Result<(), Fault>
-    requires { length input.now + 2 < 2 ^ 64 }
     ensures words { result ≢ Err Fault.WrongWords }
-    ensures answers { Answers (TaskDone (Some (Log sigfig)) input.now)
-        (TaskStands (Some (Log sigfig)) input.now)
-        (TaskWrites (Some (Log sigfig)) input.now) (W.contents writer.old)
+    ensures answers { (input : List ℕ) × IfSome (R.remaining reader.old) (λ bytes. input ≡ bytes)
+        × Answers (TaskDone (Some (Log sigfig)) input) (TaskStands (Some (Log sigfig)) input)
+        (TaskWrites (Some (Log sigfig)) input) (W.contents writer.old)
         (W.contents writer.new) result }
+    ensures reads { ReadsAll (TaskLeaves (Some (Log sigfig))) (R.remaining reader.old)
+        (R.remaining reader.new) result }
 {
     // Each digit from 0 to 5 has a histogram, so that memory alone can be wanting.
     let Ok(mut histogram) = Histogram::new(alloc, sigfig) else {
         return Err(Fault::NoMemory);
     };
+    let Ok(mut piece) = vec![in alloc; 0; PIECE] else {
+        return Err(Fault::NoMemory);
+    };
     let mut serializer = V2Serializer::new(alloc);
     let mut log = IntervalLogWriter::new(alloc, writer, &mut serializer, 1);
-    write_lines(&mut histogram, input, &mut log)
+    write_input(alloc, &mut histogram, reader, &mut piece, &mut log)
 }

@@ -19,12 +19,9 @@ mod words;
 use fault::Fault;
 use run::run;
 use std::env;
-use std::io::{BufWriter, ErrorKind, Write};
+use std::io::ErrorKind;
 use std::process::ExitCode;
 use stream::Patient;
-
-/// How much of the output is held back at most.
-const HELD: usize = 65_536;
 
 /// The words of the command line, without the program's name.
 fn words_given(rt: &HostRuntime) -> Result<Vec<String>, Fault> {
@@ -40,20 +37,14 @@ fn words_given(rt: &HostRuntime) -> Result<Vec<String>, Fault> {
     }
 }
 
-/// Runs the program on the streams of the process.
+/// Runs the program on the streams of the process. Nothing of the output is held back: each report and each interval is one
+/// write.
 fn hdr(rt: &HostRuntime) -> Result<(), Fault> {
     let words = words_given(rt)?;
-    let output = Patient {
+    let mut output = Patient {
         writer: rt.stdout(),
     };
-    let Ok(mut output) = BufWriter::with_capacity(rt.alloc(), HELD, output) else {
-        return Err(Fault::NoMemory);
-    };
-    let ran = run(rt.alloc(), words.as_slice(), &mut rt.stdin(), &mut output);
-    if output.flush().is_err() {
-        return Err(Fault::CannotWrite);
-    }
-    ran
+    run(rt.alloc(), words.as_slice(), &mut rt.stdin(), &mut output)
 }
 
 fn main(rt: HostRuntime) -> ExitCode {

@@ -1,22 +1,24 @@
 //! The program, over any reader and writer.
 
-ghost use Rattle.std.specs.Prelude.{◌≡◌, ◌≢◌, ◌↔◌, ◌<◌, ◌+◌, ◌^◌, ℕ, List, map, length, MatchResult, Ok, Err, Some, None, [], true, IfSome, string_bytes};
-ghost use Rattle.hdr_model.specs.Plain.{empty_plain};
-ghost use Rattle.std.specs.List.{enumerate_from};
-ghost use Rattle.hdr_log.specs.Parts.{parts};
-ghost use Rattle.hdr_tool.specs.Words.{Report, task_of};
+ghost use Rattle.std.specs.Prelude.{◌≡◌, ◌≢◌, ◌↔◌, ◌+◌, ◌<◌, ℕ, List, map, length, MatchResult, Ok, Err, Some, None, [], IfSome, string_bytes};
+ghost use Rattle.std.specs.Io.KnownBytes.{IsAtEnd};
+ghost use Rattle.hdr_tool.specs.Parts.{number_lines};
+ghost use Rattle.hdr_tool.specs.Words.{Report, Merge, task_of};
+ghost use Rattle.hdr_tool.specs.Options.{view_of_options};
 ghost use Rattle.hdr_tool.specs.Tasks.{view_of_task};
 ghost use Rattle.hdr_tool.specs.Faults.{refusal_at};
-ghost use Rattle.hdr_tool.specs.Outcomes.{Refuses, Answers, ReadsAll, Runs};
-ghost use Rattle.hdr_tool.specs.Program.{LineDone, TaskDone, TaskStands, TaskWrites, Program, Stands, IsWriting};
+ghost use Rattle.hdr_tool.specs.Outcomes.{Refuses, Answers, ReadsAll, ReadsTo, Runs};
+ghost use Rattle.hdr_tool.specs.Program.{LineDone, TaskDone, TaskStands, TaskWrites, TaskLeaves, Program, Stands, IsWriting, Leaves};
 
 use crate::command::call;
 use crate::fault::Fault;
 use crate::lines::Lines;
 use crate::log::log_lines;
 use crate::merge::report_log;
+use crate::options::Options;
+use crate::parts::{replace, take_lines};
 use crate::report::write_report;
-use crate::stream::read_whole;
+use crate::stream::{PIECE, read_piece, read_whole, told_at_end};
 use crate::words::{Task, judge};
 use hdrhistogram::{AdditionError, CallError, Histogram, Quantile, RecordError};
 use std::alloc::Global;
@@ -53,86 +55,169 @@ fn apply_line(histogram: &mut Histogram<u64>, number: u64, line: &[u8]) -> Resul
     }
 }
 
-/// Does what the lines say, on an empty histogram that grows.
-fn apply_lines(alloc: Global, sigfig: u8, input: &[u8]) -> Result<Histogram<u64>, Fault>
-    requires { length input.now + 2 < 2 ^ 64 }
+/// Does what the lines of a text say, the first of which has this number, and answers the number of the line after them.
+fn apply_lines(histogram: &mut Histogram<u64>, number: u64, text: &[u8]) -> Result<u64, Fault>
     ensures words { result ≢ Err Fault.WrongWords }
-    ensures done { MatchResult result
-        (λ h. Runs LineDone (empty_plain 1 2 sigfig true) (enumerate_from 1 (parts 10 input.now))
-        (record { written = []; ended = Ok h }))
-        (Refuses (λ f. Runs LineDone (empty_plain 1 2 sigfig true)
-        (enumerate_from 1 (parts 10 input.now)) (record { written = []; ended = Err f }))) }
+    ensures done { let lines = number_lines number (Some text.now) in MatchResult result
+        (λ next. (next ≡ number + length lines)
+        × Runs LineDone histogram.old lines (record { written = []; ended = Ok histogram.new }))
+        (Refuses (λ f. Runs LineDone histogram.old lines
+        (record { written = []; ended = Err f }))) }
+{
+    let Some(lines) = Lines::new(number, text) else {
+        return Err(Fault::CannotRead);
+    };
+    let mut next = number;
+    for (number, line) in lines {
+        if let Err(fault) = apply_line(histogram, number, line) {
+            return Err(fault);
+        }
+        next = number + 1;
+    }
+    Ok(next)
+}
+
+/// Does what the lines of the whole input say, on a histogram, piece by piece.
+fn apply_input<R: Read>(
+    alloc: Global,
+    histogram: &mut Histogram<u64>,
+    reader: &mut R,
+    piece: &mut [u8],
+) -> Result<(), Fault>
+    requires { 0 < length piece.old }
+    ensures words { result ≢ Err Fault.WrongWords }
+    ensures done { (input : List ℕ) × IfSome (R.remaining reader.old) (λ bytes. input ≡ bytes)
+        × MatchResult result
+        (λ _. Runs LineDone histogram.old (number_lines 1 (Some input))
+        (record { written = []; ended = Ok histogram.new }))
+        (Refuses (λ f. Runs LineDone histogram.old (number_lines 1 (Some input))
+        (record { written = []; ended = Err f }))) }
+    ensures read { MatchResult result (λ _. IsAtEnd (R.remaining reader.new))
+        (λ f. ReadsTo f (R.remaining reader.new)) }
+{
+    let mut carry = Vec::new(alloc);
+    let mut number = 1;
+    for _ in 0..u64::MAX {
+        let count = match read_piece(reader, piece) {
+            Ok(count) => count,
+            Err(fault) => return Err(fault),
+        };
+        if count == 0 {
+            if let Err(fault) = apply_lines(histogram, number, &carry) {
+                return Err(fault);
+            }
+            return Ok(());
+        }
+        let Ok(behind) = take_lines(&mut carry, &piece[..count]) else {
+            return Err(Fault::NoMemory);
+        };
+        let Some(behind) = behind else {
+            continue;
+        };
+        number = match apply_lines(histogram, number, &carry) {
+            Ok(next) => next,
+            Err(fault) => return Err(told_at_end(reader, piece, fault)),
+        };
+        let Ok(()) = replace(&mut carry, behind) else {
+            return Err(Fault::NoMemory);
+        };
+    }
+    Err(Fault::CannotRead)
+}
+
+/// Writes the report of the lines of the input, where none is refused.
+fn report_lines<R: Read, W: Write>(
+    alloc: Global,
+    sigfig: u8,
+    quantiles: &[Quantile],
+    reader: &mut R,
+    writer: &mut W,
+) -> Result<(), Fault>
+    ensures words { result ≢ Err Fault.WrongWords }
+    ensures answers { (input : List ℕ) × IfSome (R.remaining reader.old) (λ bytes. input ≡ bytes)
+        × Answers (TaskDone (Some (Report sigfig quantiles.now)) input)
+        (TaskStands (Some (Report sigfig quantiles.now)) input)
+        (TaskWrites (Some (Report sigfig quantiles.now)) input) (W.contents writer.old)
+        (W.contents writer.new) result }
+    ensures reads { ReadsAll IsAtEnd (R.remaining reader.old) (R.remaining reader.new) result }
 {
     // Each digit from 0 to 5 has a histogram, so that memory alone can be wanting.
     let Ok(mut histogram) = Histogram::new(alloc, sigfig) else {
         return Err(Fault::NoMemory);
     };
-    for (number, line) in Lines::new(input) {
-        if let Err(fault) = apply_line(&mut histogram, number, line) {
-            return Err(fault);
-        }
-    }
-    Ok(histogram)
-}
-
-/// Writes the report of the lines, where none is refused.
-fn report_lines<W: Write>(
-    alloc: Global,
-    sigfig: u8,
-    quantiles: &[Quantile],
-    input: &[u8],
-    writer: &mut W,
-) -> Result<(), Fault>
-    requires { length input.now + 2 < 2 ^ 64 }
-    ensures words { result ≢ Err Fault.WrongWords }
-    ensures answers { Answers (TaskDone (Some (Report sigfig quantiles.now)) input.now)
-        (TaskStands (Some (Report sigfig quantiles.now)) input.now)
-        (TaskWrites (Some (Report sigfig quantiles.now)) input.now) (W.contents writer.old)
-        (W.contents writer.new) result }
-{
-    let histogram = match apply_lines(alloc, sigfig, input) {
-        Ok(histogram) => histogram,
-        Err(fault) => return Err(fault),
+    let Ok(mut piece) = vec![in alloc; 0; PIECE] else {
+        return Err(Fault::NoMemory);
     };
+    if let Err(fault) = apply_input(alloc, &mut histogram, reader, &mut piece) {
+        return Err(fault);
+    }
     write_report(alloc, &histogram, quantiles, writer)
 }
 
-/// Does what the words ask for.
-fn do_task<W: Write>(
+/// Writes the report of a merged log, which is read whole first.
+fn report_whole<R: Read, W: Write>(
     alloc: Global,
-    task: &Task<'_>,
-    input: &[u8],
+    options: &Options<'_>,
+    sigfig: u8,
+    quantiles: &[Quantile],
+    reader: &mut R,
     writer: &mut W,
 ) -> Result<(), Fault>
-    requires { length input.now + 2 < 2 ^ 64 }
     ensures words { result ≢ Err Fault.WrongWords }
-    ensures answers { Answers (TaskDone (Some (view_of_task task.now)) input.now)
-        (TaskStands (Some (view_of_task task.now)) input.now)
-        (TaskWrites (Some (view_of_task task.now)) input.now) (W.contents writer.old)
+    ensures answers { (input : List ℕ) × IfSome (R.remaining reader.old) (λ bytes. input ≡ bytes)
+        × Answers (TaskDone (Some (Merge (view_of_options options.now) sigfig quantiles.now)) input)
+        (TaskStands (Some (Merge (view_of_options options.now) sigfig quantiles.now)) input)
+        (TaskWrites (Some (Merge (view_of_options options.now) sigfig quantiles.now)) input)
+        (W.contents writer.old) (W.contents writer.new) result }
+    ensures reads { ReadsAll IsAtEnd (R.remaining reader.old) (R.remaining reader.new) result }
+{
+    let input = match read_whole(alloc, reader) {
+        Ok(input) => input,
+        Err(fault) => return Err(fault),
+    };
+    report_log(alloc, options, sigfig, quantiles, input.as_slice(), writer)
+}
+
+/// Does what the words ask for.
+fn do_task<R: Read, W: Write>(
+    alloc: Global,
+    task: &Task<'_>,
+    reader: &mut R,
+    writer: &mut W,
+) -> Result<(), Fault>
+    ensures words { result ≢ Err Fault.WrongWords }
+    ensures answers { (input : List ℕ) × IfSome (R.remaining reader.old) (λ bytes. input ≡ bytes)
+        × Answers (TaskDone (Some (view_of_task task.now)) input)
+        (TaskStands (Some (view_of_task task.now)) input)
+        (TaskWrites (Some (view_of_task task.now)) input) (W.contents writer.old)
         (W.contents writer.new) result }
+    ensures reads { ReadsAll (TaskLeaves (Some (view_of_task task.now))) (R.remaining reader.old)
+        (R.remaining reader.new) result }
 {
     match task {
         Task::Report(sigfig, quantiles) => report_lines(
             alloc,
             *sigfig,
             quantiles.as_slice(),
-            input,
+            reader,
             writer,
         ),
-        Task::Log(sigfig) => log_lines(alloc, *sigfig, input, writer),
-        Task::Merge(options, sigfig, quantiles) => report_log(
+        Task::Log(sigfig) => log_lines(alloc, *sigfig, reader, writer),
+        Task::Merge(options, sigfig, quantiles) => report_whole(
             alloc,
             options,
             *sigfig,
             quantiles.as_slice(),
-            input,
+            reader,
             writer,
         ),
     }
 }
 
 /// Runs the program on its words, without its own name. Ok is the exit status 0, and `Fault::status` that of a fault.
-/// The words are judged first, then the whole input is read, and then its lines go in order up to the first fault.
+/// The words are judged first. `report` and `log` do the lines of the input in order as they are read, up to the first fault,
+/// and tell it at the end of the input; `merge` reads its whole input first. Where the reader fails, `report` and `merge` wrote
+/// nothing, and `log` the intervals of the lines before. Where the writer fails, `log` reads no further.
 pub fn run<R: Read, W: Write>(
     alloc: Global,
     words: &[String],
@@ -144,7 +229,8 @@ pub fn run<R: Read, W: Write>(
         (Stands (map string_bytes words.now) input)
         (IsWriting (map string_bytes words.now) input) (W.contents writer.old)
         (W.contents writer.new) result }
-    ensures reads { ReadsAll (R.remaining reader.old) (R.remaining reader.new) result }
+    ensures reads { ReadsAll (Leaves (map string_bytes words.now)) (R.remaining reader.old)
+        (R.remaining reader.new) result }
     ensures wrong_words { (result ≡ Err Fault.WrongWords)
         ↔ (task_of (map string_bytes words.now) ≡ None) }
 {
@@ -152,9 +238,5 @@ pub fn run<R: Read, W: Write>(
         Ok(task) => task,
         Err(fault) => return Err(fault),
     };
-    let input = match read_whole(alloc, reader) {
-        Ok(input) => input,
-        Err(fault) => return Err(fault),
-    };
-    do_task(alloc, &task, input.as_slice(), writer)
+    do_task(alloc, &task, reader, writer)
 }

@@ -1,8 +1,9 @@
-//! Whole inputs and whole outputs. The program tries interrupted reads and writes again, whatever the command.
+//! Inputs, whole and in pieces, and whole outputs. The program tries interrupted reads and writes again, whatever the command.
 
-ghost use Rattle.std.specs.Prelude.{◌≡◌, OnOk, IfOk, IfErr, IfSome, MatchResult, ◌⊎◌};
-ghost use Rattle.std.specs.Io.KnownBytes.{Appends, IsAtEnd};
+ghost use Rattle.std.specs.Prelude.{◌≡◌, ◌<◌, ◌≤◌, length, take, OnOk, IfOk, IfErr, IfSome, MatchResult, ◌⊎◌};
+ghost use Rattle.std.specs.Io.KnownBytes.{Appends, Consumes, IsAtEnd};
 ghost use Rattle.hdrhistogram.specs.Streams.{AppendsFront};
+ghost use Rattle.hdr_tool.specs.Outcomes.{ReadsTo};
 
 use crate::fault::Fault;
 use std::alloc::Global;
@@ -21,6 +22,56 @@ pub(crate) fn read_whole<R: Read>(alloc: Global, reader: &mut R) -> Result<Vec<u
         Err(e) if e.kind() == ErrorKind::OutOfMemory => Err(Fault::NoMemory),
         Err(_) => Err(Fault::CannotRead),
     }
+}
+
+/// How much of the input is read at a time.
+pub(crate) const PIECE: usize = 65_536;
+
+/// The next bytes of the input, at most as many as the piece has room for; 0 at the end of the input. An interrupted read is
+/// tried again.
+pub(crate) fn read_piece<R: Read>(reader: &mut R, piece: &mut [u8]) -> Result<usize, Fault>
+    ensures within { IfOk result (λ count. count ≤ length piece.old) }
+    ensures ok { IfOk result (λ count. Consumes (R.remaining reader.old) (R.remaining reader.new)
+        (take count piece.new)) }
+    ensures end { IfOk result (λ count. count ≡ 0 → 0 < length piece.old → IsAtEnd
+        (R.remaining reader.new)) }
+    ensures err { IfErr result (λ f. (f ≡ Fault.NoMemory) ⊎ (f ≡ Fault.CannotRead)) }
+{
+    for _ in 0..u64::MAX {
+        match reader.read(piece) {
+            Ok(count) => return Ok(count),
+            Err(e) => match e.kind() {
+                ErrorKind::Interrupted => {}
+                ErrorKind::OutOfMemory => return Err(Fault::NoMemory),
+                _ => return Err(Fault::CannotRead),
+            },
+        }
+    }
+    Err(Fault::CannotRead)
+}
+
+/// The fault that a run tells where a line has this one: the input is read to its end first, without keeping it, and a reader
+/// that fails on the way is told in its place. A fault of memory or of a stream is told at once.
+pub(crate) fn told_at_end<R: Read>(reader: &mut R, piece: &mut [u8], fault: Fault) -> Fault
+    requires { 0 < length piece.old }
+    ensures told { (result ≡ fault) ⊎ ((result ≡ Fault.NoMemory) ⊎ (result ≡ Fault.CannotRead)) }
+    ensures write { fault ≡ Fault.CannotWrite → result ≡ Fault.CannotWrite }
+    ensures end { ReadsTo result (R.remaining reader.new) }
+{
+    if matches!(
+        fault,
+        Fault::NoMemory | Fault::CannotRead | Fault::CannotWrite
+    ) {
+        return fault;
+    }
+    for _ in 0..u64::MAX {
+        match read_piece(reader, piece) {
+            Ok(0) => return fault,
+            Ok(_) => {}
+            Err(failed) => return failed,
+        }
+    }
+    Fault::CannotRead
 }
 
 /// A writer that tries an interrupted write again. The program's output is one.

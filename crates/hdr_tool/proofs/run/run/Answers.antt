@@ -1,6 +1,7 @@
-use Rattle.std.proofs.Common.{◌≡◌, ◌∙◌, Some, None, map, string_bytes, sym}
+use Rattle.std.proofs.Common.{◌≡◌, ◌∙◌, Some, None, map, string_bytes, sym, refl}
 use Rattle.hdr_tool.specs.Tasks.{view_of_task}
-use Rattle.hdr_tool.proofs.Answering.{some_input, words_refused, not_read, chosen, reads_all}
+use Rattle.hdr_tool.proofs.Answering.{words_refused, words_unread, chosen, leaves_chosen}
+use Rattle.hdr_tool.proofs.Streaming.{some_input}
 use Rattle.hdr_tool.proofs.run.run.Goals as goal
 
 pub returns-in-Err-clause-answers : goal.returns-in-Err-clause-answers
@@ -8,21 +9,16 @@ returns-in-Err-clause-answers g c =
     let i = some_input (g.R.Read.remaining c.args.reader.now) in
     (i.0, i.1, words_refused (map string_bytes c.args.words.now) i.0 c.in-Err.fault _ c.in-Err.ensures)
 
-pub returns-in-Err-read_whole-clause-answers : goal.returns-in-Err-read_whole-clause-answers
-returns-in-Err-read_whole-clause-answers g c =
-    let i = some_input (g.R.Read.remaining c.args.reader.now) in
-    (i.0, i.1, not_read (map string_bytes c.args.words.now) i.0 _ c.in-Err-read_whole.fault c.in-Err-read_whole.ensures.err)
+pub returns-in-Err-clause-reads : goal.returns-in-Err-clause-reads
+returns-in-Err-clause-reads g c = words_unread (map string_bytes c.args.words.now) c.in-Err.fault (g.R.Read.remaining c.args.reader.now) c.in-Err.ensures
 
 pub returns-clause-answers : goal.returns-clause-answers
-returns-clause-answers g c = (
-  c.in-Ok-read_whole.input.items,
-  c.in-Ok-read_whole.ensures.ok,
-  chosen (map string_bytes c.args.words.now) c.in-Ok-read_whole.input.items c.as_slice.result.now (view_of_task c.in-Ok.task) _ _ c.do_task.result
-      c.in-Ok.ensures c.as_slice.ensures.value c.do_task.ensures.answers,
-)
+returns-clause-answers g c =
+    let a = c.do_task.ensures.answers in
+    (a.0, a.1, chosen (map string_bytes c.args.words.now) a.0 a.0 (view_of_task c.in-Ok.task) _ _ c.do_task.result c.in-Ok.ensures refl a.2)
 
 pub returns-clause-reads : goal.returns-clause-reads
-returns-clause-reads g c = reads_all _ _ c.do_task.result c.in-Ok-read_whole.ensures.end c.do_task.ensures.words
+returns-clause-reads g c = leaves_chosen (map string_bytes c.args.words.now) (view_of_task c.in-Ok.task) _ _ c.do_task.result c.in-Ok.ensures c.do_task.ensures.reads
 
 pub returns-clause-wrong_words : goal.returns-clause-wrong_words
 returns-clause-wrong_words g c = (
