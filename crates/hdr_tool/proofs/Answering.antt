@@ -56,7 +56,6 @@ report_refused sigfig quantiles input o h f e r =
     let F : Plain → Type 0 = λ x. Refuses (λ g. Runs LineDone x (number_lines 1 (Some input)) (record { written = []; ended = Err g })) f in
     report_refuses sigfig quantiles input o f (subst F e r)
 
-
 -- the report of lines is written
 report_written_of : (sigfig : ℕ) (quantiles : List Ratio) (input : List ℕ) (o n : Option (List ℕ)) (h : Plain) (r : Result (Unit {0}) Fault) → Runs LineDone (empty_plain 1 2 sigfig true) (number_lines 1 (Some input)) (record { written = []; ended = Ok h })
     → Answers (Reported quantiles (Ok h)) (λ text. text ≡ []) (λ text. Reported quantiles (Ok h) text None) o n r
@@ -115,7 +114,6 @@ unread_of (Some task) f o h = rw h tt
 pub words_unread : (words : List (List ℕ)) (f : Fault) (o : Option (List ℕ)) → RefusesWords (task_of words) f → ReadsAll (Leaves words) o o (Err f)
 unfolding Leaves
 words_unread words f o h = unread_of (task_of words) f o h
-
 
 -- a refused report
 pub reads_refused : (P : Fault → Type 0) (o n : Option (List ℕ)) (f : Fault) → Refuses P f → ReadsTo f n → (◌≡◌ {A = Result (Unit {0}) Fault} (Err f) (Err WrongWords) → ⊥) → ReadsAll IsAtEnd o n (Err f)

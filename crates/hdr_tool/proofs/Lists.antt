@@ -1,6 +1,6 @@
 -- Runs over lists in two parts, and the lines of a text in two parts.
-use Rattle.std.proofs.Common.{◌≡◌, ℕ, suc, ◌+◌, ◌≤◌, ◌==◌, Bool, true, false, cond, List, [], ◌∷◌, ◌++◌, length, Option, Some, Result, Ok, Err, refl, sym, ap, ◌∙◌, subst, inl, inr, ◌⊎◌, append_assoc, arith, lit≤}
-use Rattle.std.specs.List.{enumerate_from, slice_split, onto_first}
+use Rattle.std.proofs.Common.{◌≡◌, ℕ, suc, ◌+◌, ◌≤◌, ◌==◌, Bool, true, false, cond, List, [], ◌∷◌, ◌++◌, length, Some, Result, Ok, Err, refl, sym, ap, ◌∙◌, subst, inl, inr, append_assoc, arith, lit≤}
+use Rattle.std.specs.List.{enumerate_from, onto_first}
 use Rattle.std.proofs.lemmas.List.FromFn.{length-enumerate_from}
 use Rattle.hdr_log.specs.Parts.{parts}
 use Rattle.hdr_tool.specs.declared.fault.Fault.{Fault}

@@ -1,15 +1,14 @@
 -- Lines that are done while the input is read.
 use Rattle.std.proofs.Common.{◌≡◌, ℕ, ◌+◌, List, [], ◌∷◌, ◌++◌, length, take, Option, Some, None, IfSome, Result, Ok, Err, refl, sym, ap, ◌∙◌, subst, inl, inr, ◌⊎◌, append_assoc}
-use Rattle.std.specs.Io.KnownBytes.{Appends, Keeps, Consumes, IsAtEnd}
+use Rattle.std.specs.Io.KnownBytes.{Appends, Consumes, IsAtEnd}
 use Rattle.std.proofs.KnownBytes.{Consumes-trans}
-use Rattle.hdrhistogram.specs.Streams.{AppendsFront}
 use Rattle.hdr_tool.specs.declared.fault.Fault.{Fault}
 use Rattle.hdr_tool.specs.declared.fault.Fault.TheVariants.{WrongWords, NotACommand, Refused, NotWritten, NotALog, NotBase64, NotRead, NoMemory, CannotRead, CannotWrite}
-use Rattle.hdr_tool.specs.Outcomes.{Outcome, Runs, Begins, after, Answers, Refuses, ReadsTo}
+use Rattle.hdr_tool.specs.Outcomes.{Runs, Begins, Answers, Refuses, ReadsTo}
 use Rattle.hdr_tool.specs.Parts.{number_lines}
 use Rattle.hdr_tool.specs.Program.{fault_in}
-use Rattle.hdr_tool.proofs.Running.{front_behind, begins_nothing}
-use Rattle.hdr_tool.proofs.Sinks.{appends_both, append_nothing, appends_nothing}
+use Rattle.hdr_tool.proofs.Running.{front_behind}
+use Rattle.hdr_tool.proofs.Sinks.{appends_both, append_nothing}
 use Rattle.hdr_tool.proofs.Lists.{numbered_end, runs_both, runs_stopped, begins_more, begins_both, runs_begin}
 
 -- what is left of an input, of which this was read: the whole input is both
@@ -64,9 +63,9 @@ module _ {A : Type 0} (Step : A → (ℕ × List ℕ) → Result (List ℕ × A)
     done = s.done;
     ran = s.ran;
     left = λ rest. (
-      let e : (read ++ piece) ++ rest ≡ read ++ (piece ++ rest) = append_assoc read piece rest in
-      let f : (carry ++ piece) ++ rest ≡ carry ++ (piece ++ rest) = append_assoc carry piece rest in
-      ap (λ t. number_lines 1 (Some t)) e ∙ s.left (piece ++ rest) ∙ ap (λ t. s.done ++ number_lines number (Some t)) (sym f));
+        let e : (read ++ piece) ++ rest ≡ read ++ (piece ++ rest) = append_assoc read piece rest in
+        let f : (carry ++ piece) ++ rest ≡ carry ++ (piece ++ rest) = append_assoc carry piece rest in
+        ap (λ t. number_lines 1 (Some t)) e ∙ s.left (piece ++ rest) ∙ ap (λ t. s.done ++ number_lines number (Some t)) (sym f));
   }
 
   -- the lines of all that was read up to a line's end in the last piece, and those after it
@@ -85,8 +84,8 @@ module _ {A : Type 0} (Step : A → (ℕ × List ℕ) → Result (List ℕ × A)
     done = s.done ++ number_lines number (Some lines);
     ran = runs_both Step begin now s.done (number_lines number (Some lines)) (record { written = text; ended = Ok now }) (record { written = t; ended = Ok then }) s.ran refl r;
     left = λ rest. split_now read number carry text now piece front behind lines s e f rest
-      ∙ ap (λ k. s.done ++ (number_lines number (Some lines) ++ number_lines k (Some (behind ++ rest)))) (sym n)
-      ∙ sym (append_assoc s.done (number_lines number (Some lines)) (number_lines next (Some (behind ++ rest))));
+        ∙ ap (λ k. s.done ++ (number_lines number (Some lines) ++ number_lines k (Some (behind ++ rest)))) (sym n)
+        ∙ sym (append_assoc s.done (number_lines number (Some lines)) (number_lines next (Some (behind ++ rest))));
   }
 
 -- a fault of the reader is none of the words, comes in place of any answer, and ends the reading
@@ -143,16 +142,19 @@ module _ {A : Type 0} (Step : A → (ℕ × List ℕ) → Result (List ℕ × A)
   refused_behind read number carry now whole lines more f s e r =
       refused_as (λ g. Runs Step now lines (record { written = []; ended = Err g })) (λ g. Runs Step begin (number_lines 1 (Some whole)) (record { written = []; ended = Err g })) f
       (λ g h. let F : List (ℕ × List ℕ) → Type 0 = λ l. Runs Step begin l (record { written = []; ended = Err g }) in
-        subst F (sym e) (runs_both Step begin now s.done (lines ++ more) (record { written = []; ended = Ok now }) (record { written = []; ended = Err g }) s.ran refl (runs_stopped Step now lines more g (record { written = []; ended = Err g }) h refl))) r
+      subst F (sym e) (runs_both Step begin now s.done (lines ++ more) (record { written = []; ended = Ok now }) (record { written = []; ended = Err g }) s.ran refl (runs_stopped Step now lines more g (record { written = []; ended = Err g }) h refl))) r
 
   -- a fault of lines in the middle of the input
   pub refused_now : (o m : Option (List ℕ)) (read : List ℕ) (number : ℕ) (carry : List ℕ) (now : A) (piece front behind lines : List ℕ) (f g : Fault) → Consumes o m (read ++ piece) → Streamed Step begin read number carry [] now → piece ≡ front ++ 10 ∷ behind → lines ≡ carry ++ front
       → Refuses (λ h. Runs Step now (number_lines number (Some lines)) (record { written = []; ended = Err h })) f → (g ≡ f) ⊎ ((g ≡ NoMemory) ⊎ (g ≡ CannotRead))
       → (input : List ℕ) × IfSome o (λ bytes. input ≡ bytes) × Refuses (λ h. Runs Step begin (number_lines 1 (Some input)) (record { written = []; ended = Err h })) g
   refused_now o m read number carry now piece front behind lines f g c s e l r t =
-      let w = rest_of o m (read ++ piece) c in
-      ((read ++ piece) ++ w.0, w.1, told_as (λ h. Runs Step begin (number_lines 1 (Some ((read ++ piece) ++ w.0))) (record { written = []; ended = Err h })) f g t
-        (refused_behind read number carry now ((read ++ piece) ++ w.0) (number_lines number (Some lines)) (number_lines (number + length (number_lines number (Some lines))) (Some (behind ++ w.0))) f s (split_now Step begin read number carry [] now piece front behind lines s e l w.0) r))
+      let w = rest_of o m (read ++ piece) c in (
+        (read ++ piece) ++ w.0,
+        w.1,
+        told_as (λ h. Runs Step begin (number_lines 1 (Some ((read ++ piece) ++ w.0))) (record { written = []; ended = Err h })) f g t
+            (refused_behind read number carry now ((read ++ piece) ++ w.0) (number_lines number (Some lines)) (number_lines (number + length (number_lines number (Some lines))) (Some (behind ++ w.0))) f s (split_now Step begin read number carry [] now piece front behind lines s e l w.0) r),
+      )
 
   -- the last lines, and how they end
   pub last_split : (read : List ℕ) (number : ℕ) (carry text : List ℕ) (now : A) → (s : Streamed Step begin read number carry text now) → number_lines 1 (Some read) ≡ s.done ++ number_lines number (Some carry)
@@ -245,9 +247,12 @@ module _ {A : Type 0} (Step : A → (ℕ × List ℕ) → Result (List ℕ × A)
       → (input : List ℕ) × IfSome i (λ bytes. input ≡ bytes) × AnswersLines Step begin (number_lines 1 (Some input)) o n (Err g)
   answers_now i j read number carry text now piece front behind lines o m n f g c s e l w a t k =
       let r = rest_of i j (read ++ piece) c in
-      let whole = (read ++ piece) ++ r.0 in
-      (whole, r.1, told (number_lines 1 (Some whole)) o n f g t k
-        (answers_behind read number carry text now whole (number_lines number (Some lines)) (number_lines (number + length (number_lines number (Some lines))) (Some (behind ++ r.0))) s (split_now Step begin read number carry text now piece front behind lines s e l r.0) o m n w f a))
+      let whole = (read ++ piece) ++ r.0 in (
+        whole,
+        r.1,
+        told (number_lines 1 (Some whole)) o n f g t k
+            (answers_behind read number carry text now whole (number_lines number (Some lines)) (number_lines (number + length (number_lines number (Some lines))) (Some (behind ++ r.0))) s (split_now Step begin read number carry text now piece front behind lines s e l r.0) o m n w f a),
+      )
 
   -- the same for the last lines
   pub answers_last : (i j : Option (List ℕ)) (read : List ℕ) (number : ℕ) (carry text : List ℕ) (now : A) (o m n : Option (List ℕ)) (f : Fault) → Consumes i j read → IsAtEnd j → Streamed Step begin read number carry text now
@@ -270,6 +275,9 @@ module _ {A : Type 0} (Step : A → (ℕ × List ℕ) → Result (List ℕ × A)
   answers_unread i j read number carry text now o m f c s w e =
       let r = rest_of i j read c in
       let whole = read ++ r.0 in
-      let F : List (ℕ × List ℕ) → Type 0 = λ l. Begins Step begin l text in
-      (whole, r.1, stands_as (number_lines 1 (Some whole)) o m f e
-        (text, subst F (sym (s.left r.0)) (begins_more Step begin s.done (number_lines number (Some (carry ++ r.0))) text (runs_begin Step begin s.done (record { written = text; ended = Ok now }) s.ran)), w))
+      let F : List (ℕ × List ℕ) → Type 0 = λ l. Begins Step begin l text in (
+        whole,
+        r.1,
+        stands_as (number_lines 1 (Some whole)) o m f e
+            (text, subst F (sym (s.left r.0)) (begins_more Step begin s.done (number_lines number (Some (carry ++ r.0))) text (runs_begin Step begin s.done (record { written = text; ended = Ok now }) s.ran)), w),
+      )

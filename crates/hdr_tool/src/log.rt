@@ -98,12 +98,11 @@ fn write_lines<W: Write>(
     ensures words { result ≢ Err Fault.WrongWords }
     ensures answers { let lines = number_lines number (Some text.now) in MatchResult result
         (λ next. (next ≡ number + length lines) × ((done : List ℕ)
-            × Runs LogLineDone histogram.old lines
-            (record { written = done; ended = Ok histogram.new })
-            × Appends (W.contents (sink log.old).now) (W.contents (sink log.new).now) done))
+        × Runs LogLineDone histogram.old lines (record { written = done; ended = Ok histogram.new })
+        × Appends (W.contents (sink log.old).now) (W.contents (sink log.new).now) done))
         (λ f. Answers (LogDone histogram.old lines) (Begins LogLineDone histogram.old lines)
         (Begins LogLineDone histogram.old lines)
-            (W.contents (sink log.old).now) (W.contents (sink log.new).now) (Err f)) }
+        (W.contents (sink log.old).now) (W.contents (sink log.new).now) (Err f)) }
 {
     let Some(lines) = Lines::new(number, text) else {
         return Err(Fault::CannotRead);
@@ -133,8 +132,8 @@ fn write_input<R: Read, W: Write>(
     ensures answers { (input : List ℕ) × IfSome (R.remaining reader.old) (λ bytes. input ≡ bytes)
         × (let lines = number_lines 1 (Some input) in Answers (LogDone histogram.old lines)
         (Begins LogLineDone histogram.old lines)
-            (Begins LogLineDone histogram.old lines) (W.contents (sink log.old).now)
-            (W.contents (sink log.new).now) result) }
+        (Begins LogLineDone histogram.old lines) (W.contents (sink log.old).now)
+        (W.contents (sink log.new).now) result) }
     ensures read { MatchResult result (λ _. IsAtEnd (R.remaining reader.new))
         (λ f. ReadsTo f (R.remaining reader.new)) }
 {

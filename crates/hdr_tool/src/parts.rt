@@ -32,7 +32,10 @@ pub(crate) fn split_last(text: &[u8], byte: u8) -> Option<(&[u8], &[u8])>
 
 /// Adds what a piece has of whole lines to a text, without the last line's end, and answers what stands after them; all of it,
 /// where no line ends.
-pub(crate) fn take_lines<'a>(text: &mut Vec<u8>, piece: &'a [u8]) -> Result<Option<&'a [u8]>, AllocError>
+pub(crate) fn take_lines<'a>(
+    text: &mut Vec<u8>,
+    piece: &'a [u8],
+) -> Result<Option<&'a [u8]>, AllocError>
     ensures { IfOk result (λ behind. MatchOption behind
         (text.new.items ≡ text.old.items ++ piece.now)
         (λ rest. (front : List ℕ) × (piece.now ≡ front ++ 10 ∷ rest.now)

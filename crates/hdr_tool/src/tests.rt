@@ -4,7 +4,7 @@ use super::*;
 use hdrhistogram::{CallError, RecordError};
 use std::alloc::{AllocError, Global};
 use std::io;
-use std::io::Read;
+use std::io::{Read, Write};
 use std::test::Fail;
 
 /// A reader that gives at most `step` bytes a call, and fails from the call `fails_at` on.

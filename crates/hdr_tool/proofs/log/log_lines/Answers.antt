@@ -19,9 +19,12 @@ returns-in_default-vec-clause-answers g c = let i = some_input (g.R.Read.remaini
 
 pub returns-clause-answers : goal.returns-clause-answers
 returns-clause-answers g c =
-    let a = c.write_input.ensures.answers in
-    (a.0, a.1, log_written c.args.sigfig a.0 _ _ c.in-Ok.histogram c.write_input.result c.in-Ok.ensures.0
-        (log_moved c.in-Ok.histogram (number_lines 1 (Some a.0)) (g.W.Write.contents (sink c.new-log.result).now) (g.W.Write.contents c.args.writer.now) (g.W.Write.contents (sink c.write_input.new.log).now) _ c.write_input.result (ap g.W.Write.contents c.new-log.ensures.holds) (ap g.W.Write.contents (sym (c.writer-1.given.1 (sym (c.write_input.ensures.same.writer ∙ c.new-log.ensures.writer)) ∙ c.drop-log.ensures.writer))) a.2))
+    let a = c.write_input.ensures.answers in (
+      a.0,
+      a.1,
+      log_written c.args.sigfig a.0 _ _ c.in-Ok.histogram c.write_input.result c.in-Ok.ensures.0
+          (log_moved c.in-Ok.histogram (number_lines 1 (Some a.0)) (g.W.Write.contents (sink c.new-log.result).now) (g.W.Write.contents c.args.writer.now) (g.W.Write.contents (sink c.write_input.new.log).now) _ c.write_input.result (ap g.W.Write.contents c.new-log.ensures.holds) (ap g.W.Write.contents (sym (c.writer-1.given.1 (sym (c.write_input.ensures.same.writer ∙ c.new-log.ensures.writer)) ∙ c.drop-log.ensures.writer))) a.2),
+    )
 
 pub returns-clause-reads : goal.returns-clause-reads
 returns-clause-reads g c = reads_log c.args.sigfig (g.R.Read.remaining c.args.reader.now) (g.R.Read.remaining c.write_input.new.reader) c.write_input.result c.write_input.ensures.read c.write_input.ensures.words

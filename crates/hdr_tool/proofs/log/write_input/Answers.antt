@@ -1,4 +1,4 @@
-use Rattle.std.proofs.Common.{[], length, take, ◌++◌, ap, ◌∙◌, arith, inl, inr, refl, sym}
+use Rattle.std.proofs.Common.{[], take, ◌++◌, ◌∙◌, arith, inl, inr, refl}
 use Rattle.std.proofs.KnownBytes.{Consumes-nil, Consumes-trans}
 use Rattle.hdrhistogram.specs.LogWriters.{sink}
 use Rattle.hdr_tool.specs.Program.{LogLineDone}

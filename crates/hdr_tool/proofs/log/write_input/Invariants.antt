@@ -1,4 +1,4 @@
-use Rattle.std.proofs.Common.{◌≡◌, ℕ, ◌<◌, List, length}
+use Rattle.std.proofs.Common.{ℕ, ◌<◌, List, length}
 use Rattle.std.specs.Io.KnownBytes.{Appends, Consumes}
 use Rattle.hdrhistogram.specs.LogWriters.{sink, IsSameLog}
 use Rattle.hdr_tool.specs.Program.{LogLineDone}

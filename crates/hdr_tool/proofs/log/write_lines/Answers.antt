@@ -1,4 +1,4 @@
-use Rattle.std.proofs.Common.{◌+◌, Ok, Err, Some, [], refl, ◌∙◌, ap, length, arith}
+use Rattle.std.proofs.Common.{◌+◌, Err, Some, [], refl, ◌∙◌, ap, length, arith}
 use Rattle.hdrhistogram.specs.LogWriters.{sink}
 use Rattle.hdr_log.specs.Parts.{parts}
 use Rattle.hdr_tool.specs.Parts.{number_lines}

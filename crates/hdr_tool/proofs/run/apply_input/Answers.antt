@@ -1,4 +1,4 @@
-use Rattle.std.proofs.Common.{[], length, take, ◌++◌, ap, ◌∙◌, arith, inl, inr, refl, sym}
+use Rattle.std.proofs.Common.{[], take, ◌++◌, ◌∙◌, arith}
 use Rattle.std.proofs.KnownBytes.{Consumes-nil, Consumes-trans}
 use Rattle.hdr_tool.specs.Program.{LineDone}
 use Rattle.hdr_tool.proofs.Streaming.{some_input, nothing_read, same_carry, carried, further, none_read, not_words, refused_unread, read_to, read_all, told_words, refused_now, refused_last, done_last}

@@ -1,4 +1,4 @@
-use Rattle.std.proofs.Common.{◌≡◌, ℕ, ◌<◌, List, [], length}
+use Rattle.std.proofs.Common.{ℕ, ◌<◌, List, [], length}
 use Rattle.std.specs.Io.KnownBytes.{Consumes}
 use Rattle.hdr_tool.specs.Program.{LineDone}
 use Rattle.hdr_tool.proofs.Streaming.{Streamed}

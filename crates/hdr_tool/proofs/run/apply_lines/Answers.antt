@@ -1,5 +1,4 @@
-use Rattle.std.proofs.Common.{◌≡◌, [], Some, refl, sym, ap, ◌∙◌, length, arith}
-use Rattle.hdr_tool.specs.Parts.{number_lines}
+use Rattle.std.proofs.Common.{[], ap, length, arith}
 use Rattle.hdr_tool.specs.Program.{LineDone}
 use Rattle.hdr_tool.proofs.Running.{goes_on}
 use Rattle.hdr_tool.proofs.Lists.{first_number}

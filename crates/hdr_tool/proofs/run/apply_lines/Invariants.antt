@@ -1,4 +1,4 @@
-use Rattle.std.proofs.Common.{◌≡◌, ℕ, ◌+◌, List, [], Some, length}
+use Rattle.std.proofs.Common.{◌≡◌, ℕ, ◌+◌, List, Some, length}
 use Rattle.std.specs.List.{enumerate_from}
 use Rattle.hdr_model.specs.Plain.{Plain}
 use Rattle.hdr_tool.specs.Parts.{number_lines}
