@@ -19,7 +19,7 @@ const ROUNDS: usize = 15;
 /// A workload: its name, how many operations it does, and how both sides do them.
 type Workload = (&'static str, u64, fn(u64) -> u64, fn(u64) -> u64);
 
-const WORKLOADS: [Workload; 26] = [
+const WORKLOADS: [Workload; 27] = [
     ("generate", 4_000_000, |n| upstream::generate(SEED, n), |n| ours::generate(SEED, n)),
     ("record", 4_000_000, |n| upstream::record(SEED, n), |n| ours::record(SEED, n)),
     ("correct_2e3", 800, |n| upstream::correct(SEED, n, 1_000_000), |n| ours::correct(SEED, n, 1_000_000)),
@@ -40,6 +40,8 @@ const WORKLOADS: [Workload; 26] = [
     ("iter_all", 160, |n| upstream::iter_all(SEED, n), |n| ours::iter_all(SEED, n)),
     ("decode", 400, |n| upstream::decode(SEED, n), |n| ours::decode(SEED, n)),
     ("decode_few", 4_000, |n| upstream::decode_few(SEED, n), |n| ours::decode_few(SEED, n)),
+    // What `decode_few` takes at least, beside the Rust crate's whole.
+    ("decode_few_floor", 4_000, |n| upstream::decode_few(SEED, n), |n| upstream::zeros(SEED, n)),
     ("log_line", 4_000, |n| upstream::log_line(SEED, n), |n| ours::log_line(SEED, n)),
     ("log_read", 80, |n| upstream::log_read(SEED, n), |n| ours::log_read(SEED, n)),
     // What `log_read` takes at least: its two passes over the bytes, each alone and then both, beside the Rust crate's whole.

@@ -242,6 +242,18 @@ pub fn decode_few(seed: u64, n: u64) -> u64 {
     decode_each(seed, n, 233)
 }
 
+/// What `decode_few` takes at least: counters made 0 for each of its histograms, and nothing decoded.
+pub fn zeros(seed: u64, n: u64) -> u64 {
+    let histogram = filled_at_each(seed, 233);
+    let (len, bins) = (histogram.len(), histogram.distinct_values());
+    let mut sum = 0u64;
+    for _ in 0..n {
+        let counters = black_box(vec![0u64; bins]);
+        sum = sum.wrapping_add(len + counters[bins - 1]);
+    }
+    sum
+}
+
 fn decode_each(seed: u64, n: u64, every: usize) -> u64 {
     let histogram = filled_at_each(seed, every);
     let mut bytes = Vec::new();
