@@ -1,8 +1,8 @@
-pub mod Least
-pub mod ClassLaws
-pub mod ScaleLaws
-pub mod Digits
-pub mod Reach
-pub mod Finer
-pub mod Intervals
-pub mod Tops
+pub mod ClassesLeast
+pub mod ClassesLaws
+pub mod ClassesScale
+pub mod ClassesDigits
+pub mod ClassesReach
+pub mod ClassesFiner
+pub mod ClassesIntervals
+pub mod ClassesTops

@@ -78,3 +78,7 @@ pub record HasScale (low sigfig : ℕ) : Type 0 where
 pub record IsFiner (f g : Grain) : Type 0 where
   pub unit : f.unit ≤ g.unit
   pub digits : g.digits ≤ f.digits
+
+-- how many bins the largest histogram has: 5 digits over all values are 48 blocks of 131,072 (`new_with_bounds`)
+abbrev pub most_bins : ℕ
+most_bins = 6291456

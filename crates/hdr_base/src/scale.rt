@@ -1,7 +1,7 @@
 //! The classes of values, from a lowest value and a number of significant digits.
 
 ghost use Rattle.std.specs.Prelude.{◌≡◌, ℕ, ◌+◌, ◌-◌, ◌*◌, ◌^◌, ◌<◌, ◌≤◌, MatchOption, SomeIff, IfSome};
-ghost use Rattle.hdr_base.specs.Classes.{IsLeast, grain_of, digits_of, bucket, width_of, lowest_of, top_of, bin_of, value_of, reach_of, HasScale};
+ghost use Rattle.hdr_base.specs.Classes.{most_bins, IsLeast, grain_of, digits_of, bucket, width_of, lowest_of, top_of, bin_of, value_of, reach_of, HasScale};
 
 use std::marker::Model;
 
@@ -139,7 +139,7 @@ impl Scale {
     pub fn buckets(self, value: u64) -> usize
         ensures value { result ≡ bucket self value + 1 }
         ensures bound { result ≤ 64 }
-        ensures few { (result + 1) * 2 ^ (self.digits - 1) ≤ 6291456 }
+        ensures few { (result + 1) * 2 ^ (self.digits - 1) ≤ most_bins }
     {
         self.bucket(value) as usize + 1
     }

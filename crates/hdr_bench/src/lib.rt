@@ -5,60 +5,13 @@
 ghost use Rattle.std.specs.Prelude.{◌<◌, ◌^◌, ◌≤◌};
 
 mod bytes;
+mod histograms;
 mod log;
 
 use hdrhistogram::serialization::{Deserializer, V2Serializer};
 use hdrhistogram::{Histogram, Quantile};
+use histograms::{FEW, HIGH, empty, filled, filled_at_each, scattered, sparse, step, value};
 use std::alloc::Global;
-
-/// The highest value of each histogram: an hour in microseconds.
-const HIGH: u64 = 3_600_000_000;
-
-/// The first of each so many classes is filled where few are, 100 of them.
-const FEW: usize = 233;
-
-/// The next number of the generator, in 64 bits.
-fn step(x: u64) -> u64 {
-    let x = x ^ (x << 13);
-    let x = x ^ (x >> 7);
-    x ^ (x << 17)
-}
-
-/// A value from 1 to the highest, by a number of the generator.
-fn value(x: u64) -> u64 {
-    let part = (x >> 32) as u32;
-    1 + ((u64::from(part) * HIGH) >> 32)
-}
-
-fn empty(alloc: Global) -> Option<Histogram<u64>> {
-    Histogram::new_with_max(alloc, HIGH, 3).ok()
-}
-
-/// A histogram in which each class up to the highest value holds 1 to 1024.
-fn filled(alloc: Global, seed: u64) -> Option<Histogram<u64>> {
-    filled_at_each(alloc, seed, 1)
-}
-
-/// A histogram in which the first of each `every` classes up to the highest value holds 1 to 1024.
-fn filled_at_each(alloc: Global, seed: u64, every: usize) -> Option<Histogram<u64>> {
-    let mut histogram = empty(alloc)?;
-    let mut x = seed;
-    let mut value = 0;
-    let mut passed: usize = 0;
-    for _ in 0..histogram.distinct_values() {
-        if value > HIGH {
-            break;
-        }
-        if passed == 0 {
-            passed = every;
-            x = step(x);
-            histogram.record_n(value, (x >> 54).saturating_add(1)).ok()?;
-        }
-        passed = passed.saturating_sub(1);
-        value = histogram.next_non_equivalent(value);
-    }
-    Some(histogram)
-}
 
 fn recorded(alloc: Global, seed: u64, n: u64) -> Option<u64> {
     let mut histogram = empty(alloc)?;
@@ -134,38 +87,6 @@ fn iterated_all(alloc: Global, seed: u64, n: u64) -> Option<u64> {
         }
     }
     Some(sum)
-}
-
-/// A histogram in which 100 classes hold 1 to 1024: 99 in a row from 1 ms on, and that of the highest value.
-fn sparse(alloc: Global, seed: u64) -> Option<Histogram<u64>> {
-    let mut histogram = empty(alloc)?;
-    let mut x = seed;
-    let mut value = 1000;
-    for _ in 0..99 {
-        x = step(x);
-        histogram.record_n(value, (x >> 54).saturating_add(1)).ok()?;
-        value = histogram.next_non_equivalent(value);
-    }
-    histogram.record(HIGH).ok()?;
-    Some(histogram)
-}
-
-/// A histogram in which one class in 235 holds 1 to 1024.
-fn scattered(alloc: Global, seed: u64) -> Option<Histogram<u64>> {
-    let mut histogram = empty(alloc)?;
-    let mut x = seed;
-    let mut value = 0;
-    for class in 0..histogram.distinct_values() {
-        if value > HIGH {
-            break;
-        }
-        if class % 235 == 117 {
-            x = step(x);
-            histogram.record_n(value, (x >> 54).saturating_add(1)).ok()?;
-        }
-        value = histogram.next_non_equivalent(value);
-    }
-    Some(histogram)
 }
 
 /// Passes over the nonempty bins: the sum of each value with its counter's bits turned by it.

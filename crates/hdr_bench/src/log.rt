@@ -1,6 +1,6 @@
 //! Workloads on a log. The log that is read has 100 intervals of 2,000 filled bins each.
 
-use crate::{empty, step};
+use crate::histograms::{empty, step};
 use hdrhistogram::Histogram;
 use hdrhistogram::serialization::V2Serializer;
 use hdrhistogram::serialization::interval_log::{IntervalLogIterator, IntervalLogWriter, LogEntry};

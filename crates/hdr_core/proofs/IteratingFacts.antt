@@ -1,20 +1,20 @@
 -- The bins of a histogram are such that iterators can go over them.
 use Rattle.std.proofs.Common.{ℕ, List, length, ◌+◌, ◌*◌, ◌≤◌, ◌-◌, ◌^◌, ◌<◌, Option, Some, None, unwrap_or, arith}
 use Rattle.hdr_base.specs.Classes.{reach_of}
-use Rattle.hdr_base.proofs.ClassLaws.{bin-mono}
-use Rattle.hdr_base.proofs.Digits.{digits-pos-of}
-use Rattle.hdr_base.proofs.Reach.{bins_by, reach-fits}
+use Rattle.hdr_base.proofs.ClassesLaws.{bin-mono}
+use Rattle.hdr_base.proofs.ClassesDigits.{digits-pos-of}
+use Rattle.hdr_base.proofs.ClassesReach.{bins_by, reach-fits}
 use Rattle.hdr_model.specs.Plain.{Plain, IsPlain, grain}
 use Rattle.hdr_model.specs.Marks.{IsAbove}
 use Rattle.hdr_core.specs.Iterating.{bins_seen}
 use Rattle.hdr_model.proofs.PlainBins.{few-bins, fits-of, mark-inside}
 use Rattle.hdr_counts.specs.Blocks.{AreSums}
-use Rattle.hdr_counts.proofs.BlockSums.{number-le-sum_below, sum_below-le, block_past}
+use Rattle.hdr_counts.proofs.BlocksSums.{number-le-sum_below, sum_below-le, block_past}
 use Rattle.hdr_iterators.specs.Seen.{AreBins, TellEmpty}
 
-behind-mark : (mark : Option ℕ) (i : ℕ) → unwrap_or mark 0 < i → IsAbove mark i
-behind-mark None i lt = tt
-behind-mark (Some m) i lt = lt
+above-mark : (mark : Option ℕ) (i : ℕ) → unwrap_or mark 0 < i → IsAbove mark i
+above-mark None i lt = tt
+above-mark (Some m) i lt = lt
 
 pub AreBins-binned : (greatest : ℕ) (h : Plain) → IsPlain greatest h → AreBins (bins_seen h)
 AreBins-binned greatest h p =
@@ -31,7 +31,7 @@ AreBins-binned greatest h p =
       total_fits = p.total_fits;
       counted = p.total_covers;
       last_inside = mark-inside greatest h p;
-      none_behind = λ i lt. p.none_above i (behind-mark h.top_mark i lt);
+      none_above = λ i lt. p.none_above i (above-mark h.top_mark i lt);
     }
 
 -- the sums of the blocks tell which of them hold no sample

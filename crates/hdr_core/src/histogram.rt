@@ -1,7 +1,7 @@
 //! The histogram: how it is made, and what it tells of itself.
 
 ghost use Rattle.std.specs.Prelude.{◌≡◌, ◌↔◌, MatchResult, MatchOption, IsTrue, false, true, ◌+◌, ◌*◌, ◌<◌, ◌≤◌, IfSome, SomeIff, length, map, slice_index, unwrap_or};
-ghost use Rattle.hdr_base.specs.Classes.{bin_of, bucket, grain_of, value_of, top_of};
+ghost use Rattle.hdr_base.specs.Classes.{most_bins, bin_of, bucket, grain_of, value_of, top_of};
 ghost use Rattle.hdr_model.specs.Plain.{IsPlain, grain, reach, block_of, empty_plain, max_of, min_nz_of, min_of};
 ghost use Rattle.hdr_model.specs.Refusals.{RefusesBounds, IsBounds};
 
@@ -60,7 +60,7 @@ impl<T: Counter> Model for Histogram<T> {
 impl<T: Counter> Histogram<T> {
     /// A histogram of values from 0 to at least `high`, which keeps `sigfig` digits of those from `low` on and does not
     /// grow. `low` is 1 to `u64::MAX / 2`, `high` at least twice `low`, `sigfig` 0 to 5; the first of these that does
-    /// not hold is the error, and then lack of memory.
+    /// not hold is the error, and then running out of memory.
     pub fn new_with_bounds(
         alloc: Global,
         low: u64,
@@ -116,7 +116,7 @@ impl<T: Counter> Histogram<T> {
     pub fn distinct_values(&self) -> usize
         ensures value { result ≡ length self.now.counts }
         ensures blocks { result ≡ (bucket (grain self.now) self.now.high + 2) * block_of self.now }
-        ensures few { result ≤ 6291456 }
+        ensures few { result ≤ most_bins }
         ensures plain { IsPlain T.greatest self.now }
     {
         self.counts.len()

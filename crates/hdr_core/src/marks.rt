@@ -45,7 +45,7 @@ impl Marks {
         ensures { result ≡ record { top = top; lower = lower } }
     {
         Marks {
-            classes: behind(top),
+            classes: classes_to(top),
             before: before(lower),
         }
     }
@@ -118,7 +118,7 @@ impl Marks {
 }
 
 /// The number of classes up to a top mark.
-fn behind(top: Option<usize>) -> usize
+fn classes_to(top: Option<usize>) -> usize
     requires { IfSome top (λ i. i < 2 ^ 32) }
     ensures { top_by result ≡ top }
 {

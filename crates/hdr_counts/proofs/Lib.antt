@@ -1,8 +1,8 @@
-pub mod BlockSums
-pub mod Places
-pub mod CappedSums
-pub mod OpenSums
-pub mod NonzeroPlaces
-pub mod BlockBounds
-pub mod BlockParts
-pub mod WrittenSums
+pub mod BlocksSums
+pub mod BlocksPlaces
+pub mod BlocksCapped
+pub mod BlocksOpen
+pub mod BlocksNonzero
+pub mod BlocksBounds
+pub mod BlocksParts
+pub mod BlocksWritten

@@ -1,6 +1,7 @@
 -- A list of numbers in blocks of one length: its sums, the first place where they reach a rank, and the capped sums of
 -- two lists. (No item of the Rust crate: it keeps its counters in one vector and adds them up wherever a sum is asked for.)
 use Rattle.std.specs.Prelude.{◌≡◌, ℕ, Bool, false, ◌+◌, ◌-◌, ◌*◌, ◌/◌, ◌%◌, ◌^◌, ◌<◌, ◌≤◌, min, List, ◌∷◌, ◌++◌, length, replicate, take, sum, slice_index, All, Option, Some, None, IfSome}
+use Rattle.hdr_base.specs.Classes.{most_bins}
 
 -- how long a block is, and the numbers of all blocks in order
 pub record Blocks : Type 0 where
@@ -47,7 +48,7 @@ capped_sums greatest ms ns = ms
 -- the sums are those of the numbers' blocks: each one is what its block adds to the sum before it
 pub record AreSums (block : ℕ) (numbers sums : List ℕ) : Type 0 where
   pub some : 1 ≤ block
-  pub few : length numbers ≤ 6291456
+  pub few : length numbers ≤ most_bins
   pub whole : length numbers ≡ length sums * block
   pub each : (k : ℕ) → k < length sums → sum_below numbers (k * block) + slice_index sums k ≡ sum_below numbers ((k + 1) * block)
   pub fits : All (λ n. n ≤ 18446744073709551615) numbers
@@ -71,7 +72,7 @@ with_zeros numbers len = numbers ++ replicate (len - length numbers) 0
 -- them, there are as many sums as blocks, and where sums are kept at each place that is set they are those of the blocks
 pub record AreOpen (greatest block len capacity : ℕ) (numbers sums : List ℕ) (shift : Option ℕ) (late : Bool) : Type 0 where
   pub some : 1 ≤ block
-  pub few : len ≤ 6291456
+  pub few : len ≤ most_bins
   pub whole : len ≡ length sums * block
   pub within : length numbers ≤ len
   pub room : len ≤ capacity

@@ -1,13 +1,14 @@
 //! Sums of a block, and one block added to another.
 
 ghost use Rattle.std.specs.Prelude.{◌≡◌, ℕ, ◌+◌, ◌-◌, ◌*◌, ◌^◌, ◌<◌, ◌≤◌, min, length, map, sum, All};
+ghost use Rattle.hdr_base.specs.Classes.{most_bins};
 ghost use Rattle.hdr_counts.specs.Blocks.{capped_sums, AreSums};
 
 use hdr_base::Counter;
 
 /// The exact sum of the counters.
 pub(crate) fn sum_of<T: Counter>(counters: &[T]) -> u128
-    requires { length counters.now ≤ 6291456 }
+    requires { length counters.now ≤ most_bins }
     ensures { result ≡ sum (map T.number counters.now) }
 {
     let mut total: u128 = 0;
@@ -63,7 +64,7 @@ fn add_block<T: Counter, F: Counter>(
     more: u128,
 ) -> u128
     requires len { length counters.old ≡ length source.now }
-    requires few { length counters.old ≤ 6291456 }
+    requires few { length counters.old ≤ most_bins }
     requires sum { had ≡ sum (map T.number counters.old) }
     requires more { more ≡ sum (map F.number source.now) }
     requires fits { had + more < 2 ^ 128 }

@@ -1,6 +1,7 @@
 //! The sums of blocks, handed out, and the sum of a part of a block.
 
 ghost use Rattle.std.specs.Prelude.{◌≡◌, ◌+◌, ◌*◌, ◌<◌, ◌≤◌, length, map, sum};
+ghost use Rattle.hdr_base.specs.Classes.{most_bins};
 ghost use Rattle.hdr_counts.specs.Blocks.{AreSums, sum_below};
 
 use crate::Counts;
@@ -34,7 +35,7 @@ impl<T: Counter> Counts<T> {
 
 /// The sum of a part of a block, in 64 bits where the sum of the whole block fits them.
 pub(crate) fn part_sum<T: Counter>(part: &[T], whole: u128) -> u128
-    requires few { length part.now ≤ 6291456 }
+    requires few { length part.now ≤ most_bins }
     requires within { sum (map T.number part.now) ≤ whole }
     ensures { result ≡ sum (map T.number part.now) }
 {

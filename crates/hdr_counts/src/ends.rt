@@ -1,6 +1,7 @@
 //! The first and the last of the counters that hold something.
 
 ghost use Rattle.std.specs.Prelude.{◌≡◌, ℕ, ◌<◌, ◌≤◌, IfSome, MatchOption, length, map, slice_index, sum};
+ghost use Rattle.hdr_base.specs.Classes.{most_bins};
 ghost use Rattle.hdr_counts.specs.Blocks.{AreSums, AreZeros, IsLastNonzero, IsFirstNonzero};
 
 use crate::Counts;
@@ -9,7 +10,7 @@ use hdr_base::Counter;
 impl<T: Counter> Counts<T> {
     /// The last place of a counter above 0. A block whose sum is 0 costs a look at it.
     pub fn last_nonzero(&self) -> Option<usize>
-        ensures within { IfSome result (λ m. m < 6291456) }
+        ensures within { IfSome result (λ m. m < most_bins) }
         ensures place { MatchOption result ((i : ℕ) → slice_index self.now.numbers i ≡ 0)
             (λ m. (0 < slice_index self.now.numbers m)
             × ((i : ℕ) → m < i → slice_index self.now.numbers i ≡ 0)) }
@@ -19,7 +20,7 @@ impl<T: Counter> Counts<T> {
 
     /// The first place after place 0 of a counter above 0. A block whose sum is 0 costs a look at it.
     pub fn next_nonzero(&self) -> Option<usize>
-        ensures within { IfSome result (λ m. (0 < m) × (m < 6291456)) }
+        ensures within { IfSome result (λ m. (0 < m) × (m < most_bins)) }
         ensures place { MatchOption result ((i : ℕ) → 0 < i → slice_index self.now.numbers i ≡ 0)
             (λ m. (0 < slice_index self.now.numbers m)
             × ((i : ℕ) → 0 < i → i < m → slice_index self.now.numbers i ≡ 0)) }
@@ -31,7 +32,7 @@ impl<T: Counter> Counts<T> {
 /// The last place of a counter above 0; `sums` are the sums of the blocks.
 fn last_place<T: Counter>(counters: &[T], sums: &[u128], block: usize) -> Option<usize>
     requires { AreSums block (map T.number counters.now) sums.now }
-    ensures within { IfSome result (λ m. m < 6291456) }
+    ensures within { IfSome result (λ m. m < most_bins) }
     ensures place { MatchOption result (AreZeros (map T.number counters.now))
         (IsLastNonzero (map T.number counters.now)) }
 {
@@ -48,7 +49,7 @@ fn last_place<T: Counter>(counters: &[T], sums: &[u128], block: usize) -> Option
 /// The first place after place 0 of a counter above 0; `sums` are the sums of the blocks.
 fn next_place<T: Counter>(counters: &[T], sums: &[u128], block: usize) -> Option<usize>
     requires { AreSums block (map T.number counters.now) sums.now }
-    ensures within { IfSome result (λ m. (0 < m) × (m < 6291456)) }
+    ensures within { IfSome result (λ m. (0 < m) × (m < most_bins)) }
     ensures place { MatchOption result ((i : ℕ) → 0 < i → slice_index (map T.number counters.now) i
         ≡ 0)
         (λ m. (0 < slice_index (map T.number counters.now) m)

@@ -9,6 +9,7 @@ mod open_counts;
 mod search;
 
 ghost use Rattle.std.specs.Prelude.{◌≡◌, ℕ, ◌+◌, ◌-◌, ◌*◌, ◌/◌, ◌%◌, ◌^◌, ◌<◌, ◌≤◌, length, take, map, sum, replicate, slice_index, slice_set, MatchOption, MatchResult, IfOk, IfSome, [], ◌++◌, All};
+ghost use Rattle.hdr_base.specs.Classes.{most_bins};
 ghost use Rattle.hdr_counts.specs.Blocks.{Blocks, sum_below, IsFirstToReach, looks, capped_sums, IsShift};
 
 use adding::add_blocks;
@@ -44,10 +45,10 @@ impl<T: Counter> Model for Counts<T> {
 }
 
 impl<T: Counter> Counts<T> {
-    /// Counters of 0, `blocks` times `block` of them. Refused for lack of memory alone.
+    /// Counters of 0, `blocks` times `block` of them. Refused only when memory runs out.
     pub fn new(alloc: Global, blocks: usize, block: usize) -> Result<Counts<T>, AllocError>
         requires some { 1 ≤ block }
-        requires few { blocks * block ≤ 6291456 }
+        requires few { blocks * block ≤ most_bins }
         ensures { IfOk result (λ c. c
             ≡ record { block = block; numbers = replicate (blocks * block) 0 }) }
     {
@@ -61,10 +62,10 @@ impl<T: Counter> Counts<T> {
         Ok(counts)
     }
 
-    /// As many blocks as `blocks`, the new ones all zero. Refused for lack of memory alone, and then unchanged.
+    /// As many blocks as `blocks`, the new ones all zero. Refused only when memory runs out, and then unchanged.
     pub fn grow(&mut self, blocks: usize) -> Result<(), AllocError>
         requires more { length self.old.numbers ≤ blocks * self.old.block }
-        requires few { blocks * self.old.block ≤ 6291456 }
+        requires few { blocks * self.old.block ≤ most_bins }
         ensures { MatchResult result (λ _. self.new
             ≡ record {
               block = self.old.block;
@@ -86,7 +87,7 @@ impl<T: Counter> Counts<T> {
     /// How many counters there are.
     pub fn len(&self) -> usize
         ensures value { result ≡ length self.now.numbers }
-        ensures few { length self.now.numbers ≤ 6291456 }
+        ensures few { length self.now.numbers ≤ most_bins }
         ensures fit { All (λ n. n ≤ T.greatest) self.now.numbers }
     {
         self.counters.len()
@@ -211,7 +212,7 @@ impl<T: Counter> Counts<T> {
             (λ s. (sum_below self.now.numbers (k * self.now.block) + s ≡ sum_below self.now.numbers
             ((k + 1) * self.now.block)) × ((k + 1) * self.now.block ≤ length self.now.numbers)) }
         ensures inside { IfSome result (λ _. k < length self.now.numbers) }
-        ensures few { length self.now.numbers ≤ 6291456 }
+        ensures few { length self.now.numbers ≤ most_bins }
     {
         if k < self.sums.len() {
             Some(self.sums[k])

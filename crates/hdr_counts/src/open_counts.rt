@@ -1,6 +1,7 @@
 //! Counters that are being set.
 
 ghost use Rattle.std.specs.Prelude.{◌≡◌, ℕ, ◌+◌, ◌*◌, ◌<◌, ◌≤◌, ◌++◌, false, length, map, replicate, slice_set, vec_capacity, All, IfOk};
+ghost use Rattle.hdr_base.specs.Classes.{most_bins};
 ghost use Rattle.hdr_counts.specs.Blocks.{AreSums, with_zeros};
 
 use crate::adding::sum_of;
@@ -43,7 +44,7 @@ impl<T: Counter> Model for OpenCounts<T> {
 
 impl<T: Counter> OpenCounts<T> {
     /// Counters of 0, `blocks` times `block` of them. `sets` is about how many will be set, and decides the time alone that
-    /// it takes. Refused for lack of memory alone.
+    /// it takes. Refused only when memory runs out.
     pub fn new(
         alloc: Global,
         blocks: usize,
@@ -51,7 +52,7 @@ impl<T: Counter> OpenCounts<T> {
         sets: usize,
     ) -> Result<OpenCounts<T>, AllocError>
         requires some { 1 ≤ block }
-        requires few { blocks * block ≤ 6291456 }
+        requires few { blocks * block ≤ most_bins }
         ensures { IfOk result (λ c. c
             ≡ record { block = block; numbers = replicate (blocks * block) 0 }) }
     {
@@ -72,7 +73,7 @@ impl<T: Counter> OpenCounts<T> {
     #[inline(always)]
     pub fn len(&self) -> usize
         ensures value { result ≡ length self.now.numbers }
-        ensures few { length self.now.numbers ≤ 6291456 }
+        ensures few { length self.now.numbers ≤ most_bins }
     {
         self.len
     }
@@ -167,7 +168,7 @@ impl<T: Counter> OpenCounts<T> {
 /// Has the counter at a place at hand, with zeros before it and after it where it was not.
 fn cover<T: Counter>(counters: &mut Vec<T>, i: usize, len: usize)
     requires inside { i < len }
-    requires few { len ≤ 6291456 }
+    requires few { len ≤ most_bins }
     requires within { length counters.old.items ≤ len }
     requires room { len ≤ vec_capacity counters.old }
     ensures numbers { (more : ℕ) × (map T.number counters.new.items
@@ -196,7 +197,7 @@ fn fill_up<T: Counter>(counters: &mut Vec<T>, len: usize)
 /// Makes the sums of the blocks, where that was left to the end.
 fn restate<T: Counter>(counters: &[T], sums: &mut [u128], block: usize, late: bool)
     requires some { 1 ≤ block }
-    requires few { length counters.now ≤ 6291456 }
+    requires few { length counters.now ≤ most_bins }
     requires whole { length counters.now ≡ length sums.old * block }
     requires fit { All (λ n. n ≤ T.greatest) (map T.number counters.now) }
     requires kept { late ≡ false → AreSums block (map T.number counters.now) sums.old }

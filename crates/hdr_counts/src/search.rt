@@ -1,6 +1,7 @@
 //! The first place of a block where its counters reach a rank.
 
 ghost use Rattle.std.specs.Prelude.{◌≡◌, ℕ, ◌+◌, ◌-◌, ◌*◌, ◌^◌, ◌<◌, ◌≤◌, length, take, drop, map, sum, MatchOption};
+ghost use Rattle.hdr_base.specs.Classes.{most_bins};
 ghost use Rattle.hdr_counts.specs.Blocks.{sum_below, IsFirstToReach};
 
 use crate::Counts;
@@ -20,12 +21,13 @@ pub struct Search<'a, T: Counter> {
 impl<'a, T: Counter> Model for Search<'a, T> {
     ghost use Rattle.std.specs.Prelude.{◌≡◌, ◌*◌, ◌≤◌};
     ghost use Rattle.hdr_counts.specs.Blocks.{Searched, sum_below};
+    ghost use Rattle.hdr_base.specs.Classes.{most_bins};
 
     ghost Value = { Searched };
 
     ghost view = { λ s. record { numbers = s.counts.now.numbers; passed = s.before } };
 
-    ghost invariant = { λ s. (s.before ≡ sum_below s.counts.now.numbers (s.block * s.counts.now.block)) × (s.block ≤ 6291456) };
+    ghost invariant = { λ s. (s.before ≡ sum_below s.counts.now.numbers (s.block * s.counts.now.block)) × (s.block ≤ most_bins) };
 }
 
 impl<'a, T: Counter> Search<'a, T> {
@@ -101,7 +103,7 @@ pub(crate) fn first_reaching_looked<T: Counter>(
 /// a few counters are added up at once.
 pub(crate) fn first_reaching<T: Counter>(counters: &[T], rest: u64, whole: u128) -> Option<usize>
     requires some { 1 ≤ rest }
-    requires few { length counters.now ≤ 6291456 }
+    requires few { length counters.now ≤ most_bins }
     requires whole { whole ≡ sum (map T.number counters.now) }
     ensures { MatchOption result (sum (map T.number counters.now) < rest)
         (IsFirstToReach (map T.number counters.now) rest) }
@@ -115,7 +117,7 @@ pub(crate) fn first_reaching<T: Counter>(counters: &[T], rest: u64, whole: u128)
 
 fn by_few<T: Counter>(counters: &[T], mut rest: u64) -> Option<usize>
     requires some { 1 ≤ rest }
-    requires few { length counters.now ≤ 6291456 }
+    requires few { length counters.now ≤ most_bins }
     requires fits { sum (map T.number counters.now) < 2 ^ 64 }
     ensures { MatchOption result (sum (map T.number counters.now) < rest)
         (IsFirstToReach (map T.number counters.now) rest) }

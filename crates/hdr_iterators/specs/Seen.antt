@@ -1,6 +1,6 @@
 -- A histogram as its iterators see it.
 use Rattle.std.specs.Prelude.{◌≡◌, ℕ, ◌+◌, ◌-◌, ◌*◌, ◌^◌, ◌<◌, ◌≤◌, min, List, length, take, sum, slice_index}
-use Rattle.hdr_base.specs.Classes.{Grain, bin_of, value_of, top_of}
+use Rattle.hdr_base.specs.Classes.{most_bins, Grain, bin_of, value_of, top_of}
 
 -- the classes, the number of each bin, how many samples there are, and the bin of the greatest value that counts as
 -- recorded: the first where there is none
@@ -39,14 +39,14 @@ running h i = capped (below h (i + 1))
 -- what is true of the bins of every histogram: they are classes of u64 values, and none after the last holds a sample
 pub record AreBins (h : Seen) : Type 0 where
   pub some : 0 < length h.numbers
-  pub few : length h.numbers ≤ 6291456
+  pub few : length h.numbers ≤ most_bins
   pub digits : 0 < h.grain.digits
   pub grain_fits : h.grain.unit + h.grain.digits ≤ 63
   pub within : length h.numbers ≤ bin_of h.grain (2 ^ 64 - 1) + 1
   pub total_fits : h.total < 2 ^ 64
   pub counted : capped (sum h.numbers) ≤ h.total
   pub last_inside : h.last < length h.numbers
-  pub none_behind : (i : ℕ) → h.last < i → slice_index h.numbers i ≡ 0
+  pub none_above : (i : ℕ) → h.last < i → slice_index h.numbers i ≡ 0
 
 -- the numbers of the bins from a up to b are 0
 abbrev pub AreEmpty : List ℕ → ℕ → ℕ → Type 0

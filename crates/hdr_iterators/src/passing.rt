@@ -1,6 +1,7 @@
 //! Empty counters passed over.
 
 ghost use Rattle.std.specs.Prelude.{◌≡◌, ◌↔◌, ◌≤◌, IsTrue, MatchOption, length, map};
+ghost use Rattle.hdr_base.specs.Classes.{most_bins};
 ghost use Rattle.hdr_iterators.specs.Seen.{AreEmpty, IsFirstFilled};
 
 use hdr_base::Counter;
@@ -10,7 +11,7 @@ const FEW: usize = 16;
 
 /// The first place of a counter above 0 among the last ones of a block whose sum is `whole`.
 pub(crate) fn first_in_block<T: Counter>(counters: &[T], whole: u128) -> Option<usize>
-    requires few { length counters.now ≤ 6291456 }
+    requires few { length counters.now ≤ most_bins }
     requires whole { whole ≡ 0 → AreEmpty (map T.number counters.now) 0 (length counters.now) }
     ensures { MatchOption result (AreEmpty (map T.number counters.now) 0 (length counters.now))
         (IsFirstFilled (map T.number counters.now)) }
@@ -23,7 +24,7 @@ pub(crate) fn first_in_block<T: Counter>(counters: &[T], whole: u128) -> Option<
 
 /// The first place of a counter above 0.
 fn first_filled<T: Counter>(counters: &[T]) -> Option<usize>
-    requires { length counters.now ≤ 6291456 }
+    requires { length counters.now ≤ most_bins }
     ensures { MatchOption result (AreEmpty (map T.number counters.now) 0 (length counters.now))
         (IsFirstFilled (map T.number counters.now)) }
 {

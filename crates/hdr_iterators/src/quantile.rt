@@ -50,7 +50,7 @@ impl Tick {
     }
 
     /// How many of them are after the tick.
-    fn behind(&self) -> u128
+    fn left_after(&self) -> u128
         ensures value { (tick_of self.now.per_half self.now.number).num + result
             ≡ (tick_of self.now.per_half self.now.number).den }
         ensures few { result < 2 ^ 33 }
@@ -63,7 +63,7 @@ impl Tick {
     {
         let whole = self.whole();
         Fraction {
-            num: whole - self.behind(),
+            num: whole - self.left_after(),
             den: whole,
         }
     }
@@ -72,7 +72,7 @@ impl Tick {
     fn reached_at(&self, total: u64) -> u64
         ensures { IsReachedAt self.now.per_half self.now.number total result }
     {
-        let left = self.behind() * u128::from(total) / self.whole();
+        let left = self.left_after() * u128::from(total) / self.whole();
         total - left as u64
     }
 

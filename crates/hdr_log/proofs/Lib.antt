@@ -1,14 +1,14 @@
-pub mod Digits
-pub mod NumberLemmas
-mod FirstBytes
-pub mod Fronts
-pub mod Steps
-pub mod Counted
-pub mod Comments
-pub mod PieceTexts
-pub mod Base64Fields
-pub mod Times
-pub mod Lines
-pub mod Logs
-pub mod Whole
-pub mod Rows
+pub mod PartsDigits
+pub mod PartsNumbers
+mod PartsFirst
+pub mod PartsFronts
+pub mod GrammarSteps
+pub mod PartsCounted
+pub mod TextsComments
+pub mod PiecesTexts
+pub mod TextsBase64
+pub mod TextsTimes
+pub mod GrammarLines
+pub mod GrammarLogs
+pub mod GrammarWhole
+pub mod GrammarRows

@@ -28,10 +28,10 @@ time_before b text = do
   Some (time, sides.1)
 
 -- what follows a front
-abbrev pub behind : List ℕ → List ℕ → Option (List ℕ)
-behind [] text = Some text
-behind (c ∷ front) [] = None
-behind (c ∷ front) (x ∷ text) = if c == x then behind front text else None
+abbrev pub after_front : List ℕ → List ℕ → Option (List ℕ)
+after_front [] text = Some text
+after_front (c ∷ front) [] = None
+after_front (c ∷ front) (x ∷ text) = if c == x then after_front front text else None
 
 -- a byte of a tag is no comma, CR, LF or space
 abbrev pub is_tag_byte : ℕ → Bool
@@ -84,7 +84,7 @@ tag_of (Some rest) line = do
 -- `Tag=` tag `,` or nothing, then start `,` duration `,` max `,` field
 unfoldable pub interval_of : List ℕ → Option Interval
 interval_of line = do
-  tag ← tag_of (behind (codes "Tag=") line) line
+  tag ← tag_of (after_front (codes "Tag=") line) line
   start ← time_before 44 tag.1
   duration ← time_before 44 start.1
   max ← split_at_byte 44 duration.1
@@ -95,7 +95,7 @@ interval_of line = do
 -- the time of a header of this name: after it stand a space and any text
 unfoldable pub header_of : List ℕ → List ℕ → Option ℕ
 header_of name line = do
-  rest ← behind name line
+  rest ← after_front name line
   time ← time_before 32 rest
   Some time.0
 
@@ -108,7 +108,7 @@ entry_of line =
 
 -- a line that says nothing: a comment, or the legend of the Java tool's columns
 unfoldable pub is_skipped : List ℕ → Bool
-is_skipped line = is_some (behind (codes "#") line) || is_some (behind (codes "\"StartTimestamp\"") line)
+is_skipped line = is_some (after_front (codes "#") line) || is_some (after_front (codes "\"StartTimestamp\"") line)
 
 -- the line at this place says an entry, or nothing, or it ends the reading with its place
 abbrev pub and_then : Option Entry → Bool → ℕ → List (Result Entry ℕ) → List (Result Entry ℕ)

@@ -56,11 +56,6 @@ abbrev pub interval_line : Option (List ℕ) → ℕ → ℕ → ℕ → List �
 interval_line tag start duration max field =
     tag_front tag ++ (thousandths start ++ 44 ∷ (thousandths duration ++ 44 ∷ (thousandths max ++ 44 ∷ field)))
 
--- what stands before the field of an interval
-abbrev pub interval_front : Option (List ℕ) → ℕ → ℕ → ℕ → List ℕ
-interval_front tag start duration max =
-    tag_front tag ++ (thousandths start ++ 44 ∷ (thousandths duration ++ 44 ∷ (thousandths max ++ 44 ∷ [])))
-
 -- what may stand as a tag
 abbrev pub AreTags : Option (List ℕ) → Type 0
 AreTags None = Unit {0}

@@ -3,7 +3,7 @@
 ghost use Rattle.std.specs.Prelude.{◌≡◌, codes};
 ghost use Rattle.std.specs.Option.{option_map, is_some};
 ghost use Rattle.std.specs.Duration.{as_nanos};
-ghost use Rattle.hdr_log.specs.Grammar.{behind, time_before, tag_of, is_decimal, without_crs, only_if, interval_of, header_of, entry_of, is_skipped};
+ghost use Rattle.hdr_log.specs.Grammar.{after_front, time_before, tag_of, is_decimal, without_crs, only_if, interval_of, header_of, entry_of, is_skipped};
 ghost use Rattle.hdr_log.specs.Tags.{tag_text};
 ghost use Rattle.hdr_log.specs.Reading.{view_of_interval, view_of_entry};
 ghost use Rattle.std.specs.Str.{is_utf8};
@@ -15,7 +15,7 @@ use std::time::Duration;
 
 /// What follows a front.
 fn strip<'a>(text: &'a [u8], front: &[u8]) -> Option<&'a [u8]>
-    ensures { option_map (λ x. x.now) result ≡ behind front.now text.now }
+    ensures { option_map (λ x. x.now) result ≡ after_front front.now text.now }
 {
     text.strip_prefix(front)
 }
@@ -38,7 +38,7 @@ fn trimmed(field: &[u8]) -> &[u8]
 /// The tag in front of an interval, if it has one, and what follows it.
 fn tag(line: &[u8]) -> Option<(Option<Tag<'_>>, &[u8])>
     ensures { option_map (λ p. (option_map tag_text p.0, p.1.now)) result ≡ tag_of
-        (behind (codes "Tag=") line.now) line.now }
+        (after_front (codes "Tag=") line.now) line.now }
 {
     let Some(rest) = strip(line, b"Tag=") else {
         return Some((None, line));

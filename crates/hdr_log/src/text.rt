@@ -1,5 +1,5 @@
 //! The texts that a log is written by. Each call adds to a text, so that what is written can be built whole first. A
-//! refusal for lack of memory may leave a part of what it was to add.
+//! refusal when memory runs out may leave a part of what it was to add.
 
 ghost use Rattle.std.specs.Prelude.{◌≡◌, ◌+◌, ◌*◌, ◌/◌, ◌<◌, ◌^◌, ◌++◌, ◌∷◌, [], OnOk, IfSome, SomeIff};
 ghost use Rattle.std.specs.Fmt.{decimal};
@@ -79,9 +79,9 @@ pub fn push_comment(text: &mut Vec<u8>, comment: &str) -> Result<(), AllocError>
     ensures { OnOk result (text.new.items ≡ text.old.items ++ piece_text (Comment comment.now)) }
 {
     let mut rest = comment.as_bytes();
-    while let Some((part, behind)) = split_once(rest, b'\n') {
+    while let Some((part, tail)) = split_once(rest, b'\n') {
         push_comment_line(text, part)?;
-        rest = behind;
+        rest = tail;
     }
     push_comment_line(text, rest)
 }

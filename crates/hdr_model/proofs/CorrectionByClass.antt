@@ -7,11 +7,11 @@ use Rattle.std.proofs.lemmas.Nat.{div-add-mod', mod_below}
 use Rattle.std.proofs.lemmas.List.Elements.{All-weaker, All-nil, All-cons, All-head, All-tail}
 use Rattle.std.proofs.Math.Nat.{pow-le-pow_right}
 use Rattle.hdr_base.specs.Classes.{Grain, bin_of, lowest_of, digits_of, grain_of, reach_of, bins_to}
-use Rattle.hdr_base.proofs.Least.{least_from-le}
-use Rattle.hdr_base.proofs.ScaleLaws.{bin-bound}
-use Rattle.hdr_base.proofs.Reach.{reach-fits, reach-holds}
+use Rattle.hdr_base.proofs.ClassesLeast.{least_from-le}
+use Rattle.hdr_base.proofs.ClassesScale.{bin-bound}
+use Rattle.hdr_base.proofs.ClassesReach.{reach-fits, reach-holds}
 use Rattle.hdr_model.proofs.PlainKept.{grain-digits, grain-fits, leb-no, leb-yes}
-use Rattle.hdr_base.proofs.ClassLaws.{lowest-le, top-above, same-bin, bin-lowest}
+use Rattle.hdr_base.proofs.ClassesLaws.{lowest-le, top-above, same-bin, bin-lowest}
 use Rattle.hdr_model.specs.Plain.{Plain, IsPlain, grain, reach}
 use Rattle.hdr_model.specs.Recording.{Times, with_bins_to, with_bins_for, after_add_to_bin, after_record, after_records, high_with}
 use Rattle.hdr_model.specs.Correction.{each_times, classes_held, missing, down_to, after_correct}

@@ -5,7 +5,7 @@ use Rattle.std.proofs.lemmas.Bool.{cases_lt}
 use Rattle.std.proofs.lemmas.List.{length-replicate, get_or_past}
 use Rattle.std.proofs.lemmas.List.Elements.{All-head, All-tail}
 use Rattle.hdr_base.specs.Classes.{value_of, top_of, bin_of, bins_to}
-use Rattle.hdr_base.proofs.Finer.{bin-value_of}
+use Rattle.hdr_base.proofs.ClassesFiner.{bin-value_of}
 use Rattle.hdr_counts.specs.Blocks.{capped_sums}
 use Rattle.hdr_model.specs.Plain.{Plain, IsPlain, grain, reach, empty_plain}
 use Rattle.hdr_model.specs.Merging.{same_bins, after_add_same_bins, highest_top}

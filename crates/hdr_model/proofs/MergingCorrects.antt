@@ -7,9 +7,9 @@ use Rattle.std.specs.List.{All}
 use Rattle.std.proofs.lemmas.List.{length-append, take_more, get_or_past, length-take-le, append-nil, append_assoc}
 use Rattle.std.proofs.lemmas.List.Elements.{All-append, All-cons, All-nil, All-weaker}
 use Rattle.hdr_base.specs.Classes.{Grain, bin_of, value_of, top_of, reach_of}
-use Rattle.hdr_base.proofs.ClassLaws.{bin-top, same-bin, lowest-le, top-above}
-use Rattle.hdr_base.proofs.Finer.{bin-value_of}
-use Rattle.hdr_base.proofs.Reach.{reach-fits}
+use Rattle.hdr_base.proofs.ClassesLaws.{bin-top, same-bin, lowest-le, top-above}
+use Rattle.hdr_base.proofs.ClassesFiner.{bin-value_of}
+use Rattle.hdr_base.proofs.ClassesReach.{reach-fits}
 use Rattle.hdr_model.specs.Plain.{Plain, IsPlain, grain, reach}
 use Rattle.hdr_model.specs.Samples.{in_class, StandsFor, Fits}
 use Rattle.hdr_model.specs.Recording.{Times, samples_of, after_add_to_bin, after_record, after_records, with_bins_for, with_bins_to, after_reset, high_with}

@@ -1,10 +1,10 @@
 -- What the classes of another histogram hold of a class, one more at a time.
-use Rattle.std.proofs.Common.{◌≡◌, ◌≢◌, ℕ, zero, suc, ◌+◌, ◌-◌, ◌<◌, ◌≤◌, List, [], ◌∷◌, ◌++◌, length, get_or, take, drop, replicate, refl, sym, ap, subst, ◌∙◌, arith, inl, inr, Option, Some, None, set, sum}
+use Rattle.std.proofs.Common.{◌≡◌, ◌≢◌, ℕ, zero, suc, ◌+◌, ◌-◌, ◌<◌, ◌≤◌, List, [], ◌∷◌, ◌++◌, length, get_or, take, drop, replicate, refl, sym, ap, subst, ◌∙◌, arith, inl, inr, set, sum}
 use Rattle.std.proofs.lemmas.Bool.{cases_lt, cases_eq}
 use Rattle.std.proofs.lemmas.List.{get_or_past, get_or-set_same, get_or-set_other, append-nil, take_more, take_all, length-take-le, take-append-drop}
 use Rattle.hdr_base.specs.Classes.{Grain, bin_of, value_of}
-use Rattle.hdr_base.proofs.ClassLaws.{bin-mono}
-use Rattle.hdr_base.proofs.Finer.{bin-value_of}
+use Rattle.hdr_base.proofs.ClassesLaws.{bin-mono}
+use Rattle.hdr_base.proofs.ClassesFiner.{bin-value_of}
 use Rattle.hdr_model.specs.Samples.{in_class}
 use Rattle.hdr_model.specs.Recording.{Times, samples_of}
 use Rattle.hdr_model.specs.Merging.{classes_from}
@@ -129,11 +129,6 @@ module _ (g f : Grain) (counts ns : List ℕ) (i at sum before target : ℕ) (mf
         later = λ j past. omega (arith, away j (λ e. omega arith), t.later j (omega arith));
         order = λ k le. omega (arith, bin-mono g (value_of f i) (value_of f k) mg (value_of-mono f i k mf (omega arith)));
       }
-
--- the last place of a number above 0 among the first n
-abbrev pub IsTopBefore : List ℕ → ℕ → Option ℕ → Type 0
-IsTopBefore counts n None = (i : ℕ) → i < n → get_or counts i 0 ≡ 0
-IsTopBefore counts n (Some m) = (0 < get_or counts m 0) × (m < n) × ((i : ℕ) → m < i → i < n → get_or counts i 0 ≡ 0)
 
 -- a place of a number above 0 is a place
 pub place-in : (counts : List ℕ) (i : ℕ) → 0 < get_or counts i 0 → i < length counts

@@ -5,15 +5,15 @@ use Rattle.std.proofs.lemmas.Bool.{cases_lt}
 use Rattle.std.proofs.lemmas.List.{get_or_past, take_more, length-take-le}
 use Rattle.std.proofs.lemmas.List.Sums.{get_or-le-sum_by}
 use Rattle.hdr_base.specs.Classes.{Grain, bin_of, top_of, value_of, reach_of}
-use Rattle.hdr_base.proofs.ClassLaws.{bin-mono, bin-top, top-of-value}
-use Rattle.hdr_base.proofs.Finer.{bin-value_of}
+use Rattle.hdr_base.proofs.ClassesLaws.{bin-mono, bin-top, top-of-value}
+use Rattle.hdr_base.proofs.ClassesFiner.{bin-value_of}
 use Rattle.hdr_model.specs.Plain.{Plain, IsPlain, grain, reach, max_of}
 use Rattle.hdr_model.specs.Marks.{IsAbove, IsBelow, top_of_mark, later_of, earlier_of}
 use Rattle.hdr_model.specs.Recording.{with_bins_to, after_add_to_bin, after_record, Times, after_records}
 use Rattle.hdr_model.specs.Merging.{classes_from, top_class, same_bins, after_add_same_bins, after_add_within, with_room, after_add}
 use Rattle.hdr_counts.specs.Blocks.{capped_sums}
-use Rattle.hdr_counts.proofs.CappedSums.{capped-length, capped-get, capped-fit, capped-sum, capped-nothing}
-use Rattle.hdr_base.proofs.Reach.{reach-holds}
+use Rattle.hdr_counts.proofs.BlocksCapped.{capped-length, capped-get, capped-fit, capped-sum, capped-nothing}
+use Rattle.hdr_base.proofs.ClassesReach.{reach-holds}
 use Rattle.hdr_model.proofs.PlainKept.{above-later, later-in, earlier-in, widened-same, grain-digits, leb-yes, leb-no}
 
 -- ---- the greatest value

@@ -6,9 +6,9 @@ use Rattle.std.proofs.lemmas.List.{get_or_past, get_or-set_same, get_or-set_othe
 use Rattle.std.proofs.lemmas.List.Elements.{All-head, All-tail}
 use Rattle.std.proofs.lemmas.List.Sums.{get_or-le-sum_by, sum_by-cons}
 use Rattle.hdr_base.specs.Classes.{Grain, bin_of, value_of, top_of}
-use Rattle.hdr_base.proofs.Finer.{bin-value_of}
-use Rattle.hdr_base.proofs.Reach.{reach-fits}
-use Rattle.hdr_counts.proofs.CappedSums.{capped-get}
+use Rattle.hdr_base.proofs.ClassesFiner.{bin-value_of}
+use Rattle.hdr_base.proofs.ClassesReach.{reach-fits}
+use Rattle.hdr_counts.proofs.BlocksCapped.{capped-get}
 use Rattle.hdr_model.specs.Plain.{Plain, IsPlain, grain, reach, max_of}
 use Rattle.hdr_model.specs.Recording.{after_add_to_bin, after_record, with_bins_to, Times, after_records, samples_of}
 use Rattle.hdr_model.specs.Merging.{classes_from, top_class, same_bins, after_add_same_bins, after_add_within, with_room, after_add, lowest_values, highest_top}

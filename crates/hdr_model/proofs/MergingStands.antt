@@ -8,18 +8,18 @@ use Rattle.std.proofs.lemmas.List.Sums.{sum_by-cons, sum_by-append}
 use Rattle.std.proofs.lemmas.List.Folds.{sum_by-replicate}
 use Rattle.std.proofs.lemmas.List.Elements.{All-cons, All-head, All-tail, All-append, All-weaker}
 use Rattle.hdr_base.specs.Classes.{Grain, bin_of, value_of, IsFiner, reach_of}
-use Rattle.hdr_base.proofs.Finer.{bin-value_of, finer-bin}
+use Rattle.hdr_base.proofs.ClassesFiner.{bin-value_of, finer-bin}
 use Rattle.hdr_model.specs.Plain.{Plain, IsPlain, grain, reach, max_of}
 use Rattle.hdr_model.specs.Recording.{after_add_to_bin, after_record, with_bins_to, with_bins_for, high_with, Times, after_records, samples_of}
 use Rattle.hdr_model.specs.Samples.{in_class, StandsFor, Fits}
 use Rattle.hdr_model.specs.Merging.{classes_from, top_class, same_bins, after_add_same_bins, after_add_within, with_room, after_add}
 use Rattle.hdr_counts.specs.Blocks.{capped_sums}
 use Rattle.hdr_model.proofs.PlainKept.{IsPlain-added, IsPlain-grown, grain-digits, grain-recorded, room-in, leb-yes, leb-no, grain-fits}
-use Rattle.hdr_base.proofs.Reach.{reach-fits}
+use Rattle.hdr_base.proofs.ClassesReach.{reach-fits}
 use Rattle.hdr_model.proofs.RecordingStands.{StandsFor-recorded, StandsFor-grown}
 use Rattle.hdr_model.proofs.QuantilesOrder.{in_first-all, running}
 use Rattle.hdr_model.proofs.MergingKeeps.{number-le-max, recorded-inside, reach-recorded, joined-empty, joined-some, same-bins, with_room-same, with_room-more, with_room-reach, taken-same, taken-other, value-le-max, merged-none, merged-some}
-use Rattle.hdr_counts.proofs.CappedSums.{capped-get, capped-length}
+use Rattle.hdr_counts.proofs.BlocksCapped.{capped-get, capped-length}
 
 pub spread-append : (ts us : List Times) → samples_of (ts ++ us) ≡ samples_of ts ++ samples_of us
 spread-append [] us = refl

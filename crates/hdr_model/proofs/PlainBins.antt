@@ -1,13 +1,13 @@
 -- How many bins there are, and the bin of the greatest value.
 use Rattle.std.proofs.Common.{◌≡◌, ℕ, ◌+◌, ◌-◌, ◌*◌, ◌<◌, ◌≤◌, length, ◌∙◌, ap, arith, Option, Some, None, IfSome, unwrap_or, lit≤, inl, inr}
 use Rattle.std.proofs.lemmas.Bool.{cases_lt}
-use Rattle.hdr_base.specs.Classes.{Grain, grain_of, bucket, bin_of, value_of, top_of, lowest_of, width_of, reach_of, digits_of, unit_of}
-use Rattle.hdr_base.proofs.ClassLaws.{same-bin, width-pos}
-use Rattle.hdr_base.proofs.ScaleLaws.{bucket-bound, blocks-most}
-use Rattle.hdr_base.proofs.Digits.{digits-pos-of, digits-mono, digits-IsLeast}
-use Rattle.hdr_base.proofs.Reach.{past-bins, bins-blocks, bins_by}
-use Rattle.hdr_base.proofs.Finer.{bin-value_of}
-use Rattle.hdr_base.proofs.Intervals.{bin-first}
+use Rattle.hdr_base.specs.Classes.{most_bins, Grain, grain_of, bucket, bin_of, value_of, top_of, lowest_of, width_of, reach_of, digits_of, unit_of}
+use Rattle.hdr_base.proofs.ClassesLaws.{same-bin, width-pos}
+use Rattle.hdr_base.proofs.ClassesScale.{bucket-bound, blocks-most}
+use Rattle.hdr_base.proofs.ClassesDigits.{digits-pos-of, digits-mono, digits-IsLeast}
+use Rattle.hdr_base.proofs.ClassesReach.{past-bins, bins-blocks, bins_by}
+use Rattle.hdr_base.proofs.ClassesFiner.{bin-value_of}
+use Rattle.hdr_base.proofs.ClassesIntervals.{bin-first}
 use Rattle.hdr_model.specs.Plain.{Plain, IsPlain, grain, reach, block_of, max_of}
 use Rattle.hdr_model.specs.Marks.{top_of_mark}
 
@@ -28,7 +28,7 @@ unfolding grain_of
 fits-of low sigfig h = h
 
 -- a histogram has at most 6,291,456 bins
-pub few-bins : (greatest : ℕ) (h : Plain) → IsPlain greatest h → length h.counts ≤ 6291456
+pub few-bins : (greatest : ℕ) (h : Plain) → IsPlain greatest h → length h.counts ≤ most_bins
 few-bins greatest h p =
     let g = grain h in
     let bound = bucket-bound g h.high p.high_fits (fits-of h.low h.sigfig p.scale.fits) in

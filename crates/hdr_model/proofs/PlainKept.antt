@@ -7,12 +7,12 @@ use Rattle.std.proofs.lemmas.List.Elements.{All-set, All-append, All-replicate}
 use Rattle.hdr_base.specs.Classes.{Grain, bucket, bin_of, reach_of, HasScale, grain_of, bins_to}
 use Rattle.std.proofs.lemmas.List.Sums.{sum_by-set, get_or-le-sum_by, sum_by-append}
 use Rattle.std.proofs.lemmas.List.Folds.{sum_by-replicate}
-use Rattle.hdr_base.proofs.ClassLaws.{bin-mono}
+use Rattle.hdr_base.proofs.ClassesLaws.{bin-mono}
 use Rattle.hdr_model.specs.Plain.{Plain, IsPlain, grain, reach, empty_plain}
 use Rattle.hdr_model.specs.Marks.{IsAbove, IsBelow, later_mark, earlier_mark}
 use Rattle.hdr_model.specs.Recording.{with_bins_to, with_bins_for, after_add_to_bin, after_record}
-use Rattle.hdr_base.proofs.Reach.{reach-holds, reach-reach, reach-fits, bins-blocks, within-bins, past-bins, bins-mono}
-use Rattle.hdr_base.proofs.Digits.{digits-pos}
+use Rattle.hdr_base.proofs.ClassesReach.{reach-holds, reach-reach, reach-fits, bins-blocks, within-bins, past-bins, bins-mono}
+use Rattle.hdr_base.proofs.ClassesDigits.{digits-pos}
 
 -- a histogram whose parts are those of an added count
 pub added-parts : (greatest : ℕ) (h : Plain) (i n : ℕ) (counts : List ℕ) (total : ℕ) (top low : Option ℕ)

@@ -9,12 +9,12 @@ use Rattle.std.proofs.Math.Nat.{one-le-pow}
 use Rattle.std.proofs.lemmas.Nat.{div-add-mod', mod_below, div_below, mul-le}
 use Rattle.hdr_base.specs.Fractions.{Ratio}
 use Rattle.hdr_base.specs.Classes.{Grain, bin_of, lowest_of, top_of, width_of, grain_of}
-use Rattle.hdr_base.proofs.ClassLaws.{bin-top, top-of-value, lowest-le, width-of-units, width-bound, width-pos}
+use Rattle.hdr_base.proofs.ClassesLaws.{bin-top, top-of-value, lowest-le, width-of-units, width-bound, width-pos}
 use Rattle.hdr_counts.specs.Blocks.{IsFirstToReach, looks}
 use Rattle.hdr_model.specs.Plain.{Plain, IsPlain, grain, reach}
 use Rattle.hdr_model.specs.Samples.{StandsFor}
 use Rattle.hdr_model.specs.Quantiles.{sorted, rank, ranked_sample, IsTopNear}
-use Rattle.hdr_base.proofs.Digits.{digits-enough}
+use Rattle.hdr_base.proofs.ClassesDigits.{digits-enough}
 use Rattle.hdr_model.proofs.PlainKept.{grain-digits, room-in}
 use Rattle.hdr_model.proofs.QuantilesOrder.{FirstReaching, class-of-rank, in_first-all, running}
 

@@ -7,7 +7,7 @@ use Rattle.std.proofs.lemmas.List.{take_all}
 use Rattle.std.proofs.lemmas.List.Sums.{sum_by-cons}
 use Rattle.hdr_base.specs.Fractions.{Ratio}
 use Rattle.hdr_base.specs.Classes.{value_of}
-use Rattle.hdr_base.proofs.Finer.{bin-value_of}
+use Rattle.hdr_base.proofs.ClassesFiner.{bin-value_of}
 use Rattle.hdr_counts.specs.Blocks.{IsFirstToReach}
 use Rattle.hdr_model.specs.Plain.{Plain, IsPlain, grain}
 use Rattle.hdr_model.specs.Samples.{StandsFor}

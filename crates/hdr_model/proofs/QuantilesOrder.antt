@@ -6,7 +6,7 @@ use Rattle.std.proofs.lemmas.Bool.{cases_lt}
 use Rattle.std.proofs.lemmas.List.Sums.{sum_by-cons, sum_by_more, sum_by-le-sum_by}
 use Rattle.std.proofs.lemmas.List.Elements.{All-cons, All-head, All-tail, All-weaker}
 use Rattle.hdr_base.specs.Classes.{Grain, bin_of}
-use Rattle.hdr_base.proofs.ClassLaws.{bin-mono}
+use Rattle.hdr_base.proofs.ClassesLaws.{bin-mono}
 use Rattle.hdr_model.specs.Plain.{Plain, grain}
 use Rattle.hdr_model.specs.Samples.{in_class, StandsFor}
 use Rattle.hdr_model.specs.Quantiles.{put_in_order, sorted}

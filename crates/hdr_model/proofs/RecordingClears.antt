@@ -7,7 +7,7 @@ use Rattle.std.proofs.lemmas.List.{length-replicate, length-append}
 use Rattle.std.proofs.lemmas.List.Elements.{All-replicate, All-nil}
 use Rattle.std.proofs.lemmas.List.Folds.{sum_by-replicate}
 use Rattle.hdr_base.specs.Classes.{grain_of, top_of, value_of, bins_to}
-use Rattle.hdr_base.proofs.Reach.{reach-holds}
+use Rattle.hdr_base.proofs.ClassesReach.{reach-holds}
 use Rattle.hdr_model.specs.Plain.{Plain, IsPlain, grain, reach, empty_plain, max_of, min_nz_of, min_of}
 use Rattle.hdr_model.specs.Marks.{top_of_mark, value_of_mark}
 use Rattle.hdr_model.specs.Recording.{with_bins_to, with_bins_for, after_add_to_bin, after_record, clamp_to_bins, after_clear, after_reset, clamp}

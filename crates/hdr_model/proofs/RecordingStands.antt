@@ -12,7 +12,7 @@ use Rattle.hdr_base.specs.Classes.{Grain, bin_of, reach_of, bins_to}
 use Rattle.hdr_model.specs.Plain.{Plain, IsPlain, grain, reach}
 use Rattle.hdr_model.specs.Recording.{with_bins_to, after_add_to_bin, after_record}
 use Rattle.hdr_model.specs.Samples.{in_class, StandsFor, Fits}
-use Rattle.hdr_base.proofs.Reach.{reach-holds, reach-reach}
+use Rattle.hdr_base.proofs.ClassesReach.{reach-holds, reach-reach}
 use Rattle.hdr_model.proofs.PlainKept.{widened-same, widened-more, room-in, room-widened, past-reach}
 
 pub eqb-same : (a : ℕ) → eqb a a ≡ true

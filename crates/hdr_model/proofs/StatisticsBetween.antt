@@ -7,7 +7,7 @@ use Rattle.std.proofs.lemmas.Bool.{cases_lt}
 use Rattle.std.proofs.lemmas.List.Sums.{sum_by-cons, sum_by-append, sum_by-take-drop, count_by-le-length}
 use Rattle.std.proofs.lemmas.List.Folds.{drop_split}
 use Rattle.hdr_base.specs.Classes.{Grain, bin_of, lowest_of, top_of, width_of}
-use Rattle.hdr_base.proofs.ClassLaws.{bin-mono, bin-lowest, bin-top, same-bin, lowest-le, width-pos, top-of-value}
+use Rattle.hdr_base.proofs.ClassesLaws.{bin-mono, bin-lowest, bin-top, same-bin, lowest-le, width-pos, top-of-value}
 use Rattle.hdr_model.specs.Plain.{Plain, IsPlain, grain, reach}
 use Rattle.hdr_model.specs.Samples.{StandsFor}
 use Rattle.hdr_model.specs.Statistics.{held_bin, sum_between, samples_between}

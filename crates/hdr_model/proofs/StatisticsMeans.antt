@@ -1,6 +1,5 @@
 -- The sum of numbers weighed by their classes.
-use Rattle.std.proofs.Common.{◌≡◌, ℕ, zero, suc, ◌+◌, ◌-◌, ◌*◌, ◌^◌, ◌<◌, ◌≤◌, List, [], ◌∷◌, length, get_or, take, Some, None, refl, ap, arith, eq-eqb}
-use Rattle.std.proofs.lemmas.List.{take_all}
+use Rattle.std.proofs.Common.{◌≡◌, ℕ, zero, suc, ◌+◌, ◌-◌, ◌*◌, ◌^◌, ◌<◌, List, [], ◌∷◌, length, get_or, take, Some, None, refl, ap, arith, eq-eqb}
 use Rattle.hdr_base.specs.Classes.{Grain, value_of}
 use Rattle.hdr_model.specs.Plain.{Plain, grain}
 use Rattle.hdr_model.specs.Statistics.{median_of, weight_from, mean_of}
@@ -17,9 +16,6 @@ weighed-more g k (n ∷ ns) (suc i) lt =
     let e : median_of g (value_of g (suc k + i)) * get_or ns i 0 ≡ median_of g (value_of g (k + suc i)) * get_or ns i 0 = ap (λ j. median_of g (value_of g j) * get_or ns i 0) (let z : suc k + i ≡ k + suc i = omega arith in z) in
     let on : weight_from g k (take (suc i + 1) (n ∷ ns)) ≡ weight_from g k (take (suc (i + 1)) (n ∷ ns)) = ap (λ j. weight_from g k (take j (n ∷ ns))) (let z : suc i + 1 ≡ suc (i + 1) = omega arith in z) in
     omega (arith, weighed-more g (suc k) ns i (omega (arith, lt)), e, on)
-
-pub weighed-all : (g : Grain) (ns : List ℕ) (i : ℕ) → length ns ≤ i → weight_from g 0 (take i ns) ≡ weight_from g 0 ns
-weighed-all g ns i le = ap (weight_from g 0) (take_all i ns le)
 
 pub mean-full : (h : Plain) → h.total ≡ 2 ^ 64 - 1 → mean_of h ≡ None
 unfolding mean_of

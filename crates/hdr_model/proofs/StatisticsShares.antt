@@ -9,11 +9,11 @@ use Rattle.std.proofs.lemmas.Grind.{div_ceil_times}
 use Rattle.std.proofs.Math.Nat.{mul-le-mul_right}
 use Rattle.hdr_base.specs.Fractions.{Ratio}
 use Rattle.hdr_base.specs.Classes.{Grain, bin_of, value_of, top_of, lowest_of}
-use Rattle.hdr_base.proofs.ClassLaws.{bin-mono, bin-top}
-use Rattle.hdr_base.proofs.Finer.{bin-value_of}
-use Rattle.hdr_base.proofs.Intervals.{bin-first, lowest-first}
-use Rattle.hdr_base.proofs.Reach.{past-bins}
-use Rattle.hdr_counts.proofs.BlockSums.{sum_below-le}
+use Rattle.hdr_base.proofs.ClassesLaws.{bin-mono, bin-top}
+use Rattle.hdr_base.proofs.ClassesFiner.{bin-value_of}
+use Rattle.hdr_base.proofs.ClassesIntervals.{bin-first, lowest-first}
+use Rattle.hdr_base.proofs.ClassesReach.{past-bins}
+use Rattle.hdr_counts.proofs.BlocksSums.{sum_below-le}
 use Rattle.hdr_model.specs.Plain.{Plain, IsPlain, grain, reach}
 use Rattle.hdr_model.specs.Samples.{StandsFor}
 use Rattle.hdr_model.specs.Statistics.{held_bin, samples_between, share_below, IsAtMost}

@@ -18,7 +18,7 @@ use Rattle.hdr_model.specs.declared.errors.SubtractionError.TheVariants.{Subtrah
 abbrev pub HasRoom : Plain → ℕ → Type 0
 HasRoom h x = (x ≤ reach h) ⊎ (h.auto_resize ≡ true)
 
--- a value past the reach is refused where the bins may not grow, and else for lack of memory alone
+-- a value past the reach is refused where the bins may not grow, and otherwise only when memory runs out
 abbrev pub RefusesRecord : Plain → ℕ → RecordError → Type 0
 RefusesRecord h v ValueOutOfRangeResizeDisabled = (reach h < v) × (h.auto_resize ≡ false)
 RefusesRecord h v ResizeFailedUsizeTypeTooSmall = ⊥
@@ -30,7 +30,7 @@ pub record IsBounds (low high sigfig : ℕ) : Type 0 where
   pub wide : 2 * low ≤ high
   pub scale : HasScale low sigfig
 
--- the first bound that does not hold refuses a histogram, and where all hold, lack of memory alone
+-- the first bound that does not hold refuses a histogram, and where all hold, it is refused only when memory runs out
 abbrev pub RefusesBounds : ℕ → ℕ → ℕ → CreationError → Type 0
 RefusesBounds low high sigfig make.LowIsZero = low < 1
 RefusesBounds low high sigfig make.LowExceedsMax = 2 ^ 63 ≤ low
@@ -40,7 +40,7 @@ RefusesBounds low high sigfig make.CannotRepresentSigFigBeyondLow = (0 < low) ×
 RefusesBounds low high sigfig make.UsizeTypeTooSmall = ⊥
 RefusesBounds low high sigfig make.OutOfMemory = IsBounds low high sigfig
 
--- room for a value past the reach is refused where the bins may not grow, and else for lack of memory alone
+-- room for a value past the reach is refused where the bins may not grow, and otherwise only when memory runs out
 abbrev pub RefusesRoom : Plain → ℕ → AdditionError → Type 0
 RefusesRoom h x addition.OtherAddendValueExceedsRange = (reach h < x) × (h.auto_resize ≡ false)
 RefusesRoom h x addition.ResizeFailedUsizeTypeTooSmall = ⊥

@@ -1,11 +1,9 @@
-pub mod Parts
+pub mod Lines
 pub mod Options
 pub mod Words
-pub mod Lines
+pub mod Commands
 pub mod Faults
 pub mod Report
 pub mod Outcomes
 pub mod Program
-pub mod Tasks
-pub mod Commands
 pub mod LogMerges

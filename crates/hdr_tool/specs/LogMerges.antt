@@ -13,7 +13,7 @@ use Rattle.hdrhistogram.specs.Chosen.{Filter, is_chosen}
 use Rattle.hdrhistogram.specs.V2Read.{IsReadBack}
 use Rattle.hdr_tool.specs.declared.fault.Fault.{Fault}
 use Rattle.hdr_log.specs.Parts.{parts}
-use Rattle.hdr_tool.specs.Lines.{LogCommand, Make, End, log_command_of}
+use Rattle.hdr_tool.specs.Commands.{LogCommand, Make, End, log_command_of}
 use Rattle.hdr_tool.specs.Options.{Options, greatest_into, filter_of}
 use Rattle.hdr_tool.specs.Words.{Log, Merge, task_of}
 use Rattle.hdr_tool.specs.Report.{IsReport}
@@ -33,9 +33,9 @@ chosen_of filter (e ∷ ends) =
 
 -- the intervals that commands end: what a command adds to those that come after it
 abbrev pub at_command : Plain → Option LogCommand → (Plain → List (EndOf Plain)) → List (EndOf Plain)
-at_command h None behind = []
-at_command h (Some (Make call)) behind = behind (after_call (2 ^ 64 - 1) (λ n. n) call h)
-at_command h (Some (End start duration tag)) behind = record { holds = h; tag = tag; start = start } ∷ behind (after_reset h)
+at_command h None onward = []
+at_command h (Some (Make call)) onward = onward (after_call (2 ^ 64 - 1) (λ n. n) call h)
+at_command h (Some (End start duration tag)) onward = record { holds = h; tag = tag; start = start } ∷ onward (after_reset h)
 
 -- the intervals that the lines of a log's input end, from a histogram on
 abbrev pub ends_of : Plain → List (ℕ × List ℕ) → List (EndOf Plain)
@@ -62,9 +62,9 @@ LogThenMerge =
 
 -- a command takes samples to others that fit, or ends an interval with them and begins with none
 abbrev pub AfterCommand : Grain → State → Option LogCommand → (State → List (EndOf (List ℕ)) → Type 0) → List (EndOf (List ℕ)) → Type 0
-AfterCommand g s None Behind Ls = Ls ≡ []
-AfterCommand g s (Some (Make call)) Behind Ls = (t : State) × CallTo (λ n. n) g call s t × Fits (2 ^ 64 - 1) g t.samples × Behind t Ls
-AfterCommand g s (Some (End start duration tag)) Behind Ls = (rest : List (EndOf (List ℕ))) × (Ls ≡ record { holds = s.samples; tag = tag; start = start } ∷ rest) × Behind (record { samples = []; high = s.high }) rest
+AfterCommand g s None Onward Ls = Ls ≡ []
+AfterCommand g s (Some (Make call)) Onward Ls = (t : State) × CallTo (λ n. n) g call s t × Fits (2 ^ 64 - 1) g t.samples × Onward t Ls
+AfterCommand g s (Some (End start duration tag)) Onward Ls = (rest : List (EndOf (List ℕ))) × (Ls ≡ record { holds = s.samples; tag = tag; start = start } ∷ rest) × Onward (record { samples = []; high = s.high }) rest
 
 -- the samples before the ends of the lines of a log's input, which fit all the way
 abbrev pub EndsWith : Grain → State → List (ℕ × List ℕ) → List (EndOf (List ℕ)) → Type 0

@@ -55,8 +55,8 @@ with_option o name.To word = option_map (λ x. record { into = o.into; tag = o.t
 
 -- an option and what comes after it, or no option
 abbrev pub option_or_end : {A : Type 0} → Options → Option OptionName → List ℕ → (Options → Option A) → Option A → Option A
-option_or_end o None word behind end = end
-option_or_end o (Some name) word behind end = with_option o name word >>= behind
+option_or_end o None word onward end = end
+option_or_end o (Some name) word onward end = with_option o name word >>= onward
 
 -- the options at the front of words, after those that stood before, and the words after them
 abbrev pub options_of : Options → List (List ℕ) → Option (Options × List (List ℕ))

@@ -30,7 +30,7 @@ Begins Step a [] text = text ≡ []
 Begins {A = A} Step a (x ∷ xs) text =
     (text ≡ []) ⊎ ((step : List ℕ × A) × Step a x (Ok step) × ((rest : List ℕ) × Begins Step step.1 xs rest × (text ≡ step.0 ++ rest)))
 
--- a fault by name is one that the definition gives; lack of memory, or a reader that fails, may come in place of any answer
+-- a fault by name is one that the definition gives; running out of memory, or a reader that fails, may come in place of any answer
 abbrev pub Refuses : (Fault → Type 0) → Fault → Type 0
 Refuses P NoMemory = Unit {0}
 Refuses P CannotRead = Unit {0}
@@ -46,7 +46,7 @@ StepAnswers P state old new (Err CannotRead) = ⊥
 StepAnswers {A = A} P state old new (Err CannotWrite) = (step : List ℕ × A) × P (Ok step) × AppendsFront old new step.0
 StepAnswers P state old new (Err f) = P (Err f) × Keeps old new
 
--- Ok and each fault by name are how a program ends (Ends), and the writer gets all that it writes. Want of memory, or a reader
+-- Ok and each fault by name are how a program ends (Ends), and the writer gets all that it writes. Running out of memory, or a reader
 -- that fails, may come in place of any answer, where what was written so far stands (Stands). Where the writer itself fails, it
 -- has a beginning, not all, of what the program was writing (IsWriting).
 abbrev pub Answers : (List ℕ → Option Fault → Type 0) → (List ℕ → Type 0) → (List ℕ → Type 0) → Option (List ℕ) → Option (List ℕ) → Result (Unit {0}) Fault → Type 0

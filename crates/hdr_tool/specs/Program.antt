@@ -1,5 +1,5 @@
 -- The program: its words, its input, what it writes, and the fault that ends it. Faults of the streams are no part of
--- it, nor is lack of memory but where a call tells it.
+-- it, nor is running out of memory, but where a call tells it.
 use Rattle.std.specs.Prelude.{◌≡◌, ℕ, ◌-◌, ◌*◌, ◌^◌, List, [], ◌∷◌, Option, Some, None, Result, Ok, Err, true}
 use Rattle.std.specs.Io.KnownBytes.{IsAtEnd}
 use Rattle.hdr_base.specs.Fractions.{Ratio}
@@ -19,7 +19,7 @@ use Rattle.hdr_tool.specs.declared.fault.Fault.{Fault}
 use Rattle.hdr_tool.specs.declared.fault.Fault.TheVariants.{WrongWords, NotACommand, NotWritten}
 use Rattle.std.specs.List.{enumerate_from}
 use Rattle.hdr_log.specs.Parts.{parts}
-use Rattle.hdr_tool.specs.Lines.{call_of, LogCommand, Make, End, log_command_of}
+use Rattle.hdr_tool.specs.Commands.{call_of, LogCommand, Make, End, log_command_of}
 use Rattle.hdr_tool.specs.Words.{Task, Report, Log, Merge, task_of}
 use Rattle.hdr_tool.specs.Faults.{refusal_at, merge_fault}
 use Rattle.hdr_tool.specs.Options.{greatest_into, filter_of}
@@ -94,7 +94,7 @@ TaskDone (Some (Log sigfig)) input text fault = LogDone (empty_plain 1 2 sigfig 
 TaskDone (Some (Merge options sigfig quantiles)) input text fault =
     MergeReported (greatest_into options.into) (filter_of options) sigfig quantiles input text fault
 
--- what may stand where memory is wanting or the reader fails: of a log the intervals of some lines, and else nothing
+-- what may stand where memory runs out or the reader fails: of a log the intervals of some lines, and else nothing
 abbrev pub TaskStands : Option Task → List ℕ → List ℕ → Type 0
 TaskStands (Some (Log sigfig)) input text = Begins LogLineDone (empty_plain 1 2 sigfig true) (enumerate_from 1 (parts 10 input)) text
 TaskStands task input text = text ≡ []
@@ -113,7 +113,7 @@ TaskLeaves task left = IsAtEnd left
 unfoldable pub Program : List (List ℕ) → List ℕ → List ℕ → Option Fault → Type 0
 Program words input text fault = TaskDone (task_of words) input text fault
 
--- what may stand of it where memory is wanting or the reader fails, what it may be writing, and what is left of its input where
+-- what may stand of it where memory runs out or the reader fails, what it may be writing, and what is left of its input where
 -- the writer fails
 unfoldable pub Stands : List (List ℕ) → List ℕ → List ℕ → Type 0
 Stands words input text = TaskStands (task_of words) input text

@@ -8,8 +8,17 @@ use Rattle.hdr_tool.specs.declared.words.Command.TheVariants as command
 use Rattle.hdr_tool.specs.declared.fault.Fault.{Fault}
 use Rattle.hdr_tool.specs.declared.fault.Fault.TheVariants.{WrongWords, NoMemory}
 use Rattle.hdr_log.specs.Parts.{◌>>=◌, split_at_byte, number_of}
-use Rattle.hdr_tool.specs.Parts.{each}
-use Rattle.hdr_tool.specs.Options.{Options, no_options, options_of}
+use Rattle.hdr_tool.specs.Options.{Options, no_options, options_of, view_of_options}
+use Rattle.hdr_tool.specs.declared.words.Task as code
+use Rattle.hdr_tool.specs.declared.words.Task.TheVariants as code_task
+
+-- what f gives for each, where it gives something for all
+abbrev pub each : {A B : Type 0} → (A → Option B) → List A → Option (List B)
+each f [] = Some []
+each f (x ∷ xs) = do
+  y ← f x
+  ys ← each f xs
+  Some (y ∷ ys)
 
 -- one digit from 0 to 5
 abbrev pub sigfig_of : List ℕ → Option ℕ
@@ -70,7 +79,13 @@ unfoldable pub task_of : List (List ℕ) → Option Task
 task_of [] = None
 task_of (name ∷ words) = task_of_command (command_of_word name) words
 
--- wrong words are refused as such, and right ones for lack of memory alone
+-- wrong words are refused as such, and right ones only when memory runs out
 abbrev pub RefusesWords : {A : Type 0} → Option A → Fault → Type 0
 RefusesWords None f = f ≡ WrongWords
 RefusesWords (Some _) f = f ≡ NoMemory
+
+-- a task as the code holds it, by what its words ask for
+abbrev pub view_of_task : code.Task → Task
+view_of_task (code_task.Report sigfig quantiles) = Report sigfig quantiles.items
+view_of_task (code_task.Log sigfig) = Log sigfig
+view_of_task (code_task.Merge options sigfig quantiles) = Merge (view_of_options options) sigfig quantiles.items

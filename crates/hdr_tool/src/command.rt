@@ -2,9 +2,8 @@
 
 ghost use Rattle.std.specs.Prelude.{◌≡◌};
 ghost use Rattle.std.specs.Option.{option_map};
-ghost use Rattle.hdr_tool.specs.Parts.{parts_of_rest};
-ghost use Rattle.hdr_tool.specs.Lines.{count_of, record_of, clamp_of, correct_of, alone, call_of_name, call_of, tag_of_word, end_tag_of, end_of, log_command_of_name, log_command_of};
-ghost use Rattle.hdr_tool.specs.Commands.{view_of_log_command};
+ghost use Rattle.hdr_tool.specs.Lines.{parts_of_rest};
+ghost use Rattle.hdr_tool.specs.Commands.{count_of, record_of, clamp_of, correct_of, alone, call_of_name, call_of, tag_of_word, end_tag_of, end_of, log_command_of_name, log_command_of, view_of_log_command};
 ghost use Rattle.hdr_log.specs.Tags.{tag_text};
 
 use crate::parts::split_first;

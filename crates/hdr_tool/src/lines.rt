@@ -2,7 +2,7 @@
 
 ghost use Rattle.std.specs.Prelude.{◌≡◌, ◌+◌, ◌<◌, ◌^◌, length, Some, IfSome};
 ghost use Rattle.std.specs.Iterator.{YieldsFirstBy, item_count};
-ghost use Rattle.hdr_tool.specs.Parts.{number_lines};
+ghost use Rattle.hdr_tool.specs.Lines.{number_lines};
 
 use crate::parts::split_first;
 use std::marker::Model;
@@ -18,7 +18,7 @@ pub(crate) struct Lines<'a> {
 impl<'a> Model for Lines<'a> {
     ghost use Rattle.std.specs.Prelude.{ℕ, List, IfSome, ◌<◌, ◌+◌, ◌^◌, length};
     ghost use Rattle.std.specs.Option.{option_map};
-    ghost use Rattle.hdr_tool.specs.Parts.{number_lines};
+    ghost use Rattle.hdr_tool.specs.Lines.{number_lines};
 
     ghost Value = { List (ℕ × List ℕ) };
 

@@ -5,7 +5,7 @@ ghost use Rattle.std.specs.Option.{option_map};
 ghost use Rattle.std.specs.Io.KnownBytes.{Appends, IsAtEnd};
 ghost use Rattle.hdr_log.specs.Tags.{tag_text};
 ghost use Rattle.hdrhistogram.specs.LogWriters.{sink, divisor_of, IsSameLog};
-ghost use Rattle.hdr_tool.specs.Parts.{number_lines};
+ghost use Rattle.hdr_tool.specs.Lines.{number_lines};
 ghost use Rattle.hdr_tool.specs.Words.{Log};
 ghost use Rattle.hdr_tool.specs.Outcomes.{Begins, Runs, Answers, StepAnswers, ReadsAll, ReadsTo};
 ghost use Rattle.hdr_tool.specs.Program.{EndDone, LogLineDone, LogDone, TaskDone, TaskStands, TaskWrites, TaskLeaves};
@@ -150,17 +150,17 @@ fn write_input<R: Read, W: Write>(
             }
             return Ok(());
         }
-        let Ok(behind) = take_lines(&mut carry, &piece[..count]) else {
+        let Ok(tail) = take_lines(&mut carry, &piece[..count]) else {
             return Err(Fault::NoMemory);
         };
-        let Some(behind) = behind else {
+        let Some(tail) = tail else {
             continue;
         };
         number = match write_lines(histogram, number, &carry, log) {
             Ok(next) => next,
             Err(fault) => return Err(told_at_end(reader, piece, fault)),
         };
-        let Ok(()) = replace(&mut carry, behind) else {
+        let Ok(()) = replace(&mut carry, tail) else {
             return Err(Fault::NoMemory);
         };
     }
@@ -182,7 +182,7 @@ pub(crate) fn log_lines<R: Read, W: Write>(
     ensures reads { ReadsAll (TaskLeaves (Some (Log sigfig))) (R.remaining reader.old)
         (R.remaining reader.new) result }
 {
-    // Each digit from 0 to 5 has a histogram, so that memory alone can be wanting.
+    // Each digit from 0 to 5 has a histogram, so only memory can run out.
     let Ok(mut histogram) = Histogram::new(alloc, sigfig) else {
         return Err(Fault::NoMemory);
     };

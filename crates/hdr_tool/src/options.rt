@@ -80,9 +80,9 @@ fn first_two(words: &[String]) -> Option<(&String, &String, &[String])>
         ≡ string_bytes p.0.now ∷ string_bytes p.1.now ∷ map string_bytes p.2.now) }
     ensures fewer { IfSome result (λ p. length p.2.now < length words.now) }
 {
-    let (first, behind) = words.split_first()?;
-    let (second, behind) = behind.split_first()?;
-    Some((first, second, behind))
+    let (first, tail) = words.split_first()?;
+    let (second, tail) = tail.split_first()?;
+    Some((first, second, tail))
 }
 
 /// One option more, with the word after its name.

@@ -4,7 +4,7 @@ ghost use Rattle.std.specs.Prelude.{◌≡◌, ◌∷◌, ◌++◌, ◌+◌, ◌
 ghost use Rattle.std.specs.Option.{option_map};
 ghost use Rattle.std.specs.Str.{bytes_eq};
 ghost use Rattle.hdr_log.specs.Parts.{parts};
-ghost use Rattle.hdr_tool.specs.Parts.{parts_of_rest};
+ghost use Rattle.hdr_tool.specs.Lines.{parts_of_rest};
 
 use hdr_log::parts::split_once;
 use memchr::memrchr;
@@ -36,15 +36,15 @@ pub(crate) fn take_lines<'a>(
     text: &mut Vec<u8>,
     piece: &'a [u8],
 ) -> Result<Option<&'a [u8]>, AllocError>
-    ensures { IfOk result (λ behind. MatchOption behind
+    ensures { IfOk result (λ tail. MatchOption tail
         (text.new.items ≡ text.old.items ++ piece.now)
         (λ rest. (front : List ℕ) × (piece.now ≡ front ++ 10 ∷ rest.now)
         × (text.new.items ≡ text.old.items ++ front))) }
 {
     match split_last(piece, b'\n') {
-        Some((front, behind)) => {
+        Some((front, tail)) => {
             text.extend_from_slice(front)?;
-            Ok(Some(behind))
+            Ok(Some(tail))
         }
         None => {
             text.extend_from_slice(piece)?;

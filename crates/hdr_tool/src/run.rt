@@ -2,10 +2,9 @@
 
 ghost use Rattle.std.specs.Prelude.{◌≡◌, ◌≢◌, ◌↔◌, ◌+◌, ◌<◌, ℕ, List, map, length, MatchResult, Ok, Err, Some, None, [], IfSome, string_bytes};
 ghost use Rattle.std.specs.Io.KnownBytes.{IsAtEnd};
-ghost use Rattle.hdr_tool.specs.Parts.{number_lines};
-ghost use Rattle.hdr_tool.specs.Words.{Report, Merge, task_of};
+ghost use Rattle.hdr_tool.specs.Lines.{number_lines};
+ghost use Rattle.hdr_tool.specs.Words.{Report, Merge, task_of, view_of_task};
 ghost use Rattle.hdr_tool.specs.Options.{view_of_options};
-ghost use Rattle.hdr_tool.specs.Tasks.{view_of_task};
 ghost use Rattle.hdr_tool.specs.Faults.{refusal_at};
 ghost use Rattle.hdr_tool.specs.Outcomes.{Refuses, Answers, ReadsAll, ReadsTo, Runs};
 ghost use Rattle.hdr_tool.specs.Program.{LineDone, TaskDone, TaskStands, TaskWrites, TaskLeaves, Program, Stands, IsWriting, Leaves};
@@ -108,17 +107,17 @@ fn apply_input<R: Read>(
             }
             return Ok(());
         }
-        let Ok(behind) = take_lines(&mut carry, &piece[..count]) else {
+        let Ok(tail) = take_lines(&mut carry, &piece[..count]) else {
             return Err(Fault::NoMemory);
         };
-        let Some(behind) = behind else {
+        let Some(tail) = tail else {
             continue;
         };
         number = match apply_lines(histogram, number, &carry) {
             Ok(next) => next,
             Err(fault) => return Err(told_at_end(reader, piece, fault)),
         };
-        let Ok(()) = replace(&mut carry, behind) else {
+        let Ok(()) = replace(&mut carry, tail) else {
             return Err(Fault::NoMemory);
         };
     }
@@ -141,7 +140,7 @@ fn report_lines<R: Read, W: Write>(
         (W.contents writer.new) result }
     ensures reads { ReadsAll IsAtEnd (R.remaining reader.old) (R.remaining reader.new) result }
 {
-    // Each digit from 0 to 5 has a histogram, so that memory alone can be wanting.
+    // Each digit from 0 to 5 has a histogram, so only memory can run out.
     let Ok(mut histogram) = Histogram::new(alloc, sigfig) else {
         return Err(Fault::NoMemory);
     };

@@ -3,10 +3,8 @@
 ghost use Rattle.std.specs.Prelude.{◌≡◌, map, is_some, Some, string_bytes, MatchResult};
 ghost use Rattle.std.specs.Option.{option_map};
 ghost use Rattle.std.specs.List.{list_all};
-ghost use Rattle.hdr_tool.specs.Parts.{each};
-ghost use Rattle.hdr_tool.specs.Words.{sigfig_of, quantile_of_word, figures_of, log_of, merge_of, command_of_word, task_of, RefusesWords};
+ghost use Rattle.hdr_tool.specs.Words.{each, sigfig_of, quantile_of_word, figures_of, log_of, merge_of, command_of_word, task_of, RefusesWords, view_of_task};
 ghost use Rattle.hdr_tool.specs.Options.{no_options};
-ghost use Rattle.hdr_tool.specs.Tasks.{view_of_task};
 
 use crate::fault::Fault;
 use crate::options::{Options, take_options};

@@ -12,7 +12,7 @@ use Rattle.hdrhistogram.specs.V2Read.{Contents, told_of, IsReadAs, ReadsV2}
 use Rattle.hdrhistogram.specs.Faults.{Fault}
 use Rattle.hdrhistogram.specs.declared.serialization.errors.DeserializeError.{DeserializeError}
 use Rattle.hdrhistogram.specs.declared.serialization.interval_log.merge.MergeError.{MergeError}
-use Rattle.hdrhistogram.proofs.ReadBack.{top-unique, lower-unique}
+use Rattle.hdrhistogram.proofs.V2ReadBack.{top-unique, lower-unique}
 
 -- what is added from a state on
 abbrev Adds : ℕ → Filter → Merging → List (Result Entry ℕ) → Merging → Type 0

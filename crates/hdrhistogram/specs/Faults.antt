@@ -26,7 +26,7 @@ abbrev pub unless : {A : Type 0} → Option Fault → A → Result A Fault
 unless None x = Ok x
 unless (Some f) x = Err f
 
--- the fault that an error names; lack of memory names none
+-- the fault that an error names; running out of memory names none
 abbrev pub fault_of_error : DeserializeError → Option Fault
 fault_of_error (IoError cause) = Some cut
 fault_of_error InvalidCookie = Some other_cookie
@@ -42,7 +42,7 @@ abbrev pub FailsBy : {A : Type 0} → Option Fault → Result A Fault → Type 0
 FailsBy None read = Unit {0}
 FailsBy (Some f) read = read ≡ Err f
 
--- a function's answer, seen by `view`, is what the bytes are read as, lack of memory aside
+-- a function's answer, seen by `view`, is what the bytes are read as, running out of memory aside
 abbrev pub Gives : {X Y : Type 0} → (X → Y) → Result X DeserializeError → Result Y Fault → Type 0
 Gives view (Ok x) read = read ≡ Ok (view x)
 Gives view (Err e) read = FailsBy (fault_of_error e) read

@@ -81,7 +81,7 @@ abbrev pub decode_error : ℕ → DeserializeError → MergeError
 decode_error interval read.OutOfMemory = OutOfMemory
 decode_error interval e = Decode interval e
 
--- a step is refused by name as it is told, and lack of memory may come in place of any answer
+-- a step is refused by name as it is told, and running out of memory may come in place of any answer
 abbrev pub RefusesStep : (MergeError → Type 0) → MergeError → Type 0
 RefusesStep Ends (Creation e) = ⊥
 RefusesStep Ends OutOfMemory = Unit {0}

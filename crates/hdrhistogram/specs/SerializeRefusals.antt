@@ -7,7 +7,7 @@ use Rattle.hdrhistogram.specs.Streams.{AppendsFront}
 use Rattle.hdrhistogram.specs.declared.serialization.errors.V2SerializeError.{V2SerializeError}
 use Rattle.hdrhistogram.specs.declared.serialization.errors.V2SerializeError.TheVariants.{CountNotSerializable, UsizeTypeTooSmall, IoError, OutOfMemory}
 
--- the histogram's bytes are refused for a count that is too great or for lack of memory, and for
+-- the histogram's bytes are refused for a count that is too great or when memory runs out, and for
 -- nothing else
 abbrev pub RefusesBytes : Plain → V2SerializeError → Type 0
 RefusesBytes h CountNotSerializable = HasTooGreatCount h

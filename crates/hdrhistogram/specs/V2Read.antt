@@ -75,7 +75,7 @@ are_bounds low high sigfig =
 unfoldable pub bounds_fault : Header → Option Fault
 bounds_fault h = if are_bounds h.low h.high h.sigfig then None else Some bad_bounds
 
--- what refused bounds are, lack of memory aside
+-- what refused bounds are, running out of memory aside
 abbrev pub creation_fault : CreationError → Option Fault
 creation_fault OutOfMemory = None
 creation_fault LowIsZero = Some bad_bounds

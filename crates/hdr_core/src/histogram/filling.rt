@@ -1,6 +1,7 @@
 //! Setting bins, with total and marks made once when that is done.
 
 ghost use Rattle.std.specs.Prelude.{◌≡◌, ◌+◌, ◌<◌, ◌≤◌, MatchResult, false, length, slice_set};
+ghost use Rattle.hdr_base.specs.Classes.{most_bins};
 ghost use Rattle.hdr_model.specs.Filling.{open_of, IsClosed};
 ghost use Rattle.hdr_model.specs.Plain.{empty_plain};
 ghost use Rattle.hdr_model.specs.Refusals.{RefusesBounds, IsBounds};
@@ -69,7 +70,7 @@ impl<T: Counter> Filling<T> {
     #[inline(always)]
     pub fn distinct_values(&self) -> usize
         ensures value { result ≡ length self.now.counts }
-        ensures few { result ≤ 6291456 }
+        ensures few { result ≤ most_bins }
     {
         self.counts.len()
     }

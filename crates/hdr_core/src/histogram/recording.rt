@@ -30,7 +30,7 @@ impl<T: Counter> Histogram<T> {
 
     /// Records a value `count` times: the counter of its bin and the total grow, each up to its greatest, and the marks
     /// are widened by its class, also where `count` is 0. A value past the bins is refused, unless the histogram grows;
-    /// then its reach becomes `high`. A refusal changes nothing, and lack of memory comes past the bins alone.
+    /// then its reach becomes `high`. A refusal changes nothing, and memory can run out past the bins alone.
     #[inline(always)]
     pub fn record_n(&mut self, value: u64, count: T) -> Result<(), RecordError>
         ensures ok { OnOk result (self.new ≡ after_record T.greatest self.old value

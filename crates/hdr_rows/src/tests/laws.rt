@@ -4,6 +4,12 @@ use std::test::Fail;
 
 #[test]
 fn laws_hold(_rt: HostRuntime) -> Result<(), Fail> {
+    call_laws_of_histograms();
+    call_laws_of_bytes();
+    Ok(())
+}
+
+fn call_laws_of_histograms() {
     hdr_base::laws::equivalence();
     hdr_base::laws::intervals();
     hdr_base::laws::widths();
@@ -25,6 +31,9 @@ fn laws_hold(_rt: HostRuntime) -> Result<(), Fail> {
     hdr_core::laws::adding_associates();
     hdr_core::laws::subtracting_undoes_adding();
     hdr_core::laws::equality();
+}
+
+fn call_laws_of_bytes() {
     hdr_log::laws::time_is_read();
     hdr_log::laws::interval_is_read();
     hdr_log::laws::base64_is_read();
@@ -37,5 +46,4 @@ fn laws_hold(_rt: HostRuntime) -> Result<(), Fail> {
     hdrhistogram::laws::bytes_agree();
     hdrhistogram::laws::one_parting();
     hdrhistogram::laws::reading_takes_a_front();
-    Ok(())
 }

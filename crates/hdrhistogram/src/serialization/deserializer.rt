@@ -49,8 +49,8 @@ impl Deserializer {
     /// takes. What follows them is not looked at.
     ///
     /// The histogram does not grow, its total is the capped sum of its counters, and its marks are
-    /// those of the nonempty ones. Bytes that are no histogram's are refused by their first fault;
-    /// beside that lack of memory is. The deserializer is as before.
+    /// those of the nonempty ones. Bytes that are no histogram's are refused by their first fault,
+    /// and any bytes may be with `OutOfMemory`. The deserializer is as before.
     pub fn decode_slice<T: Counter>(
         &mut self,
         text: &[u8],
@@ -67,10 +67,10 @@ impl Deserializer {
     /// Reads a histogram from a reader by single calls of `read`, and takes no byte after it. The
     /// histogram is that of `decode_slice`.
     ///
-    /// A refusal names the first fault of the bytes that were taken; they are the reader's up to
-    /// and with the field that is refused, the whole payload where one of its numbers is, or what
-    /// came before the reader failed, was interrupted or ended, which is `IoError`. Beside that
-    /// lack of memory is answered. The deserializer is as new afterwards.
+    /// A refusal names the first fault of the bytes that were taken. They are the reader's up to
+    /// and including the field that is refused, or the whole payload where one of its numbers is.
+    /// A reader that fails, is interrupted or ends is `IoError`. When memory runs out the answer
+    /// is `OutOfMemory`. The deserializer is as new afterwards.
     pub fn deserialize<T: Counter, R: Read>(
         &mut self,
         reader: &mut R,

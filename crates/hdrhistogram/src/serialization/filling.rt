@@ -1,6 +1,7 @@
 //! A payload, read into the bins of a histogram.
 
 ghost use Rattle.std.specs.Prelude.{◌≡◌, ◌+◌, ◌*◌, ◌%◌, ◌<◌, ◌≤◌, IfNone, IfOk, IfSome, OnOk, length, replicate, true, false};
+ghost use Rattle.hdr_base.specs.Classes.{most_bins};
 ghost use Rattle.hdrhistogram.specs.Faults.{Gives, Checks};
 ghost use Rattle.hdrhistogram.specs.PayloadRead.{IsCountPut, IsPairPut, fault_at, move, with_count, counts_in};
 ghost use Rattle.hdrhistogram.specs.V2Read.{told_by, told_of, IsRestated};
@@ -48,7 +49,7 @@ fn put_number<T: Counter>(
 fn put_short<T: Counter>(filling: &mut Filling<T>, place: u64, bytes: &[u8]) -> Option<usize>
     ensures put { IfSome result
         (IsCountPut T.greatest place bytes.now filling.old.counts filling.new.counts) }
-    ensures few { IfSome result (λ _. place < 6291456) }
+    ensures few { IfSome result (λ _. place < most_bins) }
     ensures rest { filling.new ≡ record filling.old { counts = filling.new.counts } }
     ensures kept { IfNone result (filling.new ≡ filling.old) }
 {
@@ -95,7 +96,7 @@ fn two_byte_count<T: Counter>(first: u8, second: u8) -> Option<T>
 fn put_pair<T: Counter>(filling: &mut Filling<T>, place: u64, bytes: &[u8]) -> bool
     ensures put { result ≡ true
         → IsPairPut T.greatest place bytes.now filling.old.counts filling.new.counts }
-    ensures few { result ≡ true → place < 6291456 }
+    ensures few { result ≡ true → place < most_bins }
     ensures rest { filling.new ≡ record filling.old { counts = filling.new.counts } }
     ensures kept { result ≡ false → filling.new ≡ filling.old }
 {

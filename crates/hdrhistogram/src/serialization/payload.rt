@@ -2,6 +2,7 @@
 
 ghost use Rattle.std.specs.Prelude.{◌≡◌, ℕ, List, length, map, drop, take, slice_index, ◌++◌, ◌+◌, ◌*◌, ◌≤◌, ◌<◌, ◌^◌, min, max, IfOk, IfErr, OnOk, All};
 ghost use Rattle.std.specs.Option.{SomeIff};
+ghost use Rattle.hdr_base.specs.Classes.{most_bins};
 ghost use Rattle.hdr_model.specs.Plain.{IsPlain};
 ghost use Rattle.hdrhistogram.specs.Streams.{WritesFront};
 ghost use Rattle.hdrhistogram.specs.Varint.{IsShortest};
@@ -34,7 +35,7 @@ pub fn counts_array_max_encoded_size(length: usize) -> Option<usize>
 pub(crate) fn written_bins<T: Counter>(h: &Histogram<T>) -> usize
     ensures value { result ≡ written_bins h.now }
     ensures within { result ≤ length h.now.counts }
-    ensures few { result ≤ 6291456 }
+    ensures few { result ≤ most_bins }
     ensures plain { IsPlain T.greatest h.now }
 {
     let bins = h.distinct_values();
@@ -49,7 +50,7 @@ pub(crate) fn written_bins<T: Counter>(h: &Histogram<T>) -> usize
 pub(crate) fn payload_room<T: Counter>(h: &Histogram<T>) -> usize
     ensures enough { enough_bytes (written_counts h.now) ≤ result }
     ensures near { result ≤ max 1048576 (enough_bytes (written_counts h.now)) }
-    ensures few { result ≤ 56623104 }
+    ensures few { result ≤ 9 * most_bins }
 {
     let bins = written_bins(h);
     if 9 * bins <= SMALL_ROOM {
@@ -89,7 +90,7 @@ fn put_number(buf: &mut [u8], at: usize, number: i64) -> usize
     ensures further { at ≤ result }
     ensures front { (text : List ℕ) × IsShortest text (zig_zag number)
         × (take result buf.new ≡ take at buf.old ++ text) }
-    ensures behind { drop result buf.new ≡ drop result buf.old }
+    ensures kept { drop result buf.new ≡ drop result buf.old }
 {
     at + varint_write(zig_zag_encode(number), &mut buf[at..])
 }
@@ -103,7 +104,7 @@ fn put_run(buf: &mut [u8], at: usize, empty: u64) -> usize
     ensures further { at ≤ result }
     ensures front { (text : List ℕ) × IsRunText empty text
         × (take result buf.new ≡ take at buf.old ++ text) }
-    ensures behind { drop result buf.new ≡ drop result buf.old }
+    ensures kept { drop result buf.new ≡ drop result buf.old }
 {
     match empty {
         0 => at,
@@ -125,7 +126,7 @@ pub fn encode_counts<T: Counter>(
 ) -> Result<usize, V2SerializeError>
     requires { 9 * written_bins h.now ≤ length buf.old }
     ensures written { IfOk result (WritesFront (IsPayload (written_counts h.now)) buf.old buf.new) }
-    ensures few { IfOk result (λ n. (n ≤ 9 * written_bins h.now) × (n ≤ 56623104)) }
+    ensures few { IfOk result (λ n. (n ≤ 9 * written_bins h.now) × (n ≤ 9 * most_bins)) }
     ensures ok { OnOk result (All (λ n. n < 2 ^ 63) h.now.counts) }
     ensures refused { IfErr result (λ e. (e ≡ V2SerializeError.CountNotSerializable)
         × HasTooGreatCount h.now) }
@@ -140,7 +141,7 @@ pub(crate) fn encode_within<T: Counter>(
 ) -> Result<usize, V2SerializeError>
     requires { enough_bytes (written_counts h.now) ≤ length buf.old }
     ensures written { IfOk result (WritesFront (IsPayload (written_counts h.now)) buf.old buf.new) }
-    ensures few { IfOk result (λ n. (n ≤ 9 * written_bins h.now) × (n ≤ 56623104)) }
+    ensures few { IfOk result (λ n. (n ≤ 9 * written_bins h.now) × (n ≤ 9 * most_bins)) }
     ensures ok { OnOk result (All (λ n. n < 2 ^ 63) h.now.counts) }
     ensures refused { IfErr result (λ e. (e ≡ V2SerializeError.CountNotSerializable)
         × HasTooGreatCount h.now) }

@@ -2,6 +2,7 @@
 
 ghost use Rattle.std.specs.Prelude.{◌≡◌, ◌+◌, ◌*◌, ◌^◌, ◌≤◌, ◌<◌, ℕ, List, [], length, take, vec_len, All, OnOk, IfOk, IfErr};
 ghost use Rattle.std.specs.Io.KnownBytes.{Appends};
+ghost use Rattle.hdr_base.specs.Classes.{most_bins};
 ghost use Rattle.hdrhistogram.specs.Payload.{enough_bytes};
 ghost use Rattle.hdrhistogram.specs.V2.{IsV2, HasTooGreatCount, written_bins, written_counts};
 ghost use Rattle.hdrhistogram.specs.SerializeRefusals.{RefusesBytes, RefusesNamed, RefusesWriting};
@@ -58,7 +59,7 @@ impl V2Serializer {
     fn fill<T: Counter>(&mut self, h: &Histogram<T>) -> Result<(), V2SerializeError>
         ensures bytes { OnOk result (IsV2 h.now self.new) }
         ensures few { OnOk result ((length self.new ≤ 40 + 9 * written_bins h.now)
-            × (length self.new ≤ 56623144)) }
+            × (length self.new ≤ 40 + 9 * most_bins)) }
         ensures ok { OnOk result (All (λ n. n < 2 ^ 63) h.now.counts) }
         ensures refused { IfErr result (λ e. RefusesBytes h.now e × (self.new ≡ [])) }
     {
@@ -73,14 +74,14 @@ impl V2Serializer {
     /// The V2 bytes of a histogram, lent from the serializer's own buffer: at most 40 bytes and
     /// nine for each bin up to the top mark's.
     ///
-    /// The buffer grows first and once, so a lack of memory is answered before a count above the
+    /// The buffer grows first and once, so running out of memory is answered before a count above the
     /// greatest `i64`. Where nine bytes for each bin are more than 1 MiB, it grows to nine bytes for
     /// each nonempty bin and for each run of empty ones at most. Nothing else is refused, and after
     /// a refusal the serializer is as new.
     pub fn to_bytes<T: Counter>(&mut self, h: &Histogram<T>) -> Result<&[u8], V2SerializeError>
         ensures bytes { IfOk result (λ bytes. IsV2 h.now bytes.now) }
         ensures few { IfOk result (λ bytes. (length bytes.now ≤ 40 + 9 * written_bins h.now)
-            × (length bytes.now ≤ 56623144)) }
+            × (length bytes.now ≤ 40 + 9 * most_bins)) }
         ensures ok { OnOk result (All (λ n. n < 2 ^ 63) h.now.counts) }
         ensures refused { IfErr result (RefusesBytes h.now) }
         ensures* after { sem 𝓛 (ends_lending self.entry result) }
@@ -109,7 +110,7 @@ impl Serializer for V2Serializer {
     ) -> Result<usize, V2SerializeError>
         ensures written { IfOk result (λ n. (bytes : List ℕ) × IsV2 h.now bytes × (n ≡ length bytes)
             × Appends (W.contents writer.old) (W.contents writer.new) bytes) }
-        ensures few { IfOk result (λ n. (n ≤ 40 + 9 * written_bins h.now) × (n ≤ 56623144)) }
+        ensures few { IfOk result (λ n. (n ≤ 40 + 9 * written_bins h.now) × (n ≤ 40 + 9 * most_bins)) }
         ensures ok { OnOk result (All (λ n. n < 2 ^ 63) h.now.counts) }
         ensures held { OnOk result (IsV2 h.now self.new) }
         ensures refused { IfErr result (λ e. (self.new ≡ [])
@@ -141,7 +142,7 @@ fn make_room(buffer: &mut Vec<u8>, room: usize) -> Result<(), AllocError>
 fn write_v2<T: Counter>(h: &Histogram<T>, buf: &mut [u8]) -> Result<usize, V2SerializeError>
     requires { 40 + enough_bytes (written_counts h.now) ≤ length buf.old }
     ensures written { IfOk result (λ n. (n ≤ length buf.new) × IsV2 h.now (take n buf.new)) }
-    ensures few { IfOk result (λ n. (n ≤ 40 + 9 * written_bins h.now) × (n ≤ 56623144)) }
+    ensures few { IfOk result (λ n. (n ≤ 40 + 9 * written_bins h.now) × (n ≤ 40 + 9 * most_bins)) }
     ensures ok { OnOk result (All (λ n. n < 2 ^ 63) h.now.counts) }
     ensures refused { IfErr result (λ e. (e ≡ V2SerializeError.CountNotSerializable)
         × HasTooGreatCount h.now) }

@@ -1,6 +1,6 @@
 use Rattle.hdr_base.specs.Classes.{grain_of}
-use Rattle.hdr_base.proofs.Digits.{digits-pos-of}
-use Rattle.hdr_base.proofs.Intervals.{equivalent-bin, bin-equivalent}
+use Rattle.hdr_base.proofs.ClassesDigits.{digits-pos-of}
+use Rattle.hdr_base.proofs.ClassesIntervals.{equivalent-bin, bin-equivalent}
 use Rattle.hdr_base.proofs.laws.equivalence.Goals as goal
 
 pub returns-clause-numbers : goal.returns-clause-numbers

@@ -1,7 +1,7 @@
 use Rattle.hdr_base.specs.Classes.{grain_of}
-use Rattle.hdr_base.proofs.Digits.{digits-pos-of, finer-by}
-use Rattle.hdr_base.proofs.Finer.{finer-bin}
-use Rattle.hdr_base.proofs.Intervals.{equivalent-bin, bin-equivalent}
+use Rattle.hdr_base.proofs.ClassesDigits.{digits-pos-of, finer-by}
+use Rattle.hdr_base.proofs.ClassesFiner.{finer-bin}
+use Rattle.hdr_base.proofs.ClassesIntervals.{equivalent-bin, bin-equivalent}
 use Rattle.hdr_base.proofs.laws.finer_classes.Goals as goal
 
 pub returns-clause-finer : goal.returns-clause-finer

@@ -1,10 +1,10 @@
 use Rattle.std.proofs.Common.{◌+◌, ◌≤◌, arith}
 use Rattle.hdr_base.specs.Classes.{grain_of, top_of}
-use Rattle.hdr_base.proofs.ClassLaws.{lowest-le, top-of-value, bin-mono, width-pos}
-use Rattle.hdr_base.proofs.ScaleLaws.{class-end}
-use Rattle.hdr_base.proofs.Digits.{digits-pos-of}
-use Rattle.hdr_base.proofs.Finer.{bin-value_of, lowest-value_of}
-use Rattle.hdr_base.proofs.Intervals.{lowest-first, bin-first, inside-class, next-class}
+use Rattle.hdr_base.proofs.ClassesLaws.{lowest-le, top-of-value, bin-mono, width-pos}
+use Rattle.hdr_base.proofs.ClassesScale.{class-end}
+use Rattle.hdr_base.proofs.ClassesDigits.{digits-pos-of}
+use Rattle.hdr_base.proofs.ClassesFiner.{bin-value_of, lowest-value_of}
+use Rattle.hdr_base.proofs.ClassesIntervals.{lowest-first, bin-first, inside-class, next-class}
 use Rattle.hdr_base.proofs.laws.intervals.Goals as goal
 
 pub returns-clause-first : goal.returns-clause-first

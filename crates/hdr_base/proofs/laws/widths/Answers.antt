@@ -1,7 +1,7 @@
 use Rattle.std.proofs.Common.{◌^◌}
 use Rattle.hdr_base.specs.Classes.{grain_of}
-use Rattle.hdr_base.proofs.ClassLaws.{width-of-units, width-bound}
-use Rattle.hdr_base.proofs.Digits.{digits-pos-of, digits-enough}
+use Rattle.hdr_base.proofs.ClassesLaws.{width-of-units, width-bound}
+use Rattle.hdr_base.proofs.ClassesDigits.{digits-pos-of, digits-enough}
 use Rattle.hdr_base.proofs.laws.widths.Goals as goal
 
 pub returns-clause-unit : goal.returns-clause-unit

@@ -1,9 +1,9 @@
 use borrow.Author.Count.{falls}
 use Rattle.std.proofs.Common.{length, ap, ◌≡◌, ◌+◌, ◌-◌, ◌*◌, map, sym, subst, arith}
 use Rattle.hdr_counts.specs.Blocks.{Blocks, sum_below, IsFirstToReach}
-use Rattle.hdr_counts.proofs.BlockBounds.{le_as, lt_as, le_more, block-within, block-begins, block-begin-fits, block-end-fits, sum-offset-fits, look-room, looks-room}
-use Rattle.hdr_counts.proofs.BlockSums.{block-sum-read}
-use Rattle.hdr_counts.proofs.Places.{first-in-part}
+use Rattle.hdr_counts.proofs.BlocksBounds.{le_as, lt_as, le_more, block-within, block-begins, block-begin-fits, block-end-fits, sum-offset-fits, look-room, looks-room}
+use Rattle.hdr_counts.proofs.BlocksSums.{block-sum-read}
+use Rattle.hdr_counts.proofs.BlocksPlaces.{first-in-part}
 use Rattle.hdr_counts.proofs.Counts.find.Goals as goal
 
 pub returns-then-sum-from-clause-place : goal.returns-then-sum-from-clause-place

@@ -1,8 +1,8 @@
 use Rattle.std.proofs.Common.{◌≡◌, ◌+◌, ◌-◌, ◌*◌, ◌<◌, ◌≤◌, length, get_or, map, refl, ap, ◌∙◌, subst, arith}
 use Rattle.std.proofs.lemmas.List.{get_or_read}
 use Rattle.hdr_counts.specs.Blocks.{sum_below, IsFirstToReach}
-use Rattle.hdr_counts.proofs.BlockSums.{blocks_more, block-sum-read}
-use Rattle.hdr_counts.proofs.Places.{first-in-part}
+use Rattle.hdr_counts.proofs.BlocksSums.{blocks_more, block-sum-read}
+use Rattle.hdr_counts.proofs.BlocksPlaces.{first-in-part}
 use Rattle.hdr_counts.proofs.Counts.first_in_block.Goals as goal
 
 pub first_reaching-requires-clause-whole : goal.first_reaching-requires-clause-whole

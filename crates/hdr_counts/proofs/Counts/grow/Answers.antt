@@ -1,7 +1,8 @@
 use Rattle.std.proofs.Common.{◌≡◌, ℕ, ◌-◌, ◌*◌, ◌≤◌, ◌++◌, length, map, replicate, ap, arith, true, is_ok, vec_len}
 use Rattle.std.proofs.lemmas.List.Elements.{All-append, All-replicate}
 use Rattle.std.proofs.lemmas.List.{length-map}
-use Rattle.hdr_counts.proofs.BlockSums.{ok_only, grown, sums_grown, AreSums-grow}
+use Rattle.hdr_base.specs.Classes.{most_bins}
+use Rattle.hdr_counts.proofs.BlocksSums.{ok_only, grown, sums_grown, AreSums-grow}
 use Rattle.hdr_counts.proofs.Counts.grow.Goals as goal
 
 pub invariant_of-self-2 : goal.invariant_of-self-2
@@ -20,7 +21,7 @@ invariant_of-self-2 g c =
     let map_is : map n c.resize-2.new.self.items ≡ map n s.counters.items ++ replicate (len - length (map n s.counters.items)) 0 = grown n s.counters.items c.resize-2.new.self.items c.reserve.new.self.items c.zero.result len (vec_len c.reserve.new.self) c.reserve.ensures.items room at_xs c.zero.ensures items in
     let sums_room : vec_len s.sums ≡ length s.sums.items = omega (arith, s.sums.ok.0) in
     let sums_is : c.resize.new.self.items ≡ s.sums.items ++ replicate (c.args.blocks - length s.sums.items) 0 = sums_grown s.block (map n s.counters.items) s.sums.items c.resize.new.self.items c.args.blocks (vec_len s.sums) c.self.invariant.sums_are at sums_room c.in_ok-resize.ensures.items in
-    let few : c.args.blocks * s.block ≤ 6291456 = omega (arith, blocks, c.requires.few) in
+    let few : c.args.blocks * s.block ≤ most_bins = omega (arith, blocks, c.requires.few) in
     record {
       sums_are = rw (map_is, sums_is) (AreSums-grow s.block (map n s.counters.items) s.sums.items c.args.blocks c.self.invariant.sums_are at few);
       shift_is = c.self.invariant.shift_is;

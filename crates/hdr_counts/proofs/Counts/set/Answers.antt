@@ -1,9 +1,9 @@
 use Rattle.std.proofs.Common.{◌+◌, ◌-◌, ◌<◌, ◌≤◌, length, map, ap, ◌∙◌, arith}
 use Rattle.std.proofs.lemmas.List.Elements.{All-set}
 use Rattle.std.proofs.lemmas.List.{map-set}
-use Rattle.hdr_counts.proofs.BlockBounds.{lt_as}
-use Rattle.hdr_counts.proofs.BlockSums.{AreSums-set}
-use Rattle.hdr_counts.proofs.WrittenSums.{number-read, within-sum, sum-small, sum-next}
+use Rattle.hdr_counts.proofs.BlocksBounds.{lt_as}
+use Rattle.hdr_counts.proofs.BlocksSums.{AreSums-set}
+use Rattle.hdr_counts.proofs.BlocksWritten.{number-read, within-sum, sum-small, sum-next}
 use Rattle.hdr_counts.proofs.Counts.set.Goals as goal
 
 pub exchanged-requires-clause-within : goal.exchanged-requires-clause-within

@@ -1,5 +1,5 @@
 use Rattle.std.proofs.Common.{ap, arith}
-use Rattle.hdr_counts.proofs.BlockParts.{front-within, front-is, back-within, back-is}
+use Rattle.hdr_counts.proofs.BlocksParts.{front-within, front-is, back-within, back-is}
 use Rattle.hdr_counts.proofs.Counts.sum_in_block.Goals as goal
 
 pub part_sum-requires-clause-within : goal.part_sum-requires-clause-within

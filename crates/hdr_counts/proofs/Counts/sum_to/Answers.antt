@@ -1,7 +1,7 @@
 use Rattle.std.proofs.Common.{◌≡◌, ◌+◌, ◌*◌, ◌<◌, ◌≤◌, length, take, map, ap, ◌∙◌, arith}
 use Rattle.std.proofs.lemmas.List.{length-take-le}
 use Rattle.hdr_counts.specs.Blocks.{sum_below}
-use Rattle.hdr_counts.proofs.BlockSums.{sum_below-le-sum, sum-fits, block_of, block_in, block_past, blocks_sum_more}
+use Rattle.hdr_counts.proofs.BlocksSums.{sum_below-le-sum, sum-fits, block_of, block_in, block_past, blocks_sum_more}
 use Rattle.hdr_counts.proofs.Counts.sum_to.Goals as goal
 
 pub overflow_add-total : goal.overflow_add-total

@@ -1,9 +1,9 @@
 use Rattle.std.proofs.Common.{◌≡◌, ◌+◌, ◌<◌, ◌≤◌, length, get_or, set, map, sym, ap, ◌∙◌, arith}
 use Rattle.std.proofs.lemmas.List.Elements.{All-set}
 use Rattle.std.proofs.lemmas.List.{get_or_read, map-set, get_or-map, length-map}
-use Rattle.hdr_counts.proofs.BlockBounds.{lt_as}
-use Rattle.hdr_counts.proofs.BlockSums.{AreSums-set}
-use Rattle.hdr_counts.proofs.WrittenSums.{number-read, within-sum, sum-small, sum-next}
+use Rattle.hdr_counts.proofs.BlocksBounds.{lt_as}
+use Rattle.hdr_counts.proofs.BlocksSums.{AreSums-set}
+use Rattle.hdr_counts.proofs.BlocksWritten.{number-read, within-sum, sum-small, sum-next}
 use Rattle.hdr_counts.proofs.Counts.try_add.Goals as goal
 
 pub overflow_add-index_mut : goal.overflow_add-index_mut

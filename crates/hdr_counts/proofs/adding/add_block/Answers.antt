@@ -1,6 +1,6 @@
 use Rattle.std.proofs.Common.{map, ap, sym, arith, sum}
 use Rattle.std.proofs.lemmas.List.{length-map}
-use Rattle.hdr_counts.proofs.CappedSums.{capped-zeros, capped-free}
+use Rattle.hdr_counts.proofs.BlocksCapped.{capped-zeros, capped-free}
 use Rattle.hdr_counts.proofs.adding.add_block.Goals as goal
 
 pub returns-then-more-eq0-clause-numbers : goal.returns-then-more-eq0-clause-numbers

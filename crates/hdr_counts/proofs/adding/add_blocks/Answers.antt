@@ -4,9 +4,9 @@ use Rattle.std.specs.List.{All}
 use Rattle.std.proofs.lemmas.List.{length-map, length-set, length-take, length-drop, drop-drop, take_all}
 use Rattle.std.proofs.lemmas.List.Elements.{All-take, All-drop}
 use Rattle.hdr_counts.specs.Blocks.{capped_sums, AreSums}
-use Rattle.hdr_counts.proofs.BlockBounds.{le_as, lt_as, le_more, block-within, block-begins, block-begin-fits, block-end-fits, sum-offset-fits, same-blocks, part-few, parts-same}
-use Rattle.hdr_counts.proofs.BlockSums.{block-sum, block_past, blocks_more, sum_below-le-sum, sum-fits, AreSums-written}
-use Rattle.hdr_counts.proofs.CappedSums.{capped-begin, capped-length, capped-fit, capped-fit-under, capped-step, map-part, map-middle}
+use Rattle.hdr_counts.proofs.BlocksBounds.{le_as, lt_as, le_more, block-within, block-begins, block-begin-fits, block-end-fits, sum-offset-fits, same-blocks, part-few, parts-same}
+use Rattle.hdr_counts.proofs.BlocksSums.{block-sum, block_past, blocks_more, sum_below-le-sum, sum-fits, AreSums-written}
+use Rattle.hdr_counts.proofs.BlocksCapped.{capped-begin, capped-length, capped-fit, capped-fit-under, capped-step, map-part, map-middle}
 use Rattle.hdr_counts.proofs.adding.add_blocks.Goals as goal
 
 pub add_block-requires-clause-sum : goal.add_block-requires-clause-sum

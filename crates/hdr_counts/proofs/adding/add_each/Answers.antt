@@ -1,8 +1,8 @@
 use Rattle.std.proofs.Common.{◌≡◌, ◌∙◌, map, take, ap, sym, arith}
 use Rattle.std.proofs.lemmas.List.{length-map, map-set, take_all}
 use Rattle.hdr_counts.specs.Blocks.{capped_sums}
-use Rattle.hdr_counts.proofs.BlockSums.{number-at}
-use Rattle.hdr_counts.proofs.CappedSums.{capped-none, capped-write}
+use Rattle.hdr_counts.proofs.BlocksSums.{number-at}
+use Rattle.hdr_counts.proofs.BlocksCapped.{capped-none, capped-write}
 use Rattle.hdr_counts.proofs.adding.add_each.Goals as goal
 
 pub loop-i-init : goal.loop-i-init

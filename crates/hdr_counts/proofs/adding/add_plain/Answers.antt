@@ -2,8 +2,8 @@ use Rattle.std.proofs.Common.{◌≡◌, ◌∙◌, map, get_or, take, ap, sym, 
 use Rattle.std.proofs.lemmas.List.{length-map, map-set, take_all}
 use Rattle.std.proofs.lemmas.List.Sums.{get_or-le-sum_by}
 use Rattle.hdr_counts.specs.Blocks.{capped_sums}
-use Rattle.hdr_counts.proofs.BlockSums.{number-at}
-use Rattle.hdr_counts.proofs.CappedSums.{capped-none, capped-write, capped-rest}
+use Rattle.hdr_counts.proofs.BlocksSums.{number-at}
+use Rattle.hdr_counts.proofs.BlocksCapped.{capped-none, capped-write, capped-rest}
 use Rattle.hdr_counts.proofs.adding.add_plain.Goals as goal
 
 pub loop-i-init : goal.loop-i-init

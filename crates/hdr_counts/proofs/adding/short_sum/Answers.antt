@@ -1,6 +1,6 @@
 use Rattle.std.proofs.Common.{◌+◌, arith, map}
 use Rattle.std.proofs.lemmas.List.{length-map}
-use Rattle.hdr_counts.proofs.BlockSums.{sum_below_map_more, sum_below-le-sum, sum_below_all}
+use Rattle.hdr_counts.proofs.BlocksSums.{sum_below_map_more, sum_below-le-sum, sum_below_all}
 use Rattle.hdr_counts.proofs.adding.short_sum.Goals as goal
 
 pub overflow_add-total : goal.overflow_add-total

@@ -1,6 +1,6 @@
 use Rattle.std.proofs.Common.{arith, map}
 use Rattle.std.proofs.lemmas.List.{length-map}
-use Rattle.hdr_counts.proofs.BlockSums.{sum_below_map_more, sum_below_all}
+use Rattle.hdr_counts.proofs.BlocksSums.{sum_below_map_more, sum_below_all}
 use Rattle.hdr_counts.proofs.adding.sum_of.Goals as goal
 
 pub loop-counter-preserved : goal.loop-counter-preserved

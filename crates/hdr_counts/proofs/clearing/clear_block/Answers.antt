@@ -1,5 +1,5 @@
 use Rattle.std.proofs.Common.{arith}
-use Rattle.hdr_counts.proofs.BlockSums.{clear_more, zeros-of}
+use Rattle.hdr_counts.proofs.BlocksSums.{clear_more, zeros-of}
 use Rattle.hdr_counts.proofs.clearing.clear_block.Goals as goal
 
 pub returns-then-had-eq0 : goal.returns-then-had-eq0

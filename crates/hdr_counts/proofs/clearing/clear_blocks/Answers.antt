@@ -2,9 +2,9 @@ use borrow.Author.Count.{falls}
 use Rattle.std.proofs.Common.{refl, rules, ◌≡◌, ◌∙◌, ◌+◌, ◌-◌, ◌*◌, ◌<◌, ◌≤◌, ◌++◌, length, set, take, drop, map, sum, replicate, ap, sym, subst, arith}
 use Rattle.std.proofs.lemmas.List.{length-map, length-set, length-take, length-drop, length-replicate, drop-drop, take_all}
 use Rattle.hdr_counts.specs.Blocks.{AreSums}
-use Rattle.hdr_counts.proofs.BlockBounds.{le_as, lt_as, le_more, block-within, block-begins, block-begin-fits, block-end-fits, sum-offset-fits, zeros-begin}
-use Rattle.hdr_counts.proofs.BlockSums.{block-sum, block_past, AreSums-written, All-zeros, sum-zeros, zeros-written}
-use Rattle.hdr_counts.proofs.CappedSums.{map-part}
+use Rattle.hdr_counts.proofs.BlocksBounds.{le_as, lt_as, le_more, block-within, block-begins, block-begin-fits, block-end-fits, sum-offset-fits, zeros-begin}
+use Rattle.hdr_counts.proofs.BlocksSums.{block-sum, block_past, AreSums-written, All-zeros, sum-zeros, zeros-written}
+use Rattle.hdr_counts.proofs.BlocksCapped.{map-part}
 use Rattle.hdr_counts.proofs.clearing.clear_blocks.Goals as goal
 
 pub clear_block-requires : goal.clear_block-requires

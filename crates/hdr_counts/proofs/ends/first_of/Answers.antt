@@ -1,6 +1,6 @@
 use Rattle.std.proofs.Common.{below_more, arith}
-use Rattle.hdr_counts.proofs.BlockSums.{number-at}
-use Rattle.hdr_counts.proofs.NonzeroPlaces.{none-above}
+use Rattle.hdr_counts.proofs.BlocksSums.{number-at}
+use Rattle.hdr_counts.proofs.BlocksNonzero.{none-above}
 use Rattle.hdr_counts.proofs.ends.first_of.Goals as goal
 
 pub returns-then-most-eq0-clause-place : goal.returns-then-most-eq0-clause-place

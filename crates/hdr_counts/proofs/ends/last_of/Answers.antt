@@ -1,7 +1,7 @@
 use Rattle.std.proofs.Common.{◌≡◌, ◌∙◌, ◌-◌, ◌<◌, get_or, map, length, ap, arith, inl, inr}
 use Rattle.std.proofs.lemmas.Bool.{cases_eq}
-use Rattle.hdr_counts.proofs.BlockSums.{number-at}
-use Rattle.hdr_counts.proofs.NonzeroPlaces.{none-above}
+use Rattle.hdr_counts.proofs.BlocksSums.{number-at}
+use Rattle.hdr_counts.proofs.BlocksNonzero.{none-above}
 use Rattle.hdr_counts.proofs.ends.last_of.Goals as goal
 
 pub returns-then-most-eq0-clause-place : goal.returns-then-most-eq0-clause-place

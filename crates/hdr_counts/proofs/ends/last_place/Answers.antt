@@ -1,8 +1,8 @@
 use borrow.Author.Count.{falls}
 use Rattle.std.proofs.Common.{map, ◌≡◌, ◌+◌, ◌-◌, ◌*◌, ◌<◌, length, drop, ap, arith}
 use Rattle.std.proofs.lemmas.List.{length-take}
-use Rattle.hdr_counts.proofs.BlockBounds.{le_more, block-within, block-begins, block-begin-fits, block-end-fits, sum-offset-fits, block-place-few, below-64, part-end, back-lt, back-some, back-le}
-use Rattle.hdr_counts.proofs.NonzeroPlaces.{part-at-most, zeros-before, last-before}
+use Rattle.hdr_counts.proofs.BlocksBounds.{le_more, block-within, block-begins, block-begin-fits, block-end-fits, sum-offset-fits, block-place-few, below-64, part-end, back-lt, back-some, back-le}
+use Rattle.hdr_counts.proofs.BlocksNonzero.{part-at-most, zeros-before, last-before}
 use Rattle.hdr_counts.proofs.ends.last_place.Goals as goal
 
 pub last_of-requires : goal.last_of-requires

@@ -1,5 +1,5 @@
 use Rattle.std.proofs.Common.{◌-◌, ◌*◌, length, map}
-use Rattle.hdr_counts.proofs.NonzeroPlaces.{ZerosBehind}
+use Rattle.hdr_counts.proofs.BlocksNonzero.{ZerosBehind}
 use Rattle.hdr_counts.proofs.ends.last_place.Given as goal
 
 abbrev pub invariant-loop-passed : goal.invariant-loop-passed

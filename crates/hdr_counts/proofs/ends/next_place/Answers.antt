@@ -1,8 +1,8 @@
 use borrow.Author.Count.{falls}
 use Rattle.std.proofs.Common.{length, map, ◌+◌, ◌-◌, ◌*◌, ◌<◌, drop, arith}
 use Rattle.std.proofs.lemmas.List.{length-take}
-use Rattle.hdr_counts.proofs.BlockBounds.{block-within, block-begin-fits, block-end-fits, sum-offset-fits, block-place-few, below-64, part-end, max-within, some-place, le-both}
-use Rattle.hdr_counts.proofs.NonzeroPlaces.{part-at-most, zeros-behind, first-behind}
+use Rattle.hdr_counts.proofs.BlocksBounds.{block-within, block-begin-fits, block-end-fits, sum-offset-fits, block-place-few, below-64, part-end, max-within, some-place, le-both}
+use Rattle.hdr_counts.proofs.BlocksNonzero.{part-at-most, zeros-behind, first-behind}
 use Rattle.hdr_counts.proofs.ends.next_place.Goals as goal
 
 pub first_of-requires : goal.first_of-requires

@@ -1,5 +1,5 @@
 use Rattle.std.proofs.Common.{◌*◌, map}
-use Rattle.hdr_counts.proofs.NonzeroPlaces.{ZerosUpTo}
+use Rattle.hdr_counts.proofs.BlocksNonzero.{ZerosUpTo}
 use Rattle.hdr_counts.proofs.ends.next_place.Given as goal
 
 abbrev pub invariant-loop-k : goal.invariant-loop-k

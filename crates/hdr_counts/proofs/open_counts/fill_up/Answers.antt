@@ -1,5 +1,5 @@
 use Rattle.std.proofs.Common.{◌≡◌, true, is_ok, refl, arith}
-use Rattle.hdr_counts.proofs.BlockSums.{grown}
+use Rattle.hdr_counts.proofs.BlocksSums.{grown}
 use Rattle.hdr_counts.proofs.open_counts.fill_up.Goals as goal
 
 pub returns-clause-numbers : goal.returns-clause-numbers

@@ -1,6 +1,6 @@
 use Rattle.std.proofs.Common.{◌+◌, ◌-◌, ◌*◌, map, ◌∙◌, arith}
 use Rattle.std.proofs.lemmas.List.{length-map}
-use Rattle.hdr_counts.proofs.OpenSums.{made-none, made-next, made-all}
+use Rattle.hdr_counts.proofs.BlocksOpen.{made-none, made-next, made-all}
 use Rattle.hdr_counts.proofs.open_counts.restate.Goals as goal
 
 pub loop-k-init : goal.loop-k-init

@@ -1,5 +1,5 @@
 use Rattle.std.proofs.Common.{map}
-use Rattle.hdr_counts.proofs.OpenSums.{AreMade}
+use Rattle.hdr_counts.proofs.BlocksOpen.{AreMade}
 use Rattle.hdr_counts.proofs.open_counts.restate.Given as goal
 
 abbrev pub invariant-loop-k : goal.invariant-loop-k

@@ -1,6 +1,6 @@
 use Rattle.std.proofs.Common.{◌≡◌, ◌+◌, ◌-◌, map, ap, arith}
-use Rattle.hdr_counts.proofs.BlockSums.{part_whole, sum_below-le-sum}
-use Rattle.hdr_counts.proofs.Places.{first-in-part}
+use Rattle.hdr_counts.proofs.BlocksSums.{part_whole, sum_below-le-sum}
+use Rattle.hdr_counts.proofs.BlocksPlaces.{first-in-part}
 use Rattle.hdr_counts.specs.Blocks.{sum_below}
 use Rattle.hdr_counts.proofs.search.by_few.Goals as goal
 

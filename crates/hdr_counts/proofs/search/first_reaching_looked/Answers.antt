@@ -1,5 +1,5 @@
 use Rattle.std.proofs.Common.{arith}
-use Rattle.hdr_counts.proofs.Places.{first-here, less-left, none-left}
+use Rattle.hdr_counts.proofs.BlocksPlaces.{first-here, less-left, none-left}
 use Rattle.hdr_counts.proofs.search.first_reaching_looked.Goals as goal
 
 pub returns-then-number-rest-clause-place : goal.returns-then-number-rest-clause-place

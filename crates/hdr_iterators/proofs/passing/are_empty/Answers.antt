@@ -1,6 +1,6 @@
 use Rattle.std.proofs.Common.{map, sym, ◌∙◌, arith}
 use Rattle.std.proofs.lemmas.Bool.{false≢true}
-use Rattle.hdr_iterators.proofs.EmptyRuns.{AreEmpty-more, number_at}
+use Rattle.hdr_iterators.proofs.SeenEmpty.{AreEmpty-more, number_at}
 use Rattle.hdr_iterators.proofs.passing.are_empty.Goals as goal
 use Rattle.hdr_iterators.proofs.passing.are_empty.Goals.{then-as_u64-gt0, else-as_u64-gt0}
 

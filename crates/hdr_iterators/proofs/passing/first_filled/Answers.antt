@@ -1,7 +1,7 @@
 use Rattle.std.proofs.Common.{◌≡◌, ◌+◌, ◌-◌, ◌<◌, length, map, take, drop, subst, arith}
 use Rattle.std.proofs.lemmas.List.{length-map}
 use Rattle.hdr_iterators.specs.Seen.{AreEmpty}
-use Rattle.hdr_iterators.proofs.EmptyRuns.{AreEmpty-join, AreEmpty-part, part-length, part_at}
+use Rattle.hdr_iterators.proofs.SeenEmpty.{AreEmpty-join, AreEmpty-part, part-length, part_at}
 use Rattle.hdr_iterators.proofs.passing.first_filled.Goals as goal
 
 pub returns-in-Some : goal.returns-in-Some

@@ -1,5 +1,5 @@
 use Rattle.std.proofs.Common.{map, arith}
-use Rattle.hdr_iterators.proofs.EmptyRuns.{AreEmpty-more, number_at}
+use Rattle.hdr_iterators.proofs.SeenEmpty.{AreEmpty-more, number_at}
 use Rattle.hdr_iterators.proofs.passing.first_of_few.Goals as goal
 
 pub loop-i-preserved : goal.loop-i-preserved

@@ -1,5 +1,5 @@
 use Rattle.std.proofs.Common.{◌+◌}
-use Rattle.hdr_iterators.proofs.Steps.{NoneBefore-passed}
+use Rattle.hdr_iterators.proofs.PicksSteps.{NoneBefore-passed}
 use Rattle.hdr_iterators.proofs.picking.next_asked.Goals as goal
 
 pub returns-then-skips_empty-clause-unasked : goal.returns-then-skips_empty-clause-unasked

@@ -1,4 +1,4 @@
-use Rattle.hdr_log.proofs.Base64Fields.{base64_field, base64_decoded}
+use Rattle.hdr_log.proofs.TextsBase64.{base64_field, base64_decoded}
 use Rattle.hdr_log.proofs.laws.base64_is_read.Goals as goal
 
 pub returns : goal.returns

@@ -1,4 +1,4 @@
-use Rattle.hdr_log.proofs.Lines.{interval_read}
+use Rattle.hdr_log.proofs.GrammarLines.{interval_read}
 use Rattle.hdr_log.proofs.laws.interval_is_read.Goals as goal
 
 pub returns : goal.returns

@@ -1,4 +1,4 @@
-use Rattle.hdr_log.proofs.Times.{time_of_thousandths}
+use Rattle.hdr_log.proofs.TextsTimes.{time_of_thousandths}
 use Rattle.hdr_log.proofs.laws.time_is_read.Goals as goal
 
 pub returns : goal.returns

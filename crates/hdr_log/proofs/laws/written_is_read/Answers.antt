@@ -1,4 +1,4 @@
-use Rattle.hdr_log.proofs.Whole.{pieces_read}
+use Rattle.hdr_log.proofs.GrammarWhole.{pieces_read}
 use Rattle.hdr_log.proofs.laws.written_is_read.Goals as goal
 
 pub returns : goal.returns

@@ -1,6 +1,6 @@
 use Rattle.std.proofs.Common.{◌≡◌, true, sym, arith}
 use Rattle.std.specs.Str.{is_utf8}
-use Rattle.hdr_log.proofs.Fronts.{decimal_text}
+use Rattle.hdr_log.proofs.PartsFronts.{decimal_text}
 use Rattle.hdr_log.proofs.line.decimal.Goals as goal
 
 pub returns-then-is_decimal : goal.returns-then-is_decimal

@@ -1,4 +1,4 @@
-use Rattle.hdr_log.proofs.Fronts.{strip_is}
+use Rattle.hdr_log.proofs.PartsFronts.{strip_is}
 use Rattle.hdr_log.proofs.line.strip.Goals as goal
 
 pub returns : goal.returns

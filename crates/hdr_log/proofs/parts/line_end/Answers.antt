@@ -1,4 +1,4 @@
-use Rattle.hdr_log.proofs.FirstBytes.{first_byte}
+use Rattle.hdr_log.proofs.PartsFirst.{first_byte}
 use Rattle.hdr_log.proofs.parts.line_end.Goals as goal
 
 pub returns : goal.returns

@@ -2,7 +2,7 @@ use Rattle.std.proofs.Common.{List, ◌≡◌, ◌*◌, ◌<◌, ◌-◌, ◌^�
 use Rattle.std.specs.Str.Parse.{digits_value}
 use Rattle.hdr_log.specs.Parts.{is_digits, number_of}
 use Rattle.hdr_log.specs.Grammar.{nanos_of}
-use Rattle.hdr_log.proofs.Digits.{kept_number, kept_small, kept_not_none}
+use Rattle.hdr_log.proofs.PartsDigits.{kept_number, kept_small, kept_not_none}
 use Rattle.hdr_log.proofs.parts.nanos.Goals as goal
 
 small : (text kept : List ℕ) (n p : ℕ) → true ≡ is_digits text → kept ≡ take 9 text → Some n ≡ number_of kept → p ≡ 10 ^ (9 - length kept) → (n * p < 1_000_000_000) × (Some (n * p) ≡ nanos_of text)

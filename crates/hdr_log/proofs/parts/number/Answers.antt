@@ -1,6 +1,6 @@
 use Rattle.std.proofs.Common.{◌≡◌, ◌+◌, ◌*◌, ◌≤◌, ◌^◌, ◌∙◌, get_or, subst, sym, arith}
 use Rattle.std.specs.Char.{digit_value}
-use Rattle.hdr_log.proofs.NumberLemmas.{Reads, Reads-more, number_of-too_great, number_of-Reads}
+use Rattle.hdr_log.proofs.PartsNumbers.{Reads, Reads-more, number_of-too_great, number_of-Reads}
 use Rattle.hdr_log.proofs.parts.number.Goals as goal
 
 pub returns-in_err-value : goal.returns-in_err-value

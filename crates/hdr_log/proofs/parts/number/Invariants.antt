@@ -1,4 +1,4 @@
-use Rattle.hdr_log.proofs.NumberLemmas.{Reads}
+use Rattle.hdr_log.proofs.PartsNumbers.{Reads}
 use Rattle.hdr_log.proofs.parts.number.Given as goal
 
 -- the value of the digits so far

@@ -1,6 +1,6 @@
 use Rattle.std.proofs.Common.{ap, ◌∙◌}
 use Rattle.std.specs.Option.{option_map}
-use Rattle.hdr_log.proofs.Fronts.{text_is}
+use Rattle.hdr_log.proofs.PartsFronts.{text_is}
 use Rattle.hdr_log.proofs.parts.text.Goals as goal
 
 pub returns : goal.returns

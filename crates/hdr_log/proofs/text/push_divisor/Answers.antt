@@ -1,5 +1,5 @@
 use Rattle.std.proofs.Common.{◌++◌, sym, ap, ◌∙◌}
-use Rattle.hdr_log.proofs.PieceTexts.{divided_text, on_ok}
+use Rattle.hdr_log.proofs.PiecesTexts.{divided_text, on_ok}
 use Rattle.hdr_log.proofs.text.push_divisor.Goals as goal
 
 pub returns : goal.returns

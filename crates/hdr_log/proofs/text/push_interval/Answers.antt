@@ -2,8 +2,8 @@ use Rattle.std.proofs.Common.{◌≡◌, List, ℕ, [], ◌∷◌, ◌++◌, app
 use Rattle.std.specs.Option.{option_map}
 use Rattle.hdr_log.specs.Texts.{thousandths, tag_front, base64_of}
 use Rattle.hdr_log.specs.Tags.{tag_text}
-use Rattle.hdr_log.proofs.PieceTexts.{measured_text}
-use Rattle.hdr_log.proofs.Base64Fields.{base64_field}
+use Rattle.hdr_log.proofs.PiecesTexts.{measured_text}
+use Rattle.hdr_log.proofs.TextsBase64.{base64_field}
 use Rattle.hdr_log.proofs.text.push_interval.Goals as goal
 
 joined : (t0 t1 t2 t3 t4 t5 t6 tag a b c f : List ℕ) → t1 ≡ t0 ++ tag → t2 ≡ t1 ++ a ++ 44 ∷ [] → t3 ≡ t2 ++ b ++ 44 ∷ [] → t4 ≡ t3 ++ c ++ 44 ∷ [] → t5 ≡ t4 ++ f → t6 ≡ t5 ++ 10 ∷ [] → t6 ≡ t0 ++ ((tag ++ (a ++ 44 ∷ (b ++ 44 ∷ (c ++ 44 ∷ f)))) ++ 10 ∷ [])

@@ -1,5 +1,5 @@
 use Rattle.std.proofs.Common.{◌++◌, sym, ap, ◌∙◌}
-use Rattle.hdr_log.proofs.PieceTexts.{startsat_text, on_ok}
+use Rattle.hdr_log.proofs.PiecesTexts.{startsat_text, on_ok}
 use Rattle.hdr_log.proofs.text.push_start_time.Goals as goal
 
 pub returns : goal.returns

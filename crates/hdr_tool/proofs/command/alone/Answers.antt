@@ -1,5 +1,5 @@
 use Rattle.std.proofs.Common.{sym, ◌∙◌}
-use Rattle.hdr_tool.proofs.FieldLemmas.{alone-more}
+use Rattle.hdr_tool.proofs.CommandsFields.{alone-more}
 use Rattle.hdr_tool.proofs.command.alone.Goals as goal
 
 pub returns-then-is_some : goal.returns-then-is_some

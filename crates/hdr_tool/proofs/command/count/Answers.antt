@@ -1,6 +1,6 @@
 use Rattle.std.proofs.Common.{sym, ◌∙◌, ap}
-use Rattle.hdr_tool.specs.Lines.{count_of}
-use Rattle.hdr_tool.proofs.FieldLemmas.{count_of-more}
+use Rattle.hdr_tool.specs.Commands.{count_of}
+use Rattle.hdr_tool.proofs.CommandsFields.{count_of-more}
 use Rattle.hdr_tool.proofs.command.count.Goals as goal
 
 pub returns-then-is_some : goal.returns-then-is_some

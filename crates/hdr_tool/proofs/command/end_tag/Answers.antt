@@ -1,6 +1,6 @@
 use Rattle.std.proofs.Common.{sym, ◌∙◌, ap}
-use Rattle.hdr_tool.specs.Lines.{end_tag_of}
-use Rattle.hdr_tool.proofs.FieldLemmas.{end_tag_of-more}
+use Rattle.hdr_tool.specs.Commands.{end_tag_of}
+use Rattle.hdr_tool.proofs.CommandsFields.{end_tag_of-more}
 use Rattle.hdr_tool.proofs.command.end_tag.Goals as goal
 
 pub returns-then-is_some : goal.returns-then-is_some

@@ -1,6 +1,6 @@
-use Rattle.hdr_tool.proofs.Ended.{CallsStand}
-use Rattle.hdr_tool.proofs.LogThenMerges.{ReadsBack}
-use Rattle.hdr_tool.proofs.WholeWay.{ReadsStand, JoinedStand, same_unit, whole_way}
+use Rattle.hdr_tool.proofs.LogMergesEnds.{CallsStand}
+use Rattle.hdr_tool.proofs.LogMergesWritten.{ReadsBack}
+use Rattle.hdr_tool.proofs.LogMergesStands.{ReadsStand, JoinedStand, same_unit, whole_way}
 use Rattle.hdr_tool.proofs.laws.log_merge_stands.Goals as goal
 
 pub returns : goal.returns

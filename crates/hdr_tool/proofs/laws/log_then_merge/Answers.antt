@@ -1,4 +1,4 @@
-use Rattle.hdr_tool.proofs.LogThenMerges.{log_then_merge}
+use Rattle.hdr_tool.proofs.LogMergesWritten.{log_then_merge}
 use Rattle.hdr_tool.proofs.laws.log_then_merge.Goals as goal
 
 pub returns : goal.returns

@@ -3,7 +3,7 @@ use Rattle.std.specs.Option.{option_map}
 use Rattle.hdr_model.specs.Recording.{after_reset}
 use Rattle.hdr_log.specs.Tags.{tag_text}
 use Rattle.hdrhistogram.specs.V2.{IsV2}
-use Rattle.hdr_tool.proofs.Logging.{interval_same}
+use Rattle.hdr_tool.proofs.ProgramIntervals.{interval_same}
 use Rattle.hdr_tool.proofs.log.end.Goals as goal
 
 pub returns-in-Err-IoError-clause-answers : goal.returns-in-Err-IoError-clause-answers

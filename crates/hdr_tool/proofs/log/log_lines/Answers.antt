@@ -3,12 +3,12 @@ use Rattle.std.specs.List.{enumerate_from}
 use Rattle.hdr_model.specs.Plain.{empty_plain}
 use Rattle.hdr_log.specs.Parts.{parts}
 use Rattle.hdrhistogram.specs.LogWriters.{sink}
-use Rattle.hdr_tool.specs.Parts.{number_lines}
+use Rattle.hdr_tool.specs.Lines.{number_lines}
 use Rattle.hdr_tool.specs.Program.{LogLineDone}
-use Rattle.hdr_tool.proofs.Answering.{log_written, log_moved, reads_log}
-use Rattle.hdr_tool.proofs.Running.{begins_nothing}
-use Rattle.hdr_tool.proofs.Sinks.{appends_nothing}
-use Rattle.hdr_tool.proofs.Streaming.{some_input}
+use Rattle.hdr_tool.proofs.OutcomesAnswers.{log_written, log_moved, reads_log}
+use Rattle.hdr_tool.proofs.OutcomesRuns.{begins_nothing}
+use Rattle.hdr_tool.proofs.OutcomesSinks.{appends_nothing}
+use Rattle.hdr_tool.proofs.ProgramStreaming.{some_input}
 use Rattle.hdr_tool.proofs.log.log_lines.Goals as goal
 
 pub returns-in_default-clause-answers : goal.returns-in_default-clause-answers

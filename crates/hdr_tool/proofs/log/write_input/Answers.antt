@@ -3,8 +3,8 @@ use Rattle.std.proofs.KnownBytes.{Consumes-nil, Consumes-trans}
 use Rattle.hdrhistogram.specs.LogWriters.{sink}
 use Rattle.hdr_tool.specs.Program.{LogLineDone}
 use Rattle.hdr_tool.specs.declared.fault.Fault.TheVariants.{NoMemory, CannotRead}
-use Rattle.hdr_tool.proofs.Sinks.{appends_nothing, appends_both}
-use Rattle.hdr_tool.proofs.Streaming.{nothing_read, same_carry, carried, further, none_read, not_words, read_to, read_all, told_words, answers_now, answers_last, answers_end, answers_unread}
+use Rattle.hdr_tool.proofs.OutcomesSinks.{appends_nothing, appends_both}
+use Rattle.hdr_tool.proofs.ProgramStreaming.{nothing_read, same_carry, carried, further, none_read, not_words, read_to, read_all, told_words, answers_now, answers_last, answers_end, answers_unread}
 use Rattle.hdr_tool.proofs.log.write_input.Goals as goal
 
 pub loop-init : goal.loop-init
@@ -71,11 +71,11 @@ returns-in_default-take_lines-clause-answers g c =
     let s = c.loop.invariant.streamed in
     answers_unread LogLineDone c.args.histogram.now (g.R.Read.remaining c.args.reader.now) (g.R.Read.remaining c.loop.reader) s.0 c.loop.number c.loop.carry.items s.2.0 c.loop.histogram (g.W.Write.contents (sink c.args.log.now).now) (g.W.Write.contents (sink c.loop.log).now) NoMemory s.1 s.2.1 s.2.2 (inl refl)
 
-pub loop-preserved-in_default-behind : goal.loop-preserved-in_default-behind
-loop-preserved-in_default-behind g c =
+pub loop-preserved-in_default-tail : goal.loop-preserved-in_default-tail
+loop-preserved-in_default-tail g c =
     let s = c.loop.invariant.streamed in
     let p = take c.in-Ok.count c.read_piece.new.piece in
-    let t = rw c.in_default-behind.is at c.in-Ok-take_lines.ensures in
+    let t = rw c.in_default-tail.is at c.in-Ok-take_lines.ensures in
     record {
       room = omega (arith, c.read_piece.auto.piece, c.loop.invariant.room);
       same = c.loop.invariant.same;
@@ -101,7 +101,7 @@ returns-in-Err-write_lines-2-clause-answers g c =
     let s = c.loop.invariant.streamed in
     let p = take c.in-Ok.count c.read_piece.new.piece in
     let t = rw c.in-Some.is at c.in-Ok-take_lines.ensures in
-    answers_now LogLineDone c.args.histogram.now (g.R.Read.remaining c.args.reader.now) (g.R.Read.remaining c.read_piece.new.reader) s.0 c.loop.number c.loop.carry.items s.2.0 c.loop.histogram p t.0 c.in-Some.behind.now c.deref-in-loop.result.now
+    answers_now LogLineDone c.args.histogram.now (g.R.Read.remaining c.args.reader.now) (g.R.Read.remaining c.read_piece.new.reader) s.0 c.loop.number c.loop.carry.items s.2.0 c.loop.histogram p t.0 c.in-Some.tail.now c.deref-in-loop.result.now
     (g.W.Write.contents (sink c.args.log.now).now) (g.W.Write.contents (sink c.loop.log).now) (g.W.Write.contents (sink c.write_lines-in-loop.new.log).now) c.in-Err-write_lines-2.fault c.told_at_end.result
     (Consumes-trans (g.R.Read.remaining c.args.reader.now) (g.R.Read.remaining c.loop.reader) (g.R.Read.remaining c.read_piece.new.reader) s.0 p s.1 c.in-Ok.ensures.ok)
     s.2.1 t.1 (c.deref-in-loop.ensures.value ∙ t.2) s.2.2 c.in-Err-write_lines-2.ensures.answers c.told_at_end.ensures.told c.told_at_end.ensures.write
@@ -122,10 +122,10 @@ returns-in_default-replace-clause-answers g c =
     let p = take c.in-Ok.count c.read_piece.new.piece in
     let t = rw c.in-Some.is at c.in-Ok-take_lines.ensures in
     let a = c.in-Ok-write_lines.ensures.answers.1 in
-    answers_unread LogLineDone c.args.histogram.now (g.R.Read.remaining c.args.reader.now) (g.R.Read.remaining c.read_piece.new.reader) (s.0 ++ p) c.in-Ok-write_lines.next c.in-Some.behind.now (s.2.0 ++ a.0) c.write_lines-in-loop.new.histogram
+    answers_unread LogLineDone c.args.histogram.now (g.R.Read.remaining c.args.reader.now) (g.R.Read.remaining c.read_piece.new.reader) (s.0 ++ p) c.in-Ok-write_lines.next c.in-Some.tail.now (s.2.0 ++ a.0) c.write_lines-in-loop.new.histogram
     (g.W.Write.contents (sink c.args.log.now).now) (g.W.Write.contents (sink c.write_lines-in-loop.new.log).now) NoMemory
     (Consumes-trans (g.R.Read.remaining c.args.reader.now) (g.R.Read.remaining c.loop.reader) (g.R.Read.remaining c.read_piece.new.reader) s.0 p s.1 c.in-Ok.ensures.ok)
-    (further LogLineDone c.args.histogram.now s.0 c.loop.number c.loop.carry.items s.2.0 c.loop.histogram p t.0 c.in-Some.behind.now c.deref-in-loop.result.now c.in-Ok-write_lines.next a.0 c.write_lines-in-loop.new.histogram
+    (further LogLineDone c.args.histogram.now s.0 c.loop.number c.loop.carry.items s.2.0 c.loop.histogram p t.0 c.in-Some.tail.now c.deref-in-loop.result.now c.in-Ok-write_lines.next a.0 c.write_lines-in-loop.new.histogram
     s.2.1 t.1 (c.deref-in-loop.ensures.value ∙ t.2) c.in-Ok-write_lines.ensures.answers.0 a.1)
     (appends_both (g.W.Write.contents (sink c.args.log.now).now) (g.W.Write.contents (sink c.loop.log).now) (g.W.Write.contents (sink c.write_lines-in-loop.new.log).now) s.2.0 a.0 s.2.2 a.2)
     (inl refl)
@@ -148,8 +148,8 @@ loop-preserved g c =
         Consumes-trans (g.R.Read.remaining c.args.reader.now) (g.R.Read.remaining c.loop.reader) (g.R.Read.remaining c.read_piece.new.reader) s.0 p s.1 c.in-Ok.ensures.ok,
         (
           s.2.0 ++ a.0,
-          same_carry LogLineDone c.args.histogram.now (s.0 ++ p) c.in-Ok-write_lines.next c.in-Some.behind.now c.replace.new.text.items (s.2.0 ++ a.0) c.write_lines-in-loop.new.histogram c.in-Ok-replace.ensures
-              (further LogLineDone c.args.histogram.now s.0 c.loop.number c.loop.carry.items s.2.0 c.loop.histogram p t.0 c.in-Some.behind.now c.deref-in-loop.result.now c.in-Ok-write_lines.next a.0 c.write_lines-in-loop.new.histogram
+          same_carry LogLineDone c.args.histogram.now (s.0 ++ p) c.in-Ok-write_lines.next c.in-Some.tail.now c.replace.new.text.items (s.2.0 ++ a.0) c.write_lines-in-loop.new.histogram c.in-Ok-replace.ensures
+              (further LogLineDone c.args.histogram.now s.0 c.loop.number c.loop.carry.items s.2.0 c.loop.histogram p t.0 c.in-Some.tail.now c.deref-in-loop.result.now c.in-Ok-write_lines.next a.0 c.write_lines-in-loop.new.histogram
               s.2.1 t.1 (c.deref-in-loop.ensures.value ∙ t.2) c.in-Ok-write_lines.ensures.answers.0 a.1),
           appends_both (g.W.Write.contents (sink c.args.log.now).now) (g.W.Write.contents (sink c.loop.log).now) (g.W.Write.contents (sink c.write_lines-in-loop.new.log).now) s.2.0 a.0 s.2.2 a.2,
         ),

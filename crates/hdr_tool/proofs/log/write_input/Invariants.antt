@@ -2,7 +2,7 @@ use Rattle.std.proofs.Common.{ℕ, ◌<◌, List, length}
 use Rattle.std.specs.Io.KnownBytes.{Appends, Consumes}
 use Rattle.hdrhistogram.specs.LogWriters.{sink, IsSameLog}
 use Rattle.hdr_tool.specs.Program.{LogLineDone}
-use Rattle.hdr_tool.proofs.Streaming.{Streamed}
+use Rattle.hdr_tool.proofs.ProgramStreaming.{Streamed}
 use Rattle.hdr_tool.proofs.log.write_input.Given as goal
 
 -- the lines of what was read are done, but for what is carried on, and what they wrote stands in the writer

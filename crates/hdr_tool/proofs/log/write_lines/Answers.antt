@@ -1,12 +1,12 @@
 use Rattle.std.proofs.Common.{◌+◌, Err, Some, [], refl, ◌∙◌, ap, length, arith}
 use Rattle.hdrhistogram.specs.LogWriters.{sink}
 use Rattle.hdr_log.specs.Parts.{parts}
-use Rattle.hdr_tool.specs.Parts.{number_lines}
+use Rattle.hdr_tool.specs.Lines.{number_lines}
 use Rattle.hdr_tool.specs.Outcomes.{Runs, Begins}
 use Rattle.hdr_tool.specs.Program.{LogLineDone, LogDone}
-use Rattle.hdr_tool.proofs.Running.{begin, begins_nothing, wrote, ended, all_done}
-use Rattle.hdr_tool.proofs.Lists.{first_number}
-use Rattle.hdr_tool.proofs.Sinks.{appends_nothing}
+use Rattle.hdr_tool.proofs.OutcomesRuns.{begin, begins_nothing, wrote, ended, all_done}
+use Rattle.hdr_tool.proofs.OutcomesLists.{first_number}
+use Rattle.hdr_tool.proofs.OutcomesSinks.{appends_nothing}
 use Rattle.hdr_tool.proofs.log.write_lines.Goals as goal
 
 pub returns-in_default-clause-answers : goal.returns-in_default-clause-answers

@@ -1,10 +1,10 @@
 use Rattle.std.proofs.Common.{◌≡◌, ℕ, ◌+◌, List, Some, length}
 use Rattle.std.specs.List.{enumerate_from}
 use Rattle.hdrhistogram.specs.LogWriters.{sink, IsSameLog}
-use Rattle.hdr_tool.specs.Parts.{number_lines}
+use Rattle.hdr_tool.specs.Lines.{number_lines}
 use Rattle.hdr_tool.specs.Outcomes.{Runs, Begins}
 use Rattle.hdr_tool.specs.Program.{LogLineDone}
-use Rattle.hdr_tool.proofs.Running.{Goes}
+use Rattle.hdr_tool.proofs.OutcomesRuns.{Goes}
 use Rattle.hdr_tool.proofs.log.write_lines.Given as goal
 
 -- what was written stands in the writer, and how what is left ends is how all ends after it; the next line's number goes on

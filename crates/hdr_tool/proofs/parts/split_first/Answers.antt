@@ -1,5 +1,5 @@
 use Rattle.std.proofs.Common.{sym}
-use Rattle.hdr_tool.proofs.PartLemmas.{parts-parted, parts-whole}
+use Rattle.hdr_tool.proofs.LinesParts.{parts-parted, parts-whole}
 use Rattle.hdr_tool.proofs.parts.split_first.Goals as goal
 
 pub returns-in-Some-clause-parts : goal.returns-in-Some-clause-parts

@@ -1,7 +1,7 @@
 use Rattle.std.proofs.Common.{[], take, ◌++◌, ◌∙◌, arith}
 use Rattle.std.proofs.KnownBytes.{Consumes-nil, Consumes-trans}
 use Rattle.hdr_tool.specs.Program.{LineDone}
-use Rattle.hdr_tool.proofs.Streaming.{some_input, nothing_read, same_carry, carried, further, none_read, not_words, refused_unread, read_to, read_all, told_words, refused_now, refused_last, done_last}
+use Rattle.hdr_tool.proofs.ProgramStreaming.{some_input, nothing_read, same_carry, carried, further, none_read, not_words, refused_unread, read_to, read_all, told_words, refused_now, refused_last, done_last}
 use Rattle.hdr_tool.proofs.run.apply_input.Goals as goal
 
 pub loop-init : goal.loop-init
@@ -46,11 +46,11 @@ returns-then-count-eq0-clause-read g c = c.in-Ok.ensures.end c.if-count-eq0.true
 pub returns-in_default-take_lines-clause-done : goal.returns-in_default-take_lines-clause-done
 returns-in_default-take_lines-clause-done g c = let i = some_input (g.R.Read.remaining c.args.reader.now) in (i.0, i.1, tt)
 
-pub loop-preserved-in_default-behind : goal.loop-preserved-in_default-behind
-loop-preserved-in_default-behind g c =
+pub loop-preserved-in_default-tail : goal.loop-preserved-in_default-tail
+loop-preserved-in_default-tail g c =
     let s = c.loop.invariant.streamed in
     let p = take c.in-Ok.count c.read_piece.new.piece in
-    let t = rw c.in_default-behind.is at c.in-Ok-take_lines.ensures in
+    let t = rw c.in_default-tail.is at c.in-Ok-take_lines.ensures in
     record {
       room = omega (arith, c.read_piece.auto.piece, c.loop.invariant.room);
       streamed = (
@@ -68,7 +68,7 @@ returns-in-Err-apply_lines-2-clause-done g c =
     let s = c.loop.invariant.streamed in
     let p = take c.in-Ok.count c.read_piece.new.piece in
     let t = rw c.in-Some.is at c.in-Ok-take_lines.ensures in
-    refused_now LineDone c.args.histogram.now (g.R.Read.remaining c.args.reader.now) (g.R.Read.remaining c.read_piece.new.reader) s.0 c.loop.number c.loop.carry.items c.loop.histogram p t.0 c.in-Some.behind.now c.deref-in-loop.result.now
+    refused_now LineDone c.args.histogram.now (g.R.Read.remaining c.args.reader.now) (g.R.Read.remaining c.read_piece.new.reader) s.0 c.loop.number c.loop.carry.items c.loop.histogram p t.0 c.in-Some.tail.now c.deref-in-loop.result.now
     c.in-Err-apply_lines-2.fault c.told_at_end.result
     (Consumes-trans (g.R.Read.remaining c.args.reader.now) (g.R.Read.remaining c.loop.reader) (g.R.Read.remaining c.read_piece.new.reader) s.0 p s.1 c.in-Ok.ensures.ok)
     s.2 t.1 (c.deref-in-loop.ensures.value ∙ t.2) c.in-Err-apply_lines-2.ensures.done c.told_at_end.ensures.told
@@ -89,8 +89,8 @@ loop-preserved g c =
       streamed = (
         s.0 ++ p,
         Consumes-trans (g.R.Read.remaining c.args.reader.now) (g.R.Read.remaining c.loop.reader) (g.R.Read.remaining c.read_piece.new.reader) s.0 p s.1 c.in-Ok.ensures.ok,
-        same_carry LineDone c.args.histogram.now (s.0 ++ p) c.in-Ok-apply_lines.next c.in-Some.behind.now c.replace.new.text.items [] c.apply_lines-in-loop.new.histogram c.in-Ok-replace.ensures
-            (further LineDone c.args.histogram.now s.0 c.loop.number c.loop.carry.items [] c.loop.histogram p t.0 c.in-Some.behind.now c.deref-in-loop.result.now c.in-Ok-apply_lines.next [] c.apply_lines-in-loop.new.histogram
+        same_carry LineDone c.args.histogram.now (s.0 ++ p) c.in-Ok-apply_lines.next c.in-Some.tail.now c.replace.new.text.items [] c.apply_lines-in-loop.new.histogram c.in-Ok-replace.ensures
+            (further LineDone c.args.histogram.now s.0 c.loop.number c.loop.carry.items [] c.loop.histogram p t.0 c.in-Some.tail.now c.deref-in-loop.result.now c.in-Ok-apply_lines.next [] c.apply_lines-in-loop.new.histogram
             s.2 t.1 (c.deref-in-loop.ensures.value ∙ t.2) c.in-Ok-apply_lines.ensures.done.0 c.in-Ok-apply_lines.ensures.done.1),
       );
     }

@@ -1,7 +1,7 @@
 use Rattle.std.proofs.Common.{ℕ, ◌<◌, List, [], length}
 use Rattle.std.specs.Io.KnownBytes.{Consumes}
 use Rattle.hdr_tool.specs.Program.{LineDone}
-use Rattle.hdr_tool.proofs.Streaming.{Streamed}
+use Rattle.hdr_tool.proofs.ProgramStreaming.{Streamed}
 use Rattle.hdr_tool.proofs.run.apply_input.Given as goal
 
 -- the lines of what was read are done, but for what is carried on

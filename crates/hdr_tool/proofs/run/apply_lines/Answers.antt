@@ -1,7 +1,7 @@
 use Rattle.std.proofs.Common.{[], ap, length, arith}
 use Rattle.hdr_tool.specs.Program.{LineDone}
-use Rattle.hdr_tool.proofs.Running.{goes_on}
-use Rattle.hdr_tool.proofs.Lists.{first_number}
+use Rattle.hdr_tool.proofs.OutcomesRuns.{goes_on}
+use Rattle.hdr_tool.proofs.OutcomesLists.{first_number}
 use Rattle.hdr_tool.proofs.run.apply_lines.Goals as goal
 
 pub overflow_add-next : goal.overflow_add-next

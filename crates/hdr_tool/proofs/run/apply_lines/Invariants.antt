@@ -1,7 +1,7 @@
 use Rattle.std.proofs.Common.{◌≡◌, ℕ, ◌+◌, List, Some, length}
 use Rattle.std.specs.List.{enumerate_from}
 use Rattle.hdr_model.specs.Plain.{Plain}
-use Rattle.hdr_tool.specs.Parts.{number_lines}
+use Rattle.hdr_tool.specs.Lines.{number_lines}
 use Rattle.hdr_tool.specs.Outcomes.{Outcome, Runs}
 use Rattle.hdr_tool.specs.Program.{LineDone}
 use Rattle.hdr_tool.proofs.run.apply_lines.Given as goal

@@ -1,10 +1,10 @@
 use Rattle.std.proofs.Common.{[], Some, Err, refl}
 use Rattle.hdr_tool.specs.Outcomes.{Runs}
-use Rattle.hdr_tool.specs.Parts.{number_lines}
+use Rattle.hdr_tool.specs.Lines.{number_lines}
 use Rattle.hdr_tool.specs.Program.{LineDone}
-use Rattle.hdr_tool.proofs.Answering.{report_refused, report_written, reads_refused, reads_all}
-use Rattle.hdr_tool.proofs.Sinks.{appends_nothing}
-use Rattle.hdr_tool.proofs.Streaming.{some_input}
+use Rattle.hdr_tool.proofs.OutcomesAnswers.{report_refused, report_written, reads_refused, reads_all}
+use Rattle.hdr_tool.proofs.OutcomesSinks.{appends_nothing}
+use Rattle.hdr_tool.proofs.ProgramStreaming.{some_input}
 use Rattle.hdr_tool.proofs.run.report_lines.Goals as goal
 
 pub returns-in_default-clause-answers : goal.returns-in_default-clause-answers

@@ -4,8 +4,8 @@ use Rattle.hdr_tool.specs.Options.{view_of_options}
 use Rattle.hdr_tool.specs.Words.{Merge}
 use Rattle.hdr_tool.specs.Outcomes.{Answers}
 use Rattle.hdr_tool.specs.Program.{TaskDone, TaskStands, TaskWrites}
-use Rattle.hdr_tool.proofs.Answering.{not_read, reads_all, reads_none}
-use Rattle.hdr_tool.proofs.Streaming.{some_input, not_words}
+use Rattle.hdr_tool.proofs.OutcomesAnswers.{not_read, reads_all, reads_none}
+use Rattle.hdr_tool.proofs.ProgramStreaming.{some_input, not_words}
 use Rattle.hdr_tool.proofs.run.report_whole.Goals as goal
 
 pub returns-in-Err-clause-words : goal.returns-in-Err-clause-words

@@ -1,7 +1,7 @@
 use Rattle.std.proofs.Common.{◌≡◌, ◌∙◌, Some, None, map, string_bytes, sym, refl}
-use Rattle.hdr_tool.specs.Tasks.{view_of_task}
-use Rattle.hdr_tool.proofs.Answering.{words_refused, words_unread, chosen, leaves_chosen}
-use Rattle.hdr_tool.proofs.Streaming.{some_input}
+use Rattle.hdr_tool.specs.Words.{view_of_task}
+use Rattle.hdr_tool.proofs.OutcomesAnswers.{words_refused, words_unread, chosen, leaves_chosen}
+use Rattle.hdr_tool.proofs.ProgramStreaming.{some_input}
 use Rattle.hdr_tool.proofs.run.run.Goals as goal
 
 pub returns-in-Err-clause-answers : goal.returns-in-Err-clause-answers

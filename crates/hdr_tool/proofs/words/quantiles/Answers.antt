@@ -1,6 +1,6 @@
 use Rattle.std.proofs.Common.{◌∙◌, sym, string_bytes}
 use Rattle.hdr_tool.specs.Words.{quantile_of_word}
-use Rattle.hdr_tool.proofs.WordLemmas.{is_some-each, refuses_wrong, refuses_memory}
+use Rattle.hdr_tool.proofs.WordsEach.{is_some-each, refuses_wrong, refuses_memory}
 use Rattle.hdr_tool.proofs.words.quantiles.Goals as goal
 
 pub returns-then-not-are_quantiles : goal.returns-then-not-are_quantiles

@@ -1,7 +1,6 @@
 use Rattle.std.proofs.Common.{◌≡◌, ◌++◌, drop, map, string_bytes}
 use Rattle.std.specs.Option.{option_map}
-use Rattle.hdr_tool.specs.Parts.{each}
-use Rattle.hdr_tool.specs.Words.{quantile_of_word}
+use Rattle.hdr_tool.specs.Words.{each, quantile_of_word}
 use Rattle.hdr_tool.proofs.words.quantiles.Given as goal
 
 -- what is left of the words gives what is left of the quantiles

@@ -1,4 +1,4 @@
-use Rattle.hdrhistogram.proofs.Telling.{told, alike}
+use Rattle.hdrhistogram.proofs.V2Telling.{told, alike}
 use Rattle.hdrhistogram.proofs.laws.bytes_agree.Goals as goal
 
 pub returns-clause-same : goal.returns-clause-same

@@ -1,4 +1,4 @@
-use Rattle.hdrhistogram.proofs.ReadBack.{v2_again, read_back, equal_back}
+use Rattle.hdrhistogram.proofs.V2ReadBack.{v2_again, read_back, equal_back}
 use Rattle.hdrhistogram.proofs.V2Bytes.{v2_bytes}
 use Rattle.hdrhistogram.proofs.laws.bytes_read_back.Goals as goal
 

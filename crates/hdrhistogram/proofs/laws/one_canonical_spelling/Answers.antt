@@ -1,4 +1,4 @@
-use Rattle.hdrhistogram.proofs.Spellings.{spelt_short, spelling, spelling_least, one_shortest}
+use Rattle.hdrhistogram.proofs.VarintSpellings.{spelt_short, spelling, spelling_least, one_shortest}
 use Rattle.hdrhistogram.proofs.laws.one_canonical_spelling.Goals as goal
 
 pub returns-clause-exists : goal.returns-clause-exists

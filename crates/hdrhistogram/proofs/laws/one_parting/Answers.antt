@@ -1,4 +1,4 @@
-use Rattle.hdrhistogram.proofs.Partings.{parted_are, parted_only}
+use Rattle.hdrhistogram.proofs.PayloadReadCuts.{parted_are, parted_only}
 use Rattle.hdrhistogram.proofs.laws.one_parting.Goals as goal
 
 pub returns-clause-are : goal.returns-clause-are

@@ -1,5 +1,5 @@
 use Rattle.std.proofs.Common.{arith}
-use Rattle.hdrhistogram.proofs.ReadBackStands.{same_classes, read_plain, read_stands}
+use Rattle.hdrhistogram.proofs.V2ReadStands.{same_classes, read_plain, read_stands}
 use Rattle.hdrhistogram.proofs.laws.read_back_stands.Goals as goal
 
 pub returns : goal.returns

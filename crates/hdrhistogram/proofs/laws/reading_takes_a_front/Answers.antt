@@ -1,4 +1,4 @@
-use Rattle.hdrhistogram.proofs.V2Reading.{v2-steady}
+use Rattle.hdrhistogram.proofs.V2ReadHistogram.{v2-steady}
 use Rattle.hdrhistogram.proofs.laws.reading_takes_a_front.Goals as goal
 
 pub returns : goal.returns

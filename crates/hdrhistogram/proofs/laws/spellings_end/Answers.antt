@@ -1,4 +1,4 @@
-use Rattle.hdrhistogram.proofs.Spellings.{one_spelling_of}
+use Rattle.hdrhistogram.proofs.VarintSpellings.{one_spelling_of}
 use Rattle.hdrhistogram.proofs.laws.spellings_end.Goals as goal
 
 pub returns : goal.returns

@@ -37,8 +37,8 @@ impl Write for Buffer {
     }
 }
 
-/// The bytes of a histogram by a serializer. A refusal is lack of memory where the buffer could not grow, and else that
-/// of the serializer.
+/// The bytes of a histogram by a serializer. The answer is `OutOfMemory` where the buffer could not grow; any other refusal
+/// is the serializer's.
 pub(crate) fn serialized<T: Counter, S: Serializer>(
     alloc: Global,
     serializer: &mut S,

@@ -77,7 +77,7 @@ pub enum MergeError {
 /// decoded for counters of 64 bits, and their numbers are added whole. One that is not chosen is not decoded, and what
 /// follows a histogram in its field is not looked at.
 ///
-/// Digits above 5 are refused first. Then the lines go in order, and the first fault decides. Every lack of memory is
+/// Digits above 5 are refused first. Then the lines go in order, and the first fault decides. Running out of memory is
 /// `OutOfMemory`, a cause's too.
 pub fn merge_log<T: Counter>(
     alloc: Global,
@@ -196,7 +196,7 @@ fn merge_field<T: Counter>(
         Ok((source, _)) => source,
         Err(cause) => return Err(not_decoded(interval, cause)),
     };
-    // A histogram that grows takes every value, so that memory alone can be wanting.
+    // A histogram that grows takes every value, so only memory can run out.
     if merging.histogram.add_from(&source).is_err() {
         return Err(MergeError::OutOfMemory);
     }

@@ -1,6 +1,6 @@
 use Rattle.std.proofs.Common.{◌≡◌, arith}
 use Rattle.hdr_base.specs.Classes.{Grain, bin_of, value_of}
-use Rattle.hdr_base.proofs.Tops.{TopParts-of}
+use Rattle.hdr_base.proofs.ClassesTops.{TopParts-of}
 use Rattle.hdr_base.proofs.scale.Scale.bin_top.Goals as goal
 
 pub overflow_cast-width : goal.overflow_cast-width

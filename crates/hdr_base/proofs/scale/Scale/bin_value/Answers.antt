@@ -1,7 +1,7 @@
 use Rattle.std.proofs.Common.{arith}
 use Rattle.hdr_base.specs.Classes.{Grain}
-use Rattle.hdr_base.proofs.ScaleLaws.{index-past, index-value}
-use Rattle.hdr_base.proofs.Finer.{value_of-only}
+use Rattle.hdr_base.proofs.ClassesScale.{index-past, index-value}
+use Rattle.hdr_base.proofs.ClassesFiner.{value_of-only}
 use Rattle.hdr_base.proofs.scale.Scale.bin_value.Goals as goal
 
 pub returns-then-bucket-self-clause-value : goal.returns-then-bucket-self-clause-value

@@ -1,6 +1,6 @@
 use Rattle.std.proofs.Common.{◌-◌, arith}
 use Rattle.std.proofs.lemmas.Nat.{one_shl}
-use Rattle.hdr_base.proofs.ClassLaws.{pow_mono_le}
+use Rattle.hdr_base.proofs.ClassesLaws.{pow_mono_le}
 use Rattle.hdr_base.proofs.scale.Scale.block.Goals as goal
 
 pub returns-clause-bound : goal.returns-clause-bound

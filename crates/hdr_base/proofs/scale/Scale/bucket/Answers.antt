@@ -1,7 +1,7 @@
 use Rattle.std.proofs.Common.{arith}
 use Rattle.hdr_base.specs.Classes.{Grain}
-use Rattle.hdr_base.proofs.ScaleLaws.{bucket-code, bucket-bound}
-use Rattle.hdr_base.proofs.Intervals.{bucket-IsLeast}
+use Rattle.hdr_base.proofs.ClassesScale.{bucket-code, bucket-bound}
+use Rattle.hdr_base.proofs.ClassesIntervals.{bucket-IsLeast}
 use Rattle.hdr_base.proofs.scale.Scale.bucket.Goals as goal
 
 pub returns-clause-value : goal.returns-clause-value

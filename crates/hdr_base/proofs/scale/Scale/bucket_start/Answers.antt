@@ -1,8 +1,8 @@
 use Rattle.std.proofs.Common.{◌≡◌, ℕ, ◌+◌, ◌-◌, ◌*◌, ◌^◌, ◌%◌, ◌<◌, ◌≤◌, ◌∙◌, ap, arith}
 use Rattle.hdr_base.specs.Classes.{Grain, bucket}
 use Rattle.std.proofs.lemmas.Nat.{pow_pos}
-use Rattle.hdr_base.proofs.ClassLaws.{bucket-least}
-use Rattle.hdr_base.proofs.Intervals.{start-IsLeast, start-bucket, start-code, one-bucket}
+use Rattle.hdr_base.proofs.ClassesLaws.{bucket-least}
+use Rattle.hdr_base.proofs.ClassesIntervals.{start-IsLeast, start-bucket, start-code, one-bucket}
 use Rattle.hdr_base.proofs.scale.Scale.bucket_start.Goals as goal
 
 -- the first bucket begins at 0

@@ -1,5 +1,5 @@
 use Rattle.std.proofs.Common.{◌+◌, arith}
-use Rattle.hdr_base.proofs.ScaleLaws.{blocks-most}
+use Rattle.hdr_base.proofs.ClassesScale.{blocks-most}
 use Rattle.hdr_base.proofs.scale.Scale.buckets.Goals as goal
 
 pub returns-clause-few : goal.returns-clause-few

@@ -1,8 +1,8 @@
 use Rattle.std.proofs.Common.{◌≡◌, refl, arith}
 use Rattle.hdr_base.specs.Classes.{grain_of, unit_of}
-use Rattle.hdr_base.proofs.ScaleLaws.{unit-is}
-use Rattle.hdr_base.proofs.Digits.{digits-IsLeast}
-use Rattle.hdr_base.proofs.Intervals.{unit-IsLeast}
+use Rattle.hdr_base.proofs.ClassesScale.{unit-is}
+use Rattle.hdr_base.proofs.ClassesDigits.{digits-IsLeast}
+use Rattle.hdr_base.proofs.ClassesIntervals.{unit-IsLeast}
 use Rattle.hdr_base.proofs.scale.Scale.new.Goals as goal
 
 pub returns-then-unit-digits-gt63-clause-scale : goal.returns-then-unit-digits-gt63-clause-scale

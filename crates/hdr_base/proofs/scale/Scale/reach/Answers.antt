@@ -1,8 +1,8 @@
 use Rattle.std.proofs.Common.{arith}
 use Rattle.hdr_base.specs.Classes.{Grain, reach_of}
-use Rattle.hdr_base.proofs.ClassLaws.{bucket-end}
-use Rattle.hdr_base.proofs.ScaleLaws.{ones-shifted, bucket-bound}
-use Rattle.hdr_base.proofs.Intervals.{reach-IsLeast}
+use Rattle.hdr_base.proofs.ClassesLaws.{bucket-end}
+use Rattle.hdr_base.proofs.ClassesScale.{ones-shifted, bucket-bound}
+use Rattle.hdr_base.proofs.ClassesIntervals.{reach-IsLeast}
 use Rattle.hdr_base.proofs.scale.Scale.reach.Goals as goal
 
 pub returns-clause-value : goal.returns-clause-value

@@ -1,7 +1,7 @@
 use Rattle.std.proofs.Common.{arith}
 use Rattle.hdr_base.specs.Classes.{Grain}
-use Rattle.hdr_base.proofs.ScaleLaws.{width-from-shift}
-use Rattle.hdr_base.proofs.Intervals.{width-IsLeast}
+use Rattle.hdr_base.proofs.ClassesScale.{width-from-shift}
+use Rattle.hdr_base.proofs.ClassesIntervals.{width-IsLeast}
 use Rattle.hdr_base.proofs.scale.Scale.width.Goals as goal
 
 pub returns-clause-value : goal.returns-clause-value

@@ -1,6 +1,6 @@
 use Rattle.std.proofs.Common.{◌≡◌, ◌∙◌, ◌+◌, ◌-◌, ◌*◌, ◌/◌, ◌%◌, ◌<◌, ◌≤◌, ℕ, min, max, length, ap, sym, refl, arith}
 use Rattle.hdr_base.specs.Classes.{Grain, bucket, width_of, bin_of, lowest_of}
-use Rattle.hdr_base.proofs.Intervals.{place-le-bin, place-bin, place-span}
+use Rattle.hdr_base.proofs.ClassesIntervals.{place-le-bin, place-bin, place-span}
 use Rattle.hdr_model.specs.Plain.{Plain, grain, reach}
 use Rattle.hdr_model.specs.Recording.{after_add_to_bin, after_records}
 use Rattle.hdr_model.specs.Correction.{each_times, down_to}

@@ -1,7 +1,7 @@
 use Rattle.std.proofs.Common.{◌∙◌, ◌≤◌, ap, sym, subst, length, rules, ◌<◌}
 use Rattle.hdr_base.specs.Classes.{bin_of}
-use Rattle.hdr_base.proofs.Digits.{digits-pos-of}
-use Rattle.hdr_base.proofs.Finer.{bin-value_of}
+use Rattle.hdr_base.proofs.ClassesDigits.{digits-pos-of}
+use Rattle.hdr_base.proofs.ClassesFiner.{bin-value_of}
 use Rattle.hdr_model.specs.Plain.{grain, reach}
 use Rattle.hdr_model.proofs.PlainBins.{value-has-bin}
 use Rattle.hdr_core.proofs.histogram.Histogram.bin_value.Goals as goal

@@ -1,6 +1,6 @@
 use Rattle.std.proofs.Common.{◌≡◌, ◌∙◌, eqb-true, eq-eqb, ap, sym}
 use Rattle.hdr_base.specs.Classes.{Grain, bin_of}
-use Rattle.hdr_base.proofs.Intervals.{equivalent-bin, bin-equivalent}
+use Rattle.hdr_base.proofs.ClassesIntervals.{equivalent-bin, bin-equivalent}
 use Rattle.hdr_model.specs.Plain.{Plain, grain}
 use Rattle.hdr_model.proofs.PlainKept.{grain-digits}
 use Rattle.hdr_core.proofs.histogram.Histogram.equivalent.Goals as goal

@@ -1,6 +1,6 @@
 use Rattle.std.proofs.Common.{◌≡◌, ◌≢◌, ◌∙◌, ◌+◌, ◌<◌, ◌≤◌, ap, subst, sym, arith, length, get_or}
 use Rattle.hdr_base.specs.Classes.{value_of}
-use Rattle.hdr_base.proofs.Finer.{bin-value_of}
+use Rattle.hdr_base.proofs.ClassesFiner.{bin-value_of}
 use Rattle.hdr_model.specs.Plain.{Plain, grain}
 use Rattle.hdr_model.proofs.PlainKept.{grain-digits}
 use Rattle.hdr_model.proofs.MergingKeeps.{number-le-max}

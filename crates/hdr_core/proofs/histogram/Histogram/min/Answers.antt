@@ -1,6 +1,6 @@
 use Rattle.std.proofs.Common.{◌∙◌, get_or, ap, sym, arith}
 use Rattle.std.proofs.lemmas.Bool.Decides.{nat_tests}
-use Rattle.hdr_base.proofs.ClassLaws.{ltb-to}
+use Rattle.hdr_base.proofs.ClassesLaws.{ltb-to}
 use Rattle.hdr_model.specs.Plain.{Plain}
 use Rattle.hdr_model.proofs.RecordingClears.{min-empty, min-first, min-later, ltb-none}
 use Rattle.hdr_core.proofs.histogram.Histogram.min.Goals as goal

@@ -1,7 +1,7 @@
 use Rattle.std.proofs.Common.{◌≡◌, ◌∙◌, ◌<◌, ◌≤◌, ap, sym, arith, length, get_or, take}
 use Rattle.std.proofs.lemmas.List.{take_all}
 use Rattle.hdr_base.specs.Classes.{value_of}
-use Rattle.hdr_base.proofs.Finer.{bin-value_of}
+use Rattle.hdr_base.proofs.ClassesFiner.{bin-value_of}
 use Rattle.hdr_model.specs.Plain.{Plain, grain, reach}
 use Rattle.hdr_model.specs.Recording.{after_record, after_records}
 use Rattle.hdr_model.specs.Merging.{classes_from}

@@ -6,7 +6,7 @@ use Rattle.hdr_model.specs.Quantiles.{rank, first_reaching, answer_at, quantile_
 use Rattle.hdr_model.proofs.QuantilesFirst.{quantile-ranked}
 use Rattle.std.proofs.lemmas.Nat.{pow_pos}
 use Rattle.hdr_base.specs.Classes.{bucket}
-use Rattle.hdr_base.proofs.Reach.{bins-blocks}
+use Rattle.hdr_base.proofs.ClassesReach.{bins-blocks}
 use Rattle.hdr_model.proofs.PlainKept.{grain-digits}
 use Rattle.hdr_model.proofs.QuantilesAnswers.{looks-most}
 use Rattle.hdr_core.proofs.histogram.Histogram.value_at_quantile_counted.Goals as goal

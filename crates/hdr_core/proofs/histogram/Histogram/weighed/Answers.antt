@@ -1,7 +1,7 @@
 use Rattle.std.proofs.Common.{◌≡◌, ◌+◌, ◌*◌, ◌<◌, length, get_or, ap, ◌∙◌, arith}
 use Rattle.std.proofs.lemmas.List.{length-map}
 use Rattle.hdr_base.specs.Classes.{Grain, value_of}
-use Rattle.hdr_counts.proofs.BlockSums.{number-at, sum_below_more, sum_below-le-sum}
+use Rattle.hdr_counts.proofs.BlocksSums.{number-at, sum_below_more, sum_below-le-sum}
 use Rattle.hdr_model.specs.Plain.{Plain, grain}
 use Rattle.hdr_core.specs.Shown.{plain_of}
 use Rattle.hdr_model.specs.Statistics.{median_of}

@@ -1,5 +1,5 @@
 use Rattle.std.proofs.Common.{arith}
-use Rattle.hdr_counts.proofs.OpenSums.{open-none, none-resized}
+use Rattle.hdr_counts.proofs.BlocksOpen.{open-none, none-resized}
 use Rattle.hdr_counts.proofs.open_counts.OpenCounts.new.Goals as goal
 
 pub invariant_of-result : goal.invariant_of-result

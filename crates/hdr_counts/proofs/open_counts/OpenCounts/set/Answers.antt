@@ -1,7 +1,7 @@
 use Rattle.std.proofs.Common.{◌<◌, length, map, ap, ◌∙◌, arith}
 use Rattle.std.proofs.lemmas.List.{map-set, length-map}
 use Rattle.hdr_counts.specs.Blocks.{with_zeros}
-use Rattle.hdr_counts.proofs.OpenSums.{open-set-late, set-with-zeros}
+use Rattle.hdr_counts.proofs.BlocksOpen.{open-set-late, set-with-zeros}
 use Rattle.hdr_counts.proofs.open_counts.OpenCounts.set.Goals as goal
 
 pub invariant_of-self : goal.invariant_of-self

@@ -1,8 +1,8 @@
 use Rattle.std.proofs.Common.{◌≡◌, ◌+◌, ◌-◌, ◌/◌, ◌<◌, length, get_or, set, map, sym, ap, ◌∙◌, arith}
 use Rattle.std.proofs.lemmas.List.{map-set, length-map}
 use Rattle.hdr_counts.specs.Blocks.{with_zeros}
-use Rattle.hdr_counts.proofs.WrittenSums.{number-read, within-sum, sum-small, sum-next}
-use Rattle.hdr_counts.proofs.OpenSums.{open-cover, open-set, open-set-late, more-zeros, get-with-zeros, set-with-zeros, length-with-zeros}
+use Rattle.hdr_counts.proofs.BlocksWritten.{number-read, within-sum, sum-small, sum-next}
+use Rattle.hdr_counts.proofs.BlocksOpen.{open-cover, open-set, open-set-late, more-zeros, get-with-zeros, set-with-zeros, length-with-zeros}
 use Rattle.hdr_counts.proofs.open_counts.OpenCounts.set_further.Goals as goal
 
 pub invariant_of-self : goal.invariant_of-self

@@ -1,4 +1,5 @@
 use Rattle.std.proofs.Common.{◌≡◌, ◌-◌, ◌*◌, ◌<◌, ◌≤◌, length}
+use Rattle.hdr_base.specs.Classes.{most_bins}
 use Rattle.hdr_counts.specs.Blocks.{sum_below}
 use Rattle.hdr_counts.proofs.search.Search.first_reaching.Given as goal
 
@@ -7,7 +8,7 @@ invariant-loop-sum g l =
     let s = l.self-inside in
     (s.before ≡ sum_below l.counts.numbers (s.block * l.counts.block))
     × (s.before < l.rank)
-    × (s.block ≤ 6291456)
+    × (s.block ≤ most_bins)
     × (s.counts.now ≡ l.counts)
     × (l.counts ≡ l.initial.counts)
 

@@ -1,4 +1,4 @@
-use Rattle.hdr_iterators.proofs.BinLists.{all_within}
+use Rattle.hdr_iterators.proofs.PlacesBins.{all_within}
 use Rattle.hdr_iterators.proofs.all.Iter.new.Goals as goal
 
 pub new-requires-clause-within : goal.new-requires-clause-within

@@ -1,6 +1,6 @@
 use Rattle.std.proofs.Common.{sym, refl, ap, ◌∙◌, arith}
 use Rattle.hdr_iterators.specs.Picks.{bin_after}
-use Rattle.hdr_iterators.proofs.BinLists.{all_next, all_past}
+use Rattle.hdr_iterators.proofs.PlacesBins.{all_next, all_past}
 use Rattle.hdr_iterators.proofs.all.IterPickyIterator.pick.Goals as goal
 
 pub returns-then-eq : goal.returns-then-eq

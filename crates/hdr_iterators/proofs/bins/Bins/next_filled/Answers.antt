@@ -1,6 +1,6 @@
 use Rattle.std.proofs.Common.{◌+◌, ◌-◌, ◌*◌, ◌/◌, ◌^◌, map, ap, arith}
 use Rattle.std.proofs.lemmas.Nat.{pow_pos}
-use Rattle.hdr_iterators.proofs.EmptyRuns.{AreEmpty-join, BlockPart-of}
+use Rattle.hdr_iterators.proofs.SeenEmpty.{AreEmpty-join, BlockPart-of}
 use Rattle.hdr_iterators.proofs.bins.Bins.next_filled.Goals as goal
 
 pub first_in_block-requires-clause-whole : goal.first_in_block-requires-clause-whole

@@ -2,7 +2,7 @@ use Rattle.std.proofs.Common.{◌-◌, ◌/◌, ap, ◌∙◌}
 use Rattle.hdr_iterators.specs.Seen.{Seen}
 use Rattle.hdr_iterators.specs.Picks.{items_of}
 use Rattle.hdr_iterators.specs.Places.{linear_count, linear_picks}
-use Rattle.hdr_iterators.proofs.Levels.{levels_within, levels_all}
+use Rattle.hdr_iterators.proofs.LinearLevels.{levels_within, levels_all}
 use Rattle.hdr_iterators.proofs.linear.Iter.new.Goals as goal
 
 pub new-requires-clause-within : goal.new-requires-clause-within

@@ -4,7 +4,7 @@ use Rattle.hdr_iterators.specs.Seen.{bins_in, place_of}
 use Rattle.hdr_iterators.specs.Picks.{Pick, NoneBefore}
 use Rattle.hdr_iterators.specs.Places.{level_pick}
 use Rattle.hdr_iterators.specs.Linear.{LinearStep, levels_from, end_at}
-use Rattle.hdr_iterators.proofs.Levels.{linear_step, levels_behind, next_here}
+use Rattle.hdr_iterators.proofs.LinearLevels.{linear_step, levels_behind, next_here}
 use Rattle.hdr_iterators.proofs.linear.IterPickyIterator.pick.Goals as goal
 use Rattle.hdr_iterators.proofs.linear.IterPickyIterator.pick.Goals.{then-self-via-then-self, then-self-via-else-self+then-not-is_due}
 

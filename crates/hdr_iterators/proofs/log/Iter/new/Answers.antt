@@ -1,5 +1,5 @@
 use Rattle.hdr_iterators.specs.Places.{log_count}
-use Rattle.hdr_iterators.proofs.Powers.{log_within}
+use Rattle.hdr_iterators.proofs.LogPowers.{log_within}
 use Rattle.hdr_iterators.proofs.log.Iter.new.Goals as goal
 
 pub new-requires-clause-within : goal.new-requires-clause-within

@@ -4,7 +4,7 @@ use Rattle.std.proofs.lemmas.Bool.Decides.{leb_tells}
 use Rattle.hdr_iterators.specs.Seen.{bins_in, place_of}
 use Rattle.hdr_iterators.specs.Picks.{Pick, NoneBefore}
 use Rattle.hdr_iterators.specs.Places.{level_pick, log_picks}
-use Rattle.hdr_iterators.proofs.Powers.{log_behind, log_step, LogStep-next}
+use Rattle.hdr_iterators.proofs.LogPowers.{log_behind, log_step, LogStep-next}
 use Rattle.hdr_iterators.proofs.log.IterPickyIterator.pick.Goals as goal
 use Rattle.hdr_iterators.proofs.log.IterPickyIterator.pick.Goals.{then-self-via-then-self, then-self-via-else-self+then-not-is_due}
 

@@ -1,6 +1,6 @@
 use Rattle.std.proofs.Common.{◌∙◌, arith}
 use Rattle.std.proofs.lemmas.Bool.{false≢true}
-use Rattle.hdr_iterators.proofs.Steps.{InStep-first}
+use Rattle.hdr_iterators.proofs.PicksSteps.{InStep-first}
 use Rattle.hdr_iterators.proofs.picking.HistogramIterator.new.Goals as goal
 
 pub invariant_of-result : goal.invariant_of-result

@@ -1,7 +1,7 @@
 use Rattle.std.proofs.Common.{◌≡◌, ◌+◌, ◌-◌, ◌^◌, ◌<◌, [], min, sym, ap, ◌∙◌, arith}
 use Rattle.hdr_iterators.specs.Seen.{bins_in}
 use Rattle.hdr_iterators.specs.Picks.{NoneBefore, bin_after, items_from}
-use Rattle.hdr_iterators.proofs.Steps.{NoneBefore-end, InStep-passed}
+use Rattle.hdr_iterators.proofs.PicksSteps.{NoneBefore-end, InStep-passed}
 use Rattle.hdr_iterators.proofs.picking.HistogramIteratorIterator.next.Goals as goal
 
 pub invariant_of-self-then-next-len : goal.invariant_of-self-then-next-len

@@ -3,7 +3,7 @@ use Rattle.hdr_iterators.specs.Seen.{bins_in}
 use Rattle.hdr_iterators.specs.Picks.{AllBefore}
 use Rattle.hdr_iterators.specs.Ticks.{TickOf}
 use Rattle.hdr_iterators.specs.Places.{quantile_picks}
-use Rattle.hdr_iterators.proofs.TickLists.{picks_within}
+use Rattle.hdr_iterators.proofs.TicksLists.{picks_within}
 use Rattle.hdr_iterators.proofs.quantile.Iter.new.Goals as goal
 
 pub new-requires-clause-within : goal.new-requires-clause-within

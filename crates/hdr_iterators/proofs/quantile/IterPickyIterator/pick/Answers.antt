@@ -3,8 +3,8 @@ use Rattle.hdr_iterators.specs.Seen.{running}
 use Rattle.hdr_iterators.specs.Picks.{Pick, NoneBefore}
 use Rattle.hdr_iterators.specs.Places.{quantile_picks, tick_pick, tick_of, is_within}
 use Rattle.hdr_iterators.specs.Ticks.{TickOf, TickStep, given}
-use Rattle.hdr_iterators.proofs.TickLists.{pass_empty, pass_open}
-use Rattle.hdr_iterators.proofs.TickSteps.{advances, begins_to_close}
+use Rattle.hdr_iterators.proofs.TicksLists.{pass_empty, pass_open}
+use Rattle.hdr_iterators.proofs.TicksSteps.{advances, begins_to_close}
 use Rattle.hdr_iterators.proofs.quantile.IterPickyIterator.pick.Goals as goal
 use Rattle.hdr_iterators.proofs.quantile.IterPickyIterator.pick.Goals.{then-self-via-then-self, then-self-via-else-self+then-as_u64-eq0, then-total_count_to_index-total, else-total_count_to_index-total+then-is_within}
 

@@ -2,7 +2,7 @@ use Rattle.std.proofs.Common.{true, false, cond, List, [], drop}
 use Rattle.hdr_iterators.specs.Picks.{Pick, AllFilled}
 use Rattle.hdr_iterators.specs.Places.{quantile_picks}
 use Rattle.hdr_iterators.specs.Ticks.{given}
-use Rattle.hdr_iterators.proofs.TickLists.{picks_filled}
+use Rattle.hdr_iterators.proofs.TicksLists.{picks_filled}
 use Rattle.hdr_iterators.proofs.quantile.IterPickyIterator.skips_empty.Goals as goal
 
 pub returns : goal.returns

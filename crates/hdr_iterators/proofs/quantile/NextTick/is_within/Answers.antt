@@ -1,6 +1,6 @@
 use Rattle.std.proofs.Common.{◌≡◌, ◌<◌, ◌≤◌, ◌∙◌, leb, arith}
 use Rattle.hdr_iterators.specs.Places.{is_within}
-use Rattle.hdr_iterators.proofs.Halves.{within_few}
+use Rattle.hdr_iterators.proofs.TicksHalves.{within_few}
 use Rattle.hdr_iterators.proofs.quantile.NextTick.is_within.Goals as goal
 
 pub returns-clause-few : goal.returns-clause-few

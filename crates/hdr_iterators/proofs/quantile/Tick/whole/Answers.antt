@@ -2,7 +2,7 @@ use Rattle.std.proofs.Common.{◌≡◌, ◌+◌, ◌*◌, ◌%◌, ◌^◌, ◌
 use Rattle.hdr_base.specs.Fractions.{Ratio}
 use Rattle.hdr_iterators.specs.Ticks.{Ticked}
 use Rattle.hdr_iterators.specs.Places.{tick_of}
-use Rattle.hdr_iterators.proofs.Halves.{tick_at, whole_wide, whole_mod}
+use Rattle.hdr_iterators.proofs.TicksHalves.{tick_at, whole_wide, whole_mod}
 use Rattle.hdr_iterators.proofs.quantile.Tick.whole.Goals as goal
 
 pub returns-clause-value : goal.returns-clause-value

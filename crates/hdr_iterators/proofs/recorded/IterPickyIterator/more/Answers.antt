@@ -1,4 +1,4 @@
-use Rattle.hdr_iterators.proofs.BinLists.{recorded_end}
+use Rattle.hdr_iterators.proofs.PlacesBins.{recorded_end}
 use Rattle.hdr_iterators.proofs.recorded.IterPickyIterator.more.Goals as goal
 
 pub returns-clause-end : goal.returns-clause-end

@@ -1,6 +1,6 @@
 use Rattle.std.proofs.Common.{sym, refl, ap, ◌∙◌, arith}
 use Rattle.hdr_iterators.specs.Picks.{bin_after}
-use Rattle.hdr_iterators.proofs.BinLists.{recorded_next, recorded_past, recorded_empty}
+use Rattle.hdr_iterators.proofs.PlacesBins.{recorded_next, recorded_past, recorded_empty}
 use Rattle.hdr_iterators.proofs.recorded.IterPickyIterator.pick.Goals as goal
 use Rattle.hdr_iterators.proofs.recorded.IterPickyIterator.pick.Goals.{then-as_u64-eq0-via-then-as_u64-eq0, then-as_u64-eq0-via-else-as_u64-eq0+then-eq}
 

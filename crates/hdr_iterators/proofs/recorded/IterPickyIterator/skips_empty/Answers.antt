@@ -1,4 +1,4 @@
-use Rattle.hdr_iterators.proofs.BinLists.{recorded_filled}
+use Rattle.hdr_iterators.proofs.PlacesBins.{recorded_filled}
 use Rattle.hdr_iterators.proofs.recorded.IterPickyIterator.skips_empty.Goals as goal
 
 pub returns : goal.returns

@@ -1,4 +1,4 @@
-use Rattle.hdr_log.proofs.Counted.{reading_few}
+use Rattle.hdr_log.proofs.PartsCounted.{reading_few}
 use Rattle.hdr_log.proofs.iterator.IntervalLogIterator.new.Goals as goal
 
 pub returns-clause-few : goal.returns-clause-few

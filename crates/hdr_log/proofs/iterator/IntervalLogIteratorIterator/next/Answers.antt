@@ -3,7 +3,7 @@ use Rattle.std.proofs.lemmas.Bool.{eqb-true}
 use Rattle.hdr_log.specs.Parts.{parts}
 use Rattle.hdr_log.specs.Grammar.{readings}
 use Rattle.hdr_log.specs.Reading.{view_of_entry}
-use Rattle.hdr_log.proofs.Steps.{gives_entry, gives_next, gives_error, gives_end, gives_last_error}
+use Rattle.hdr_log.proofs.GrammarSteps.{gives_entry, gives_next, gives_error, gives_end, gives_last_error}
 use Rattle.hdr_log.proofs.iterator.IntervalLogIteratorIterator.next.Goals as goal
 
 above : (n : ℕ) → false ≡ (n == 0) → 0 < n

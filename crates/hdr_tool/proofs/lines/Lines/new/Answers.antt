@@ -1,5 +1,5 @@
 use Rattle.std.proofs.Common.{arith}
-use Rattle.hdr_tool.proofs.Lists.{numbered_few}
+use Rattle.hdr_tool.proofs.OutcomesLists.{numbered_few}
 use Rattle.hdr_tool.proofs.lines.Lines.new.Goals as goal
 
 pub returns-clause-bound : goal.returns-clause-bound

@@ -1,6 +1,6 @@
 use Rattle.hdrhistogram.specs.HeaderView.{header_of}
 use Rattle.hdrhistogram.specs.Faults.{fault_of_error}
-use Rattle.hdrhistogram.proofs.V2Reading.{bounds-yes, bounds-refused, fault-none, is-made}
+use Rattle.hdrhistogram.proofs.V2ReadHistogram.{bounds-yes, bounds-refused, fault-none, is-made}
 use Rattle.hdrhistogram.proofs.serialization.deserializer.empty_for.Goals as goal
 
 pub returns-in-Ok-clause-bounds : goal.returns-in-Ok-clause-bounds

@@ -3,8 +3,8 @@ use Rattle.std.specs.Io.KnownBytes.{Consumes}
 use Rattle.std.proofs.KnownBytes.{Consumes-nil, Consumes-trans}
 use Rattle.std.proofs.lemmas.Result.{err_from_is_err_and}
 use Rattle.hdrhistogram.specs.V2Read.{bytes_at}
-use Rattle.hdrhistogram.proofs.FillingFacts.{gives_fails}
-use Rattle.hdrhistogram.proofs.V2Reading.{stream_fails, bytes-short, bytes-whole, piece-taken}
+use Rattle.hdrhistogram.proofs.PayloadReadFilling.{gives_fails}
+use Rattle.hdrhistogram.proofs.V2ReadHistogram.{stream_fails, bytes-short, bytes-whole, piece-taken}
 use Rattle.hdrhistogram.proofs.serialization.deserializer.read_payload.Goals as goal
 
 pub loop-buffer-init : goal.loop-buffer-init

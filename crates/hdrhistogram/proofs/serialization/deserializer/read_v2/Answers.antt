@@ -4,8 +4,8 @@ use Rattle.hdrhistogram.specs.HeaderView.{header_of}
 use Rattle.hdrhistogram.specs.Faults.{fault_of_error, FailsBy}
 use Rattle.hdrhistogram.specs.PayloadRead.{counts_in}
 use Rattle.hdrhistogram.specs.V2Read.{Contents, bins_for, contents_of, told_of, v2_at}
-use Rattle.hdrhistogram.proofs.FillingFacts.{gives_fails}
-use Rattle.hdrhistogram.proofs.V2Reading.{header-failed, bounds-failed, payload-failed, counts-failed, whole-taken, whole}
+use Rattle.hdrhistogram.proofs.PayloadReadFilling.{gives_fails}
+use Rattle.hdrhistogram.proofs.V2ReadHistogram.{header-failed, bounds-failed, payload-failed, counts-failed, whole-taken, whole}
 use Rattle.hdrhistogram.proofs.serialization.deserializer.read_v2.Goals as goal
 
 pub returns-in_err-header-clause-read : goal.returns-in_err-header-clause-read

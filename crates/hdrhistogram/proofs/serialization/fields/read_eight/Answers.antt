@@ -2,8 +2,8 @@ use Rattle.std.proofs.Common.{arith}
 use Rattle.std.proofs.lemmas.Result.{err_from_is_err_and}
 use Rattle.hdrhistogram.specs.V2Read.{eight_at}
 use Rattle.hdrhistogram.specs.declared.serialization.errors.DeserializeError.TheVariants.{IoError}
-use Rattle.hdrhistogram.proofs.FillingFacts.{gives_fails}
-use Rattle.hdrhistogram.proofs.HeaderRead.{eight-short, eight-whole}
+use Rattle.hdrhistogram.proofs.PayloadReadFilling.{gives_fails}
+use Rattle.hdrhistogram.proofs.V2ReadHeader.{eight-short, eight-whole}
 use Rattle.hdrhistogram.proofs.serialization.fields.read_eight.Goals as goal
 
 pub returns-in_err-read_whole : goal.returns-in_err-read_whole

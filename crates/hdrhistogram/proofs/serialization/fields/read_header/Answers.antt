@@ -2,8 +2,8 @@ use Rattle.std.proofs.Common.{◌≡◌, ◌∙◌, ap, sym}
 use Rattle.std.proofs.lemmas.Result.{err_from_is_err_and}
 use Rattle.hdrhistogram.specs.Faults.{fault_of_error, FailsBy}
 use Rattle.hdrhistogram.specs.V2Read.{four_at, eight_at, check_field, cookie_fault, offset_fault, sigfig_fault, ratio_fault, header_at}
-use Rattle.hdrhistogram.proofs.FillingFacts.{gives_fails}
-use Rattle.hdrhistogram.proofs.HeaderRead.{checked-taken, checked-refused, checked-failed, field-failed, from_len, from_offset, from_sigfig, from_low, from_high, from_ratio, from_cookie, headed, ended_header, ratio-ends, after_cookie, after_len, after_offset, after_sigfig, after_low, after_high}
+use Rattle.hdrhistogram.proofs.PayloadReadFilling.{gives_fails}
+use Rattle.hdrhistogram.proofs.V2ReadHeader.{checked-taken, checked-refused, checked-failed, field-failed, from_len, from_offset, from_sigfig, from_low, from_high, from_ratio, from_cookie, headed, ended_header, ratio-ends, after_cookie, after_len, after_offset, after_sigfig, after_low, after_high}
 use Rattle.hdrhistogram.proofs.serialization.fields.read_header.Goals as goal
 
 pub returns-in_err-cookie : goal.returns-in_err-cookie

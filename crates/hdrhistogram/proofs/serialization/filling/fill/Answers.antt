@@ -6,9 +6,9 @@ use mir.Val.{SFits}
 use Rattle.hdrhistogram.specs.Faults.{fault_of_error, FailsBy}
 use Rattle.hdrhistogram.specs.PayloadRead.{IsCut, IsCountPut, IsPairPut, counts_in}
 use Rattle.hdr_model.specs.Filling.{Open}
-use Rattle.hdrhistogram.proofs.Spellings.{some_byte}
-use Rattle.hdrhistogram.proofs.Restated.{set-again}
-use Rattle.hdrhistogram.proofs.FillingFacts.{IsFilledTo, fill_start, fill_short, fill_pair, fill_next, fill_faulty, fill_end, fill_cut, fails_so, gives_fails}
+use Rattle.hdrhistogram.proofs.VarintSpellings.{some_byte}
+use Rattle.hdrhistogram.proofs.V2ReadRestated.{set-again}
+use Rattle.hdrhistogram.proofs.PayloadReadFilling.{IsFilledTo, fill_start, fill_short, fill_pair, fill_next, fill_faulty, fill_end, fill_cut, fails_so, gives_fails}
 use Rattle.hdrhistogram.proofs.serialization.filling.fill.Goals as goal
 
 pub loop-at-init : goal.loop-at-init

@@ -1,5 +1,5 @@
 use Rattle.std.proofs.Common.{◌≡◌, ◌-◌, length}
-use Rattle.hdrhistogram.proofs.FillingFacts.{IsFilledTo}
+use Rattle.hdrhistogram.proofs.PayloadReadFilling.{IsFilledTo}
 use Rattle.hdrhistogram.proofs.serialization.filling.fill.Given as goal
 
 abbrev pub invariant-loop-at : goal.invariant-loop-at

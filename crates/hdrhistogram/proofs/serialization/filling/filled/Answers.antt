@@ -1,5 +1,5 @@
 use Rattle.std.proofs.Common.{◌∙◌, Ok, ap, sym}
-use Rattle.hdrhistogram.proofs.Restated.{closed-counts, closed-told, closed-fixed, closed-restated}
+use Rattle.hdrhistogram.proofs.V2ReadRestated.{closed-counts, closed-told, closed-fixed, closed-restated}
 use Rattle.hdrhistogram.proofs.serialization.filling.filled.Goals as goal
 
 pub returns-clause-counts : goal.returns-clause-counts

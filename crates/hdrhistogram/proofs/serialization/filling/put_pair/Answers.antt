@@ -1,7 +1,7 @@
 use Rattle.std.proofs.Common.{◌+◌, drop, set, ap, refl, length-drop, arith}
 use Rattle.std.proofs.lemmas.List.{length-set, get_or-drop}
 use Rattle.hdr_model.specs.Filling.{Open}
-use Rattle.hdrhistogram.proofs.FillingFacts.{two-put}
+use Rattle.hdrhistogram.proofs.PayloadReadFilling.{two-put}
 use Rattle.hdrhistogram.proofs.serialization.filling.put_pair.Goals as goal
 
 pub returns-clause-put : goal.returns-clause-put

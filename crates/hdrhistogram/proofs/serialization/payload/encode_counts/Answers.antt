@@ -1,7 +1,7 @@
 use Rattle.std.proofs.Common.{take, arith}
 use Rattle.std.proofs.lemmas.List.{length-take}
 use Rattle.hdrhistogram.specs.V2.{written_bins}
-use Rattle.hdrhistogram.proofs.Payloads.{enough-each}
+use Rattle.hdrhistogram.proofs.PayloadWriting.{enough-each}
 use Rattle.hdrhistogram.proofs.serialization.payload.encode_counts.Goals as goal
 
 pub encode_within-requires : goal.encode_within-requires

@@ -1,8 +1,8 @@
 use Rattle.std.proofs.Common.{◌≡◌, ℕ, ◌^◌, ◌<◌, ◌≤◌, arith, ◌∙◌, ◌++◌, sym, subst, take, drop, ap, w64, List, length, get_or, length-take-le}
 use Rattle.std.proofs.lemmas.Int.{to_z_pos}
 use Rattle.hdrhistogram.specs.Payload.{IsPayload, enough_bytes}
-use Rattle.hdrhistogram.proofs.PlainFacts.{all-small}
-use Rattle.hdrhistogram.proofs.Payloads.{encode_start, encode_empty, encode_full, encode_end, run_is, count_is, count_here, room_for_both, room_for_last}
+use Rattle.hdrhistogram.proofs.V2Bins.{all-small}
+use Rattle.hdrhistogram.proofs.PayloadWriting.{encode_start, encode_empty, encode_full, encode_end, run_is, count_is, count_here, room_for_both, room_for_last}
 use Rattle.hdrhistogram.proofs.serialization.payload.encode_within.Goals as goal
 use Rattle.hdrhistogram.proofs.serialization.payload.encode_within.Goals.{then-count-ge1+then-count-le-GREATEST_COUNT, else-count-ge1+then-count-eq0}
 
@@ -50,9 +50,9 @@ loop-bin-preserved g c =
           let small : c.count_of-count.result < 2 ^ 63 = omega arith in
           encode_full counts _ w.put_run-written.new.buf w.put_number-written.new.buf _ bin _ w.put_run-written.result w.put_number-written.result _ c.loop-bin.invariant (omega arith)
           (λ none. absurd (omega (arith, here, none, w.if-count-ge1.true))) (omega (arith, here, small))
-          w.put_run-written.ensures.further w.put_run-written.ensures.few (run_is c.loop-bin.empty _ _ (omega (arith, c.loop-bin.invariant.some, c.written_bins-bins.ensures.few)) w.put_run-written.ensures.front) w.put_run-written.ensures.behind
+          w.put_run-written.ensures.further w.put_run-written.ensures.few (run_is c.loop-bin.empty _ _ (omega (arith, c.loop-bin.invariant.some, c.written_bins-bins.ensures.few)) w.put_run-written.ensures.front) w.put_run-written.ensures.kept
           w.put_number-written.ensures.further w.put_number-written.ensures.few
-          (count_is _ c.count_of-count.result (get_or counts bin 0) _ _ (to_z_pos w64 c.count_of-count.result small) here (omega (arith, here, small)) w.put_number-written.ensures.front) w.put_number-written.ensures.behind)
+          (count_is _ c.count_of-count.result (get_or counts bin 0) _ _ (to_z_pos w64 c.count_of-count.result small) here (omega (arith, here, small)) w.put_number-written.ensures.front) w.put_number-written.ensures.kept)
     ]
 
 pub put_run-requires-clause-room : goal.put_run-requires-clause-room
@@ -77,7 +77,7 @@ returns-clause-written g c =
     let enough : enough_bytes counts ≤ length c.args.buf.now = subst (λ n. enough_bytes (take n h.counts) ≤ length c.args.buf.now) (sym c.written_bins-bins.ensures.value) c.requires in
     let last = room_for_last counts c.loop-bin.buf c.args.buf.now c.loop-bin.bin c.loop-bin.written c.loop-bin.empty (length c.args.buf.now) c.loop-bin.invariant (omega arith) enough in
     let all = encode_end counts _ c.put_run.new.buf c.args.buf.now c.loop-bin.bin _ c.put_run.result _ c.loop-bin.invariant (omega arith) (omega (arith, c.written_bins-bins.ensures.few))
-    c.put_run.ensures.further (run_is c.loop-bin.empty _ _ (omega (arith, c.loop-bin.invariant.some, c.written_bins-bins.ensures.few)) c.put_run.ensures.front) c.put_run.ensures.behind
+    c.put_run.ensures.further (run_is c.loop-bin.empty _ _ (omega (arith, c.loop-bin.invariant.some, c.written_bins-bins.ensures.few)) c.put_run.ensures.front) c.put_run.ensures.kept
     (omega (arith, c.put_run.ensures.few, c.put_run.auto.buf, last, c.loop-bin.auto.buf)) in
     subst (λ n. (text : List ℕ) × IsPayload (take n c.args.h.now.counts) text × (c.put_run.result ≡ length text) × (c.put_run.new.buf ≡ text ++ drop c.put_run.result c.args.buf.now)) c.written_bins-bins.ensures.value all
 

@@ -1,5 +1,5 @@
 use Rattle.std.proofs.Common.{take}
-use Rattle.hdrhistogram.proofs.Payloads.{IsEncodedTo}
+use Rattle.hdrhistogram.proofs.PayloadWriting.{IsEncodedTo}
 use Rattle.hdrhistogram.proofs.serialization.payload.encode_within.Given as goal
 
 -- the bins before this one are written, but for the empty ones at their end

@@ -1,5 +1,5 @@
 use Rattle.std.proofs.Common.{arith}
-use Rattle.hdrhistogram.proofs.Payloads.{full_more, full_same}
+use Rattle.hdrhistogram.proofs.PayloadWriting.{full_more, full_same}
 use Rattle.hdrhistogram.proofs.serialization.payload.nonempty.Goals as goal
 use Rattle.hdrhistogram.proofs.serialization.payload.nonempty.Goals.{then-as_u64-gt0, else-as_u64-gt0}
 

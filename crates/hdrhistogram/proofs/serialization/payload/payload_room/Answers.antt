@@ -2,7 +2,7 @@ use Rattle.std.proofs.Common.{◌≡◌, ◌∙◌, length, length-take-le, take
 use Rattle.std.proofs.lemmas.List.{length-take, take-map}
 use Rattle.hdrhistogram.specs.Payload.{nonempty}
 use Rattle.hdrhistogram.specs.V2.{written_bins}
-use Rattle.hdrhistogram.proofs.Payloads.{enough-each, enough-parts}
+use Rattle.hdrhistogram.proofs.PayloadWriting.{enough-each, enough-parts}
 use Rattle.hdrhistogram.proofs.serialization.payload.payload_room.Goals as goal
 
 pub returns-then-bins-le-SMALL_ROOM-clause-enough : goal.returns-then-bins-le-SMALL_ROOM-clause-enough

@@ -1,14 +1,14 @@
 use Rattle.std.proofs.Common.{arith, length-take, length-drop, ap, ◌∙◌, ◌++◌, drop}
 use Rattle.std.proofs.lemmas.List.{take_rest}
-use Rattle.hdrhistogram.proofs.Spellings.{shortest_short}
-use Rattle.hdrhistogram.proofs.Writing.{put_behind}
+use Rattle.hdrhistogram.proofs.VarintSpellings.{shortest_short}
+use Rattle.hdrhistogram.proofs.VarintWriting.{put_behind}
 use Rattle.hdrhistogram.proofs.serialization.payload.put_number.Goals as goal
 
 pub varint_write-requires : goal.varint_write-requires
 varint_write-requires c text h = simp (length-take, length-drop) (omega (arith, shortest_short c.zig_zag_encode.result text (omega arith) h))
 
-pub returns-clause-behind : goal.returns-clause-behind
-returns-clause-behind c =
+pub returns-clause-kept : goal.returns-clause-kept
+returns-clause-kept c =
     let (text, h, e, same) = c.varint_write.ensures.written in
     put_behind c.args.buf.now c.varint_write.new.buf text c.args.at c.varint_write.result (omega arith) e
     (same ∙ ap (λ l. text ++ drop c.varint_write.result l) (take_rest c.args.buf.now c.args.at))

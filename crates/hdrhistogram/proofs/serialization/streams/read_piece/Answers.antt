@@ -1,5 +1,5 @@
 use Rattle.std.proofs.Common.{min, ◌≡◌, arith, rules, length, ◌∙◌, ◌+◌, length-take, length-drop}
-use Rattle.hdrhistogram.proofs.Readers.{piece_text, grown_front}
+use Rattle.hdrhistogram.proofs.StreamsReaders.{piece_text, grown_front}
 use Rattle.hdrhistogram.proofs.serialization.streams.read_piece.Goals as goal
 
 pub returns-clause-ok : goal.returns-clause-ok

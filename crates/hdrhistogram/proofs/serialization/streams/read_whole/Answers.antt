@@ -1,6 +1,6 @@
 use Rattle.std.proofs.Common.{arith, rules}
 use Rattle.std.proofs.lemmas.Result.{err_from_is_err_and}
-use Rattle.hdrhistogram.proofs.Readers.{Consumes-more, Consumes-stopped, Consumes-ended}
+use Rattle.hdrhistogram.proofs.StreamsReaders.{Consumes-more, Consumes-stopped, Consumes-ended}
 use Rattle.hdrhistogram.proofs.serialization.streams.read_whole.Goals as goal
 
 pub returns-in_err-taken-clause-err : goal.returns-in_err-taken-clause-err

@@ -1,5 +1,5 @@
 use Rattle.std.proofs.Common.{arith}
-use Rattle.hdrhistogram.proofs.Writing.{Appends-more}
+use Rattle.hdrhistogram.proofs.VarintWriting.{Appends-more}
 use Rattle.hdrhistogram.proofs.serialization.streams.write_whole.Goals as goal
 
 pub loop-done-preserved : goal.loop-done-preserved

@@ -1,5 +1,5 @@
 use Rattle.std.proofs.Common.{arith}
-use Rattle.hdrhistogram.proofs.SpellingsRead.{read_next, read_end, read_last}
+use Rattle.hdrhistogram.proofs.VarintRead.{read_next, read_end, read_last}
 use Rattle.hdrhistogram.proofs.serialization.varint.read_long.Goals as goal
 
 pub returns-then-place-eq8-clause-found : goal.returns-then-place-eq8-clause-found

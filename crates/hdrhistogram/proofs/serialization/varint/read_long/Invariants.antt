@@ -1,4 +1,4 @@
-use Rattle.hdrhistogram.proofs.SpellingsRead.{IsReadTo}
+use Rattle.hdrhistogram.proofs.VarintRead.{IsReadTo}
 use Rattle.hdrhistogram.proofs.serialization.varint.read_long.Given as goal
 
 abbrev pub invariant-loop-place : goal.invariant-loop-place

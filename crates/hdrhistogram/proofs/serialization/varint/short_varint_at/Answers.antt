@@ -1,5 +1,5 @@
 use Rattle.std.proofs.Common.{refl, arith}
-use Rattle.hdrhistogram.proofs.SpellingsRead.{one_or_two_spelt}
+use Rattle.hdrhistogram.proofs.VarintRead.{one_or_two_spelt}
 use Rattle.hdrhistogram.proofs.serialization.varint.short_varint_at.Goals as goal
 
 pub returns-clause-found : goal.returns-clause-found

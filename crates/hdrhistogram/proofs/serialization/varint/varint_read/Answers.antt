@@ -1,5 +1,5 @@
 use Rattle.std.proofs.Common.{arith}
-use Rattle.hdrhistogram.proofs.SpellingsRead.{taken_next, taken_end, taken_last, weight_fits, value_fits}
+use Rattle.hdrhistogram.proofs.VarintRead.{taken_next, taken_end, taken_last, weight_fits, value_fits}
 use Rattle.hdrhistogram.proofs.serialization.varint.varint_read.Goals as goal
 
 pub returns-then-place-eq8-clause-ok : goal.returns-then-place-eq8-clause-ok

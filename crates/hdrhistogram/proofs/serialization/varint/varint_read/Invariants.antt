@@ -1,5 +1,5 @@
 use Rattle.std.proofs.Common.{◌-◌}
-use Rattle.hdrhistogram.proofs.SpellingsRead.{IsTaken}
+use Rattle.hdrhistogram.proofs.VarintRead.{IsTaken}
 use Rattle.hdrhistogram.proofs.serialization.varint.varint_read.Given as goal
 
 abbrev pub invariant-bytes : goal.invariant-bytes

@@ -1,6 +1,6 @@
 use Rattle.std.proofs.Common.{arith, refl, ap, ◌∙◌, ◌++◌, ◌<◌, ◌≤◌, drop}
-use Rattle.hdrhistogram.proofs.Spellings.{spelling, spelling_least}
-use Rattle.hdrhistogram.proofs.Writing.{written_start, written_room, written_end, two_bytes, two_long}
+use Rattle.hdrhistogram.proofs.VarintSpellings.{spelling, spelling_least}
+use Rattle.hdrhistogram.proofs.VarintWriting.{written_start, written_room, written_end, two_bytes, two_long}
 use Rattle.hdrhistogram.proofs.serialization.varint.varint_write.Goals as goal
 
 pub bounds-buf-0 : goal.bounds-buf-0

@@ -1,6 +1,6 @@
 use Rattle.std.proofs.Common.{arith}
-use Rattle.hdrhistogram.proofs.Spellings.{spelling, spelling_least}
-use Rattle.hdrhistogram.proofs.Writing.{written_start, written_room, written_end, written_next, written_last}
+use Rattle.hdrhistogram.proofs.VarintSpellings.{spelling, spelling_least}
+use Rattle.hdrhistogram.proofs.VarintWriting.{written_start, written_room, written_end, written_next, written_last}
 use Rattle.hdrhistogram.proofs.serialization.varint.write_long.Goals as goal
 
 pub loop-place-init : goal.loop-place-init

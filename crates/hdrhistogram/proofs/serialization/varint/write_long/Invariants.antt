@@ -1,4 +1,4 @@
-use Rattle.hdrhistogram.proofs.Writing.{IsWrittenTo}
+use Rattle.hdrhistogram.proofs.VarintWriting.{IsWrittenTo}
 use Rattle.hdrhistogram.proofs.serialization.varint.write_long.Given as goal
 
 abbrev pub invariant-loop-place : goal.invariant-loop-place

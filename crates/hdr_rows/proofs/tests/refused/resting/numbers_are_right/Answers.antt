@@ -1,5 +1,5 @@
 use Rattle.std.proofs.Common.{arith}
-use Rattle.hdrhistogram.proofs.Spellings.{shortest_short}
+use Rattle.hdrhistogram.proofs.VarintSpellings.{shortest_short}
 use Rattle.hdr_rows.proofs.tests.refused.resting.numbers_are_right.Goals as goal
 
 pub varint_write-len-requires : goal.varint_write-len-requires

@@ -1,6 +1,6 @@
 use Rattle.std.proofs.Common.{refl}
 use Rattle.hdrhistogram.specs.V2Read.{told_of}
-use Rattle.hdrhistogram.proofs.V2Reading.{is-read, no_longer}
+use Rattle.hdrhistogram.proofs.V2ReadHistogram.{is-read, no_longer}
 use Rattle.hdrhistogram.proofs.serialization.deserializer.Deserializer.decode_slice.Goals as goal
 
 pub overflow_sub-result : goal.overflow_sub-result

@@ -1,5 +1,5 @@
 use Rattle.std.proofs.Common.{string_bytes}
-use Rattle.hdrhistogram.proofs.LogTexts.{on_ok, begun}
+use Rattle.hdrhistogram.proofs.LogStartsParts.{on_ok, begun}
 use Rattle.hdrhistogram.proofs.serialization.interval_log.builder.push_start.Goals as goal
 
 pub returns : goal.returns

@@ -2,7 +2,7 @@ use Rattle.std.proofs.Common.{◌≡◌, map, string_bytes, refl, ap}
 use Rattle.std.specs.Option.{option_map}
 use Rattle.std.specs.Duration.{as_nanos}
 use Rattle.hdrhistogram.specs.LogStarts.{LogStart, IsStartText}
-use Rattle.hdrhistogram.proofs.LogStartTexts.{writes_as, start_written}
+use Rattle.hdrhistogram.proofs.LogStartsTexts.{writes_as, start_written}
 use Rattle.hdrhistogram.proofs.serialization.interval_log.builder.IntervalLogWriterBuilder.write_headers.Goals as goal
 
 pub returns-in-Ok-clause-leaves : goal.returns-in-Ok-clause-leaves

@@ -1,0 +1,203 @@
+-- A log that was written is merged.
+use Rattle.std.proofs.Common.{◌≡◌, ℕ, ◌+◌, ◌-◌, ◌*◌, ◌^◌, ◌<◌, Bool, true, false, cond, arith, List, length, slice_index, [], ◌∷◌, ◌++◌, Option, Some, None, Result, Ok, Err, map, refl, sym, ap, ◌∙◌, subst}
+use Rattle.std.specs.List.{AllByRecursion, enumerate_from, flat_map}
+use Rattle.hdr_base.specs.Fractions.{Ratio}
+use Rattle.hdr_model.specs.Plain.{Plain, IsPlain, empty_plain, max_of}
+use Rattle.hdr_model.specs.Joining.{after_adds}
+use Rattle.hdr_log.specs.Grammar.{Entry, Span, Interval, reading}
+use Rattle.hdr_log.specs.Texts.{thousandths, to_thousandths, max_thousandths, base64_of, base64_bytes}
+use Rattle.hdr_log.specs.Pieces.{Piece, IsPiece, piece_text, text_of, said_by, is_read}
+use Rattle.hdr_log.proofs.GrammarWhole.{pieces_read}
+use Rattle.hdr_log.proofs.TextsBase64.{base64_decoded}
+use Rattle.hdrhistogram.specs.V2.{IsV2}
+use Rattle.hdrhistogram.specs.LogLeaving.{interval_piece, IsIntervalText}
+use Rattle.hdrhistogram.specs.V2Read.{told_of, v2_at, IsReadAs, IsReadBack, ReadsV2}
+use Rattle.hdrhistogram.specs.Chosen.{Filter, is_chosen}
+use Rattle.hdrhistogram.specs.LogMerging.{Merging, new_merging, past_interval, with_interval, BytesMerge, FieldMerges, IntervalMerges, MergesOn, EntriesMerge}
+use Rattle.hdrhistogram.specs.Faults as reading
+use Rattle.hdrhistogram.specs.declared.serialization.errors.DeserializeError.{DeserializeError}
+use Rattle.hdrhistogram.specs.declared.serialization.interval_log.merge.MergeError.{MergeError}
+use Rattle.hdr_tool.specs.declared.fault.Fault.{Fault}
+use Rattle.hdr_log.specs.Parts.{parts}
+use Rattle.hdr_tool.specs.Commands.{LogCommand, Make, End, log_command_of}
+use Rattle.hdr_tool.specs.Words.{Task}
+use Rattle.hdr_tool.specs.Outcomes.{Outcome, Runs, GoesOn}
+use Rattle.hdr_tool.specs.Report.{IsReport}
+use Rattle.hdr_tool.specs.Options.{greatest_into, filter_of}
+use Rattle.hdr_tool.specs.Program.{LogCommandDone, LogLineDone, LogDone, fault_in, Reported, merged_histogram, MergeReported, TaskDone, Program}
+use Rattle.hdr_tool.proofs.OutcomesSinks.{append_nothing}
+use Rattle.hdr_tool.specs.LogMerges.{EndOf, chosen_of, at_command, ends_of, AreReadBack, LogThenMerge}
+
+-- an interval of a log, with the histogram that it was written from; its times are in milliseconds
+record Logged : Type 0 where
+  histogram : Plain
+  bytes : List ℕ
+  tag : Option (List ℕ)
+  start : ℕ
+  duration : ℕ
+
+abbrev end_of : Logged → EndOf Plain
+end_of i = record { holds = i.histogram; tag = i.tag; start = i.start }
+
+abbrev piece_of : Logged → Piece
+piece_of i = interval_piece i.histogram i.tag (i.start * 1_000_000) (i.duration * 1_000_000) 1 i.bytes
+
+record IsLogged (i : Logged) : Type 0 where
+  bytes : IsV2 i.histogram i.bytes
+  piece : IsPiece (piece_of i)
+
+-- a text is that of intervals of these histograms
+record Logs (es : List (EndOf Plain)) (text : List ℕ) : Type 0 where
+  intervals : List Logged
+  each : AllByRecursion IsLogged intervals
+  text_is : text ≡ text_of (map piece_of intervals)
+  ends : map end_of intervals ≡ es
+
+one_more : (h : Plain) (tag : Option (List ℕ)) (start duration : ℕ) (es : List (EndOf Plain)) (line text : List ℕ) → IsIntervalText IsV2 h tag (start * 1_000_000) (duration * 1_000_000) 1 line → Logs es text
+    → Logs (record { holds = h; tag = tag; start = start } ∷ es) (line ++ text)
+one_more h tag start duration es line text i l =
+    let first : Logged = record { histogram = h; bytes = i.0; tag = tag; start = start; duration = duration } in
+    record {
+      intervals = first ∷ l.intervals;
+      each = (record { bytes = i.1; piece = i.2 }, l.each);
+      text_is = ap (λ t. t ++ text) i.3 ∙ ap (λ t. piece_text (piece_of first) ++ t) l.text_is;
+      ends = ap (λ xs. end_of first ∷ xs) l.ends;
+    }
+
+command_logs : (k : ℕ) (h : Plain) (c : Option LogCommand) (step : List ℕ × Plain) (tail : Plain → List (EndOf Plain)) (text : List ℕ) → LogCommandDone k h c (Ok step) → Logs (tail step.1) text → Logs (at_command h c tail) (step.0 ++ text)
+command_logs k h None step tail text d l = absurd (let e = d in cc)
+command_logs k h (Some (Make call)) step tail text d l =
+    let S : List ℕ × Plain → Type 0 = λ s. Logs (tail s.1) text → Logs (at_command h (Some (Make call)) tail) (s.0 ++ text) in
+    subst S (sym d) (λ m. m) l
+command_logs k h (Some (End start duration tag)) step tail text d l =
+    let S : Plain → Type 0 = λ g. Logs (tail g) text in
+    one_more h tag start duration _ step.0 text d.0 (subst S d.1 l)
+
+same_Ok : {A E : Type 0} (x y : A) → (λ (r : Result A E). r) (Ok x) ≡ Ok y → x ≡ y
+same_Ok x y e = cc
+
+line_logs : (x : ℕ × List ℕ) (h : Plain) (step : List ℕ × Plain) (lines : List (ℕ × List ℕ)) (text : List ℕ) → LogLineDone h x (Ok step) → Logs (ends_of step.1 lines) text → Logs (ends_of h (x ∷ lines)) (step.0 ++ text)
+line_logs (k, []) h step lines text d l =
+    let e : step ≡ ([], h) = same_Ok {E = Fault} step ([], h) d in
+    let S : List ℕ × Plain → Type 0 = λ s. Logs (ends_of s.1 lines) text → Logs (ends_of h lines) (s.0 ++ text) in
+    subst S (sym e) (λ m. m) l
+line_logs (k, b ∷ line) h step lines text d l = command_logs k h (log_command_of (b ∷ line)) step (λ g. ends_of g lines) text d l
+
+-- one line, and what comes after it
+step_log : (x : ℕ × List ℕ) (lines : List (ℕ × List ℕ)) (h last : Plain) (out : Outcome Plain) (r : Result (List ℕ × Plain) Fault) → LogLineDone h x r → GoesOn (λ b. Runs LogLineDone b lines) r out → out.ended ≡ Ok last
+    → ((b : Plain) (o : Outcome Plain) → Runs LogLineDone b lines o → o.ended ≡ Ok last → Logs (ends_of b lines) o.written) → Logs (ends_of h (x ∷ lines)) out.written
+step_log x lines h last out (Err f) s g e tail = absurd (let f : out.ended ≡ Err f = ap (λ (o : Outcome Plain). o.ended) g in cc)
+step_log x lines h last out (Ok step) s g e tail =
+    let T : List ℕ → Type 0 = λ t. Logs (ends_of h (x ∷ lines)) t in
+    subst T (sym (ap (λ (o : Outcome Plain). o.written) g.2)) (line_logs x h step lines g.0.written s (tail step.1 g.0 g.1 (sym (ap (λ (o : Outcome Plain). o.ended) g.2) ∙ e)))
+
+-- what is written without a fault is a log
+lines_log : (lines : List (ℕ × List ℕ)) (h last : Plain) (out : Outcome Plain) → Runs LogLineDone h lines out → out.ended ≡ Ok last → Logs (ends_of h lines) out.written
+lines_log [] h last out r e = record { intervals = []; each = tt; text_is = ap (λ (o : Outcome Plain). o.written) r; ends = refl }
+lines_log (x ∷ lines) h last out r e = step_log x lines h last out r.0 r.1 r.2 e (λ b o q f. lines_log lines b last o q f)
+
+-- what is read of an interval
+abbrev interval_of : Logged → Interval
+interval_of i = record { tag = i.tag; start = to_thousandths (i.start * 1_000_000) * 1_000_000; duration = to_thousandths (i.duration * 1_000_000) * 1_000_000; max = thousandths (max_thousandths (max_of i.histogram) 1); field = base64_of i.bytes }
+
+abbrev span_of : Logged → Entry
+span_of i = Span (interval_of i)
+
+spans : (is : List Logged) → flat_map said_by (map piece_of is) ≡ map span_of is
+spans [] = refl
+spans (i ∷ is) = ap (λ es. span_of i ∷ es) (spans is)
+
+pieces : (is : List Logged) → AllByRecursion IsLogged is → AllByRecursion IsPiece (map piece_of is)
+pieces [] h = tt
+pieces (i ∷ is) h = (h.0.piece, pieces is h.1)
+
+-- a log of intervals is read as they are
+log_read : (is : List Logged) → AllByRecursion IsLogged is → reading (text_of (map piece_of is)) ≡ map is_read (map span_of is)
+log_read is h = pieces_read (map piece_of is) (pieces is h) ∙ ap (map is_read) (spans is)
+
+-- what the library's law on reading back says
+pub record ReadsBack : Type 0 where
+  pub bytes : (h : Plain) (text : List ℕ) → IsV2 h text → (i : ℕ) → slice_index text i < 256
+  pub contents : (greatest : ℕ) (h : Plain) (bytes more : List ℕ) → IsPlain greatest h → IsV2 h bytes → v2_at greatest (bytes ++ more) ≡ Ok (told_of h, more)
+  pub histogram : (greatest taken : ℕ) (h k : Plain) (bytes more : List ℕ) → IsPlain greatest h → IsV2 h bytes → IsReadAs greatest (bytes ++ more) k taken → (taken ≡ length bytes) × IsReadBack h k
+
+not_refused : {A : Type 0} (x : A) (f : reading.Fault) (r : Result A reading.Fault) → r ≡ Ok x → r ≡ Err f → ⊥
+not_refused x f r e g = absurd (let h = sym e ∙ g in cc)
+
+-- a V2 text is read as a histogram alone
+read_again : (h : Plain) (text : List ℕ) (r : Result (Plain × ℕ) DeserializeError) → ReadsBack → IsPlain (2 ^ 64 - 1) h → IsV2 h text → ReadsV2 (2 ^ 64 - 1) text r
+    → (k : Plain) × (n : ℕ) × (r ≡ Ok (k, n)) × IsReadBack h k
+read_again h text (Ok (k, n)) back p v r =
+    let R : List ℕ → Type 0 = λ t. IsReadAs (2 ^ 64 - 1) t k n in
+    (k, n, refl, (back.histogram (2 ^ 64 - 1) n h k text [] p v (subst R (sym (append_nothing text)) r)).1)
+read_again h text (Err e) back p v r =
+    absurd (not_refused (told_of h, []) r.0 (v2_at (2 ^ 64 - 1) text) (ap (v2_at (2 ^ 64 - 1)) (sym (append_nothing text)) ∙ back.contents (2 ^ 64 - 1) h text [] p v) r.2)
+
+-- a chosen interval is read back and added
+field_added : (greatest : ℕ) (i : Logged) (m : Merging) (r : Result Merging MergeError) → ReadsBack → IsPlain (2 ^ 64 - 1) i.histogram → IsV2 i.histogram i.bytes → FieldMerges greatest m (base64_bytes (interval_of i).field) r
+    → (k : Plain) × IsReadBack i.histogram k × (r ≡ Ok (with_interval greatest m k))
+field_added greatest i m r back p v d =
+    let F : Option (List ℕ) → Type 0 = λ o. FieldMerges greatest m o r in
+    let f : FieldMerges greatest m (Some i.bytes) r = subst F (base64_decoded i.bytes (back.bytes i.histogram i.bytes v)) d in
+    let b = read_again i.histogram i.bytes f.0 back p v f.1 in
+    let A : Result (Plain × ℕ) DeserializeError → Type 0 = λ x. BytesMerge greatest m x r in
+    (b.0, b.3, subst A b.2 f.2)
+
+-- the merge ends well, and what was added is what these histograms were read as
+abbrev Added : ℕ → Merging → List Plain → Result Merging MergeError → Type 0
+Added greatest m hs r = (ks : List Plain) × AreReadBack hs ks × ((last : Merging) × (r ≡ Ok last) × (last.histogram ≡ after_adds greatest m.histogram ks))
+
+-- an interval, chosen or not
+interval_merges : (greatest : ℕ) (filter : Filter) (i : Logged) (m : Merging) (entries : List (Result Entry ℕ)) (b : Bool) (hs : List Plain) (step r : Result Merging MergeError)
+    → ReadsBack → IsPlain (2 ^ 64 - 1) i.histogram → IsV2 i.histogram i.bytes → m.base ≡ 0 → IntervalMerges greatest m b (interval_of i) step → MergesOn (EntriesMerge greatest filter entries) step r
+    → ((n : Merging) → n.base ≡ 0 → EntriesMerge greatest filter entries n r → Added greatest n hs r) → Added greatest m (cond b (i.histogram ∷ hs) hs) r
+interval_merges greatest filter i m entries true hs step r back p v base d on rest =
+    let f = field_added greatest i m step back p v d in
+    let O : Result Merging MergeError → Type 0 = λ x. MergesOn (EntriesMerge greatest filter entries) x r in
+    let a = rest (with_interval greatest m f.0) base (subst O f.2 on) in
+    (f.0 ∷ a.0, (f.1, a.1), a.2)
+interval_merges greatest filter i m entries false hs step r back p v base d on rest =
+    let O : Result Merging MergeError → Type 0 = λ x. MergesOn (EntriesMerge greatest filter entries) x r in
+    rest (past_interval m) base (subst O d on)
+
+-- a start in milliseconds is read as it was written
+begins_at : (base ms : ℕ) → base ≡ 0 → base + to_thousandths (ms * 1_000_000) * 1_000_000 ≡ ms * 1_000_000
+begins_at base ms e = omega (arith, e)
+
+-- a merge of intervals
+merges : (greatest : ℕ) (filter : Filter) (is : List Logged) (m : Merging) (r : Result Merging MergeError) → ReadsBack → AllByRecursion IsLogged is → AllByRecursion (λ (e : EndOf Plain). IsPlain (2 ^ 64 - 1) e.holds) (map end_of is) → m.base ≡ 0
+    → EntriesMerge greatest filter (map is_read (map span_of is)) m r → Added greatest m (chosen_of filter (map end_of is)) r
+merges greatest filter [] m r back h p base e = ([], tt, (m, e, refl))
+merges greatest filter (i ∷ is) m r back h p base e =
+    let I : Bool → Type 0 = λ b. IntervalMerges greatest m b (interval_of i) e.0 in
+    interval_merges greatest filter i m (map is_read (map span_of is)) (is_chosen filter i.tag (i.start * 1_000_000)) (chosen_of filter (map end_of is)) e.0 r back p.0 h.0.bytes base
+    (subst I (ap (is_chosen filter i.tag) (begins_at m.base i.start base)) e.1) e.2
+    (λ n b f. merges greatest filter is n r back h.1 p.1 b f)
+
+no_fault : (ended : Result Plain Fault) → None ≡ fault_in ended → (last : Plain) × (ended ≡ Ok last)
+no_fault (Ok h) e = (h, refl)
+no_fault (Err f) e = absurd (let g = e in cc)
+
+-- the parts joined
+merged_log : (h : Plain) (lines : List (ℕ × List ℕ)) (fewer greatest : ℕ) (filter : Filter) (quantiles : List Ratio) (written text : List ℕ) (fault : Option Fault) → ReadsBack → AllByRecursion (λ (e : EndOf Plain). IsPlain (2 ^ 64 - 1) e.holds) (ends_of h lines)
+    → LogDone h lines written None → MergeReported greatest filter fewer quantiles written text fault
+    → (fault ≡ None) × ((ks : List Plain) × AreReadBack (chosen_of filter (ends_of h lines)) ks × IsReport (after_adds greatest (empty_plain 1 2 fewer true) ks) quantiles text)
+merged_log h lines fewer greatest filter quantiles written text fault back plain d t =
+    let ok = no_fault d.0 d.2 in
+    let l = lines_log lines h ok.0 (record { written = written; ended = d.0 }) d.1 ok.1 in
+    let P : List (EndOf Plain) → Type 0 = λ es. AllByRecursion (λ (e : EndOf Plain). IsPlain (2 ^ 64 - 1) e.holds) es in
+    let R : List (Result Entry ℕ) → Type 0 = λ xs. EntriesMerge greatest filter xs (new_merging fewer) t.0 in
+    let read : reading written ≡ map is_read (map span_of l.intervals) = ap reading l.text_is ∙ log_read l.intervals l.each in
+    let m = merges greatest filter l.intervals (new_merging fewer) t.0 back l.each (subst P (sym l.ends) plain) refl (subst R read t.1) in
+    let E : Result Merging MergeError → Type 0 = λ e. Reported quantiles (merged_histogram e) text fault in
+    let reported = subst E m.2.1 t.2 in
+    let B : List (EndOf Plain) → Type 0 = λ es. AreReadBack (chosen_of filter es) m.0 in
+    let I : Plain → Type 0 = λ k. IsReport k quantiles text in
+    (reported.1, (m.0, subst B l.ends m.1, subst I m.2.2 reported.0))
+
+pub log_then_merge : ReadsBack → LogThenMerge
+unfolding Program
+log_then_merge back log merge sigfig fewer options quantiles input written text fault tl tm plain p q =
+    let L : Option Task → Type 0 = λ task. TaskDone task input written None in
+    let M : Option Task → Type 0 = λ task. TaskDone task written text fault in
+    merged_log (empty_plain 1 2 sigfig true) (enumerate_from 1 (parts 10 input)) fewer (greatest_into options.into) (filter_of options) quantiles written text fault back plain (subst L tl p) (subst M tm q)
