@@ -100,6 +100,10 @@ module _ (g : Grain) (v : ℕ) (m : 0 < g.digits) where
             )
       ]
 
+-- a bucket begins at 0 or at a power of two, and its values lie between that and any of them
+bucket-mono : (g : Grain) (x v : ℕ) → x ≤ v → bucket g x ≤ bucket g v
+bucket-mono g x v le = bucket-least g x (bucket g v) (omega (arith, bucket-end g v))
+
 pub start-IsLeast : (g : Grain) (v s : ℕ) → bucket g s ≡ bucket g v → (0 < bucket g v → s ≡ 2 ^ (g.unit + g.digits + (bucket g v - 1))) → (bucket g v ≡ 0 → s ≡ 0)
     → IsLeast (λ x. bucket g x ≡ bucket g v) s
 start-IsLeast g v s same power first = record {
@@ -109,6 +113,9 @@ start-IsLeast g v s same power first = record {
     | inr ge ↦ omega (arith, first (omega arith))
   ];
 }
+
+pub one-bucket : (g : Grain) (v s x : ℕ) → bucket g s ≡ bucket g v → s ≤ x → x ≤ v → bucket g x ≡ bucket g v
+one-bucket g v s x same from to = omega (arith, bucket-mono g s x from, bucket-mono g x v to, same)
 
 -- where a bucket above the first begins, its values have that bucket
 pub start-bucket : (g : Grain) (v : ℕ) → 0 < bucket g v → bucket g (2 ^ (g.unit + g.digits + (bucket g v - 1))) ≡ bucket g v

@@ -1,12 +1,12 @@
 -- Counters that are being set, and their sums when that is done.
-use Rattle.std.proofs.Common.{◌≡◌, ◌≢◌, ℕ, ◌+◌, ◌-◌, ◌*◌, ◌<◌, ◌≤◌, ◌++◌, Bool, true, List, [], Option, length, get_or, set, take, drop, map, replicate, sum, append_assoc, sym, ap, ◌∙◌, subst, arith, ⊎_elim}
+use Rattle.std.proofs.Common.{◌≡◌, ◌≢◌, ℕ, ◌+◌, ◌-◌, ◌*◌, ◌/◌, ◌<◌, ◌≤◌, ◌++◌, Bool, true, false, List, [], Option, length, get_or, set, take, drop, map, replicate, sum, append_assoc, sym, ap, ◌∙◌, subst, arith, ⊎_elim}
 use Rattle.std.specs.List.{All}
 use Rattle.std.proofs.lemmas.Bool.{cases_eq, true≢false}
 use Rattle.std.proofs.lemmas.List.{length-set, length-append, length-replicate, get_or-set_same, get_or-set_other, get_or_append_left, set-append_left, replicate-append-replicate, take_all}
 use Rattle.std.proofs.lemmas.List.Elements.{All-nil, All-append, All-replicate, All-set, All-weaker}
 use Rattle.hdr_base.specs.Classes.{most_bins}
 use Rattle.hdr_counts.specs.Blocks.{sum_below, AreSums, AreOpen, IsShift, with_zeros}
-use Rattle.hdr_counts.proofs.BlocksSums.{AreSums-grow, part_whole}
+use Rattle.hdr_counts.proofs.BlocksSums.{AreSums-set, AreSums-grow, part_whole}
 
 -- no number is above the greatest that a counter may have
 pub fit-all : (greatest : ℕ) (ns : List ℕ) → greatest ≤ 18446744073709551615 → All (λ n. n ≤ greatest) ns → All (λ n. n ≤ 18446744073709551615) ns
@@ -84,6 +84,26 @@ open-set-late greatest b len capacity ns ss shift late i v h is_late fits = reco
   shift_is = h.shift_is;
   fit = All-set (λ n. n ≤ greatest) ns i v fits h.fit;
 }
+
+-- a place that is set, where the sums are kept
+pub open-set : (greatest b len capacity : ℕ) (ns ss : List ℕ) (shift : Option ℕ) (late : Bool) (i v : ℕ) → AreOpen greatest b len capacity ns ss shift late → late ≡ false → i < length ns → v ≤ greatest → greatest ≤ 18446744073709551615
+    → AreOpen greatest b len capacity (set ns i v) (set ss (i / b) (get_or ss (i / b) 0 - get_or ns i 0 + v)) shift late
+open-set greatest b len capacity ns ss shift late i v h kept lt fits most =
+    let all = with_zeros ns len in
+    let inside : i < length all = omega (arith, length-with-zeros ns len h.within, h.within) in
+    let put : AreSums b (set all i v) (set ss (i / b) (get_or ss (i / b) 0 - get_or all i 0 + v)) = AreSums-set b all ss i v (h.kept kept) inside (omega arith) in
+    let same : AreSums b (set all i v) (set ss (i / b) (get_or ss (i / b) 0 - get_or ns i 0 + v)) =
+    subst (λ x. AreSums b (set all i v) (set ss (i / b) (get_or ss (i / b) 0 - x + v))) (get-with-zeros ns len i lt) put in
+    record {
+      some = h.some;
+      few = h.few;
+      whole = h.whole ∙ ap (λ n. n * b) (sym (length-set ss (i / b) _));
+      within = rw length-set h.within;
+      room = h.room;
+      kept = λ _. subst (λ l. AreSums b l (set ss (i / b) (get_or ss (i / b) 0 - get_or ns i 0 + v))) (sym (set-with-zeros ns len i v lt)) same;
+      shift_is = h.shift_is;
+      fit = All-set (λ n. n ≤ greatest) ns i v fits h.fit;
+    }
 
 -- the sums of the blocks before k are made
 pub record AreMade (b k : ℕ) (ns ss : List ℕ) : Type 0 where
