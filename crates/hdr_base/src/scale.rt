@@ -175,6 +175,7 @@ impl Scale {
         ensures value { result * 2 ^ part_digits self.digits ≡ 2 ^ (self.digits - 1) }
         ensures at_least_one { 1 ≤ result }
         ensures bound { result ≤ 2 ^ 17 }
+        ensures few { 2 ^ (self.digits - 1) ≤ most_bins }
     {
         1 << (u32::from(self.digits) - 1 - self.part_digits())
     }

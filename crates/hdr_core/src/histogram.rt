@@ -71,7 +71,7 @@ impl<T: Counter> Histogram<T> {
             × IsBounds low high sigfig) (RefusesBounds low high sigfig) }
     {
         let scale = scale_for(low, high, sigfig)?;
-        let Ok(counts) = Counts::new(alloc, scale.buckets(high) + 1, scale.block()) else {
+        let Ok(counts) = Counts::new(alloc, scale.parts(high), scale.part()) else {
             return Err(CreationError::OutOfMemory);
         };
         Ok(Histogram {

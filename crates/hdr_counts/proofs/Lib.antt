@@ -6,3 +6,4 @@ pub mod BlocksNonzero
 pub mod BlocksBounds
 pub mod BlocksParts
 pub mod BlocksWritten
+pub mod BlocksGroups

@@ -17,7 +17,7 @@ use clearing::clear_blocks;
 use hdr_base::{Counter, Ticks};
 pub use open_counts::OpenCounts;
 pub use search::Search;
-use search::{first_reaching, first_reaching_looked, look};
+use search::{first_reaching, first_reaching_looked, look, sum_of_sums};
 use std::alloc::{AllocError, Global};
 use std::marker::Model;
 
@@ -169,27 +169,27 @@ impl<T: Counter> Counts<T> {
         total + self.sum_in_block(k, i)
     }
 
-    /// The first place where the sum up to and including it reaches `rank`, with a tick for each look at a block's sum or at
-    /// a counter: at the sums up to and including that of the place's block, and then at that block's counters up to and
-    /// with the place. Where no place reaches the rank, each block's sum was looked at.
-    pub fn find(&self, rank: u64, ticks: &mut Ticks) -> Option<usize>
+    /// The first place where the sum up to and including it reaches `rank`, with a tick for each look at the sum of a group of
+    /// blocks or at a counter: at the sums up to and including that of the place's group, and then at that group's counters
+    /// up to and including the place. Where no place reaches the rank, each group's sum was looked at.
+    pub fn find(&self, rank: u64, group: usize, ticks: &mut Ticks) -> Option<usize>
         requires some { 1 ≤ rank }
+        requires group { 1 ≤ group }
+        requires groups { length self.now.numbers % (group * self.now.block) ≡ 0 }
+        requires few { group * self.now.block ≤ most_bins }
         requires room { ticks.old ≤ 2 ^ 63 }
         ensures place { MatchOption result (sum self.now.numbers < rank)
             (IsFirstToReach self.now.numbers rank) }
-        ensures ticks { ticks.new ≡ ticks.old + looks self.now.block
+        ensures ticks { ticks.new ≡ ticks.old + looks (group * self.now.block)
             (length self.now.numbers) result }
     {
+        let len = group * self.block;
         let mut rest = rank;
-        for (k, sum) in self.sums.iter().enumerate() {
-            let sum = look(*sum, ticks);
+        for k in 0..self.sums.len() / group {
+            let sum = look(sum_of_sums(&self.sums[k * group..k * group + group]), ticks);
             if sum >= u128::from(rest) {
-                let from = k * self.block;
-                let place = first_reaching_looked(
-                    &self.counters[from..from + self.block],
-                    rest,
-                    ticks,
-                )?;
+                let from = k * len;
+                let place = first_reaching_looked(&self.counters[from..from + len], rest, ticks)?;
                 return Some(from + place);
             }
             rest -= sum as u64;

@@ -76,6 +76,18 @@ pub(crate) fn look(number: u128, ticks: &mut Ticks) -> u128
     number
 }
 
+/// The sum of the sums of several blocks.
+pub(crate) fn sum_of_sums(sums: &[u128]) -> u128
+    requires { sum sums.now < 2 ^ 128 }
+    ensures { result ≡ sum sums.now }
+{
+    let mut total: u128 = 0;
+    for sum in sums {
+        total += *sum;
+    }
+    total
+}
+
 /// The first place where the sum up to and including it reaches `rest`, with a look at each counter on the way.
 pub(crate) fn first_reaching_looked<T: Counter>(
     counters: &[T],

@@ -1,10 +1,10 @@
 -- What is true of every histogram is kept.
-use Rattle.std.proofs.Common.{◌≡◌, ℕ, zero, suc, ◌+◌, ◌-◌, ◌*◌, ◌^◌, ◌<◌, ◌≤◌, Bool, true, false, cond, Option, min, List, [], ◌∷◌, ◌++◌, length, get_or, set, replicate, map, leb, refl, sym, ap, ◌∙◌, arith, inl, inr, None, Some, IfSome, sum, eqb, eqb-true, ◌≢◌}
+use Rattle.std.proofs.Common.{◌≡◌, ℕ, zero, suc, ◌+◌, ◌-◌, ◌*◌, ◌^◌, ◌<◌, ◌≤◌, Bool, true, false, cond, Option, min, List, [], ◌∷◌, ◌++◌, length, get_or, set, replicate, map, leb, refl, sym, ap, ◌∙◌, subst, arith, inl, inr, None, Some, IfSome, sum, eqb, eqb-true, ◌≢◌}
 use Rattle.std.proofs.lemmas.Bool.Decides.{nat_tests}
 use Rattle.std.proofs.lemmas.Bool.{cases_lt}
 use Rattle.std.proofs.lemmas.List.{length-set, length-replicate, length-append, get_or-set_other, get_or-set_same, get_or-replicate, get_or_past}
 use Rattle.std.proofs.lemmas.List.Elements.{All-set, All-append, All-replicate}
-use Rattle.hdr_base.specs.Classes.{Grain, bucket, bin_of, reach_of, HasScale, grain_of, bins_to}
+use Rattle.hdr_base.specs.Classes.{Grain, part_digits, bucket, bin_of, reach_of, HasScale, grain_of, bins_to}
 use Rattle.std.proofs.lemmas.List.Sums.{sum_by-set, get_or-le-sum_by, sum_by-append}
 use Rattle.std.proofs.lemmas.List.Folds.{sum_by-replicate}
 use Rattle.hdr_base.proofs.ClassesLaws.{bin-mono}
@@ -240,10 +240,17 @@ pub empty-by : (low high sigfig blocks block : ℕ) (auto_resize : Bool) (number
 unfolding empty_plain
 empty-by low high sigfig blocks block auto_resize numbers e n = rw (e, n) refl
 
--- the blocks up to a value's bucket, and one more, are its bins
-pub blocks-are : (scale g : Grain) (x b block : ℕ) → scale ≡ g → b ≡ bucket scale x + 1 → block ≡ 2 ^ (g.digits - 1) → 0 < g.digits → (b + 1) * block ≡ bins_to g x
-blocks-are scale g x b block same e f m =
-    ap (λ n. (n + 1) * block) (e ∙ ap (λ (s : Grain). bucket s x + 1) same) ∙ ap (λ k. (bucket g x + 1 + 1) * k) f ∙ sym (bins-blocks g x m)
+-- the parts of blocks up to a value's bucket are its bins
+pub parts-are : (scale g : Grain) (x parts part : ℕ) → scale ≡ g → parts * 2 ^ part_digits scale.digits ≡ (bucket scale x + 2) * 2 ^ (scale.digits - 1) → part ≡ 2 ^ part_digits g.digits → 0 < g.digits
+    → parts * part ≡ bins_to g x
+parts-are scale g x parts part same e f m =
+    ap (λ k. parts * k) f ∙ subst (λ (s : Grain). parts * 2 ^ part_digits s.digits ≡ (bucket s x + 2) * 2 ^ (s.digits - 1)) same e
+    ∙ ap (λ n. n * 2 ^ (g.digits - 1)) (let two : bucket g x + 2 ≡ bucket g x + 1 + 1 = omega arith in two) ∙ sym (bins-blocks g x m)
+
+-- and so many are a block
+pub parts-in-block : (scale g : Grain) (n part : ℕ) → scale ≡ g → n * 2 ^ part_digits scale.digits ≡ 2 ^ (scale.digits - 1) → part ≡ 2 ^ part_digits g.digits → n * part ≡ 2 ^ (g.digits - 1)
+parts-in-block scale g n part same e f =
+    ap (λ k. n * k) f ∙ subst (λ (s : Grain). n * 2 ^ part_digits s.digits ≡ 2 ^ (s.digits - 1)) same e
 
 pub grown-parts : (h : Plain) (x n : ℕ) (counts : List ℕ) → n ≡ bins_to (grain h) x → counts ≡ h.counts ++ replicate (n - length h.counts) 0
     → record h { high = x; counts = counts } ≡ with_bins_to h x

@@ -24,7 +24,7 @@ impl<T: Counter> Histogram<T> {
         ensures source { IsPlain F.greatest source.now }
     {
         let scale = source.scale;
-        let Ok(counts) = Counts::new(alloc, scale.buckets(source.high) + 1, scale.block()) else {
+        let Ok(counts) = Counts::new(alloc, scale.parts(source.high), scale.part()) else {
             return Err(CreationError::OutOfMemory);
         };
         Ok(Histogram {

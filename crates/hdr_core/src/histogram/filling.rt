@@ -52,8 +52,7 @@ impl<T: Counter> Filling<T> {
             × IsBounds low high sigfig) (RefusesBounds low high sigfig) }
     {
         let scale = scale_for(low, high, sigfig)?;
-        let blocks = scale.buckets(high) + 1;
-        let Ok(counts) = OpenCounts::new(alloc, blocks, scale.block(), sets) else {
+        let Ok(counts) = OpenCounts::new(alloc, scale.parts(high), scale.part(), sets) else {
             return Err(CreationError::OutOfMemory);
         };
         Ok(Filling {

@@ -57,7 +57,7 @@ impl<T: Counter> Histogram<T> {
         ensures { MatchResult result (λ _. self.new ≡ with_bins_to self.old high)
             (λ _. self.new ≡ self.old) }
     {
-        self.counts.grow(self.scale.buckets(high) + 1)?;
+        self.counts.grow(self.scale.parts(high))?;
         self.high = high;
         Ok(())
     }

@@ -72,7 +72,7 @@ impl<T: Counter> Histogram<T> {
         ensures looks { ticks.new ≡ ticks.old + looks (block_of self.now)
             (length self.now.counts) result }
     {
-        self.counts.find(rank, ticks)
+        self.counts.find(rank, self.scale.parts_in_block(), ticks)
     }
 
     /// What the first class that reaches a rank answers to a quantile of that numerator.

@@ -10,3 +10,6 @@ returns-clause-value c =
     let p = part_digits c.args.self.digits in
     let whole : e + p ≡ c.args.self.digits - 1 = omega (arith, ap (λ (g : Grain). g.digits) c.self.view_is, c.from.ensures, c.part_digits.ensures.value) in
     ap (λ n. n * 2 ^ p) (one_shl e 64 (omega arith)) ∙ sym (pow-add 2 e p) ∙ ap (λ n. 2 ^ n) whole
+
+pub returns-clause-few : goal.returns-clause-few
+returns-clause-few c = omega (arith, ap (λ (g : Grain). g.digits) c.self.view_is, pow_mono_le (c.args.self.digits - 1) 17 (omega (arith, ap (λ (g : Grain). g.digits) c.self.view_is)))

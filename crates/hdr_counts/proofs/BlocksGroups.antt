@@ -1,0 +1,117 @@
+-- The sums of groups of blocks: blocks of a greater length.
+use Rattle.std.proofs.Common.{◌≡◌, ℕ, ◌+◌, ◌*◌, ◌/◌, ◌%◌, ◌^◌, ◌<◌, ◌≤◌, zero, suc, List, [], ◌∷◌, length, get_or, take, drop, sum, refl, sym, ap, ◌∙◌, subst, arith}
+use Rattle.std.proofs.Math.Nat.{mul_assoc, mul-le-mul_right, mul-div_cancel}
+use Rattle.std.proofs.lemmas.Nat.{div-add-mod'}
+use Rattle.hdr_counts.specs.Blocks.{AreSums, sum_below}
+use Rattle.hdr_counts.proofs.BlocksSums.{sum_below-add, sum_below_more, sum_below-le-sum, sum_below_all, sum-fits, blocks_more}
+
+-- f of each of n numbers from k on
+each_of : (ℕ → ℕ) → ℕ → ℕ → List ℕ
+each_of f k zero = []
+each_of f k (suc n) = f k ∷ each_of f (suc k) n
+
+each_of-length : (f : ℕ → ℕ) (k n : ℕ) → length (each_of f k n) ≡ n
+unfolding each_of
+each_of-length f k zero = refl
+each_of-length f k (suc n) = ap suc (each_of-length f (suc k) n)
+
+each_of-at : (f : ℕ → ℕ) (k n i : ℕ) → i < n → get_or (each_of f k n) i 0 ≡ f (k + i)
+unfolding each_of
+each_of-at f k zero i lt = absurd (omega arith)
+each_of-at f k (suc n) zero lt = ap f (let e : k ≡ k + 0 = omega arith in e)
+each_of-at f k (suc n) (suc i) lt = each_of-at f (suc k) n i (omega arith) ∙ ap f (let e : suc k + i ≡ k + suc i = omega arith in e)
+
+-- the sums of n groups of g sums each
+pub groups : ℕ → ℕ → List ℕ → List ℕ
+groups g n ss = each_of (λ k. sum (take g (drop (k * g) ss))) 0 n
+
+pub groups-length : (g n : ℕ) (ss : List ℕ) → length (groups g n ss) ≡ n
+unfolding groups
+groups-length g n ss = each_of-length (λ k. sum (take g (drop (k * g) ss))) 0 n
+
+pub groups-at : (g n : ℕ) (ss : List ℕ) (k : ℕ) → k < n → get_or (groups g n ss) k 0 ≡ sum (take g (drop (k * g) ss))
+unfolding groups
+groups-at g n ss k lt = each_of-at (λ k. sum (take g (drop (k * g) ss))) 0 n k lt ∙ ap (λ j. sum (take g (drop (j * g) ss))) (let e : 0 + k ≡ k = omega arith in e)
+
+-- the sums before a block are those of the numbers before it
+pub sums-below : (b : ℕ) (ns ss : List ℕ) (k : ℕ) → AreSums b ns ss → k ≤ length ss → sum_below ss k ≡ sum_below ns (k * b)
+sums-below b ns ss zero h le = ap (sum_below ns) (let e : 0 ≡ 0 * b = omega arith in e)
+sums-below b ns ss (suc k) h le =
+    let lt : k < length ss = omega arith in
+    let before = sums-below b ns ss k h (omega arith) in
+    let more = sum_below_more ss k lt in
+    let next = h.each k lt in
+    let at : sum_below ss (suc k) ≡ sum_below ss (k + 1) = ap (sum_below ss) (let e : suc k ≡ k + 1 = omega arith in e) in
+    let to : sum_below ns ((k + 1) * b) ≡ sum_below ns (suc k * b) = ap (λ j. sum_below ns (j * b)) (let e : k + 1 ≡ suc k = omega arith in e) in
+    omega (arith, before, more, next, at, to)
+
+-- the sums of groups are those of blocks that are as much longer
+pub AreSums-groups : (b g n : ℕ) (ns ss : List ℕ) → AreSums b ns ss → 1 ≤ g → length ss ≡ n * g → AreSums (g * b) ns (groups g n ss)
+AreSums-groups b g n ns ss h some size = record {
+  some = let wide : 1 * b ≤ g * b = mul-le-mul_right b some in omega (arith, wide, h.some);
+  few = h.few;
+  whole = h.whole ∙ ap (λ m. m * b) size ∙ mul_assoc n g b ∙ ap (λ m. m * (g * b)) (sym (groups-length g n ss));
+  each = λ k lt.
+      let inside : k < n = omega (arith, lt, groups-length g n ss) in
+      let next : k + 1 ≤ n = omega (arith, inside) in
+      let room : (k + 1) * g ≤ n * g = mul-le-mul_right g next in
+      let begin : k * g ≤ (k + 1) * g = mul-le-mul_right g (let le : k ≤ k + 1 = omega arith in le) in
+      let step : k * g + g ≡ (k + 1) * g = omega arith in
+      let before = sums-below b ns ss (k * g) h (omega (arith, begin, room, size)) in
+      let upto = sums-below b ns ss ((k + 1) * g) h (omega (arith, room, size)) in
+      let parts = sum_below-add ss (k * g) g in
+      let same : sum_below ss (k * g + g) ≡ sum_below ss ((k + 1) * g) = ap (sum_below ss) step in
+      let from : sum_below ns (k * g * b) ≡ sum_below ns (k * (g * b)) = ap (sum_below ns) (mul_assoc k g b) in
+      let to : sum_below ns ((k + 1) * g * b) ≡ sum_below ns ((k + 1) * (g * b)) = ap (sum_below ns) (mul_assoc (k + 1) g b) in
+      omega (arith, before, upto, parts, same, from, to, groups-at g n ss k inside);
+  fits = h.fits;
+}
+
+-- lists whose length is a number of groups
+pub whole-groups : (b g : ℕ) (ns ss : List ℕ) → AreSums b ns ss → 1 ≤ g → length ns % (g * b) ≡ 0 → (length ss ≡ length ss / g * g) × (length ns / (g * b) ≡ length ss / g)
+whole-groups b g ns ss h some whole =
+    let q = length ns / (g * b) in
+    let parts = div-add-mod' (length ns) (g * b) in
+    let size : length ss * b ≡ q * g * b = omega (arith, parts, whole, h.whole, mul_assoc q g b) in
+    let upto : length ss ≤ q * g = blocks_more b (length ss) (q * g) h.some (omega (arith, size)) in
+    let from : q * g ≤ length ss = blocks_more b (q * g) (length ss) h.some (omega (arith, size)) in
+    let same : length ss ≡ q * g = omega (arith, upto, from) in
+    let number : length ss / g ≡ q = ap (λ m. m / g) same ∙ mul-div_cancel q {n = g} some in
+    (same ∙ ap (λ m. m * g) (sym number), sym number)
+
+-- group k: the sums of all groups, and its own
+pub record IsGroup (b g k : ℕ) (ns ss : List ℕ) : Type 0 where
+  pub sums : AreSums (g * b) ns (groups g (length ss / g) ss)
+  pub inside : k < length (groups g (length ss / g) ss)
+  pub own : get_or (groups g (length ss / g) ss) k 0 ≡ sum (take g (drop (k * g) ss))
+
+pub group-of : (b g k len : ℕ) (ns ss : List ℕ) → AreSums b ns ss → 1 ≤ g → length ns % (g * b) ≡ 0 → len ≡ length ss → k < len / g → IsGroup b g k ns ss
+group-of b g k len ns ss h some whole size lt =
+    let inside : k < length ss / g = subst (λ m. k < m / g) size lt in
+    record {
+      sums = AreSums-groups b g (length ss / g) ns ss h some (whole-groups b g ns ss h some whole).0;
+      inside = omega (arith, inside, groups-length g (length ss / g) ss);
+      own = groups-at g (length ss / g) ss k inside;
+    }
+
+-- the sum of a group's sums, as they were read
+pub group-sum-read : (g k w : ℕ) (ss r : List ℕ) → r ≡ ss → w ≡ g → sum (take w (drop (k * g) r)) ≡ sum (take g (drop (k * g) ss))
+group-sum-read g k w ss r same wide = ap (λ v. sum (take v (drop (k * g) r))) wide ∙ ap (λ q. sum (take g (drop (k * g) q))) same
+
+-- it fits the type of sums
+pub group-sum-fits : (b g k : ℕ) (ns ss : List ℕ) → IsGroup b g k ns ss → sum (take g (drop (k * g) ss)) < 2 ^ 128
+group-sum-fits b g k ns ss p =
+    let step = p.sums.each k p.inside in
+    let most = sum_below-le-sum ns ((k + 1) * (g * b)) in
+    let fits = sum-fits ns p.sums.few p.sums.fits in
+    omega (arith, step, most, fits, p.own)
+
+-- after the last group there is nothing left
+pub groups-end : (b g k len : ℕ) (ns ss : List ℕ) → AreSums b ns ss → 1 ≤ g → length ns % (g * b) ≡ 0 → len ≡ length ss → k ≤ len / g → len / g ≤ k → (sum_below ns (k * (g * b)) ≡ sum ns) × (k ≡ length ns / (g * b))
+groups-end b g k len ns ss h some whole size upto stop =
+    let parts = whole-groups b g ns ss h some whole in
+    let here : k ≡ len / g = omega (arith, upto, stop) in
+    let at : k ≡ length ns / (g * b) = here ∙ ap (λ m. m / g) size ∙ sym parts.1 in
+    let all = div-add-mod' (length ns) (g * b) in
+    let end : k * (g * b) ≡ length ns / (g * b) * (g * b) = ap (λ m. m * (g * b)) at in
+    (sum_below_all ns (k * (g * b)) (omega (arith, end, all, whole)), at)
