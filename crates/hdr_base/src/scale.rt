@@ -144,16 +144,8 @@ impl Scale {
         self.bucket(value) as usize + 1
     }
 
-    /// The number of classes in a block: half of those in the first bucket, and all that each further bucket adds.
-    pub fn block(self) -> usize
-        ensures value { result ≡ 2 ^ (self.digits - 1) }
-        ensures at_least_one { 1 ≤ result }
-        ensures bound { result ≤ 2 ^ 17 }
-    {
-        1 << (self.digits - 1)
-    }
-
-    /// The number of classes in a part of a block, of which one sum is kept: a block has several where it is long.
+    /// The number of classes in a part of a block, of which one sum is kept. A block is half of the classes in the first
+    /// bucket, and all that each further bucket adds; a long one has several parts.
     pub fn part(self) -> usize
         ensures value { result ≡ 2 ^ part_digits self.digits }
         ensures at_least_one { 1 ≤ result }

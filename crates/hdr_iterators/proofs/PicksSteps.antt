@@ -74,5 +74,3 @@ InStep-passed h ps i j total since old count total' since' last s m l e a c t u 
       asked = record { in_order = omega (arith, s.asked.in_order, m); inside = l; total_is = omega (arith, more, same, total_is, c, t); count_is = c };
       since_is = omega (arith, more, same, le, s.since_is, c, u);
     }
-
-}
