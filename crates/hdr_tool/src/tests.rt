@@ -283,7 +283,10 @@ fn writes_fail(
     let words = words_of(rt.alloc(), words)?;
     let words = words.as_slice();
     for at in 1..=last {
-        assert!(rt; is_told(rt.alloc(), words, input, output, None, at), "at {at}");
+        assert!(rt;
+            is_told(rt.alloc(), words, input, output, None, at),
+            "at {at}"
+        );
         for kind in KINDS {
             let kind = Some(kind);
             assert!(rt;

@@ -208,7 +208,11 @@ fn readers_of_varints(rt: HostRuntime) -> Result<(), Fail> {
                 Ok(n) => assert!(rt; n == u64::MAX && fails_at == 10, "{kind:?} at {fails_at}"),
                 Err(cause) => assert_eq!(rt; cause.kind(), kind),
             }
-            assert_eq!(rt; source.left.len(), 11usize.saturating_sub(fails_at), "{kind:?} at {fails_at}");
+            assert_eq!(rt;
+                source.left.len(),
+                11usize.saturating_sub(fails_at),
+                "{kind:?} at {fails_at}"
+            );
         }
     }
     Ok(())
@@ -273,7 +277,10 @@ fn comments(rt: &(impl Abort + AllocGlobal), kind: Option<ErrorKind>) -> Result<
             Err(_) => false,
         };
         assert!(rt; is_right, "{kind:?} at {fails_at}");
-        assert!(rt; slow.holds_front(b"#a comment\n#of two lines\n"), "{kind:?} at {fails_at}");
+        assert!(rt;
+            slow.holds_front(b"#a comment\n#of two lines\n"),
+            "{kind:?} at {fails_at}"
+        );
     }
     Ok(())
 }
