@@ -1,8 +1,8 @@
 #!/bin/sh
-# Runs the program that rt ci built with the first, second, .. request for memory refused, until a run meets no refusal. Each
-# run either answers as the run that meets none, or says 'hdr: no memory' with status 1: without output then, or for a log
-# with whole intervals from its beginning, at least those that stood where an earlier request was refused. No run may leak
-# memory, the last one included.
+# Runs the program that rt ci built with no request for memory refused, and then with the first, second, .. one refused, until
+# a run meets no refusal. The runs that meet none answer what is written here. The others answer the same, or say
+# 'hdr: no memory' with status 1: without output then, or for a log with whole intervals from its beginning, at least those
+# that stood where an earlier request was refused. No run may leak memory.
 set -eu
 cd "$(dirname "$0")/.."
 room=$(mktemp -d)
@@ -12,7 +12,7 @@ program=crates/hdr_tool/out/hdr_tool
 [ -x "$program" ] || { echo "$program is not built: run rt run in crates/hdr_tool" >&2; exit 1; }
 runs=0 failed=0
 
-# Runs the words with request $n refused; the answer goes to files, 'refused' and 'leaked' lines apart from the fault's.
+# Runs the words with request $n refused, or none where $n is 0; the answer goes to files, 'refused' lines apart from the fault's.
 run() {
     status=0 refused=0
     REFUSE=$n LD_PRELOAD="$room/refuse.so" "$program" "$@" <"$room/in" >"$room/out" 2>"$room/all" || status=$?
@@ -36,36 +36,56 @@ is_refusal() {
     [ "$1" = log ] && head -c "$size" "$room/right" | cmp -s - "$room/out" && [ "$(tail -c 1 "$room/out" | od -An -tx1)" = " 0a" ]
 }
 
+# What the next words have to answer: status, fault, and output.
+wants() {
+    wanted=$1
+    printf '%b' "$2" >"$room/fault"
+    printf '%b' "$3" >"$room/right"
+}
+
+# Counts a failure, and says what the last run answered.
+fail() {
+    echo "$1: status $status, refused $refused" >&2
+    cat "$room/out" "$room/err" >&2
+    failed=$((failed + 1))
+}
+
 # Words on the input $room/in.
 each() {
     n=0 kept=0
     run "$@"
-    cp "$room/out" "$room/right" && cp "$room/err" "$room/fault" && wanted=$status refused=1
-    if grep -q '^leaked' "$room/err"; then
-        echo "$*: $(cat "$room/err")" >&2
-        failed=$((failed + 1))
-    fi
+    is_right || fail "$*: no request refused"
+    refused=1
     while [ "$refused" = 1 ]; do
         n=$((n + 1))
         run "$@"
-        if ! is_right && ! { [ "$refused" = 1 ] && is_refusal "$1"; }; then
-            echo "$*: request $n: status $status, refused $refused" >&2
-            cat "$room/err" >&2
-            failed=$((failed + 1))
-        fi
+        is_right || { [ "$refused" = 1 ] && is_refusal "$1"; } || fail "$*: request $n"
         [ "$n" -lt 1000 ] || { echo "$*: no end" >&2; exit 1; }
     done
     echo "hdr $*: $((n - 1)) requests refused in turn, status $wanted"
 }
 
+# What stands in V2 bytes of three digits between the payload's length and the lower half of the highest value, and after it.
+middle=0000000000000003000000000000000100000000
+ratio=3ff0000000000000
+
 printf 'r 1\nr 2 3\nr 5000\nc 100 7\n' >"$room/in"
+gaps=020b020b020b020b020b020b020b020b020b020b020b020b020b02
+wants 0 '' "len 19\n1/2 44\n99/100 5003\nv2 1c84931300000022${middle}00001fff${ratio}0002060b${gaps}f93102\n"
 each report 3 1/2 99/100
 printf 'r 1 9223372036854775808\n' >"$room/in"
+wants 0 '' 'len 9223372036854775808\n1/1 1\nv2 none\n'
 each report 0 1/1
 printf 'r 1\nx\n' >"$room/in"
+wants 1 'hdr: line 2: not a command\n' ''
 each report 3 1/2
+usage='hdr report SIGFIG Q.. | hdr log SIGFIG | hdr merge [--into COUNTER] [--tag T] [--from MS] [--to MS] SIGFIG Q..'
+wants 2 "hdr: usage: $usage\n" ''
 each report 3 1/2 9/0
 printf 'r 1\nend 0 1000 a\nr 5000\nend 1000 1000\n' >"$room/in"
+first='Tag=a,0.000,1.000,1.000,HISTEwAAAAIAAAAAAAAAAwAAAAAAAAABAAAAAAAAAAI/8AAAAAAAAAAC\n'
+second='1.000,1.000,5003.000,HISTEwAAAAMAAAAAAAAAAwAAAAAAAAABAAAAAAAAH/8/8AAAAAAAAMMzAg==\n'
+wants 0 '' "$first$second"
 each log 3
 first=$(head -n 1 "$room/right" | wc -c)
 if [ "$kept" != "$first" ]; then
@@ -74,11 +94,15 @@ if [ "$kept" != "$first" ]; then
 fi
 cp "$room/right" "$room/log"
 printf 'r 1\nend 0 1\nend 5 5 a,b\n' >"$room/in"
+wants 1 'hdr: line 3: not a command\n' '0.000,0.001,1.000,HISTEwAAAAIAAAAAAAAAAwAAAAAAAAABAAAAAAAAAAI/8AAAAAAAAAAC\n'
 each log 3
 cp "$room/log" "$room/in"
+wants 0 '' "len 2\n1/2 1\n1/1 5003\nv2 1c84931300000005${middle}0000138b${ratio}0002bf3302\n"
 each merge 3 1/2 1/1
+wants 0 '' "len 1\n1/2 1\nv2 1c84931300000002${middle}00000002${ratio}0002\n"
 each merge --to 500 --tag a --into u8 --from 0 3 1/2
 printf '0.0,1.0,1.0,HISTFAAA\n' >"$room/in"
+wants 1 "hdr: interval 1: The histogram uses features that this implementation doesn't support\n" ''
 each merge 3 1/2
 echo "refused: the program, $runs runs, $failed failures"
 [ "$failed" = 0 ]

@@ -5,6 +5,7 @@ use hdrhistogram::{CallError, RecordError};
 use std::alloc::{AllocError, Global};
 use std::io;
 use std::io::{Read, Write};
+use std::process::Abort;
 use std::test::Fail;
 
 /// A reader that gives at most `step` bytes a call, and fails from the call `fails_at` on.
@@ -169,41 +170,83 @@ const KINDS: [ErrorKind; 40] = [
     ErrorKind::Uncategorized,
 ];
 
-/// Runs the small report with one read that fails.
-fn run_unread(
+/// Runs words on an input with one read that fails, a byte a read, and tells whether that is the fault, and this stands.
+fn is_unread(
     alloc: Global,
     words: &[String],
+    input: &[u8],
     kind: ErrorKind,
     at: u64,
-) -> (Result<(), Fault>, Sink) {
-    let mut source = Source::new(SMALL_INPUT, 1);
+    stands: &[u8],
+) -> bool {
+    let mut source = Source::new(input, 1);
     source.fails_at = at;
     source.kind = kind;
     let mut sink = Sink::new(256);
     let ran = run(alloc, words, &mut source, &mut sink);
-    (ran, sink)
+    matches!(ran, Err(Fault::CannotRead)) && sink.text() == stands
 }
 
-#[test]
-fn each_read_fails(rt: HostRuntime) -> Result<(), Fail> {
-    let words = words_of(rt.alloc(), SMALL)?;
+/// The first read to the one at the end of the input fail in turn, and nothing is written.
+fn reads_fail(rt: &(impl Abort + AllocGlobal), words: &str, input: &[u8]) -> Result<(), Fail> {
+    let words = words_of(rt.alloc(), words)?;
+    let last = (input.len() as u64).saturating_add(1);
     for kind in KINDS {
-        for at in [1, 2, 21] {
-            let (ran, sink) = run_unread(rt.alloc(), words.as_slice(), kind, at);
-            assert!(rt; matches!(ran, Err(Fault::CannotRead)), "{kind:?} at {at}");
-            assert!(rt; sink.text().is_empty());
+        for at in 1..=last {
+            assert!(rt;
+                is_unread(rt.alloc(), words.as_slice(), input, kind, at, b""),
+                "{kind:?} at {at}"
+            );
         }
-    }
-    for at in 1..=21u64 {
-        let (ran, sink) = run_unread(rt.alloc(), words.as_slice(), ErrorKind::BrokenPipe, at);
-        assert!(rt; matches!(ran, Err(Fault::CannotRead)), "at {at}");
-        assert!(rt; sink.text().is_empty());
     }
     Ok(())
 }
 
-/// Runs words on the small input with one write that fails, and tells whether that is the fault, and just a beginning of
-/// the output was written.
+#[test]
+fn each_read_fails(rt: HostRuntime) -> Result<(), Fail> {
+    reads_fail(&rt, SMALL, SMALL_INPUT)?;
+    reads_fail(&rt, "merge 3 3/10", LOG_OUTPUT.as_bytes())?;
+    // A read that fails after a line that is no command is told in place of that line.
+    reads_fail(&rt, SMALL, b"x\nr 1\n")?;
+    reads_fail(&rt, "log 3", b"x\nr 1\n")
+}
+
+/// Input and output of a log of two intervals, the first of which ends at byte 23, and its line at byte 85.
+const TWO_INPUT: &[u8; 35] = b"r 1\nr 2 4\nend 0 1000 a\nr 1\nend 0 1\n";
+
+const TWO_OUTPUT: &str =
+    "Tag=a,0.000,1.000,2.000,HISTEwAAAAMAAAAAAAAAAwAAAAAAAAABAAAAAAAAAAI/8AAAAAAAAAACCA==\n0.000,0.001,1.000,HISTEwAAAAIAAAAAAAAAAwAAAAAAAAABAAAAAAAAAAI/8AAAAAAAAAAC\n";
+
+/// How long the intervals are that end before a read of that log.
+fn len_before(at: u64) -> usize {
+    if at <= 23 {
+        0
+    } else if at <= 35 {
+        85
+    } else {
+        TWO_OUTPUT.len()
+    }
+}
+
+/// A log has written the intervals before the read that fails.
+#[test]
+fn each_read_of_a_log_fails(rt: HostRuntime) -> Result<(), Fail> {
+    let words = words_of(rt.alloc(), "log 3")?;
+    let output = TWO_OUTPUT.as_bytes();
+    for kind in KINDS {
+        for at in 1..=36u64 {
+            let stands = output.get(..len_before(at)).unwrap_or(&[]);
+            assert!(rt;
+                is_unread(rt.alloc(), words.as_slice(), TWO_INPUT, kind, at, stands),
+                "{kind:?} at {at}"
+            );
+        }
+    }
+    Ok(())
+}
+
+/// Runs words on an input with one write that fails, and tells whether that is the fault, and just a beginning of the output
+/// was written.
 fn is_told(
     alloc: Global,
     words: &[String],
@@ -229,33 +272,39 @@ const LOG_INPUT: &[u8; 23] = b"r 1\nr 2 4\nend 0 1000 a\n";
 const LOG_OUTPUT: &str =
     "Tag=a,0.000,1.000,2.000,HISTEwAAAAMAAAAAAAAAAwAAAAAAAAABAAAAAAAAAAI/8AAAAAAAAAACCA==\n";
 
-#[test]
-fn each_write_fails(rt: HostRuntime) -> Result<(), Fail> {
-    let report = words_of(rt.alloc(), SMALL)?;
-    let log = words_of(rt.alloc(), "log 3")?;
-    let (report, log) = (report.as_slice(), log.as_slice());
-    for at in 1..=9u64 {
+/// The first write of a text to the last fail in turn, by an error of each kind, and by taking nothing.
+fn writes_fail(
+    rt: &(impl Abort + AllocGlobal),
+    words: &str,
+    input: &[u8],
+    output: &str,
+    last: u64,
+) -> Result<(), Fail> {
+    let words = words_of(rt.alloc(), words)?;
+    let words = words.as_slice();
+    for at in 1..=last {
         assert!(rt;
-            is_told(rt.alloc(), report, SMALL_INPUT, SMALL_OUTPUT, None, at),
-            "at {at}"
-        );
-        assert!(rt;
-            is_told(rt.alloc(), log, LOG_INPUT, LOG_OUTPUT, None, at),
+            is_told(rt.alloc(), words, input, output, None, at),
             "at {at}"
         );
         for kind in KINDS {
             let kind = Some(kind);
             assert!(rt;
-                is_told(rt.alloc(), report, SMALL_INPUT, SMALL_OUTPUT, kind, at),
-                "{kind:?} at {at}"
-            );
-            assert!(rt;
-                is_told(rt.alloc(), log, LOG_INPUT, LOG_OUTPUT, kind, at),
+                is_told(rt.alloc(), words, input, output, kind, at),
                 "{kind:?} at {at}"
             );
         }
     }
+    let after = last.saturating_add(1);
+    assert!(rt; !is_told(rt.alloc(), words, input, output, None, after));
     Ok(())
+}
+
+#[test]
+fn each_write_fails(rt: HostRuntime) -> Result<(), Fail> {
+    writes_fail(&rt, SMALL, SMALL_INPUT, SMALL_OUTPUT, 11)?;
+    writes_fail(&rt, "log 3", LOG_INPUT, LOG_OUTPUT, 9)?;
+    writes_fail(&rt, "merge 3 3/10", LOG_OUTPUT.as_bytes(), SMALL_OUTPUT, 11)
 }
 
 /// Runs words with an interrupted read and an interrupted write, on an output that tries again, and tells whether all of
@@ -276,13 +325,17 @@ fn passes(alloc: Global, words: &[String], input: &[u8], output: &str) -> bool {
 fn interruptions_pass(rt: HostRuntime) -> Result<(), Fail> {
     let report = words_of(rt.alloc(), SMALL)?;
     let log = words_of(rt.alloc(), "log 3")?;
-    let (report, log) = (report.as_slice(), log.as_slice());
+    let merge = words_of(rt.alloc(), "merge 3 3/10")?;
+    let (report, log, merge) = (report.as_slice(), log.as_slice(), merge.as_slice());
+    let merged = LOG_OUTPUT.as_bytes();
     assert!(rt; passes(rt.alloc(), report, SMALL_INPUT, SMALL_OUTPUT));
     assert!(rt; passes(rt.alloc(), log, LOG_INPUT, LOG_OUTPUT));
-    // An output that does not try again ends either command alike.
+    assert!(rt; passes(rt.alloc(), merge, merged, SMALL_OUTPUT));
+    // An output that does not try again ends each command alike.
     let kind = Some(ErrorKind::Interrupted);
     assert!(rt; is_told(rt.alloc(), report, SMALL_INPUT, SMALL_OUTPUT, kind, 2));
     assert!(rt; is_told(rt.alloc(), log, LOG_INPUT, LOG_OUTPUT, kind, 2));
+    assert!(rt; is_told(rt.alloc(), merge, merged, SMALL_OUTPUT, kind, 2));
     Ok(())
 }
 

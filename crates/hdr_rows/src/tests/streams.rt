@@ -2,6 +2,7 @@
 //! tries again succeeds, and is seen.
 
 use crate::tests::{FIRST_RUN, first_run};
+use hdrhistogram::serialization::deserializer::varint_read;
 use hdrhistogram::serialization::interval_log::{
     IntervalLogWriter, IntervalLogWriterBuilder, IntervalLogWriterError, Tag,
 };
@@ -190,6 +191,33 @@ fn readers_of_bytes(rt: HostRuntime) -> Result<(), Fail> {
     Ok(())
 }
 
+/// The greatest number, spelt in nine bytes, and a byte after it.
+const GREATEST: [u8; 10] = [0xff, 0xff, 0xff, 0xff, 0xff, 0xff, 0xff, 0xff, 0xff, 7];
+
+#[test]
+fn readers_of_varints(rt: HostRuntime) -> Result<(), Fail> {
+    for kind in KINDS {
+        for fails_at in 1..11usize {
+            let mut source = Source {
+                left: GREATEST.as_slice(),
+                calls: 0,
+                fails_at,
+                kind,
+            };
+            match varint_read(&mut source) {
+                Ok(n) => assert!(rt; n == u64::MAX && fails_at == 10, "{kind:?} at {fails_at}"),
+                Err(cause) => assert_eq!(rt; cause.kind(), kind),
+            }
+            assert_eq!(rt;
+                source.left.len(),
+                11usize.saturating_sub(fails_at),
+                "{kind:?} at {fails_at}"
+            );
+        }
+    }
+    Ok(())
+}
+
 const LINE: &[u8; 85] =
     b"Tag=a,0.000,1.000,2.000,HISTEwAAAAMAAAAAAAAAAwAAAAAAAAABAAAAAAAAAAI/8AAAAAAAAAACCA==\n";
 
@@ -216,17 +244,44 @@ fn logs(rt: &(impl Abort + AllocGlobal), kind: Option<ErrorKind>) -> Result<(), 
     Ok(())
 }
 
-/// Begins a log with a comment at a writer that fails at its second call.
+/// Begins a log with a comment at a writer that fails at each of its calls in turn.
 fn begins(rt: &(impl Abort + AllocGlobal), kind: Option<ErrorKind>) -> Result<(), Fail> {
     let mut serializer = V2Serializer::new(rt.alloc());
     let mut builder = IntervalLogWriterBuilder::new(rt.alloc());
     builder.add_comment("a comment")?;
-    let mut slow = Slow::new(rt.alloc(), 2, kind);
-    let is_told = match builder.begin_log_with(&mut slow, &mut serializer) {
-        Err(IntervalLogWriterError::IoError(cause)) => cause.kind() == wanted(kind),
-        _ => false,
-    };
-    assert!(rt; is_told && slow.holds_front(b"#a comment\n"), "{kind:?}");
+    for fails_at in 1..4usize {
+        let mut slow = Slow::new(rt.alloc(), fails_at, kind);
+        let is_right = match builder.begin_log_with(&mut slow, &mut serializer) {
+            Ok(_) => fails_at == 3,
+            Err(IntervalLogWriterError::IoError(cause)) => cause.kind() == wanted(kind),
+            Err(_) => false,
+        };
+        assert!(rt; is_right, "{kind:?} at {fails_at}");
+        assert!(rt; slow.holds_front(b"#a comment\n"), "{kind:?} at {fails_at}");
+    }
+    Ok(())
+}
+
+/// Writes a comment of two lines to a writer that fails at each of its calls in turn.
+fn comments(rt: &(impl Abort + AllocGlobal), kind: Option<ErrorKind>) -> Result<(), Fail> {
+    let mut serializer = V2Serializer::new(rt.alloc());
+    for fails_at in 1..6usize {
+        let mut slow = Slow::new(rt.alloc(), fails_at, kind);
+        let result = {
+            let mut log = IntervalLogWriter::new(rt.alloc(), &mut slow, &mut serializer, 1);
+            log.write_comment("a comment\nof two lines")
+        };
+        let is_right = match result {
+            Ok(()) => fails_at == 5,
+            Err(IntervalLogWriterError::IoError(cause)) => cause.kind() == wanted(kind),
+            Err(_) => false,
+        };
+        assert!(rt; is_right, "{kind:?} at {fails_at}");
+        assert!(rt;
+            slow.holds_front(b"#a comment\n#of two lines\n"),
+            "{kind:?} at {fails_at}"
+        );
+    }
     Ok(())
 }
 
@@ -234,9 +289,11 @@ fn begins(rt: &(impl Abort + AllocGlobal), kind: Option<ErrorKind>) -> Result<()
 fn writers_of_logs(rt: HostRuntime) -> Result<(), Fail> {
     logs(&rt, None)?;
     begins(&rt, None)?;
+    comments(&rt, None)?;
     for kind in KINDS {
         logs(&rt, Some(kind))?;
         begins(&rt, Some(kind))?;
+        comments(&rt, Some(kind))?;
     }
     Ok(())
 }

@@ -25,7 +25,7 @@ const SMALL: [&str; 5] = [
 ];
 
 /// Calls that take no memory on `SMALL`.
-const RESTING: [&str; 53] = [
+const RESTING: [&str; 75] = [
     "one record 900",
     "one record_n 5 255",
     "one record_correct 90 10",
@@ -79,6 +79,28 @@ const RESTING: [&str; 53] = [
     "one clear",
     "one reset",
     "one auto 0",
+    "counter zero",
+    "counter max_value",
+    "counter from_u64 5",
+    "counter saturating_add 1 2",
+    "counter checked_add 1 2",
+    "counter checked_sub 2 1",
+    "counter less 1 2",
+    "scale unit 1 1",
+    "scale digits 1 1",
+    "scale bin 1 1 900",
+    "scale bin_value 1 1 9",
+    "scale width 1 1 900",
+    "scale lowest 1 1 900",
+    "scale top 1 1 900",
+    "scale reach 1 1 900",
+    "scale buckets 1 1 900",
+    "scale block 1 1",
+    "fraction num 1 2",
+    "fraction den 1 2",
+    "fraction ticks",
+    "bytes zig_zag -5",
+    "log tag a",
 ];
 
 /// Whether a run is done that takes no memory.
