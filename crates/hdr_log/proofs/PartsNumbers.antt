@@ -12,8 +12,6 @@ use Rattle.hdr_log.specs.Parts.{number_of}
 lt_test : (a b : ℕ) → a < b → nat_lt a b ≡ true
 lt_test a b h = grind arith
 
-unfolding number_of
-
 -- a text whose first digits pass 64 bits spells none
 pub number_of-too_great : (text : List ℕ) (i value : ℕ) → i < length text → value ≡ digits_value 10 (take i text) → 2 ^ 64 ≤ value * 10 + digit_value (get_or text i 0) → None ≡ number_of text
 unfolding number_of

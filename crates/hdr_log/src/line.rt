@@ -21,7 +21,7 @@ fn strip<'a>(text: &'a [u8], front: &[u8]) -> Option<&'a [u8]>
 }
 
 /// A field without the CRs at its end.
-#[tactic(auto, using(crate::proofs::Fronts::without_crs_more, crate::proofs::Fronts::without_crs_none))]
+#[tactic(auto, using(crate::proofs::PartsFronts::without_crs_more, crate::proofs::PartsFronts::without_crs_none))]
 fn trimmed(field: &[u8]) -> &[u8]
     ensures { result.now ≡ without_crs field.now }
 {
