@@ -1,0 +1,35 @@
+-- Samples in another order.
+use Rattle.std.proofs.Common.{◌≡◌, ℕ, ◌≤◌, List, [], ◌∷◌, ◌++◌, length, length-append, arith}
+use Rattle.std.specs.List.{All}
+use Rattle.std.proofs.lemmas.List.Elements.{All-nil, All-cons, All-head, All-tail, All-append}
+use Rattle.hdr_base.specs.Classes.{Grain}
+use Rattle.hdr_model.specs.Plain.{Plain, grain, reach}
+use Rattle.hdr_model.specs.Samples.{StandsFor, Fits, in_class}
+use Rattle.hdr_model.proofs.MergingStands.{in_class-append, StandsFor-swap}
+
+all_front : (P : ℕ → Type 0) (A B : List ℕ) → All P (A ++ B) → All P A
+all_front P [] B h = All-nil P
+all_front P (x ∷ A) B h = All-cons P x A (All-head P x (A ++ B) h) (all_front P A B (All-tail P x (A ++ B) h))
+
+all_behind : (P : ℕ → Type 0) (A B : List ℕ) → All P (A ++ B) → All P B
+all_behind P [] B h = h
+all_behind P (x ∷ A) B h = all_behind P A B (All-tail P x (A ++ B) h)
+
+in_class-exchange : (g : Grain) (i : ℕ) (A B : List ℕ) → in_class g i (A ++ B) ≡ in_class g i (B ++ A)
+in_class-exchange g i A B = omega (arith, in_class-append g i A B, in_class-append g i B A)
+
+length-exchange : (A B : List ℕ) → length (A ++ B) ≡ length (B ++ A)
+length-exchange A B = omega (arith, length-append A B, length-append B A)
+
+-- a histogram stands for samples in any order
+pub stands_exchanged : (h : Plain) (A B : List ℕ) → StandsFor h (A ++ B) → StandsFor h (B ++ A)
+stands_exchanged h A B s =
+    let P : ℕ → Type 0 = λ x. x ≤ reach h in
+    StandsFor-swap h (A ++ B) (B ++ A) (λ i. in_class-exchange (grain h) i A B) (length-exchange A B)
+    (All-append P B A (all_behind P A B s.within) (all_front P A B s.within)) s
+
+pub fits_exchanged : (m : ℕ) (g : Grain) (A B : List ℕ) → Fits m g (A ++ B) → Fits m g (B ++ A)
+fits_exchanged m g A B f = record {
+  in_all = omega (arith, f.in_all, length-exchange A B);
+  in_classes = λ i. omega (arith, f.in_classes i, in_class-exchange g i A B);
+}

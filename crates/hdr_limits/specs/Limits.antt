@@ -1,0 +1,31 @@
+-- Which limits a histogram breaks, and what is told of the limits of a log.
+use Rattle.std.specs.Prelude.{◌≡◌, ℕ, ◌-◌, ◌^◌, Bool, nat_lt, if◌then◌else◌, List, [], ◌∷◌, ◌++◌, None, codes}
+use Rattle.std.specs.List.{flat_map}
+use Rattle.std.specs.Fmt.{decimal}
+use Rattle.hdr_model.specs.Plain.{Plain}
+use Rattle.hdr_model.specs.Quantiles.{quantile_of}
+use Rattle.hdrhistogram.specs.Chosen.{Filter}
+use Rattle.hdrhistogram.specs.LogMerging.{Merges, IsMergedBy}
+use Rattle.hdr_limits.specs.declared.limit.Limit.{Limit}
+
+-- every interval of a log is chosen
+abbrev pub every : Filter
+every = record { tag = None; from = None; to = None }
+
+-- the quantile of what was recorded is above the limit
+abbrev pub is_broken : Plain → Limit → Bool
+is_broken h l = nat_lt l.most (quantile_of h l.quantile)
+
+-- `NUM/DEN: VALUE above LIMIT` and a line end
+abbrev pub broken_line : Plain → Limit → List ℕ
+broken_line h l =
+    decimal l.quantile.num ++ codes "/" ++ decimal l.quantile.den ++ codes ": " ++ decimal (quantile_of h l.quantile) ++ codes " above " ++ decimal l.most ++ 10 ∷ []
+
+-- a limit that is broken is told, and another is not
+abbrev pub told : Plain → Limit → List ℕ
+told h l = if is_broken h l then broken_line h l else []
+
+-- all intervals of the log are merged, with 3 digits, and a text tells the limits that the sum breaks, in order
+abbrev pub IsVerdict : List ℕ → List Limit → List ℕ → Type 0
+IsVerdict log limits text =
+    (h : Plain) × (chosen : ℕ) × IsMergedBy (λ r. Merges (2 ^ 64 - 1) every 3 log r) h chosen × (text ≡ flat_map (told h) limits)

@@ -1,0 +1,61 @@
+//! Limits, and the words that spell them.
+
+ghost use Rattle.std.specs.Prelude.{◌≡◌, ◌≤◌, ◌<◌, ℕ, List, length, false};
+ghost use Rattle.hdr_model.specs.Quantiles.{quantile_of, ranked_sample};
+ghost use Rattle.hdr_model.specs.Samples.{StandsFor};
+ghost use Rattle.hdr_limits.specs.Limits.{is_broken};
+
+use hdrhistogram::{Histogram, Quantile};
+use std::alloc::{AllocError, Global};
+
+/// What a service owes: at a quantile, at most this value, in the unit of the log's values.
+#[derive(Clone, Copy)]
+pub(crate) struct Limit {
+    pub quantile: Quantile,
+    pub most: u64,
+}
+
+impl Limit {
+    /// Whether the quantile of what was recorded is above the limit. One that is not broken holds for the sample of that rank.
+    pub(crate) fn is_broken(&self, histogram: &Histogram<u64>) -> bool
+        ensures value { result ≡ is_broken histogram.now self.now }
+        ensures kept { result ≡ false → (S : List ℕ) → StandsFor histogram.now S → 0 < length S
+            → 0 < self.now.quantile.num → ranked_sample self.now.quantile S ≤ self.now.most }
+    {
+        self.most < histogram.value_at_quantile(self.quantile)
+    }
+}
+
+/// The number that decimal digits spell, where it fits.
+fn number(text: &str) -> Option<u64> {
+    if text.bytes().all(|b| b.is_ascii_digit()) {
+        text.parse().ok()
+    } else {
+        None
+    }
+}
+
+/// The limit of a word `NUM/DEN=LIMIT`, with DEN at least 1.
+fn limit_of_word(word: &str) -> Option<Limit> {
+    let (quantile, most) = word.split_once('=')?;
+    let (num, den) = quantile.split_once('/')?;
+    Some(Limit {
+        quantile: Quantile::new(number(num)?, number(den)?)?,
+        most: number(most)?,
+    })
+}
+
+/// The limits of the words; `None` where there is none, or a word is no limit.
+pub(crate) fn limits(alloc: Global, words: &[String]) -> Result<Option<Vec<Limit>>, AllocError> {
+    if words.is_empty() {
+        return Ok(None);
+    }
+    let mut limits = Vec::new(alloc);
+    for word in words {
+        match limit_of_word(word.as_str()) {
+            Some(limit) => limits.push(limit)?,
+            None => return Ok(None),
+        }
+    }
+    Ok(Some(limits))
+}

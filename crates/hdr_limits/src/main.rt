@@ -1,0 +1,73 @@
+//! Whether quantiles of a log keep their limits.
+//!
+//! `hdr_limits NUM/DEN=LIMIT.. <log` is called by a job that runs after a load test or at the end of a day, and that acts on the
+//! status: 0 where each limit is kept, 3 where one is broken, 1 where the log is damaged, 2 for wrong words. Each broken limit is
+//! told on a line `NUM/DEN: VALUE above LIMIT`.
+#![tactic(auto)]
+
+mod limit;
+mod verdict;
+
+use anyhow::{Context, Result, bail};
+use hdrhistogram::serialization::interval_log::MergeError;
+use limit::{Limit, limits};
+use std::alloc::Global;
+use std::env;
+use std::io::{ErrorKind, Read};
+use std::process::ExitCode;
+use verdict::broken_limits;
+
+/// The words of the command line after the program's name; `None` where one is no text.
+fn words_given(rt: &HostRuntime) -> Result<Option<Vec<String>>> {
+    match env::args(rt) {
+        Ok(words) => Ok(Some(words.skip(1).collect(rt.alloc())?)),
+        Err(e) if e.kind() == ErrorKind::OutOfMemory => Err(e.into()),
+        Err(_) => Ok(None),
+    }
+}
+
+/// What standard input holds.
+fn input(rt: &HostRuntime) -> Result<Vec<u8>> {
+    let mut input = Vec::new(rt.alloc());
+    rt.stdin()
+        .read_to_end(&mut input)
+        .context("cannot read the input")?;
+    Ok(input)
+}
+
+/// What is told of the limits of a log, or its fault.
+fn told(alloc: Global, log: &[u8], limits: &[Limit]) -> Result<String> {
+    match broken_limits(alloc, log, limits) {
+        Ok(text) => Ok(text),
+        Err(MergeError::Parse { offset }) => bail!("log: parse error at byte {offset}"),
+        Err(fault) => Err(fault.into()),
+    }
+}
+
+/// Judges standard input by the limits of the words, and answers the status.
+fn hdr_limits(rt: &HostRuntime) -> Result<ExitCode> {
+    let alloc = rt.alloc();
+    let words = words_given(rt)?;
+    let limits = match &words {
+        Some(words) => limits(alloc, words)?,
+        None => None,
+    };
+    let Some(limits) = limits else {
+        eprintln!(rt; "hdr_limits: usage: hdr_limits NUM/DEN=LIMIT.. <log")?;
+        return Ok(ExitCode::from(2));
+    };
+    let log = input(rt)?;
+    let text = told(alloc, &log, &limits)?;
+    print!(rt; "{text}").context("cannot write the output")?;
+    Ok(ExitCode::from(if text.is_empty() { 0 } else { 3 }))
+}
+
+fn main(rt: HostRuntime) -> ExitCode {
+    match hdr_limits(&rt) {
+        Ok(status) => status,
+        Err(fault) => {
+            let _ = eprintln!(rt; "hdr_limits: {fault}");
+            ExitCode::FAILURE
+        }
+    }
+}

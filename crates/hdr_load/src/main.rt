@@ -1,0 +1,146 @@
+//! What a load generator with a fixed schedule measures.
+//!
+//! `hdr_load INTERVAL SIGFIG <services` is run by whoever plans a load test, or wants its numbers from recorded service times.
+//! Each line of standard input is the time that the service takes for one request, in microseconds. Requests are due at 0,
+//! INTERVAL, 2 * INTERVAL, .. microseconds. One starts when it is due, or when the one before it has ended where that is later.
+//! The time from its actual start to its end is recorded with correction for coordinated omission, by SIGFIG significant digits.
+//!
+//! Standard output is an interval log with an interval for each second of this run in which a request ended. Values are in
+//! microseconds, and the greatest values of the log's lines in milliseconds.
+#![tactic(auto)]
+
+ghost use Rattle.std.specs.Prelude.{◌≡◌, IfOk};
+ghost use Rattle.hdrhistogram.specs.LogWriters.{divisor_of, IsSameLog};
+
+mod client;
+mod second;
+
+use anyhow::{Context, Result, bail};
+use client::Client;
+use hdrhistogram::serialization::V2Serializer;
+use hdrhistogram::serialization::interval_log::{IntervalLogWriter, IntervalLogWriterBuilder};
+use second::{PER_MILLISECOND, Second, answered, write_second};
+use std::alloc::Global;
+use std::env;
+use std::io::{BufRead, BufReader, ErrorKind, Write};
+use std::process::ExitCode;
+
+/// What the words ask for.
+#[derive(Clone, Copy)]
+struct Plan {
+    /// The time between two requests in microseconds, 1 or more.
+    interval: u64,
+    /// The significant digits, at most 5.
+    sigfig: u8,
+}
+
+/// The words of the command line after the program's name; `None` where one is no text.
+fn words_given(rt: &HostRuntime) -> Result<Option<Vec<String>>> {
+    match env::args(rt) {
+        Ok(words) => Ok(Some(words.skip(1).collect(rt.alloc())?)),
+        Err(e) if e.kind() == ErrorKind::OutOfMemory => Err(e.into()),
+        Err(_) => Ok(None),
+    }
+}
+
+/// The number that decimal digits spell, where it fits.
+fn number(text: &str) -> Option<u64> {
+    if text.bytes().all(|b| b.is_ascii_digit()) {
+        text.parse().ok()
+    } else {
+        None
+    }
+}
+
+/// The plan of the words `INTERVAL SIGFIG`.
+fn plan_of(words: &[String]) -> Option<Plan> {
+    let [interval, sigfig] = words else {
+        return None;
+    };
+    let interval = number(interval.as_str())?;
+    let sigfig = number(sigfig.as_str())?;
+    if interval == 0 || sigfig > 5 {
+        return None;
+    }
+    Some(Plan {
+        interval,
+        sigfig: sigfig as u8,
+    })
+}
+
+/// Begins the log of a run.
+fn begin<'a, 'b, W: Write>(
+    alloc: Global,
+    output: &'a mut W,
+    serializer: &'b mut V2Serializer,
+) -> Result<IntervalLogWriter<'a, 'b, W, V2Serializer>>
+    ensures { IfOk result (λ log. divisor_of log ≡ 1_000) }
+{
+    let mut builder = IntervalLogWriterBuilder::new(alloc);
+    builder.add_comment("values in microseconds, greatest values in milliseconds")?;
+    builder.with_max_value_divisor(PER_MILLISECOND);
+    Ok(builder.begin_log_with(output, serializer)?)
+}
+
+/// Sends the request whose service time a line tells, and records it.
+fn do_line<W: Write>(
+    line: &str,
+    client: &mut Client,
+    second: &mut Second,
+    log: &mut IntervalLogWriter<'_, '_, W, V2Serializer>,
+) -> Result<()>
+    requires { divisor_of log.old ≡ 1_000 }
+    ensures { IsSameLog log.old log.new }
+{
+    let Some(service) = number(line) else {
+        bail!("not a number");
+    };
+    let Some(end) = client.send(service) else {
+        bail!("the run is longer than 64 bits of microseconds");
+    };
+    answered(second, log, end, service, client.interval())
+}
+
+/// Sends the requests of standard input, and writes the log of the run.
+fn load(rt: &HostRuntime, plan: Plan) -> Result<()> {
+    let alloc = rt.alloc();
+    let mut output = rt.stdout();
+    let mut serializer = V2Serializer::new(alloc);
+    let mut log = begin(alloc, &mut output, &mut serializer)?;
+    let mut client = Client::new(plan.interval);
+    let mut second = Second::new(alloc, plan.sigfig)?;
+    let mut place = 0u64;
+    for line in BufReader::new(alloc, rt.stdin())?.lines(alloc) {
+        let line = line?;
+        place = place.saturating_add(1);
+        do_line(line.as_str(), &mut client, &mut second, &mut log).context(format_args!(
+            "line {place}"
+        ))?;
+    }
+    write_second(&mut second, &mut log)
+}
+
+/// Does what the words ask for, and answers the status.
+fn hdr_load(rt: &HostRuntime) -> Result<ExitCode> {
+    let words = words_given(rt)?;
+    let plan = match &words {
+        Some(words) => plan_of(words),
+        None => None,
+    };
+    let Some(plan) = plan else {
+        eprintln!(rt; "hdr_load: usage: hdr_load INTERVAL SIGFIG <services")?;
+        return Ok(ExitCode::from(2));
+    };
+    load(rt, plan)?;
+    Ok(ExitCode::SUCCESS)
+}
+
+fn main(rt: HostRuntime) -> ExitCode {
+    match hdr_load(&rt) {
+        Ok(status) => status,
+        Err(fault) => {
+            let _ = eprintln!(rt; "hdr_load: {fault:#}");
+            ExitCode::FAILURE
+        }
+    }
+}
