@@ -1,5 +1,6 @@
 #!/bin/sh
 # Proves the program with all that it stands on, and leaves it as target/hdr. Progress goes to standard error.
+# build.sh --is-fresh: only tells whether target/hdr is there and no source is newer.
 set -eu
 cd "$(dirname "$0")"
 
@@ -10,6 +11,10 @@ is_fresh() {
         \( -name '*.rt' -o -name '*.antt' -o -name crates.txt \) -newer target/hdr -print -quit)" ]
 }
 
+if [ "${1:-}" = --is-fresh ]; then
+    is_fresh
+    exit
+fi
 is_fresh && exit 0
 if ! command -v rt >/dev/null 2>&1; then
     echo "build.sh: no command 'rt': put the folder bin of the Rattle kit on the PATH" >&2
@@ -20,7 +25,7 @@ mkdir -p target
 exec 9>target/lock
 flock 9
 is_fresh && exit 0
-echo "build.sh: proving and building (minutes at first, seconds after an edit)" >&2
+echo "build.sh: proving and building (about ten minutes at first, seconds after an edit)" >&2
 built=crates/hdr_tool/out/hdr_tool
 begun=target/begun.$$
 new=target/hdr.$$
@@ -28,7 +33,9 @@ trap 'rm -f "$begun" "$new"' EXIT
 : >"$begun"
 rm -f "$built"
 # `rt run` ends with the status of the program, which has wrong words here: the file tells how the build went.
-(cd crates/hdr_tool && rt run -- none </dev/null) >target/build.log 2>&1 9>&- || :
+{ (cd crates/hdr_tool && rt run -- none </dev/null) 2>&1 || :; } 9>&- | tee target/build.log | awk '
+    /^fn / { split($2, path, "::"); crate = path[1] }
+    /^logic=proved/ { split($2, count, "="); print "build.sh: " crate ": " count[2] " functions proved"; fflush() }' >&2
 if [ ! -x "$built" ]; then
     tail -20 target/build.log >&2
     echo "build.sh: not built: see target/build.log" >&2
