@@ -1,8 +1,9 @@
--- Samples in another order.
-use Rattle.std.proofs.Common.{◌≡◌, ℕ, ◌≤◌, List, [], ◌∷◌, ◌++◌, length, length-append, arith}
+-- Samples in another order, and samples that fit.
+use Rattle.std.proofs.Common.{◌≡◌, ℕ, ◌-◌, ◌^◌, ◌<◌, ◌≤◌, eqb, List, [], ◌∷◌, ◌++◌, length, length-append, arith}
 use Rattle.std.specs.List.{All}
 use Rattle.std.proofs.lemmas.List.Elements.{All-nil, All-cons, All-head, All-tail, All-append}
-use Rattle.hdr_base.specs.Classes.{Grain}
+use Rattle.std.proofs.lemmas.List.Sums.{count_by-le-length}
+use Rattle.hdr_base.specs.Classes.{Grain, bin_of}
 use Rattle.hdr_model.specs.Plain.{Plain, grain, reach}
 use Rattle.hdr_model.specs.Samples.{StandsFor, Fits, in_class}
 use Rattle.hdr_model.proofs.MergingStands.{in_class-append, StandsFor-swap}
@@ -18,7 +19,7 @@ all_behind P (x ∷ A) B h = all_behind P A B (All-tail P x (A ++ B) h)
 in_class-exchange : (g : Grain) (i : ℕ) (A B : List ℕ) → in_class g i (A ++ B) ≡ in_class g i (B ++ A)
 in_class-exchange g i A B = omega (arith, in_class-append g i A B, in_class-append g i B A)
 
-length-exchange : (A B : List ℕ) → length (A ++ B) ≡ length (B ++ A)
+pub length-exchange : (A B : List ℕ) → length (A ++ B) ≡ length (B ++ A)
 length-exchange A B = omega (arith, length-append A B, length-append B A)
 
 -- a histogram stands for samples in any order
@@ -28,8 +29,9 @@ stands_exchanged h A B s =
     StandsFor-swap h (A ++ B) (B ++ A) (λ i. in_class-exchange (grain h) i A B) (length-exchange A B)
     (All-append P B A (all_behind P A B s.within) (all_front P A B s.within)) s
 
-pub fits_exchanged : (m : ℕ) (g : Grain) (A B : List ℕ) → Fits m g (A ++ B) → Fits m g (B ++ A)
-fits_exchanged m g A B f = record {
-  in_all = omega (arith, f.in_all, length-exchange A B);
-  in_classes = λ i. omega (arith, f.in_classes i, in_class-exchange g i A B);
+-- counters of 64 bits hold as many samples as 64 bits count
+pub fits_by_length : (g : Grain) (S : List ℕ) → length S < 2 ^ 64 → Fits (2 ^ 64 - 1) g S
+fits_by_length g S few = record {
+  in_all = few;
+  in_classes = λ i. omega (arith, few, count_by-le-length (λ s. eqb (bin_of g s) i) S);
 }

@@ -9,6 +9,17 @@
 //! written has no base time. An interval is as long as the longest of its parts.
 #![tactic(auto)]
 
+ghost use Rattle.std.specs.Prelude.{◌≡◌, ◌∷◌, ◌*◌, ℕ, List, OnOk, map};
+ghost use Rattle.std.specs.Option.{option_map};
+ghost use Rattle.std.specs.Io.KnownBytes.{Appends};
+ghost use Rattle.hdr_model.specs.Plain.{Plain};
+ghost use Rattle.hdr_log.specs.Tags.{tag_text};
+ghost use Rattle.hdrhistogram.specs.V2.{IsV2};
+ghost use Rattle.hdrhistogram.specs.LogLeaving.{IsIntervalText};
+ghost use Rattle.hdrhistogram.specs.LogWriters.{sink, divisor_of, IsSameLog};
+ghost use Rattle.hdr_gather.specs.Parts.{field_of};
+ghost use Rattle.hdr_gather.specs.Sums.{IsSumOf};
+
 mod part;
 mod sum;
 
@@ -18,30 +29,38 @@ use hdrhistogram::serialization::interval_log::{IntervalLogWriter, IntervalLogWr
 use part::{Part, in_order, parts_of};
 use std::alloc::Global;
 use std::env;
-use std::io::{Read, Write};
+use std::io::{ErrorKind, Read, Write};
 use std::process::ExitCode;
 use std::time::Duration;
-use sum::sum_of;
+use sum::{longest, sum_of};
 
 /// What standard input holds.
 fn input(rt: &HostRuntime) -> Result<Vec<u8>> {
     let mut input = Vec::new(rt.alloc());
-    rt.stdin().read_to_end(&mut input)?;
+    rt.stdin()
+        .read_to_end(&mut input)
+        .context("cannot read the input")?;
     Ok(input)
 }
 
-/// Writes the interval that parts of the same key become.
+/// Writes the interval that parts of the same key become, as long as the longest of them.
 fn write_sum<W: Write>(
     alloc: Global,
-    parts: &[Part<'_>],
+    first: &Part<'_>,
+    others: &[Part<'_>],
     log: &mut IntervalLogWriter<'_, '_, W, V2Serializer>,
-) -> Result<()> {
-    let Some((first, others)) = parts.split_first() else {
-        return Ok(());
-    };
+) -> Result<()>
+    requires { divisor_of log.old ≡ 1 }
+    ensures same { IsSameLog log.old log.new }
+    ensures written { OnOk result ((sum : Plain) × (length : ℕ) × (text : List ℕ)
+        × IsSumOf (field_of first.now ∷ map field_of others.now) sum
+        × IsIntervalText IsV2 sum (option_map tag_text first.now.tag)
+        (first.now.start * 1_000_000) length 1 text
+        × Appends (W.contents (sink log.old).now) (W.contents (sink log.new).now) text) }
+{
     let sum = sum_of(alloc, first, others)?;
-    let start = Duration::from_millis(first.key.start);
-    log.write_histogram(&sum.histogram, start, sum.duration, first.key.tag())?;
+    let start = Duration::from_millis(first.start);
+    log.write_histogram(&sum, start, longest(first, others), first.tag)?;
     Ok(())
 }
 
@@ -53,22 +72,35 @@ fn gathered(alloc: Global, input: &[u8]) -> Result<Vec<u8>> {
     let mut serializer = V2Serializer::new(alloc);
     let builder = IntervalLogWriterBuilder::new(alloc);
     let mut log = builder.begin_log_with(&mut output, &mut serializer)?;
-    for group in parts.as_slice().chunk_by(|a, b| a.key == b.key) {
-        write_sum(alloc, group, &mut log)?;
+    for group in parts.as_slice().chunk_by(|a, b| a.key() == b.key()) {
+        if let Some((first, others)) = group.split_first() {
+            write_sum(alloc, first, others, &mut log)?;
+        }
     }
     drop(log);
     Ok(output)
 }
 
+/// Whether the command line has words after the program's name.
+fn has_words(rt: &HostRuntime) -> Result<bool> {
+    match env::args(rt) {
+        Ok(words) => Ok(words.len() > 1),
+        Err(e) if e.kind() == ErrorKind::OutOfMemory => Err(e.into()),
+        Err(_) => Ok(true),
+    }
+}
+
 /// Gathers standard input.
 fn hdr_gather(rt: &HostRuntime) -> Result<ExitCode> {
-    if env::args(rt)?.len() > 1 {
+    if has_words(rt)? {
         eprintln!(rt; "hdr_gather: usage: cat LOG.. | hdr_gather")?;
         return Ok(ExitCode::from(2));
     }
     let input = input(rt)?;
     let output = gathered(rt.alloc(), &input)?;
-    rt.stdout().write_all(&output).context("output")?;
+    rt.stdout()
+        .write_all(&output)
+        .context("cannot write the output")?;
     Ok(ExitCode::SUCCESS)
 }
 
@@ -76,7 +108,7 @@ fn main(rt: HostRuntime) -> ExitCode {
     match hdr_gather(&rt) {
         Ok(status) => status,
         Err(fault) => {
-            let _ = eprintln!(rt; "hdr_gather: {fault:#}");
+            let _ = eprintln!(rt; "hdr_gather: {fault}");
             ExitCode::FAILURE
         }
     }

@@ -11,31 +11,28 @@ use hdrhistogram::serialization::interval_log::{
 use std::alloc::{AllocError, Global};
 use std::time::Duration;
 
-/// What intervals have in common that are merged.
-#[derive(Clone, Copy, Debug, PartialEq, Eq, PartialOrd, Ord)]
-pub(crate) struct Key<'a> {
-    /// When they begin, in milliseconds since the epoch.
-    pub start: u64,
-    /// The text of their tag.
-    tag: Option<&'a str>,
-}
-
-impl<'a> Key<'a> {
-    /// The tag.
-    pub(crate) fn tag(&self) -> Option<Tag<'a>> {
-        Tag::new(self.tag?)
-    }
-}
-
 /// An interval of the input. Its texts are slices of it.
 #[derive(Drop)]
 pub(crate) struct Part<'a> {
-    pub key: Key<'a>,
+    /// When it begins, in milliseconds since the epoch.
+    pub start: u64,
+    pub tag: Option<Tag<'a>>,
     pub duration: Duration,
     /// The bytes of its histogram, in Base64.
     pub field: &'a str,
     /// Its place among the intervals of the input, from 1.
     pub place: u64,
+}
+
+impl<'a> Part<'a> {
+    /// What intervals have in common that are merged: when they begin, and the text of their tag.
+    pub(crate) fn key(&self) -> (u64, Option<&'a str>) {
+        let tag = match self.tag {
+            Some(tag) => Some(tag.as_str()),
+            None => None,
+        };
+        (self.start, tag)
+    }
 }
 
 /// A time after a base time, to the nearest millisecond; `None` where that does not fit 64 bits.
@@ -55,12 +52,9 @@ fn part_of<'a>(
     let Some(start) = milliseconds(base, interval.start_timestamp()) else {
         bail!("interval {place}: begins past 64 bits of milliseconds");
     };
-    let tag = match interval.tag() {
-        Some(tag) => Some(tag.as_str()),
-        None => None,
-    };
     Ok(Part {
-        key: Key { start, tag },
+        start,
+        tag: interval.tag(),
         duration: interval.duration(),
         field: interval.encoded_histogram(),
         place,
@@ -90,5 +84,5 @@ pub(crate) fn parts_of(alloc: Global, log: &[u8]) -> Result<Vec<Part<'_>>> {
 
 /// Puts intervals in ascending order of time, and then of tag. Those of one key stay in their order.
 pub(crate) fn in_order(parts: &mut Vec<Part<'_>>) -> Result<(), AllocError> {
-    parts.sort_by_key(|part| part.key)
+    parts.sort_by_key(|part| part.key())
 }
