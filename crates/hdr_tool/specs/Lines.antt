@@ -1,5 +1,5 @@
 -- The lines of an input with their numbers, and the fields of a line. A text is a list of bytes.
-use Rattle.std.specs.Prelude.{ℕ, List, [], ◌∷◌, Option, Some, None}
+use Rattle.std.specs.Prelude.{ℕ, List, [], Option, Some, None}
 use Rattle.std.specs.List.{enumerate_from}
 use Rattle.hdr_log.specs.Parts.{parts}
 

@@ -1,4 +1,4 @@
-use Rattle.std.proofs.Common.{◌≡◌, ◌∙◌, ◌+◌, ◌-◌, ◌*◌, ◌%◌, ◌^◌, length, ap, sym, subst, arith}
+use Rattle.std.proofs.Common.{◌≡◌, ◌∙◌, ◌+◌, ◌-◌, ◌*◌, ◌%◌, ◌^◌, length, ap, arith}
 use Rattle.std.proofs.Math.Nat.{mul-mod_left}
 use Rattle.hdr_base.specs.Classes.{Grain}
 use Rattle.hdr_counts.specs.Blocks.{looks}

@@ -1,4 +1,4 @@
-use Rattle.std.proofs.Common.{◌≡◌, ◌∙◌, ◌+◌, ◌-◌, ◌^◌, false, ap, arith}
+use Rattle.std.proofs.Common.{◌≡◌, ◌∙◌, ◌-◌, ◌^◌, false, ap, arith}
 use Rattle.hdr_base.specs.Classes.{part_digits, Grain, grain_of}
 use Rattle.hdr_counts.specs.Blocks.{Blocks}
 use Rattle.hdr_model.proofs.PlainKept.{IsPlain-empty, empty-by, parts-are, digits-pos-of}
