@@ -68,7 +68,7 @@ fn alone(call: Call<'static, u64>, left: Option<&[u8]>) -> Option<Call<'static, 
 }
 
 /// The call of a name and of what is left after it.
-#[tactic(auto, unfolding(crate::specs::Lines::call_of_name))]
+#[tactic(auto, unfolding(crate::specs::Commands::call_of_name))]
 fn named(name: &[u8], left: Option<&[u8]>) -> Option<Call<'static, u64>>
     ensures { result ≡ call_of_name name.now (parts_of_rest 32
         (option_map (λ t. t.now) left.entry)) }
@@ -140,7 +140,7 @@ fn end(left: Option<&[u8]>) -> Option<LogCommand<'_>>
 }
 
 /// The command that a line of a log's input asks for; `None` where the line is no command.
-#[tactic(auto, unfolding(crate::specs::Lines::log_command_of_name))]
+#[tactic(auto, unfolding(crate::specs::Commands::log_command_of_name))]
 pub(crate) fn log_command(line: &[u8]) -> Option<LogCommand<'_>>
     ensures { option_map view_of_log_command result ≡ log_command_of line.now }
 {
