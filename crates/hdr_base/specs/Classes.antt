@@ -3,12 +3,12 @@
 use Rattle.std.specs.Prelude.{◌≡◌, ℕ, min, ◌+◌, ◌-◌, ◌*◌, ◌/◌, ◌%◌, ◌^◌, ◌<◌, ◌≤◌, Bool, true, false, nat_lt, nat_le}
 use Rattle.std.proofs.Common.{zero, suc}
 
--- the least number from k on that passes the test, looked for at n numbers; k + n where none of these passes
+-- the least number from k on that passes the test, looked for at n numbers; k + n where none of these passes (ours)
 unfoldable pub least_from : (ℕ → Bool) → ℕ → ℕ → ℕ
 least_from p k zero = k
 least_from p k (suc n) = elim (p k) [ true ↦ k | false ↦ least_from p (suc k) n ]
 
--- k is the least number of which P holds
+-- k is the least number of which P holds (ours)
 pub record IsLeast (P : ℕ → Type 0) (k : ℕ) : Type 0 where
   pub holds : P k
   pub least : (j : ℕ) → P j → k ≤ j

@@ -45,7 +45,7 @@ RefusesCall h (Add source) (err.Addition e) = RefusesAddition h source.now e
 RefusesCall h (AddCorrect source i) (err.Record e) = RefusesCorrected h source.now e
 RefusesCall h _ _ = ⊥
 
--- a call is not refused by name
+-- nothing but memory can refuse the call
 abbrev pub IsTaken : {T : Type 0} → Plain → Call T → Type 0
 IsTaken h (Record v n) = HasRoom h v
 IsTaken h (Clamp v n) = Unit {0}
@@ -55,7 +55,7 @@ IsTaken h Reset = Unit {0}
 IsTaken h (Add source) = (source.now.total ≡ 0) ⊎ HasRoom h (max_of source.now)
 IsTaken h (AddCorrect source i) = HasRoom h (highest_top source.now)
 
--- of calls that are done one after another none is refused by name in its turn
+-- nothing but memory can refuse any of the calls, each in its turn
 abbrev pub AreTaken : {T : Type 0} → ℕ → (T → ℕ) → List (Call T) → Plain → Type 0
 AreTaken greatest number = EachIsTaken (after_call greatest number) IsTaken
 

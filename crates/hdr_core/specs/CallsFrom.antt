@@ -28,13 +28,13 @@ RefusesCallFrom h (AddFrom source) (err.Addition e) = RefusesAddition h source.n
 RefusesCallFrom h (AddCorrectFrom source i) (err.Record e) = RefusesCorrected h source.now e
 RefusesCallFrom h _ _ = ⊥
 
--- a call is not refused by name
+-- nothing but memory can refuse the call
 abbrev pub IsTakenFrom : {T F : Type 0} → Plain → CallFrom T F → Type 0
 IsTakenFrom h (Own call) = IsTaken h call
 IsTakenFrom h (AddFrom source) = (source.now.total ≡ 0) ⊎ HasRoom h (max_of source.now)
 IsTakenFrom h (AddCorrectFrom source i) = HasRoom h (highest_top source.now)
 
--- of calls that are done one after another none is refused by name in its turn
+-- nothing but memory can refuse any of the calls, each in its turn
 abbrev pub AreTakenFrom : {T F : Type 0} → ℕ → (T → ℕ) → List (CallFrom T F) → Plain → Type 0
 AreTakenFrom greatest number = EachIsTaken (after_call_from greatest number) IsTakenFrom
 

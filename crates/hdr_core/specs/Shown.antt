@@ -16,8 +16,8 @@ plain_of h = record {
   lower_mark = h.marks.lower;
 }
 
--- what is true of the fields: the scale is that of the bounds, sums are kept of the scale's parts of blocks, and the
--- numbers are a histogram's
+-- what is true of the fields: the scale is that of the bounds, a sum is kept of each part of a block, and the numbers
+-- are a histogram's
 pub record IsHeld {T : Type 0} (greatest : ℕ) (h : Inside T) : Type 0 where
   pub scale : h.scale ≡ grain_of h.low h.sigfig
   pub block : h.counts.block ≡ 2 ^ part_digits (grain_of h.low h.sigfig).digits

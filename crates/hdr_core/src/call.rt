@@ -39,7 +39,7 @@ pub enum CallError {
     Addition(AdditionError),
 }
 
-/// The first call of a run that was refused: its place in the run, and why.
+/// The first call of a run that was refused: its index in the slice, from 0, and why.
 #[derive(Debug, PartialEq, Eq, Drop, Error)]
 #[error("Call {at} was refused: {cause}")]
 pub struct RunError {

@@ -58,9 +58,11 @@ impl<T: Counter> Model for Histogram<T> {
 }
 
 impl<T: Counter> Histogram<T> {
-    /// A histogram of values from 0 to at least `high`, which keeps `sigfig` digits of those from `low` on and does not
-    /// grow. `low` is 1 to `u64::MAX / 2`, `high` at least twice `low`, `sigfig` 0 to 5; the first of these that does
-    /// not hold is the error, and then running out of memory.
+    /// A histogram of values from 0 to at least `high` that does not grow. It keeps `sigfig` significant digits of values
+    /// from `low` on, which is rounded down to a power of two, the unit.
+    ///
+    /// `low` is 1 to `u64::MAX / 2`, `high` at least twice `low`, `sigfig` 0 to 5, and unit and digits fit 63 bits. The first
+    /// of these that does not hold is the error; where all hold, only memory can run out.
     pub fn new_with_bounds(
         alloc: Global,
         low: u64,
@@ -86,7 +88,7 @@ impl<T: Counter> Histogram<T> {
         })
     }
 
-    /// A histogram of values from 0 to at least `high`, with units of 1.
+    /// `new_with_bounds` with `low` 1: `high` is at least 2, and `sigfig` 0 to 5.
     pub fn new_with_max(alloc: Global, high: u64, sigfig: u8) -> Result<Histogram<T>, CreationError>
         ensures { MatchResult result (λ h. (h ≡ empty_plain 1 high sigfig false)
             × IsBounds 1 high sigfig) (RefusesBounds 1 high sigfig) }
@@ -94,7 +96,7 @@ impl<T: Counter> Histogram<T> {
         Histogram::new_with_bounds(alloc, 1, high, sigfig)
     }
 
-    /// A histogram that grows to the values that are recorded, with units of 1.
+    /// A histogram of units of 1 that grows as values are recorded, and begins with `high` 2. `sigfig` is 0 to 5.
     #[tactic(auto, unfolding(hdr_model::specs::Plain::empty_plain))]
     pub fn new(alloc: Global, sigfig: u8) -> Result<Histogram<T>, CreationError>
         ensures { MatchResult result (λ h. (h ≡ empty_plain 1 2 sigfig true) × IsBounds 1 2 sigfig)
@@ -145,7 +147,7 @@ impl<T: Counter> Histogram<T> {
         self.sigfig
     }
 
-    /// How many samples were recorded, up to `u64::MAX`.
+    /// How many samples are counted, up to `u64::MAX`.
     pub fn len(&self) -> u64
         ensures { result ≡ self.now.total }
     {
@@ -159,7 +161,7 @@ impl<T: Counter> Histogram<T> {
         self.total
     }
 
-    /// Whether nothing was recorded.
+    /// Whether no samples are counted.
     pub fn is_empty(&self) -> bool
         ensures { IsTrue result ↔ (self.now.total ≡ 0) }
     {

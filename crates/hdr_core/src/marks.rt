@@ -11,7 +11,7 @@ use std::marker::Model;
 pub(crate) struct Marks {
     /// The number of classes up to the top mark, 0 for none.
     classes: usize,
-    /// The number of the class before the lower mark, the greatest number for none.
+    /// The number of the class before the lower mark, `usize::MAX` for none.
     before: usize,
 }
 

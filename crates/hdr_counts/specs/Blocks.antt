@@ -3,7 +3,7 @@
 use Rattle.std.specs.Prelude.{◌≡◌, ℕ, Bool, false, ◌+◌, ◌-◌, ◌*◌, ◌/◌, ◌%◌, ◌^◌, ◌<◌, ◌≤◌, min, List, ◌∷◌, ◌++◌, length, replicate, take, sum, slice_index, All, Option, Some, None, IfSome}
 use Rattle.hdr_base.specs.Classes.{most_bins}
 
--- how long a block is, and the numbers of all blocks in order
+-- how many numbers a sum is of (a part of a block, in the words of `Scale`), and all numbers in order
 pub record Blocks : Type 0 where
   pub block : ℕ
   pub numbers : List ℕ
@@ -34,8 +34,8 @@ pub record Searched : Type 0 where
   pub numbers : List ℕ
   pub passed : ℕ
 
--- how many sums and numbers are looked at to find a place: the sum of each block up to and including the place's, and each
--- number of that block up to and including the place; the sum of each block where there is no place
+-- looks to find place i: one at the sum of each block up to its own, then one at each number of that block up to i. Where no
+-- place is found, one at the sum of each block
 abbrev pub looks : ℕ → ℕ → Option ℕ → ℕ
 looks block places None = places / block
 looks block places (Some i) = i / block + 1 + (i % block + 1)
@@ -68,8 +68,8 @@ pub record AreHeld (greatest block : ℕ) (numbers sums : List ℕ) (shift : Opt
 abbrev pub with_zeros : List ℕ → ℕ → List ℕ
 with_zeros numbers len = numbers ++ replicate (len - length numbers) 0
 
--- what is true of counters that are being set, of which the first are at hand and the others are 0: there is room for all of
--- them, there are as many sums as blocks, and where sums are kept at each place that is set they are those of the blocks
+-- what is true of counters that are being set: the first stand in the list, and the others are 0. There is room for all, and a
+-- sum for each block. Unless sums are made late, they are those of the blocks
 pub record AreOpen (greatest block len capacity : ℕ) (numbers sums : List ℕ) (shift : Option ℕ) (late : Bool) : Type 0 where
   pub some : 1 ≤ block
   pub few : len ≤ most_bins

@@ -169,9 +169,9 @@ impl<T: Counter> Counts<T> {
         total + self.sum_in_block(k, i)
     }
 
-    /// The first place where the sum up to and including it reaches `rank`, with a tick for each look at the sum of a group of
-    /// blocks or at a counter: at the sums up to and including that of the place's group, and then at that group's counters
-    /// up to and including the place. Where no place reaches the rank, each group's sum was looked at.
+    /// The first place where the running sum reaches `rank`. A tick is counted for each group's sum up to that of the place's
+    /// group, and then for each counter of that group up to the place. Where no place reaches the rank, each group's sum was
+    /// looked at. A group is `group` blocks.
     pub fn find(&self, rank: u64, group: usize, ticks: &mut Ticks) -> Option<usize>
         requires some { 1 ≤ rank }
         requires group { 1 ≤ group }

@@ -25,8 +25,8 @@ pub record IsClosed (f : Open) (h : Plain) : Type 0 where
   pub top : IsTopMark h.counts h.top_mark
   pub lower : IsLowerMark h.counts h.lower_mark
 
--- what is true of the bounds and the bins: the scale is that of the bounds, sums are kept of the scale's parts of blocks, and
--- there is a bin for each class
+-- what is true of the bounds and the bins: the scale is that of the bounds, a sum is kept of each part of a block, and there
+-- is a bin for each class
 pub record AreBinsFor (low high sigfig : ℕ) (scale : Grain) (bins : Blocks) : Type 0 where
   pub same_scale : scale ≡ grain_of low sigfig
   pub block : bins.block ≡ 2 ^ part_digits (grain_of low sigfig).digits

@@ -10,7 +10,7 @@ pub record MarkPair : Type 0 where
 unfoldable pub top_by : ℕ → Option ℕ
 top_by classes = if classes == 0 then None else Some (classes - 1)
 
--- a lower mark, by the number of the class before it: the greatest number for none
+-- a lower mark, kept as the number of the class before it; `u64::MAX` for none
 unfoldable pub lower_by : ℕ → Option ℕ
 lower_by before = if before == 2 ^ 64 - 1 then None else Some (before + 1)
 

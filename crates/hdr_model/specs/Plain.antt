@@ -4,8 +4,8 @@ use Rattle.std.specs.Prelude.{◌≡◌, ◌==◌, ℕ, ◌-◌, ◌*◌, ◌^�
 use Rattle.hdr_base.specs.Classes.{Grain, grain_of, reach_of, bins_to, HasScale}
 use Rattle.hdr_model.specs.Marks.{IsAbove, IsBelow, top_of_mark, value_of_mark}
 
--- the bounds, a number for each bin, how many samples there are, and the classes that enclose the nonempty ones: the top
--- mark all of them, the lower mark those after the first
+-- the bounds; a number for each bin; the number of samples; the top mark: no class above it holds samples; the lower mark: no
+-- class below it but class 0 does
 pub record Plain : Type 0 where
   pub low : ℕ
   pub high : ℕ
@@ -20,7 +20,7 @@ pub record Plain : Type 0 where
 abbrev pub grain : Plain → Grain
 grain h = grain_of h.low h.sigfig
 
--- the greatest value that a bin holds
+-- the greatest value that has a bin
 unfoldable pub reach : Plain → ℕ
 reach h = reach_of (grain h) h.high
 
@@ -48,7 +48,7 @@ pub record IsPlain (greatest : ℕ) (h : Plain) : Type 0 where
 unfoldable pub max_of : Plain → ℕ
 max_of h = top_of_mark (grain h) h.top_mark
 
--- the lowest value after the first class that counts as recorded (`min_nz`)
+-- the lowest value of the lower mark's class: the first of the recorded classes other than class 0; `u64::MAX` for none (`min_nz`)
 unfoldable pub min_nz_of : Plain → ℕ
 min_nz_of h = value_of_mark (grain h) h.lower_mark
 

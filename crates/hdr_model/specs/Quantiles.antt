@@ -17,7 +17,7 @@ abbrev pub sorted : List ℕ → List ℕ
 sorted [] = []
 sorted (x ∷ xs) = put_in_order x (sorted xs)
 
--- the place of a quantile among n samples, from 1: the share q of n, rounded up, where q counts as 1 above 1
+-- the place of a quantile among n samples in ascending order: ceil(min(q, 1) * n), and at least 1; places count from 1
 unfoldable pub rank : Ratio → ℕ → ℕ
 rank q n = max 1 (div_ceil (min q.num q.den * n) q.den)
 
@@ -25,7 +25,8 @@ rank q n = max 1 (div_ceil (min q.num q.den * n) q.den)
 unfoldable pub ranked_sample : Ratio → List ℕ → ℕ
 ranked_sample q S = slice_index (sorted S) (rank q (length S) - 1)
 
--- an answer is the top of the class of a sample, at least the sample, and above it by less than a unit or a part of it
+-- an answer is the top of the sample's class: at least the sample, and above it by less than one unit, or by less than one part
+-- in 10^sigfig of the sample
 pub record IsTopNear (h : Plain) (s answer : ℕ) : Type 0 where
   pub is_top : answer ≡ top_of (grain h) s
   pub at_least : s ≤ answer

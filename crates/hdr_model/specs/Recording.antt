@@ -4,7 +4,7 @@ use Rattle.hdr_base.specs.Classes.{bin_of, reach_of, bins_to, Grain}
 use Rattle.hdr_model.specs.Plain.{Plain, grain, reach}
 use Rattle.hdr_model.specs.Marks.{earlier_mark, later_mark}
 
--- the histogram with bins up to the reach of a value, which is then its `high`
+-- the histogram with bins up to the reach of x, and x itself as its `high`
 unfoldable pub with_bins_to : Plain → ℕ → Plain
 with_bins_to h x = record h { high = x; counts = h.counts ++ replicate (bins_to (grain h) x - length h.counts) 0 }
 

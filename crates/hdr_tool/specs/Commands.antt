@@ -65,8 +65,8 @@ call_of_fields (name ∷ fields) = call_of_name name fields
 abbrev pub call_of : List ℕ → Option (Call ℕ)
 call_of line = call_of_fields (parts 32 line)
 
--- what a line of a log's input asks for: a call, or an interval that ends, with its start and its duration in thousandths of a
--- second and its tag
+-- what a line of a log's input asks for: a call, or an interval that ends, with its start and its duration in milliseconds
+-- and its tag
 pub data LogCommand : Type 0 where
   Make : Call ℕ → LogCommand
   End : ℕ → ℕ → Option (List ℕ) → LogCommand

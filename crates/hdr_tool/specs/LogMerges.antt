@@ -19,7 +19,7 @@ use Rattle.hdr_tool.specs.Words.{Log, Merge, task_of}
 use Rattle.hdr_tool.specs.Report.{IsReport}
 use Rattle.hdr_tool.specs.Program.{Program}
 
--- what an interval holds that a line ends, with its tag and its start in milliseconds
+-- an interval that an `end` line closes: what it holds, its tag, and its start in milliseconds
 pub record EndOf (A : Type 0) : Type 0 where
   pub holds : A
   pub tag : Option (List ℕ)
@@ -49,8 +49,8 @@ AreReadBack [] [] = Unit {0}
 AreReadBack (h ∷ hs) (k ∷ ks) = IsReadBack h k × AreReadBack hs ks
 AreReadBack _ _ = ⊥
 
--- a merge of what a log wrote without a fault has no fault, and reports the histograms of the log's chosen intervals, which
--- were written and read again, added in order to an empty one
+-- a log that was written without a fault is merged without one. The report is that of its chosen intervals, each written and
+-- read again, added in order to an empty histogram
 abbrev pub LogThenMerge : Type 0
 LogThenMerge =
     (log merge : List (List ℕ)) (sigfig fewer : ℕ) (options : Options) (quantiles : List Ratio) (input written text : List ℕ) (fault : Option Fault)
@@ -91,9 +91,9 @@ EndsStand =
     (h : Plain) (s : State) (lines : List (ℕ × List ℕ)) (Ls : List (EndOf (List ℕ))) → IsPlain (2 ^ 64 - 1) h → StandsAt h s → EndsWith (grain h) s lines Ls
     → AreEnds (grain h) (ends_of h lines) Ls
 
--- what the lines of a log's input recorded is what a merge of the written log reports, by as many digits or fewer: the merge
--- has no fault, its histogram stands for the samples before the chosen ends, joined, and the answer to each quantile above 0
--- is the top of the class of the ranked sample, and near it
+-- samples that are logged and merged again. A merge of the written log, by as many digits or fewer, has no fault. Its histogram
+-- stands for the samples of the chosen intervals, joined. Each quantile above 0 is answered by the top of the class of the
+-- ranked sample, near it
 abbrev pub LogMergeStands : Type 0
 LogMergeStands =
     (log merge : List (List ℕ)) (sigfig fewer : ℕ) (options : Options) (quantiles : List Ratio) (input written text : List ℕ) (fault : Option Fault) (Ls : List (EndOf (List ℕ)))

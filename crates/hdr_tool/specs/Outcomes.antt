@@ -5,7 +5,7 @@ use Rattle.hdrhistogram.specs.Streams.{AppendsFront}
 use Rattle.hdr_tool.specs.declared.fault.Fault.{Fault}
 use Rattle.hdr_tool.specs.declared.fault.Fault.TheVariants.{WrongWords, NoMemory, CannotRead, CannotWrite}
 
--- what is written, and what state or fault stands at the end
+-- what is written, and the last state or the fault
 pub record Outcome (A : Type 0) : Type 0 where
   pub written : List ℕ
   pub ended : Result A Fault
@@ -30,15 +30,15 @@ Begins Step a [] text = text ≡ []
 Begins {A = A} Step a (x ∷ xs) text =
     (text ≡ []) ⊎ ((step : List ℕ × A) × Step a x (Ok step) × ((rest : List ℕ) × Begins Step step.1 xs rest × (text ≡ step.0 ++ rest)))
 
--- a fault by name is one that the definition gives; running out of memory, or a reader that fails, may come in place of any answer
+-- P holds of each fault but two: running out of memory, or a reader that fails, may come in place of any answer
 abbrev pub Refuses : (Fault → Type 0) → Fault → Type 0
 Refuses P NoMemory = Unit {0}
 Refuses P CannotRead = Unit {0}
 Refuses P CannotWrite = ⊥
 Refuses P f = P f
 
--- a step from a state wrote what its definition says, and left the state, or it was refused: nothing was written then, but
--- for a beginning, not all, where the writer failed
+-- a step wrote what its definition says and left the state, or it was refused. A refusal wrote nothing; where the writer failed,
+-- a part of the step's text from its beginning was written, not all
 abbrev pub StepAnswers : {A : Type 0} → (Result (List ℕ × A) Fault → Type 0) → A → Option (List ℕ) → Option (List ℕ) → Result (Unit {0}) Fault → Type 0
 StepAnswers P state old new (Ok u) = (text : List ℕ) × P (Ok (text, state)) × Appends old new text
 StepAnswers P state old new (Err NoMemory) = Keeps old new

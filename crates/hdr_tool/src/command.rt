@@ -96,7 +96,7 @@ pub(crate) fn call(line: &[u8]) -> Option<Call<'static, u64>>
 pub(crate) enum LogCommand<'a> {
     /// A call.
     Make(Call<'static, u64>),
-    /// An interval that ends: its start and its duration in thousandths of a second, and its tag.
+    /// An interval that ends: its start and its duration in milliseconds, and its tag.
     End(u64, u64, Option<Tag<'a>>),
 }
 

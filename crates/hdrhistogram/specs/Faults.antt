@@ -4,8 +4,9 @@ use Rattle.std.specs.Io.KnownBytes.{Consumes}
 use Rattle.hdrhistogram.specs.declared.serialization.errors.DeserializeError.{DeserializeError}
 use Rattle.hdrhistogram.specs.declared.serialization.errors.DeserializeError.TheVariants.{IoError, InvalidCookie, UnsupportedFeature, UnsuitableCounterType, InvalidParameters, UsizeTypeTooSmall, EncodedArrayTooLong, OutOfMemory}
 
--- the bytes end too soon; their cookie is another; what they ask for is not supported; their bounds are no histogram's; a
--- count is above the counter's greatest, or past the bins; a place is past `u64::MAX`
+-- cut: the bytes end too soon; other_cookie: another format; unsupported: compressed, shifted or scaled; bad_bounds: no
+-- histogram has these bounds; too_great: a count is above the counter's greatest; then a count past the bins, and a place
+-- above `u64::MAX` (the errors of `Deserializer`)
 pub data Fault : Type 0 where
   cut : Fault
   other_cookie : Fault

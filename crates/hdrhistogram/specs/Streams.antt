@@ -18,7 +18,7 @@ AppendsFront old new text = (n : ℕ) × (n < length text) × Appends old new (t
 abbrev pub ConsumesFewer : Option (List ℕ) → Option (List ℕ) → ℕ → Type 0
 ConsumesFewer old new limit = (bytes : List ℕ) × (length bytes < limit) × Consumes old new bytes
 
--- the reader failed or ended, or memory lacked
+-- the reader failed or ended, or memory ran out
 abbrev pub IsStreamError : DeserializeError → Type 0
 IsStreamError (IoError cause) = Unit {0}
 IsStreamError OutOfMemory = Unit {0}

@@ -29,8 +29,9 @@ impl<T: Counter> Histogram<T> {
         self.record_n_correct(value, T::one(), interval)
     }
 
-    /// The same, `count` times each: the value and then, for an interval of at least 1, each `value - j * interval` with `j`
-    /// of at least 1 that is at least the interval. Only the first record can be refused; a refusal changes nothing.
+    /// `record_correct`, `count` times for each value: `value`, `value - interval`, `value - 2 * interval`, .. down to the last
+    /// that is at least `interval`. An interval of 0 corrects nothing. Only the first record can be refused; a refusal changes
+    /// nothing.
     pub fn record_n_correct(
         &mut self,
         value: u64,
@@ -50,8 +51,8 @@ impl<T: Counter> Histogram<T> {
         self.record_n_correct_counted(value, count, interval, &mut Ticks::new())
     }
 
-    /// The same, with a tick for each counter that is updated beside the first: one for each class that holds a missing
-    /// value, and so no more than there are bins.
+    /// The same, with a tick for each counter that is updated after the first: one for each class that holds a missing value,
+    /// and so no more than there are bins.
     pub fn record_n_correct_counted(
         &mut self,
         value: u64,

@@ -74,7 +74,7 @@ impl<T: Counter> Filling<T> {
         self.counts.len()
     }
 
-    /// Sets the counter of a bin.
+    /// Sets the counter of a bin, which is below `distinct_values()`.
     #[inline(always)]
     pub fn set(&mut self, bin: usize, count: T)
         requires { bin < length self.old.counts }
@@ -86,7 +86,7 @@ impl<T: Counter> Filling<T> {
         self.counts.set(bin, count);
     }
 
-    /// Sets the counters of a bin and of the one after it.
+    /// Sets the counters of a bin and of the one after it; both are below `distinct_values()`.
     #[inline(always)]
     pub fn set_two(&mut self, bin: usize, first: T, second: T)
         requires { bin + 1 < length self.old.counts }

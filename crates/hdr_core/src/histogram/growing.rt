@@ -51,7 +51,7 @@ impl<T: Counter> Histogram<T> {
         }
     }
 
-    /// Makes bins up to the reach of a value past them, which becomes `high`. Refused for memory, it changes nothing.
+    /// Makes bins up to the reach of `high`, a value past them, and keeps it as `high`. When memory runs out nothing is changed.
     fn grow(&mut self, high: u64) -> Result<(), AllocError>
         requires { reach self.old < high }
         ensures { MatchResult result (λ _. self.new ≡ with_bins_to self.old high)

@@ -41,8 +41,9 @@ impl<T: Counter> Histogram<T> {
         recorded::Iter::new(self)
     }
 
-    /// The levels `step - 1`, `2 * step - 1`, .. each with the samples up to its class: those below the top mark's class,
-    /// the next one, and those that are no greater than the top of the class where that lies.
+    /// Steps of `step` values each, at least 1: an item for each level `step - 1`, `2 * step - 1`, .. with the samples up to
+    /// its class. The levels below the top mark's class are given, then the next one, then those up to the top of that
+    /// level's class.
     pub fn iter_linear(&self, step: u64) -> HistogramIterator<'_, T, linear::Iter<'_, T>>
         requires { 1 ≤ step }
         ensures { result ≡ items_of (bins_seen self.now) (linear_picks (bins_seen self.now) step) }
@@ -50,8 +51,8 @@ impl<T: Counter> Histogram<T> {
         linear::Iter::new(self, step)
     }
 
-    /// The levels `start - 1`, `start * base - 1`, `start * base ^ 2 - 1`, .. each with the samples up to its class: those
-    /// below the top mark's class, and the next one.
+    /// Steps that grow: an item for each level `start - 1`, `start * base - 1`, `start * base ^ 2 - 1`, .. below the top mark's
+    /// class, and the next one. `start` is at least 1, and `base` at least 2.
     pub fn iter_log(&self, start: u64, base: u64) -> HistogramIterator<'_, T, log::Iter<'_, T>>
         requires some { 1 ≤ start }
         requires wide { 2 ≤ base }
@@ -61,8 +62,8 @@ impl<T: Counter> Histogram<T> {
         log::Iter::new(self, start, base)
     }
 
-    /// The shares of the samples that halve the distance to the whole again and again, so many to each half, each at the
-    /// first bin that reaches it; after the last of them the whole.
+    /// Quantiles that approach 1: `ticks_per_half_distance` equal steps, at least 1, over the first half, then as many over
+    /// half of the rest, and so on; at last 1 itself. Each is given at the first bin that reaches it.
     pub fn iter_quantiles(
         &self,
         ticks_per_half_distance: u32,

@@ -14,10 +14,11 @@ use hdr_counts::Counts;
 use hdr_model::AdditionError;
 
 impl<T: Counter> Histogram<T> {
-    /// Adds what another histogram counted. An empty one changes nothing. Where its `max` is past the reach the bins grow
-    /// to it, or the call is refused; a refusal changes nothing. With equal bins counters are added, and an empty target
-    /// takes total and marks too; else each nonempty class is recorded at its lowest value, and the top mark's class with
-    /// the count 0.
+    /// Adds the samples of another histogram; an empty one changes nothing. Where its `max` has no bin the bins grow, and `max`
+    /// becomes `high`; where they may not grow the call is refused. A refusal changes nothing.
+    ///
+    /// With equal bins counters are added, and an empty target takes the source's total and marks. Else each nonempty class is
+    /// recorded at its lowest value, and the top mark's class with the count 0.
     pub fn add(&mut self, source: &Histogram<T>) -> Result<(), AdditionError>
         ensures ok { OnOk result (self.new ≡ after_add T.greatest self.old source.now) }
         ensures samples { OnOk result ((L : List ℕ) → StandsFor source.now L → IsFiner

@@ -13,7 +13,8 @@ use hdr_base::Counter;
 use hdr_model::RecordError;
 
 impl<T: Counter> Histogram<T> {
-    /// Records a value once.
+    /// Records a value once, in the caller's unit. Refused past the bins where the histogram does not grow, or when memory
+    /// runs out; a refusal changes nothing.
     #[inline(always)]
     pub fn record(&mut self, value: u64) -> Result<(), RecordError>
         ensures ok { OnOk result (self.new ≡ after_record T.greatest self.old value 1) }

@@ -39,8 +39,8 @@ impl<T: Counter> Histogram<T> {
         capped_total(self.counts.sum_to(to) - before)
     }
 
-    /// The share of the samples in a value's class or before it: the sum of the counters up to its bin, or the last where
-    /// the value lies past the bins, over `len`. 1 of 1 where there are no samples.
+    /// The share of the samples that lie in a value's class or below it: the sum of the counters up to its bin, over `len`.
+    /// A value past the bins counts as one of the last bin. 1/1 where there are no samples.
     pub fn quantile_below(&self, value: u64) -> Fraction
         ensures value { result ≡ share_below self.now value }
         ensures samples { (S : List ℕ) → StandsFor self.now S → 0 < length S

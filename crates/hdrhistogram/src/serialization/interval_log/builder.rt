@@ -95,8 +95,7 @@ impl IntervalLogWriterBuilder {
         self
     }
 
-    /// Sets the divisor by which greatest values are divided before they are written, 1 if it is not set. The last call
-    /// counts.
+    /// Sets the divisor, at least 1, of the greatest values in the log; 1 if it is not set. The last call counts.
     pub fn with_max_value_divisor(&mut self, divisor: u64) -> &mut Self
         requires { 0 < divisor }
         ensures same { result.ghost_name ≡ self.entry.ghost_name }

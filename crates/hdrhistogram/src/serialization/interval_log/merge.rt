@@ -73,12 +73,12 @@ pub enum MergeError {
     OutOfMemory,
 }
 
-/// Adds the histograms of a log's chosen intervals, in order, to an empty one of so many digits that grows. Intervals are
+/// Adds the histograms of a log's chosen intervals, in order, to an empty one of `sigfig` digits that grows. Intervals are
 /// decoded for counters of 64 bits, and their numbers are added whole. One that is not chosen is not decoded, and what
 /// follows a histogram in its field is not looked at.
 ///
-/// Digits above 5 are refused first. Then the lines go in order, and the first fault decides. Running out of memory is
-/// `OutOfMemory`, a cause's too.
+/// Digits above 5 are refused first. Then the lines go in order, and the first fault decides. When memory runs out the answer
+/// is `OutOfMemory`, also while a histogram is decoded.
 pub fn merge_log<T: Counter>(
     alloc: Global,
     log: &[u8],

@@ -47,7 +47,8 @@ pub(crate) fn write_text<W: Write, E>(
 impl<'a, 'b, W: Write, S: Serializer> IntervalLogWriter<'a, 'b, W, S> {
     ghost use Rattle.hdrhistogram.specs.LogWriters.{sink, maker, divisor_of, IsSameLog};
 
-    /// A writer that goes on with a log, whose greatest values are divided by this divisor. It writes nothing.
+    /// A writer that continues a log. Greatest values are divided by the divisor, which is at least 1. It writes nothing
+    /// itself, not even the divisor's header.
     pub fn new(
         alloc: Global,
         writer: &'a mut W,
@@ -87,9 +88,12 @@ impl<'a, 'b, W: Write, S: Serializer> IntervalLogWriter<'a, 'b, W, S> {
         write_text(self.writer, &text)
     }
 
-    /// Writes the interval of a histogram: its tag, when it began and how long it was, its greatest value, and its bytes.
-    /// A time whose seconds do not fit 64 bits is told first, then the histogram is serialized, and then the line is built
-    /// whole and written: after an i/o error a beginning of it stands in the writer, and any other refusal wrote nothing.
+    /// Writes one interval: its tag, its start, its duration, its greatest value over the divisor, and its bytes in Base64.
+    /// The start counts from the log's base time, or from the epoch where there is none. Times are rounded to milliseconds,
+    /// and the greatest value to thousandths.
+    ///
+    /// A time whose seconds do not fit 64 bits is refused first, then what the serializer refuses. The line is built whole.
+    /// After an i/o error a beginning of it stands in the writer; any other refusal writes nothing.
     pub fn write_histogram<T: Counter>(
         &mut self,
         h: &Histogram<T>,
