@@ -4,9 +4,9 @@
 usage: tools/scale.py [LINES [WORKERS]]
 
 LINES is the number of input lines (100000), and WORKERS how many worker processes run (4). Needs Debian's packages python3-dask and
-python3-distributed, and the programs that make check builds: target/hdr and crates/hdr_gather/out/hdr_gather, or those that HDR and
-HDR_GATHER name. The lines take 9 bytes each in a temporary folder. Prints times in seconds on standard error, and then `equal`, or
-what differs with status 1.
+python3-distributed, and two programs: target/hdr, which make builds, and crates/hdr_gather/out/hdr_gather, which make check builds,
+or those that HDR and HDR_GATHER name. The lines take 9 bytes each in a temporary folder. Prints times in seconds on standard error,
+and then `equal`, or what differs with status 1.
 """
 import difflib
 import os
@@ -95,6 +95,9 @@ def timed(what, run, *words):
 
 
 def main(lines="100000", workers="4"):
+    for program in (HDR, GATHER):
+        if not os.access(program, os.X_OK):
+            sys.exit(f"tools/scale.py: no program {program}")
     with tempfile.TemporaryDirectory() as room:
         path = os.path.join(room, "lines")
         with open(path, "wb") as file:
