@@ -1,11 +1,12 @@
 -- What clamping and clearing keep.
-use Rattle.std.proofs.Common.{◌≡◌, ◌≢◌, ℕ, zero, suc, ◌∷◌, ◌++◌, ◌+◌, ◌-◌, ◌^◌, ◌<◌, ◌≤◌, Bool, true, false, cond, eqb, ltb, None, Some, List, [], length, get_or, replicate, refl, sym, ap, ◌∙◌, arith, inl, inr}
+use Rattle.std.proofs.Common.{◌≡◌, ◌≢◌, ℕ, zero, suc, ◌∷◌, ◌++◌, ◌+◌, ◌-◌, ◌^◌, ◌<◌, ◌≤◌, Bool, true, false, cond, eqb, ltb, None, Some, List, [], length, get_or, replicate, sum, refl, sym, ap, ◌∙◌, arith, inl, inr}
 use Rattle.std.specs.Prelude.{◌||◌}
 use Rattle.std.proofs.lemmas.Bool.Decides.{nat_tests}
 use Rattle.std.proofs.lemmas.Bool.{cases_lt}
 use Rattle.std.proofs.lemmas.List.{length-replicate, length-append}
 use Rattle.std.proofs.lemmas.List.Elements.{All-replicate, All-nil}
 use Rattle.std.proofs.lemmas.List.Folds.{sum_by-replicate}
+use Rattle.std.proofs.lemmas.List.Sums.{sum_by-cons}
 use Rattle.hdr_base.specs.Classes.{grain_of, top_of, value_of, bins_to}
 use Rattle.hdr_base.proofs.ClassesReach.{reach-holds}
 use Rattle.hdr_model.specs.Plain.{Plain, IsPlain, grain, reach, empty_plain, max_of, min_nz_of, min_of}
@@ -36,6 +37,19 @@ IsPlain-cleared greatest h p = record {
 pub cleared-parts : (h : Plain) (counts : List ℕ) → counts ≡ replicate (length h.counts) 0 → record h { counts = counts; total = 0 } ≡ after_clear h
 unfolding after_clear
 cleared-parts h counts e = rw e refl
+
+zeros-all : (ns : List ℕ) → sum ns ≡ 0 → ns ≡ replicate (length ns) 0
+zeros-all [] e = refl
+zeros-all (n ∷ ns) e =
+    let s = sum_by-cons (λ m. m) n ns in
+    let first : n ≡ 0 = omega (arith, s) in
+    ap (λ m. m ∷ ns) first ∙ ap (λ l. 0 ∷ l) (zeros-all ns (omega (arith, s)))
+
+-- where nothing is counted there is nothing to clear
+pub cleared-none : (greatest : ℕ) (h : Plain) → IsPlain greatest h → h.total ≡ 0 → h ≡ after_clear h
+cleared-none greatest h p none =
+    let same : h ≡ record h { counts = h.counts; total = 0 } = ap (λ t. record h { counts = h.counts; total = t }) none in
+    same ∙ cleared-parts h h.counts (zeros-all h.counts (p.empty none))
 
 pub IsPlain-unmarked : (greatest : ℕ) (h k : Plain) → k ≡ after_clear h → IsPlain greatest k → IsPlain greatest (record k { top_mark = None; lower_mark = None })
 unfolding after_clear

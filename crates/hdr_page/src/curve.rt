@@ -81,12 +81,17 @@ fn points(
     Ok(points)
 }
 
-/// Adds the marks of shares that stand in the field.
+/// Adds the marks of shares that stand in the field, but for those whose labels would touch.
 fn push_marks(text: &mut String, right: u64) -> Result<(), AllocError> {
+    let mut next = 0;
     for (one_in, label) in &MARKS {
         let place = logarithm(u128::from(*one_in) * ONE);
         if place <= right {
-            push_mark(text, along(place, right, WIDTH), *label)?;
+            let x = along(place, right, WIDTH);
+            if x >= next {
+                push_mark(text, x, *label)?;
+                next = x + 100;
+            }
         }
     }
     Ok(())

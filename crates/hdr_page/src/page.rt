@@ -10,13 +10,16 @@ use hdrhistogram::serialization::interval_log::Tag;
 use std::alloc::{AllocError, Global};
 
 const HEAD: &str = "<!DOCTYPE html>
-<html lang=\"en\"><head><meta charset=\"utf-8\"><title>Interval log</title><style>
-body { font-family: sans-serif; max-width: 60em; margin: auto; }
-svg { width: 100%; font-size: 12px; text-anchor: middle; } .left { text-anchor: end; }
+<html lang=\"en\"><head><meta charset=\"utf-8\"><meta name=\"viewport\" content=\"width=device-width\"><title>Interval log</title><style>
+body { font-family: sans-serif; max-width: 60em; margin: auto; padding: 0 0.5em; overflow-wrap: anywhere; }
+td, th { text-align: right; padding: 0 1em; } td:first-child, th:first-child { text-align: left; }
+table { display: block; overflow-x: auto; } td, th { overflow-wrap: normal; }
+td:first-child { overflow-wrap: anywhere; min-width: 6em; }
+svg { width: 100%; font-size: 12px; text-anchor: middle; } .left { text-anchor: end; } .most { text-anchor: start; }
+@media (max-width: 45em) { svg { font-size: 18px; } table { font-size: 80%; } td, th { padding: 0 0.3em; } }
 rect { fill: none; stroke: #888; } polyline { fill: none; stroke-width: 2; } .mark { stroke: #ddd; }
 .c0 { stroke: #06c; color: #06c; } .c1 { stroke: #0a0; color: #0a0; } .c2 { stroke: #e80; color: #e80; }
 .c3 { stroke: #c00; color: #c00; } .c4 { stroke: #808; color: #808; } .c5 { stroke: #555; color: #555; }
-td, th { text-align: right; padding: 0 1em; } td:first-child, th:first-child { text-align: left; }
 </style></head><body>
 <h1>Interval log</h1>
 ";

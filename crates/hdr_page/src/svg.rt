@@ -11,7 +11,7 @@ pub(crate) const HEIGHT: u64 = 280;
 
 pub(crate) const LEFT: u64 = 110;
 
-pub(crate) const TOP: u64 = 15;
+pub(crate) const TOP: u64 = 30;
 
 /// How far a value is along a length that ends at the greatest value, rounded down. A greater one is at its end.
 pub(crate) fn along(value: u64, most: u64, length: u64) -> u64
@@ -30,7 +30,7 @@ pub(crate) struct Point {
     pub y: u64,
 }
 
-/// Begins a drawing with its field, where the greatest value and 0 stand at its left side.
+/// Begins a drawing with its field, where the greatest value stands above its left side, and 0 beside it.
 pub(crate) fn push_begin(text: &mut String, most: u64) -> Result<(), AllocError> {
     let bottom = TOP + HEIGHT;
     write!(
@@ -39,7 +39,7 @@ pub(crate) fn push_begin(text: &mut String, most: u64) -> Result<(), AllocError>
     )?;
     writeln!(
         text,
-        "<text class=\"left\" x=\"100\" y=\"25\">{most}</text><text class=\"left\" x=\"100\" y=\"{bottom}\">0</text>"
+        "<text class=\"most\" x=\"{LEFT}\" y=\"22\">{most}</text><text class=\"left\" x=\"100\" y=\"{bottom}\">0</text>"
     )
 }
 
@@ -54,7 +54,7 @@ pub(crate) fn push_mark(text: &mut String, x: u64, label: &str) -> Result<(), Al
     let bottom = TOP + HEIGHT;
     writeln!(
         text,
-        "<path class=\"mark\" d=\"M{x} {TOP}V{bottom}\"/><text x=\"{x}\" y=\"315\">{label}</text>"
+        "<path class=\"mark\" d=\"M{x} {TOP}V{bottom}\"/><text x=\"{x}\" y=\"334\">{label}</text>"
     )
 }
 
@@ -65,6 +65,11 @@ pub(crate) fn push_line(
     colour: usize,
 ) -> Result<(), AllocError> {
     write!(text, "<polyline class=\"c{colour}\" points=\"")?;
+    // A single point is a level line.
+    if points.len() == 1 {
+        let y = TOP + HEIGHT - points[0].y.min(HEIGHT);
+        write!(text, "{LEFT},{y} ")?;
+    }
     for point in points {
         let x = LEFT + point.x.min(WIDTH);
         let y = TOP + HEIGHT - point.y.min(HEIGHT);

@@ -104,10 +104,13 @@ impl<T: Counter> Histogram<T> {
         }
     }
 
-    /// Forgets what was recorded, and keeps the marks, the bins and the bounds.
+    /// Forgets what was recorded, and keeps the marks, the bins and the bounds. Where nothing is counted it costs a comparison.
     pub fn clear(&mut self)
         ensures { self.new ≡ after_clear self.old }
     {
+        if self.total == 0 {
+            return;
+        }
         self.counts.clear();
         self.total = 0;
     }

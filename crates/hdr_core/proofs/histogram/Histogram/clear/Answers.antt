@@ -3,8 +3,13 @@ use Rattle.hdr_counts.specs.Blocks.{Blocks}
 use Rattle.hdr_core.specs.Shown.{plain_of}
 use Rattle.hdr_model.specs.Plain.{Plain}
 use Rattle.hdr_model.specs.Recording.{after_clear}
-use Rattle.hdr_model.proofs.RecordingClears.{cleared-parts, IsPlain-cleared}
+use Rattle.hdr_model.proofs.RecordingClears.{cleared-parts, cleared-none, IsPlain-cleared}
 use Rattle.hdr_core.proofs.histogram.Histogram.clear.Goals as goal
+
+pub returns-then-self-eq0 : goal.returns-then-self-eq0
+returns-then-self-eq0 g c =
+    let h = plain_of c.self.inside in
+    rw (← c.self.view_is) (cleared-none g.T.Counter.greatest h c.self.invariant.plain c.if-self-eq0.true)
 
 pub invariant_of-self : goal.invariant_of-self
 invariant_of-self g c =
