@@ -107,8 +107,7 @@ loop-k-preserved g c =
     let k = c.loop-k.k in
     let p = group-of s.block c.args.group k c.len.result (map n xs) s.sums.items c.self.invariant.sums_are c.requires.group (rw (← c.self.view_is) at c.requires.groups) (omega (arith, c.len.ensures, s.sums.ok.0)) c.loop-k-test.true in
     let read = group-sum-read c.args.group k (k * c.args.group + c.args.group - k * c.args.group) s.sums.items c.deref.result.now c.deref.ensures.value (omega arith) in
-    let step = p.sums.each k p.inside in
-    (
+    let step = p.sums.each k p.inside in (
       omega (arith, step, p.own, read, c.sum_of_sums.ensures, c.look-sum.ensures.value, c.from.ensures, c.if-sum-from.false, c.loop-k.invariant.0),
       omega (arith, c.look-sum.ensures.value, c.from.ensures, c.if-sum-from.false),
       omega (arith, c.look-sum.ensures.tick, c.loop-k.invariant.2),
