@@ -1,7 +1,7 @@
 use Rattle.std.proofs.Common.{◌≡◌, ◌≤◌, ◌∙◌, sym, subst, arith}
 use Rattle.std.proofs.lemmas.Bool.Decides.{nat_tests}
 use Rattle.hdr_base.specs.Classes.{unit_of}
-use Rattle.hdr_base.proofs.Digits.{finer-by}
+use Rattle.hdr_base.proofs.ClassesDigits.{finer-by}
 use Rattle.hdr_gather.proofs.sum.is_finer.Goals as goal
 
 pub returns-then-low : goal.returns-then-low
