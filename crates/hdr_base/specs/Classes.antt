@@ -79,10 +79,10 @@ pub record IsFiner (f g : Grain) : Type 0 where
   pub unit : f.unit ≤ g.unit
   pub digits : g.digits ≤ f.digits
 
--- a block is half as many classes as the first bucket has. A sum is kept of each 2 ^ part_digits bins: those of a block, or of
--- a part of it where blocks are long (no item of the Rust crate, which keeps no sums)
-abbrev pub part_digits : ℕ → ℕ
-part_digits digits = min (digits - 1) (digits / 2 + 3)
+-- a block is half as many classes as the first bucket has. A sum is kept of each 2 ^ section_digits bins: those of a block, or of
+-- a section of it where blocks are long (no item of the Rust crate, which keeps no sums)
+abbrev pub section_digits : ℕ → ℕ
+section_digits digits = min (digits - 1) (digits / 2 + 3)
 
 -- how many bins the largest histogram has: 5 digits over all values are 48 blocks of 131,072 (`new_with_bounds`)
 abbrev pub most_bins : ℕ

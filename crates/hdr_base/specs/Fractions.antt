@@ -1,4 +1,4 @@
--- Fractions, as their two numbers.
+-- Fractions, as their two numbers. (The Rust crate has `f64`: a quantile asked for, and shares that are told.)
 use Rattle.std.specs.Prelude.{ℕ}
 
 -- the share num / den of the samples

@@ -1,3 +1,2 @@
-pub mod RunsFacts
 pub mod CallsFacts
 pub mod IteratingFacts

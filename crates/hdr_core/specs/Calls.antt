@@ -1,4 +1,5 @@
--- What calls do, by numbers and by samples.
+-- What calls do, by numbers and by samples. (Each case is the documentation of that call of the Rust crate; calls as values
+-- are our own.)
 use Rattle.std.specs.Prelude.{◌≡◌, ◌⊎◌, ℕ, ◌^◌, ◌<◌, List, [], ◌∷◌, ◌++◌, replicate, Result, Ok, Err}
 use Rattle.hdr_base.specs.Classes.{Grain, reach_of}
 use Rattle.hdr_model.specs.Plain.{Plain, IsPlain, max_of}

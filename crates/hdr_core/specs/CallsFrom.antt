@@ -1,4 +1,5 @@
--- What calls do whose sources may count in another type, by numbers and by samples.
+-- What calls do whose sources may count in another type, by numbers and by samples. (Our own, as `add_from` is: in the Rust
+-- crate a source counts in the same type.)
 use Rattle.std.specs.Prelude.{◌≡◌, ◌⊎◌, ℕ, List}
 use Rattle.hdr_base.specs.Classes.{Grain}
 use Rattle.hdr_model.specs.Plain.{Plain, max_of}

@@ -1,4 +1,4 @@
--- What the iterators see of a histogram.
+-- What the iterators see of a histogram. (Our own: the Rust crate's iterators hold the histogram.)
 use Rattle.std.specs.Prelude.{unwrap_or}
 use Rattle.hdr_model.specs.Plain.{Plain, grain}
 use Rattle.hdr_iterators.specs.Seen.{Seen}

@@ -49,6 +49,7 @@ pub struct RunError {
 
 impl<T: Counter> Histogram<T> {
     /// Does one call, and refuses just what that call refuses. A refusal changes nothing.
+    #[inline(always)]
     pub fn apply(&mut self, call: &Call<'_, T>) -> Result<(), CallError>
         ensures ok { OnOk result (self.new ≡ after_call T.greatest T.number call.now self.old) }
         ensures same_classes { grain self.new ≡ grain self.old }

@@ -73,7 +73,7 @@ impl<T: Counter> Histogram<T> {
             × IsBounds low high sigfig) (RefusesBounds low high sigfig) }
     {
         let scale = scale_for(low, high, sigfig)?;
-        let Ok(counts) = Counts::new(alloc, scale.parts(high), scale.part()) else {
+        let Ok(counts) = Counts::new(alloc, scale.sections(high), scale.section()) else {
             return Err(CreationError::OutOfMemory);
         };
         Ok(Histogram {

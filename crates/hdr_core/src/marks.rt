@@ -28,7 +28,7 @@ impl Model for Marks {
 
 impl Marks {
     /// No marks.
-    #[tactic(auto, unfolding(hdr_model::specs::Marks::top_by))]
+    #[tactic(auto, unfolding(hdr_model::specs::Marks::top_by, hdr_model::specs::Marks::lower_by))]
     pub(crate) fn none() -> Marks
         ensures { result ≡ record { top = None; lower = None } }
     {

@@ -1,9 +1,10 @@
 -- The sums of groups of blocks: blocks of a greater length.
-use Rattle.std.proofs.Common.{◌≡◌, ℕ, ◌+◌, ◌*◌, ◌/◌, ◌%◌, ◌^◌, ◌<◌, ◌≤◌, zero, suc, List, [], ◌∷◌, length, get_or, take, drop, sum, refl, sym, ap, ◌∙◌, subst, arith}
+use Rattle.std.proofs.Common.{◌≡◌, ℕ, ◌+◌, ◌-◌, ◌*◌, ◌/◌, ◌%◌, ◌^◌, ◌<◌, ◌≤◌, zero, suc, List, [], ◌∷◌, length, get_or, take, drop, map, sum, refl, sym, ap, ◌∙◌, subst, arith}
 use Rattle.std.proofs.Math.Nat.{mul_assoc, mul-le-mul_right, mul-div_cancel}
 use Rattle.std.proofs.lemmas.Nat.{div-add-mod'}
 use Rattle.hdr_counts.specs.Blocks.{AreSums, sum_below}
-use Rattle.hdr_counts.proofs.BlocksSums.{sum_below-add, sum_below_more, sum_below-le-sum, sum_below_all, sum-fits, blocks_more}
+use Rattle.hdr_counts.proofs.BlocksBounds.{block-within, block-end-fits}
+use Rattle.hdr_counts.proofs.BlocksSums.{sum_below-add, sum_below_more, sum_below-le-sum, sum_below_all, sum-fits, blocks_more, block-sum-read}
 
 -- f of each of n numbers from k on
 each_of : (ℕ → ℕ) → ℕ → ℕ → List ℕ
@@ -79,32 +80,43 @@ whole-groups b g ns ss h some whole =
     let number : length ss / g ≡ q = ap (λ m. m / g) same ∙ mul-div_cancel q {n = g} some in
     (same ∙ ap (λ m. m * g) (sym number), sym number)
 
--- group k: the sums of all groups, and its own
-pub record IsGroup (b g k : ℕ) (ns ss : List ℕ) : Type 0 where
-  pub sums : AreSums (g * b) ns (groups g (length ss / g) ss)
+-- group k: the sums of all groups, its own, and its place
+pub record IsGroup {X : Type 0} (f : X → ℕ) (xs : List X) (b g k : ℕ) (ss : List ℕ) : Type 0 where
+  pub sums : AreSums (g * b) (map f xs) (groups g (length ss / g) ss)
   pub inside : k < length (groups g (length ss / g) ss)
   pub own : get_or (groups g (length ss / g) ss) k 0 ≡ sum (take g (drop (k * g) ss))
+  pub fits : sum (take g (drop (k * g) ss)) < 2 ^ 128
+  pub within : k * (g * b) + g * b ≤ length xs
+  pub end_fits : k * (g * b) + g * b < 2 ^ 64
 
-pub group-of : (b g k len : ℕ) (ns ss : List ℕ) → AreSums b ns ss → 1 ≤ g → length ns % (g * b) ≡ 0 → len ≡ length ss → k < len / g → IsGroup b g k ns ss
-group-of b g k len ns ss h some whole size lt =
-    let inside : k < length ss / g = subst (λ m. k < m / g) size lt in
+pub group-of : {X : Type 0} (f : X → ℕ) (xs : List X) (b g k len : ℕ) (ss : List ℕ) → AreSums b (map f xs) ss → 1 ≤ g → length (map f xs) % (g * b) ≡ 0 → len ≡ length ss → k < len / g → IsGroup f xs b g k ss
+group-of f xs b g k len ss h some whole size lt =
+    let w = g * b in
+    let n = length ss / g in
+    let inside : k < n = subst (λ m. k < m / g) size lt in
+    let sums = AreSums-groups b g n (map f xs) ss h some (whole-groups b g (map f xs) ss h some whole).0 in
+    let at : k < length (groups g n ss) = omega (arith, inside, groups-length g n ss) in
+    let own = groups-at g n ss k inside in
     record {
-      sums = AreSums-groups b g (length ss / g) ns ss h some (whole-groups b g ns ss h some whole).0;
-      inside = omega (arith, inside, groups-length g (length ss / g) ss);
-      own = groups-at g (length ss / g) ss k inside;
+      sums = sums;
+      inside = at;
+      own = own;
+      fits = omega (arith, sums.each k at, sum_below-le-sum (map f xs) ((k + 1) * w), sum-fits (map f xs) h.few h.fits, own);
+      within = block-within f xs w k (groups g n ss) sums at;
+      end_fits = block-end-fits f xs w k (groups g n ss) sums at;
     }
 
 -- the sum of a group's sums, as they were read
 pub group-sum-read : (g k w : ℕ) (ss r : List ℕ) → r ≡ ss → w ≡ g → sum (take w (drop (k * g) r)) ≡ sum (take g (drop (k * g) ss))
 group-sum-read g k w ss r same wide = ap (λ v. sum (take v (drop (k * g) r))) wide ∙ ap (λ q. sum (take g (drop (k * g) q))) same
 
--- it fits the type of sums
-pub group-sum-fits : (b g k : ℕ) (ns ss : List ℕ) → IsGroup b g k ns ss → sum (take g (drop (k * g) ss)) < 2 ^ 128
-group-sum-fits b g k ns ss p =
-    let step = p.sums.each k p.inside in
-    let most = sum_below-le-sum ns ((k + 1) * (g * b)) in
-    let fits = sum-fits ns p.sums.few p.sums.fits in
-    omega (arith, step, most, fits, p.own)
+-- where a group's sum reaches what is left of a rank, its counters do
+pub none-found : {X : Type 0} (f : X → ℕ) (xs l : List X) (ss : List ℕ) (b g k r s rest : ℕ) → IsGroup f xs b g k ss → l ≡ xs → r ≡ sum (take g (drop (k * g) ss)) → s ≡ r → rest ≤ s
+    → sum (map f (take (k * (g * b) + g * b - k * (g * b)) (drop (k * (g * b)) l))) < rest → ⊥
+none-found f xs l ss b g k r s rest p read r_is s_is le lt =
+    let w = g * b in
+    let all = groups g (length ss / g) ss in
+    omega (arith, block-sum-read f xs l w k (k * w + w - k * w) all all p.sums p.inside refl read (omega arith), p.own)
 
 -- after the last group there is nothing left
 pub groups-end : (b g k len : ℕ) (ns ss : List ℕ) → AreSums b ns ss → 1 ≤ g → length ns % (g * b) ≡ 0 → len ≡ length ss → k ≤ len / g → len / g ≤ k → (sum_below ns (k * (g * b)) ≡ sum ns) × (k ≡ length ns / (g * b))

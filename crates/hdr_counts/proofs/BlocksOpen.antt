@@ -7,6 +7,7 @@ use Rattle.std.proofs.lemmas.List.Elements.{All-nil, All-append, All-replicate, 
 use Rattle.hdr_base.specs.Classes.{most_bins}
 use Rattle.hdr_counts.specs.Blocks.{sum_below, AreSums, AreOpen, IsShift, with_zeros}
 use Rattle.hdr_counts.proofs.BlocksSums.{AreSums-set, AreSums-grow, part_whole}
+use Rattle.hdr_counts.proofs.BlocksWritten.{AreRead, number-read, are-read}
 
 -- no number is above the greatest that a counter may have
 pub fit-all : (greatest : ℕ) (ns : List ℕ) → greatest ≤ 18446744073709551615 → All (λ n. n ≤ greatest) ns → All (λ n. n ≤ 18446744073709551615) ns
@@ -104,6 +105,15 @@ open-set greatest b len capacity ns ss shift late i v h kept lt fits most =
       shift_is = h.shift_is;
       fit = All-set (λ n. n ≤ greatest) ns i v fits h.fit;
     }
+
+-- a number at hand and the sum of its block, as they were read
+pub open-read : {X : Type 0} (f : X → ℕ) (xs : List X) (greatest b len capacity i k x s : ℕ) (counter : X) (ss : List ℕ) (shift : Option ℕ) (late : Bool) → AreOpen greatest b len capacity (map f xs) ss shift late → late ≡ false → i < length (map f xs)
+    → counter ≡ get_or xs i counter → x ≡ f counter → k ≡ i / b → s ≡ get_or ss k s → AreRead b i x s (with_zeros (map f xs) len) ss
+open-read f xs greatest b len capacity i k x s counter ss shift late h kept lt is x_is k_is s_is =
+    let all = with_zeros (map f xs) len in
+    let inside : i < length all = omega (arith, length-with-zeros (map f xs) len h.within, h.within) in
+    let old = number-read f xs i x counter lt is x_is in
+    are-read b i k x s all ss (h.kept kept) inside (old ∙ sym (get-with-zeros (map f xs) len i lt)) k_is s_is
 
 -- the sums of the blocks before k are made
 pub record AreMade (b k : ℕ) (ns ss : List ℕ) : Type 0 where

@@ -10,6 +10,13 @@ number-read f xs i x counter inside is x_is =
     let at : i < length xs = rw length-map at inside in
     x_is ∙ number-at f xs i counter at is
 
+-- a number and the sum of its block, as they were read
+pub record AreRead (b i x s : ℕ) (ns ss : List ℕ) : Type 0 where
+  pub within : x ≤ s
+  pub small : s < 2 ^ 127
+  -- the sum that is written
+  pub next : (new next : ℕ) → next ≡ s - x + new → get_or ss (i / b) 0 - get_or ns i 0 + new ≡ next
+
 module _ (b i k x s : ℕ) (ns ss : List ℕ) (sums : AreSums b ns ss) (inside : i < length ns) (x_is : x ≡ get_or ns i 0) (k_is : k ≡ i / b) (s_is : s ≡ get_or ss k s) where
   its-block : i / b < length ss
   its-block = block_in b i (length ss) sums.some (omega (arith, inside, sums.whole))
@@ -17,15 +24,12 @@ module _ (b i k x s : ℕ) (ns ss : List ℕ) (sums : AreSums b ns ss) (inside :
   sum-read : s ≡ get_or ss (i / b) 0
   sum-read = get_or_read ss k s (rw k_is its-block) s_is 0 ∙ ap (λ q. get_or ss q 0) k_is
 
-  pub within-sum : x ≤ s
-  within-sum =
+  pub are-read : AreRead b i x s ns ss
+  are-read =
       let at = block_of b i sums.some in
       let each = sums.each (i / b) its-block in
-      omega (arith, sum-read, x_is, each, number-le-sum_below ns i ((i / b + 1) * b) at.1 inside, sum_below-le ns (i / b * b) i at.0)
-
-  pub sum-small : s < 2 ^ 127
-  sum-small = omega (arith, sum-read, sums.each (i / b) its-block, sum-fits ns sums.few sums.fits, sum_below-le-sum ns ((i / b + 1) * b))
-
-  -- the sum that is written
-  pub sum-next : (new next : ℕ) → next ≡ s - x + new → get_or ss (i / b) 0 - get_or ns i 0 + new ≡ next
-  sum-next new next is = omega (arith, sum-read, x_is, is)
+      record {
+        within = omega (arith, sum-read, x_is, each, number-le-sum_below ns i ((i / b + 1) * b) at.1 inside, sum_below-le ns (i / b * b) i at.0);
+        small = omega (arith, sum-read, each, sum-fits ns sums.few sums.fits, sum_below-le-sum ns ((i / b + 1) * b));
+        next = λ new next is. omega (arith, sum-read, x_is, is);
+      }

@@ -3,7 +3,7 @@
 use Rattle.std.specs.Prelude.{◌≡◌, ℕ, Bool, false, ◌+◌, ◌-◌, ◌*◌, ◌/◌, ◌%◌, ◌^◌, ◌<◌, ◌≤◌, min, List, ◌∷◌, ◌++◌, length, replicate, take, sum, slice_index, All, Option, Some, None, IfSome}
 use Rattle.hdr_base.specs.Classes.{most_bins}
 
--- how many numbers a sum is of (a part of a block, in the words of `Scale`), and all numbers in order
+-- how many numbers a sum is of (a section of a block, in the words of `Scale`), and all numbers in order
 pub record Blocks : Type 0 where
   pub block : ℕ
   pub numbers : List ℕ

@@ -1,11 +1,12 @@
 -- Sums of one field more.
-use Rattle.std.proofs.Common.{◌≡◌, ℕ, ◌^◌, ◌<◌, List, [], ◌∷◌, ◌++◌, length, length-append, true, refl, sym, ap, subst, ◌∙◌, arith, map, take, get_or, ◌+◌}
+use Rattle.std.proofs.Common.{◌≡◌, ℕ, ◌-◌, ◌^◌, ◌<◌, List, [], ◌∷◌, ◌++◌, length, length-append, true, refl, sym, ap, subst, ◌∙◌, arith, map, take, get_or, ◌+◌}
 use Rattle.std.specs.List.{AllZip}
 use Rattle.std.proofs.lemmas.List.{append_assoc, append-nil, map_more}
 use Rattle.hdr_model.specs.Plain.{Plain, reach}
 use Rattle.hdr_model.specs.Samples.{StandsFor}
 use Rattle.hdr_model.specs.Joining.{joined_samples}
-use Rattle.hdr_gather.specs.Sums.{IsJoined, IsHeldIn, IsGrowing, IsSumOf}
+use Rattle.hdrhistogram.specs.FieldRead.{IsHeldIn}
+use Rattle.hdr_gather.specs.Sums.{IsJoined, IsGrowing, IsSumOf}
 
 -- growing is no matter of samples
 pub stands_growing : (h : Plain) (S : List ℕ) → StandsFor h S → StandsFor (record h { auto_resize = true }) S
@@ -51,7 +52,7 @@ sum_of_one field h growing =
     front_is_none [] z last = refl
     front_is_none (L ∷ front) z last = absurd z
 
-held_push : (fields : List (List ℕ)) (hs : List Plain) (field : List ℕ) (h : Plain) → AllZip IsHeldIn fields hs → IsHeldIn field h → AllZip IsHeldIn (fields ++ field ∷ []) (hs ++ h ∷ [])
+held_push : (fields : List (List ℕ)) (hs : List Plain) (field : List ℕ) (h : Plain) → AllZip (IsHeldIn (2 ^ 64 - 1)) fields hs → IsHeldIn (2 ^ 64 - 1) field h → AllZip (IsHeldIn (2 ^ 64 - 1)) (fields ++ field ∷ []) (hs ++ h ∷ [])
 held_push [] [] field h z last = (last, tt)
 held_push [] (k ∷ hs) field h z last = absurd z
 held_push (f ∷ fields) [] field h z last = absurd z

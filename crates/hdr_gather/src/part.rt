@@ -25,13 +25,9 @@ pub(crate) struct Part<'a> {
 }
 
 impl<'a> Part<'a> {
-    /// What intervals have in common that are merged: when they begin, and the text of their tag.
-    pub(crate) fn key(&self) -> (u64, Option<&'a str>) {
-        let tag = match self.tag {
-            Some(tag) => Some(tag.as_str()),
-            None => None,
-        };
-        (self.start, tag)
+    /// What intervals have in common that are merged: when they begin, and their tag.
+    pub(crate) fn key(&self) -> (u64, Option<Tag<'a>>) {
+        (self.start, self.tag)
     }
 }
 

@@ -1,4 +1,5 @@
--- What an iterator over a histogram gives: picks of bins_in, and the items that they make.
+-- What an iterator over a histogram gives: picks of bins, and the items that they make. (`PickMetadata` and
+-- `IterationValue`; the Rust crate's `HistogramIterator` tells of them step by step, here they are lists.)
 use Rattle.std.specs.Prelude.{◌≡◌, ℕ, ◌+◌, ◌-◌, ◌<◌, ◌≤◌, List, [], ◌∷◌, slice_index, Option, Some, None, unwrap_or}
 use Rattle.hdr_base.specs.Fractions.{Ratio}
 use Rattle.hdr_base.specs.Items.{Item}

@@ -1,4 +1,4 @@
--- A histogram as its iterators see it.
+-- A histogram as its iterators see it. (The Rust crate's iterators hold the histogram itself; these stand below it.)
 use Rattle.std.specs.Prelude.{◌≡◌, ℕ, ◌+◌, ◌-◌, ◌*◌, ◌^◌, ◌<◌, ◌≤◌, min, List, length, take, sum, slice_index}
 use Rattle.hdr_base.specs.Classes.{most_bins, Grain, bin_of, value_of, top_of}
 

@@ -1,4 +1,4 @@
--- Where the picker of ticks stands.
+-- Where the picker of ticks stands. (The fields of the Rust crate's `quantile::Iter`, there in floating point.)
 use Rattle.std.specs.Prelude.{◌≡◌, ℕ, ◌+◌, ◌<◌, ◌≤◌, [], ◌∷◌, drop, slice_index, Option, MatchOption, Bool, true, false, nat_le, if◌then◌else◌, ◌⊎◌}
 use Rattle.hdr_iterators.specs.Seen.{Seen, AreBins, capped, below}
 use Rattle.hdr_iterators.specs.Picks.{bin_after}

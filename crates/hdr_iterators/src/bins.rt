@@ -1,7 +1,7 @@
 //! The bins of a histogram, as its iterators see them.
 
 ghost use Rattle.std.specs.Prelude.{◌≡◌, ℕ, ◌^◌, ◌<◌, ◌≤◌, map, slice_index};
-ghost use Rattle.hdr_base.specs.Classes.{part_digits};
+ghost use Rattle.hdr_base.specs.Classes.{section_digits};
 ghost use Rattle.hdr_iterators.specs.Seen.{Seen, AreBins, AreEmpty, TellEmpty, bins_in, top_in, place_of};
 
 use crate::passing::first_in_block;
@@ -24,7 +24,7 @@ pub trait Binned<T: Counter> {
 pub struct Bins<'a, T: Counter> {
     scale: Scale,
     counters: &'a [T],
-    /// The sums of the counters part by part, as long as the scale's parts of a block: they tell where there is nothing.
+    /// The sums of the counters section by section, as long as the scale's sections of a block: they tell where there is nothing.
     sums: &'a [u128],
     total: u64,
     last: usize,
@@ -32,7 +32,7 @@ pub struct Bins<'a, T: Counter> {
 
 impl<'a, T: Counter> Model for Bins<'a, T> {
     ghost use Rattle.std.specs.Prelude.{◌^◌, map};
-    ghost use Rattle.hdr_base.specs.Classes.{part_digits};
+    ghost use Rattle.hdr_base.specs.Classes.{section_digits};
     ghost use Rattle.hdr_iterators.specs.Seen.{Seen, AreBins, TellEmpty};
 
     ghost Value = { Seen };
@@ -40,11 +40,11 @@ impl<'a, T: Counter> Model for Bins<'a, T> {
     ghost view = { λ b. record { grain = b.scale; numbers = map T.number b.counters.now; total = b.total; last = b.last } };
 
     ghost invariant = { λ b. AreBins (record { grain = b.scale; numbers = map T.number b.counters.now; total = b.total; last = b.last })
-        × TellEmpty (2 ^ part_digits b.scale.digits) (map T.number b.counters.now) b.sums.now };
+        × TellEmpty (2 ^ section_digits b.scale.digits) (map T.number b.counters.now) b.sums.now };
 }
 
 impl<'a, T: Counter> Bins<'a, T> {
-    /// The bins of these classes, from 0 on, and the sums of them in the scale's parts of blocks.
+    /// The bins of these classes, from 0 on, and the sums of them in the scale's sections of blocks.
     pub fn new(
         scale: Scale,
         counters: &'a [T],
@@ -54,7 +54,7 @@ impl<'a, T: Counter> Bins<'a, T> {
     ) -> Bins<'a, T>
         requires bins { AreBins
             (record { grain = scale; numbers = map T.number counters.now; total = total; last = last }) }
-        requires sums { TellEmpty (2 ^ part_digits scale.digits) (map T.number counters.now) sums.now }
+        requires sums { TellEmpty (2 ^ section_digits scale.digits) (map T.number counters.now) sums.now }
         ensures { result ≡ record { grain = scale; numbers = map T.number counters.now; total = total; last = last } }
     {
         Bins {
@@ -117,7 +117,7 @@ impl<'a, T: Counter> Bins<'a, T> {
         counters[bin]
     }
 
-    /// The first bin from one on that holds samples, or how many bins there are. A part whose sum is 0 is passed over.
+    /// The first bin from one on that holds samples, or how many bins there are. A section whose sum is 0 is passed over.
     #[inline(never)]
     pub(crate) fn next_filled(&self, from: usize) -> usize
         requires { from ≤ bins_in self.now }
@@ -128,12 +128,12 @@ impl<'a, T: Counter> Bins<'a, T> {
     {
         let counters = self.counters;
         let sums = self.sums;
-        let part = self.scale.part();
-        let shift = self.scale.part_digits();
+        let section = self.scale.section();
+        let shift = self.scale.section_digits();
         let mut bin = from;
         while bin < counters.len() {
             let k = bin >> shift;
-            let end = (k + 1) * part;
+            let end = (k + 1) * section;
             match first_in_block(&counters[bin..end], sums[k]) {
                 Some(place) => return bin + place,
                 None => bin = end,

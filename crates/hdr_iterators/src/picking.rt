@@ -140,23 +140,16 @@ impl<'a, T: Counter, P: PickyIterator<T>> Iterator for HistogramIterator<'a, T, 
                 self.ended = true;
                 return None;
             }
-            let picked = self
-                .picker
-                .pick(index, self.total_count_to_index, self.count_at_index);
-            if let Some(picked) = picked {
-                let value = value_at(
-                    &self.bins,
-                    index,
-                    self.total_count_to_index,
-                    self.count_at_index,
-                    self.count_since_last_iteration,
-                    picked,
-                );
+            let total = self.total_count_to_index;
+            let counter = self.count_at_index;
+            if let Some(picked) = self.picker.pick(index, total, counter) {
+                let since = self.count_since_last_iteration;
+                let value = value_at(&self.bins, index, total, counter, since, picked);
                 self.count_since_last_iteration = 0;
                 self.last_picked_index = Some(index);
                 return Some(value);
             }
-            let next = next_asked(&self.bins, &self.picker, index, self.count_at_index);
+            let next = next_asked(&self.bins, &self.picker, index, counter);
             if next == len {
                 self.ended = true;
                 return None;

@@ -4,13 +4,13 @@ use Rattle.std.specs.List.{flat_map}
 use Rattle.std.specs.Fmt.{decimal}
 use Rattle.hdr_model.specs.Plain.{Plain}
 use Rattle.hdr_model.specs.Quantiles.{quantile_of}
-use Rattle.hdrhistogram.specs.Chosen.{Filter}
+use Rattle.hdrhistogram.specs.Chosen.{Every, Filter}
 use Rattle.hdrhistogram.specs.LogMerging.{Merges, IsMergedBy}
 use Rattle.hdr_limits.specs.declared.limit.Limit.{Limit}
 
 -- every interval of a log is chosen
 abbrev pub every : Filter
-every = record { tag = None; from = None; to = None }
+every = record { tags = Every; from = None; to = None }
 
 -- the quantile of what was recorded is above the limit
 abbrev pub is_broken : Plain → Limit → Bool
@@ -25,7 +25,8 @@ broken_line h l =
 abbrev pub told : Plain → Limit → List ℕ
 told h l = if is_broken h l then broken_line h l else []
 
--- all intervals of the log are merged, with 3 digits, and a text tells the limits that the sum breaks, in order
-abbrev pub IsVerdict : List ℕ → List Limit → List ℕ → Type 0
-IsVerdict log limits text =
-    (h : Plain) × (chosen : ℕ) × IsMergedBy (λ r. Merges (2 ^ 64 - 1) every 3 log r) h chosen × (text ≡ flat_map (told h) limits)
+-- all intervals of the log are merged, with 3 digits, and a text tells the limits that the sum breaks, in order; how many
+-- intervals there are, and how many of them are coarser than the sum
+abbrev pub IsVerdict : List ℕ → List Limit → List ℕ → ℕ → ℕ → Type 0
+IsVerdict log limits text intervals coarser =
+    (h : Plain) × IsMergedBy (λ r. Merges (2 ^ 64 - 1) every 3 log r) h intervals coarser × (text ≡ flat_map (told h) limits)

@@ -2,7 +2,8 @@
 //!
 //! `hdr_limits NUM/DEN=LIMIT.. <log` is called by a job that runs after a load test or at the end of a day, and that acts on the
 //! status: 0 where each limit is kept, 3 where one is broken, 1 where the log is damaged, 2 for wrong words. Each broken limit is
-//! told on a line `NUM/DEN: VALUE above LIMIT`.
+//! told on a line `NUM/DEN: VALUE above LIMIT`. Intervals that are coarser than their sum are counted on standard error: there a
+//! value may be further from its samples than the digits of the sum promise.
 #![tactic(auto)]
 
 mod limit;
@@ -15,7 +16,7 @@ use std::alloc::Global;
 use std::env;
 use std::io::{ErrorKind, Read};
 use std::process::ExitCode;
-use verdict::broken_limits;
+use verdict::{DIGITS, Verdict, broken_limits};
 
 /// The words of the command line after the program's name; `None` where one is no text.
 fn words_given(rt: &HostRuntime) -> Result<Option<Vec<String>>> {
@@ -36,12 +37,24 @@ fn input(rt: &HostRuntime) -> Result<Vec<u8>> {
 }
 
 /// What is told of the limits of a log, or its fault.
-fn told(alloc: Global, log: &[u8], limits: &[Limit]) -> Result<String> {
+fn told(alloc: Global, log: &[u8], limits: &[Limit]) -> Result<Verdict> {
     match broken_limits(alloc, log, limits) {
-        Ok(text) => Ok(text),
+        Ok(verdict) => Ok(verdict),
         Err(MergeError::Parse { offset }) => bail!("log: parse error at byte {offset}"),
         Err(fault) => Err(fault.into()),
     }
+}
+
+/// Says on standard error how many intervals are coarser than their sum, where some are.
+fn warn(rt: &HostRuntime, verdict: &Verdict) -> Result<()> {
+    let intervals = verdict.intervals;
+    let coarser = verdict.coarser;
+    if coarser > 0 {
+        eprintln!(rt;
+            "hdr_limits: {coarser} of {intervals} intervals coarser than {DIGITS} digits"
+        )?;
+    }
+    Ok(())
 }
 
 /// Judges standard input by the limits of the words, and answers the status.
@@ -57,7 +70,9 @@ fn hdr_limits(rt: &HostRuntime) -> Result<ExitCode> {
         return Ok(ExitCode::from(2));
     };
     let log = input(rt)?;
-    let text = told(alloc, &log, &limits)?;
+    let verdict = told(alloc, &log, &limits)?;
+    warn(rt, &verdict)?;
+    let text = &verdict.text;
     print!(rt; "{text}").context("cannot write the output")?;
     Ok(ExitCode::from(if text.is_empty() { 0 } else { 3 }))
 }

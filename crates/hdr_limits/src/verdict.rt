@@ -7,23 +7,34 @@ ghost use Rattle.hdr_limits.specs.Limits.{every, told, IsVerdict};
 
 use crate::limit::Limit;
 use hdrhistogram::Histogram;
-use hdrhistogram::serialization::interval_log::{IntervalFilter, MergeError, merge_log};
+use hdrhistogram::serialization::interval_log::{IntervalFilter, MergeError, TagChoice, merge_log};
 use std::alloc::{AllocError, Global};
 
 /// The significant digits that the sum of a log keeps.
-const DIGITS: u8 = 3;
+pub(crate) const DIGITS: u8 = 3;
+
+/// What is told of the limits of a log.
+#[derive(Drop)]
+pub(crate) struct Verdict {
+    /// A line for each limit that the sum of its intervals breaks.
+    pub text: String,
+    pub intervals: u64,
+    /// How many intervals are coarser than the sum, so that quantiles may be further from their samples than its digits promise.
+    pub coarser: u64,
+}
 
 /// Merges all intervals of a log, and tells in order which limits the sum breaks. The first fault of the log decides.
 pub(crate) fn broken_limits(
     alloc: Global,
     log: &[u8],
     limits: &[Limit],
-) -> Result<String, MergeError>
-    ensures { MatchResult result (λ text. IsVerdict log.now limits.now (string_bytes text))
+) -> Result<Verdict, MergeError>
+    ensures { MatchResult result (λ verdict. IsVerdict log.now limits.now
+        (string_bytes verdict.text) verdict.intervals verdict.coarser)
         (RefusesMerge (2 ^ 64 - 1) every 3 log.now) }
 {
     let every = IntervalFilter {
-        tag: None,
+        tags: TagChoice::Every,
         from: None,
         to: None,
     };
@@ -32,7 +43,11 @@ pub(crate) fn broken_limits(
         Err(fault) => return Err(fault),
     };
     match broken(alloc, &merged.histogram, limits) {
-        Ok(text) => Ok(text),
+        Ok(text) => Ok(Verdict {
+            text,
+            intervals: merged.chosen,
+            coarser: merged.coarser,
+        }),
         Err(_) => Err(MergeError::OutOfMemory),
     }
 }

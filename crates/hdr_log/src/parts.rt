@@ -92,13 +92,14 @@ pub fn number(text: &[u8]) -> Option<u64>
     let mut value = 0;
     for byte in text {
         let digit = digit(*byte)?;
-        value = appended(value, digit)?;
+        value = append_digit(value, digit)?;
     }
     Some(value)
 }
 
 /// A number with one more decimal digit after it, where that fits.
-fn appended(value: u64, digit: u64) -> Option<u64>
+#[inline]
+pub fn append_digit(value: u64, digit: u64) -> Option<u64>
     requires { digit < 10 }
     ensures { MatchOption result (2 ^ 64 ≤ value * 10 + digit) (λ n. n ≡ value * 10 + digit) }
 {

@@ -5,8 +5,8 @@ ghost use Rattle.std.specs.Option.{option_map};
 ghost use Rattle.std.specs.List.{list_all};
 ghost use Rattle.hdr_log.specs.Grammar.{is_tag, is_tag_byte, only_if};
 
-/// A tag of an interval: a text without comma, CR, LF and space.
-#[derive(Debug, PartialEq, Clone, Copy)]
+/// A tag of an interval: a text without comma, CR, LF and space. Tags are in the order of their texts' bytes.
+#[derive(Debug, PartialEq, Eq, PartialOrd, Ord, Clone, Copy)]
 pub struct Tag<'a> {
     text: &'a str,
     ghost allowed: { is_tag text.now ≡ true },

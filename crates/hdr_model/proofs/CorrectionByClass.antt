@@ -16,7 +16,7 @@ use Rattle.hdr_model.specs.Plain.{Plain, IsPlain, grain, reach}
 use Rattle.hdr_model.specs.Recording.{Times, with_bins_to, with_bins_for, after_add_to_bin, after_record, after_records, high_with}
 use Rattle.hdr_model.specs.Correction.{each_times, classes_held, missing, down_to, after_correct}
 use Rattle.hdr_model.proofs.MergingKeeps.{recorded_each-append}
-use Rattle.hdr_model.proofs.CorrectionFacts.{missing-within, run, length-run, run-within, down_to-split, down_to-within}
+use Rattle.hdr_model.proofs.CorrectionFacts.{missing-within, falling, length-falling, falling-within, down_to-split, down_to-within}
 use Rattle.hdr_model.proofs.RecordingFills.{one-class}
 use Rattle.hdr_model.proofs.CorrectionClasses.{held-more}
 use Rattle.hdr_model.proofs.MergingStands.{grain-each, each-high, recorded-high_with}
@@ -47,11 +47,11 @@ module _ (g : Grain) (x i low m : ℕ) (pos : 0 < i) (digits : 0 < g.digits) (ge
   others-below : x - m * i < low
   others-below = omega (arith, low-le, length-as-product, div-add-mod' (x - low) i, mod_below (x - low) i pos)
 
-  pub members-inside : All (λ y. (bin_of g y ≡ bin_of g x) × (y ≤ x)) (run i m x)
+  pub members-inside : All (λ y. (bin_of g y ≡ bin_of g x) × (y ≤ x)) (falling i m x)
   members-inside =
       All-weaker (λ y. (low ≤ y) × (y ≤ x)) (λ y. (bin_of g y ≡ bin_of g x) × (y ≤ x))
       (λ y h. (same-bin g x y digits (omega (arith, h)) (omega (arith, h, top-above g x)), h.1))
-      (run i m x) (run-within low x i m x members-last (omega arith))
+      (falling i m x) (falling-within low x i m x members-last (omega arith))
 
   pub others-outside : All (λ y. bin_of g y ≢ bin_of g x) (down_to (x - m * i) i)
   others-outside =
@@ -63,8 +63,8 @@ module _ (g : Grain) (x i low m : ℕ) (pos : 0 < i) (digits : 0 < g.digits) (ge
   pub held-step : (classes : ℕ) → bin_of g x < classes → classes_held g classes (down_to x i) ≡ 1 + classes_held g classes (down_to (x - m * i) i)
   held-step classes room =
       ap (λ ys. classes_held g classes ys) (down_to-split m x i pos members-fit)
-      ∙ held-more g classes (bin_of g x) (run i m x) (down_to (x - m * i) i) room (omega (arith, length-run i m x))
-      (All-weaker (λ y. (bin_of g y ≡ bin_of g x) × (y ≤ x)) (λ y. bin_of g y ≡ bin_of g x) (λ y h. h.0) (run i m x) members-inside) others-outside
+      ∙ held-more g classes (bin_of g x) (falling i m x) (down_to (x - m * i) i) room (omega (arith, length-falling i m x))
+      (All-weaker (λ y. (bin_of g y ≡ bin_of g x) × (y ≤ x)) (λ y. bin_of g y ≡ bin_of g x) (λ y h. h.0) (falling i m x) members-inside) others-outside
 
 -- adding the number of a class's members times n is recording them one by one
 pub state-step : (greatest : ℕ) (h : Plain) (x i low m n : ℕ) → 0 < i → 0 < (grain h).digits → i ≤ x → low ≡ max (lowest_of (grain h) x) i → m ≡ (x - low) / i + 1
@@ -75,15 +75,15 @@ state-step greatest h x i low m n pos digits ge is_low is_m within room =
     let b = bin_of g x in
     let fits = members-fit g x i low m pos digits ge is_low is_m in
     let inside = members-inside g x i low m pos digits ge is_low is_m in
-    let members : All (λ y. (bin_of g y ≡ b) × (y ≤ reach h)) (run i m x) =
-    All-weaker (λ y. (bin_of g y ≡ b) × (y ≤ x)) (λ y. (bin_of g y ≡ b) × (y ≤ reach h)) (λ y p. (p.0, omega (arith, p.1))) (run i m x) inside in
+    let members : All (λ y. (bin_of g y ≡ b) × (y ≤ reach h)) (falling i m x) =
+    All-weaker (λ y. (bin_of g y ≡ b) × (y ≤ x)) (λ y. (bin_of g y ≡ b) × (y ≤ reach h)) (λ y p. (p.0, omega (arith, p.1))) (falling i m x) inside in
     sym (
     ap (λ ys. after_records greatest h (each_times n ys)) (down_to-split m x i pos fits)
-    ∙ ap (λ ts. after_records greatest h ts) (each-append n (run i m x) (down_to (x - m * i) i))
-    ∙ recorded_each-append greatest h (each_times n (run i m x)) (each_times n (down_to (x - m * i) i))
+    ∙ ap (λ ts. after_records greatest h ts) (each-append n (falling i m x) (down_to (x - m * i) i))
+    ∙ recorded_each-append greatest h (each_times n (falling i m x)) (each_times n (down_to (x - m * i) i))
     ∙ ap (λ s. after_records greatest s (each_times n (down_to (x - m * i) i)))
-    (one-class greatest h b n (run i m x) (omega (arith, length-run i m x)) room members
-    ∙ ap (λ k. after_add_to_bin greatest h b (k * n)) (length-run i m x))
+    (one-class greatest h b n (falling i m x) (omega (arith, length-falling i m x)) room members
+    ∙ ap (λ k. after_add_to_bin greatest h b (k * n)) (length-falling i m x))
     )
 
 -- a histogram has few bins

@@ -1,4 +1,4 @@
--- Missing values, in runs.
+-- Missing values, in falling order.
 use Rattle.std.proofs.Common.{◌≡◌, ℕ, zero, suc, ◌+◌, ◌-◌, ◌*◌, ◌/◌, ◌<◌, ◌≤◌, List, [], ◌∷◌, ◌++◌, length, map, refl, sym, ap, ◌∙◌, arith, inl, inr}
 use Rattle.std.specs.List.{All, range_with_len, Contains}
 use Rattle.std.proofs.lemmas.List.FromFn.{length-map-range_with_len, get_or-map-range_with_len}
@@ -9,21 +9,21 @@ use Rattle.std.proofs.lemmas.List.Elements.{All-cons, All-nil, All-weaker}
 use Rattle.hdr_model.specs.Correction.{missing, down_to, IsMissing}
 
 -- n values from x on, each i below the one before
-unfoldable pub run : ℕ → ℕ → ℕ → List ℕ
-run i zero x = []
-run i (suc n) x = x ∷ run i n (x - i)
+unfoldable pub falling : ℕ → ℕ → ℕ → List ℕ
+falling i zero x = []
+falling i (suc n) x = x ∷ falling i n (x - i)
 
 -- the same as steps from a value
-steps : (x i a n : ℕ) → map (λ j. x - j * i) (range_with_len a n) ≡ run i n (x - a * i)
-unfolding run
+steps : (x i a n : ℕ) → map (λ j. x - j * i) (range_with_len a n) ≡ falling i n (x - a * i)
+unfolding falling
 steps x i a zero = refl
 steps x i a (suc n) =
     let next : x - (a + 1) * i ≡ (x - a * i) - i = omega arith in
-    ap (λ ys. (x - a * i) ∷ ys) (steps x i (a + 1) n ∙ ap (λ y. run i n y) next)
+    ap (λ ys. (x - a * i) ∷ ys) (steps x i (a + 1) n ∙ ap (λ y. falling i n y) next)
 
-pub down_to-run : (x i : ℕ) → down_to x i ≡ run i (x / i) x
+pub down_to-falling : (x i : ℕ) → down_to x i ≡ falling i (x / i) x
 unfolding down_to
-down_to-run x i = steps x i 0 (x / i) ∙ ap (λ y. run i (x / i) y) (let e : x - 0 * i ≡ x = omega arith in e)
+down_to-falling x i = steps x i 0 (x / i) ∙ ap (λ y. falling i (x / i) y) (let e : x - 0 * i ≡ x = omega arith in e)
 
 one-less : (x i : ℕ) → 0 < i → i ≤ x → x / i ≡ (x - i) / i + 1
 one-less x i pos le =
@@ -46,9 +46,9 @@ pub missing-down : (v i : ℕ) → 0 < i → missing v i ≡ down_to (v - i) i
 unfolding missing
 missing-down v i pos =
     steps v i 1 (v / i - 1)
-    ∙ ap (λ y. run i (v / i - 1) y) (let e : v - 1 * i ≡ v - i = omega arith in e)
-    ∙ ap (λ n. run i n (v - i)) (div-less v i pos)
-    ∙ sym (down_to-run (v - i) i)
+    ∙ ap (λ y. falling i (v / i - 1) y) (let e : v - 1 * i ≡ v - i = omega arith in e)
+    ∙ ap (λ n. falling i n (v - i)) (div-less v i pos)
+    ∙ sym (down_to-falling (v - i) i)
 
 pub missing-none : (v : ℕ) → missing v 0 ≡ []
 unfolding missing
@@ -59,34 +59,34 @@ unfolding down_to
 down_to-end x i lt = ap (λ n. map (λ j. x - j * i) (range_with_len 0 n)) (div-eq_of_lt lt)
 
 pub down_to-more : (x i : ℕ) → 0 < i → i ≤ x → down_to x i ≡ x ∷ down_to (x - i) i
-unfolding run
+unfolding falling
 down_to-more x i pos le =
-    down_to-run x i ∙ ap (λ n. run i n x) (let e : x / i ≡ suc ((x - i) / i) = omega (arith, one-less x i pos le) in e) ∙ ap (λ ys. x ∷ ys) (sym (down_to-run (x - i) i))
+    down_to-falling x i ∙ ap (λ n. falling i n x) (let e : x / i ≡ suc ((x - i) / i) = omega (arith, one-less x i pos le) in e) ∙ ap (λ ys. x ∷ ys) (sym (down_to-falling (x - i) i))
 
 -- the first m of them, and the others
-pub down_to-split : (m x i : ℕ) → 0 < i → m * i ≤ x → down_to x i ≡ run i m x ++ down_to (x - m * i) i
-unfolding run
+pub down_to-split : (m x i : ℕ) → 0 < i → m * i ≤ x → down_to x i ≡ falling i m x ++ down_to (x - m * i) i
+unfolding falling
 down_to-split zero x i pos le = ap (λ y. down_to y i) (let e : x ≡ x - 0 * i = omega arith in e)
 down_to-split (suc m) x i pos le =
     let first : i ≤ x = omega arith in
     let next : (x - i) - m * i ≡ x - suc m * i = omega arith in
-    down_to-more x i pos first ∙ ap (λ ys. x ∷ ys) (down_to-split m (x - i) i pos (omega arith) ∙ ap (λ y. run i m (x - i) ++ down_to y i) next)
+    down_to-more x i pos first ∙ ap (λ ys. x ∷ ys) (down_to-split m (x - i) i pos (omega arith) ∙ ap (λ y. falling i m (x - i) ++ down_to y i) next)
 
-pub length-run : (i m x : ℕ) → length (run i m x) ≡ m
-unfolding run
-length-run i zero x = refl
-length-run i (suc m) x = ap suc (length-run i m (x - i))
+pub length-falling : (i m x : ℕ) → length (falling i m x) ≡ m
+unfolding falling
+length-falling i zero x = refl
+length-falling i (suc m) x = ap suc (length-falling i m (x - i))
 
 -- each of them is between the last and the first
-pub run-within : (low high i m x : ℕ) → low + m * i ≤ x + i → x ≤ high → All (λ y. (low ≤ y) × (y ≤ high)) (run i m x)
-unfolding run
-run-within low high i zero x a b = All-nil (λ y. (low ≤ y) × (y ≤ high))
-run-within low high i (suc m) x a b =
-    All-cons (λ y. (low ≤ y) × (y ≤ high)) x (run i m (x - i)) (omega arith, b) (run-within low high i m (x - i) (omega arith) (omega arith))
+pub falling-within : (low high i m x : ℕ) → low + m * i ≤ x + i → x ≤ high → All (λ y. (low ≤ y) × (y ≤ high)) (falling i m x)
+unfolding falling
+falling-within low high i zero x a b = All-nil (λ y. (low ≤ y) × (y ≤ high))
+falling-within low high i (suc m) x a b =
+    All-cons (λ y. (low ≤ y) × (y ≤ high)) x (falling i m (x - i)) (omega arith, b) (falling-within low high i m (x - i) (omega arith) (omega arith))
 
 pub down_to-within : (x i : ℕ) → 0 < i → All (λ y. (i ≤ y) × (y ≤ x)) (down_to x i)
 down_to-within x i pos =
-    rw (down_to-run x i) (run-within i x i (x / i) x (omega (arith, div-add-mod' x i)) (omega arith))
+    rw (down_to-falling x i) (falling-within i x i (x / i) x (omega (arith, div-add-mod' x i)) (omega arith))
 
 -- the missing values, one by one
 pub missing-are : (v i x : ℕ) → Contains (missing v i) x → IsMissing v i x

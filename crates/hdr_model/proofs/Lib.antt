@@ -1,3 +1,4 @@
+pub mod RunsFacts
 pub mod PlainKept
 pub mod PlainBins
 pub mod PlainBounds

@@ -1,5 +1,5 @@
 -- What the classes of another histogram hold of a class, one more at a time.
-use Rattle.std.proofs.Common.{◌≡◌, ◌≢◌, ℕ, zero, suc, ◌+◌, ◌-◌, ◌<◌, ◌≤◌, List, [], ◌∷◌, ◌++◌, length, get_or, take, drop, replicate, refl, sym, ap, subst, ◌∙◌, arith, inl, inr, set, sum}
+use Rattle.std.proofs.Common.{◌≡◌, ◌≢◌, ◌⊎◌, ℕ, zero, suc, ◌+◌, ◌-◌, ◌<◌, ◌≤◌, List, [], ◌∷◌, ◌++◌, length, get_or, take, drop, replicate, refl, sym, ap, subst, ◌∙◌, arith, inl, inr, set, sum}
 use Rattle.std.proofs.lemmas.Bool.{cases_lt, cases_eq}
 use Rattle.std.proofs.lemmas.List.{get_or_past, get_or-set_same, get_or-set_other, append-nil, take_more, take_all, length-take-le, take-append-drop}
 use Rattle.hdr_base.specs.Classes.{Grain, bin_of, value_of}
@@ -106,14 +106,14 @@ tested-same g f counts ns i at sum lt none t = record {
 }
 
 module _ (g f : Grain) (counts ns : List ℕ) (i at sum before target : ℕ) (mf : 0 < f.digits) (mg : 0 < g.digits) (lt : i < length ns) (pos : 0 < get_or ns i 0) (t : IsTested g f counts ns i at sum)
-    (here : target ≡ bin_of g (value_of f i)) (same : target ≡ at → before ≡ sum) (other : target ≢ at → before ≡ 0) where
+    (here : target ≡ bin_of g (value_of f i)) (from : ((target ≡ at) × (before ≡ sum)) ⊎ ((target ≢ at) × (before ≡ 0))) where
   pub tested-sum : before + get_or ns i 0 ≡ held g f ns (i + 1) target
   tested-sum =
       let now : held g f ns (i + 1) target ≡ held g f ns i target + get_or ns i 0 = subst (λ b. held g f ns (i + 1) b ≡ held g f ns i b + get_or ns i 0) (sym here) (held-here g f ns i lt pos) in
       let ascends = t.order i (omega arith) in
-      elim (cases_eq target at) [
-        | inl e ↦ omega (arith, now, same e, t.running, ap (λ b. held g f ns i b) e)
-        | inr n ↦ omega (arith, now, other n, t.later target (omega arith))
+      elim from [
+        | inl e ↦ omega (arith, now, e.1, t.running, ap (λ b. held g f ns i b) e.0)
+        | inr n ↦ omega (arith, now, n.1, t.later target (omega (arith, n.0)))
       ]
 
   pub tested-next : before + get_or ns i 0 ≤ get_or counts target 0 → IsTested g f counts ns (i + 1) target (before + get_or ns i 0)
@@ -133,6 +133,15 @@ module _ (g f : Grain) (counts ns : List ℕ) (i at sum before target : ℕ) (mf
 -- a place of a number above 0 is a place
 pub place-in : (counts : List ℕ) (i : ℕ) → 0 < get_or counts i 0 → i < length counts
 place-in counts i pos = elim (cases_lt i (length counts)) [ inl lt ↦ lt | inr ge ↦ absurd (omega (arith, get_or_past counts i 0 ge)) ]
+
+-- the bin of a class has what the class holds
+pub enough-left : (g f : Grain) (ns was now : List ℕ) (i target : ℕ) → i < length ns → 0 < get_or ns i 0 → target ≡ bin_of g (value_of f i)
+    → ((j : ℕ) → in_class g j (samples_of (classes_from f 0 ns)) ≤ get_or was j 0) → ((j : ℕ) → get_or now j 0 + held g f ns i j ≡ get_or was j 0)
+    → (target < length now) × (get_or ns i 0 ≤ get_or now target 0)
+enough-left g f ns was now i target lt pos here all taken =
+    let step : held g f ns (i + 1) target ≡ held g f ns i target + get_or ns i 0 = subst (λ b. held g f ns (i + 1) b ≡ held g f ns i b + get_or ns i 0) (sym here) (held-here g f ns i lt pos) in
+    let enough : get_or ns i 0 ≤ get_or now target 0 = omega (arith, step, held-le g f ns (i + 1) target, all target, taken target) in
+    (place-in now target (omega (arith, enough, pos)), enough)
 
 -- one class taken out
 pub taken-next : (g f : Grain) (ns was now : List ℕ) (i target : ℕ) → i < length ns → 0 < get_or ns i 0 → target ≡ bin_of g (value_of f i) → target < length now → get_or ns i 0 ≤ get_or now target 0

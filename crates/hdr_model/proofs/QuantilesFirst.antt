@@ -17,6 +17,10 @@ use Rattle.hdr_model.proofs.PlainKept.{grain-digits}
 use Rattle.hdr_model.proofs.RecordingStands.{eqb-other}
 use Rattle.hdr_model.proofs.QuantilesAnswers.{first-one, first-by, rank-pos, answer-ranked, answer-some}
 
+-- the rank of a quantile whose fields were read
+pub rank-read : (q : Ratio) (r num den had total : ℕ) → r ≡ rank (record { num = num; den = den }) had → num ≡ q.num → den ≡ q.den → had ≡ total → r ≡ rank q total
+rank-read q r num den had total is n d t = is ∙ ap (λ k. rank (record { num = k; den = den }) had) n ∙ ap (λ k. rank (record { num = q.num; den = k }) had) d ∙ ap (λ k. rank q k) t
+
 -- what a search over a range of numbers finds
 found-in-range : (p : ℕ → Bool) (a n : ℕ) → MatchOption (find p (range_with_len a n)) ((k : ℕ) → a ≤ k → k < a + n → p k ≡ false)
     (λ i. (a ≤ i) × (i < a + n) × (p i ≡ true) × ((k : ℕ) → a ≤ k → k < i → p k ≡ false))

@@ -1,4 +1,5 @@
--- Histograms that are added in order, and the samples that their sum stands for.
+-- Histograms that are added in order, and the samples that their sum stands for. (The documentation of `add`, for a list
+-- of histograms: no item of the Rust crate, but what merging those of several hosts asks for.)
 use Rattle.std.specs.Prelude.{ℕ, ◌<◌, List, [], ◌∷◌, length}
 use Rattle.std.specs.List.{flat_map}
 use Rattle.hdr_base.specs.Classes.{Grain, IsFiner}

@@ -1,4 +1,4 @@
--- The two marks of a histogram.
+-- The two marks of a histogram. (`max` and `min_nz`: the Rust crate keeps values, and here marks are classes or none.)
 use Rattle.std.specs.Prelude.{ℕ, ◌+◌, ◌-◌, ◌^◌, ◌==◌, Option, Some, None, if◌then◌else◌, ◌<◌, ◌≡◌, List, slice_index, max, min}
 use Rattle.hdr_base.specs.Classes.{Grain, value_of, top_of}
 

@@ -1,4 +1,5 @@
--- When a call is refused.
+-- When a call is refused. (The documentation of the Rust crate's errors; out of memory is our own, which there ends
+-- the process.)
 use Rattle.std.specs.Prelude.{◌≡◌, ◌⊎◌, ◌+◌, ◌*◌, ◌^◌, ◌<◌, ◌≤◌, ℕ, true, false, slice_index}
 use Rattle.hdr_model.specs.Plain.{Plain, reach, max_of, grain}
 use Rattle.hdr_model.specs.Merging.{highest_top, lowest_values}

@@ -1,4 +1,5 @@
--- The samples that a histogram stands for.
+-- The samples that a histogram stands for. (The documentation of the type `Histogram`: counts of recorded values, up to a
+-- precision. As a relation it is our own: no field keeps samples.)
 use Rattle.std.specs.Prelude.{◌≡◌, ◌==◌, ℕ, ◌^◌, ◌<◌, ◌≤◌, List, ◌++◌, length, slice_index, count_by, All}
 use Rattle.hdr_base.specs.Classes.{Grain, bin_of}
 use Rattle.hdr_model.specs.Plain.{Plain, grain, reach}

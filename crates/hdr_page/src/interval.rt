@@ -1,13 +1,11 @@
 //! The intervals of a log, one by one and together.
 
 use anyhow::{Context, Result, bail};
-use base64::DecodeAllocError;
-use base64::engine::general_purpose::STANDARD;
-use hdrhistogram::serialization::Deserializer;
 use hdrhistogram::serialization::interval_log::{
     IntervalFilter, IntervalLogHistogram, IntervalLogIterator, LogEntry, LogIteratorError,
-    MergeError, Tag, merge_log,
+    MergeError, Tag, TagChoice, merge_log,
 };
+use hdrhistogram::serialization::{Deserializer, FieldDecodeError};
 use hdrhistogram::{Histogram, Quantile};
 use std::alloc::Global;
 use std::time::Duration;
@@ -55,7 +53,7 @@ pub(crate) struct Seen<'a> {
 /// The sum of all intervals of a log.
 pub(crate) fn merged(alloc: Global, log: &[u8]) -> Result<Histogram<u64>> {
     let every = IntervalFilter {
-        tag: None,
+        tags: TagChoice::Every,
         from: None,
         to: None,
     };
@@ -113,13 +111,9 @@ fn see<'a>(
 
 /// The histogram of a field.
 fn decoded(alloc: Global, place: u64, field: &str) -> Result<Histogram<u64>> {
-    let bytes = match STANDARD.decode(alloc, field.as_bytes()) {
-        Ok(bytes) => bytes,
-        Err(DecodeAllocError::OutOfMemory) => bail!("Out of memory"),
-        Err(_) => bail!("interval {place}: not base64"),
-    };
-    match Deserializer::new(alloc).decode_slice(&bytes) {
-        Ok((histogram, _)) => Ok(histogram),
+    match Deserializer::new(alloc).decode_field(field) {
+        Ok(histogram) => Ok(histogram),
+        Err(FieldDecodeError::OutOfMemory) => bail!("Out of memory"),
         Err(cause) => bail!("interval {place}: {cause}"),
     }
 }

@@ -2,7 +2,7 @@
 
 use hdr_core::{AdditionError, CallError, CreationError, RecordError, RunError, SubtractionError};
 use hdrhistogram::serialization::interval_log::{IntervalLogWriterError, MergeError};
-use hdrhistogram::serialization::{DeserializeError, V2SerializeError};
+use hdrhistogram::serialization::{DeserializeError, FieldDecodeError, V2SerializeError};
 use std::alloc::Global;
 
 /// What a log's writer over `V2Serializer` answers.
@@ -25,6 +25,7 @@ pub enum Answer {
     Unsubtracted(SubtractionError),
     Unserialized(V2SerializeError),
     Unread(DeserializeError),
+    Undecoded(FieldDecodeError),
     Unlogged(LogError),
     Unmerged(MergeError),
     /// A run that was refused at a place.
@@ -91,6 +92,14 @@ pub fn deserialize_name(error: &DeserializeError) -> &'static str {
     }
 }
 
+fn field_name(error: &FieldDecodeError) -> &'static str {
+    match error {
+        FieldDecodeError::NotBase64 => "NotBase64",
+        FieldDecodeError::Decode(cause) => deserialize_name(cause),
+        FieldDecodeError::OutOfMemory => "OutOfMemory",
+    }
+}
+
 fn log_name(error: &LogError) -> &'static str {
     match error {
         IntervalLogWriterError::SerializeError(cause) => serialize_name(cause),
@@ -139,6 +148,7 @@ impl Answer {
             Answer::Unsubtracted(error) => Some(subtraction_name(error)),
             Answer::Unserialized(error) => Some(serialize_name(error)),
             Answer::Unread(error) => Some(deserialize_name(error)),
+            Answer::Undecoded(error) => Some(field_name(error)),
             Answer::Unlogged(error) => Some(log_name(error)),
             Answer::Unmerged(error) => Some(merge_name(error)),
             Answer::Number(_) | Answer::Text(_) | Answer::Differ | Answer::Stopped(_) => None,
@@ -154,6 +164,7 @@ impl Answer {
             Answer::Unsubtracted(error) => error.to_string(alloc).ok(),
             Answer::Unserialized(error) => error.to_string(alloc).ok(),
             Answer::Unread(error) => error.to_string(alloc).ok(),
+            Answer::Undecoded(error) => error.to_string(alloc).ok(),
             Answer::Unlogged(error) => error.to_string(alloc).ok(),
             Answer::Unmerged(error) => error.to_string(alloc).ok(),
             Answer::Stopped(error) => error.to_string(alloc).ok(),

@@ -10,7 +10,7 @@ use hdr_core::{
 };
 use hdrhistogram::serialization::interval_log::{IntervalFilter, MergeError, merge_log};
 use hdrhistogram::serialization::{
-    DeserializeError, Deserializer, Serializer, V2SerializeError, V2Serializer,
+    DeserializeError, Deserializer, FieldDecodeError, Serializer, V2SerializeError, V2Serializer,
 };
 use std::alloc::Global;
 use std::io::Read;
@@ -298,6 +298,10 @@ impl<T: Counter> Histogram<T> {
         ))
     }
 
+    pub fn refines<F: Counter>(&self, other: &Histogram<F>) -> bool {
+        self.inner.refines(&other.inner)
+    }
+
     pub fn equals<F: Counter>(&self, other: &Histogram<F>) -> bool {
         self.inner.equals(&other.inner)
     }
@@ -345,6 +349,11 @@ impl<T: Counter> Histogram<T> {
         reader: &mut R,
     ) -> Result<Histogram<T>, DeserializeError> {
         let inner = Deserializer::new(alloc).deserialize(reader)?;
+        Ok(Histogram { inner })
+    }
+
+    pub fn decode_field(alloc: Global, field: &str) -> Result<Histogram<T>, FieldDecodeError> {
+        let inner = Deserializer::new(alloc).decode_field(field)?;
         Ok(Histogram { inner })
     }
 }

@@ -133,6 +133,21 @@ pub fn decode<T: Counter>(
     }
 }
 
+/// Reads a histogram from an interval's field.
+pub fn decode_field<T: Counter>(
+    alloc: Global,
+    h: &mut Histogram<T>,
+    field: &str,
+) -> Option<Answer> {
+    match Histogram::decode_field(alloc, field) {
+        Ok(read) => {
+            *h = read;
+            Some(Answer::Done)
+        }
+        Err(error) => Some(Answer::Undecoded(error)),
+    }
+}
+
 /// The spelling of a number.
 fn varint(alloc: Global, n: u64) -> Option<Answer> {
     let mut buf = [0xaa; 10];

@@ -210,6 +210,12 @@ pub fn line<T: Counter>(alloc: Global, h: &Histogram<T>, words: &str) -> Option<
     written(alloc, log.as_slice(), answer)
 }
 
+/// Whether the first of two tags comes before the second.
+fn comes_before(words: &str) -> Option<Answer> {
+    let (one, other) = words.split_once(' ')?;
+    Some(Answer::Truth(Tag::new(one)? < Tag::new(other)?))
+}
+
 /// A call on the text of a log. None: the words are no such call's.
 pub fn call(alloc: Global, words: &str) -> Option<Answer> {
     let (name, rest) = words.split_once(' ')?;
@@ -217,6 +223,7 @@ pub fn call(alloc: Global, words: &str) -> Option<Answer> {
         "read" => text(read(alloc, unescaped(alloc, rest)?.as_slice())),
         "field" => field(alloc, rest),
         "tag" => Some(Answer::Truth(Tag::new(rest).is_some())),
+        "before" => comes_before(rest),
         "begin" => begin(alloc, rest),
         _ => None,
     }

@@ -4,7 +4,7 @@ use crate::answer::Answer;
 use crate::bare::Histogram;
 use crate::logs::{time, unescaped};
 use hdr_base::Counter;
-use hdrhistogram::serialization::interval_log::{IntervalFilter, Tag};
+use hdrhistogram::serialization::interval_log::{IntervalFilter, Tag, TagChoice};
 use std::alloc::Global;
 use std::time::Duration;
 
@@ -16,14 +16,15 @@ fn bound(word: &str) -> Option<Option<Duration>> {
     Some(Some(time(word)?))
 }
 
-/// The filter of three words; a `-` stands for no such word.
+/// The filter of three words; a `-` stands for no such word, and a comma, which no tag has, for intervals without a tag.
 fn filter<'a>(tag: &'a str, from: &str, to: &str) -> Option<IntervalFilter<'a>> {
-    let tag = match tag {
-        "-" => None,
-        _ => Some(Tag::new(tag)?),
+    let tags = match tag {
+        "-" => TagChoice::Every,
+        "," => TagChoice::Untagged,
+        _ => TagChoice::Tagged(Tag::new(tag)?),
     };
     Some(IntervalFilter {
-        tag,
+        tags,
         from: bound(from)?,
         to: bound(to)?,
     })

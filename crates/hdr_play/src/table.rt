@@ -103,6 +103,7 @@ fn worded<T: Counter>(alloc: Global, h: &mut Histogram<T>, words: &str) -> Optio
         "encode_counts" => bytes::payload(alloc, h),
         "decode" => bytes::decode(alloc, h, rest, false),
         "decode_alone" => bytes::decode(alloc, h, rest, true),
+        "decode_field" => bytes::decode_field(alloc, h, rest),
         "log_line" => logs::line(alloc, h, rest),
         "merge" => merging::merge(alloc, h, rest),
         "value_at_quantiles" => value_at_quantiles(alloc, h, rest),
@@ -243,6 +244,8 @@ impl<T: Counter> Table<T> {
         let (name, numbers) = split_name(words)?;
         match name {
             "subtract" => Some(subtracted(self.one.subtract(&self.other))),
+            "refines_other" => Some(Answer::Truth(self.one.refines(&self.other))),
+            "refines_wide" => Some(Answer::Truth(self.one.refines(&self.wide))),
             "agree" => agree(&mut self.one, &mut self.other, numbers),
             "agree_below" => agree_below(&mut self.one, &mut self.other, numbers),
             _ => self.between(alloc, name, numbers[0]),

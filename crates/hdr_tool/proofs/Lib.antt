@@ -1,10 +1,12 @@
 pub mod LinesParts
-pub mod CommandsFields
+pub mod LinesFirst
+pub mod LinesNumbers
 pub mod WordsEach
 pub mod OutcomesSinks
 pub mod OutcomesAnswers
 pub mod OutcomesRuns
 pub mod OutcomesLists
+pub mod ProgramLines
 pub mod ProgramStreaming
 pub mod ProgramIntervals
 pub mod LogMergesWritten

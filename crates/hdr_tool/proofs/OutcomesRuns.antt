@@ -15,7 +15,7 @@ pub goes_on : {A B : Type 0} (Step : A → B → Result (List ℕ × A) Fault �
 goes_on Step a b it rest x text out e s r = rw e (Ok (text, b), s, (out, r, refl))
 
 -- a step that ends the run
-ends : {A B : Type 0} (Step : A → B → Result (List ℕ × A) Fault → Type 0) (a : A) (it rest : List B) (x : B) (f : Fault) → it ≡ x ∷ rest → Step a x (Err f) → Runs Step a it (record { written = []; ended = Err f })
+pub ends : {A B : Type 0} (Step : A → B → Result (List ℕ × A) Fault → Type 0) (a : A) (it rest : List B) (x : B) (f : Fault) → it ≡ x ∷ rest → Step a x (Err f) → Runs Step a it (record { written = []; ended = Err f })
 ends Step a it rest x f e s = rw e (Err f, s, refl)
 
 pub begins_nothing : {A B : Type 0} (Step : A → B → Result (List ℕ × A) Fault → Type 0) (a : A) (it : List B) → Begins Step a it []

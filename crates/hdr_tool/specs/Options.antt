@@ -5,7 +5,7 @@ use Rattle.std.specs.Str.{bytes_eq}
 use Rattle.hdr_log.specs.Parts.{◌>>=◌, number_of}
 use Rattle.hdr_log.specs.Grammar.{is_tag, only_if}
 use Rattle.hdr_log.specs.Tags.{tag_text}
-use Rattle.hdrhistogram.specs.Chosen.{Filter}
+use Rattle.hdrhistogram.specs.Chosen.{TagChoice, Every, Tagged, Filter}
 use Rattle.hdr_tool.specs.declared.options.CounterType.{CounterType}
 use Rattle.hdr_tool.specs.declared.options.CounterType.TheVariants as counter
 use Rattle.hdr_tool.specs.declared.options.OptionName.{OptionName}
@@ -72,9 +72,14 @@ greatest_into (Some counter.U32) = 2 ^ 32 - 1
 greatest_into (Some counter.U64) = 2 ^ 64 - 1
 greatest_into None = 2 ^ 64 - 1
 
+-- intervals of a tag that was named, and else every interval
+abbrev pub choice_of : Option (List ℕ) → TagChoice
+choice_of None = Every
+choice_of (Some tag) = Tagged tag
+
 -- which intervals are chosen, by times in nanoseconds
 abbrev pub filter_of : Options → Filter
-filter_of o = record { tag = o.tag; from = option_map (λ ms. ms * 1_000_000) o.from; to = option_map (λ ms. ms * 1_000_000) o.to }
+filter_of o = record { tags = choice_of o.tag; from = option_map (λ ms. ms * 1_000_000) o.from; to = option_map (λ ms. ms * 1_000_000) o.to }
 
 -- options as the code holds them
 abbrev pub view_of_options : code.Options.Options → Options

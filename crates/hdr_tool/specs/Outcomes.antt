@@ -30,6 +30,11 @@ Begins Step a [] text = text ≡ []
 Begins {A = A} Step a (x ∷ xs) text =
     (text ≡ []) ⊎ ((step : List ℕ × A) × Step a x (Ok step) × ((rest : List ℕ) × Begins Step step.1 xs rest × (text ≡ step.0 ++ rest)))
 
+-- an answer without what it hands on
+abbrev pub without_value : {A : Type 0} → Result A Fault → Result (Unit {0}) Fault
+without_value (Ok a) = Ok tt
+without_value (Err f) = Err f
+
 -- P holds of each fault but two: running out of memory, or a reader that fails, may come in place of any answer
 abbrev pub Refuses : (Fault → Type 0) → Fault → Type 0
 Refuses P NoMemory = Unit {0}

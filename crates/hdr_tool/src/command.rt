@@ -1,77 +1,101 @@
-//! The calls that lines ask for.
+//! The commands that lines ask for.
 
-ghost use Rattle.std.specs.Prelude.{◌≡◌};
+ghost use Rattle.std.specs.Prelude.{◌≡◌, MatchOption, Some, None};
 ghost use Rattle.std.specs.Option.{option_map};
-ghost use Rattle.hdr_tool.specs.Lines.{parts_of_rest};
-ghost use Rattle.hdr_tool.specs.Commands.{count_of, record_of, clamp_of, correct_of, alone, call_of_name, call_of, tag_of_word, end_tag_of, end_of, log_command_of_name, log_command_of, view_of_log_command};
+ghost use Rattle.hdr_tool.specs.Lines.{view_of_left};
+ghost use Rattle.hdr_tool.specs.Commands.{count_of, record_of, clamp_of, correct_of, alone, call_of_name, tag_of_word, end_tag_of, end_of, log_command_of_name, view_of_log_command};
 ghost use Rattle.hdr_log.specs.Tags.{tag_text};
 
-use crate::parts::split_first;
-use hdr_log::parts::{number, text};
+use crate::lines::{Left, field, number_field};
+use hdr_log::parts::text;
 use hdrhistogram::Call;
 use hdrhistogram::serialization::interval_log::Tag;
 
-/// The count after a value, 1 where nothing is left.
-fn count(left: Option<&[u8]>) -> Option<u64>
-    ensures { result ≡ count_of (parts_of_rest 32 (option_map (λ t. t.now) left.entry)) }
+/// The count after a value, 1 where nothing is left of the line, and the lines after it.
+#[inline(always)]
+fn count(left: Left<'_>) -> Option<(u64, Option<&[u8]>)>
+    ensures { let left = view_of_left left.entry in MatchOption result (count_of left.fields ≡ None)
+        (λ p. (count_of left.fields ≡ Some p.0) × (option_map (λ t. t.now) p.1 ≡ left.after)) }
 {
-    let Some(text) = left else {
-        return Some(1);
+    let text = match left {
+        Left::Fields(text) => text,
+        Left::Lines(after) => return Some((1, after)),
     };
-    let (count, left) = split_first(text, b' ');
-    if left.is_some() {
-        return None;
+    match number_field(text)? {
+        (count, Left::Lines(after)) => Some((count, after)),
+        _ => None,
     }
-    number(count)
 }
 
 /// `V [N]`: a value, and how many times.
-fn record(left: Option<&[u8]>) -> Option<Call<'static, u64>>
-    ensures { result ≡ record_of (parts_of_rest 32 (option_map (λ t. t.now) left.entry)) }
+#[inline(always)]
+fn record(left: Left<'_>) -> Option<(Call<'static, u64>, Option<&[u8]>)>
+    ensures { let left = view_of_left left.entry in MatchOption result (record_of left.fields ≡ None)
+        (λ p. (record_of left.fields ≡ Some p.0) × (option_map (λ t. t.now) p.1 ≡ left.after)) }
 {
-    let (value, left) = split_first(left?, b' ');
-    let value = number(value)?;
-    let count = count(left)?;
-    Some(Call::Record(value, count))
+    let Left::Fields(text) = left else {
+        return None;
+    };
+    let (value, left) = number_field(text)?;
+    let (count, after) = count(left)?;
+    Some((Call::Record(value, count), after))
 }
 
 /// `V [N]`, for a value that is brought down to the bins.
-fn clamp(left: Option<&[u8]>) -> Option<Call<'static, u64>>
-    ensures { result ≡ clamp_of (parts_of_rest 32 (option_map (λ t. t.now) left.entry)) }
+#[inline(always)]
+fn clamp(left: Left<'_>) -> Option<(Call<'static, u64>, Option<&[u8]>)>
+    ensures { let left = view_of_left left.entry in MatchOption result (clamp_of left.fields ≡ None)
+        (λ p. (clamp_of left.fields ≡ Some p.0) × (option_map (λ t. t.now) p.1 ≡ left.after)) }
 {
-    let (value, left) = split_first(left?, b' ');
-    let value = number(value)?;
-    let count = count(left)?;
-    Some(Call::Clamp(value, count))
+    let Left::Fields(text) = left else {
+        return None;
+    };
+    let (value, left) = number_field(text)?;
+    let (count, after) = count(left)?;
+    Some((Call::Clamp(value, count), after))
 }
 
 /// `V I [N]`: a value, the interval at which values were expected, and how many times.
-fn correct(left: Option<&[u8]>) -> Option<Call<'static, u64>>
-    ensures { result ≡ correct_of (parts_of_rest 32 (option_map (λ t. t.now) left.entry)) }
+#[inline(always)]
+fn correct(left: Left<'_>) -> Option<(Call<'static, u64>, Option<&[u8]>)>
+    ensures { let left = view_of_left left.entry in MatchOption result (correct_of left.fields ≡ None)
+        (λ p. (correct_of left.fields ≡ Some p.0) × (option_map (λ t. t.now) p.1 ≡ left.after)) }
 {
-    let (value, left) = split_first(left?, b' ');
-    let (interval, left) = split_first(left?, b' ');
-    let value = number(value)?;
-    let interval = number(interval)?;
-    let count = count(left)?;
-    Some(Call::Correct(value, count, interval))
+    let Left::Fields(text) = left else {
+        return None;
+    };
+    let (value, left) = number_field(text)?;
+    let Left::Fields(text) = left else {
+        return None;
+    };
+    let (interval, left) = number_field(text)?;
+    let (count, after) = count(left)?;
+    Some((Call::Correct(value, count, interval), after))
 }
 
 /// A call by its name alone.
-fn alone(call: Call<'static, u64>, left: Option<&[u8]>) -> Option<Call<'static, u64>>
-    ensures { result ≡ alone call.entry (parts_of_rest 32 (option_map (λ t. t.now) left.entry)) }
+fn alone<'a>(
+    call: Call<'static, u64>,
+    left: Left<'a>,
+) -> Option<(Call<'static, u64>, Option<&'a [u8]>)>
+    ensures { let left = view_of_left left.entry in MatchOption result (alone call.entry left.fields ≡ None)
+        (λ p. (alone call.entry left.fields ≡ Some p.0) × (option_map (λ t. t.now) p.1 ≡ left.after)) }
 {
-    if left.is_some() {
-        return None;
+    match left {
+        Left::Fields(_) => None,
+        Left::Lines(after) => Some((call, after)),
     }
-    Some(call)
 }
 
-/// The call of a name and of what is left after it.
+/// The call of a name and of what is left of its line, and the lines after it; `None` where that is no call.
+#[inline(always)]
 #[tactic(auto, unfolding(crate::specs::Commands::call_of_name))]
-fn named(name: &[u8], left: Option<&[u8]>) -> Option<Call<'static, u64>>
-    ensures { result ≡ call_of_name name.now (parts_of_rest 32
-        (option_map (λ t. t.now) left.entry)) }
+pub(crate) fn call<'a>(
+    name: &[u8],
+    left: Left<'a>,
+) -> Option<(Call<'static, u64>, Option<&'a [u8]>)>
+    ensures { let left = view_of_left left.entry in MatchOption result (call_of_name name.now left.fields ≡ None)
+        (λ p. (call_of_name name.now left.fields ≡ Some p.0) × (option_map (λ t. t.now) p.1 ≡ left.after)) }
 {
     match name {
         b"r" => record(left),
@@ -81,14 +105,6 @@ fn named(name: &[u8], left: Option<&[u8]>) -> Option<Call<'static, u64>>
         b"reset" => alone(Call::Reset, left),
         _ => None,
     }
-}
-
-/// The call that a line asks for; `None` where the line is no command.
-pub(crate) fn call(line: &[u8]) -> Option<Call<'static, u64>>
-    ensures { result ≡ call_of line.now }
-{
-    let (name, left) = split_first(line, b' ');
-    named(name, left)
 }
 
 /// What a line of a log's input asks for.
@@ -110,45 +126,57 @@ fn tag(word: &[u8]) -> Option<Tag<'_>>
     Tag::new(text(word)?)
 }
 
-/// `[TAG]`: the tag after the times, if there is one.
-fn end_tag(left: Option<&[u8]>) -> Option<Option<Tag<'_>>>
-    ensures { option_map (λ tag. option_map tag_text tag) result ≡ end_tag_of
-        (parts_of_rest 32 (option_map (λ t. t.now) left.entry)) }
+/// `[TAG]`: the tag after the times, if there is one, and the lines after it.
+fn end_tag(left: Left<'_>) -> Option<(Option<Tag<'_>>, Option<&[u8]>)>
+    ensures { let left = view_of_left left.entry in MatchOption result (end_tag_of left.fields ≡ None)
+        (λ p. (end_tag_of left.fields ≡ Some (option_map tag_text p.0))
+        × (option_map (λ t. t.now) p.1 ≡ left.after)) }
 {
-    let Some(text) = left else {
-        return Some(None);
+    let text = match left {
+        Left::Fields(text) => text,
+        Left::Lines(after) => return Some((None, after)),
     };
-    let (word, left) = split_first(text, b' ');
-    if left.is_some() {
-        return None;
+    match field(text) {
+        (word, Left::Lines(after)) => Some((Some(tag(word)?), after)),
+        _ => None,
     }
-    let tag = tag(word)?;
-    Some(Some(tag))
 }
 
 /// `START DURATION [TAG]`.
-fn end(left: Option<&[u8]>) -> Option<LogCommand<'_>>
-    ensures { option_map view_of_log_command result ≡ end_of
-        (parts_of_rest 32 (option_map (λ t. t.now) left.entry)) }
+fn end(left: Left<'_>) -> Option<(LogCommand<'_>, Option<&[u8]>)>
+    ensures { let left = view_of_left left.entry in MatchOption result (end_of left.fields ≡ None)
+        (λ p. (end_of left.fields ≡ Some (view_of_log_command p.0))
+        × (option_map (λ t. t.now) p.1 ≡ left.after)) }
 {
-    let (start, left) = split_first(left?, b' ');
-    let (duration, left) = split_first(left?, b' ');
-    let start = number(start)?;
-    let duration = number(duration)?;
-    let tag = end_tag(left)?;
-    Some(LogCommand::End(start, duration, tag))
+    let Left::Fields(text) = left else {
+        return None;
+    };
+    let (start, left) = number_field(text)?;
+    let Left::Fields(text) = left else {
+        return None;
+    };
+    let (duration, left) = number_field(text)?;
+    let (tag, after) = end_tag(left)?;
+    Some((LogCommand::End(start, duration, tag), after))
 }
 
-/// The command that a line of a log's input asks for; `None` where the line is no command.
+/// The command of a name and of what is left of its line in a log's input, and the lines after it; `None` where that is no
+/// command.
+#[inline(always)]
 #[tactic(auto, unfolding(crate::specs::Commands::log_command_of_name))]
-pub(crate) fn log_command(line: &[u8]) -> Option<LogCommand<'_>>
-    ensures { option_map view_of_log_command result ≡ log_command_of line.now }
+pub(crate) fn log_command<'a>(
+    name: &[u8],
+    left: Left<'a>,
+) -> Option<(LogCommand<'a>, Option<&'a [u8]>)>
+    ensures { let left = view_of_left left.entry in MatchOption result
+        (log_command_of_name name.now left.fields ≡ None)
+        (λ p. (log_command_of_name name.now left.fields ≡ Some (view_of_log_command p.0))
+        × (option_map (λ t. t.now) p.1 ≡ left.after)) }
 {
-    let (name, left) = split_first(line, b' ');
     match name {
         b"end" => end(left),
-        _ => match named(name, left) {
-            Some(call) => Some(LogCommand::Make(call)),
+        _ => match call(name, left) {
+            Some((call, after)) => Some((LogCommand::Make(call), after)),
             None => None,
         },
     }

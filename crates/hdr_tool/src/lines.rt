@@ -1,61 +1,88 @@
-//! The lines of a text.
+//! The lines of a text and their fields, each read once, as its bytes come.
 
-ghost use Rattle.std.specs.Prelude.{◌≡◌, ◌+◌, ◌<◌, ◌^◌, length, Some, IfSome};
-ghost use Rattle.std.specs.Iterator.{YieldsFirstBy, item_count};
-ghost use Rattle.hdr_tool.specs.Lines.{number_lines};
+ghost use Rattle.std.specs.Prelude.{◌≡◌, ◌≢◌, ◌+◌, ◌<◌, ◌^◌, length, [], MatchOption, Some, None, true};
+ghost use Rattle.std.specs.Option.{option_map};
+ghost use Rattle.hdr_log.specs.Parts.{number_of};
+ghost use Rattle.hdr_tool.specs.Lines.{number_lines, first_line, view_of_left};
 
-use crate::parts::split_first;
-use std::marker::Model;
+use hdr_log::parts::append_digit;
 
-/// The lines of a text with their numbers, without their line ends. It is seen as the list of
-/// those that are left.
-#[derive(Drop)]
-pub(crate) struct Lines<'a> {
-    number: u64,
-    left: Option<&'a [u8]>,
+/// What is left of a text after a field of its first line.
+#[derive(Clone, Copy)]
+pub(crate) enum Left<'a> {
+    /// More fields of the line, and the lines after it.
+    Fields(&'a [u8]),
+    /// The lines after the line, where an LF ended it.
+    Lines(Option<&'a [u8]>),
 }
 
-impl<'a> Model for Lines<'a> {
-    ghost use Rattle.std.specs.Prelude.{ℕ, List, IfSome, ◌<◌, ◌+◌, ◌^◌, length};
-    ghost use Rattle.std.specs.Option.{option_map};
-    ghost use Rattle.hdr_tool.specs.Lines.{number_lines};
-
-    ghost Value = { List (ℕ × List ℕ) };
-
-    ghost view = { λ it. number_lines it.number (option_map (λ text. text.now) it.left) };
-
-    ghost invariant = { λ it. IfSome it.left (λ text. it.number + length text.now + 1 < 2 ^ 64) };
+/// A text's first field, and what is left after it.
+#[inline(always)]
+pub(crate) fn field(text: &[u8]) -> (&[u8], Left<'_>)
+    ensures field { result.0.now ≡ (first_line text.now).field }
+    ensures left { view_of_left result.1 ≡ (first_line text.now).rest }
+{
+    for (at, byte) in text.iter().enumerate() {
+        if *byte == b' ' {
+            return (&text[..at], Left::Fields(&text[at + 1..]));
+        }
+        if *byte == b'\n' {
+            return (&text[..at], Left::Lines(Some(&text[at + 1..])));
+        }
+    }
+    (text, Left::Lines(None))
 }
 
-impl<'a> Lines<'a> {
-    /// The lines of a text, numbered from this number on; `None` where the numbers might not fit 64 bits.
-    pub(crate) fn new(number: u64, text: &'a [u8]) -> Option<Lines<'a>>
-        ensures lines { IfSome result (λ lines. lines ≡ number_lines number (Some text.now)) }
-        ensures bound { IfSome result (λ lines. number + length lines < 2 ^ 64) }
-    {
-        if number >= u64::MAX - text.len() as u64 {
+/// The number of a text's first field, and what is left after it; `None` where the field is no number of 64 bits.
+#[inline(always)]
+pub(crate) fn number_field(text: &[u8]) -> Option<(u64, Left<'_>)>
+    ensures { let line = first_line text.now in MatchOption result (number_of line.field ≡ None)
+        (λ p. (number_of line.field ≡ Some p.0) × (view_of_left p.1 ≡ line.rest)) }
+{
+    let mut value = 0;
+    for (at, byte) in text.iter().enumerate() {
+        if byte.is_ascii_digit() {
+            value = append_digit(value, u64::from(*byte - b'0'))?;
+            continue;
+        }
+        if at == 0 {
             return None;
         }
-        Some(Lines {
-            number,
-            left: Some(text),
-        })
+        if *byte == b' ' {
+            return Some((value, Left::Fields(&text[at + 1..])));
+        }
+        if *byte == b'\n' {
+            return Some((value, Left::Lines(Some(&text[at + 1..]))));
+        }
+        return None;
     }
+    if text.is_empty() {
+        return None;
+    }
+    Some((value, Left::Lines(None)))
 }
 
-impl<'a> Iterator for Lines<'a> {
-    type Item = (u64, &'a [u8]);
-
-    ghost next_gives = { YieldsFirstBy (λ line. (line.0, line.1.now)) (λ left. left) };
-
-    ghost remaining = { item_count (λ left. left) };
-
-    fn next(&mut self) -> Option<(u64, &'a [u8])> {
-        let text = self.left?;
-        let (line, left) = split_first(text, b'\n');
-        let number = self.number;
-        self.number = number + 1;
-        self.left = left;
-        Some((number, line))
+/// What follows an empty line that a text begins with; `None` where its first line is not empty.
+#[inline(always)]
+pub(crate) fn after_empty_line(text: &[u8]) -> Option<Option<&[u8]>>
+    ensures { let line = first_line text.now in MatchOption result (line.bytes ≢ [])
+        (λ after. (line.bytes ≡ []) × (option_map (λ t. t.now) after ≡ line.rest.after)) }
+{
+    if text.is_empty() {
+        return Some(None);
     }
+    if text[0] == b'\n' {
+        return Some(Some(&text[1..]));
+    }
+    None
+}
+
+/// Whether 64 bits hold the numbers of a text's lines, the first of which has this number, and of the line after them.
+pub(crate) fn can_number(number: u64, text: &[u8]) -> bool
+    ensures { result ≡ true → number + length (number_lines number (Some text.now)) < 2 ^ 64 }
+{
+    if number >= u64::MAX - text.len() as u64 {
+        return false;
+    }
+    true
 }

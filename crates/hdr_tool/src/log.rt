@@ -1,18 +1,19 @@
 //! The log.
 
-ghost use Rattle.std.specs.Prelude.{◌≡◌, ◌≢◌, ◌*◌, ◌+◌, ◌<◌, ℕ, List, length, MatchResult, IfSome, Ok, Err, Some};
+ghost use Rattle.std.specs.Prelude.{◌≡◌, ◌≢◌, ◌*◌, ◌+◌, ◌<◌, ℕ, List, length, MatchResult, IfSome, IfOk, Ok, Err, Some};
 ghost use Rattle.std.specs.Option.{option_map};
 ghost use Rattle.std.specs.Io.KnownBytes.{Appends, IsAtEnd};
 ghost use Rattle.hdr_log.specs.Tags.{tag_text};
 ghost use Rattle.hdrhistogram.specs.LogWriters.{sink, divisor_of, IsSameLog};
-ghost use Rattle.hdr_tool.specs.Lines.{number_lines};
+ghost use Rattle.hdr_tool.specs.Lines.{number_lines, first_line};
 ghost use Rattle.hdr_tool.specs.Words.{Log};
-ghost use Rattle.hdr_tool.specs.Outcomes.{Begins, Runs, Answers, StepAnswers, ReadsAll, ReadsTo};
-ghost use Rattle.hdr_tool.specs.Program.{EndDone, LogLineDone, LogDone, TaskDone, TaskStands, TaskWrites, TaskLeaves};
+ghost use Rattle.hdr_tool.specs.Commands.{view_of_log_command};
+ghost use Rattle.hdr_tool.specs.Outcomes.{Begins, Runs, Answers, StepAnswers, ReadsAll, ReadsTo, without_value};
+ghost use Rattle.hdr_tool.specs.Program.{EndDone, LogCommandDone, LogLineDone, LogDone, TaskDone, TaskStands, TaskWrites, TaskLeaves};
 
 use crate::command::{LogCommand, log_command};
 use crate::fault::Fault;
-use crate::lines::Lines;
+use crate::lines::{after_empty_line, can_number, field};
 use crate::parts::{replace, take_lines};
 use crate::run::refusal;
 use crate::stream::{PIECE, read_piece, told_at_end};
@@ -57,31 +58,57 @@ fn end<W: Write>(
     }
 }
 
-/// Does what a line says. An interval is written as it is reached.
-fn log_line<W: Write>(
+/// Does a command. An interval is written as it is reached.
+#[inline(always)]
+fn do_command<W: Write>(
     histogram: &mut Histogram<u64>,
     number: u64,
-    line: &[u8],
+    command: LogCommand<'_>,
     log: &mut IntervalLogWriter<'_, '_, W, V2Serializer>,
 ) -> Result<(), Fault>
     requires { divisor_of log.old ≡ 1 }
     ensures same { IsSameLog log.old log.new }
     ensures words { result ≢ Err Fault.WrongWords }
-    ensures answers { StepAnswers (LogLineDone histogram.old (number, line.now)) histogram.new
+    ensures answers { StepAnswers (LogCommandDone number histogram.old
+        (Some (view_of_log_command command.entry))) histogram.new
         (W.contents (sink log.old).now) (W.contents (sink log.new).now) result }
 {
-    if line.is_empty() {
-        return Ok(());
-    }
-    let Some(command) = log_command(line) else {
-        return Err(Fault::NotACommand(number));
-    };
     match command {
         LogCommand::Make(call) => match histogram.apply(&call) {
             Ok(()) => Ok(()),
             Err(cause) => Err(refusal(number, cause)),
         },
         LogCommand::End(start, duration, tag) => end(histogram, number, start, duration, tag, log),
+    }
+}
+
+/// Does what the first line of a text says, and answers the text after the line. An empty line says nothing.
+#[inline(always)]
+fn log_line<'c, W: Write>(
+    histogram: &mut Histogram<u64>,
+    number: u64,
+    text: &'c [u8],
+    log: &mut IntervalLogWriter<'_, '_, W, V2Serializer>,
+) -> Result<Option<&'c [u8]>, Fault>
+    requires { divisor_of log.old ≡ 1 }
+    ensures same { IsSameLog log.old log.new }
+    ensures words { result ≢ Err Fault.WrongWords }
+    ensures after { IfOk result (λ after. option_map (λ t. t.now) after
+        ≡ (first_line text.now).rest.after) }
+    ensures answers { StepAnswers (LogLineDone histogram.old (number, (first_line text.now).bytes))
+        histogram.new (W.contents (sink log.old).now) (W.contents (sink log.new).now)
+        (without_value result) }
+{
+    if let Some(after) = after_empty_line(text) {
+        return Ok(after);
+    }
+    let (name, left) = field(text);
+    let Some((command, after)) = log_command(name, left) else {
+        return Err(Fault::NotACommand(number));
+    };
+    match do_command(histogram, number, command, log) {
+        Ok(()) => Ok(after),
+        Err(fault) => Err(fault),
     }
 }
 
@@ -104,15 +131,17 @@ fn write_lines<W: Write>(
         (Begins LogLineDone histogram.old lines)
         (W.contents (sink log.old).now) (W.contents (sink log.new).now) (Err f)) }
 {
-    let Some(lines) = Lines::new(number, text) else {
+    if !can_number(number, text) {
         return Err(Fault::CannotRead);
-    };
+    }
     let mut next = number;
-    for (number, line) in lines {
-        if let Err(fault) = log_line(histogram, number, line, log) {
-            return Err(fault);
-        }
-        next = number + 1;
+    let mut left = Some(text);
+    while let Some(text) = left {
+        left = match log_line(histogram, next, text, log) {
+            Ok(after) => after,
+            Err(fault) => return Err(fault),
+        };
+        next += 1;
     }
     Ok(next)
 }

@@ -2,7 +2,8 @@
 
 ghost use Rattle.std.specs.Prelude.{◌≡◌, ◌≢◌, ◌↔◌, ◌+◌, ◌<◌, ℕ, List, map, length, MatchResult, Ok, Err, Some, None, [], IfSome, string_bytes};
 ghost use Rattle.std.specs.Io.KnownBytes.{IsAtEnd};
-ghost use Rattle.hdr_tool.specs.Lines.{number_lines};
+ghost use Rattle.std.specs.Option.{option_map};
+ghost use Rattle.hdr_tool.specs.Lines.{number_lines, first_line};
 ghost use Rattle.hdr_tool.specs.Words.{Report, Merge, task_of, view_of_task};
 ghost use Rattle.hdr_tool.specs.Options.{view_of_options};
 ghost use Rattle.hdr_tool.specs.Faults.{refusal_at};
@@ -11,7 +12,7 @@ ghost use Rattle.hdr_tool.specs.Program.{LineDone, TaskDone, TaskStands, TaskWri
 
 use crate::command::call;
 use crate::fault::Fault;
-use crate::lines::Lines;
+use crate::lines::{after_empty_line, can_number, field};
 use crate::log::log_lines;
 use crate::merge::report_log;
 use crate::options::Options;
@@ -35,21 +36,28 @@ pub(crate) fn refusal(line: u64, cause: CallError) -> Fault
     }
 }
 
-/// Does what a line says.
-fn apply_line(histogram: &mut Histogram<u64>, number: u64, line: &[u8]) -> Result<(), Fault>
+/// Does what the first line of a text says, and answers the lines after it. An empty line says nothing.
+#[inline(always)]
+fn apply_line<'a>(
+    histogram: &mut Histogram<u64>,
+    number: u64,
+    text: &'a [u8],
+) -> Result<Option<&'a [u8]>, Fault>
     ensures words { result ≢ Err Fault.WrongWords }
-    ensures done { MatchResult result
-        (λ _. LineDone histogram.old (number, line.now) (Ok ([], histogram.new)))
-        (λ f. LineDone histogram.old (number, line.now) (Err f)) }
+    ensures done { let line = first_line text.now in MatchResult result
+        (λ after. (option_map (λ t. t.now) after ≡ line.rest.after)
+        × LineDone histogram.old (number, line.bytes) (Ok ([], histogram.new)))
+        (λ f. LineDone histogram.old (number, line.bytes) (Err f)) }
 {
-    if line.is_empty() {
-        return Ok(());
+    if let Some(after) = after_empty_line(text) {
+        return Ok(after);
     }
-    let Some(call) = call(line) else {
+    let (name, left) = field(text);
+    let Some((call, after)) = call(name, left) else {
         return Err(Fault::NotACommand(number));
     };
     match histogram.apply(&call) {
-        Ok(()) => Ok(()),
+        Ok(()) => Ok(after),
         Err(cause) => Err(refusal(number, cause)),
     }
 }
@@ -63,15 +71,17 @@ fn apply_lines(histogram: &mut Histogram<u64>, number: u64, text: &[u8]) -> Resu
         (Refuses (λ f. Runs LineDone histogram.old lines
         (record { written = []; ended = Err f }))) }
 {
-    let Some(lines) = Lines::new(number, text) else {
+    if !can_number(number, text) {
         return Err(Fault::CannotRead);
-    };
+    }
     let mut next = number;
-    for (number, line) in lines {
-        if let Err(fault) = apply_line(histogram, number, line) {
-            return Err(fault);
-        }
-        next = number + 1;
+    let mut left = Some(text);
+    while let Some(text) = left {
+        left = match apply_line(histogram, next, text) {
+            Ok(after) => after,
+            Err(fault) => return Err(fault),
+        };
+        next += 1;
     }
     Ok(next)
 }

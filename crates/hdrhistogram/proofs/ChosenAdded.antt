@@ -1,23 +1,26 @@
 -- What a merge of a log adds.
 use Rattle.std.proofs.Common.{◌≡◌, ◌∙◌, ℕ, ◌+◌, Bool, true, false, List, [], ◌∷◌, length, min, sum, Option, Some, None, Result, Ok, Err, refl, sym, ap, subst, arith}
-use Rattle.hdr_base.specs.Classes.{grain_of}
+use Rattle.hdr_base.specs.Classes.{Grain, grain_of}
 use Rattle.hdr_model.specs.Plain.{Plain, grain, empty_plain}
 use Rattle.hdr_model.specs.Marks.{IsTopMark, IsLowerMark}
 use Rattle.hdr_model.specs.Joining.{after_adds}
 use Rattle.hdr_log.specs.Grammar.{Entry, Start, Base, Span, Interval}
 use Rattle.hdr_log.specs.Texts.{base64_bytes}
 use Rattle.hdrhistogram.specs.Chosen.{Filter, is_chosen}
-use Rattle.hdrhistogram.specs.LogMerging.{Merging, with_base, past_interval, with_interval, BytesMerge, FieldMerges, IntervalMerges, MergesOn, EntriesMerge, IsHeldIn, ChosenFirst, AreChosen}
+use Rattle.hdrhistogram.specs.LogMerging.{Merging, with_base, past_interval, with_interval, coarser_of, one_if_coarser, BytesMerge, FieldMerges, IntervalMerges, MergesOn, EntriesMerge, ChosenFirst, AreChosen}
+use Rattle.hdrhistogram.specs.FieldRead.{IsHeldIn}
 use Rattle.hdrhistogram.specs.V2Read.{Contents, told_of, IsReadAs, ReadsV2}
 use Rattle.hdrhistogram.specs.Faults.{Fault}
 use Rattle.hdrhistogram.specs.declared.serialization.errors.DeserializeError.{DeserializeError}
 use Rattle.hdrhistogram.specs.declared.serialization.interval_log.merge.MergeError.{MergeError}
+use Rattle.hdrhistogram.proofs.FinerCounted.{grain-added}
 use Rattle.hdrhistogram.proofs.V2ReadBack.{top-unique, lower-unique}
 
 -- what is added from a state on
 abbrev Adds : ℕ → Filter → Merging → List (Result Entry ℕ) → Merging → Type 0
 Adds greatest filter m entries last =
     (hs : List Plain) × AreChosen filter m.base entries hs × (last.histogram ≡ after_adds greatest m.histogram hs) × (last.chosen ≡ m.chosen + length hs)
+    × (last.coarser ≡ m.coarser + coarser_of (grain m.histogram) hs)
 
 same_Ok : (m n : Merging) → (λ (r : Result Merging MergeError). r) (Ok m) ≡ Ok n → m ≡ n
 same_Ok m n e = cc
@@ -44,7 +47,7 @@ bytes_added greatest filter m last entries step bytes (Err e) r b on = failed gr
 
 field_added : (greatest : ℕ) (filter : Filter) (m last : Merging) (entries : List (Result Entry ℕ)) (interval : Interval) (step : Result Merging MergeError) (o : Option (List ℕ))
     → base64_bytes interval.field ≡ o → FieldMerges greatest m o step → MergesOn (EntriesMerge greatest filter entries) step (Ok last)
-    → (h : Plain) × IsHeldIn interval h × EntriesMerge greatest filter entries (with_interval greatest m h) (Ok last)
+    → (h : Plain) × IsHeldIn 18446744073709551615 interval.field h × EntriesMerge greatest filter entries (with_interval greatest m h) (Ok last)
 field_added greatest filter m last entries interval step None e f on = failed greatest filter last entries step _ f on
 field_added greatest filter m last entries interval step (Some bytes) e f on =
     let b = bytes_added greatest filter m last entries step bytes f.0 f.1 f.2 on in
@@ -55,17 +58,21 @@ interval_added : (greatest : ℕ) (filter : Filter) (m last : Merging) (entries 
     → IntervalMerges greatest m b interval step → MergesOn (EntriesMerge greatest filter entries) step (Ok last)
     → ((next : Merging) → EntriesMerge greatest filter entries next (Ok last) → Adds greatest filter next entries last)
     → (hs : List Plain) × ChosenFirst b interval (AreChosen filter m.base entries) hs × (last.histogram ≡ after_adds greatest m.histogram hs) × (last.chosen ≡ m.chosen + length hs)
+    × (last.coarser ≡ m.coarser + coarser_of (grain m.histogram) hs)
 interval_added greatest filter m last entries interval true step i on rest =
     let f = field_added greatest filter m last entries interval step (base64_bytes interval.field) refl i on in
     let r = rest (with_interval greatest m f.0) f.2 in
-    (f.0 ∷ r.0, (f.0, r.0, refl, f.1, r.1), r.2, omega (arith, r.3))
+    let g = grain m.histogram in
+    let S : Grain → Type 0 = λ g. last.coarser ≡ (m.coarser + one_if_coarser (grain m.histogram) f.0) + coarser_of g r.0 in
+    let coarser : last.coarser ≡ (m.coarser + one_if_coarser g f.0) + coarser_of g r.0 = subst S (grain-added greatest m.histogram f.0) r.4 in
+    (f.0 ∷ r.0, (f.0, r.0, refl, f.1, r.1), r.2, omega (arith, r.3), omega (arith, coarser))
 interval_added greatest filter m last entries interval false step i on rest =
     rest (past_interval m) (stepped greatest filter m (past_interval m) last entries step i on)
 
 pub all_added : (greatest : ℕ) (filter : Filter) (entries : List (Result Entry ℕ)) (m last : Merging) → EntriesMerge greatest filter entries m (Ok last) → Adds greatest filter m entries last
 all_added greatest filter [] m last e =
     let same : last ≡ m = same_Ok last m e in
-    ([], refl, ap (λ (x : Merging). x.histogram) same, omega (arith, ap (λ (x : Merging). x.chosen) same))
+    ([], refl, ap (λ (x : Merging). x.histogram) same, omega (arith, ap (λ (x : Merging). x.chosen) same), omega (arith, ap (λ (x : Merging). x.coarser) same))
 all_added greatest filter (Ok (Start time) ∷ entries) m last e =
     all_added greatest filter entries m last (stepped greatest filter m m last entries e.0 e.1 e.2)
 all_added greatest filter (Ok (Base time) ∷ entries) m last e =
@@ -104,15 +111,15 @@ read_once greatest text h k m n p q =
     let lower : h.lower_mark ≡ k.lower_mark = lower-unique k.counts h.lower_mark k.lower_mark (subst (λ l. IsLowerMark l h.lower_mark) counts p.histogram.restated.lower_mark) q.histogram.restated.lower_mark in
     rw (rebuilt h, low, high, sigfig, fixed, counts, total, top, lower) refl
 
-held_once : (interval : Interval) (h k : Plain) → IsHeldIn interval h → IsHeldIn interval k → h ≡ k
-held_once interval h k p q =
+held_once : (field : List ℕ) (h k : Plain) → IsHeldIn 18446744073709551615 field h → IsHeldIn 18446744073709551615 field k → h ≡ k
+held_once field h k p q =
     let bytes : p.0 ≡ q.0 = same_bytes p.0 q.0 (sym p.1 ∙ q.1) in
     read_once 18446744073709551615 q.0 h k p.2 q.2 (subst (λ t. IsReadAs 18446744073709551615 t h p.2) bytes p.3) q.3
 
 first_once : (b : Bool) (interval : Interval) (Rest : List Plain → Type 0) (hs ks : List Plain) → ((xs ys : List Plain) → Rest xs → Rest ys → xs ≡ ys)
     → ChosenFirst b interval Rest hs → ChosenFirst b interval Rest ks → hs ≡ ks
 first_once true interval Rest hs ks once p q =
-    p.2 ∙ ap (λ h. h ∷ p.1) (held_once interval p.0 q.0 p.3 q.3) ∙ ap (λ l. q.0 ∷ l) (once p.1 q.1 p.4 q.4) ∙ sym q.2
+    p.2 ∙ ap (λ h. h ∷ p.1) (held_once interval.field p.0 q.0 p.3 q.3) ∙ ap (λ l. q.0 ∷ l) (once p.1 q.1 p.4 q.4) ∙ sym q.2
 first_once false interval Rest hs ks once p q = once hs ks p q
 
 pub chosen_once : (filter : Filter) (base : ℕ) (entries : List (Result Entry ℕ)) (hs ks : List Plain) → AreChosen filter base entries hs → AreChosen filter base entries ks → hs ≡ ks

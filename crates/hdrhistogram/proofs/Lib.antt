@@ -17,3 +17,5 @@ pub mod LogStartsParts
 pub mod LogStartsTexts
 pub mod V2ReadStands
 pub mod ChosenAdded
+pub mod FieldMerging
+pub mod FinerCounted

@@ -5,21 +5,36 @@ use Rattle.std.specs.Duration.{as_nanos}
 use Rattle.std.specs.Str.{bytes_eq}
 use Rattle.hdr_log.specs.Tags.{tag_text}
 use Rattle.hdrhistogram.specs.declared.serialization.interval_log.merge.IntervalFilter.{IntervalFilter}
+use Rattle.hdrhistogram.specs.declared.serialization.interval_log.merge.TagChoice as code
+use Rattle.hdrhistogram.specs.declared.serialization.interval_log.merge.TagChoice.TheVariants as choice
 
--- the tag that is asked for, the first time, and the time after the last
+-- every interval, those of one tag, or those without a tag
+pub data TagChoice : Type 0 where
+  Every : TagChoice
+  Tagged : List ℕ → TagChoice
+  Untagged : TagChoice
+
+abbrev pub view_of_choice : code.TagChoice → TagChoice
+view_of_choice choice.Every = Every
+view_of_choice (choice.Tagged tag) = Tagged (tag_text tag)
+view_of_choice choice.Untagged = Untagged
+
+-- the tags that are asked for, the first time, and the time after the last
 pub record Filter : Type 0 where
-  pub tag : Option (List ℕ)
+  pub tags : TagChoice
   pub from : Option ℕ
   pub to : Option ℕ
 
 abbrev pub view_of_filter : IntervalFilter → Filter
-view_of_filter f = record { tag = option_map tag_text f.tag; from = option_map as_nanos f.from; to = option_map as_nanos f.to }
+view_of_filter f = record { tags = view_of_choice f.tags; from = option_map as_nanos f.from; to = option_map as_nanos f.to }
 
--- where no tag is asked for every interval is right, tagged or not
-abbrev pub has_tag : Option (List ℕ) → Option (List ℕ) → Bool
-has_tag None tag = true
-has_tag (Some asked) None = false
-has_tag (Some asked) (Some tag) = bytes_eq tag asked
+-- an interval with this tag, or with none, is chosen
+abbrev pub chooses_tag : TagChoice → Option (List ℕ) → Bool
+chooses_tag Every tag = true
+chooses_tag (Tagged asked) None = false
+chooses_tag (Tagged asked) (Some tag) = bytes_eq tag asked
+chooses_tag Untagged None = true
+chooses_tag Untagged (Some tag) = false
 
 abbrev pub begins_from : Option ℕ → ℕ → Bool
 begins_from None time = true
@@ -31,4 +46,4 @@ begins_before (Some to) time = nat_lt time to
 
 -- an interval is chosen by its tag and by the time at which it begins
 unfoldable pub is_chosen : Filter → Option (List ℕ) → ℕ → Bool
-is_chosen filter tag time = has_tag filter.tag tag && begins_from filter.from time && begins_before filter.to time
+is_chosen filter tag time = chooses_tag filter.tags tag && begins_from filter.from time && begins_before filter.to time

@@ -9,6 +9,7 @@ pub mod Faults
 pub mod PayloadRead
 pub mod V2Read
 pub mod HeaderView
+pub mod FieldRead
 pub mod LogStarts
 pub mod LogLeaving
 pub mod LogWriters

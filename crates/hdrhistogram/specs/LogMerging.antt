@@ -1,6 +1,7 @@
 -- What merging a log comes to: the histograms of its chosen intervals are added in order, up to the first fault.
-use Rattle.std.specs.Prelude.{◌≡◌, ℕ, ◌+◌, Bool, true, false, List, [], ◌∷◌, Option, Some, None, Result, Ok, Err}
-use Rattle.hdr_model.specs.Plain.{Plain, empty_plain}
+use Rattle.std.specs.Prelude.{◌≡◌, ℕ, ◌+◌, Bool, true, false, ◌&&◌, nat_le, if◌then◌else◌, List, [], ◌∷◌, Option, Some, None, Result, Ok, Err}
+use Rattle.hdr_base.specs.Classes.{Grain}
+use Rattle.hdr_model.specs.Plain.{Plain, grain, empty_plain}
 use Rattle.hdr_model.specs.Merging.{after_add}
 use Rattle.hdr_model.specs.Refusals.{IsBounds, RefusesBounds}
 use Rattle.hdr_model.specs.declared.errors.CreationError.{CreationError}
@@ -8,33 +9,51 @@ use Rattle.hdr_model.specs.declared.errors.CreationError.TheVariants as make
 use Rattle.hdr_log.specs.Grammar.{Entry, Start, Base, Span, Interval, reading}
 use Rattle.hdr_log.specs.Texts.{base64_bytes}
 use Rattle.hdrhistogram.specs.Chosen.{Filter, is_chosen}
-use Rattle.hdrhistogram.specs.V2Read.{IsReadAs, ReadsV2}
+use Rattle.hdrhistogram.specs.FieldRead.{IsHeldIn}
+use Rattle.hdrhistogram.specs.V2Read.{ReadsV2}
 use Rattle.hdrhistogram.specs.declared.serialization.errors.DeserializeError.{DeserializeError}
-use Rattle.hdrhistogram.specs.declared.serialization.errors.DeserializeError.TheVariants as read
+use Rattle.hdrhistogram.specs.declared.serialization.errors.FieldDecodeError.{FieldDecodeError}
+use Rattle.hdrhistogram.specs.declared.serialization.errors.FieldDecodeError.TheVariants as field
 use Rattle.hdrhistogram.specs.declared.serialization.interval_log.merge.MergeError.{MergeError}
 use Rattle.hdrhistogram.specs.declared.serialization.interval_log.merge.MergeError.TheVariants.{Creation, Parse, Base64, Decode, OutOfMemory}
 
--- how far a merge has come: its histogram, the log's base time, and how many intervals were read and chosen
+-- how far a merge has come: its histogram, the log's base time, how many intervals were read and chosen, and how many of these
+-- are coarser than the histogram
 pub record Merging : Type 0 where
   pub histogram : Plain
   pub base : ℕ
   pub intervals : ℕ
   pub chosen : ℕ
+  pub coarser : ℕ
 
 -- a merge begins with an empty histogram that grows
 abbrev pub new_merging : ℕ → Merging
-new_merging sigfig = record { histogram = empty_plain 1 2 sigfig true; base = 0; intervals = 0; chosen = 0 }
+new_merging sigfig = record { histogram = empty_plain 1 2 sigfig true; base = 0; intervals = 0; chosen = 0; coarser = 0 }
+
+-- 1 where the classes of a histogram do not all lie in classes of the grain (`IsFiner`), and else 0; the sum of that
+unfoldable pub one_if_coarser : Grain → Plain → ℕ
+one_if_coarser g h = if nat_le (grain h).unit g.unit && nat_le g.digits (grain h).digits then 0 else 1
+
+abbrev pub coarser_of : Grain → List Plain → ℕ
+coarser_of g [] = 0
+coarser_of g (h ∷ hs) = one_if_coarser g h + coarser_of g hs
 
 -- a base time, an interval that is not chosen, and one whose histogram is added
 abbrev pub with_base : Merging → ℕ → Merging
-with_base m time = record { histogram = m.histogram; base = time; intervals = m.intervals; chosen = m.chosen }
+with_base m time = record { histogram = m.histogram; base = time; intervals = m.intervals; chosen = m.chosen; coarser = m.coarser }
 
 abbrev pub past_interval : Merging → Merging
-past_interval m = record { histogram = m.histogram; base = m.base; intervals = m.intervals + 1; chosen = m.chosen }
+past_interval m = record { histogram = m.histogram; base = m.base; intervals = m.intervals + 1; chosen = m.chosen; coarser = m.coarser }
 
 abbrev pub with_interval : ℕ → Merging → Plain → Merging
 with_interval greatest m source =
-    record { histogram = after_add greatest m.histogram source; base = m.base; intervals = m.intervals + 1; chosen = m.chosen + 1 }
+    record {
+      histogram = after_add greatest m.histogram source;
+      base = m.base;
+      intervals = m.intervals + 1;
+      chosen = m.chosen + 1;
+      coarser = m.coarser + one_if_coarser (grain m.histogram) source;
+    }
 
 -- the histogram that was read of an interval's bytes is added, whatever follows it
 abbrev pub BytesMerge : ℕ → Merging → Result (Plain × ℕ) DeserializeError → Result Merging MergeError → Type 0
@@ -72,14 +91,15 @@ EntriesMerge greatest filter (entry ∷ entries) m r =
 abbrev pub Merges : ℕ → Filter → ℕ → List ℕ → Result Merging MergeError → Type 0
 Merges greatest filter sigfig log r = EntriesMerge greatest filter (reading log) (new_merging sigfig) r
 
--- a histogram that was not made, and an interval whose bytes were refused
+-- a histogram that was not made, and an interval whose field was refused
 abbrev pub creation_error : CreationError → MergeError
 creation_error make.OutOfMemory = OutOfMemory
 creation_error e = Creation e
 
-abbrev pub decode_error : ℕ → DeserializeError → MergeError
-decode_error interval read.OutOfMemory = OutOfMemory
-decode_error interval e = Decode interval e
+abbrev pub field_error : ℕ → FieldDecodeError → MergeError
+field_error interval field.NotBase64 = Base64 interval
+field_error interval (field.Decode e) = Decode interval e
+field_error interval field.OutOfMemory = OutOfMemory
 
 -- a step is refused by name as it is told, and running out of memory may come in place of any answer
 abbrev pub RefusesStep : (MergeError → Type 0) → MergeError → Type 0
@@ -94,18 +114,14 @@ RefusesMerge greatest filter sigfig log (Creation e) = RefusesBounds 1 2 sigfig 
 RefusesMerge greatest filter sigfig log OutOfMemory = Unit {0}
 RefusesMerge greatest filter sigfig log e = IsBounds 1 2 sigfig × Merges greatest filter sigfig log (Err e)
 
--- a histogram and a number of chosen intervals are what a merge comes to
-abbrev pub IsMergedBy : (Result Merging MergeError → Type 0) → Plain → ℕ → Type 0
-IsMergedBy Ends histogram chosen =
-    (base : ℕ) × (intervals : ℕ) × Ends (Ok (record { histogram = histogram; base = base; intervals = intervals; chosen = chosen }))
-
--- an interval's field holds a histogram, whatever follows it
-abbrev pub IsHeldIn : Interval → Plain → Type 0
-IsHeldIn interval h = (bytes : List ℕ) × (base64_bytes interval.field ≡ Some bytes) × (taken : ℕ) × IsReadAs 18446744073709551615 bytes h taken
+-- a histogram, and how many intervals were chosen and how many of them are coarser, are what a merge comes to
+abbrev pub IsMergedBy : (Result Merging MergeError → Type 0) → Plain → ℕ → ℕ → Type 0
+IsMergedBy Ends histogram chosen coarser =
+    (base : ℕ) × (intervals : ℕ) × Ends (Ok (record { histogram = histogram; base = base; intervals = intervals; chosen = chosen; coarser = coarser }))
 
 -- the histograms of the chosen intervals of what is read, with the base time before it
 abbrev pub ChosenFirst : Bool → Interval → (List Plain → Type 0) → List Plain → Type 0
-ChosenFirst true interval Rest hs = (h : Plain) × (rest : List Plain) × (hs ≡ h ∷ rest) × IsHeldIn interval h × Rest rest
+ChosenFirst true interval Rest hs = (h : Plain) × (rest : List Plain) × (hs ≡ h ∷ rest) × IsHeldIn 18446744073709551615 interval.field h × Rest rest
 ChosenFirst false interval Rest hs = Rest hs
 
 abbrev pub AreChosen : Filter → ℕ → List (Result Entry ℕ) → List Plain → Type 0

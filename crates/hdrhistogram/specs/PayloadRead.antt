@@ -102,7 +102,7 @@ counts_in bins greatest payload =
     let p = split_spellings 8 payload in
     counts_or_fault (first_fault bins greatest 0 (numbers p.texts)) p.rest (fit_bins bins (flat_map bins_of_number (numbers p.texts)))
 
--- a beginning of a spelling that is not whole: fewer than nine bytes, each of which asks for another
+-- a prefix of a spelling that is not whole: fewer than nine bytes, each of which asks for another
 pub record IsCut (rest : List ℕ) : Type 0 where
   pub short : length rest ≤ 8
   pub high : AllByRecursion (λ b. 128 ≤ b) rest

@@ -22,7 +22,7 @@ RefusesNamed h UsizeTypeTooSmall = ⊥
 RefusesNamed h (IoError e) = Unit {0}
 RefusesNamed h OutOfMemory = Unit {0}
 
--- the histogram is not written: after an i/o error a beginning of its bytes stands in the writer,
+-- the histogram is not written: after an i/o error a prefix of its bytes stands in the writer,
 -- and any other refusal wrote nothing
 abbrev pub RefusesWriting : Plain → Option (List ℕ) → Option (List ℕ) → V2SerializeError → Type 0
 RefusesWriting h old new CountNotSerializable = HasTooGreatCount h × Keeps old new

@@ -10,7 +10,7 @@ abbrev pub WritesFront : (List ℕ → Type 0) → List ℕ → List ℕ → ℕ
 WritesFront P old new count =
     (text : List ℕ) × P text × (count ≡ length text) × (new ≡ text ++ drop count old)
 
--- known bytes grow by a beginning of the text, not by all of it
+-- known bytes grow by a prefix of the text, not by all of it
 abbrev pub AppendsFront : Option (List ℕ) → Option (List ℕ) → List ℕ → Type 0
 AppendsFront old new text = (n : ℕ) × (n < length text) × Appends old new (take n text)
 

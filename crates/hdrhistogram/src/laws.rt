@@ -2,15 +2,16 @@
 //! law.
 
 ghost use Rattle.hdr_model.specs.Equality.{same_plain};
-ghost use Rattle.std.specs.Prelude.{◌≡◌, ℕ, ◌^◌, ◌<◌, ◌≤◌, ◌++◌, List, length, slice_index, All, sum, ℤ, true, Result, Ok};
-ghost use Rattle.hdr_base.specs.Classes.{grain_of};
+ghost use Rattle.std.specs.Prelude.{◌≡◌, ◌↔◌, ℕ, ◌^◌, ◌<◌, ◌≤◌, ◌++◌, List, length, slice_index, All, sum, ℤ, true, Result, Ok};
+ghost use Rattle.std.specs.List.{AllByRecursion};
+ghost use Rattle.hdr_base.specs.Classes.{Grain, IsFiner, grain_of};
 ghost use Rattle.hdr_model.specs.Plain.{Plain, IsPlain, grain, empty_plain};
 ghost use Rattle.hdr_model.specs.Samples.{StandsFor, Fits};
 ghost use Rattle.hdr_model.specs.Joining.{after_adds, AreParts, joined_samples, AnswersRanked};
 ghost use Rattle.hdr_model.specs.Refusals.{IsBounds};
 ghost use Rattle.hdr_log.specs.Grammar.{Entry, reading};
 ghost use Rattle.hdrhistogram.specs.Chosen.{Filter};
-ghost use Rattle.hdrhistogram.specs.LogMerging.{Merging, Merges, AreChosen};
+ghost use Rattle.hdrhistogram.specs.LogMerging.{Merging, Merges, AreChosen, coarser_of};
 ghost use Rattle.hdrhistogram.specs.Varint.{Spells, IsShortest};
 ghost use Rattle.hdrhistogram.specs.ZigZag.{zig_zag, from_zig_zag};
 ghost use Rattle.hdrhistogram.specs.Payload.{Part, IsSplit, IsPayload};
@@ -107,13 +108,17 @@ pub fn read_back_stands()
     samples_are_counted();
 }
 
-/// Merging a log adds the histograms of its chosen intervals in order, and counts them.
+/// Merging a log adds the histograms of its chosen intervals in order, and counts them and those that are coarser than the sum.
+/// Where none is, each of them is finer than the sum.
 pub fn merging_adds_the_chosen()
     ensures added { (greatest sigfig : ℕ) (filter : Filter) (log : List ℕ) (m : Merging)
         → Merges greatest filter sigfig log (Ok m)
         → (hs : List Plain) × AreChosen filter 0 (reading log) hs
         × (m.histogram ≡ after_adds greatest (empty_plain 1 2 sigfig true) hs)
-        × (m.chosen ≡ length hs) }
+        × (m.chosen ≡ length hs)
+        × (m.coarser ≡ coarser_of (grain_of 1 sigfig) hs) }
+    ensures finer { (g : Grain) (hs : List Plain)
+        → (coarser_of g hs ≡ 0) ↔ AllByRecursion (λ (h : Plain). IsFiner (grain h) g) hs }
     ensures only { (filter : Filter) (base : ℕ) (entries : List (Result Entry ℕ))
         (hs others : List Plain) → AreChosen filter base entries hs
         → AreChosen filter base entries others → hs ≡ others }

@@ -1,7 +1,7 @@
 //! The classes of values, for every `u64`, past the bins too.
 
 ghost use Rattle.std.specs.Prelude.{◌≡◌, ◌↔◌, ◌+◌, ◌-◌, ◌/◌, ◌^◌, IsTrue, min};
-ghost use Rattle.hdr_base.specs.Classes.{width_of, lowest_of, top_of, AreEquivalent};
+ghost use Rattle.hdr_base.specs.Classes.{width_of, lowest_of, top_of, AreEquivalent, IsFiner};
 ghost use Rattle.hdr_model.specs.Plain.{grain};
 
 use super::Histogram;
@@ -51,5 +51,13 @@ impl<T: Counter> Histogram<T> {
         ensures { IsTrue result ↔ AreEquivalent (grain self.now) a b }
     {
         self.scale.bin(a) == self.scale.bin(b)
+    }
+
+    /// Whether each class of this histogram lies in one class of another, which may count in another type: its unit is no
+    /// greater, and it keeps as many digits or more. Added to the other, its samples then stay in their classes.
+    pub fn refines<F: Counter>(&self, other: &Histogram<F>) -> bool
+        ensures { IsTrue result ↔ IsFiner (grain self.now) (grain other.now) }
+    {
+        self.scale.unit() <= other.scale.unit() && other.scale.digits() <= self.scale.digits()
     }
 }

@@ -52,7 +52,7 @@ impl<T: Counter> Filling<T> {
             × IsBounds low high sigfig) (RefusesBounds low high sigfig) }
     {
         let scale = scale_for(low, high, sigfig)?;
-        let Ok(counts) = OpenCounts::new(alloc, scale.parts(high), scale.part(), sets) else {
+        let Ok(counts) = OpenCounts::new(alloc, scale.sections(high), scale.section(), sets) else {
             return Err(CreationError::OutOfMemory);
         };
         Ok(Filling {

@@ -1,6 +1,6 @@
 //! How a histogram grows.
 
-ghost use Rattle.std.specs.Prelude.{◌≡◌, ◌<◌, MatchResult, OnOk, IfErr};
+ghost use Rattle.std.specs.Prelude.{◌≡◌, ◌<◌, ◌≤◌, ◌⊎◌, MatchResult, OnOk, IfErr};
 ghost use Rattle.hdr_model.specs.Plain.{IsPlain, reach};
 ghost use Rattle.hdr_model.specs.Recording.{with_bins_to, with_bins_for};
 ghost use Rattle.hdr_model.specs.Merging.{with_room};
@@ -12,9 +12,38 @@ use hdr_model::{AdditionError, RecordError};
 use std::alloc::AllocError;
 
 impl<T: Counter> Histogram<T> {
-    /// Makes bins up to a value, where it has none.
+    /// Makes bins up to a value, where it has none. `high` is then their reach.
     pub(super) fn cover(&mut self, value: u64) -> Result<(), RecordError>
         ensures ok { OnOk result (self.new ≡ with_bins_for self.old value) }
+        ensures kept { IsPlain T.greatest self.old }
+        ensures can { OnOk result (HasRoom self.old value) }
+        ensures refused { IfErr result (λ e. RefusesRecord self.old value e
+            × (self.new ≡ self.old)) }
+    {
+        let high = self.scale.reach(value);
+        self.cover_to(value, high)?;
+        Ok(())
+    }
+
+    /// Bins up to a value, which becomes `high` where they had to grow.
+    pub(super) fn make_room(&mut self, value: u64) -> Result<(), AdditionError>
+        ensures ok { OnOk result (self.new ≡ with_room self.old value) }
+        ensures kept { IsPlain T.greatest self.old }
+        ensures can { OnOk result (HasRoom self.old value) }
+        ensures refused { IfErr result (λ e. RefusesRoom self.old value e × (self.new ≡ self.old)) }
+    {
+        match self.cover_to(value, value) {
+            Ok(()) => Ok(()),
+            Err(RecordError::OutOfMemory) => Err(AdditionError::OutOfMemory),
+            Err(_) => Err(AdditionError::OtherAddendValueExceedsRange),
+        }
+    }
+
+    /// Makes bins up to a value, where it has none. `high` is then the number given.
+    fn cover_to(&mut self, value: u64, high: u64) -> Result<(), RecordError>
+        requires { value ≤ high }
+        ensures ok { OnOk result (((value ≤ reach self.old) × (self.new ≡ self.old))
+            ⊎ ((reach self.old < value) × (self.new ≡ with_bins_to self.old high))) }
         ensures kept { IsPlain T.greatest self.old }
         ensures can { OnOk result (HasRoom self.old value) }
         ensures refused { IfErr result (λ e. RefusesRecord self.old value e
@@ -26,28 +55,9 @@ impl<T: Counter> Histogram<T> {
         if !self.auto_resize {
             return Err(RecordError::ValueOutOfRangeResizeDisabled);
         }
-        match self.grow(self.scale.reach(value)) {
+        match self.grow(high) {
             Ok(()) => Ok(()),
             Err(_) => Err(RecordError::OutOfMemory),
-        }
-    }
-
-    /// Bins up to a value, which becomes `high` where they had to grow.
-    pub(super) fn make_room(&mut self, value: u64) -> Result<(), AdditionError>
-        ensures ok { OnOk result (self.new ≡ with_room self.old value) }
-        ensures kept { IsPlain T.greatest self.old }
-        ensures can { OnOk result (HasRoom self.old value) }
-        ensures refused { IfErr result (λ e. RefusesRoom self.old value e × (self.new ≡ self.old)) }
-    {
-        if value <= self.reach() {
-            return Ok(());
-        }
-        if !self.auto_resize {
-            return Err(AdditionError::OtherAddendValueExceedsRange);
-        }
-        match self.grow(value) {
-            Ok(()) => Ok(()),
-            Err(_) => Err(AdditionError::OutOfMemory),
         }
     }
 
@@ -57,7 +67,7 @@ impl<T: Counter> Histogram<T> {
         ensures { MatchResult result (λ _. self.new ≡ with_bins_to self.old high)
             (λ _. self.new ≡ self.old) }
     {
-        self.counts.grow(self.scale.parts(high))?;
+        self.counts.grow(self.scale.sections(high))?;
         self.high = high;
         Ok(())
     }

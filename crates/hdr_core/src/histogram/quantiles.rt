@@ -72,7 +72,8 @@ impl<T: Counter> Histogram<T> {
         ensures looks { ticks.new ≡ ticks.old + looks (block_of self.now)
             (length self.now.counts) result }
     {
-        self.counts.find(rank, self.scale.parts_in_block(), ticks)
+        let sections = self.scale.sections_in_block();
+        self.counts.find(rank, sections, ticks)
     }
 
     /// What the first class that reaches a rank answers to a quantile of that numerator.

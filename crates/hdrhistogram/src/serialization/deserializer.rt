@@ -1,12 +1,13 @@
 //! Reading V2 bytes.
 
-ghost use Rattle.std.specs.Prelude.{◌≡◌, ℕ, List, [], length, replicate, false, IfOk, IfErr};
+ghost use Rattle.std.specs.Prelude.{◌≡◌, ℕ, List, [], length, replicate, false, IfOk, IfErr, MatchResult};
 ghost use Rattle.std.specs.Io.KnownBytes.{Consumes};
 ghost use Rattle.hdrhistogram.specs.Faults.{Gives, TakesAs, Checks, FailsBy, fault_of_error};
 ghost use Rattle.hdrhistogram.specs.V2Read.{creation_fault, bounds_fault, bins_for, bytes_at, v2_at, told_by, told_of, IsRestated, IsReadAs};
 ghost use Rattle.hdrhistogram.specs.HeaderView.{header_of};
+ghost use Rattle.hdrhistogram.specs.FieldRead.{IsHeldIn, RefusesDecoding};
 
-pub use crate::serialization::errors::DeserializeError;
+pub use crate::serialization::errors::{DeserializeError, FieldDecodeError};
 use crate::serialization::fields::{Header, ended, header_at, read_header};
 use crate::serialization::filling::filled;
 use crate::serialization::header::HEADER_LEN;
@@ -15,6 +16,7 @@ pub use crate::serialization::varint::{varint_read, varint_read_slice};
 pub use crate::serialization::zig_zag::zig_zag_decode;
 use hdr_base::Counter;
 use hdr_core::{CreationError, Filling, Histogram};
+use hdr_log::field::{FieldError, decode_into};
 use std::alloc::Global;
 use std::io::Read;
 use std::marker::Model;
@@ -70,7 +72,7 @@ impl Deserializer {
     /// A refusal names the first fault of the bytes that were taken. They are the reader's up to
     /// and including the field that is refused, or the whole payload where one of its numbers is.
     /// A reader that fails, is interrupted or ends is `IoError`. When memory runs out the answer
-    /// is `OutOfMemory`. The deserializer is as new afterwards.
+    /// is `OutOfMemory`. The deserializer holds no bytes afterwards.
     pub fn deserialize<T: Counter, R: Read>(
         &mut self,
         reader: &mut R,
@@ -87,6 +89,44 @@ impl Deserializer {
         let read = read_v2(reader, &mut self.payload);
         self.payload.clear();
         read
+    }
+
+    /// Reads the histogram of an interval's field, which is Base64 of its bytes: that of `decode_slice`. What follows it in
+    /// the field is not looked at. One deserializer serves for many fields, by one buffer.
+    ///
+    /// A field that is no Base64 is `NotBase64`, and bytes that are no histogram's are `Decode` with their first fault. When
+    /// memory runs out the answer is `OutOfMemory`. The deserializer is as new afterwards.
+    pub fn decode_field<T: Counter>(
+        &mut self,
+        field: &str,
+    ) -> Result<Histogram<T>, FieldDecodeError>
+        ensures read { MatchResult result (IsHeldIn T.greatest field.now)
+            (RefusesDecoding T.greatest field.now) }
+        ensures as_new { self.new ≡ [] }
+    {
+        let read = read_field(field, &mut self.payload);
+        self.payload.clear();
+        read
+    }
+}
+
+/// The histogram of a field, by way of a buffer.
+fn read_field<T: Counter>(
+    field: &str,
+    buffer: &mut Vec<u8>,
+) -> Result<Histogram<T>, FieldDecodeError>
+    ensures { MatchResult result (IsHeldIn T.greatest field.now)
+        (RefusesDecoding T.greatest field.now) }
+{
+    match decode_into(field, buffer) {
+        Ok(()) => {}
+        Err(FieldError::NotBase64) => return Err(FieldDecodeError::NotBase64),
+        Err(FieldError::OutOfMemory) => return Err(FieldDecodeError::OutOfMemory),
+    }
+    match Deserializer::new(*buffer.allocator()).decode_slice(buffer) {
+        Ok((h, _)) => Ok(h),
+        Err(DeserializeError::OutOfMemory) => Err(FieldDecodeError::OutOfMemory),
+        Err(cause) => Err(FieldDecodeError::Decode(cause)),
     }
 }
 

@@ -72,6 +72,22 @@ pub enum DeserializeError {
     OutOfMemory,
 }
 
+/// Why the field of an interval is not read as a histogram.
+#[derive(Debug, Drop, Error)]
+pub enum FieldDecodeError {
+    /// The field is no Base64.
+    #[error("not base64")]
+    NotBase64,
+
+    /// The bytes of the field are no histogram.
+    #[error("{0}")]
+    Decode(DeserializeError),
+
+    /// The bytes or the counters could not be had.
+    #[error("Out of memory")]
+    OutOfMemory,
+}
+
 impl From<io::Error> for DeserializeError {
     ghost use Rattle.std.specs.Prelude.{◌≡◌};
     ghost use Rattle.hdrhistogram.specs.declared.serialization.errors.DeserializeError.TheVariants.{IoError};

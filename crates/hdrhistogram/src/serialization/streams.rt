@@ -8,7 +8,7 @@ use crate::serialization::errors::DeserializeError;
 use std::io::{self, ErrorKind, Read, Write};
 
 /// Writes the whole text. The first call of `write` that fails, is interrupted or takes no byte
-/// ends it with an error, and a beginning of the text then stands in the writer.
+/// ends it with an error, and a prefix of the text then stands in the writer.
 pub(crate) fn write_whole<W: Write>(writer: &mut W, text: &[u8]) -> io::Result<()>
     ensures ok { OnOk result (Appends (W.contents writer.old) (W.contents writer.new) text.now) }
     ensures err { OnErr result

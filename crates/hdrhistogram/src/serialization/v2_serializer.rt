@@ -77,7 +77,7 @@ impl V2Serializer {
     /// The buffer grows first and once, so running out of memory is answered before a count above the
     /// greatest `i64`. Where nine bytes for each bin are more than 1 MiB, it grows to nine bytes for
     /// each nonempty bin and for each run of empty ones at most. Nothing else is refused, and after
-    /// a refusal the serializer is as new.
+    /// a refusal the serializer holds no bytes.
     pub fn to_bytes<T: Counter>(&mut self, h: &Histogram<T>) -> Result<&[u8], V2SerializeError>
         ensures bytes { IfOk result (λ bytes. IsV2 h.now bytes.now) }
         ensures few { IfOk result (λ bytes. (length bytes.now ≤ 40 + 9 * written_bins h.now)
@@ -100,9 +100,9 @@ impl Serializer for V2Serializer {
 
     /// Writes the V2 bytes of a histogram, and gives their number. They stand in the buffer whole
     /// before the first of them is written, by single calls of `write`. A call that fails, is
-    /// interrupted or takes no byte is answered as `IoError`, and a beginning of the bytes then
+    /// interrupted or takes no byte is answered as `IoError`, and a prefix of the bytes then
     /// stands in the writer; the other refusals are those of `to_bytes`, and write nothing. After
-    /// each of them the serializer is as new.
+    /// each of them the serializer holds no bytes.
     fn serialize<T: Counter, W: Write>(
         &mut self,
         h: &Histogram<T>,

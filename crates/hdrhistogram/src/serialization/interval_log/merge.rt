@@ -3,30 +3,41 @@
 ghost use Rattle.std.specs.Prelude.{◌≡◌, ◌+◌, ◌<◌, ◌≤◌, ◌^◌, ℕ, length, MatchResult, Ok, Err};
 ghost use Rattle.std.specs.Option.{option_map};
 ghost use Rattle.std.specs.Duration.{as_nanos};
+ghost use Rattle.hdr_model.specs.Plain.{grain};
 ghost use Rattle.hdr_model.specs.Refusals.{IsBounds, RefusesBounds};
 ghost use Rattle.hdr_log.specs.Tags.{tag_text};
 ghost use Rattle.hdr_log.specs.Texts.{base64_bytes};
 ghost use Rattle.hdr_log.specs.Reading.{view_of_interval, view_of_item};
-ghost use Rattle.hdrhistogram.specs.Chosen.{has_tag, begins_from, begins_before, is_chosen, view_of_filter};
-ghost use Rattle.hdrhistogram.specs.LogMerging.{FieldMerges, EntryMerges, Merges, RefusesStep, RefusesMerge, IsMergedBy, creation_error, decode_error};
+ghost use Rattle.hdrhistogram.specs.Chosen.{chooses_tag, begins_from, begins_before, is_chosen, view_of_choice, view_of_filter};
+ghost use Rattle.hdrhistogram.specs.LogMerging.{one_if_coarser, FieldMerges, EntryMerges, Merges, RefusesStep, RefusesMerge, IsMergedBy, creation_error, field_error};
 ghost use Rattle.hdrhistogram.specs.MergeView.{view_of_merging};
 
 use crate::serialization::deserializer::Deserializer;
-use crate::serialization::errors::DeserializeError;
+use crate::serialization::errors::{DeserializeError, FieldDecodeError};
 use hdr_base::Counter;
 use hdr_core::{CreationError, Histogram};
-use hdr_log::field::{FieldError, decode_into};
 use hdr_log::{IntervalLogHistogram, IntervalLogIterator, LogEntry, LogIteratorError, Tag};
 use std::alloc::Global;
 use std::time::Duration;
 use thiserror::Error;
 
+/// Which intervals of a log are chosen by their tags.
+#[derive(Debug, PartialEq, Eq, Clone, Copy)]
+pub enum TagChoice<'a> {
+    /// Every interval, tagged or not.
+    Every,
+    /// Intervals of this tag alone.
+    Tagged(Tag<'a>),
+    /// Intervals without a tag alone.
+    Untagged,
+}
+
 /// Which intervals of a log are chosen. An interval begins at its start after the log's last base time before it, or
 /// after the epoch where it has none.
 #[derive(Debug, PartialEq, Clone, Copy)]
 pub struct IntervalFilter<'a> {
-    /// Intervals of this tag alone; `None` chooses every interval, tagged or not.
-    pub tag: Option<Tag<'a>>,
+    /// Whether their tags matter, and which one they have to have.
+    pub tags: TagChoice<'a>,
     /// Intervals that begin at this time or later, since the epoch.
     pub from: Option<Duration>,
     /// Intervals that begin before this time, since the epoch.
@@ -40,6 +51,9 @@ pub struct Merged<T: Counter> {
     pub histogram: Histogram<T>,
     /// How many intervals were chosen.
     pub chosen: u64,
+    /// How many of these have classes that do not lie in classes of the sum: fewer digits, or a greater lowest value. Where it
+    /// is 0, the sum stands for their samples by its own classes.
+    pub coarser: u64,
 }
 
 /// Why a log is not merged. Intervals count from 1, chosen or not.
@@ -87,7 +101,7 @@ pub fn merge_log<T: Counter>(
 ) -> Result<Merged<T>, MergeError>
     ensures { MatchResult result
         (λ m. IsBounds 1 2 sigfig × IsMergedBy (λ r. Merges T.greatest
-        (view_of_filter filter.now) sigfig log.now r) m.histogram m.chosen)
+        (view_of_filter filter.now) sigfig log.now r) m.histogram m.chosen m.coarser)
         (RefusesMerge T.greatest (view_of_filter filter.now) sigfig log.now) }
 {
     let histogram = match Histogram::new(alloc, sigfig) {
@@ -96,19 +110,21 @@ pub fn merge_log<T: Counter>(
     };
     let mut merging = Merging {
         histogram,
-        bytes: Vec::new(alloc),
+        deserializer: Deserializer::new(alloc),
         base: Duration::ZERO,
         intervals: 0,
         chosen: 0,
+        coarser: 0,
     };
     for entry in IntervalLogIterator::new(log) {
-        if let Err(error) = merge_entry(alloc, &mut merging, filter, &entry) {
+        if let Err(error) = merge_entry(&mut merging, filter, &entry) {
             return Err(error);
         }
     }
     Ok(Merged {
         histogram: merging.histogram,
         chosen: merging.chosen,
+        coarser: merging.coarser,
     })
 }
 
@@ -116,13 +132,14 @@ pub fn merge_log<T: Counter>(
 #[derive(Drop)]
 struct Merging<T: Counter> {
     histogram: Histogram<T>,
-    /// The bytes of the field that was read last: one buffer for all.
-    bytes: Vec<u8>,
+    /// It reads all fields, by one buffer.
+    deserializer: Deserializer,
     /// The log's base time.
     base: Duration,
-    /// The intervals that were read, and those of them that were chosen.
+    /// The intervals that were read, those of them that were chosen, and those of these that are coarser than the histogram.
     intervals: u64,
     chosen: u64,
+    coarser: u64,
 }
 
 /// Why the empty histogram was not made.
@@ -137,15 +154,16 @@ fn not_made(cause: CreationError) -> MergeError
 
 /// Does what is read of a log.
 fn merge_entry<T: Counter>(
-    alloc: Global,
     merging: &mut Merging<T>,
     filter: &IntervalFilter<'_>,
     entry: &Result<LogEntry<'_>, LogIteratorError>,
 ) -> Result<(), MergeError>
     requires room { merging.old.intervals + 1 < 2 ^ 64 }
     requires chosen { merging.old.chosen ≤ merging.old.intervals }
+    requires coarser { merging.old.coarser ≤ merging.old.intervals }
     ensures few { merging.new.intervals ≤ merging.old.intervals + 1 }
     ensures chosen { merging.new.chosen ≤ merging.new.intervals }
+    ensures coarser { merging.new.coarser ≤ merging.new.intervals }
     ensures done { MatchResult result
         (λ _. EntryMerges T.greatest (view_of_filter filter.now) (view_of_merging merging.old)
         (view_of_item entry.now) (Ok (view_of_merging merging.new)))
@@ -160,7 +178,7 @@ fn merge_entry<T: Counter>(
         }
         Ok(LogEntry::Interval(interval)) => {
             if filter.chooses(merging.base, interval) {
-                merge_field(alloc, merging, interval.encoded_histogram())
+                merge_field(merging, interval.encoded_histogram())
             } else {
                 merging.intervals += 1;
                 Ok(())
@@ -171,15 +189,13 @@ fn merge_entry<T: Counter>(
 }
 
 /// Adds the histogram of a chosen interval's field.
-fn merge_field<T: Counter>(
-    alloc: Global,
-    merging: &mut Merging<T>,
-    field: &str,
-) -> Result<(), MergeError>
+fn merge_field<T: Counter>(merging: &mut Merging<T>, field: &str) -> Result<(), MergeError>
     requires room { merging.old.intervals + 1 < 2 ^ 64 }
     requires chosen { merging.old.chosen ≤ merging.old.intervals }
+    requires coarser { merging.old.coarser ≤ merging.old.intervals }
     ensures few { merging.new.intervals ≤ merging.old.intervals + 1 }
     ensures chosen { merging.new.chosen ≤ merging.new.intervals }
+    ensures coarser { merging.new.coarser ≤ merging.new.intervals }
     ensures done { MatchResult result
         (λ _. FieldMerges T.greatest (view_of_merging merging.old) (base64_bytes field.now)
         (Ok (view_of_merging merging.new)))
@@ -187,31 +203,38 @@ fn merge_field<T: Counter>(
         (base64_bytes field.now) (Err e))) }
 {
     let interval = merging.intervals + 1;
-    match decode_into(field, &mut merging.bytes) {
-        Ok(()) => {}
-        Err(FieldError::NotBase64) => return Err(MergeError::Base64 { interval }),
-        Err(FieldError::OutOfMemory) => return Err(MergeError::OutOfMemory),
-    }
-    let source: Histogram<u64> = match Deserializer::new(alloc).decode_slice(&merging.bytes) {
-        Ok((source, _)) => source,
+    let source: Histogram<u64> = match merging.deserializer.decode_field(field) {
+        Ok(source) => source,
         Err(cause) => return Err(not_decoded(interval, cause)),
     };
+    let coarser = one_if_coarser(&merging.histogram, &source);
     // A histogram that grows takes every value, so only memory can run out.
-    if merging.histogram.add_from(&source).is_err() {
-        return Err(MergeError::OutOfMemory);
+    match merging.histogram.add_from(&source) {
+        Ok(()) => {}
+        Err(_) => return Err(MergeError::OutOfMemory),
     }
     merging.intervals = interval;
     merging.chosen += 1;
+    merging.coarser += coarser;
     Ok(())
 }
 
-/// Why the bytes of an interval were not read.
-fn not_decoded(interval: u64, cause: DeserializeError) -> MergeError
-    ensures { result ≡ decode_error interval cause }
+/// 1 where the classes of a histogram do not all lie in classes of the sum, and else 0.
+fn one_if_coarser<T: Counter, F: Counter>(sum: &Histogram<T>, source: &Histogram<F>) -> u64
+    ensures value { result ≡ one_if_coarser (grain sum.now) source.now }
+    ensures few { result ≤ 1 }
+{
+    if source.refines(sum) { 0 } else { 1 }
+}
+
+/// Why the field of an interval was not read.
+fn not_decoded(interval: u64, cause: FieldDecodeError) -> MergeError
+    ensures { result ≡ field_error interval cause }
 {
     match cause {
-        DeserializeError::OutOfMemory => MergeError::OutOfMemory,
-        cause => MergeError::Decode { interval, cause },
+        FieldDecodeError::NotBase64 => MergeError::Base64 { interval },
+        FieldDecodeError::Decode(cause) => MergeError::Decode { interval, cause },
+        FieldDecodeError::OutOfMemory => MergeError::OutOfMemory,
     }
 }
 
@@ -223,19 +246,19 @@ impl IntervalFilter<'_> {
             (as_nanos base + (view_of_interval interval.now).start) }
     {
         let time = base.as_nanos() + interval.start_timestamp().as_nanos();
-        has_tag(self.tag, interval.tag())
+        chooses_tag(self.tags, interval.tag())
             && begins_from(self.from, time)
             && begins_before(self.to, time)
     }
 }
 
-fn has_tag(asked: Option<Tag<'_>>, tag: Option<Tag<'_>>) -> bool
-    ensures { result ≡ has_tag (option_map tag_text asked.entry) (option_map tag_text tag.entry) }
+fn chooses_tag(choice: TagChoice<'_>, tag: Option<Tag<'_>>) -> bool
+    ensures { result ≡ chooses_tag (view_of_choice choice.entry) (option_map tag_text tag.entry) }
 {
-    match (asked, tag) {
-        (None, _) => true,
-        (Some(_), None) => false,
-        (Some(asked), Some(tag)) => tag.as_str() == asked.as_str(),
+    match (choice, tag) {
+        (TagChoice::Every, _) | (TagChoice::Untagged, None) => true,
+        (TagChoice::Tagged(_), None) | (TagChoice::Untagged, Some(_)) => false,
+        (TagChoice::Tagged(asked), Some(tag)) => tag.as_str() == asked.as_str(),
     }
 }
 

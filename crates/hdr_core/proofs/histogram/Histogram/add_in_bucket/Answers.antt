@@ -1,5 +1,5 @@
 use Rattle.std.proofs.Common.{◌≡◌, ◌∙◌, ◌+◌, ◌-◌, ◌*◌, ◌/◌, ◌%◌, ◌<◌, ◌≤◌, ℕ, min, max, length, ap, sym, refl, arith}
-use Rattle.hdr_base.specs.Classes.{Grain, bucket, width_of, bin_of, lowest_of}
+use Rattle.hdr_base.specs.Classes.{Grain, width_of, bin_of, lowest_of}
 use Rattle.hdr_base.proofs.ClassesIntervals.{place-le-bin, place-bin, place-span}
 use Rattle.hdr_model.specs.Plain.{Plain, grain, reach}
 use Rattle.hdr_model.specs.Recording.{after_add_to_bin, after_records}
@@ -7,18 +7,34 @@ use Rattle.hdr_model.specs.Correction.{each_times, down_to}
 use Rattle.hdr_model.proofs.PlainKept.{grain-digits, room-in}
 use Rattle.hdr_model.proofs.RecordingFills.{grain-added, reach-added, bins-added}
 use Rattle.hdr_model.proofs.CorrectionByClass.{state-step, held-step, members-fit}
+use Rattle.hdr_core.proofs.histogram.Histogram.add_in_bucket.Given as given
 use Rattle.hdr_core.proofs.histogram.Histogram.add_in_bucket.Goals as goal
+use Rattle.hdr_core.proofs.histogram.Histogram.add_in_bucket.Goals.{In-loop-next}
 
--- what the code finds of the class of a value, from the width of the classes in its bucket
-module _ (s g : Grain) (x first w : ℕ) (same : s ≡ g) (width : w ≡ width_of s first) (one : bucket g x ≡ bucket g first) where
-  width-is : w ≡ width_of g first
-  width-is = width ∙ ap (λ (g : Grain). width_of g first) same
+-- what is found of the value x at hand: its bin, and how far it is above the lowest value of its class
+record IsFound (h : Plain) (scale : Grain) (x first w i : ℕ) : Type 0 where
+  ge : i ≤ x
+  digits : 0 < (grain h).digits
+  room : bin_of (grain h) x < length h.counts
+  bin_is : (b : ℕ) → b ≡ bin_of scale first → b - first / w + x / w ≡ bin_of (grain h) x
+  span_is : (span : ℕ) → span ≡ min (x % w) (x - i) → span ≡ x - max (lowest_of (grain h) x) i
 
-  bin-is : (b : ℕ) → b ≡ bin_of s first → b - first / w + x / w ≡ bin_of g x
-  bin-is b is = rw width-is (place-bin g x first b one (is ∙ ap (λ (g : Grain). bin_of g first) same))
-
-  span-is : (span i : ℕ) → i ≤ x → span ≡ min (x % w) (x - i) → span ≡ x - max (lowest_of g x) i
-  span-is span i ge is = omega (arith, is, ge, ap (λ v. x % v) width-is, place-span g x first one)
+found : (g : given.Over) (c : In-loop-next g) → IsFound c.args.self.now c.self.inside.scale c.loop-next.next c.args.first c.width-width.result c.args.interval
+found g c =
+    let h = c.args.self.now in
+    let x = c.loop-next.next in
+    let plain = rw c.self.view_is at c.self.invariant.plain in
+    let same : c.self.inside.scale ≡ grain h = c.self.invariant.scale ∙ ap (λ (p : Plain). grain p) c.self.view_is in
+    let width : c.width-width.result ≡ width_of (grain h) c.args.first = c.width-width.ensures.value ∙ ap (λ (s : Grain). width_of s c.args.first) same in
+    let one = c.requires.one_bucket x (omega (arith, c.loop-next-test.true)) c.loop-next.invariant.below in
+    let ge : c.args.interval ≤ x = omega (arith, c.requires.some, c.loop-next-test.true) in
+    record {
+      ge = ge;
+      digits = grain-digits g.T.Counter.greatest h plain;
+      room = room-in g.T.Counter.greatest h x plain (omega (arith, c.requires.within, c.loop-next.invariant.below));
+      bin_is = λ b is. rw width (place-bin (grain h) x c.args.first b one (is ∙ ap (λ (s : Grain). bin_of s c.args.first) same));
+      span_is = λ span is. omega (arith, is, ge, ap (λ v. x % v) width, place-span (grain h) x c.args.first one);
+    }
 
 pub overflow_sub-bin : goal.overflow_sub-bin
 overflow_sub-bin g c =
@@ -27,13 +43,8 @@ overflow_sub-bin g c =
 
 pub add_counted-requires-clause-bin : goal.add_counted-requires-clause-bin
 add_counted-requires-clause-bin g c =
-    let h = c.args.self.now in
-    let x = c.loop-next.next in
-    let plain = rw c.self.view_is at c.self.invariant.plain in
-    let same : c.self.inside.scale ≡ grain h = c.self.invariant.scale ∙ ap (λ (p : Plain). grain p) c.self.view_is in
-    let one = c.requires.one_bucket x (omega (arith, c.loop-next-test.true)) c.loop-next.invariant.below in
-    let bin = bin-is c.self.inside.scale (grain h) x c.args.first c.width-width.result same c.width-width.ensures.value one c.bin.result c.bin.ensures.value in
-    omega (arith, bin, c.loop-next.invariant.same_bins, room-in g.T.Counter.greatest h x plain (omega (arith, c.requires.within, c.loop-next.invariant.below)))
+    let f = found g (goal.at.add_counted-requires-clause-bin g c).In-loop-next in
+    omega (arith, f.bin_is c.bin.result c.bin.ensures.value, f.room, c.loop-next.invariant.same_bins)
 
 pub add_counted-requires-clause-room : goal.add_counted-requires-clause-room
 add_counted-requires-clause-room g c =
@@ -41,22 +52,15 @@ add_counted-requires-clause-room g c =
     let x = c.loop-next.next in
     let i = c.args.interval in
     let low = max (lowest_of (grain h) x) i in
-    let plain = rw c.self.view_is at c.self.invariant.plain in
-    let room : bin_of (grain h) x < length h.counts = room-in g.T.Counter.greatest h x plain (omega (arith, c.requires.within, c.loop-next.invariant.below)) in
-    omega (arith, c.requires.room, c.loop-next.invariant.ticks, held-step (grain h) x i low ((x - low) / i + 1) (omega arith) (grain-digits g.T.Counter.greatest h plain) (omega (arith, c.requires.some, c.loop-next-test.true)) refl refl (length h.counts) room)
+    let f = found g (goal.at.add_counted-requires-clause-room g c).In-loop-next in
+    omega (arith, c.requires.room, c.loop-next.invariant.ticks, held-step (grain h) x i low ((x - low) / i + 1) (omega arith) f.digits f.ge refl refl (length h.counts) f.room)
 
 pub overflow_sub-next-in-loop-next : goal.overflow_sub-next-in-loop-next
 overflow_sub-next-in-loop-next g c =
     let h = c.args.self.now in
-    let x = c.loop-next.next in
     let i = c.args.interval in
-    let low = max (lowest_of (grain h) x) i in
-    let plain = rw c.self.view_is at c.self.invariant.plain in
-    let same : c.self.inside.scale ≡ grain h = c.self.invariant.scale ∙ ap (λ (p : Plain). grain p) c.self.view_is in
-    let one = c.requires.one_bucket x (omega (arith, c.loop-next-test.true)) c.loop-next.invariant.below in
-    let ge : i ≤ x = omega (arith, c.requires.some, c.loop-next-test.true) in
-    let span = span-is c.self.inside.scale (grain h) x c.args.first c.width-width.result same c.width-width.ensures.value one c.min-span.result i ge c.min-span.ensures in
-    members-fit (grain h) x i low (c.steps-members.result + 1) (omega arith) (grain-digits g.T.Counter.greatest h plain) ge refl (ap (λ q. q + 1) (c.steps-members.ensures ∙ ap (λ y. y / i) span))
+    let f = found g (goal.at.overflow_sub-next-in-loop-next g c).In-loop-next in
+    members-fit (grain h) c.loop-next.next i (max (lowest_of (grain h) c.loop-next.next) i) (c.steps-members.result + 1) (omega arith) f.digits f.ge refl (ap (λ q. q + 1) (c.steps-members.ensures ∙ ap (λ y. y / i) (f.span_is c.min-span.result c.min-span.ensures)))
 
 pub overflow_mul-next : goal.overflow_mul-next
 overflow_mul-next g c = omega (arith, overflow_sub-next-in-loop-next g c)
@@ -72,25 +76,18 @@ loop-next-preserved g c =
     let low = max (lowest_of (grain h) x) i in
     let m = (x - low) / i + 1 in
     let inv = c.loop-next.invariant in
-    let plain = rw c.self.view_is at c.self.invariant.plain in
-    let same : c.self.inside.scale ≡ grain h = c.self.invariant.scale ∙ ap (λ (p : Plain). grain p) c.self.view_is in
-    let digits : 0 < (grain h).digits = grain-digits greatest h plain in
-    let digits_here : 0 < (grain k).digits = rw inv.same_classes digits in
-    let ge : i ≤ x = omega (arith, c.requires.some, c.loop-next-test.true) in
-    let one = c.requires.one_bucket x (omega (arith, c.loop-next-test.true)) inv.below in
-    let span = span-is c.self.inside.scale (grain h) x c.args.first c.width-width.result same c.width-width.ensures.value one c.min-span.result i ge c.min-span.ensures in
-    let steps = c.steps-members.ensures ∙ ap (λ y. y / i) span in
+    let f = found g (goal.at.loop-next-preserved g c).In-loop-next in
+    let digits_here : 0 < (grain k).digits = rw inv.same_classes f.digits in
+    let steps = c.steps-members.ensures ∙ ap (λ y. y / i) (f.span_is c.min-span.result c.min-span.ensures) in
     let is_low_here : low ≡ max (lowest_of (grain k) x) i = ap (λ (s : Grain). max (lowest_of s x) i) (sym inv.same_classes) in
-    let is_bin = bin-is c.self.inside.scale (grain h) x c.args.first c.width-width.result same c.width-width.ensures.value one c.bin.result c.bin.ensures.value ∙ ap (λ (s : Grain). bin_of s x) (sym inv.same_classes) in
-    let within : x ≤ reach h = omega (arith, c.requires.within, inv.below) in
-    let room : bin_of (grain h) x < length h.counts = room-in greatest h x plain within in
-    let room_here : bin_of (grain k) x < length k.counts = rw inv.same_classes (omega (arith, room, inv.same_bins)) in
+    let is_bin = f.bin_is c.bin.result c.bin.ensures.value ∙ ap (λ (s : Grain). bin_of s x) (sym inv.same_classes) in
+    let room_here : bin_of (grain k) x < length k.counts = rw inv.same_classes (omega (arith, f.room, inv.same_bins)) in
     let new : c.add_counted.new.self ≡ after_add_to_bin greatest k (bin_of (grain k) x) (m * n) =
     c.add_counted.ensures.state ∙ ap (λ b. after_add_to_bin greatest k b ((c.steps-members.result + 1) * n)) is_bin ∙ ap (λ q. after_add_to_bin greatest k (bin_of (grain k) x) ((q + 1) * n)) steps in
     rw steps (record {
       state = ap (λ (s : Plain). after_records greatest s (each_times n (down_to (x - m * i) i))) new
-          ∙ state-step greatest k x i low m n (omega arith) digits_here ge is_low_here refl (omega (arith, within, inv.same_reach)) room_here ∙ inv.state;
-      ticks = omega (arith, c.add_counted.ensures.ticks, inv.ticks, held-step (grain h) x i low m (omega arith) digits ge refl refl (length h.counts) room);
+          ∙ state-step greatest k x i low m n (omega arith) digits_here f.ge is_low_here refl (omega (arith, c.requires.within, inv.below, inv.same_reach)) room_here ∙ inv.state;
+      ticks = omega (arith, c.add_counted.ensures.ticks, inv.ticks, held-step (grain h) x i low m (omega arith) f.digits f.ge refl refl (length h.counts) f.room);
       same_classes = ap (λ (s : Plain). grain s) new ∙ grain-added greatest k (bin_of (grain k) x) (m * n) ∙ inv.same_classes;
       same_bins = ap (λ (s : Plain). length s.counts) new ∙ bins-added greatest k (bin_of (grain k) x) (m * n) ∙ inv.same_bins;
       same_reach = ap (λ (s : Plain). reach s) new ∙ reach-added greatest k (bin_of (grain k) x) (m * n) ∙ inv.same_reach;

@@ -12,9 +12,8 @@ use Rattle.hdr_core.proofs.histogram.Histogram.add_missing.Goals as goal
 pub add_in_bucket-next-requires-clause-room : goal.add_in_bucket-next-requires-clause-room
 add_in_bucket-next-requires-clause-room g c =
     let h = c.args.self.now in
-    let plain = rw c.self.view_is at c.self.invariant.plain in
     rw (c.loop-next.invariant.same_classes, c.loop-next.invariant.same_bins)
-    (omega (arith, c.requires.room, c.loop-next.invariant.ticks, held-le (grain h) (length h.counts) (down_to c.args.first c.args.interval), bins-few g.T.Counter.greatest h plain))
+    (omega (arith, c.requires.room, c.loop-next.invariant.ticks, held-le (grain h) (length h.counts) (down_to c.args.first c.args.interval), bins-few g.T.Counter.greatest h (rw c.self.view_is at c.self.invariant.plain)))
 
 pub returns-clause-state : goal.returns-clause-state
 returns-clause-state g c =
@@ -34,8 +33,7 @@ returns-clause-ticks g c =
 pub returns-clause-samples : goal.returns-clause-samples
 returns-clause-samples g c = λ S stands fits.
     let h = c.args.self.now in
-    let plain = rw c.self.view_is at c.self.invariant.plain in
     let values = down_to c.args.first c.args.interval in
     let within = All-weaker (λ y. (c.args.interval ≤ y) × (y ≤ c.args.first)) (λ y. y ≤ reach h) (λ y e. omega (arith, e, c.requires.within)) values (down_to-within c.args.first c.args.interval (omega arith)) in
     rw (returns-clause-state g c)
-    (StandsFor-each g.T.Counter.greatest h (each_times c.args.count values) S g.met.T.Counter.one_fits plain (each-within (reach h) c.args.count values within) stands fits)
+    (StandsFor-each g.T.Counter.greatest h (each_times c.args.count values) S g.met.T.Counter.one_fits (rw c.self.view_is at c.self.invariant.plain) (each-within (reach h) c.args.count values within) stands fits)

@@ -6,40 +6,31 @@ use Rattle.hdr_model.specs.Plain.{Plain}
 use Rattle.hdr_model.specs.Recording.{after_add_to_bin}
 use Rattle.hdr_model.proofs.PlainKept.{added-parts, IsPlain-added}
 use Rattle.hdr_model.proofs.CorrectionByClass.{bins-few}
+use Rattle.hdr_core.proofs.histogram.Histogram.add_to_bin.Given as given
 use Rattle.hdr_core.proofs.histogram.Histogram.add_to_bin.Goals as goal
+use Rattle.hdr_core.proofs.histogram.Histogram.add_to_bin.Goals.{After-widen}
 
 pub widen-requires : goal.widen-requires
 widen-requires g c =
     let in_bins = rw (← c.self.view_is) at c.requires in
     omega (arith, bins-few g.T.Counter.greatest (plain_of c.self.inside) c.self.invariant.plain)
 
-pub invariant_of-self-2 : goal.invariant_of-self-2
-invariant_of-self-2 g c =
+-- the fields are those of a number added
+parts : (g : given.Over) (c : After-widen g) → plain_of (record c.self.inside { counts = c.try_add.new.self; total = c.in-Some.total; marks = c.widen.new.self }) ≡ after_add_to_bin g.T.Counter.greatest (plain_of c.self.inside) c.args.bin c.args.number
+parts g c =
     let h = plain_of c.self.inside in
-    let n = c.args.number in
-    let greatest = g.T.Counter.greatest in
-    let put : c.try_add.new.self.numbers ≡ set h.counts c.args.bin (min (get_or h.counts c.args.bin 0 + n) greatest) =
+    let put : c.try_add.new.self.numbers ≡ set h.counts c.args.bin (min (get_or h.counts c.args.bin 0 + c.args.number) g.T.Counter.greatest) =
     ap (λ (b : Blocks). b.numbers) c.in-Some-try_add.ensures.1
     ∙ ap (λ k. set h.counts c.args.bin k) (omega (arith, c.in-Some-try_add.ensures.0)) in
-    let parts = added-parts greatest h c.args.bin n c.try_add.new.self.numbers c.in-Some.total c.widen.new.self.top c.widen.new.self.lower put
-    (omega (arith, c.in-Some.ensures))
-    (ap (λ (m : MarkPair). m.top) c.widen.ensures) (ap (λ (m : MarkPair). m.lower) c.widen.ensures) in
-    let in_bins = rw (← c.self.view_is) at c.requires in
-    record {
-      scale = c.self.invariant.scale;
-      block = ap (λ (b : Blocks). b.block) c.in-Some-try_add.ensures.1 ∙ c.self.invariant.block;
-      plain = rw parts (IsPlain-added greatest h c.args.bin n g.met.T.Counter.one_fits in_bins c.self.invariant.plain);
-    }
+    added-parts g.T.Counter.greatest h c.args.bin c.args.number c.try_add.new.self.numbers c.in-Some.total c.widen.new.self.top c.widen.new.self.lower put (omega (arith, c.in-Some.ensures))
+    (ap (λ (m : MarkPair). m.top) c.widen.ensures) (ap (λ (m : MarkPair). m.lower) c.widen.ensures)
+
+pub invariant_of-self-2 : goal.invariant_of-self-2
+invariant_of-self-2 g c = record {
+  scale = c.self.invariant.scale;
+  block = ap (λ (b : Blocks). b.block) c.in-Some-try_add.ensures.1 ∙ c.self.invariant.block;
+  plain = rw (parts g c) (IsPlain-added g.T.Counter.greatest (plain_of c.self.inside) c.args.bin c.args.number g.met.T.Counter.one_fits (rw (← c.self.view_is) at c.requires) c.self.invariant.plain);
+}
 
 pub returns : goal.returns
-returns g c =
-    let h = plain_of c.self.inside in
-    let n = c.args.number in
-    let greatest = g.T.Counter.greatest in
-    let put : c.try_add.new.self.numbers ≡ set h.counts c.args.bin (min (get_or h.counts c.args.bin 0 + n) greatest) =
-    ap (λ (b : Blocks). b.numbers) c.in-Some-try_add.ensures.1
-    ∙ ap (λ k. set h.counts c.args.bin k) (omega (arith, c.in-Some-try_add.ensures.0)) in
-    let parts = added-parts greatest h c.args.bin n c.try_add.new.self.numbers c.in-Some.total c.widen.new.self.top c.widen.new.self.lower put
-    (omega (arith, c.in-Some.ensures))
-    (ap (λ (m : MarkPair). m.top) c.widen.ensures) (ap (λ (m : MarkPair). m.lower) c.widen.ensures) in
-    parts ∙ ap (λ (h : Plain). after_add_to_bin greatest h c.args.bin n) c.self.view_is
+returns g c = parts g c ∙ ap (λ (h : Plain). after_add_to_bin g.T.Counter.greatest h c.args.bin c.args.number) c.self.view_is

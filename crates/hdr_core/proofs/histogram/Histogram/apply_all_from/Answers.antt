@@ -5,7 +5,7 @@ use Rattle.hdr_model.specs.Plain.{Plain, grain}
 use Rattle.hdr_model.specs.Samples.{Fits}
 use Rattle.hdr_model.specs.Runs.{StandsAt}
 use Rattle.hdr_core.specs.CallsFrom.{RefusesCallFrom, after_call_from, after_calls_from, IsTakenFrom, AreTakenFrom, CallFromTo, CallsFromTo}
-use Rattle.hdr_core.proofs.RunsFacts.{WasRun-push, at_place}
+use Rattle.hdr_model.proofs.RunsFacts.{WasRun-push, at_place}
 use Rattle.hdr_core.proofs.histogram.Histogram.apply_all_from.Goals as goal
 
 pub loop-at-preserved : goal.loop-at-preserved

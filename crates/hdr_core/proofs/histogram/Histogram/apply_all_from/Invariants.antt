@@ -2,7 +2,7 @@ use Rattle.std.proofs.Common.{◌≡◌, take}
 use Rattle.hdr_model.specs.Plain.{grain}
 use Rattle.hdr_model.specs.Samples.{Fits}
 use Rattle.hdr_core.specs.CallsFrom.{after_call_from, IsTakenFrom, CallFromTo}
-use Rattle.hdr_core.proofs.RunsFacts.{WasRun}
+use Rattle.hdr_model.proofs.RunsFacts.{WasRun}
 use Rattle.hdr_core.proofs.histogram.Histogram.apply_all_from.Given as goal
 
 abbrev pub invariant-loop-at : goal.invariant-loop-at

@@ -3,23 +3,26 @@ use Rattle.std.specs.List.{slice_range}
 use Rattle.hdr_model.specs.Plain.{Plain}
 use Rattle.hdr_model.specs.Statistics.{held_bin}
 use Rattle.hdr_model.proofs.StatisticsBetween.{between-samples, held-order, part-sum}
+use Rattle.hdr_core.proofs.histogram.Histogram.count_between.Given as given
 use Rattle.hdr_core.proofs.histogram.Histogram.count_between.Goals as goal
-use Rattle.hdr_core.proofs.histogram.Histogram.count_between.Goals.{then-from-eq0, else-from-eq0}
+use Rattle.hdr_core.proofs.histogram.Histogram.count_between.Goals.{Joined-from-eq0, then-from-eq0, else-from-eq0}
 
 pub returns-then-from-to-clause-samples : goal.returns-then-from-to-clause-samples
 returns-then-from-to-clause-samples g c = λ S stands le within.
     absurd (omega (arith, held-order g.T.Counter.greatest c.args.self.now c.args.low c.args.high c.held_bin-from.ensures.plain le within, c.held_bin-from.ensures.value, c.held_bin-to.ensures.value, c.if-from-to.true))
 
+-- the sum before the first bin
+before : (g : given.Over) (c : Joined-from-eq0 g) → c.if-from-eq0.before ≡ sum (take c.held_bin-from.result c.self.inside.counts.numbers)
+before g c =
+    let xs = c.self.inside.counts.numbers in
+    elim c.if-from-eq0.branch [
+      | then-from-eq0 w ↦ w.before-is ∙ ap (λ n. sum (take n xs)) (sym w.if-from-eq0.true)
+      | else-from-eq0 w ↦ w.before-is ∙ w.sum_to-before.ensures ∙ ap (λ n. sum (take n xs)) (let e : c.held_bin-from.result - 1 + 1 ≡ c.held_bin-from.result = omega (arith, w.if-from-eq0.false) in e)
+    ]
+
 pub overflow_sub-sum_to : goal.overflow_sub-sum_to
 overflow_sub-sum_to g c =
-    let xs = c.self.inside.counts.numbers in
-    let from = c.held_bin-from.result in
-    let to = c.held_bin-to.result in
-    let before : c.if-from-eq0.before ≡ sum (take from xs) = elim c.if-from-eq0.branch [
-      | then-from-eq0 w ↦ w.before-is ∙ ap (λ n. sum (take n xs)) (sym w.if-from-eq0.true)
-      | else-from-eq0 w ↦ w.before-is ∙ w.sum_to-before.ensures ∙ ap (λ n. sum (take n xs)) (let e : from - 1 + 1 ≡ from = omega (arith, w.if-from-eq0.false) in e)
-    ] in
-    omega (arith, c.sum_to.ensures, part-sum xs from (to + 1) (omega (arith, c.if-from-to.false)))
+    omega (arith, before g (goal.at.overflow_sub-sum_to g c).Joined-from-eq0, c.sum_to.ensures, part-sum c.self.inside.counts.numbers c.held_bin-from.result (c.held_bin-to.result + 1) (omega (arith, c.if-from-to.false)))
 
 pub returns-clause-value : goal.returns-clause-value
 returns-clause-value g c =
@@ -27,11 +30,7 @@ returns-clause-value g c =
     let xs = c.self.inside.counts.numbers in
     let from = c.held_bin-from.result in
     let to = c.held_bin-to.result in
-    let before : c.if-from-eq0.before ≡ sum (take from xs) = elim c.if-from-eq0.branch [
-      | then-from-eq0 w ↦ w.before-is ∙ ap (λ n. sum (take n xs)) (sym w.if-from-eq0.true)
-      | else-from-eq0 w ↦ w.before-is ∙ w.sum_to-before.ensures ∙ ap (λ n. sum (take n xs)) (let e : from - 1 + 1 ≡ from = omega (arith, w.if-from-eq0.false) in e)
-    ] in
-    let part : c.sum_to.result - c.if-from-eq0.before ≡ sum (slice_range xs from (to + 1)) = omega (arith, c.sum_to.ensures, part-sum xs from (to + 1) (omega (arith, c.if-from-to.false))) in
+    let part : c.sum_to.result - c.if-from-eq0.before ≡ sum (slice_range xs from (to + 1)) = omega (arith, before g (goal.at.returns-clause-value g c).Joined-from-eq0, c.sum_to.ensures, part-sum xs from (to + 1) (omega (arith, c.if-from-to.false))) in
     c.capped_total.ensures
     ∙ ap (λ n. min n (2 ^ 64 - 1)) (part
     ∙ ap (λ (p : Plain). sum (slice_range p.counts from (to + 1))) c.self.view_is

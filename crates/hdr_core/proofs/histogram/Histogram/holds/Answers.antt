@@ -1,90 +1,81 @@
-use Rattle.std.proofs.Common.{◌≡◌, ◌≢◌, ◌∙◌, ◌+◌, ◌<◌, ◌≤◌, ap, subst, sym, arith, length, get_or}
+use Rattle.std.proofs.Common.{◌≡◌, ◌≢◌, ◌⊎◌, ◌∙◌, ◌+◌, ◌<◌, ◌≤◌, ap, subst, sym, arith, length, get_or, inl, inr}
 use Rattle.hdr_base.specs.Classes.{value_of}
 use Rattle.hdr_base.proofs.ClassesFiner.{bin-value_of}
 use Rattle.hdr_model.specs.Plain.{Plain, grain}
 use Rattle.hdr_model.proofs.PlainKept.{grain-digits}
 use Rattle.hdr_model.proofs.MergingKeeps.{number-le-max}
 use Rattle.hdr_model.proofs.MergingHolds.{held-all, held-le, IsTested, tested-init, tested-same, tested-sum, tested-next}
+use Rattle.hdr_core.proofs.histogram.Histogram.holds.Given as given
 use Rattle.hdr_core.proofs.histogram.Histogram.holds.Goals as goal
-use Rattle.hdr_core.proofs.histogram.Histogram.holds.Goals.{then-count-gt0+else-sum-from, then-target-at, else-target-at, else-count-gt0}
+use Rattle.hdr_core.proofs.histogram.Histogram.holds.Goals.{In-loop-bin, After-get, then-count-gt0+else-sum-from, then-target-at, else-target-at, else-count-gt0}
 
 pub loop-bin-init : goal.loop-bin-init
 loop-bin-init g c = tested-init (grain c.args.self.now) (grain c.args.other.now) c.args.self.now.counts c.args.other.now.counts
 
+-- the class that is looked at is one of the other's
+inside : (g : given.Over) (c : In-loop-bin g) → c.loop-bin.bin < length c.args.other.now.counts
+inside g c = omega (arith, ap (λ (p : Plain). length p.counts) c.other.view_is, c.loop-bin-test.true, c.len-bin-end.ensures, c.loop-bin.auto.bin-end)
+
+-- its number
+number : (g : given.Over) (c : After-get g) → g.T.Counter.number c.get.result ≡ get_or c.args.other.now.counts c.loop-bin.bin 0
+number g c = c.get.ensures ∙ ap (λ (p : Plain). get_or p.counts c.loop-bin.bin 0) c.other.view_is
+
+-- digits of both
+digits : (g : given.Over) (c : In-loop-bin g) → (0 < (grain c.args.self.now).digits) × (0 < (grain c.args.other.now).digits)
+digits g c = (
+  grain-digits g.T.Counter.greatest c.args.self.now (rw c.self.view_is at c.self.invariant.plain),
+  grain-digits g.T.Counter.greatest c.args.other.now (rw c.other.view_is at c.other.invariant.plain),
+)
+
 pub bin_of_class-target-requires-clause-reached : goal.bin_of_class-target-requires-clause-reached
 bin_of_class-target-requires-clause-reached g c =
-    let greatest = g.T.Counter.greatest in
-    let h = c.args.self.now in
     let s = c.args.other.now in
-    let p = rw c.self.view_is at c.self.invariant.plain in
-    let q = rw c.other.view_is at c.other.invariant.plain in
     let i = c.loop-bin.bin in
-    let inside : i < length s.counts = omega (arith, ap (λ (p : Plain). length p.counts) c.other.view_is, c.loop-bin-test.true, c.len-bin-end.ensures, c.loop-bin.auto.bin-end) in
-    let at : c.as_u64-count.result ≡ get_or s.counts i 0 = c.as_u64-count.ensures.value ∙ c.get.ensures ∙ ap (λ (p : Plain). get_or p.counts i 0) c.other.view_is in
-    let pos : 0 < get_or s.counts i 0 = omega (arith, at, c.if-count-gt0.true) in
-    omega (arith, number-le-max greatest s i (value_of (grain s) i) q pos (bin-value_of (grain s) i (grain-digits greatest s q)), c.requires)
+    let pos : 0 < get_or s.counts i 0 = omega (arith, number g (goal.at.bin_of_class-target-requires-clause-reached g c).After-get, c.as_u64-count.ensures.value, c.if-count-gt0.true) in
+    let positive = (digits g (goal.at.bin_of_class-target-requires-clause-reached g c).In-loop-bin).1 in
+    omega (arith, number-le-max g.T.Counter.greatest s i (value_of (grain s) i) (rw c.other.view_is at c.other.invariant.plain) pos (bin-value_of (grain s) i positive), c.requires)
 
 pub returns-then-sum-from-clause-no : goal.returns-then-sum-from-clause-no
 returns-then-sum-from-clause-no g c =
-    let greatest = g.T.Counter.greatest in
     let h = c.args.self.now in
     let s = c.args.other.now in
-    let p = rw c.self.view_is at c.self.invariant.plain in
-    let q = rw c.other.view_is at c.other.invariant.plain in
     let i = c.loop-bin.bin in
-    let inside : i < length s.counts = omega (arith, ap (λ (p : Plain). length p.counts) c.other.view_is, c.loop-bin-test.true, c.len-bin-end.ensures, c.loop-bin.auto.bin-end) in
-    let at : c.as_u64-count.result ≡ get_or s.counts i 0 = c.as_u64-count.ensures.value ∙ c.get.ensures ∙ ap (λ (p : Plain). get_or p.counts i 0) c.other.view_is in
-    let pos : 0 < get_or s.counts i 0 = omega (arith, at, c.if-count-gt0.true) in
+    let at = c.as_u64-count.ensures.value ∙ number g (goal.at.returns-then-sum-from-clause-no g c).After-get in
+    let positive = digits g (goal.at.returns-then-sum-from-clause-no g c).In-loop-bin in
     let target = c.bin_of_class-target.result in
     let before = c.if-target-at.before in
-    let same : target ≡ c.loop-bin.at → before ≡ c.loop-bin.sum = λ e. elim c.if-target-at.branch [
-      | then-target-at v ↦ v.before-is
-      | else-target-at v ↦ absurd (v.if-target-at.false e)
+    let from : ((target ≡ c.loop-bin.at) × (before ≡ c.loop-bin.sum)) ⊎ ((target ≢ c.loop-bin.at) × (before ≡ 0)) = elim c.if-target-at.branch [
+      | then-target-at v ↦ inl (v.if-target-at.true, v.before-is)
+      | else-target-at v ↦ inr (v.if-target-at.false, v.before-is)
     ] in
-    let other : target ≢ c.loop-bin.at → before ≡ 0 = λ n. elim c.if-target-at.branch [
-      | then-target-at v ↦ absurd (n v.if-target-at.true)
-      | else-target-at v ↦ v.before-is
-    ] in
-    let mf = grain-digits greatest s q in
-    let mg = grain-digits greatest h p in
-    let sum = tested-sum (grain h) (grain s) h.counts s.counts i c.loop-bin.at c.loop-bin.sum before target mf mg inside pos c.loop-bin.invariant c.bin_of_class-target.ensures.value same other in
-    let number : get_or c.self.inside.counts.numbers target 0 ≡ get_or h.counts target 0 = ap (λ (p : Plain). get_or p.counts target 0) c.self.view_is in
-    λ e. (target, omega (arith, sum, held-le (grain h) (grain s) s.counts (i + 1) target, at, number, c.from.ensures, c.get-then-count-gt0.ensures, c.as_u64.ensures.value, c.from-then-count-gt0.ensures, c.if-sum-from.true))
+    let sum = tested-sum (grain h) (grain s) h.counts s.counts i c.loop-bin.at c.loop-bin.sum before target positive.1 positive.0 (inside g (goal.at.returns-then-sum-from-clause-no g c).In-loop-bin) (omega (arith, at, c.if-count-gt0.true)) c.loop-bin.invariant c.bin_of_class-target.ensures.value from in
+    let held : get_or c.self.inside.counts.numbers target 0 ≡ get_or h.counts target 0 = ap (λ (p : Plain). get_or p.counts target 0) c.self.view_is in
+    λ e. (target, omega (arith, sum, held-le (grain h) (grain s) s.counts (i + 1) target, at, held, c.from.ensures, c.get-then-count-gt0.ensures, c.as_u64.ensures.value, c.from-then-count-gt0.ensures, c.if-sum-from.true))
 
 pub loop-bin-preserved : goal.loop-bin-preserved
 loop-bin-preserved g c =
-    let greatest = g.T.Counter.greatest in
     let h = c.args.self.now in
     let s = c.args.other.now in
-    let p = rw c.self.view_is at c.self.invariant.plain in
-    let q = rw c.other.view_is at c.other.invariant.plain in
     let i = c.loop-bin.bin in
-    let inside : i < length s.counts = omega (arith, ap (λ (p : Plain). length p.counts) c.other.view_is, c.loop-bin-test.true, c.len-bin-end.ensures, c.loop-bin.auto.bin-end) in
-    let at : c.as_u64-count.result ≡ get_or s.counts i 0 = c.as_u64-count.ensures.value ∙ c.get.ensures ∙ ap (λ (p : Plain). get_or p.counts i 0) c.other.view_is in
+    let at = c.as_u64-count.ensures.value ∙ number g (goal.at.loop-bin-preserved g c).After-get in
+    let lt = inside g (goal.at.loop-bin-preserved g c).In-loop-bin in
+    let positive = digits g (goal.at.loop-bin-preserved g c).In-loop-bin in
     elim c.if-count-gt0.branch [
       | then-count-gt0+else-sum-from w ↦ (
-          let pos : 0 < get_or s.counts i 0 = omega (arith, at, w.if-count-gt0.true) in
           let target = w.bin_of_class-target.result in
           let before = w.if-target-at.before in
-          let same : target ≡ c.loop-bin.at → before ≡ c.loop-bin.sum = λ e. elim w.if-target-at.branch [
-            | then-target-at v ↦ v.before-is
-            | else-target-at v ↦ absurd (v.if-target-at.false e)
+          let from : ((target ≡ c.loop-bin.at) × (before ≡ c.loop-bin.sum)) ⊎ ((target ≢ c.loop-bin.at) × (before ≡ 0)) = elim w.if-target-at.branch [
+            | then-target-at v ↦ inl (v.if-target-at.true, v.before-is)
+            | else-target-at v ↦ inr (v.if-target-at.false, v.before-is)
           ] in
-          let other : target ≢ c.loop-bin.at → before ≡ 0 = λ n. elim w.if-target-at.branch [
-            | then-target-at v ↦ absurd (n v.if-target-at.true)
-            | else-target-at v ↦ v.before-is
-          ] in
-          let mf = grain-digits greatest s q in
-          let mg = grain-digits greatest h p in
-          let number : get_or c.self.inside.counts.numbers target 0 ≡ get_or h.counts target 0 = ap (λ (p : Plain). get_or p.counts target 0) c.self.view_is in
+          let held : get_or c.self.inside.counts.numbers target 0 ≡ get_or h.counts target 0 = ap (λ (p : Plain). get_or p.counts target 0) c.self.view_is in
           let sum : c.if-count-gt0.sum ≡ before + get_or s.counts i 0 = omega (arith, w.sum-is, w.from.ensures, at) in
-          let fits : before + get_or s.counts i 0 ≤ get_or h.counts target 0 = omega (arith, sum, w.sum-is, number, w.get-then-count-gt0.ensures, w.as_u64.ensures.value, w.from-then-count-gt0.ensures, w.if-sum-from.false) in
-          let next = tested-next (grain h) (grain s) h.counts s.counts i c.loop-bin.at c.loop-bin.sum before target mf mg inside pos c.loop-bin.invariant w.bin_of_class-target.ensures.value same other fits in
+          let fits : before + get_or s.counts i 0 ≤ get_or h.counts target 0 = omega (arith, sum, w.sum-is, held, w.get-then-count-gt0.ensures, w.as_u64.ensures.value, w.from-then-count-gt0.ensures, w.if-sum-from.false) in
+          let next = tested-next (grain h) (grain s) h.counts s.counts i c.loop-bin.at c.loop-bin.sum before target positive.1 positive.0 lt (omega (arith, at, w.if-count-gt0.true)) c.loop-bin.invariant w.bin_of_class-target.ensures.value from fits in
           subst (λ a. IsTested (grain h) (grain s) h.counts s.counts (i + 1) a c.if-count-gt0.sum) (sym w.at-is) (subst (λ k. IsTested (grain h) (grain s) h.counts s.counts (i + 1) target k) (sym sum) next)
           )
       | else-count-gt0 w ↦ (
-          let none : get_or s.counts i 0 ≡ 0 = omega (arith, at, w.if-count-gt0.false) in
-          let next = tested-same (grain h) (grain s) h.counts s.counts i c.loop-bin.at c.loop-bin.sum inside none c.loop-bin.invariant in
+          let next = tested-same (grain h) (grain s) h.counts s.counts i c.loop-bin.at c.loop-bin.sum lt (omega (arith, at, w.if-count-gt0.false)) c.loop-bin.invariant in
           subst (λ a. IsTested (grain h) (grain s) h.counts s.counts (i + 1) a c.if-count-gt0.sum) (sym w.at-is) (subst (λ k. IsTested (grain h) (grain s) h.counts s.counts (i + 1) c.loop-bin.at k) (sym w.sum-is) next)
           )
     ]

@@ -9,11 +9,20 @@ use Rattle.hdr_model.proofs.CorrectionFacts.{missing-down, missing-none}
 use Rattle.hdr_model.proofs.CorrectionClasses.{held-none, held-le}
 use Rattle.hdr_model.proofs.MergingStands.{Fits-front}
 use Rattle.hdr_model.proofs.CorrectionByClass.{recorded-holds, high-corrected}
+use Rattle.hdr_core.proofs.histogram.Histogram.record_n_correct_counted.Given as given
 use Rattle.hdr_core.proofs.histogram.Histogram.record_n_correct_counted.Goals as goal
+use Rattle.hdr_core.proofs.histogram.Histogram.record_n_correct_counted.Goals.{After-add_missing, Else-interval-gt0}
 
 pub add_missing-requires-clause-within : goal.add_missing-requires-clause-within
 add_missing-requires-clause-within g c =
     rw (c.in_ok-record_n.ensures.ok) (omega (arith, c.saturating_sub.ensures, recorded-holds g.T.Counter.greatest c.args.self.now c.args.value (g.T.Counter.number c.args.count)))
+
+-- the values that are recorded after the first
+list : (g : given.Over) (c : After-add_missing g) → down_to c.saturating_sub.result c.args.interval ≡ missing c.args.value c.args.interval
+list g c = ap (λ x. down_to x c.args.interval) c.saturating_sub.ensures ∙ sym (missing-down c.args.value c.args.interval (omega arith))
+
+none : (g : given.Over) (c : Else-interval-gt0 g) → missing c.args.value c.args.interval ≡ []
+none g c = ap (λ i. missing c.args.value i) (let e : c.args.interval ≡ 0 = omega arith in e) ∙ missing-none c.args.value
 
 pub returns-then-interval-gt0-clause-ok : goal.returns-then-interval-gt0-clause-ok
 unfolding after_correct
@@ -22,11 +31,10 @@ returns-then-interval-gt0-clause-ok g c =
     let n = g.T.Counter.number c.args.count in
     let v = c.args.value in
     let i = c.args.interval in
-    let list : down_to c.saturating_sub.result i ≡ missing v i = ap (λ x. down_to x i) c.saturating_sub.ensures ∙ sym (missing-down v i (omega arith)) in
     c.add_missing.ensures.state
     ∙ ap (λ (h : Plain). after_records greatest h (each_times c.as_u64.result (down_to c.saturating_sub.result i))) c.in_ok-record_n.ensures.ok
     ∙ ap (λ k. after_records greatest (after_record greatest c.args.self.now v n) (each_times k (down_to c.saturating_sub.result i))) c.as_u64.ensures.value
-    ∙ ap (λ xs. after_records greatest (after_record greatest c.args.self.now v n) (each_times n xs)) list
+    ∙ ap (λ xs. after_records greatest (after_record greatest c.args.self.now v n) (each_times n xs)) (list g c)
 
 pub returns-then-interval-gt0-clause-ticks : goal.returns-then-interval-gt0-clause-ticks
 returns-then-interval-gt0-clause-ticks g c =
@@ -34,9 +42,8 @@ returns-then-interval-gt0-clause-ticks g c =
     let i = c.args.interval in
     let mid = c.record_n.new.self in
     let new = c.add_missing.new.self in
-    let list : down_to c.saturating_sub.result i ≡ missing v i = ap (λ x. down_to x i) c.saturating_sub.ensures ∙ sym (missing-down v i (omega arith)) in
     c.add_missing.ensures.ticks
-    ∙ ap (λ xs. c.args.ticks.now + classes_held (grain mid) (length mid.counts) xs) list
+    ∙ ap (λ xs. c.args.ticks.now + classes_held (grain mid) (length mid.counts) xs) (list g c)
     ∙ ap (λ (k : Grain). c.args.ticks.now + classes_held k (length mid.counts) (missing v i)) (sym c.add_missing.ensures.same_classes)
     ∙ ap (λ m. c.args.ticks.now + classes_held (grain new) m (missing v i)) (sym c.add_missing.ensures.same_bins)
 
@@ -51,9 +58,8 @@ returns-then-interval-gt0-clause-samples g c = λ S stands fits.
     let n = g.T.Counter.number c.args.count in
     let v = c.args.value in
     let i = c.args.interval in
-    let list : down_to c.saturating_sub.result i ≡ missing v i = ap (λ x. down_to x i) c.saturating_sub.ensures ∙ sym (missing-down v i (omega arith)) in
     let joined : S ++ samples_of (each_times n (v ∷ missing v i)) ≡ (S ++ replicate n v) ++ samples_of (each_times c.as_u64.result (down_to c.saturating_sub.result i)) =
-    sym (append_assoc S (replicate n v) (samples_of (each_times n (missing v i)))) ∙ ap (λ xs. (S ++ replicate n v) ++ samples_of (each_times n xs)) (sym list)
+    sym (append_assoc S (replicate n v) (samples_of (each_times n (missing v i)))) ∙ ap (λ xs. (S ++ replicate n v) ++ samples_of (each_times n xs)) (sym (list g c))
     ∙ ap (λ k. (S ++ replicate n v) ++ samples_of (each_times k (down_to c.saturating_sub.result i))) (sym c.as_u64.ensures.value) in
     let all = subst (λ xs. Fits greatest (grain c.args.self.now) xs) joined fits in
     let first = c.in_ok-record_n.ensures.samples S stands (Fits-front greatest (grain c.args.self.now) (S ++ replicate n v) _ all) in
@@ -69,24 +75,21 @@ pub returns-else-interval-gt0-clause-ok : goal.returns-else-interval-gt0-clause-
 unfolding after_correct
 returns-else-interval-gt0-clause-ok g c =
     let n = g.T.Counter.number c.args.count in
-    let none : missing c.args.value c.args.interval ≡ [] = ap (λ i. missing c.args.value i) (let e : c.args.interval ≡ 0 = omega arith in e) ∙ missing-none c.args.value in
     c.in_ok-record_n.ensures.ok
-    ∙ ap (λ xs. after_records g.T.Counter.greatest (after_record g.T.Counter.greatest c.args.self.now c.args.value n) (each_times n xs)) (sym none)
+    ∙ ap (λ xs. after_records g.T.Counter.greatest (after_record g.T.Counter.greatest c.args.self.now c.args.value n) (each_times n xs)) (sym (none g c))
 
 pub returns-else-interval-gt0-clause-ticks : goal.returns-else-interval-gt0-clause-ticks
 returns-else-interval-gt0-clause-ticks g c =
     let h = c.record_n.new.self in
-    let none : missing c.args.value c.args.interval ≡ [] = ap (λ i. missing c.args.value i) (let e : c.args.interval ≡ 0 = omega arith in e) ∙ missing-none c.args.value in
     let no_class : classes_held (grain h) (length h.counts) (missing c.args.value c.args.interval) ≡ 0 =
-    ap (λ xs. classes_held (grain h) (length h.counts) xs) none ∙ held-none (grain h) (length h.counts) in
+    ap (λ xs. classes_held (grain h) (length h.counts) xs) (none g c) ∙ held-none (grain h) (length h.counts) in
     omega arith
 
 pub returns-else-interval-gt0-clause-samples : goal.returns-else-interval-gt0-clause-samples
 returns-else-interval-gt0-clause-samples g c = λ S stands fits.
     let n = g.T.Counter.number c.args.count in
     let v = c.args.value in
-    let none : missing v c.args.interval ≡ [] = ap (λ i. missing v i) (let e : c.args.interval ≡ 0 = omega arith in e) ∙ missing-none v in
     let list : S ++ samples_of (each_times n (v ∷ missing v c.args.interval)) ≡ S ++ replicate n v =
-    ap (λ xs. S ++ (replicate n v ++ samples_of (each_times n xs))) none ∙ ap (λ xs. S ++ xs) (append-nil (replicate n v)) in
+    ap (λ xs. S ++ (replicate n v ++ samples_of (each_times n xs))) (none g c) ∙ ap (λ xs. S ++ xs) (append-nil (replicate n v)) in
     subst (λ xs. StandsFor c.record_n.new.self xs) (sym list)
     (c.in_ok-record_n.ensures.samples S stands (subst (λ xs. Fits g.T.Counter.greatest (grain c.args.self.now) xs) list fits))

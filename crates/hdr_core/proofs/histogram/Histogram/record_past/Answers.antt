@@ -10,10 +10,9 @@ pub add_to_bin-requires : goal.add_to_bin-requires
 add_to_bin-requires g c =
     let w = c.cover.new.self in
     let v = c.args.value in
-    let plain = rw c.self.view_is at c.self.invariant.plain in
     let bin : c.bin-bin.result ≡ bin_of (grain w) v = c.bin-bin.ensures.value ∙ ap (λ (s : Grain). bin_of s v) (c.self.invariant.scale ∙ ap (λ (p : Plain). grain p) c.self.view_is) in
     let holds : v ≤ reach w = subst (λ (p : Plain). v ≤ reach p) (sym c.in_ok-cover.ensures.ok) (widened-holds c.args.self.now v) in
-    omega (arith, bin, room-in g.T.Counter.greatest w v plain holds)
+    omega (arith, bin, room-in g.T.Counter.greatest w v (rw c.self.view_is at c.self.invariant.plain) holds)
 
 pub returns-clause-ok : goal.returns-clause-ok
 unfolding after_record

@@ -11,10 +11,9 @@ use Rattle.hdr_core.proofs.histogram.Histogram.saturating_record_n.Goals as goal
 pub add_to_bin-requires : goal.add_to_bin-requires
 add_to_bin-requires g c =
     let h = c.args.self.now in
-    let plain = rw c.self.view_is at c.self.invariant.plain in
     let same : c.self.inside.scale ≡ grain h = c.self.invariant.scale ∙ ap (λ (p : Plain). grain p) c.self.view_is in
     let bin : c.bin-bin.result ≡ bin_of (grain h) c.clamped-value.result = c.bin-bin.ensures.value ∙ ap (λ (s : Grain). bin_of s c.clamped-value.result) same in
-    omega (arith, room-in g.T.Counter.greatest h c.clamped-value.result plain c.clamped-value.ensures.within)
+    omega (arith, room-in g.T.Counter.greatest h c.clamped-value.result (rw c.self.view_is at c.self.invariant.plain) c.clamped-value.ensures.within)
 
 pub returns-clause-state : goal.returns-clause-state
 returns-clause-state g c =

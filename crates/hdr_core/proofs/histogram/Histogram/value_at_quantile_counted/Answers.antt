@@ -3,24 +3,29 @@ use Rattle.hdr_counts.specs.Blocks.{looks}
 use Rattle.hdr_base.specs.Fractions.{Ratio}
 use Rattle.hdr_model.specs.Plain.{Plain, grain, block_of}
 use Rattle.hdr_model.specs.Quantiles.{rank, first_reaching, answer_at, quantile_of}
-use Rattle.hdr_model.proofs.QuantilesFirst.{quantile-ranked}
+use Rattle.hdr_model.proofs.QuantilesFirst.{quantile-ranked, rank-read}
 use Rattle.std.proofs.lemmas.Nat.{pow_pos}
 use Rattle.hdr_base.specs.Classes.{bucket}
 use Rattle.hdr_base.proofs.ClassesReach.{bins-blocks}
 use Rattle.hdr_model.proofs.PlainKept.{grain-digits}
 use Rattle.hdr_model.proofs.QuantilesAnswers.{looks-most}
+use Rattle.hdr_core.proofs.histogram.Histogram.value_at_quantile_counted.Given as given
 use Rattle.hdr_core.proofs.histogram.Histogram.value_at_quantile_counted.Goals as goal
+use Rattle.hdr_core.proofs.histogram.Histogram.value_at_quantile_counted.Goals.{After-find-place}
+
+-- the class that is found
+found : (g : given.Over) (c : After-find-place g) → c.find-place.result ≡ first_reaching c.args.self.now.counts (rank c.args.quantile c.args.self.now.total)
+found g c =
+    let q : Ratio = c.args.quantile in
+    let rank_is : c.rank_of-rank.result ≡ rank q c.args.self.now.total = rank-read q c.rank_of-rank.result c.num.result c.from.result c.self.inside.total c.args.self.now.total c.rank_of-rank.ensures.value c.num.ensures (c.from.ensures ∙ c.den.ensures.value) (ap (λ (p : Plain). p.total) c.self.view_is) in
+    c.find-place.ensures.place ∙ ap (λ r. first_reaching c.args.self.now.counts r) rank_is
 
 pub returns-clause-value : goal.returns-clause-value
 unfolding quantile_of
 returns-clause-value g c =
     let h = c.args.self.now in
-    let q : Ratio = c.args.quantile in
-    let rank_is : c.rank_of-rank.result ≡ rank q h.total =
-    c.rank_of-rank.ensures.value ∙ ap (λ n. rank (record { num = n; den = c.from.result }) c.self.inside.total) c.num.ensures
-    ∙ ap (λ d. rank (record { num = q.num; den = d }) c.self.inside.total) ((c.from.ensures ∙ c.den.ensures.value)) ∙ ap (λ (p : Plain). rank q p.total) c.self.view_is in
     c.answer.ensures ∙ ap (λ n. answer_at (grain h) n c.find-place.result) c.num-2.ensures
-    ∙ ap (λ o. answer_at (grain h) q.num o) (c.find-place.ensures.place ∙ ap (λ r. first_reaching h.counts r) rank_is)
+    ∙ ap (λ o. answer_at (grain h) c.args.quantile.num o) (found g (goal.at.returns-clause-value g c).After-find-place)
 
 pub returns-clause-ranked : goal.returns-clause-ranked
 returns-clause-ranked g c = λ S stands some share.
@@ -28,12 +33,7 @@ returns-clause-ranked g c = λ S stands some share.
 
 pub returns-clause-looks : goal.returns-clause-looks
 returns-clause-looks g c =
-    let h = c.args.self.now in
-    let q : Ratio = c.args.quantile in
-    let rank_is : c.rank_of-rank.result ≡ rank q h.total =
-    c.rank_of-rank.ensures.value ∙ ap (λ n. rank (record { num = n; den = c.from.result }) c.self.inside.total) c.num.ensures
-    ∙ ap (λ d. rank (record { num = q.num; den = d }) c.self.inside.total) (c.from.ensures ∙ c.den.ensures.value) ∙ ap (λ (p : Plain). rank q p.total) c.self.view_is in
-    c.find-place.ensures.looks ∙ ap (λ o. c.args.ticks.now + looks (block_of h) (length h.counts) o) (c.find-place.ensures.place ∙ ap (λ r. first_reaching h.counts r) rank_is)
+    c.find-place.ensures.looks ∙ ap (λ o. c.args.ticks.now + looks (block_of c.args.self.now) (length c.args.self.now.counts) o) (found g (goal.at.returns-clause-looks g c).After-find-place)
 
 pub returns-clause-at_most : goal.returns-clause-at_most
 returns-clause-at_most g c =

@@ -5,9 +5,10 @@ use Rattle.std.proofs.lemmas.List.Elements.{All-set}
 use Rattle.hdr_base.specs.Classes.{bin_of}
 use Rattle.hdr_counts.specs.Blocks.{Blocks}
 use Rattle.hdr_model.specs.Plain.{Plain, grain}
-use Rattle.hdr_model.proofs.MergingHolds.{held, held-all, held-none, held-le, held-here, held-same, taken-next, place-in}
+use Rattle.hdr_model.proofs.MergingHolds.{held, held-all, held-none, held-same, enough-left, taken-next}
+use Rattle.hdr_core.proofs.histogram.subtracting.take_each.Given as given
 use Rattle.hdr_core.proofs.histogram.subtracting.take_each.Goals as goal
-use Rattle.hdr_core.proofs.histogram.subtracting.take_each.Goals.{then-as_u64-gt0, else-as_u64-gt0}
+use Rattle.hdr_core.proofs.histogram.subtracting.take_each.Goals.{After-get-count, then-as_u64-gt0, else-as_u64-gt0}
 
 pub loop-bin-init : goal.loop-bin-init
 loop-bin-init g c = record {
@@ -17,41 +18,20 @@ loop-bin-init g c = record {
   taken = λ j. omega (arith, held-none c.args.scale (grain c.args.other.now) c.args.other.now.counts j);
 }
 
-pub take_from-requires-clause-inside : goal.take_from-requires-clause-inside
-take_from-requires-clause-inside g c =
-    let f = grain c.args.other.now in
-    let k = c.args.scale in
-    let s = c.args.other.now in
-    let i = c.loop-bin.bin in
-    let was = c.args.counts.now.numbers in
-    let now = c.loop-bin.counts.numbers in
-    let inside : i < length s.counts = omega (arith, ap (λ (p : Plain). length p.counts) c.other.view_is, c.loop-bin-test.true, c.len-bin-end.ensures, c.loop-bin.auto.bin-end) in
-    let at : g.T.Counter.number c.get-count.result ≡ get_or s.counts i 0 = c.get-count.ensures ∙ ap (λ (p : Plain). get_or p.counts i 0) c.other.view_is in
-    let pos : 0 < get_or s.counts i 0 = omega (arith, at, c.as_u64.ensures.value, c.if-as_u64-gt0.true) in
-    let target = c.bin-target.result in
-    let step : held k f s.counts (i + 1) target ≡ held k f s.counts i target + get_or s.counts i 0 =
-    subst (λ b. held k f s.counts (i + 1) b ≡ held k f s.counts i b + get_or s.counts i 0) (sym (c.bin-target.ensures.value ∙ ap (λ v. bin_of k v) c.class_value.ensures)) (held-here k f s.counts i inside pos) in
-    let enough : get_or s.counts i 0 ≤ get_or now target 0 = omega (arith, step, held-le k f s.counts (i + 1) target, c.requires.enough target, c.loop-bin.invariant.taken target) in
-    let room : target < length now = place-in now target (omega (arith, enough, pos)) in
-    room
+-- the class that is looked at is one of the other's, and its number
+looked_at : (g : given.Over) (c : After-get-count g) → (c.loop-bin.bin < length c.args.other.now.counts) × (g.T.Counter.number c.get-count.result ≡ get_or c.args.other.now.counts c.loop-bin.bin 0)
+looked_at g c = (
+  omega (arith, ap (λ (p : Plain). length p.counts) c.other.view_is, c.loop-bin-test.true, c.len-bin-end.ensures, c.loop-bin.auto.bin-end),
+  c.get-count.ensures ∙ ap (λ (p : Plain). get_or p.counts c.loop-bin.bin 0) c.other.view_is,
+)
 
-pub take_from-requires-clause-enough : goal.take_from-requires-clause-enough
-take_from-requires-clause-enough g c =
-    let f = grain c.args.other.now in
-    let k = c.args.scale in
+pub take_from-requires : goal.take_from-requires
+take_from-requires g c =
     let s = c.args.other.now in
-    let i = c.loop-bin.bin in
-    let was = c.args.counts.now.numbers in
-    let now = c.loop-bin.counts.numbers in
-    let inside : i < length s.counts = omega (arith, ap (λ (p : Plain). length p.counts) c.other.view_is, c.loop-bin-test.true, c.len-bin-end.ensures, c.loop-bin.auto.bin-end) in
-    let at : g.T.Counter.number c.get-count.result ≡ get_or s.counts i 0 = c.get-count.ensures ∙ ap (λ (p : Plain). get_or p.counts i 0) c.other.view_is in
-    let pos : 0 < get_or s.counts i 0 = omega (arith, at, c.as_u64.ensures.value, c.if-as_u64-gt0.true) in
-    let target = c.bin-target.result in
-    let step : held k f s.counts (i + 1) target ≡ held k f s.counts i target + get_or s.counts i 0 =
-    subst (λ b. held k f s.counts (i + 1) b ≡ held k f s.counts i b + get_or s.counts i 0) (sym (c.bin-target.ensures.value ∙ ap (λ v. bin_of k v) c.class_value.ensures)) (held-here k f s.counts i inside pos) in
-    let enough : get_or s.counts i 0 ≤ get_or now target 0 = omega (arith, step, held-le k f s.counts (i + 1) target, c.requires.enough target, c.loop-bin.invariant.taken target) in
-    let room : target < length now = place-in now target (omega (arith, enough, pos)) in
-    omega (arith, at, enough)
+    let (inside, at) = looked_at g (goal.at.take_from-requires g c).After-get-count in
+    let left = enough-left c.args.scale (grain s) s.counts c.args.counts.now.numbers c.loop-bin.counts.numbers c.loop-bin.bin c.bin-target.result inside (omega (arith, at, c.as_u64.ensures.value, c.if-as_u64-gt0.true))
+    (c.bin-target.ensures.value ∙ ap (λ v. bin_of c.args.scale v) c.class_value.ensures) c.requires.enough c.loop-bin.invariant.taken in
+    record { inside = left.0; enough = omega (arith, at, left.1) }
 
 pub loop-bin-preserved : goal.loop-bin-preserved
 loop-bin-preserved g c =
@@ -61,16 +41,13 @@ loop-bin-preserved g c =
     let i = c.loop-bin.bin in
     let was = c.args.counts.now.numbers in
     let now = c.loop-bin.counts.numbers in
-    let inside : i < length s.counts = omega (arith, ap (λ (p : Plain). length p.counts) c.other.view_is, c.loop-bin-test.true, c.len-bin-end.ensures, c.loop-bin.auto.bin-end) in
-    let at : g.T.Counter.number c.get-count.result ≡ get_or s.counts i 0 = c.get-count.ensures ∙ ap (λ (p : Plain). get_or p.counts i 0) c.other.view_is in
+    let (inside, at) = looked_at g (goal.at.loop-bin-preserved g c).After-get-count in
     elim c.if-as_u64-gt0.branch [
       | then-as_u64-gt0 w ↦ (
           let pos : 0 < get_or s.counts i 0 = omega (arith, at, c.as_u64.ensures.value, w.if-as_u64-gt0.true) in
           let target = w.bin-target.result in
-          let step : held k f s.counts (i + 1) target ≡ held k f s.counts i target + get_or s.counts i 0 =
-          subst (λ b. held k f s.counts (i + 1) b ≡ held k f s.counts i b + get_or s.counts i 0) (sym (w.bin-target.ensures.value ∙ ap (λ v. bin_of k v) w.class_value.ensures)) (held-here k f s.counts i inside pos) in
-          let enough : get_or s.counts i 0 ≤ get_or now target 0 = omega (arith, step, held-le k f s.counts (i + 1) target, c.requires.enough target, c.loop-bin.invariant.taken target) in
-          let room : target < length now = place-in now target (omega (arith, enough, pos)) in
+          let here = w.bin-target.ensures.value ∙ ap (λ v. bin_of k v) w.class_value.ensures in
+          let (room, most) = enough-left k f s.counts was now i target inside pos here c.requires.enough c.loop-bin.invariant.taken in
           let put = get_or now target 0 - get_or s.counts i 0 in
           let new : c.if-as_u64-gt0.counts ≡ record { block = c.loop-bin.counts.block; numbers = set now target put } =
           w.counts-is ∙ w.take_from.ensures ∙ ap (λ n. record { block = c.loop-bin.counts.block; numbers = set now target (get_or now target 0 - n) }) at in
@@ -80,7 +57,7 @@ loop-bin-preserved g c =
             block = ap (λ (b : Blocks). b.block) new ∙ c.loop-bin.invariant.block;
             bins = ap (λ (l : List ℕ). length l) numbers ∙ length-set now target put ∙ c.loop-bin.invariant.bins;
             fit = subst (λ l. All (λ n. n ≤ g.T.Counter.greatest) l) (sym numbers) (All-set (λ n. n ≤ g.T.Counter.greatest) now target put bound c.loop-bin.invariant.fit);
-            taken = λ j. ap (λ l. get_or l j 0 + held k f s.counts (i + 1) j) numbers ∙ taken-next k f s.counts was now i target inside pos (w.bin-target.ensures.value ∙ ap (λ v. bin_of k v) w.class_value.ensures) room enough c.loop-bin.invariant.taken j;
+            taken = λ j. ap (λ l. get_or l j 0 + held k f s.counts (i + 1) j) numbers ∙ taken-next k f s.counts was now i target inside pos here room most c.loop-bin.invariant.taken j;
           }
           )
       | else-as_u64-gt0 w ↦ (

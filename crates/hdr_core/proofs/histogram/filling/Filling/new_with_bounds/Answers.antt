@@ -1,35 +1,27 @@
-use Rattle.std.proofs.Common.{◌≡◌, ◌∙◌, ◌-◌, ◌^◌, false, length, ap, arith}
-use Rattle.std.proofs.lemmas.List.{length-replicate}
-use Rattle.hdr_base.specs.Classes.{part_digits, Grain, grain_of}
-use Rattle.hdr_counts.specs.Blocks.{Blocks}
+use Rattle.std.proofs.Common.{false, ap, arith}
 use Rattle.hdr_model.specs.Filling.{open_of}
 use Rattle.hdr_model.specs.Plain.{Plain}
-use Rattle.hdr_model.proofs.PlainKept.{empty-by, parts-are, digits-pos-of}
+use Rattle.hdr_model.proofs.PlainKept.{made}
 use Rattle.hdr_core.proofs.histogram.filling.Filling.new_with_bounds.Goals as goal
 
 pub new-requires-clause-few : goal.new-requires-clause-few
-new-requires-clause-few g c = rw (c.part.ensures.value) c.parts.ensures.few
+new-requires-clause-few g c = rw (c.section.ensures.value) c.sections.ensures.few
 
 pub invariant_of-result : goal.invariant_of-result
 invariant_of-result g c =
-    let same = c.in_ok-scale.ensures.0 in
-    let gr = grain_of c.args.low c.args.sigfig in
-    let block : c.part.result ≡ 2 ^ part_digits gr.digits = c.part.ensures.value ∙ ap (λ (s : Grain). 2 ^ part_digits s.digits) same in
-    let n = parts-are c.in_ok-scale.scale gr c.args.high c.parts.result c.part.result same c.parts.ensures.value block (digits-pos-of c.args.low c.args.sigfig) in
+    let a = c.args in
+    let bins = made c.in_ok-scale.scale a.low a.high a.sigfig c.sections.result c.section.result false c.in-Ok.counts c.in_ok-scale.ensures.0 c.section.ensures.value c.sections.ensures.value c.in-Ok.ensures in
     record {
-      same_scale = same;
-      block = ap (λ (b : Blocks). b.block) c.in-Ok.ensures ∙ block;
+      same_scale = c.in_ok-scale.ensures.0;
+      block = bins.block;
       has_scale = c.in_ok-scale.ensures.1.scale;
       high_fits = omega arith;
       wide = c.in_ok-scale.ensures.1.wide;
-      whole = ap (λ (b : Blocks). length b.numbers) c.in-Ok.ensures ∙ length-replicate _ 0 ∙ n;
+      whole = bins.bins;
     }
 
 pub returns : goal.returns
 returns g c =
-    let same = c.in_ok-scale.ensures.0 in
-    let gr = grain_of c.args.low c.args.sigfig in
-    let block : c.part.result ≡ 2 ^ part_digits gr.digits = c.part.ensures.value ∙ ap (λ (s : Grain). 2 ^ part_digits s.digits) same in
-    let n = parts-are c.in_ok-scale.scale gr c.args.high c.parts.result c.part.result same c.parts.ensures.value block (digits-pos-of c.args.low c.args.sigfig) in
-    let made = empty-by c.args.low c.args.high c.args.sigfig c.parts.result c.part.result false c.in-Ok.counts.numbers (ap (λ (b : Blocks). b.numbers) c.in-Ok.ensures) n in
-    (ap (λ (h : Plain). open_of h) made, c.in_ok-scale.ensures.1)
+    let a = c.args in
+    let bins = made c.in_ok-scale.scale a.low a.high a.sigfig c.sections.result c.section.result false c.in-Ok.counts c.in_ok-scale.ensures.0 c.section.ensures.value c.sections.ensures.value c.in-Ok.ensures in
+    (ap (λ (h : Plain). open_of h) bins.empty, c.in_ok-scale.ensures.1)

@@ -10,5 +10,6 @@ abbrev pub invariant-loop-entry : goal.invariant-loop-entry
 invariant-loop-entry g l = record {
   few : l.merging.intervals + length l.entry-iterator ≤ length l.fn.log + 1;
   chosen : l.merging.chosen ≤ l.merging.intervals;
+  coarser : l.merging.coarser ≤ l.merging.intervals;
   ending : (r : Result Merging MergeError) → EntriesMerge g.T.Counter.greatest (view_of_filter l.fn.filter) l.entry-iterator (view_of_merging l.merging) r → Merges g.T.Counter.greatest (view_of_filter l.fn.filter) l.fn.sigfig l.fn.log r;
 }

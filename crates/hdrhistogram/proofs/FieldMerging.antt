@@ -1,0 +1,21 @@
+-- What a field that was read, or refused, adds to a merge.
+use Rattle.std.proofs.Common.{ℕ, ◌+◌, List, Option, Ok, Err, refl, sym, subst}
+use Rattle.hdr_model.specs.Plain.{Plain}
+use Rattle.hdr_log.specs.Texts.{base64_bytes}
+use Rattle.hdrhistogram.specs.FieldRead.{IsHeldIn, RefusesDecoding}
+use Rattle.hdrhistogram.specs.LogMerging.{Merging, with_interval, FieldMerges, RefusesStep, field_error}
+use Rattle.hdrhistogram.specs.declared.serialization.errors.FieldDecodeError.{FieldDecodeError}
+use Rattle.hdrhistogram.specs.declared.serialization.errors.FieldDecodeError.TheVariants.{NotBase64, Decode, OutOfMemory}
+
+pub held_merges : (greatest : ℕ) (m : Merging) (field : List ℕ) (h : Plain) → IsHeldIn 18446744073709551615 field h
+    → FieldMerges greatest m (base64_bytes field) (Ok (with_interval greatest m h))
+held_merges greatest m field h held =
+    subst (λ (o : Option (List ℕ)). FieldMerges greatest m o (Ok (with_interval greatest m h))) (sym held.1) (Ok (h, held.2), held.3, refl)
+
+pub refused_merges : (greatest : ℕ) (m : Merging) (field : List ℕ) (e : FieldDecodeError) → RefusesDecoding 18446744073709551615 field e
+    → RefusesStep (λ r. FieldMerges greatest m (base64_bytes field) (Err r)) (field_error (m.intervals + 1) e)
+refused_merges greatest m field NotBase64 none =
+    subst (λ (o : Option (List ℕ)). FieldMerges greatest m o (Err (field_error (m.intervals + 1) NotBase64))) (sym none) refl
+refused_merges greatest m field (Decode e) refused =
+    subst (λ (o : Option (List ℕ)). FieldMerges greatest m o (Err (field_error (m.intervals + 1) (Decode e)))) (sym refused.1) (Err e, refused.2, refl)
+refused_merges greatest m field OutOfMemory refused = tt
