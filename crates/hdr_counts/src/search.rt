@@ -6,7 +6,7 @@ ghost use Rattle.hdr_counts.specs.Blocks.{sum_below, IsFirstToReach};
 
 use crate::Counts;
 use crate::adding::short_sum;
-use hdr_base::{Counter, Ticks};
+use hdr_base::{Counter, Work};
 use std::marker::Model;
 
 /// A search for ranks that do not fall: each goes on from the block where the one before was found.
@@ -67,12 +67,12 @@ impl<'a, T: Counter> Search<'a, T> {
 const FEW: usize = 16;
 
 /// Looks at a sum or at a counter's number: the one step that is counted.
-pub(crate) fn look(number: u128, ticks: &mut Ticks) -> u128
-    requires { ticks.old < 2 ^ 64 - 1 }
+pub(crate) fn look(number: u128, work: &mut Work) -> u128
+    requires { work.old < 2 ^ 64 - 1 }
     ensures value { result ≡ number }
-    ensures tick { ticks.new ≡ ticks.old + 1 }
+    ensures counted { work.new ≡ work.old + 1 }
 {
-    ticks.tick();
+    work.add_one();
     number
 }
 
@@ -92,17 +92,17 @@ pub(crate) fn sum_of_sums(sums: &[u128]) -> u128
 pub(crate) fn first_reaching_looked<T: Counter>(
     counters: &[T],
     mut rest: u64,
-    ticks: &mut Ticks,
+    work: &mut Work,
 ) -> Option<usize>
     requires some { 1 ≤ rest }
-    requires room { ticks.old + length counters.now < 2 ^ 64 }
+    requires room { work.old + length counters.now < 2 ^ 64 }
     ensures place { MatchOption result (sum (map T.number counters.now) < rest)
         (IsFirstToReach (map T.number counters.now) rest) }
-    ensures ticks { MatchOption result (ticks.new ≡ ticks.old + length counters.now)
-        (λ i. ticks.new ≡ ticks.old + i + 1) }
+    ensures work { MatchOption result (work.new ≡ work.old + length counters.now)
+        (λ i. work.new ≡ work.old + i + 1) }
 {
     for (i, counter) in counters.iter().enumerate() {
-        let number = look(u128::from(counter.as_u64()), ticks) as u64;
+        let number = look(u128::from(counter.as_u64()), work) as u64;
         if number >= rest {
             return Some(i);
         }

@@ -3,7 +3,7 @@
 
 ghost use Rattle.std.specs.Prelude.{◌^◌, ◌≤◌};
 
-use hdr_base::{Counter, Fraction, Quantile, Ticks};
+use hdr_base::{Counter, Fraction, Quantile, Work};
 use hdr_core::{
     AdditionError, Call, CallError, CallFrom, CreationError, RecordError, RunError,
     SubtractionError,
@@ -63,10 +63,10 @@ impl<T: Counter> Histogram<T> {
         Ok(Histogram { inner })
     }
 
-    pub fn value_at_quantile_counted(&self, quantile: Quantile, ticks: &mut Ticks) -> u64
-        requires { ticks.old ≤ 2 ^ 63 }
+    pub fn value_at_quantile_counted(&self, quantile: Quantile, work: &mut Work) -> u64
+        requires { work.old ≤ 2 ^ 63 }
     {
-        self.inner.value_at_quantile_counted(quantile, ticks)
+        self.inner.value_at_quantile_counted(quantile, work)
     }
 
     pub fn record_n_correct_counted(
@@ -74,12 +74,12 @@ impl<T: Counter> Histogram<T> {
         value: u64,
         count: T,
         interval: u64,
-        ticks: &mut Ticks,
+        work: &mut Work,
     ) -> Result<(), RecordError>
-        requires { ticks.old ≤ 2 ^ 63 }
+        requires { work.old ≤ 2 ^ 63 }
     {
         self.inner
-            .record_n_correct_counted(value, count, interval, ticks)
+            .record_n_correct_counted(value, count, interval, work)
     }
 
     pub fn is(&self, other: &Histogram<T>) -> bool {

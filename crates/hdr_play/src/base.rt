@@ -2,7 +2,7 @@
 
 use crate::answer::{Answer, number};
 use crate::single::Numbers;
-use hdr_base::{Counter, Quantile, Scale, Ticks};
+use hdr_base::{Counter, Quantile, Scale, Work};
 
 fn counted<T: Counter>(counter: Option<T>) -> Answer {
     match counter {
@@ -61,16 +61,16 @@ pub fn scale(name: &str, numbers: Numbers) -> Option<Answer> {
     }
 }
 
-/// A call on fractions or ticks. None: the name is no such call's.
+/// A call on fractions or counted work. None: the name is no such call's.
 pub fn fraction(name: &str, numbers: Numbers) -> Option<Answer> {
     let [num, den, _] = numbers;
     match name {
         "num" => Some(number(Quantile::new(num, den).map(|quantile| quantile.num()))),
         "den" => Some(number(Quantile::new(num, den).map(|quantile| quantile.den()))),
-        "ticks" => {
-            let mut ticks = Ticks::new();
-            ticks.tick();
-            Some(Answer::Number(ticks.count()))
+        "work" => {
+            let mut work = Work::new();
+            work.add_one();
+            Some(Answer::Number(work.count()))
         }
         _ => None,
     }

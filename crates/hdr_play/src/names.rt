@@ -91,7 +91,7 @@ pub const WHOLES: [(&str, Whole); 12] = [
 pub enum Rank {
     ValueAtQuantile,
     ValueAtPercentile,
-    /// The ticks of `value_at_quantile_counted`.
+    /// The looks of `value_at_quantile_counted`.
     Looks,
 }
 

@@ -6,7 +6,7 @@ use crate::names::{
     BINS, Bin, CHANGES, Change, MAKES, MANIES, Make, Many, PARTS, Part, RANKS, Rank, SINGLES,
     Single, WHOLES, Whole, named,
 };
-use hdr_base::{Counter, Quantile, Ticks};
+use hdr_base::{Counter, Quantile, Work};
 use hdr_core::{CreationError, RecordError};
 use std::alloc::Global;
 
@@ -75,16 +75,16 @@ fn record_many<T: Counter>(
     }
 }
 
-/// Corrects class by class, and answers the ticks.
-fn ticks_of_correction<T: Counter>(
+/// Corrects class by class, and answers how many counters were updated.
+fn work_of_correction<T: Counter>(
     h: &mut Histogram<T>,
     value: u64,
     count: T,
     interval: u64,
 ) -> Answer {
-    let mut ticks = Ticks::new();
-    match h.record_n_correct_counted(value, count, interval, &mut ticks) {
-        Ok(()) => Answer::Number(ticks.count()),
+    let mut work = Work::new();
+    match h.record_n_correct_counted(value, count, interval, &mut work) {
+        Ok(()) => Answer::Number(work.count()),
         Err(e) => Answer::Unrecorded(e),
     }
 }
@@ -117,7 +117,7 @@ fn changed<T: Counter>(h: &mut Histogram<T>, name: &str, numbers: Numbers) -> Op
         return Some(Answer::Done);
     }
     if name == "record_n_correct_counted" {
-        return Some(ticks_of_correction(h, value, T::from_u64(second)?, third));
+        return Some(work_of_correction(h, value, T::from_u64(second)?, third));
     }
     None
 }
@@ -140,12 +140,12 @@ fn whole<T: Counter>(h: &Histogram<T>, ask: Whole) -> u64 {
     }
 }
 
-/// The looks of a quantile. None: with and without ticks it answers two values.
+/// The looks of a quantile. None: counted and uncounted, it answers two values.
 fn looks<T: Counter>(h: &Histogram<T>, quantile: Quantile) -> Option<u64> {
-    let mut ticks = Ticks::new();
-    let value = h.value_at_quantile_counted(quantile, &mut ticks);
+    let mut work = Work::new();
+    let value = h.value_at_quantile_counted(quantile, &mut work);
     if value == h.value_at_quantile(quantile) {
-        Some(ticks.count())
+        Some(work.count())
     } else {
         None
     }

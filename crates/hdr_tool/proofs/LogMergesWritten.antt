@@ -14,7 +14,7 @@ use Rattle.hdrhistogram.specs.LogLeaving.{interval_piece, IsIntervalText}
 use Rattle.hdrhistogram.specs.V2Read.{told_of, v2_at, IsReadAs, IsReadBack, ReadsV2}
 use Rattle.hdrhistogram.specs.Chosen.{Filter, is_chosen}
 use Rattle.hdrhistogram.specs.LogMerging.{Merging, new_merging, past_interval, with_interval, BytesMerge, FieldMerges, IntervalMerges, MergesOn, EntriesMerge}
-use Rattle.hdrhistogram.specs.Faults as reading
+use Rattle.hdrhistogram.specs.Defects.{Defect}
 use Rattle.hdrhistogram.specs.declared.serialization.errors.DeserializeError.{DeserializeError}
 use Rattle.hdrhistogram.specs.declared.serialization.interval_log.merge.MergeError.{MergeError}
 use Rattle.hdr_tool.specs.declared.fault.Fault.{Fault}
@@ -121,7 +121,7 @@ pub record ReadsBack : Type 0 where
   pub contents : (greatest : ℕ) (h : Plain) (bytes more : List ℕ) → IsPlain greatest h → IsV2 h bytes → v2_at greatest (bytes ++ more) ≡ Ok (told_of h, more)
   pub histogram : (greatest taken : ℕ) (h k : Plain) (bytes more : List ℕ) → IsPlain greatest h → IsV2 h bytes → IsReadAs greatest (bytes ++ more) k taken → (taken ≡ length bytes) × IsReadBack h k
 
-not_refused : {A : Type 0} (x : A) (f : reading.Fault) (r : Result A reading.Fault) → r ≡ Ok x → r ≡ Err f → ⊥
+not_refused : {A : Type 0} (x : A) (f : Defect) (r : Result A Defect) → r ≡ Ok x → r ≡ Err f → ⊥
 not_refused x f r e g = absurd (let h = sym e ∙ g in cc)
 
 -- a V2 text is read as a histogram alone

@@ -10,7 +10,7 @@ use Rattle.hdrhistogram.specs.Chosen.{Filter, is_chosen}
 use Rattle.hdrhistogram.specs.LogMerging.{Merging, with_base, past_interval, with_interval, coarser_of, one_if_coarser, BytesMerge, FieldMerges, IntervalMerges, MergesOn, EntriesMerge, ChosenFirst, AreChosen}
 use Rattle.hdrhistogram.specs.FieldRead.{IsHeldIn}
 use Rattle.hdrhistogram.specs.V2Read.{Contents, told_of, IsReadAs, ReadsV2}
-use Rattle.hdrhistogram.specs.Faults.{Fault}
+use Rattle.hdrhistogram.specs.Defects.{Defect}
 use Rattle.hdrhistogram.specs.declared.serialization.errors.DeserializeError.{DeserializeError}
 use Rattle.hdrhistogram.specs.declared.serialization.interval_log.merge.MergeError.{MergeError}
 use Rattle.hdrhistogram.proofs.FinerCounted.{grain-added}
@@ -84,10 +84,10 @@ all_added greatest filter (Err at ∷ entries) m last e = failed greatest filter
 
 -- ---- one histogram is held in an interval
 
-same_read : (p q : Contents × List ℕ) → (λ (r : Result (Contents × List ℕ) Fault). r) (Ok p) ≡ Ok q → p ≡ q
+same_read : (p q : Contents × List ℕ) → (λ (r : Result (Contents × List ℕ) Defect). r) (Ok p) ≡ Ok q → p ≡ q
 same_read p q e = cc
 
-same_contents : (c d : Contents) (x y : List ℕ) → (λ (r : Result (Contents × List ℕ) Fault). r) (Ok (c, x)) ≡ Ok (d, y) → c ≡ d
+same_contents : (c d : Contents) (x y : List ℕ) → (λ (r : Result (Contents × List ℕ) Defect). r) (Ok (c, x)) ≡ Ok (d, y) → c ≡ d
 same_contents c d x y e = ap (λ (p : Contents × List ℕ). p.0) (same_read (c, x) (d, y) e)
 
 same_bytes : (x y : List ℕ) → (λ (o : Option (List ℕ)). o) (Some x) ≡ Some y → x ≡ y

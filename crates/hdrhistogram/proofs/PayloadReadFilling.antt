@@ -8,8 +8,8 @@ use Rattle.hdrhistogram.specs.Varint.{IsSpelling, number_of_spelling, Spells}
 use Rattle.hdrhistogram.specs.ZigZag.{from_zig_zag}
 use Rattle.hdrhistogram.specs.declared.serialization.errors.DeserializeError.{DeserializeError}
 use Rattle.hdrhistogram.proofs.VarintRead.{two_spelt}
-use Rattle.hdrhistogram.specs.Faults.{Fault, cut, unless, fault_of_error, FailsBy, Gives}
-use Rattle.hdrhistogram.specs.PayloadRead.{Parted, last_byte, put_before, split_spellings, numbers, bins_of_number, move, fault_at, first_fault, fit_bins, with_count, IsCountPut, IsPairPut, counts_or_fault, counts_in, IsCut}
+use Rattle.hdrhistogram.specs.Defects.{Defect, cut, unless, defect_of_error, FailsBy, Gives}
+use Rattle.hdrhistogram.specs.PayloadRead.{Parted, last_byte, put_before, split_spellings, numbers, bins_of_number, move, defect_at, first_defect, fit_bins, with_count, IsCountPut, IsPairPut, counts_or_defect, counts_in, IsCut}
 
 -- ---- the spellings of a payload
 
@@ -63,19 +63,19 @@ fitted_set (suc bins) (m ∷ front) n h = ap (λ l. m ∷ l) (fitted_set bins fr
 
 -- ---- one number
 
-no_second : (a b : Bool) (x y : Fault) (m : Option Fault) → cond a (Some x) (cond b (Some y) m) ≡ None → b ≡ false
+no_second : (a b : Bool) (x y : Defect) (m : Option Defect) → cond a (Some x) (cond b (Some y) m) ≡ None → b ≡ false
 no_second true b x y m h = cc
 no_second false true x y m h = cc
 no_second false false x y m h = refl
 
-below_bins : (bins greatest place n : ℕ) → fault_at bins greatest place (pos (suc n)) ≡ None → place < bins
+below_bins : (bins greatest place n : ℕ) → defect_at bins greatest place (pos (suc n)) ≡ None → place < bins
 below_bins bins greatest place n h =
     let tests = no_second (ltb greatest (suc n)) (ltb 0 (suc n) && leb bins place) _ _ _ h in
     let positive : ltb 0 (suc n) ≡ true = lt-ltb 0 (suc n) (omega arith) in
     ⊎_elim (λ e. absurd (true≢false (sym positive ∙ e))) (λ e. leb-false bins place e) (and_cases _ _ tests)
 
--- a number without a fault adds its bins
-with_fitted : (bins greatest place : ℕ) (front : List ℕ) (n : ℤ) → length front ≡ place → fault_at bins greatest place n ≡ None
+-- a number without a defect adds its bins
+with_fitted : (bins greatest place : ℕ) (front : List ℕ) (n : ℤ) → length front ≡ place → defect_at bins greatest place n ≡ None
     → with_count (fit_bins bins front) place n ≡ fit_bins bins (front ++ bins_of_number n)
 with_fitted bins greatest place front (pos zero) e fine = sym (fitted_run bins front 1)
 with_fitted bins greatest place front (pos (suc n)) e fine =
@@ -95,7 +95,7 @@ no_last : (a : Bool) → (a && false) ≡ false
 no_last true = refl
 no_last false = refl
 
-fine_at : (bins greatest place n : ℕ) → n ≤ greatest → place < bins → bins ≤ most_bins → fault_at bins greatest place (pos n) ≡ None
+fine_at : (bins greatest place n : ℕ) → n ≤ greatest → place < bins → bins ≤ most_bins → defect_at bins greatest place (pos n) ≡ None
 fine_at bins greatest place n fits inside few =
     let no_past : leb bins place ≡ false = lt-leb bins place inside in
     let no_far : leb (2 ^ 64) (place + 1) ≡ false = lt-leb (2 ^ 64) (place + 1) (omega arith) in
@@ -121,9 +121,9 @@ two-put greatest place bytes old new n two high fits low even is more most insid
 -- ---- the loop
 
 -- what is left of a payload, where these bins were read of it
-pub from : ℕ → ℕ → ℕ → List ℕ → Parted → Result (List ℕ) Fault
+pub from : ℕ → ℕ → ℕ → List ℕ → Parted → Result (List ℕ) Defect
 from bins greatest place front later =
-    counts_or_fault (first_fault bins greatest place (numbers later.texts)) later.rest (fit_bins bins (front ++ flat_map bins_of_number (numbers later.texts)))
+    counts_or_defect (first_defect bins greatest place (numbers later.texts)) later.rest (fit_bins bins (front ++ flat_map bins_of_number (numbers later.texts)))
 
 -- the numbers before `at` are read into the counts
 pub record IsFilledTo (bins greatest : ℕ) (payload counts : List ℕ) (at place : ℕ) : Type 0 where
@@ -150,23 +150,23 @@ next_of : (payload text : List ℕ) (at next len : ℕ) → text ≡ take len (d
     → split_spellings 8 (drop at payload) ≡ record { texts = text ∷ (split_spellings 8 (drop next payload)).texts; rest = (split_spellings 8 (drop next payload)).rest }
 next_of payload text at next len t e s = ap (split_spellings 8) (parts_of payload text at next len t e) ∙ parted_spelling 8 text (drop next payload) s
 
-step_from : (bins greatest place : ℕ) (front text : List ℕ) (n : ℤ) (later : Parted) → from_zig_zag (number_of_spelling 8 text) ≡ n → fault_at bins greatest place n ≡ None
+step_from : (bins greatest place : ℕ) (front text : List ℕ) (n : ℤ) (later : Parted) → from_zig_zag (number_of_spelling 8 text) ≡ n → defect_at bins greatest place n ≡ None
     → from bins greatest place front (record { texts = text ∷ later.texts; rest = later.rest }) ≡ from bins greatest (place + move n) (front ++ bins_of_number n) later
-unfolding from first_fault
+unfolding from first_defect
 step_from bins greatest place front text n later value fine =
-    rw (value, fine) (ap (λ l. counts_or_fault (first_fault bins greatest (place + move n) (numbers later.texts)) later.rest (fit_bins bins l)) (sym (append_assoc front (bins_of_number n) _)))
+    rw (value, fine) (ap (λ l. counts_or_defect (first_defect bins greatest (place + move n) (numbers later.texts)) later.rest (fit_bins bins l)) (sym (append_assoc front (bins_of_number n) _)))
 
-stop_from : (bins greatest place : ℕ) (front text : List ℕ) (n : ℤ) (later : Parted) (f : Fault) → from_zig_zag (number_of_spelling 8 text) ≡ n → fault_at bins greatest place n ≡ Some f
+stop_from : (bins greatest place : ℕ) (front text : List ℕ) (n : ℤ) (later : Parted) (f : Defect) → from_zig_zag (number_of_spelling 8 text) ≡ n → defect_at bins greatest place n ≡ Some f
     → from bins greatest place front (record { texts = text ∷ later.texts; rest = later.rest }) ≡ Err f
-unfolding from first_fault
+unfolding from first_defect
 stop_from bins greatest place front text n later f value e = rw (value, e) refl
 
 pub fill_next : (bins greatest : ℕ) (payload counts after text : List ℕ) (at next place further len encoded : ℕ) (n : ℤ) → IsFilledTo bins greatest payload counts at place
     → len ≤ length (drop at payload) → text ≡ take len (drop at payload) → Spells text encoded → n ≡ from_zig_zag encoded
-    → fault_at (length counts) greatest place n ≡ None → after ≡ with_count counts place n → next ≡ at + len → further ≡ place + move n
+    → defect_at (length counts) greatest place n ≡ None → after ≡ with_count counts place n → next ≡ at + len → further ≡ place + move n
     → IsFilledTo bins greatest payload after next further
 fill_next bins greatest payload counts after text at next place further len encoded n d h t s value fine' e next_is further_is =
-    let fine : fault_at bins greatest place n ≡ None = ap (λ k. fault_at k greatest place n) (sym (fill_bins bins greatest payload counts at place d)) ∙ fine' in
+    let fine : defect_at bins greatest place n ≡ None = ap (λ k. defect_at k greatest place n) (sym (fill_bins bins greatest payload counts at place d)) ∙ fine' in
     let number : from_zig_zag (number_of_spelling 8 text) ≡ n = sym (value ∙ ap from_zig_zag s.value) in
     record {
       front = d.front ++ bins_of_number n;
@@ -178,21 +178,21 @@ fill_next bins greatest payload counts after text at next place further len enco
       within = omega (arith, length-drop at payload, d.within);
     }
 
-pub fill_faulty : (bins greatest : ℕ) (payload counts text : List ℕ) (at place len encoded : ℕ) (n : ℤ) (f : Fault) → IsFilledTo bins greatest payload counts at place
+pub fill_defective : (bins greatest : ℕ) (payload counts text : List ℕ) (at place len encoded : ℕ) (n : ℤ) (f : Defect) → IsFilledTo bins greatest payload counts at place
     → len ≤ length (drop at payload) → text ≡ take len (drop at payload) → Spells text encoded → n ≡ from_zig_zag encoded
-    → fault_at (length counts) greatest place n ≡ Some f → counts_in bins greatest payload ≡ Err f
-fill_faulty bins greatest payload counts text at place len encoded n f d h t s value e' =
-    let e : fault_at bins greatest place n ≡ Some f = ap (λ k. fault_at k greatest place n) (sym (fill_bins bins greatest payload counts at place d)) ∙ e' in
+    → defect_at (length counts) greatest place n ≡ Some f → counts_in bins greatest payload ≡ Err f
+fill_defective bins greatest payload counts text at place len encoded n f d h t s value e' =
+    let e : defect_at bins greatest place n ≡ Some f = ap (λ k. defect_at k greatest place n) (sym (fill_bins bins greatest payload counts at place d)) ∙ e' in
     let number : from_zig_zag (number_of_spelling 8 text) ≡ n = sym (value ∙ ap from_zig_zag s.value) in
     d.whole ∙ ap (from bins greatest place d.front) (next_of payload text at (at + len) len t refl s.whole)
     ∙ stop_from bins greatest place d.front text n (split_spellings 8 (drop (at + len) payload)) f number e
 
 end_from : (bins greatest place : ℕ) (front : List ℕ) → from bins greatest place front (record { texts = []; rest = [] }) ≡ Ok (fit_bins bins front)
-unfolding from first_fault
+unfolding from first_defect
 end_from bins greatest place front = ap (λ l. Ok (fit_bins bins l)) (append-nil front)
 
 cut_from : (bins greatest place : ℕ) (front rest : List ℕ) → 0 < length rest → from bins greatest place front (record { texts = []; rest = rest }) ≡ Err cut
-unfolding from first_fault
+unfolding from first_defect
 cut_from bins greatest place front [] h = absurd (omega arith)
 cut_from bins greatest place front (b ∷ rest) h = refl
 
@@ -219,12 +219,12 @@ fill_pair bins greatest payload counts after at next place further d p next_is f
     let second : IsCountPut greatest (place + 1) (drop (at + 2) payload) p.between after 2 = subst (λ l. IsCountPut greatest (place + 1) l p.between after 2) (drop-drop 2 at payload) p.second in
     fill_short bins greatest payload p.between after (at + 2) next (place + 1) further 2 half second (omega arith) (omega arith)
 
--- an error that names a check's fault names what it makes of the whole
-pub fails_so : {A : Type 0} (o fault : Option Fault) (whole : Result A Fault) → FailsBy {A = ℕ} o (unless fault 0) → ((f : Fault) → fault ≡ Some f → whole ≡ Err f) → FailsBy o whole
-fails_so None fault whole h so = tt
+-- an error that names a check's defect names what it makes of the whole
+pub fails_so : {A : Type 0} (o defect : Option Defect) (whole : Result A Defect) → FailsBy {A = ℕ} o (unless defect 0) → ((f : Defect) → defect ≡ Some f → whole ≡ Err f) → FailsBy o whole
+fails_so None defect whole h so = tt
 fails_so (Some f) None whole h so = cc
 fails_so (Some f) (Some g) whole h so = let same : g ≡ f = cc in so f (ap Some same)
 
 -- an answer that is this error
-pub gives_fails : {X Y : Type 0} (view : X → Y) (r : Result X DeserializeError) (e d : DeserializeError) (whole : Result Y Fault) → r ≡ Err e → e ≡ d → FailsBy (fault_of_error d) whole → Gives view r whole
+pub gives_fails : {X Y : Type 0} (view : X → Y) (r : Result X DeserializeError) (e d : DeserializeError) (whole : Result Y Defect) → r ≡ Err e → e ≡ d → FailsBy (defect_of_error d) whole → Gives view r whole
 gives_fails view r e d whole p q h = rw (p, q) h

@@ -16,15 +16,15 @@ use Rattle.hdrhistogram.specs.Varint.{number_of_spelling}
 use Rattle.hdrhistogram.specs.ZigZag.{from_zig_zag}
 use Rattle.hdrhistogram.specs.Payload.{Part, run, bin, bins_of, AreMaximal, number_of, AreSpelt, IsPayload}
 use Rattle.hdrhistogram.specs.V2.{four, eight, header, written_bins, written_counts, IsV2}
-use Rattle.hdrhistogram.specs.Faults.{Fault}
-use Rattle.hdrhistogram.specs.PayloadRead.{Parted, split_spellings, numbers, bins_of_number, move, fault_at, or_else, first_fault, fit_bins, counts_or_fault, counts_in}
-use Rattle.hdrhistogram.specs.V2Read.{Header, Contents, four_of, eight_of, four_at, eight_at, bytes_at, check_field, cookie_fault, offset_fault, sigfig_fault, ratio_fault, header_at, bounds_fault, bins_for, v2_at, told_of, IsRestated, HasContents, IsReadAs}
+use Rattle.hdrhistogram.specs.Defects.{Defect}
+use Rattle.hdrhistogram.specs.PayloadRead.{Parted, split_spellings, numbers, bins_of_number, move, defect_at, or_else, first_defect, fit_bins, counts_or_defect, counts_in}
+use Rattle.hdrhistogram.specs.V2Read.{Header, Contents, four_of, eight_of, four_at, eight_at, bytes_at, check_field, cookie_defect, offset_defect, sigfig_defect, ratio_defect, header_at, bounds_defect, bins_for, v2_at, told_of, IsRestated, HasContents, IsReadAs}
 use Rattle.hdrhistogram.proofs.VarintSpellings.{spelt_short}
 use Rattle.hdrhistogram.proofs.V2Bins.{not-written}
 use Rattle.hdrhistogram.proofs.V2Text.{length-four, length-eight}
 use Rattle.hdrhistogram.proofs.V2Telling.{zig_back, low-fits}
 use Rattle.hdrhistogram.proofs.PayloadReadFilling.{parted_spelling, length_fitted}
-use Rattle.hdrhistogram.proofs.V2ReadHistogram.{bounds-yes, fault-none}
+use Rattle.hdrhistogram.proofs.V2ReadHistogram.{bounds-yes, defect-none}
 
 -- ---- the numbers of a payload
 
@@ -49,36 +49,36 @@ pos_test : (bins p n : ℕ) → (0 < n → p < bins) → (ltb 0 n && leb bins p)
 pos_test bins p zero h = refl
 pos_test bins p (suc n) h = and_right (ltb 0 (suc n)) (leb bins p) (lt-leb bins p (h (omega arith)))
 
-pos_fine : (bins greatest p n : ℕ) → n ≤ greatest → (0 < n → p < bins) → p + 1 < 2 ^ 64 → fault_at bins greatest p (pos n) ≡ None
+pos_fine : (bins greatest p n : ℕ) → n ≤ greatest → (0 < n → p < bins) → p + 1 < 2 ^ 64 → defect_at bins greatest p (pos n) ≡ None
 pos_fine bins greatest p n h k room = rw (le-ltb greatest n h, pos_test bins p n k, lt-leb (2 ^ 64) (p + 1) room) refl
 
-neg_fine : (bins greatest p n : ℕ) → p + suc n < 2 ^ 64 → fault_at bins greatest p (negsuc n) ≡ None
+neg_fine : (bins greatest p n : ℕ) → p + suc n < 2 ^ 64 → defect_at bins greatest p (negsuc n) ≡ None
 neg_fine bins greatest p n room = rw (lt-leb (2 ^ 64) (p + suc n) room) refl
 
-step_fault : (bins greatest place : ℕ) (n : ℤ) (tail : List ℤ) → fault_at bins greatest place n ≡ None → first_fault bins greatest place (n ∷ tail) ≡ first_fault bins greatest (place + move n) tail
-unfolding first_fault
-step_fault bins greatest place n tail fine = ap (λ f. or_else f (first_fault bins greatest (place + move n) tail)) fine
+step_defect : (bins greatest place : ℕ) (n : ℤ) (tail : List ℤ) → defect_at bins greatest place n ≡ None → first_defect bins greatest place (n ∷ tail) ≡ first_defect bins greatest (place + move n) tail
+unfolding first_defect
+step_defect bins greatest place n tail fine = ap (λ f. or_else f (first_defect bins greatest (place + move n) tail)) fine
 
 all_behind : (P : ℕ → Type 0) (xs ys : List ℕ) → AllByRecursion P (xs ++ ys) → AllByRecursion P ys
 all_behind P [] ys h = h
 all_behind P (x ∷ xs) ys h = all_behind P xs ys h.1
 
--- the numbers of a payload have no fault
+-- the numbers of a payload have no defect
 fine_from : (parts : List Part) (p bins greatest : ℕ) → AreMaximal parts → p + length (flat_map bins_of parts) ≤ bins → bins < 2 ^ 63 → AllByRecursion (λ c. c ≤ greatest) (flat_map bins_of parts)
-    → first_fault bins greatest p (map number_of parts) ≡ None
-unfolding first_fault
+    → first_defect bins greatest p (map number_of parts) ≡ None
+unfolding first_defect
 fine_from [] p bins greatest m h k small = refl
 fine_from (run zero ∷ parts) p bins greatest m h k small = absurd (omega (arith, m.0))
 fine_from (run (suc zero) ∷ parts) p bins greatest m h k small =
-    step_fault bins greatest p (pos 0) _ (pos_fine bins greatest p 0 (omega arith) (λ e. absurd (omega arith)) (omega arith))
+    step_defect bins greatest p (pos 0) _ (pos_fine bins greatest p 0 (omega arith) (λ e. absurd (omega arith)) (omega arith))
     ∙ fine_from parts (p + 1) bins greatest m.2 (omega arith) k small.1
 fine_from (run (suc (suc z)) ∷ parts) p bins greatest m h k small =
     let size = length-append (replicate (suc (suc z)) 0) (flat_map bins_of parts) in
     let run_size = length-replicate {A = ℕ} (suc (suc z)) 0 in
-    step_fault bins greatest p (negsuc (suc z)) _ (neg_fine bins greatest p (suc z) (omega arith))
+    step_defect bins greatest p (negsuc (suc z)) _ (neg_fine bins greatest p (suc z) (omega arith))
     ∙ fine_from parts (p + suc (suc z)) bins greatest m.2 (omega arith) k (all_behind _ (replicate (suc (suc z)) 0) (flat_map bins_of parts) small)
 fine_from (bin c ∷ parts) p bins greatest m h k small =
-    step_fault bins greatest p (pos c) _ (pos_fine bins greatest p c small.0 (λ e. omega arith) (omega arith))
+    step_defect bins greatest p (pos c) _ (pos_fine bins greatest p c small.0 (λ e. omega arith) (omega arith))
     ∙ fine_from parts (p + 1) bins greatest m.1 (omega arith) k small.1
 
 -- the bins that the numbers stand for are those of the parts
@@ -121,12 +121,12 @@ counts_again greatest h text p w =
     let whole = w.split.whole in
     let size : length (written_counts h) ≡ written_bins h = length-take-le (written_bins h) h.counts (omega (arith, mark-inside greatest h p)) in
     let small : AllByRecursion (λ c. c ≤ greatest) (flat_map bins_of w.parts) = subst (AllByRecursion (λ c. c ≤ greatest)) (sym whole) (all_taken _ (written_bins h) h.counts (recursion_from_All _ h.counts p.numbers_fit)) in
-    let none : first_fault bins greatest 0 (numbers f.texts) ≡ None
-    = ap (first_fault bins greatest 0) f.each ∙ fine_from w.parts 0 bins greatest w.split.maximal (omega (arith, ap (length {A = ℕ}) whole, size, mark-inside greatest h p)) (omega (arith, few-bins greatest h p)) small in
+    let none : first_defect bins greatest 0 (numbers f.texts) ≡ None
+    = ap (first_defect bins greatest 0) f.each ∙ fine_from w.parts 0 bins greatest w.split.maximal (omega (arith, ap (length {A = ℕ}) whole, size, mark-inside greatest h p)) (omega (arith, few-bins greatest h p)) small in
     let counts : fit_bins bins (flat_map bins_of_number (numbers f.texts)) ≡ h.counts
     = ap (λ l. fit_bins bins (flat_map bins_of_number l)) f.each ∙ ap (fit_bins bins) (same_bins_read w.parts w.split.maximal ∙ whole) ∙ fitted_written greatest h p in
-    ap (λ (q : Parted). counts_or_fault (first_fault bins greatest 0 (numbers q.texts)) q.rest (fit_bins bins (flat_map bins_of_number (numbers q.texts)))) f.are
-    ∙ ap (λ (o : Option Fault). counts_or_fault o [] (fit_bins bins (flat_map bins_of_number (numbers f.texts)))) none ∙ ap Ok counts
+    ap (λ (q : Parted). counts_or_defect (first_defect bins greatest 0 (numbers q.texts)) q.rest (fit_bins bins (flat_map bins_of_number (numbers q.texts)))) f.are
+    ∙ ap (λ (o : Option Defect). counts_or_defect o [] (fit_bins bins (flat_map bins_of_number (numbers f.texts)))) none ∙ ap Ok counts
 
 -- ---- its length
 
@@ -164,24 +164,24 @@ eight_again n rest h =
     let long : ltb (length (eight n ++ rest)) 8 ≡ false = le-ltb _ _ (omega (arith, length-append (eight n) rest, length-eight n)) in
     rw (long, number_eight n rest h, drop_at (eight n) rest 8 (length-eight n)) refl
 
-cookie_fine : cookie_fault 0x1c849313 ≡ None
-unfolding cookie_fault
+cookie_fine : cookie_defect 0x1c849313 ≡ None
+unfolding cookie_defect
 cookie_fine = refl
 
-offset_fine : offset_fault 0 ≡ None
-unfolding offset_fault
+offset_fine : offset_defect 0 ≡ None
+unfolding offset_defect
 offset_fine = refl
 
-ratio_fine : ratio_fault 0x3ff0000000000000 ≡ None
-unfolding ratio_fault
+ratio_fine : ratio_defect 0x3ff0000000000000 ≡ None
+unfolding ratio_defect
 ratio_fine = refl
 
-sigfig_fine : (n : ℕ) → n ≤ 5 → sigfig_fault n ≡ None
-unfolding sigfig_fault
+sigfig_fine : (n : ℕ) → n ≤ 5 → sigfig_defect n ≡ None
+unfolding sigfig_defect
 sigfig_fine n h = rw (le-ltb 255 n (omega arith)) refl
 
-checked_fine : (fault : ℕ → Option Fault) (r : Result (ℕ × List ℕ) Fault) (n : ℕ) (rest : List ℕ) → r ≡ Ok (n, rest) → fault n ≡ None → check_field fault r ≡ Ok (n, rest)
-checked_fine fault r n rest e fine = rw e (rw fine refl)
+checked_fine : (defect : ℕ → Option Defect) (r : Result (ℕ × List ℕ) Defect) (n : ℕ) (rest : List ℕ) → r ≡ Ok (n, rest) → defect n ≡ None → check_field defect r ≡ Ok (n, rest)
+checked_fine defect r n rest e fine = rw e (rw fine refl)
 
 abbrev head_of : Plain → ℕ → Header
 head_of h len = record { payload_len = len; sigfig = h.sigfig; low = h.low; high = h.high }
@@ -196,13 +196,13 @@ header_again h len rest few digits low high =
     let t3 = four 0 ++ t4 in
     let t2 = four len ++ t3 in
     let regrouped : header h len ++ rest ≡ four 0x1c849313 ++ t2 = simp append_assoc refl in
-    let e1 = checked_fine cookie_fault (four_at (four 0x1c849313 ++ t2)) 0x1c849313 t2 (four_again 0x1c849313 t2 (omega arith)) cookie_fine in
+    let e1 = checked_fine cookie_defect (four_at (four 0x1c849313 ++ t2)) 0x1c849313 t2 (four_again 0x1c849313 t2 (omega arith)) cookie_fine in
     let e2 = four_again len t3 few in
-    let e3 = checked_fine offset_fault (four_at t3) 0 t4 (four_again 0 t4 (omega arith)) offset_fine in
-    let e4 = checked_fine sigfig_fault (four_at t4) h.sigfig t5 (four_again h.sigfig t5 (omega arith)) (sigfig_fine h.sigfig digits) in
+    let e3 = checked_fine offset_defect (four_at t3) 0 t4 (four_again 0 t4 (omega arith)) offset_fine in
+    let e4 = checked_fine sigfig_defect (four_at t4) h.sigfig t5 (four_again h.sigfig t5 (omega arith)) (sigfig_fine h.sigfig digits) in
     let e5 = eight_again h.low t6 low in
     let e6 = eight_again h.high t7 high in
-    let e7 = checked_fine ratio_fault (eight_at t7) 0x3ff0000000000000 rest (eight_again 0x3ff0000000000000 rest (omega arith)) ratio_fine in
+    let e7 = checked_fine ratio_defect (eight_at t7) 0x3ff0000000000000 rest (eight_again 0x3ff0000000000000 rest (omega arith)) ratio_fine in
     ap header_at regrouped ∙ rw (e1, e2, e3, e4, e5, e6, e7) refl
 
 -- ---- the whole
@@ -217,9 +217,9 @@ bytes_again payload more =
     take_front [] ys = refl
     take_front (x ∷ xs) ys = ap (λ l. x ∷ l) (take_front xs ys)
 
-bounds_again : (greatest : ℕ) (h : Plain) (len : ℕ) → IsPlain greatest h → bounds_fault (head_of h len) ≡ None
+bounds_again : (greatest : ℕ) (h : Plain) (len : ℕ) → IsPlain greatest h → bounds_defect (head_of h len) ≡ None
 bounds_again greatest h len p =
-    fault-none (head_of h len) (bounds-yes h.low h.high h.sigfig (record { low_fits = omega (arith, p.wide, p.high_fits); wide = p.wide; scale = p.scale }))
+    defect-none (head_of h len) (bounds-yes h.low h.high h.sigfig (record { low_fits = omega (arith, p.wide, p.high_fits); wide = p.wide; scale = p.scale }))
 
 -- what was written, with anything after it, is read back
 pub v2_again : (greatest : ℕ) (h : Plain) (bytes more : List ℕ) → IsPlain greatest h → IsV2 h bytes → v2_at greatest (bytes ++ more) ≡ Ok (told_of h, more)
@@ -262,7 +262,7 @@ read_back greatest taken h k bytes more p v r =
       subst (λ c. HasContents c k) (sym (ap (λ (x : Contents × List ℕ). x.0) both)) r.histogram,
     )
   where
-    ok_is : (x y : Contents × List ℕ) → ◌≡◌ {A = Result (Contents × List ℕ) Fault} (Ok x) (Ok y) → x ≡ y
+    ok_is : (x y : Contents × List ℕ) → ◌≡◌ {A = Result (Contents × List ℕ) Defect} (Ok x) (Ok y) → x ≡ y
     ok_is x y e = cc
 
 max-by : (h k : Plain) → h.low ≡ k.low → h.sigfig ≡ k.sigfig → h.top_mark ≡ k.top_mark → max_of h ≡ max_of k

@@ -5,16 +5,16 @@ use Rattle.std.proofs.KnownBytes.{Consumes-trans}
 use Rattle.std.proofs.lemmas.Bool.{ltb-false, le-ltb, lt-ltb}
 use Rattle.byteorder.specs.Endian.{big_number}
 use Rattle.byteorder.specs.Numbers.{big_from-append, big_from-take}
-use Rattle.hdrhistogram.specs.Faults.{Fault, cut, ◌>>=◌, unless, FailsBy}
-use Rattle.hdrhistogram.specs.V2Read.{Header, four_of, eight_of, four_at, eight_at, check_field, cookie_fault, offset_fault, sigfig_fault, ratio_fault, header_at}
+use Rattle.hdrhistogram.specs.Defects.{Defect, cut, ◌>>=◌, unless, FailsBy}
+use Rattle.hdrhistogram.specs.V2Read.{Header, four_of, eight_of, four_at, eight_at, check_field, cookie_defect, offset_defect, sigfig_defect, ratio_defect, header_at}
 
 -- ---- a field whose bytes were taken
 
 -- what is read takes a front of the text, and whatever follows that front does not change it
-abbrev pub IsSteady : {A : Type 0} → (List ℕ → Result (A × List ℕ) Fault) → Type 0
+abbrev pub IsSteady : {A : Type 0} → (List ℕ → Result (A × List ℕ) Defect) → Type 0
 IsSteady {A} p = (t rest : List ℕ) (x : A) → p t ≡ Ok (x, rest) → (front : List ℕ) × (t ≡ front ++ rest) × ((more : List ℕ) → p (front ++ more) ≡ Ok (x, more))
 
-abbrev number_in : ℕ → List ℕ → Result (ℕ × List ℕ) Fault
+abbrev number_in : ℕ → List ℕ → Result (ℕ × List ℕ) Defect
 number_in size t = cond (ltb (length t) size) (Err cut) (Ok (big_number size t, drop size t))
 
 guard_ok : {A : Type 0} (b : Bool) (x y : A) → cond b (Err cut) (Ok x) ≡ Ok y → (b ≡ false) × (x ≡ y)
@@ -80,29 +80,29 @@ eight-whole t n e is =
         nil_of [] h = refl
         nil_of (b ∷ l) h = absurd (omega arith)
 
-abbrev okay : ℕ × List ℕ → Result (ℕ × List ℕ) Fault
+abbrev okay : ℕ × List ℕ → Result (ℕ × List ℕ) Defect
 okay x = Ok x
 
-checked_is : (fault : ℕ → Option Fault) (r : Result (ℕ × List ℕ) Fault) (y : ℕ × List ℕ) → check_field fault r ≡ Ok y → (r ≡ Ok y) × (fault y.0 ≡ None)
-checked_is fault (Err e) y h = absurd cc
-checked_is fault (Ok f) y h = told (fault f.0) refl h
+checked_is : (defect : ℕ → Option Defect) (r : Result (ℕ × List ℕ) Defect) (y : ℕ × List ℕ) → check_field defect r ≡ Ok y → (r ≡ Ok y) × (defect y.0 ≡ None)
+checked_is defect (Err e) y h = absurd cc
+checked_is defect (Ok f) y h = told (defect f.0) refl h
   where
-    told : (o : Option Fault) → fault f.0 ≡ o → unless o f ≡ okay y → (okay f ≡ okay y) × (fault y.0 ≡ None)
-    told None e h = (h, (let same : f ≡ y = cc in subst (λ (g : ℕ × List ℕ). fault g.0 ≡ None) same e))
+    told : (o : Option Defect) → defect f.0 ≡ o → unless o f ≡ okay y → (okay f ≡ okay y) × (defect y.0 ≡ None)
+    told None e h = (h, (let same : f ≡ y = cc in subst (λ (g : ℕ × List ℕ). defect g.0 ≡ None) same e))
     told (Some g) e h = absurd cc
 
-pub checked-steady : (fault : ℕ → Option Fault) (p : List ℕ → Result (ℕ × List ℕ) Fault) → IsSteady p → IsSteady (λ t. check_field fault (p t))
-checked-steady fault p steady t rest x e =
-    let h = checked_is fault (p t) (x, rest) e in
+pub checked-steady : (defect : ℕ → Option Defect) (p : List ℕ → Result (ℕ × List ℕ) Defect) → IsSteady p → IsSteady (λ t. check_field defect (p t))
+checked-steady defect p steady t rest x e =
+    let h = checked_is defect (p t) (x, rest) e in
     let (front, parts, again) = steady t rest x h.0 in
     (front, parts, λ more. rw (again more) (rw (h.1) refl))
 
 -- the value of a step that did not fail
-pub bind_ok : {A B : Type 0} (r : Result A Fault) (f : A → Result B Fault) (y : B) → (r >>= f) ≡ Ok y → (x : A) × (r ≡ Ok x) × (f x ≡ Ok y)
+pub bind_ok : {A B : Type 0} (r : Result A Defect) (f : A → Result B Defect) (y : B) → (r >>= f) ≡ Ok y → (x : A) × (r ≡ Ok x) × (f x ≡ Ok y)
 bind_ok (Ok x) f y e = (x, refl, e)
 bind_ok (Err d) f y e = absurd cc
 
-pub bind-steady : {A B : Type 0} (p : List ℕ → Result (A × List ℕ) Fault) (q : A → List ℕ → Result (B × List ℕ) Fault) → IsSteady p → ((x : A) → IsSteady (q x)) → IsSteady (λ t. p t >>= λ y. q y.0 y.1)
+pub bind-steady : {A B : Type 0} (p : List ℕ → Result (A × List ℕ) Defect) (q : A → List ℕ → Result (B × List ℕ) Defect) → IsSteady p → ((x : A) → IsSteady (q x)) → IsSteady (λ t. p t >>= λ y. q y.0 y.1)
 bind-steady p q ps qs t rest x e =
     let (y, first, second) = bind_ok (p t) (λ y. q y.0 y.1) (x, rest) e in
     let (f, parts, again) = ps t y.1 y.0 first in
@@ -113,73 +113,73 @@ bind-steady p q ps qs t rest x e =
     )
 
 -- a text that is taken whole
-pub steady_whole : {A : Type 0} (p : List ℕ → Result (A × List ℕ) Fault) → IsSteady p → (t more : List ℕ) (x : A) → p t ≡ Ok (x, []) → p (t ++ more) ≡ Ok (x, more)
+pub steady_whole : {A : Type 0} (p : List ℕ → Result (A × List ℕ) Defect) → IsSteady p → (t more : List ℕ) (x : A) → p t ≡ Ok (x, []) → p (t ++ more) ≡ Ok (x, more)
 steady_whole p steady t more x e =
     let (front, parts, again) = steady t [] x e in
     ap (λ l. p (l ++ more)) (parts ∙ append-nil front) ∙ again more
 
 -- bytes were taken that are read as this
-abbrev pub TakenBy : {A : Type 0} → Option (List ℕ) → Option (List ℕ) → (List ℕ → Result (A × List ℕ) Fault) → A → Type 0
+abbrev pub TakenBy : {A : Type 0} → Option (List ℕ) → Option (List ℕ) → (List ℕ → Result (A × List ℕ) Defect) → A → Type 0
 TakenBy old new p x = (t : List ℕ) × Consumes old new t × (p t ≡ Ok (x, []))
 
 -- bytes were taken, and what they are read as has G
-abbrev pub TakenSo : {B : Type 0} → Option (List ℕ) → Option (List ℕ) → (List ℕ → Result B Fault) → (Result B Fault → Type 0) → Type 0
+abbrev pub TakenSo : {B : Type 0} → Option (List ℕ) → Option (List ℕ) → (List ℕ → Result B Defect) → (Result B Defect → Type 0) → Type 0
 TakenSo old new p G = (t : List ℕ) × Consumes old new t × G (p t)
 
-pub checked-taken : (old new : Option (List ℕ)) (fault : ℕ → Option Fault) (p : List ℕ → Result (ℕ × List ℕ) Fault) (n : ℕ) → TakenBy old new p n → fault n ≡ None → TakenBy old new (λ t. check_field fault (p t)) n
-checked-taken old new fault p n (t, q, e) fine = (t, q, rw e (rw fine refl))
+pub checked-taken : (old new : Option (List ℕ)) (defect : ℕ → Option Defect) (p : List ℕ → Result (ℕ × List ℕ) Defect) (n : ℕ) → TakenBy old new p n → defect n ≡ None → TakenBy old new (λ t. check_field defect (p t)) n
+checked-taken old new defect p n (t, q, e) fine = (t, q, rw e (rw fine refl))
 
-pub unless_fails : {A : Type 0} (o fault : Option Fault) (x : A) → FailsBy {A = ℕ} o (unless fault 0) → FailsBy o (unless fault x)
-unless_fails None fault x h = tt
+pub unless_fails : {A : Type 0} (o defect : Option Defect) (x : A) → FailsBy {A = ℕ} o (unless defect 0) → FailsBy o (unless defect x)
+unless_fails None defect x h = tt
 unless_fails (Some f) None x h = absurd cc
 unless_fails (Some f) (Some g) x h = let same : g ≡ f = cc in ap Err same
 
 -- the field was taken, and its check fails
-pub checked-refused : (old new : Option (List ℕ)) (fault : ℕ → Option Fault) (p : List ℕ → Result (ℕ × List ℕ) Fault) (n : ℕ) (o : Option Fault) → TakenBy old new p n → FailsBy {A = ℕ} o (unless (fault n) 0)
-    → TakenSo old new (λ t. check_field fault (p t)) (FailsBy o)
-checked-refused old new fault p n o (t, q, e) h = (t, q, subst (λ r. FailsBy o (check_field fault r)) (sym e) (unless_fails o (fault n) (n, []) h))
+pub checked-refused : (old new : Option (List ℕ)) (defect : ℕ → Option Defect) (p : List ℕ → Result (ℕ × List ℕ) Defect) (n : ℕ) (o : Option Defect) → TakenBy old new p n → FailsBy {A = ℕ} o (unless (defect n) 0)
+    → TakenSo old new (λ t. check_field defect (p t)) (FailsBy o)
+checked-refused old new defect p n o (t, q, e) h = (t, q, subst (λ r. FailsBy o (check_field defect r)) (sym e) (unless_fails o (defect n) (n, []) h))
 
-pub fails_bind : {A B : Type 0} (o : Option Fault) (r : Result A Fault) (f : A → Result B Fault) → FailsBy o r → FailsBy o (r >>= f)
+pub fails_bind : {A B : Type 0} (o : Option Defect) (r : Result A Defect) (f : A → Result B Defect) → FailsBy o r → FailsBy o (r >>= f)
 fails_bind None r f h = tt
 fails_bind (Some e) r f h = rw h refl
 
 -- the field could not be taken
-pub checked-failed : (old new : Option (List ℕ)) (fault : ℕ → Option Fault) (p : List ℕ → Result (ℕ × List ℕ) Fault) (o : Option Fault) → TakenSo old new p (FailsBy o) → TakenSo old new (λ t. check_field fault (p t)) (FailsBy o)
-checked-failed old new fault p o (t, q, h) = (t, q, fails_bind o (p t) (λ f. unless (fault f.0) f) h)
+pub checked-failed : (old new : Option (List ℕ)) (defect : ℕ → Option Defect) (p : List ℕ → Result (ℕ × List ℕ) Defect) (o : Option Defect) → TakenSo old new p (FailsBy o) → TakenSo old new (λ t. check_field defect (p t)) (FailsBy o)
+checked-failed old new defect p o (t, q, h) = (t, q, fails_bind o (p t) (λ f. unless (defect f.0) f) h)
 
 -- a field fails, and so what goes on with it
-pub field-failed : {A B : Type 0} (old new : Option (List ℕ)) (p : List ℕ → Result (A × List ℕ) Fault) (q : A → List ℕ → Result B Fault) (o : Option Fault)
+pub field-failed : {A B : Type 0} (old new : Option (List ℕ)) (p : List ℕ → Result (A × List ℕ) Defect) (q : A → List ℕ → Result B Defect) (o : Option Defect)
     → TakenSo old new p (FailsBy o) → TakenSo old new (λ t. p t >>= λ y. q y.0 y.1) (FailsBy o)
 field-failed old new p q o (t, c, h) = (t, c, fails_bind o (p t) (λ y. q y.0 y.1) h)
 
 -- a field, and then more
-pub field-then : {A B : Type 0} (old mid new : Option (List ℕ)) (p : List ℕ → Result (A × List ℕ) Fault) (q : A → List ℕ → Result B Fault) (x : A) (G : Result B Fault → Type 0)
+pub field-then : {A B : Type 0} (old mid new : Option (List ℕ)) (p : List ℕ → Result (A × List ℕ) Defect) (q : A → List ℕ → Result B Defect) (x : A) (G : Result B Defect → Type 0)
     → IsSteady p → TakenBy old mid p x → TakenSo mid new (q x) G → TakenSo old new (λ t. p t >>= λ y. q y.0 y.1) G
 field-then old mid new p q x G steady (t, c, e) (u, d, h) =
     (t ++ u, Consumes-trans old mid new t u c d, subst (λ r. G (r >>= λ y. q y.0 y.1)) (sym (steady_whole p steady t u x e)) h)
 
 -- ---- the header's fields, from each on
 
-abbrev pub from_ratio : ℕ → ℕ → ℕ → ℕ → List ℕ → Result (Header × List ℕ) Fault
+abbrev pub from_ratio : ℕ → ℕ → ℕ → ℕ → List ℕ → Result (Header × List ℕ) Defect
 from_ratio len sigfig low high text =
-    check_field ratio_fault (eight_at text) >>= λ ratio. Ok (record { payload_len = len; sigfig = sigfig; low = low; high = high }, ratio.1)
+    check_field ratio_defect (eight_at text) >>= λ ratio. Ok (record { payload_len = len; sigfig = sigfig; low = low; high = high }, ratio.1)
 
-abbrev pub from_high : ℕ → ℕ → ℕ → List ℕ → Result (Header × List ℕ) Fault
+abbrev pub from_high : ℕ → ℕ → ℕ → List ℕ → Result (Header × List ℕ) Defect
 from_high len sigfig low text = eight_at text >>= λ high. from_ratio len sigfig low high.0 high.1
 
-abbrev pub from_low : ℕ → ℕ → List ℕ → Result (Header × List ℕ) Fault
+abbrev pub from_low : ℕ → ℕ → List ℕ → Result (Header × List ℕ) Defect
 from_low len sigfig text = eight_at text >>= λ low. from_high len sigfig low.0 low.1
 
-abbrev pub from_sigfig : ℕ → List ℕ → Result (Header × List ℕ) Fault
-from_sigfig len text = check_field sigfig_fault (four_at text) >>= λ sigfig. from_low len sigfig.0 sigfig.1
+abbrev pub from_sigfig : ℕ → List ℕ → Result (Header × List ℕ) Defect
+from_sigfig len text = check_field sigfig_defect (four_at text) >>= λ sigfig. from_low len sigfig.0 sigfig.1
 
-abbrev pub from_offset : ℕ → List ℕ → Result (Header × List ℕ) Fault
-from_offset len text = check_field offset_fault (four_at text) >>= λ offset. from_sigfig len offset.1
+abbrev pub from_offset : ℕ → List ℕ → Result (Header × List ℕ) Defect
+from_offset len text = check_field offset_defect (four_at text) >>= λ offset. from_sigfig len offset.1
 
-abbrev pub from_len : List ℕ → Result (Header × List ℕ) Fault
+abbrev pub from_len : List ℕ → Result (Header × List ℕ) Defect
 from_len text = four_at text >>= λ len. from_offset len.0 len.1
 
-pub from_cookie : (old new : Option (List ℕ)) (G : Result (Header × List ℕ) Fault → Type 0) → TakenSo old new (λ text. check_field cookie_fault (four_at text) >>= λ cookie. from_len cookie.1) G → TakenSo old new header_at G
+pub from_cookie : (old new : Option (List ℕ)) (G : Result (Header × List ℕ) Defect → Type 0) → TakenSo old new (λ text. check_field cookie_defect (four_at text) >>= λ cookie. from_len cookie.1) G → TakenSo old new header_at G
 unfolding header_at
 from_cookie old new G h = h
 
@@ -193,46 +193,46 @@ ok-steady {A} x t rest y e =
 pub header-steady : IsSteady header_at
 unfolding header_at
 header-steady =
-    bind-steady (λ t. check_field cookie_fault (four_at t)) (λ _ t. from_len t) (checked-steady cookie_fault four_at four-steady) (λ _.
+    bind-steady (λ t. check_field cookie_defect (four_at t)) (λ _ t. from_len t) (checked-steady cookie_defect four_at four-steady) (λ _.
     bind-steady four_at from_offset four-steady (λ len.
-    bind-steady (λ t. check_field offset_fault (four_at t)) (λ _ t. from_sigfig len t) (checked-steady offset_fault four_at four-steady) (λ _.
-    bind-steady (λ t. check_field sigfig_fault (four_at t)) (from_low len) (checked-steady sigfig_fault four_at four-steady) (λ sigfig.
+    bind-steady (λ t. check_field offset_defect (four_at t)) (λ _ t. from_sigfig len t) (checked-steady offset_defect four_at four-steady) (λ _.
+    bind-steady (λ t. check_field sigfig_defect (four_at t)) (from_low len) (checked-steady sigfig_defect four_at four-steady) (λ sigfig.
     bind-steady eight_at (from_high len sigfig) eight-steady (λ low.
     bind-steady eight_at (from_ratio len sigfig low) eight-steady (λ high.
-    bind-steady (λ t. check_field ratio_fault (eight_at t)) (λ _ t. Ok (record { payload_len = len; sigfig = sigfig; low = low; high = high }, t)) (checked-steady ratio_fault eight_at eight-steady) (λ _.
+    bind-steady (λ t. check_field ratio_defect (eight_at t)) (λ _ t. Ok (record { payload_len = len; sigfig = sigfig; low = low; high = high }, t)) (checked-steady ratio_defect eight_at eight-steady) (λ _.
     ok-steady (record { payload_len = len; sigfig = sigfig; low = low; high = high }))))))))
 
 -- a header and the text after it
-abbrev pub ended_header : ℕ → ℕ → ℕ → ℕ → ℕ → List ℕ → Result (Header × List ℕ) Fault
+abbrev pub ended_header : ℕ → ℕ → ℕ → ℕ → ℕ → List ℕ → Result (Header × List ℕ) Defect
 ended_header len sigfig low high ratio text = Ok (record { payload_len = len; sigfig = sigfig; low = low; high = high }, text)
 
 -- a header with nothing after it
-abbrev pub headed : ℕ → ℕ → ℕ → ℕ → Result (Header × List ℕ) Fault
+abbrev pub headed : ℕ → ℕ → ℕ → ℕ → Result (Header × List ℕ) Defect
 headed len sigfig low high = Ok (record { payload_len = len; sigfig = sigfig; low = low; high = high }, [])
 
-pub ratio-ends : (old new : Option (List ℕ)) (len sigfig low high ratio : ℕ) → TakenBy old new (λ t. check_field ratio_fault (eight_at t)) ratio
+pub ratio-ends : (old new : Option (List ℕ)) (len sigfig low high ratio : ℕ) → TakenBy old new (λ t. check_field ratio_defect (eight_at t)) ratio
     → TakenSo old new (from_ratio len sigfig low high) (λ r. r ≡ headed len sigfig low high)
 ratio-ends old new len sigfig low high ratio (t, c, e) = (t, c, rw e refl)
 
-module _ (s0 s1 : Option (List ℕ)) (cookie : ℕ) (cookie_taken : TakenBy s0 s1 four_at cookie) (cookie_fine : cookie_fault cookie ≡ None) (new : Option (List ℕ)) (G : Result (Header × List ℕ) Fault → Type 0) where
+module _ (s0 s1 : Option (List ℕ)) (cookie : ℕ) (cookie_taken : TakenBy s0 s1 four_at cookie) (cookie_fine : cookie_defect cookie ≡ None) (new : Option (List ℕ)) (G : Result (Header × List ℕ) Defect → Type 0) where
   pub after_cookie : TakenSo s1 new from_len G → TakenSo s0 new header_at G
   after_cookie h =
-      from_cookie s0 new G (field-then s0 s1 new (λ t. check_field cookie_fault (four_at t)) (λ _ t. from_len t) cookie G
-      (checked-steady cookie_fault four_at four-steady) (checked-taken s0 s1 cookie_fault four_at cookie cookie_taken cookie_fine) h)
+      from_cookie s0 new G (field-then s0 s1 new (λ t. check_field cookie_defect (four_at t)) (λ _ t. from_len t) cookie G
+      (checked-steady cookie_defect four_at four-steady) (checked-taken s0 s1 cookie_defect four_at cookie cookie_taken cookie_fine) h)
 
   module _ (s2 : Option (List ℕ)) (len : ℕ) (len_taken : TakenBy s1 s2 four_at len) where
     pub after_len : TakenSo s2 new (from_offset len) G → TakenSo s0 new header_at G
     after_len h = after_cookie (field-then s1 s2 new four_at from_offset len G four-steady len_taken h)
 
-    module _ (s3 : Option (List ℕ)) (offset : ℕ) (offset_taken : TakenBy s2 s3 four_at offset) (offset_fine : offset_fault offset ≡ None) where
+    module _ (s3 : Option (List ℕ)) (offset : ℕ) (offset_taken : TakenBy s2 s3 four_at offset) (offset_fine : offset_defect offset ≡ None) where
       pub after_offset : TakenSo s3 new (from_sigfig len) G → TakenSo s0 new header_at G
-      after_offset h = after_len (field-then s2 s3 new (λ t. check_field offset_fault (four_at t)) (λ _ t. from_sigfig len t) offset G
-          (checked-steady offset_fault four_at four-steady) (checked-taken s2 s3 offset_fault four_at offset offset_taken offset_fine) h)
+      after_offset h = after_len (field-then s2 s3 new (λ t. check_field offset_defect (four_at t)) (λ _ t. from_sigfig len t) offset G
+          (checked-steady offset_defect four_at four-steady) (checked-taken s2 s3 offset_defect four_at offset offset_taken offset_fine) h)
 
-      module _ (s4 : Option (List ℕ)) (sigfig : ℕ) (sigfig_taken : TakenBy s3 s4 four_at sigfig) (sigfig_fine : sigfig_fault sigfig ≡ None) where
+      module _ (s4 : Option (List ℕ)) (sigfig : ℕ) (sigfig_taken : TakenBy s3 s4 four_at sigfig) (sigfig_fine : sigfig_defect sigfig ≡ None) where
         pub after_sigfig : TakenSo s4 new (from_low len sigfig) G → TakenSo s0 new header_at G
-        after_sigfig h = after_offset (field-then s3 s4 new (λ t. check_field sigfig_fault (four_at t)) (from_low len) sigfig G
-            (checked-steady sigfig_fault four_at four-steady) (checked-taken s3 s4 sigfig_fault four_at sigfig sigfig_taken sigfig_fine) h)
+        after_sigfig h = after_offset (field-then s3 s4 new (λ t. check_field sigfig_defect (four_at t)) (from_low len) sigfig G
+            (checked-steady sigfig_defect four_at four-steady) (checked-taken s3 s4 sigfig_defect four_at sigfig sigfig_taken sigfig_fine) h)
 
         module _ (s5 : Option (List ℕ)) (low : ℕ) (low_taken : TakenBy s4 s5 eight_at low) where
           pub after_low : TakenSo s5 new (from_high len sigfig low) G → TakenSo s0 new header_at G

@@ -13,9 +13,9 @@ use Rattle.hdr_model.specs.declared.errors.CreationError.TheVariants as make
 use Rattle.hdrhistogram.specs.declared.serialization.errors.DeserializeError.{DeserializeError}
 use Rattle.hdrhistogram.specs.declared.serialization.errors.DeserializeError.TheVariants as errors
 use Rattle.hdrhistogram.specs.Streams.{IsStreamError}
-use Rattle.hdrhistogram.specs.Faults.{Fault, cut, bad_bounds, ◌>>=◌, unless, FailsBy, fault_of_error}
+use Rattle.hdrhistogram.specs.Defects.{Defect, cut, bad_bounds, ◌>>=◌, unless, FailsBy, defect_of_error}
 use Rattle.hdrhistogram.specs.PayloadRead.{counts_in}
-use Rattle.hdrhistogram.specs.V2Read.{Header, Contents, bytes_at, header_at, are_bounds, bounds_fault, bins_for, creation_fault, contents_of, v2_at, told_by, told_of, IsRestated, IsReadAs}
+use Rattle.hdrhistogram.specs.V2Read.{Header, Contents, bytes_at, header_at, are_bounds, bounds_defect, bins_for, creation_defect, contents_of, v2_at, told_by, told_of, IsRestated, IsReadAs}
 use Rattle.hdrhistogram.proofs.V2ReadHeader.{IsSteady, bind-steady, ok-steady, header-steady, TakenBy, TakenSo, field-then, field-failed, fails_bind, unless_fails}
 
 -- ---- the bounds
@@ -41,7 +41,7 @@ no_second : (a b c d : Bool) → (a && false && b && c && d) ≡ false
 no_second true b c d = refl
 no_second false b c d = refl
 
-bounds-no : (low high sigfig : ℕ) (e : CreationError) (f : Fault) → RefusesBounds low high sigfig e → creation_fault e ≡ Some f → are_bounds low high sigfig ≡ false
+bounds-no : (low high sigfig : ℕ) (e : CreationError) (f : Defect) → RefusesBounds low high sigfig e → creation_defect e ≡ Some f → are_bounds low high sigfig ≡ false
 unfolding are_bounds
 bounds-no low high sigfig make.LowIsZero f r n = rw (le-ltb 0 low (omega arith)) refl
 bounds-no low high sigfig make.LowExceedsMax f r n = rw (le-ltb low (2 ^ 63) r) (no_second _ _ _ _)
@@ -51,15 +51,15 @@ bounds-no low high sigfig make.CannotRepresentSigFigBeyondLow f r n = rw (lt-leb
 bounds-no low high sigfig make.UsizeTypeTooSmall f r n = absurd r
 bounds-no low high sigfig make.OutOfMemory f r n = absurd cc
 
-pub fault-none : (h : Header) → are_bounds h.low h.high h.sigfig ≡ true → bounds_fault h ≡ None
-unfolding bounds_fault
-fault-none h e = rw e refl
+pub defect-none : (h : Header) → are_bounds h.low h.high h.sigfig ≡ true → bounds_defect h ≡ None
+unfolding bounds_defect
+defect-none h e = rw e refl
 
-pub fault-some : (h : Header) → are_bounds h.low h.high h.sigfig ≡ false → bounds_fault h ≡ Some bad_bounds
-unfolding bounds_fault
-fault-some h e = rw e refl
+pub defect-some : (h : Header) → are_bounds h.low h.high h.sigfig ≡ false → bounds_defect h ≡ Some bad_bounds
+unfolding bounds_defect
+defect-some h e = rw e refl
 
-named_bad : (e : CreationError) (f : Fault) → creation_fault e ≡ Some f → f ≡ bad_bounds
+named_bad : (e : CreationError) (f : Defect) → creation_defect e ≡ Some f → f ≡ bad_bounds
 named_bad make.LowIsZero f n = cc
 named_bad make.LowExceedsMax f n = cc
 named_bad make.HighLessThanTwiceLow f n = cc
@@ -68,12 +68,12 @@ named_bad make.CannotRepresentSigFigBeyondLow f n = cc
 named_bad make.UsizeTypeTooSmall f n = cc
 named_bad make.OutOfMemory f n = absurd cc
 
--- refused bounds are the fault of the header
-pub bounds-refused : (h : Header) (e : CreationError) (o : Option Fault) → RefusesBounds h.low h.high h.sigfig e → o ≡ creation_fault e → FailsBy {A = ℕ} o (unless (bounds_fault h) 0)
+-- refused bounds are the defect of the header
+pub bounds-refused : (h : Header) (e : CreationError) (o : Option Defect) → RefusesBounds h.low h.high h.sigfig e → o ≡ creation_defect e → FailsBy {A = ℕ} o (unless (bounds_defect h) 0)
 bounds-refused h e None r n = tt
 bounds-refused h e (Some f) r n =
     let bad : f ≡ bad_bounds = named_bad e f (sym n) in
-    ap (λ (p : Option Fault). unless p 0) (fault-some h (bounds-no h.low h.high h.sigfig e f r (sym n))) ∙ ap Err (sym bad)
+    ap (λ (p : Option Defect). unless p 0) (defect-some h (bounds-no h.low h.high h.sigfig e f r (sym n))) ∙ ap Err (sym bad)
 
 -- what empty bins tell
 pub record IsMade (f : Open) (low high sigfig : ℕ) : Type 0 where
@@ -93,16 +93,16 @@ is-made f low high sigfig e = subst (λ g. IsMade g low high sigfig) (sym e) (ma
 
 -- ---- the steps
 
-abbrev pub from_counts : ℕ → Header → List ℕ → List ℕ → Result (Contents × List ℕ) Fault
+abbrev pub from_counts : ℕ → Header → List ℕ → List ℕ → Result (Contents × List ℕ) Defect
 from_counts greatest header payload text = counts_in (bins_for header) greatest payload >>= λ counts. Ok (contents_of header counts, text)
 
-abbrev pub from_payload : ℕ → Header → List ℕ → Result (Contents × List ℕ) Fault
+abbrev pub from_payload : ℕ → Header → List ℕ → Result (Contents × List ℕ) Defect
 from_payload greatest header text = bytes_at header.payload_len text >>= λ payload. from_counts greatest header payload.0 payload.1
 
-abbrev pub from_bounds : ℕ → Header → List ℕ → Result (Contents × List ℕ) Fault
-from_bounds greatest header text = unless (bounds_fault header) header >>= λ header. from_payload greatest header text
+abbrev pub from_bounds : ℕ → Header → List ℕ → Result (Contents × List ℕ) Defect
+from_bounds greatest header text = unless (bounds_defect header) header >>= λ header. from_payload greatest header text
 
-pub from_header : (old new : Option (List ℕ)) (greatest : ℕ) (G : Result (Contents × List ℕ) Fault → Type 0) → TakenSo old new (λ t. header_at t >>= λ f. from_bounds greatest f.0 f.1) G → TakenSo old new (v2_at greatest) G
+pub from_header : (old new : Option (List ℕ)) (greatest : ℕ) (G : Result (Contents × List ℕ) Defect → Type 0) → TakenSo old new (λ t. header_at t >>= λ f. from_bounds greatest f.0 f.1) G → TakenSo old new (v2_at greatest) G
 unfolding v2_at
 from_header old new greatest G h = h
 
@@ -126,11 +126,11 @@ bytes-steady size t rest x e =
           rw (more_long, take_at front more size full, drop_at front more size full, taken) refl,
     )
 
-counts-steady : (header : Header) (r : Result (List ℕ) Fault) → IsSteady (λ t. r >>= λ counts. Ok (contents_of header counts, t))
+counts-steady : (header : Header) (r : Result (List ℕ) Defect) → IsSteady (λ t. r >>= λ counts. Ok (contents_of header counts, t))
 counts-steady header (Err f) t rest x e = absurd cc
 counts-steady header (Ok counts) t rest x e = ok-steady (contents_of header counts) t rest x e
 
-bounds-steady : (greatest : ℕ) (header : Header) (o : Option Fault) → IsSteady (λ t. unless o header >>= λ header. from_payload greatest header t)
+bounds-steady : (greatest : ℕ) (header : Header) (o : Option Defect) → IsSteady (λ t. unless o header >>= λ header. from_payload greatest header t)
 bounds-steady greatest header (Some f) t rest x e = absurd cc
 bounds-steady greatest header None t rest x e =
     bind-steady (bytes_at header.payload_len) (from_counts greatest header) (bytes-steady header.payload_len) (λ payload. counts-steady header (counts_in (bins_for header) greatest payload)) t rest x e
@@ -138,37 +138,37 @@ bounds-steady greatest header None t rest x e =
 -- what follows a histogram does not change it, and what is read of it is its front
 pub v2-steady : (greatest : ℕ) → IsSteady (v2_at greatest)
 unfolding v2_at
-v2-steady greatest = bind-steady header_at (from_bounds greatest) header-steady (λ header. bounds-steady greatest header (bounds_fault header))
+v2-steady greatest = bind-steady header_at (from_bounds greatest) header-steady (λ header. bounds-steady greatest header (bounds_defect header))
 
 -- ---- a reader's bytes
 
-pub header-failed : (old new : Option (List ℕ)) (greatest : ℕ) (o : Option Fault) → TakenSo old new header_at (FailsBy o) → TakenSo old new (v2_at greatest) (FailsBy o)
+pub header-failed : (old new : Option (List ℕ)) (greatest : ℕ) (o : Option Defect) → TakenSo old new header_at (FailsBy o) → TakenSo old new (v2_at greatest) (FailsBy o)
 header-failed old new greatest o h = from_header old new greatest (λ r. FailsBy o r) (field-failed old new header_at (from_bounds greatest) o h)
 
-pub bounds-failed : (old new : Option (List ℕ)) (greatest : ℕ) (header : Header) (o : Option Fault) → TakenBy old new header_at header → FailsBy {A = ℕ} o (unless (bounds_fault header) 0) → TakenSo old new (v2_at greatest) (FailsBy o)
+pub bounds-failed : (old new : Option (List ℕ)) (greatest : ℕ) (header : Header) (o : Option Defect) → TakenBy old new header_at header → FailsBy {A = ℕ} o (unless (bounds_defect header) 0) → TakenSo old new (v2_at greatest) (FailsBy o)
 bounds-failed old new greatest header o (t, q, e) h =
     from_header old new greatest (λ r. FailsBy o r) (
       t,
       q,
-      subst (λ (r : Result (Header × List ℕ) Fault). FailsBy o (r >>= λ f. from_bounds greatest f.0 f.1)) (sym e)
-          (fails_bind o (unless (bounds_fault header) header) (λ header. from_payload greatest header []) (unless_fails o (bounds_fault header) header h)),
+      subst (λ (r : Result (Header × List ℕ) Defect). FailsBy o (r >>= λ f. from_bounds greatest f.0 f.1)) (sym e)
+          (fails_bind o (unless (bounds_defect header) header) (λ header. from_payload greatest header []) (unless_fails o (bounds_defect header) header h)),
     )
 
-module _ (s0 s1 : Option (List ℕ)) (greatest : ℕ) (header : Header) (header_taken : TakenBy s0 s1 header_at header) (fine : bounds_fault header ≡ None) (new : Option (List ℕ)) where
-  after_bounds : (G : Result (Contents × List ℕ) Fault → Type 0) → TakenSo s1 new (from_payload greatest header) G → TakenSo s0 new (v2_at greatest) G
+module _ (s0 s1 : Option (List ℕ)) (greatest : ℕ) (header : Header) (header_taken : TakenBy s0 s1 header_at header) (fine : bounds_defect header ≡ None) (new : Option (List ℕ)) where
+  after_bounds : (G : Result (Contents × List ℕ) Defect → Type 0) → TakenSo s1 new (from_payload greatest header) G → TakenSo s0 new (v2_at greatest) G
   after_bounds G (t, q, h) =
       from_header s0 new greatest G (field-then s0 s1 new header_at (from_bounds greatest) header G header-steady header_taken
-      (t, q, subst (λ (o : Option Fault). G (unless o header >>= λ header. from_payload greatest header t)) (sym fine) h))
+      (t, q, subst (λ (o : Option Defect). G (unless o header >>= λ header. from_payload greatest header t)) (sym fine) h))
 
-  pub payload-failed : (o : Option Fault) → TakenSo s1 new (bytes_at header.payload_len) (FailsBy o) → TakenSo s0 new (v2_at greatest) (FailsBy o)
+  pub payload-failed : (o : Option Defect) → TakenSo s1 new (bytes_at header.payload_len) (FailsBy o) → TakenSo s0 new (v2_at greatest) (FailsBy o)
   payload-failed o h = after_bounds (λ r. FailsBy o r) (field-failed s1 new (bytes_at header.payload_len) (from_counts greatest header) o h)
 
-  pub counts-failed : (payload : List ℕ) (o : Option Fault) → TakenBy s1 new (bytes_at header.payload_len) payload → FailsBy o (counts_in (bins_for header) greatest payload) → TakenSo s0 new (v2_at greatest) (FailsBy o)
+  pub counts-failed : (payload : List ℕ) (o : Option Defect) → TakenBy s1 new (bytes_at header.payload_len) payload → FailsBy o (counts_in (bins_for header) greatest payload) → TakenSo s0 new (v2_at greatest) (FailsBy o)
   counts-failed payload o (t, q, e) h =
       after_bounds (λ r. FailsBy o r) (
         t,
         q,
-        subst (λ (r : Result (List ℕ × List ℕ) Fault). FailsBy o (r >>= λ p. from_counts greatest header p.0 p.1)) (sym e)
+        subst (λ (r : Result (List ℕ × List ℕ) Defect). FailsBy o (r >>= λ p. from_counts greatest header p.0 p.1)) (sym e)
             (fails_bind o (counts_in (bins_for header) greatest payload) (λ counts. Ok (contents_of header counts, [])) h),
       )
 
@@ -179,7 +179,7 @@ module _ (s0 s1 : Option (List ℕ)) (greatest : ℕ) (header : Header) (header_
       (t, q, rw e (rw h refl))
 
 -- contents with nothing after them
-abbrev pub whole : Contents → Result (Contents × List ℕ) Fault
+abbrev pub whole : Contents → Result (Contents × List ℕ) Defect
 whole c = Ok (c, [])
 
 -- ---- what was read
@@ -204,7 +204,7 @@ no_longer greatest text rest c e =
 
 -- ---- a payload that a reader gives
 
-pub stream_fails : {A : Type 0} (e : DeserializeError) (r : Result A Fault) → IsStreamError e → r ≡ Err cut → FailsBy (fault_of_error e) r
+pub stream_fails : {A : Type 0} (e : DeserializeError) (r : Result A Defect) → IsStreamError e → r ≡ Err cut → FailsBy (defect_of_error e) r
 stream_fails (errors.IoError cause) r s h = h
 stream_fails errors.OutOfMemory r s h = tt
 stream_fails errors.InvalidCookie r s h = absurd s

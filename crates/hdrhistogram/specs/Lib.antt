@@ -5,7 +5,7 @@ pub mod V2
 pub mod Streams
 pub mod SerializeRefusals
 pub mod Lending
-pub mod Faults
+pub mod Defects
 pub mod PayloadRead
 pub mod V2Read
 pub mod HeaderView

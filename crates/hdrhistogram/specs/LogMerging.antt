@@ -1,4 +1,4 @@
--- What merging a log comes to: the histograms of its chosen intervals are added in order, up to the first fault.
+-- What merging a log comes to: the histograms of its chosen intervals are added in order, up to the first that is refused.
 use Rattle.std.specs.Prelude.{◌≡◌, ℕ, ◌+◌, Bool, true, false, ◌&&◌, nat_le, if◌then◌else◌, List, [], ◌∷◌, Option, Some, None, Result, Ok, Err}
 use Rattle.hdr_base.specs.Classes.{Grain}
 use Rattle.hdr_model.specs.Plain.{Plain, grain, empty_plain}

@@ -4,7 +4,7 @@ use Rattle.std.specs.Prelude.{slice_set, ◌≡◌, ℕ, zero, suc, ◌+◌, ◌
 use Rattle.std.specs.List.{AllByRecursion}
 use Rattle.hdrhistogram.specs.Varint.{IsSpelling, Spells, number_of_spelling}
 use Rattle.hdrhistogram.specs.ZigZag.{from_zig_zag}
-use Rattle.hdrhistogram.specs.Faults.{Fault, cut, too_great, past_bins, too_far}
+use Rattle.hdrhistogram.specs.Defects.{Defect, cut, too_great, past_bins, too_far}
 
 -- bytes cut into whole spellings, and a rest
 pub record Parted : Type 0 where
@@ -43,25 +43,25 @@ move (pos n) = 1
 move (negsuc n) = suc n
 
 -- a place is a u64
-abbrev pub place_fault : ℕ → Option Fault
-place_fault place = if nat_le (2 ^ 64) place then Some too_far else None
+abbrev pub place_defect : ℕ → Option Defect
+place_defect place = if nat_le (2 ^ 64) place then Some too_far else None
 
--- the fault of a number at a place, where there are so many bins and a count is at most the greatest
-abbrev pub fault_at : ℕ → ℕ → ℕ → ℤ → Option Fault
-fault_at bins greatest place (negsuc n) = place_fault (place + suc n)
-fault_at bins greatest place (pos n) =
+-- the defect of a number at a place, where there are so many bins and a count is at most the greatest
+abbrev pub defect_at : ℕ → ℕ → ℕ → ℤ → Option Defect
+defect_at bins greatest place (negsuc n) = place_defect (place + suc n)
+defect_at bins greatest place (pos n) =
     if nat_lt greatest n then Some too_great
-    else (if nat_lt 0 n && nat_le bins place then Some past_bins else place_fault (place + 1))
+    else (if nat_lt 0 n && nat_le bins place then Some past_bins else place_defect (place + 1))
 
-abbrev pub or_else : Option Fault → Option Fault → Option Fault
+abbrev pub or_else : Option Defect → Option Defect → Option Defect
 or_else (Some f) later = Some f
 or_else None later = later
 
--- the fault of the first number that has one; the first stands at this place, and each further one after the bins of those
+-- the defect of the first number that has one; the first stands at this place, and each further one after the bins of those
 -- before it
-unfoldable pub first_fault : ℕ → ℕ → ℕ → List ℤ → Option Fault
-first_fault bins greatest place [] = None
-first_fault bins greatest place (n ∷ ns) = or_else (fault_at bins greatest place n) (first_fault bins greatest (place + move n) ns)
+unfoldable pub first_defect : ℕ → ℕ → ℕ → List ℤ → Option Defect
+first_defect bins greatest place [] = None
+first_defect bins greatest place (n ∷ ns) = or_else (defect_at bins greatest place n) (first_defect bins greatest (place + move n) ns)
 
 -- the first of these counts, as many as there are bins, and empty bins after them
 unfoldable pub fit_bins : ℕ → List ℕ → List ℕ
@@ -75,12 +75,12 @@ with_count counts place (pos zero) = counts
 with_count counts place (pos (suc n)) = slice_set counts place (suc n)
 with_count counts place (negsuc n) = counts
 
--- the first `taken` of the bytes spell a count, which has no fault and was put at its place
+-- the first `taken` of the bytes spell a count, which has no defect and was put at its place
 pub record IsCountPut (greatest place : ℕ) (bytes old new : List ℕ) (taken : ℕ) : Type 0 where
   pub encoded : ℕ
   pub within : taken ≤ length bytes
   pub spells : Spells (take taken bytes) encoded
-  pub fine : fault_at (length old) greatest place (from_zig_zag encoded) ≡ None
+  pub fine : defect_at (length old) greatest place (from_zig_zag encoded) ≡ None
   pub one : move (from_zig_zag encoded) ≡ 1
   pub put : new ≡ with_count old place (from_zig_zag encoded)
 
@@ -90,17 +90,17 @@ pub record IsPairPut (greatest place : ℕ) (bytes old new : List ℕ) : Type 0 
   pub first : IsCountPut greatest place bytes old between 2
   pub second : IsCountPut greatest (place + 1) (drop 2 bytes) between new 2
 
--- counts, unless there was a fault before or the bytes end inside a number
-abbrev pub counts_or_fault : Option Fault → List ℕ → List ℕ → Result (List ℕ) Fault
-counts_or_fault (Some f) rest counts = Err f
-counts_or_fault None [] counts = Ok counts
-counts_or_fault None (b ∷ rest) counts = Err cut
+-- counts, unless there was a defect before or the bytes end inside a number
+abbrev pub counts_or_defect : Option Defect → List ℕ → List ℕ → Result (List ℕ) Defect
+counts_or_defect (Some f) rest counts = Err f
+counts_or_defect None [] counts = Ok counts
+counts_or_defect None (b ∷ rest) counts = Err cut
 
--- the payload as the counts of so many bins, each at most the greatest, or its first fault
-unfoldable pub counts_in : ℕ → ℕ → List ℕ → Result (List ℕ) Fault
+-- the payload as the counts of so many bins, each at most the greatest, or its first defect
+unfoldable pub counts_in : ℕ → ℕ → List ℕ → Result (List ℕ) Defect
 counts_in bins greatest payload =
     let p = split_spellings 8 payload in
-    counts_or_fault (first_fault bins greatest 0 (numbers p.texts)) p.rest (fit_bins bins (flat_map bins_of_number (numbers p.texts)))
+    counts_or_defect (first_defect bins greatest 0 (numbers p.texts)) p.rest (fit_bins bins (flat_map bins_of_number (numbers p.texts)))
 
 -- a prefix of a spelling that is not whole: fewer than nine bytes, each of which asks for another
 pub record IsCut (rest : List ℕ) : Type 0 where

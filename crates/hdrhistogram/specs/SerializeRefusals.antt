@@ -15,7 +15,7 @@ RefusesBytes h UsizeTypeTooSmall = ⊥
 RefusesBytes h (IoError e) = ⊥
 RefusesBytes h OutOfMemory = Unit {0}
 
--- the same, and a writer's fault, whatever the writer holds
+-- the same, and a writer's failure, whatever the writer holds
 abbrev pub RefusesNamed : Plain → V2SerializeError → Type 0
 RefusesNamed h CountNotSerializable = HasTooGreatCount h
 RefusesNamed h UsizeTypeTooSmall = ⊥

@@ -8,7 +8,7 @@ use Rattle.hdr_model.specs.Filling.{Open}
 use Rattle.hdr_model.specs.declared.errors.CreationError.{CreationError}
 use Rattle.hdr_model.specs.declared.errors.CreationError.TheVariants.{LowIsZero, LowExceedsMax, HighLessThanTwiceLow, SigFigExceedsMax, CannotRepresentSigFigBeyondLow, UsizeTypeTooSmall, OutOfMemory}
 use Rattle.hdrhistogram.specs.declared.serialization.errors.DeserializeError.{DeserializeError}
-use Rattle.hdrhistogram.specs.Faults.{Fault, cut, other_cookie, unsupported, bad_bounds, ◌>>=◌, unless, fault_of_error}
+use Rattle.hdrhistogram.specs.Defects.{Defect, cut, other_cookie, unsupported, bad_bounds, ◌>>=◌, unless, defect_of_error}
 use Rattle.hdrhistogram.specs.PayloadRead.{counts_in}
 
 -- the number in the first four bytes, and in the first eight, the highest byte first
@@ -19,34 +19,34 @@ unfoldable pub eight_of : List ℕ → ℕ
 eight_of text = big_number 8 text
 
 -- a field of four bytes or of eight, or any bytes: what it holds, and the text after it
-unfoldable pub four_at : List ℕ → Result (ℕ × List ℕ) Fault
+unfoldable pub four_at : List ℕ → Result (ℕ × List ℕ) Defect
 four_at text = if nat_lt (length text) 4 then Err cut else Ok (four_of text, drop 4 text)
 
-unfoldable pub eight_at : List ℕ → Result (ℕ × List ℕ) Fault
+unfoldable pub eight_at : List ℕ → Result (ℕ × List ℕ) Defect
 eight_at text = if nat_lt (length text) 8 then Err cut else Ok (eight_of text, drop 8 text)
 
-unfoldable pub bytes_at : ℕ → List ℕ → Result (List ℕ × List ℕ) Fault
+unfoldable pub bytes_at : ℕ → List ℕ → Result (List ℕ × List ℕ) Defect
 bytes_at len text = if nat_lt (length text) len then Err cut else Ok (take len text, drop len text)
 
 -- a field, and then the check of its number
-abbrev pub check_field : (ℕ → Option Fault) → Result (ℕ × List ℕ) Fault → Result (ℕ × List ℕ) Fault
-check_field fault field = field >>= λ f. unless (fault f.0) f
+abbrev pub check_field : (ℕ → Option Defect) → Result (ℕ × List ℕ) Defect → Result (ℕ × List ℕ) Defect
+check_field defect field = field >>= λ f. unless (defect f.0) f
 
 -- the uncompressed form's cookie; the compressed form's is known, and not supported
-unfoldable pub cookie_fault : ℕ → Option Fault
-cookie_fault n = if n == 0x1c849313 then None else (if n == 0x1c849314 then Some unsupported else Some other_cookie)
+unfoldable pub cookie_defect : ℕ → Option Defect
+cookie_defect n = if n == 0x1c849313 then None else (if n == 0x1c849314 then Some unsupported else Some other_cookie)
 
 -- values are not shifted
-unfoldable pub offset_fault : ℕ → Option Fault
-offset_fault n = if n == 0 then None else Some unsupported
+unfoldable pub offset_defect : ℕ → Option Defect
+offset_defect n = if n == 0 then None else Some unsupported
 
 -- digits are a u8
-unfoldable pub sigfig_fault : ℕ → Option Fault
-sigfig_fault n = if nat_lt 255 n then Some bad_bounds else None
+unfoldable pub sigfig_defect : ℕ → Option Defect
+sigfig_defect n = if nat_lt 255 n then Some bad_bounds else None
 
 -- the ratio is 1.0, by the bits of a float
-unfoldable pub ratio_fault : ℕ → Option Fault
-ratio_fault n = if n == 0x3ff0000000000000 then None else Some unsupported
+unfoldable pub ratio_defect : ℕ → Option Defect
+ratio_defect n = if n == 0x3ff0000000000000 then None else Some unsupported
 
 -- what a header tells
 pub record Header : Type 0 where
@@ -56,15 +56,15 @@ pub record Header : Type 0 where
   pub high : ℕ
 
 -- the header at the front of a text, and the text after it
-unfoldable pub header_at : List ℕ → Result (Header × List ℕ) Fault
+unfoldable pub header_at : List ℕ → Result (Header × List ℕ) Defect
 header_at text = do
-  cookie ← check_field cookie_fault (four_at text)
+  cookie ← check_field cookie_defect (four_at text)
   payload_len ← four_at cookie.1
-  offset ← check_field offset_fault (four_at payload_len.1)
-  sigfig ← check_field sigfig_fault (four_at offset.1)
+  offset ← check_field offset_defect (four_at payload_len.1)
+  sigfig ← check_field sigfig_defect (four_at offset.1)
   low ← eight_at sigfig.1
   high ← eight_at low.1
-  ratio ← check_field ratio_fault (eight_at high.1)
+  ratio ← check_field ratio_defect (eight_at high.1)
   Ok (record { payload_len = payload_len.0; sigfig = sigfig.0; low = low.0; high = high.0 }, ratio.1)
 
 -- bounds and digits that a histogram can have (`new_with_bounds`)
@@ -72,18 +72,18 @@ unfoldable pub are_bounds : ℕ → ℕ → ℕ → Bool
 are_bounds low high sigfig =
     nat_lt 0 low && nat_lt low (2 ^ 63) && nat_le (2 * low) high && nat_le sigfig 5 && nat_le (unit_of low + digits_of sigfig) 63
 
-unfoldable pub bounds_fault : Header → Option Fault
-bounds_fault h = if are_bounds h.low h.high h.sigfig then None else Some bad_bounds
+unfoldable pub bounds_defect : Header → Option Defect
+bounds_defect h = if are_bounds h.low h.high h.sigfig then None else Some bad_bounds
 
 -- what refused bounds are, running out of memory aside
-abbrev pub creation_fault : CreationError → Option Fault
-creation_fault OutOfMemory = None
-creation_fault LowIsZero = Some bad_bounds
-creation_fault LowExceedsMax = Some bad_bounds
-creation_fault HighLessThanTwiceLow = Some bad_bounds
-creation_fault SigFigExceedsMax = Some bad_bounds
-creation_fault CannotRepresentSigFigBeyondLow = Some bad_bounds
-creation_fault UsizeTypeTooSmall = Some bad_bounds
+abbrev pub creation_defect : CreationError → Option Defect
+creation_defect OutOfMemory = None
+creation_defect LowIsZero = Some bad_bounds
+creation_defect LowExceedsMax = Some bad_bounds
+creation_defect HighLessThanTwiceLow = Some bad_bounds
+creation_defect SigFigExceedsMax = Some bad_bounds
+creation_defect CannotRepresentSigFigBeyondLow = Some bad_bounds
+creation_defect UsizeTypeTooSmall = Some bad_bounds
 
 -- how many bins a histogram of these bounds has
 abbrev pub bins_for : Header → ℕ
@@ -100,10 +100,10 @@ abbrev pub contents_of : Header → List ℕ → Contents
 contents_of h counts = record { low = h.low; high = h.high; sigfig = h.sigfig; counts = counts }
 
 -- the histogram at the front of a text, for counters up to the greatest, and the text after it
-unfoldable pub v2_at : ℕ → List ℕ → Result (Contents × List ℕ) Fault
+unfoldable pub v2_at : ℕ → List ℕ → Result (Contents × List ℕ) Defect
 v2_at greatest text = do
   found ← header_at text
-  header ← unless (bounds_fault found.0) found.0
+  header ← unless (bounds_defect found.0) found.0
   payload ← bytes_at header.payload_len found.1
   counts ← counts_in (bins_for header) greatest payload.0
   Ok (contents_of header counts, payload.1)
@@ -134,10 +134,10 @@ pub record IsReadAs (greatest : ℕ) (text : List ℕ) (h : Plain) (taken : ℕ)
   pub within : taken ≤ length text
   pub histogram : HasContents contents h
 
--- the text is read as a histogram, with the number of bytes that it takes, or is refused by an error that names its fault
+-- the text is read as a histogram, with the number of bytes that it takes, or is refused by an error that names its defect
 abbrev pub ReadsV2 : ℕ → List ℕ → Result (Plain × ℕ) DeserializeError → Type 0
 ReadsV2 greatest text (Ok found) = IsReadAs greatest text found.0 found.1
-ReadsV2 greatest text (Err e) = (f : Fault) × (fault_of_error e ≡ Some f) × (v2_at greatest text ≡ Err f)
+ReadsV2 greatest text (Err e) = (f : Defect) × (defect_of_error e ≡ Some f) × (v2_at greatest text ≡ Err f)
 
 -- the second histogram is what is read of the first one's bytes
 abbrev pub IsReadBack : Plain → Plain → Type 0

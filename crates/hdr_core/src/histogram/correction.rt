@@ -9,7 +9,7 @@ ghost use Rattle.hdr_model.specs.Refusals.{HasRoom, RefusesRecord};
 ghost use Rattle.hdr_model.specs.Correction.{missing, each_times, after_correct, classes_held, down_to};
 
 use super::Histogram;
-use hdr_base::{Counter, Ticks};
+use hdr_base::{Counter, Work};
 use hdr_model::RecordError;
 
 impl<T: Counter> Histogram<T> {
@@ -48,31 +48,31 @@ impl<T: Counter> Histogram<T> {
         ensures refused { IfErr result (λ e. RefusesRecord self.old value e
             × (self.new ≡ self.old)) }
     {
-        self.record_n_correct_counted(value, count, interval, &mut Ticks::new())
+        self.record_n_correct_counted(value, count, interval, &mut Work::new())
     }
 
-    /// The same, with a tick for each counter that is updated after the first: one for each class that holds a missing value,
+    /// The same, and counts as work each counter that is updated after the first: one for each class that holds a missing value,
     /// and so no more than there are bins.
     pub fn record_n_correct_counted(
         &mut self,
         value: u64,
         count: T,
         interval: u64,
-        ticks: &mut Ticks,
+        work: &mut Work,
     ) -> Result<(), RecordError>
-        requires { ticks.old ≤ 2 ^ 63 }
+        requires { work.old ≤ 2 ^ 63 }
         ensures ok { OnOk result (self.new ≡ after_correct T.greatest self.old value
             (T.number count) interval) }
-        ensures ticks { OnOk result (ticks.new ≡ ticks.old + classes_held (grain self.new)
+        ensures work { OnOk result (work.new ≡ work.old + classes_held (grain self.new)
             (length self.new.counts) (missing value interval)) }
-        ensures at_most_bins { OnOk result (ticks.new ≤ ticks.old + length self.new.counts) }
+        ensures at_most_bins { OnOk result (work.new ≤ work.old + length self.new.counts) }
         ensures samples { OnOk result (GainsSamples T.greatest self.old self.new
             (samples_of (each_times (T.number count) (value ∷ missing value interval)))) }
         ensures high { OnOk result (self.new.high ≡ high_with (grain self.old) self.old.high value
             (reach_of (grain self.old) value)) }
         ensures can { OnOk result (HasRoom self.old value) }
         ensures refused { IfErr result (λ e. RefusesRecord self.old value e × (self.new ≡ self.old)
-            × (ticks.new ≡ ticks.old)) }
+            × (work.new ≡ work.old)) }
     {
         self.record_n(value, count)?;
         if interval > 0 {
@@ -80,20 +80,20 @@ impl<T: Counter> Histogram<T> {
                 value.saturating_sub(interval),
                 count.as_u64(),
                 interval,
-                ticks,
+                work,
             );
         }
         Ok(())
     }
 
     /// Records the values from `first` down to the interval, an interval apart, class by class.
-    pub(super) fn add_missing(&mut self, first: u64, count: u64, interval: u64, ticks: &mut Ticks)
+    pub(super) fn add_missing(&mut self, first: u64, count: u64, interval: u64, work: &mut Work)
         requires step { 0 < interval }
         requires within { first ≤ reach self.old }
-        requires room { ticks.old ≤ 2 ^ 63 }
+        requires room { work.old ≤ 2 ^ 63 }
         ensures state { self.new ≡ after_records T.greatest self.old
             (each_times count (down_to first interval)) }
-        ensures ticks { ticks.new ≡ ticks.old + classes_held (grain self.old)
+        ensures work { work.new ≡ work.old + classes_held (grain self.old)
             (length self.old.counts) (down_to first interval) }
         ensures samples { GainsSamples T.greatest self.old self.new
             (samples_of (each_times count (down_to first interval))) }
@@ -104,7 +104,7 @@ impl<T: Counter> Histogram<T> {
         let mut next = first;
         while next >= interval {
             let start = scale.bucket_start(next).max(interval);
-            next = self.add_in_bucket(next, start, count, interval, ticks);
+            next = self.add_in_bucket(next, start, count, interval, work);
         }
     }
 
@@ -116,22 +116,22 @@ impl<T: Counter> Histogram<T> {
         start: u64,
         count: u64,
         interval: u64,
-        ticks: &mut Ticks,
+        work: &mut Work,
     ) -> u64
         requires step { 0 < interval }
         requires some { (interval ≤ start) × (start ≤ first) }
         requires one_bucket { (x : ℕ) → start ≤ x → x ≤ first
             → bucket (grain self.old) x ≡ bucket (grain self.old) first }
         requires within { first ≤ reach self.old }
-        requires room { ticks.old + classes_held (grain self.old) (length self.old.counts)
+        requires room { work.old + classes_held (grain self.old) (length self.old.counts)
             (down_to first interval) < 2 ^ 64 }
         ensures less { result < first }
         ensures state { after_records T.greatest self.new
             (each_times count (down_to result interval)) ≡ after_records T.greatest self.old
             (each_times count (down_to first interval)) }
-        ensures ticks { ticks.new + classes_held (grain self.old) (length self.old.counts)
+        ensures work { work.new + classes_held (grain self.old) (length self.old.counts)
             (down_to result interval)
-            ≡ ticks.old + classes_held (grain self.old) (length self.old.counts)
+            ≡ work.old + classes_held (grain self.old) (length self.old.counts)
             (down_to first interval) }
         ensures same_classes { grain self.new ≡ grain self.old }
         ensures same_bins { length self.new.counts ≡ length self.old.counts }
@@ -144,25 +144,25 @@ impl<T: Counter> Histogram<T> {
         while next >= start {
             let span = (next % width).min(next - interval);
             let members = steps(span, interval, few) + 1;
-            self.add_counted(bin + (next / width) as usize, members, count, ticks);
+            self.add_counted(bin + (next / width) as usize, members, count, work);
             next -= members * interval;
         }
         next
     }
 
-    /// Adds members of a class, `count` times each, to its bin, with a tick: the one step that is counted.
-    fn add_counted(&mut self, bin: usize, members: u64, count: u64, ticks: &mut Ticks)
+    /// Adds members of a class, `count` times each, to its bin, and counts that update as work.
+    fn add_counted(&mut self, bin: usize, members: u64, count: u64, work: &mut Work)
         requires bin { bin < length self.old.counts }
-        requires room { ticks.old < 2 ^ 64 - 1 }
+        requires room { work.old < 2 ^ 64 - 1 }
         ensures state { self.new ≡ after_add_to_bin T.greatest self.old bin (members * count) }
-        ensures ticks { ticks.new ≡ ticks.old + 1 }
+        ensures work { work.new ≡ work.old + 1 }
     {
         let number = u128::from(members) * u128::from(count);
         match u64::try_from(number) {
             Ok(number) => self.add_to_bin(bin, number),
             Err(_) => self.add_capped(bin, number),
         }
-        ticks.tick();
+        work.add_one();
     }
 }
 

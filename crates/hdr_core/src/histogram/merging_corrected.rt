@@ -10,7 +10,7 @@ ghost use Rattle.hdr_model.specs.Correction.{missing, each_times};
 ghost use Rattle.hdr_model.specs.Merging.{corrections_from, highest_top, after_add_correct, corrected_samples};
 
 use super::Histogram;
-use hdr_base::{Counter, Ticks};
+use hdr_base::{Counter, Work};
 use hdr_model::RecordError;
 
 impl<T: Counter> Histogram<T> {
@@ -121,7 +121,7 @@ impl<T: Counter> Histogram<T> {
                 value.saturating_sub(interval),
                 count,
                 interval,
-                &mut Ticks::new(),
+                &mut Work::new(),
             );
         }
     }

@@ -8,7 +8,7 @@ ghost use Rattle.hdr_model.specs.Samples.{StandsFor};
 ghost use Rattle.hdr_model.specs.Quantiles.{rank, ranked_sample, first_reaching, answer_at, quantile_of, IsTopNear, hundredth};
 
 use super::Histogram;
-use hdr_base::{Counter, Quantile, Ticks};
+use hdr_base::{Counter, Quantile, Work};
 
 impl<T: Counter> Histogram<T> {
     /// The greatest value of the class that holds the sample of a quantile: the sample at the place
@@ -23,20 +23,20 @@ impl<T: Counter> Histogram<T> {
         self.answer(quantile.num(), self.first_reaching(rank))
     }
 
-    /// The same answer, with a tick for each look at a block's sum or at a counter: at most as many as there are blocks
+    /// The same answer, and counts as work each look at a block's sum or at a counter: at most as many as there are blocks
     /// and counters in a block together. A block holds half as many bins as the first bucket.
-    pub fn value_at_quantile_counted(&self, quantile: Quantile, ticks: &mut Ticks) -> u64
-        requires { ticks.old ≤ 2 ^ 63 }
+    pub fn value_at_quantile_counted(&self, quantile: Quantile, work: &mut Work) -> u64
+        requires { work.old ≤ 2 ^ 63 }
         ensures value { result ≡ quantile_of self.now quantile }
         ensures ranked { (S : List ℕ) → StandsFor self.now S → 0 < length S → 0 < quantile.num
             → IsTopNear self.now (ranked_sample quantile S) result }
-        ensures looks { ticks.new ≡ ticks.old + looks (block_of self.now) (length self.now.counts)
+        ensures looks { work.new ≡ work.old + looks (block_of self.now) (length self.now.counts)
             (first_reaching self.now.counts (rank quantile self.now.total)) }
-        ensures at_most { ticks.new ≤ ticks.old +
+        ensures at_most { work.new ≤ work.old +
             (bucket (grain self.now) self.now.high + 2 + block_of self.now) }
     {
         let rank = rank_of(quantile.num(), u128::from(quantile.den()), self.total);
-        let place = self.find(rank, ticks);
+        let place = self.find(rank, work);
         self.answer(quantile.num(), place)
     }
 
@@ -63,17 +63,17 @@ impl<T: Counter> Histogram<T> {
         self.counts.first_reaching(rank)
     }
 
-    /// The same, with a tick for each look.
-    fn find(&self, rank: u64, ticks: &mut Ticks) -> Option<usize>
+    /// The same, and counts each look as work.
+    fn find(&self, rank: u64, work: &mut Work) -> Option<usize>
         requires some { 1 ≤ rank }
-        requires room { ticks.old ≤ 2 ^ 63 }
+        requires room { work.old ≤ 2 ^ 63 }
         ensures place { result ≡ first_reaching self.now.counts rank }
         ensures within { IfSome result (λ i. i < length self.now.counts) }
-        ensures looks { ticks.new ≡ ticks.old + looks (block_of self.now)
+        ensures looks { work.new ≡ work.old + looks (block_of self.now)
             (length self.now.counts) result }
     {
         let sections = self.scale.sections_in_block();
-        self.counts.find(rank, sections, ticks)
+        self.counts.find(rank, sections, work)
     }
 
     /// What the first class that reaches a rank answers to a quantile of that numerator.

@@ -2,8 +2,8 @@
 
 ghost use Rattle.std.specs.Prelude.{◌≡◌, ℕ, List, [], length, replicate, false, IfOk, IfErr, MatchResult};
 ghost use Rattle.std.specs.Io.KnownBytes.{Consumes};
-ghost use Rattle.hdrhistogram.specs.Faults.{Gives, TakesAs, Checks, FailsBy, fault_of_error};
-ghost use Rattle.hdrhistogram.specs.V2Read.{creation_fault, bounds_fault, bins_for, bytes_at, v2_at, told_by, told_of, IsRestated, IsReadAs};
+ghost use Rattle.hdrhistogram.specs.Defects.{Gives, TakesAs, Checks, FailsBy, defect_of_error};
+ghost use Rattle.hdrhistogram.specs.V2Read.{creation_defect, bounds_defect, bins_for, bytes_at, v2_at, told_by, told_of, IsRestated, IsReadAs};
 ghost use Rattle.hdrhistogram.specs.HeaderView.{header_of};
 ghost use Rattle.hdrhistogram.specs.FieldRead.{IsHeldIn, RefusesDecoding};
 
@@ -58,7 +58,7 @@ impl Deserializer {
         text: &[u8],
     ) -> Result<(Histogram<T>, usize), DeserializeError>
         ensures read { IfOk result (λ found. IsReadAs T.greatest text.now found.0 found.1) }
-        ensures refused { IfErr result (λ e. FailsBy (fault_of_error e)
+        ensures refused { IfErr result (λ e. FailsBy (defect_of_error e)
             (v2_at T.greatest text.now)) }
         ensures kept { self.new ≡ self.old }
     {
@@ -82,7 +82,7 @@ impl Deserializer {
             × IsReadAs T.greatest taken h (length taken)) }
         ensures refused { IfErr result (λ e. (taken : List ℕ)
             × Consumes (R.remaining reader.old) (R.remaining reader.new) taken
-            × FailsBy (fault_of_error e) (v2_at T.greatest taken)) }
+            × FailsBy (defect_of_error e) (v2_at T.greatest taken)) }
         ensures as_new { self.new ≡ [] }
     {
         self.payload.clear();
@@ -132,7 +132,7 @@ fn read_field<T: Counter>(
 
 /// Empty bins of a header's bounds.
 fn empty_for<T: Counter>(alloc: Global, header: Header) -> Result<Filling<T>, DeserializeError>
-    ensures bounds { Checks result (bounds_fault (header_of header)) }
+    ensures bounds { Checks result (bounds_defect (header_of header)) }
     ensures empty { IfOk result (λ f. f.counts ≡ replicate (length f.counts) 0) }
     ensures fixed { IfOk result (λ f. f.auto_resize ≡ false) }
     ensures told { IfOk result (λ f. told_by f
@@ -153,7 +153,7 @@ fn empty_for<T: Counter>(alloc: Global, header: Header) -> Result<Filling<T>, De
 
 /// What it is for bytes that their bounds are refused.
 fn refused(error: CreationError) -> DeserializeError
-    ensures { fault_of_error result ≡ creation_fault error }
+    ensures { defect_of_error result ≡ creation_defect error }
 {
     match error {
         CreationError::OutOfMemory => DeserializeError::OutOfMemory,

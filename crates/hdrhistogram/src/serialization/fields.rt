@@ -1,8 +1,8 @@
 //! The header of V2 bytes, read field by field.
 
 ghost use Rattle.std.specs.Prelude.{◌≡◌, Some, IfOk};
-ghost use Rattle.hdrhistogram.specs.Faults.{Gives, TakesAs, Checks, fault_of_error, cut};
-ghost use Rattle.hdrhistogram.specs.V2Read.{four_at, eight_at, cookie_fault, offset_fault, sigfig_fault, ratio_fault, header_at};
+ghost use Rattle.hdrhistogram.specs.Defects.{Gives, TakesAs, Checks, defect_of_error, cut};
+ghost use Rattle.hdrhistogram.specs.V2Read.{four_at, eight_at, cookie_defect, offset_defect, sigfig_defect, ratio_defect, header_at};
 ghost use Rattle.hdrhistogram.specs.HeaderView.{header_of};
 
 use crate::serialization::errors::DeserializeError;
@@ -25,14 +25,14 @@ pub(crate) struct Header {
 
 /// The error of bytes that end too soon.
 pub(crate) fn ended() -> DeserializeError
-    ensures { fault_of_error result ≡ Some cut }
+    ensures { defect_of_error result ≡ Some cut }
 {
     DeserializeError::IoError(io::Error::from(ErrorKind::UnexpectedEof))
 }
 
-#[tactic(auto, unfolding(crate::specs::V2Read::cookie_fault))]
+#[tactic(auto, unfolding(crate::specs::V2Read::cookie_defect))]
 fn check_cookie(cookie: u32) -> Result<(), DeserializeError>
-    ensures { Checks result (cookie_fault cookie) }
+    ensures { Checks result (cookie_defect cookie) }
 {
     if cookie == COOKIE {
         Ok(())
@@ -43,9 +43,9 @@ fn check_cookie(cookie: u32) -> Result<(), DeserializeError>
     }
 }
 
-#[tactic(auto, unfolding(crate::specs::V2Read::offset_fault))]
+#[tactic(auto, unfolding(crate::specs::V2Read::offset_defect))]
 fn check_offset(offset: u32) -> Result<(), DeserializeError>
-    ensures { Checks result (offset_fault offset) }
+    ensures { Checks result (offset_defect offset) }
 {
     if offset == 0 {
         Ok(())
@@ -54,9 +54,9 @@ fn check_offset(offset: u32) -> Result<(), DeserializeError>
     }
 }
 
-#[tactic(auto, unfolding(crate::specs::V2Read::sigfig_fault))]
+#[tactic(auto, unfolding(crate::specs::V2Read::sigfig_defect))]
 fn check_sigfig(sigfig: u32) -> Result<u8, DeserializeError>
-    ensures fault { Checks result (sigfig_fault sigfig) }
+    ensures defect { Checks result (sigfig_defect sigfig) }
     ensures value { IfOk result (λ n. n ≡ sigfig) }
 {
     if sigfig > 255 {
@@ -66,9 +66,9 @@ fn check_sigfig(sigfig: u32) -> Result<u8, DeserializeError>
     }
 }
 
-#[tactic(auto, unfolding(crate::specs::V2Read::ratio_fault))]
+#[tactic(auto, unfolding(crate::specs::V2Read::ratio_defect))]
 fn check_ratio(ratio: u64) -> Result<(), DeserializeError>
-    ensures { Checks result (ratio_fault ratio) }
+    ensures { Checks result (ratio_defect ratio) }
 {
     if ratio == RATIO {
         Ok(())

@@ -2,8 +2,8 @@
 
 ghost use Rattle.std.specs.Prelude.{◌≡◌, ◌+◌, ◌*◌, ◌%◌, ◌<◌, ◌≤◌, IfNone, IfOk, IfSome, OnOk, length, replicate, true, false};
 ghost use Rattle.hdr_base.specs.Classes.{most_bins};
-ghost use Rattle.hdrhistogram.specs.Faults.{Gives, Checks};
-ghost use Rattle.hdrhistogram.specs.PayloadRead.{IsCountPut, IsPairPut, fault_at, move, with_count, counts_in};
+ghost use Rattle.hdrhistogram.specs.Defects.{Gives, Checks};
+ghost use Rattle.hdrhistogram.specs.PayloadRead.{IsCountPut, IsPairPut, defect_at, move, with_count, counts_in};
 ghost use Rattle.hdrhistogram.specs.V2Read.{told_by, told_of, IsRestated};
 
 use crate::serialization::errors::DeserializeError;
@@ -19,7 +19,7 @@ fn put_number<T: Counter>(
     place: u64,
     number: i64,
 ) -> Result<u64, DeserializeError>
-    ensures fault { Checks result (fault_at (length filling.old.counts) T.greatest place number) }
+    ensures defect { Checks result (defect_at (length filling.old.counts) T.greatest place number) }
     ensures next { IfOk result (λ next. next ≡ place + move number) }
     ensures put { OnOk result (filling.new ≡ record filling.old
         { counts = with_count filling.old.counts place number }) }
@@ -44,7 +44,7 @@ fn put_number<T: Counter>(
 }
 
 /// Puts the count that a byte or two spell at the front, and gives how many they are. `None`, with nothing put, where
-/// they spell another number or the front is spelt by more bytes, and where the count is a fault.
+/// they spell another number or the front is spelt by more bytes, and where the count is refused.
 #[inline(always)]
 fn put_short<T: Counter>(filling: &mut Filling<T>, place: u64, bytes: &[u8]) -> Option<usize>
     ensures put { IfSome result
@@ -90,7 +90,7 @@ fn two_byte_count<T: Counter>(first: u8, second: u8) -> Option<T>
     T::from_u64(u64::from(first) % 128 / 2 + 64 * u64::from(second))
 }
 
-/// Puts two counts that two bytes each spell at the front. Whether there are two such, and neither is a fault; else
+/// Puts two counts that two bytes each spell at the front. Whether there are two such, and neither is refused; else
 /// nothing is put.
 #[inline(always)]
 fn put_pair<T: Counter>(filling: &mut Filling<T>, place: u64, bytes: &[u8]) -> bool

@@ -43,8 +43,8 @@ slice_bounds-first_reaching_looked-end g c =
 pub returns-in_err-place-clause-place : goal.returns-in_err-place-clause-place
 returns-in_err-place-clause-place g c = absurd (found g c)
 
-pub returns-in_err-place-clause-ticks : goal.returns-in_err-place-clause-ticks
-returns-in_err-place-clause-ticks g c = absurd (found g c)
+pub returns-in_err-place-clause-work : goal.returns-in_err-place-clause-work
+returns-in_err-place-clause-work g c = absurd (found g c)
 
 pub returns-then-sum-from-clause-place : goal.returns-then-sum-from-clause-place
 returns-then-sum-from-clause-place g c =
@@ -72,7 +72,7 @@ loop-k-preserved g c = (
     c.loop-k.invariant.0,
   ),
   omega (arith, c.look-sum.ensures.value, c.from.ensures, c.if-sum-from.false),
-  omega (arith, c.look-sum.ensures.tick, c.loop-k.invariant.2),
+  omega (arith, c.look-sum.ensures.counted, c.loop-k.invariant.2),
 )
 
 -- after the last group nothing is left
@@ -85,5 +85,5 @@ end g c =
 pub returns-clause-place : goal.returns-clause-place
 returns-clause-place g c = rw (← c.self.view_is) (omega (arith, (end g c).0, c.loop-k.invariant.0, c.loop-k.invariant.1))
 
-pub returns-clause-ticks : goal.returns-clause-ticks
-returns-clause-ticks g c = rw (← c.self.view_is) (omega (arith, (end g c).1, c.loop-k.invariant.2))
+pub returns-clause-work : goal.returns-clause-work
+returns-clause-work g c = rw (← c.self.view_is) (omega (arith, (end g c).1, c.loop-k.invariant.2))

@@ -98,7 +98,7 @@ const RESTING: [&str; 75] = [
     "scale section 1 1",
     "fraction num 1 2",
     "fraction den 1 2",
-    "fraction ticks",
+    "fraction work",
     "bytes zig_zag -5",
     "log tag a",
 ];

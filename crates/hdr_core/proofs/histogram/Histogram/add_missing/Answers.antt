@@ -13,7 +13,7 @@ pub add_in_bucket-next-requires-clause-room : goal.add_in_bucket-next-requires-c
 add_in_bucket-next-requires-clause-room g c =
     let h = c.args.self.now in
     rw (c.loop-next.invariant.same_classes, c.loop-next.invariant.same_bins)
-    (omega (arith, c.requires.room, c.loop-next.invariant.ticks, held-le (grain h) (length h.counts) (down_to c.args.first c.args.interval), bins-few g.T.Counter.greatest h (rw c.self.view_is at c.self.invariant.plain)))
+    (omega (arith, c.requires.room, c.loop-next.invariant.work, held-le (grain h) (length h.counts) (down_to c.args.first c.args.interval), bins-few g.T.Counter.greatest h (rw c.self.view_is at c.self.invariant.plain)))
 
 pub returns-clause-state : goal.returns-clause-state
 returns-clause-state g c =
@@ -22,13 +22,13 @@ returns-clause-state g c =
     let end : down_to c.loop-next.next c.args.interval ≡ [] = down_to-end c.loop-next.next c.args.interval (omega arith) in
     sym (ap (λ ys. after_records greatest c.loop-next.self (each_times n ys)) end) ∙ c.loop-next.invariant.state
 
-pub returns-clause-ticks : goal.returns-clause-ticks
-returns-clause-ticks g c =
+pub returns-clause-work : goal.returns-clause-work
+returns-clause-work g c =
     let h = c.args.self.now in
     let end : down_to c.loop-next.next c.args.interval ≡ [] = down_to-end c.loop-next.next c.args.interval (omega arith) in
     let none : classes_held (grain h) (length h.counts) (down_to c.loop-next.next c.args.interval) ≡ 0 =
     ap (λ ys. classes_held (grain h) (length h.counts) ys) end ∙ held-none (grain h) (length h.counts) in
-    omega (arith, c.loop-next.invariant.ticks)
+    omega (arith, c.loop-next.invariant.work)
 
 pub returns-clause-samples : goal.returns-clause-samples
 returns-clause-samples g c = λ S stands fits.

@@ -33,7 +33,7 @@ returns-clause-ranked g c = λ S stands some share.
 
 pub returns-clause-looks : goal.returns-clause-looks
 returns-clause-looks g c =
-    c.find-place.ensures.looks ∙ ap (λ o. c.args.ticks.now + looks (block_of c.args.self.now) (length c.args.self.now.counts) o) (found g (goal.at.returns-clause-looks g c).After-find-place)
+    c.find-place.ensures.looks ∙ ap (λ o. c.args.work.now + looks (block_of c.args.self.now) (length c.args.self.now.counts) o) (found g (goal.at.returns-clause-looks g c).After-find-place)
 
 pub returns-clause-at_most : goal.returns-clause-at_most
 returns-clause-at_most g c =

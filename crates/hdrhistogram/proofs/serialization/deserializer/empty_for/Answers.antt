@@ -1,10 +1,10 @@
 use Rattle.hdrhistogram.specs.HeaderView.{header_of}
-use Rattle.hdrhistogram.specs.Faults.{fault_of_error}
-use Rattle.hdrhistogram.proofs.V2ReadHistogram.{bounds-yes, bounds-refused, fault-none, is-made}
+use Rattle.hdrhistogram.specs.Defects.{defect_of_error}
+use Rattle.hdrhistogram.proofs.V2ReadHistogram.{bounds-yes, bounds-refused, defect-none, is-made}
 use Rattle.hdrhistogram.proofs.serialization.deserializer.empty_for.Goals as goal
 
 pub returns-in-Ok-clause-bounds : goal.returns-in-Ok-clause-bounds
-returns-in-Ok-clause-bounds g c = fault-none (header_of c.args.header) (bounds-yes c.args.header.low c.args.header.high c.args.header.sigfig c.in-Ok.ensures.1)
+returns-in-Ok-clause-bounds g c = defect-none (header_of c.args.header) (bounds-yes c.args.header.low c.args.header.high c.args.header.sigfig c.in-Ok.ensures.1)
 
 pub returns-in-Ok-clause-empty : goal.returns-in-Ok-clause-empty
 returns-in-Ok-clause-empty g c = (is-made c.in-Ok.filling c.args.header.low c.args.header.high c.args.header.sigfig c.in-Ok.ensures.0).empty
@@ -19,4 +19,4 @@ pub returns-in-Ok-clause-bins : goal.returns-in-Ok-clause-bins
 returns-in-Ok-clause-bins g c = (is-made c.in-Ok.filling c.args.header.low c.args.header.high c.args.header.sigfig c.in-Ok.ensures.0).bins
 
 pub returns-in-Err-clause-bounds : goal.returns-in-Err-clause-bounds
-returns-in-Err-clause-bounds g c = bounds-refused (header_of c.args.header) c.in-Err.error (fault_of_error c.refused.result) c.in-Err.ensures c.refused.ensures
+returns-in-Err-clause-bounds g c = bounds-refused (header_of c.args.header) c.in-Err.error (defect_of_error c.refused.result) c.in-Err.ensures c.refused.ensures

@@ -1,7 +1,7 @@
 use Rattle.std.proofs.Common.{◌≡◌, ◌∙◌, ap, sym, subst, Ok}
 use Rattle.std.proofs.lemmas.Result.{err_from_is_err_and}
 use Rattle.hdrhistogram.specs.HeaderView.{header_of}
-use Rattle.hdrhistogram.specs.Faults.{fault_of_error, FailsBy}
+use Rattle.hdrhistogram.specs.Defects.{defect_of_error, FailsBy}
 use Rattle.hdrhistogram.specs.PayloadRead.{counts_in}
 use Rattle.hdrhistogram.specs.V2Read.{Contents, bins_for, contents_of, told_of, v2_at}
 use Rattle.hdrhistogram.proofs.PayloadReadFilling.{gives_fails}
@@ -13,7 +13,7 @@ returns-in_err-header-clause-read g c =
     let rem = g.R.Read.remaining in
     let greatest = g.T.Counter.greatest in
     let q = err_from_is_err_and c.from_residual.result c.from_residual.ensures.1 in
-    let (t, taken, fails) = header-failed (rem c.args.reader.now) (rem c.read_header.new.reader) greatest (fault_of_error c.in_err-header.field-0.0) c.in_err-header.ensures in
+    let (t, taken, fails) = header-failed (rem c.args.reader.now) (rem c.read_header.new.reader) greatest (defect_of_error c.in_err-header.field-0.0) c.in_err-header.ensures in
     (t, taken, gives_fails _ c.from_residual.result q.0 c.in_err-header.field-0.0 (v2_at greatest t) q.1 q.2 fails)
 
 pub returns-in_err-empty-clause-read : goal.returns-in_err-empty-clause-read
@@ -21,7 +21,7 @@ returns-in_err-empty-clause-read g c =
     let rem = g.R.Read.remaining in
     let greatest = g.T.Counter.greatest in
     let q = err_from_is_err_and c.from_residual-in_err-empty.result c.from_residual-in_err-empty.ensures.1 in
-    let (t, taken, fails) = bounds-failed (rem c.args.reader.now) (rem c.read_header.new.reader) greatest (header_of c.in_ok-header.header) (fault_of_error c.in_err-empty.field-0.0) c.in_ok-header.ensures c.in_err-empty.ensures.bounds in
+    let (t, taken, fails) = bounds-failed (rem c.args.reader.now) (rem c.read_header.new.reader) greatest (header_of c.in_ok-header.header) (defect_of_error c.in_err-empty.field-0.0) c.in_ok-header.ensures c.in_err-empty.ensures.bounds in
     (t, taken, gives_fails _ c.from_residual-in_err-empty.result q.0 c.in_err-empty.field-0.0 (v2_at greatest t) q.1 q.2 fails)
 
 pub returns-in_err-read_payload-clause-read : goal.returns-in_err-read_payload-clause-read
@@ -29,7 +29,7 @@ returns-in_err-read_payload-clause-read g c =
     let rem = g.R.Read.remaining in
     let greatest = g.T.Counter.greatest in
     let q = err_from_is_err_and c.from_residual-in_err-read_payload.result c.from_residual-in_err-read_payload.ensures.1 in
-    let (t, taken, fails) = payload-failed (rem c.args.reader.now) (rem c.read_header.new.reader) greatest (header_of c.in_ok-header.header) c.in_ok-header.ensures c.in_ok-empty.ensures.bounds (rem c.read_payload.new.reader) (fault_of_error c.in_err-read_payload.field-0.0) c.in_err-read_payload.ensures in
+    let (t, taken, fails) = payload-failed (rem c.args.reader.now) (rem c.read_header.new.reader) greatest (header_of c.in_ok-header.header) c.in_ok-header.ensures c.in_ok-empty.ensures.bounds (rem c.read_payload.new.reader) (defect_of_error c.in_err-read_payload.field-0.0) c.in_err-read_payload.ensures in
     (t, taken, gives_fails _ c.from_residual-in_err-read_payload.result q.0 c.in_err-read_payload.field-0.0 (v2_at greatest t) q.1 q.2 fails)
 
 pub returns-in_err-h-clause-read : goal.returns-in_err-h-clause-read
@@ -38,7 +38,7 @@ returns-in_err-h-clause-read g c =
     let greatest = g.T.Counter.greatest in
     let header = header_of c.in_ok-header.header in
     let payload = c.read_payload.new.buffer.items in
-    let o = fault_of_error c.in_err-h.field-0.0 in
+    let o = defect_of_error c.in_err-h.field-0.0 in
     let q = err_from_is_err_and c.from_residual-in_err-h.result c.from_residual-in_err-h.ensures.1 in
     let counts = subst (λ p. FailsBy o (counts_in (bins_for header) greatest p)) c.deref.ensures.value
     (subst (λ n. FailsBy o (counts_in n greatest c.deref.result.now)) c.in_ok-empty.ensures.bins c.in_err-h.ensures.counts) in

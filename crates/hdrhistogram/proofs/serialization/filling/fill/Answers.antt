@@ -3,12 +3,12 @@ use Rattle.std.proofs.lemmas.List.{take_rest}
 use Rattle.std.proofs.lemmas.Int.{to_z-of_z}
 use Rattle.std.proofs.lemmas.Result.{err_from_is_err_and}
 use mir.Val.{SFits}
-use Rattle.hdrhistogram.specs.Faults.{fault_of_error, FailsBy}
+use Rattle.hdrhistogram.specs.Defects.{defect_of_error, FailsBy}
 use Rattle.hdrhistogram.specs.PayloadRead.{IsCut, IsCountPut, IsPairPut, counts_in}
 use Rattle.hdr_model.specs.Filling.{Open}
 use Rattle.hdrhistogram.proofs.VarintSpellings.{some_byte}
 use Rattle.hdrhistogram.proofs.V2ReadRestated.{set-again}
-use Rattle.hdrhistogram.proofs.PayloadReadFilling.{IsFilledTo, fill_start, fill_short, fill_pair, fill_next, fill_faulty, fill_end, fill_cut, fails_so, gives_fails}
+use Rattle.hdrhistogram.proofs.PayloadReadFilling.{IsFilledTo, fill_start, fill_short, fill_pair, fill_next, fill_defective, fill_end, fill_cut, fails_so, gives_fails}
 use Rattle.hdrhistogram.proofs.serialization.filling.fill.Goals as goal
 
 pub loop-at-init : goal.loop-at-init
@@ -34,8 +34,8 @@ returns-in_err-place-clause-counts g c =
     let fits : SFits w64 z = search rules in
     let q = err_from_is_err_and c.from_residual.result c.from_residual.ensures.1 in
     gives_fails _ c.from_residual.result q.0 c.in_err-place.field-0.0 (counts_in bins g.T.Counter.greatest p) q.1 q.2
-    (fails_so (fault_of_error c.in_err-place.field-0.0) _ (counts_in bins g.T.Counter.greatest p) c.in_err-place.ensures.fault (λ f e.
-    fill_faulty bins g.T.Counter.greatest p c.put_short.new.filling.counts _ at c.loop-at.place c.in-Some-varint_at.len c.in-Some-varint_at.encoded _ f d
+    (fails_so (defect_of_error c.in_err-place.field-0.0) _ (counts_in bins g.T.Counter.greatest p) c.in_err-place.ensures.defect (λ f e.
+    fill_defective bins g.T.Counter.greatest p c.put_short.new.filling.counts _ at c.loop-at.place c.in-Some-varint_at.len c.in-Some-varint_at.encoded _ f d
     (omega (arith, c.in-Some-varint_at.ensures.within, length-take (length p - at) (drop at p))) (ap (take c.in-Some-varint_at.len) (take_rest p at)) c.in-Some-varint_at.ensures.found
     (to_z-of_z w64 z fits ∙ c.zig_zag_decode.ensures) e))
 
@@ -55,7 +55,7 @@ loop-at-preserved g c =
     record {
       filled = fill_next bins g.T.Counter.greatest p c.put_short.new.filling.counts c.put_number.new.filling.counts (take c.in-Some-varint_at.len slice) at (at + c.in-Some-varint_at.len) c.loop-at.place c.in_ok-place.place c.in-Some-varint_at.len c.in-Some-varint_at.encoded _ d
           (omega (arith, c.in-Some-varint_at.ensures.within, length-take (length p - at) (drop at p))) (ap (take c.in-Some-varint_at.len) (take_rest p at)) c.in-Some-varint_at.ensures.found
-          (to_z-of_z w64 z fits ∙ c.zig_zag_decode.ensures) c.in_ok-place.ensures.fault
+          (to_z-of_z w64 z fits ∙ c.zig_zag_decode.ensures) c.in_ok-place.ensures.defect
           (ap (λ (o : Open). o.counts) c.in_ok-place.ensures.put) refl c.in_ok-place.ensures.next;
       rest = set-again c.args.filling.now c.put_short.new.filling c.put_number.new.filling _ (set-again c.args.filling.now c.put_pair.new.filling c.put_short.new.filling _ (set-again c.args.filling.now c.loop-at.filling c.put_pair.new.filling _ c.loop-at.invariant.rest c.put_pair.ensures.rest) c.put_short.ensures.rest) c.in_ok-place.ensures.put;
     }
