@@ -13,7 +13,11 @@ install: all
 
 check:
 	tools/edits --control
-	tools/edits --beside rt ci
+	tools/edits --beside $(MAKE) --no-print-directory proofs-and-runs
+
+# What the gate does beside the edits.
+proofs-and-runs:
+	rt ci
 	tools/refused.sh
 	tools/refused_main.sh
 	tools/cases.sh
@@ -32,4 +36,4 @@ quick:
 bench:
 	compare/run
 
-.PHONY: all install check edits quick bench
+.PHONY: all install check proofs-and-runs edits quick bench

@@ -1,4 +1,4 @@
-//! High dynamic range histograms, and their V2 bytes.
+//! High dynamic range histograms, their V2 bytes and logs of intervals. Version 1.0.0.
 #![tactic(auto)]
 
 pub mod laws;
