@@ -99,7 +99,7 @@ pub fn number(text: &[u8]) -> Option<u64>
 
 /// A number with one more decimal digit after it, where that fits.
 #[inline]
-fn append_digit(value: u64, digit: u64) -> Option<u64>
+pub fn append_digit(value: u64, digit: u64) -> Option<u64>
     requires { digit < 10 }
     ensures { MatchOption result (2 ^ 64 ≤ value * 10 + digit) (λ n. n ≡ value * 10 + digit) }
 {

@@ -1,17 +1,15 @@
 -- The number of a text's first field, digit by digit.
-use Rattle.std.proofs.Common.{◌≡◌, ℕ, zero, suc, ◌+◌, ◌-◌, ◌*◌, ◌%◌, ◌^◌, ◌<◌, ◌≤◌, ◌==◌, ◌&&◌, Bool, true, false, cond, nat_lt, List, [], ◌∷◌, length, take, drop, get_or, Option, Some, None, MatchOption, refl, sym, ap, subst, ◌∙◌, arith}
+use Rattle.std.proofs.Common.{◌≡◌, ℕ, zero, suc, ◌+◌, ◌-◌, ◌*◌, ◌%◌, ◌^◌, ◌<◌, ◌≤◌, ◌==◌, ◌&&◌, Bool, true, false, cond, nat_lt, List, [], ◌∷◌, length, take, drop, get_or, Option, Some, None, refl, sym, ap, ◌∙◌, arith, length-take, slice_range}
 use Rattle.std.specs.Option.{option_map}
 use Rattle.std.specs.List.{list_all, prefix_len}
 use Rattle.std.specs.Char.{is_ascii_digit, digit_value}
 use Rattle.std.specs.Str.Parse.{digits_value, digits_value_after}
 use Rattle.std.proofs.lemmas.Bool.{le-ltb, lt-ltb, ne_eqb}
-use Rattle.std.proofs.lemmas.List.{drop_more, drop_all}
+use Rattle.std.proofs.lemmas.List.{drop_more, drop_all, take_all}
 use Rattle.std.proofs.lemmas.Option.{same_Some}
-use Rattle.std.proofs.lemmas.List.Sums.{prefix_len_passes, prefix_len_stops, prefix_len-le-length}
 use Rattle.std.proofs.lemmas.Str.Parse.{digits_value_short}
-use Rattle.core.proofs.dec2flt.DigitsLemmas.{digits_value_after_is}
 use Rattle.hdr_log.specs.Parts.{number_of}
-use Rattle.hdr_log.proofs.PartsDigits.{own, are_digits}
+use Rattle.hdr_log.proofs.PartsDigits.{own}
 use Rattle.hdr_tool.specs.Lines.{Rest, Line, first_line}
 use Rattle.hdr_tool.proofs.LinesFirst.{with_byte, first_line-byte, first_line-none, some_byte}
 
@@ -92,42 +90,61 @@ begin_on false false b text l d = rw (nonempty b l.field, d) refl
 begin_other : (b : ℕ) (text : List ℕ) → is_ascii_digit b ≡ false → number_of (first_line (b ∷ text)).field ≡ None
 begin_other b text d = rw (first_line-byte b text) (begin_on (b == 10) (b == 32) b text (first_line text) d)
 
--- how many digits a text begins with, and their number
-abbrev pub digits_len : List ℕ → ℕ
-digits_len text = prefix_len is_ascii_digit text
-
-abbrev pub front : List ℕ → List ℕ
-front text = take (digits_len text) text
-
--- the digits at the front of a text are passed
-pass : (t : Bool) (v b : ℕ) (text : List ℕ) → is_ascii_digit b ≡ t
-    → number_on (v * 10 + digit_value b) (first_line text) ≡ number_on (digits_value_after 10 (v * 10 + digit_value b) (front text)) (first_line (drop (digits_len text) text))
-    → number_on v (first_line (b ∷ text)) ≡ number_on (digits_value_after 10 v (take (cond t (1 + digits_len text) 0) (b ∷ text))) (first_line (drop (cond t (1 + digits_len text) 0) (b ∷ text)))
-pass true v b text d h =
-    let on : 1 + digits_len text ≡ suc (digits_len text) = omega arith in
-    number_on-digit v b text d ∙ h ∙ sym (ap (λ n. number_on (digits_value_after 10 v (take n (b ∷ text))) (first_line (drop n (b ∷ text)))) on)
-pass false v b text d h = refl
-
-passes : (v : ℕ) (text : List ℕ) → number_on v (first_line text) ≡ number_on (digits_value_after 10 v (front text)) (first_line (drop (digits_len text) text))
-passes v [] = refl
-passes v (b ∷ text) = pass (is_ascii_digit b) v b text refl (passes (v * 10 + digit_value b) text)
-
-front_more : (t : Bool) (b : ℕ) (text : List ℕ) → is_ascii_digit b ≡ t → list_all is_ascii_digit (front text) ≡ true → list_all is_ascii_digit (take (cond t (1 + digits_len text) 0) (b ∷ text)) ≡ true
-front_more true b text d h =
-    let on : 1 + digits_len text ≡ suc (digits_len text) = omega arith in
-    subst (λ n. list_all is_ascii_digit (take n (b ∷ text)) ≡ true) (sym on) (rw d h)
-front_more false b text d h = refl
-
-pub front_digits : (text : List ℕ) → list_all is_ascii_digit (front text) ≡ true
-front_digits [] = refl
-front_digits (b ∷ text) = front_more (is_ascii_digit b) b text refl (front_digits text)
-
--- up to a place are all digits at the front, and spell this number
+-- bytes up to a place are digits, and spell this number
 pub record Spells (text : List ℕ) (at value : ℕ) : Type 0 where
-  pub at_end : at ≡ digits_len text
-  pub some : 0 < at
-  pub spelt : value ≡ digits_value 10 (front text)
+  pub same : number_on 0 (first_line text) ≡ number_on value (first_line (drop at text))
+  pub digit : 0 < at → is_ascii_digit (get_or text 0 0) ≡ true
   pub fits : value < 2 ^ 64
+
+-- digits at the front are passed
+pass : (k v : ℕ) (text : List ℕ) → k ≤ length text → list_all is_ascii_digit (take k text) ≡ true → number_on v (first_line text) ≡ number_on (digits_value_after 10 v (take k text)) (first_line (drop k text))
+pass zero v text l d = refl
+pass (suc k) v [] l d = absurd (omega arith)
+pass (suc k) v (b ∷ text) l d =
+    let one : is_ascii_digit b ≡ true = grind (arith, d) in
+    let all : list_all is_ascii_digit (take k text) ≡ true = grind (arith, d) in
+    number_on-digit v b text one ∙ pass k (v * 10 + digit_value b) text (omega arith) all
+
+first_of : (k : ℕ) (text : List ℕ) → k ≤ length text → list_all is_ascii_digit (take k text) ≡ true → 0 < k → is_ascii_digit (get_or text 0 0) ≡ true
+first_of zero text l d p = absurd (omega arith)
+first_of (suc k) [] l d p = absurd (omega arith)
+first_of (suc k) (b ∷ text) l d p = grind (arith, d)
+
+pub spells_front : (text : List ℕ) (at value : ℕ) → at ≤ 8 → at ≤ length text → list_all is_ascii_digit (take at text) ≡ true → value ≡ digits_value 10 (take at text) → Spells text at value
+spells_front text at value few l d e = record {
+  same = pass at 0 text l d ∙ ap (λ n. number_on n (first_line (drop at text))) (sym e);
+  digit = first_of at text l d;
+  fits = let h : digits_value 10 (take at text) < 10 ^ 8 = digits_value_short own (take at text) 8 d (omega (arith, length-take at text, few)) in omega (arith, e, h);
+}
+
+-- eight digits, as the kit reads them
+front_more : (t : Bool) (b : ℕ) (text : List ℕ) → is_ascii_digit b ≡ t → (prefix_len is_ascii_digit text ≡ length text → list_all is_ascii_digit text ≡ true) → cond t (1 + prefix_len is_ascii_digit text) 0 ≡ length (b ∷ text) → list_all is_ascii_digit (b ∷ text) ≡ true
+front_more true b text d h e = rw d (h (omega (arith, e)))
+front_more false b text d h e = absurd (omega (arith, e))
+
+pub all_digits : (text : List ℕ) → prefix_len is_ascii_digit text ≡ length text → list_all is_ascii_digit text ≡ true
+all_digits [] e = refl
+all_digits (b ∷ text) e = front_more (is_ascii_digit b) b text refl (all_digits text) e
+
+pub eight_value : (text : List ℕ) (k n : ℕ) → 8 ≤ length text → 8 ≤ k → k ≤ length (take 8 text) → k ≡ 0 + prefix_len is_ascii_digit (take 8 text) → n ≡ (0 * 10 ^ (k - 0) + digits_value 10 (slice_range (take 8 text) 0 k)) % 2 ^ 64 → n ≡ digits_value 10 (take 8 text)
+eight_value text k n l m w e v =
+    let len : length (take 8 text) ≡ 8 = omega (arith, length-take 8 text, l) in
+    let all : k ≡ length (take 8 text) = omega (arith, m, w, len) in
+    let h : digits_value 10 (take 8 text) < 10 ^ 8 = digits_value_short own (take 8 text) 8 (all_digits (take 8 text) (omega (arith, e, all))) (omega (arith, len)) in
+    let whole : slice_range (take 8 text) 0 k ≡ take 8 text = take_all (k - 0) (take 8 text) (omega (arith, all)) in
+    let v2 : n ≡ (0 * 10 ^ (k - 0) + digits_value 10 (take 8 text)) % 2 ^ 64 = v ∙ ap (λ xs. (0 * 10 ^ (k - 0) + digits_value 10 xs) % 2 ^ 64) whole in
+    omega (arith, v2, h)
+
+first_digit : (text : List ℕ) (at value : ℕ) → is_ascii_digit (get_or text at 0) ≡ true → Spells text at value → is_ascii_digit (get_or text 0 0) ≡ true
+first_digit text zero value d s = d
+first_digit text (suc at) value d s = s.digit (omega arith)
+
+pub spells_more : (text : List ℕ) (at value : ℕ) → at < length text → is_ascii_digit (get_or text at 0) ≡ true → value * 10 + digit_value (get_or text at 0) < 2 ^ 64 → Spells text at value → Spells text (at + 1) (value * 10 + digit_value (get_or text at 0))
+spells_more text at value l d h s = record {
+  same = s.same ∙ ap (λ x. number_on value (first_line x)) (drop_more text at 0 l) ∙ number_on-digit value (get_or text at 0) (drop (at + 1) text) d;
+  digit = λ p. first_digit text at value d s;
+  fits = h;
+}
 
 of_map : {A : Type 0} (o : Option ℕ) (n : ℕ) (x y : A) → option_map {U = ℕ × A} (λ m. (m, x)) o ≡ Some (n, y) → (o ≡ Some n) × (y ≡ x)
 of_map None n x y h = absurd cc
@@ -139,92 +156,57 @@ of_none : {A : Type 0} (o : Option ℕ) (x : A) → option_map {U = ℕ × A} (�
 of_none None x h = refl
 of_none (Some m) x h = absurd cc
 
-no_digit : (t : Bool) (b : ℕ) (text : List ℕ) → is_ascii_digit b ≡ t → cond t (1 + digits_len text) 0 ≡ 0 → is_ascii_digit b ≡ false
-no_digit true b text d e = absurd (omega (arith, e))
-no_digit false b text d e = d
-
 begins : (text : List ℕ) → 0 < length text → is_ascii_digit (get_or text 0 0) ≡ true → option_map {U = ℕ × Rest} (λ n. (n, (first_line text).rest)) (number_of (first_line text).field) ≡ number_on 0 (first_line text)
 begins [] l d = absurd (omega arith)
 begins (b ∷ text) l d = begin_digit b text d
 
-first_digit : (text : List ℕ) → 0 < digits_len text → is_ascii_digit (get_or text 0 0) ≡ true
-first_digit text l = prefix_len_passes is_ascii_digit text 0 0 l
-
-text_some : (text : List ℕ) → 0 < digits_len text → 0 < length text
-text_some text l = let h : digits_len text ≤ length text = prefix_len-le-length is_ascii_digit text in omega (arith, l, h)
-
 -- what the field's number is, and what is left, by what comes after the digits
-module _ (text : List ℕ) (at value : ℕ) (s : Spells text at value) where
-  digit : 0 < digits_len text
-  digit = subst (λ n. 0 < n) s.at_end s.some
-
-  same : number_on 0 (first_line text) ≡ number_on value (first_line (drop at text))
-  same = passes 0 text ∙ ap (λ n. number_on n (first_line (drop (digits_len text) text))) (sym s.spelt) ∙ ap (λ n. number_on value (first_line (drop n text))) (sym s.at_end)
-
+module _ (text : List ℕ) (at value : ℕ) (some : 0 < length text) (pos : 0 < at) (s : Spells text at value) where
   found : (rest : Rest) → number_on value (first_line (drop at text)) ≡ Some (value, rest) → (number_of (first_line text).field ≡ Some value) × (rest ≡ (first_line text).rest)
-  found rest h = of_map (number_of (first_line text).field) value (first_line text).rest rest (begins text (text_some text digit) (first_digit text digit) ∙ same ∙ h)
+  found rest h = of_map (number_of (first_line text).field) value (first_line text).rest rest (begins text some (s.digit pos) ∙ s.same ∙ h)
 
   none : number_on value (first_line (drop at text)) ≡ None → number_of (first_line text).field ≡ None
-  none h = of_none (number_of (first_line text).field) (first_line text).rest (begins text (text_some text digit) (first_digit text digit) ∙ same ∙ h)
+  none h = of_none (number_of (first_line text).field) (first_line text).rest (begins text some (s.digit pos) ∙ s.same ∙ h)
 
-pub number_space : (text later : List ℕ) (at value : ℕ) → at < length text → later ≡ drop (at + 1) text → get_or text at 0 ≡ 32 → Spells text at value →
+pub number_space : (text later : List ℕ) (at value : ℕ) → at < length text → later ≡ drop (at + 1) text → get_or text at 0 ≡ 32 → 0 < at → Spells text at value →
     (number_of (first_line text).field ≡ Some value) × (record { fields = (first_line later).field ∷ (first_line later).rest.fields; after = (first_line later).rest.after } ≡ (first_line text).rest)
-number_space text later at value l q e s =
+number_space text later at value l q e pos s =
     let d : drop at text ≡ 32 ∷ later = drop_more text at 0 l ∙ ap (λ b. b ∷ drop (at + 1) text) e ∙ ap (λ x. 32 ∷ x) (sym q) in
-    found text at value s (record { fields = (first_line later).field ∷ (first_line later).rest.fields; after = (first_line later).rest.after }) (ap (λ x. number_on value (first_line x)) d ∙ number_on-space value later s.fits)
+    found text at value (omega arith) pos s (record { fields = (first_line later).field ∷ (first_line later).rest.fields; after = (first_line later).rest.after }) (ap (λ x. number_on value (first_line x)) d ∙ number_on-space value later s.fits)
 
-pub number_end : (text later : List ℕ) (at value : ℕ) → at < length text → later ≡ drop (at + 1) text → get_or text at 0 ≡ 10 → Spells text at value →
+pub number_end : (text later : List ℕ) (at value : ℕ) → at < length text → later ≡ drop (at + 1) text → get_or text at 0 ≡ 10 → 0 < at → Spells text at value →
     (number_of (first_line text).field ≡ Some value) × (record { fields = []; after = Some later } ≡ (first_line text).rest)
-number_end text later at value l q e s =
+number_end text later at value l q e pos s =
     let d : drop at text ≡ 10 ∷ later = drop_more text at 0 l ∙ ap (λ b. b ∷ drop (at + 1) text) e ∙ ap (λ x. 10 ∷ x) (sym q) in
-    found text at value s (record { fields = []; after = Some later }) (ap (λ x. number_on value (first_line x)) d ∙ number_on-end value later s.fits)
+    found text at value (omega arith) pos s (record { fields = []; after = Some later }) (ap (λ x. number_on value (first_line x)) d ∙ number_on-end value later s.fits)
 
-pub number_all : (text : List ℕ) (at value : ℕ) → length text ≤ at → Spells text at value →
+pub number_all : (text : List ℕ) (at value : ℕ) → (length text == 0) ≡ false → length text ≤ at → Spells text at value →
     (number_of (first_line text).field ≡ Some value) × (record { fields = []; after = None } ≡ (first_line text).rest)
-number_all text at value m s =
-    found text at value s (record { fields = []; after = None }) (ap (λ x. number_on value (first_line x)) (drop_all at text m) ∙ number_on-none value s.fits)
+number_all text at value e m s =
+    let l = some_byte text e in
+    found text at value l (omega arith) s (record { fields = []; after = None }) (ap (λ x. number_on value (first_line x)) (drop_all at text m) ∙ number_on-none value s.fits)
 
--- no number is spelled by no digit, by digits of more than 64 bits, and where another byte comes
-pub number_nothing : (text : List ℕ) → digits_len text ≡ 0 → number_of (first_line text).field ≡ None
+-- nothing is spelled by no byte, by a number of more than 64 bits, and where another byte comes
+pub number_nothing : (text : List ℕ) → (length text == 0) ≡ true → number_of (first_line text).field ≡ None
 unfolding number_of
 number_nothing [] e = rw first_line-none refl
-number_nothing (b ∷ text) e = begin_other b text (no_digit (is_ascii_digit b) b text refl e)
+number_nothing (b ∷ text) e = absurd (let f : false ≡ true = sym (nonempty b text) ∙ e in cc)
 
-pub number_great : (text : List ℕ) → 0 < digits_len text → 2 ^ 64 ≤ digits_value 10 (front text) → number_of (first_line text).field ≡ None
-number_great text l h =
-    of_none (number_of (first_line text).field) (first_line text).rest (begins text (text_some text l) (first_digit text l) ∙ passes 0 text ∙ number_on-great (digits_value 10 (front text)) (first_line (drop (digits_len text) text)) h)
+-- the digits and one more pass 64 bits
+great : (text : List ℕ) (at value : ℕ) → at < length text → is_ascii_digit (get_or text at 0) ≡ true → 2 ^ 64 ≤ value * 10 + digit_value (get_or text at 0) → Spells text at value → number_on value (first_line (drop at text)) ≡ None
+great text at value l d h s =
+    ap (λ x. number_on value (first_line x)) (drop_more text at 0 l) ∙ number_on-digit value (get_or text at 0) (drop (at + 1) text) d ∙ number_on-great (value * 10 + digit_value (get_or text at 0)) (first_line (drop (at + 1) text)) h
 
-pub number_other : (text : List ℕ) (at value : ℕ) → at < length text → (get_or text at 0 ≡ 10 → ⊥) → (get_or text at 0 ≡ 32 → ⊥) → Spells text at value → number_of (first_line text).field ≡ None
-number_other text at value l e w s =
+pub number_great : (text : List ℕ) (at value : ℕ) → at < length text → is_ascii_digit (get_or text at 0) ≡ true → 2 ^ 64 ≤ value * 10 + digit_value (get_or text at 0) → Spells text at value → number_of (first_line text).field ≡ None
+number_great text at value l d h s =
+    of_none (number_of (first_line text).field) (first_line text).rest (begins text (omega arith) (first_digit text at value d s) ∙ s.same ∙ great text at value l d h s)
+
+pub number_begun : (text : List ℕ) (at : ℕ) → at < length text → at ≡ 0 → (is_ascii_digit (get_or text at 0) ≡ true → ⊥) → number_of (first_line text).field ≡ None
+number_begun [] at l e d = absurd (omega arith)
+number_begun (b ∷ text) zero l e d = begin_other b text (not_true (is_ascii_digit b) d)
+number_begun (b ∷ text) (suc at) l e d = absurd (omega (arith, e))
+
+pub number_other : (text : List ℕ) (at value : ℕ) → at < length text → (is_ascii_digit (get_or text at 0) ≡ true → ⊥) → (get_or text at 0 ≡ 10 → ⊥) → (get_or text at 0 ≡ 32 → ⊥) → 0 < at → Spells text at value → number_of (first_line text).field ≡ None
+number_other text at value l d e w pos s =
     let b = get_or text at 0 in
-    let d : is_ascii_digit (get_or text at 0) ≡ false = subst (λ n. is_ascii_digit (get_or text n 0) ≡ false) (sym s.at_end) (prefix_len_stops is_ascii_digit text 0 (subst (λ n. n < length text) s.at_end l)) in
-    none text at value s (ap (λ x. number_on value (first_line x)) (drop_more text at 0 l) ∙ number_on-other value b (drop (at + 1) text) d (ne_eqb b 10 e) (ne_eqb b 32 w))
-
--- digits that spell less than 2 ^ 64 are spelt by the lowest 64 bits
-pub few_digits : (ds : List ℕ) (w : ℕ) → list_all is_ascii_digit ds ≡ true → length ds < 20 → w ≡ digits_value 10 ds % 2 ^ 64 → (w ≡ digits_value 10 ds) × (w < 2 ^ 64)
-few_digits ds w d l e = let h : digits_value 10 ds < 10 ^ 19 = digits_value_short own ds 19 d (omega (arith, l)) in (omega (arith, h, e), omega (arith, h, e))
-
--- 20 digits, of which the first is 1
-twenty : (ds : List ℕ) → list_all is_ascii_digit ds ≡ true → length ds ≡ 20 → get_or ds 0 0 ≡ 49 → (10 ^ 19 ≤ digits_value 10 ds) × (digits_value 10 ds < 2 * 10 ^ 19)
-twenty [] d l f = absurd (omega (arith, l))
-twenty (b ∷ ds) d l f =
-    let all : list_all is_ascii_digit ds ≡ true = grind (arith, d) in
-    let len : length ds ≡ 19 = omega (arith, l) in
-    let h : digits_value 10 ds < 10 ^ 19 = digits_value_short own ds 19 all (omega (arith, len)) in
-    let e : digits_value 10 (b ∷ ds) ≡ 1 * 10 ^ 19 + digits_value 10 ds = ap (λ x. digits_value 10 (x ∷ ds)) f ∙ digits_value_after_is 1 ds ∙ ap (λ n. 1 * 10 ^ n + digits_value 10 ds) len in
-    (omega (arith, h, e), omega (arith, h, e))
-
-pub twenty_fit : (ds : List ℕ) (w : ℕ) → list_all is_ascii_digit ds ≡ true → length ds ≡ 20 → get_or ds 0 0 ≡ 49 → w ≡ digits_value 10 ds % 2 ^ 64 → 10 ^ 19 ≤ w → (w ≡ digits_value 10 ds) × (w < 2 ^ 64)
-twenty_fit ds w d l f e g = let t = twenty ds d l f in (omega (arith, t.0, t.1, e, g), omega (arith, t.0, t.1, e, g))
-
-pub twenty_great : (ds : List ℕ) (w : ℕ) → list_all is_ascii_digit ds ≡ true → length ds ≡ 20 → get_or ds 0 0 ≡ 49 → w ≡ digits_value 10 ds % 2 ^ 64 → w < 10 ^ 19 → 2 ^ 64 ≤ digits_value 10 ds
-twenty_great ds w d l f e g = let t = twenty ds d l f in omega (arith, t.0, t.1, e, g)
-
--- any digits, by `number_of`
-pub many_digits : (ds : List ℕ) (o : Option ℕ) → list_all is_ascii_digit ds ≡ true → 0 < length ds → o ≡ number_of ds → MatchOption o (2 ^ 64 ≤ digits_value 10 ds) (λ n. (n ≡ digits_value 10 ds) × (n < 2 ^ 64))
-unfolding number_of
-many_digits ds o d l e = rw (e, are_digits ds l d) (by_test (nat_lt (digits_value 10 ds) (2 ^ 64)) refl)
-  where
-    by_test : (t : Bool) → nat_lt (digits_value 10 ds) (2 ^ 64) ≡ t → MatchOption (cond t (Some (digits_value 10 ds)) None) (2 ^ 64 ≤ digits_value 10 ds) (λ n. (n ≡ digits_value 10 ds) × (n < 2 ^ 64))
-    by_test true h = (refl, grind (arith, h))
-    by_test false h = grind (arith, h)
+    none text at value (omega arith) pos s (ap (λ x. number_on value (first_line x)) (drop_more text at 0 l) ∙ number_on-other value b (drop (at + 1) text) (not_true (is_ascii_digit b) d) (ne_eqb b 10 e) (ne_eqb b 32 w))

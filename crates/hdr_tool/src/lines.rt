@@ -1,6 +1,6 @@
 //! The lines of a text and their fields, each read once, as its bytes come.
 
-ghost use Rattle.std.specs.Prelude.{◌≡◌, ◌≢◌, ◌+◌, ◌<◌, ◌≤◌, ◌%◌, ◌^◌, length, [], MatchOption, Some, None, true};
+ghost use Rattle.std.specs.Prelude.{◌≡◌, ◌≢◌, ◌+◌, ◌<◌, ◌≤◌, ◌^◌, length, take, [], MatchOption, Some, None, true};
 ghost use Rattle.std.specs.Option.{option_map};
 ghost use Rattle.std.specs.List.{list_all};
 ghost use Rattle.std.specs.Char.{is_ascii_digit};
@@ -9,7 +9,7 @@ ghost use Rattle.hdr_log.specs.Parts.{number_of};
 ghost use Rattle.hdr_tool.specs.Lines.{number_lines, first_line, view_of_left};
 
 use core::dec2flt::read_digits;
-use hdr_log::parts::number;
+use hdr_log::parts::append_digit;
 
 /// What is left of a text after a field of its first line.
 #[derive(Clone, Copy)]
@@ -43,48 +43,46 @@ pub(crate) fn number_field(text: &[u8]) -> Option<(u64, Left<'_>)>
     ensures { let line = first_line text.now in MatchOption result (number_of line.field ≡ None)
         (λ p. (number_of line.field ≡ Some p.0) × (view_of_left p.1 ≡ line.rest)) }
 {
-    let read = read_digits(text, 0, 0);
-    let end = read.0;
-    if end == 0 {
+    let (mut at, mut value) = eight_digits(text);
+    while at < text.len() {
+        let byte = text[at];
+        if byte.is_ascii_digit() {
+            value = append_digit(value, u64::from(byte - b'0'))?;
+            at += 1;
+            continue;
+        }
+        if at == 0 {
+            return None;
+        }
+        if byte == b' ' {
+            return Some((value, Left::Fields(&text[at + 1..])));
+        }
+        if byte == b'\n' {
+            return Some((value, Left::Lines(Some(&text[at + 1..]))));
+        }
         return None;
     }
-    let value = exact(&text[..end], read.1)?;
-    if end == text.len() {
-        return Some((value, Left::Lines(None)));
+    if text.is_empty() {
+        return None;
     }
-    if text[end] == b' ' {
-        return Some((value, Left::Fields(&text[end + 1..])));
-    }
-    if text[end] == b'\n' {
-        return Some((value, Left::Lines(Some(&text[end + 1..]))));
-    }
-    None
+    Some((value, Left::Lines(None)))
 }
 
-/// The least number that 20 digits spell, of which the first is 1.
-const LEAST_OF_TWENTY: u64 = 10_000_000_000_000_000_000;
-
-/// The number that digits spell, of which these are the lowest 64 bits; `None` where it has more.
+/// How many digits are read at the front of a text, eight or none, and their number.
 #[inline(always)]
-fn exact(digits: &[u8], wrapped: u64) -> Option<u64>
-    requires digits { list_all is_ascii_digit digits.now ≡ true }
-    requires wrapped { wrapped ≡ digits_value 10 digits.now % 2 ^ 64 }
-    ensures { MatchOption result (2 ^ 64 ≤ digits_value 10 digits.now)
-        (λ n. (n ≡ digits_value 10 digits.now) × (n < 2 ^ 64)) }
+fn eight_digits(text: &[u8]) -> (usize, u64)
+    ensures few { (result.0 ≤ 8) × (result.0 ≤ length text.now) }
+    ensures digits { list_all is_ascii_digit (take result.0 text.now) ≡ true }
+    ensures value { result.1 ≡ digits_value 10 (take result.0 text.now) }
 {
-    if digits.len() < 20 {
-        return Some(wrapped);
+    if text.len() < 8 {
+        return (0, 0);
     }
-    if digits.len() > 20 {
-        return number(digits);
+    let read = read_digits(&text[..8], 0, 0);
+    if read.0 < 8 {
+        return (0, 0);
     }
-    if digits[0] != b'1' {
-        return number(digits);
-    }
-    if wrapped < LEAST_OF_TWENTY {
-        return None;
-    }
-    Some(wrapped)
+    (8, read.1)
 }
 
 /// What follows an empty line that a text begins with; `None` where its first line is not empty.

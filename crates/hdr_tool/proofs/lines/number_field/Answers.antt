@@ -1,45 +1,41 @@
-use Rattle.std.proofs.Common.{◌≡◌, ℕ, ◌+◌, ◌<◌, ◌≤◌, ◌^◌, List, length, take, true, sym, ap, subst, ◌∙◌, arith}
-use Rattle.std.specs.List.{list_all}
-use Rattle.std.specs.Char.{is_ascii_digit}
-use Rattle.std.specs.Str.Parse.{digits_value}
+use Rattle.std.proofs.Common.{◌≡◌, true, ◌+◌, ◌*◌, ◌≤◌, ◌^◌, get_or, subst, sym, arith, ◌∙◌}
+use Rattle.std.specs.Char.{is_ascii_digit, digit_value}
+use Rattle.std.proofs.lemmas.Bool.{both_ways}
 use Rattle.hdr_tool.proofs.LinesFirst.{left_all}
-use Rattle.hdr_tool.proofs.LinesNumbers.{Spells, digits_len, front_digits, number_space, number_end, number_all, number_nothing, number_great, number_other}
+use Rattle.hdr_tool.proofs.LinesNumbers.{Spells, digit_less, spells_front, spells_more, number_space, number_end, number_all, number_nothing, number_great, number_begun, number_other}
 use Rattle.hdr_tool.proofs.lines.number_field.Goals as goal
 
-spells : (text : List ℕ) (at value : ℕ) → at ≡ digits_len text → (at ≡ 0 → ⊥) → (value ≡ digits_value 10 (take at text)) × (value < 2 ^ 64) → Spells text at value
-spells text at value e n v = record { at_end = e; some = omega (arith, n); spelt = v.0 ∙ ap (λ k. digits_value 10 (take k text)) e; fits = v.1 }
-
-pub returns-then-end-eq0 : goal.returns-then-end-eq0
-returns-then-end-eq0 c = number_nothing c.args.text.now (omega (arith, c.read_digits-read.ensures.end, c.if-end-eq0.true))
-
-pub exact-requires-clause-digits : goal.exact-requires-clause-digits
-exact-requires-clause-digits c =
-    let e : c.read_digits-read.result.0 ≡ digits_len c.args.text.now = omega (arith, c.read_digits-read.ensures.end) in
-    subst (λ n. list_all is_ascii_digit (take n c.args.text.now) ≡ true) (sym e) (front_digits c.args.text.now)
+pub loop-at-init : goal.loop-at-init
+loop-at-init c = spells_front c.args.text.now c.eight_digits-at.result.0 c.eight_digits-at.result.1 c.eight_digits-at.ensures.few.0 c.eight_digits-at.ensures.few.1 c.eight_digits-at.ensures.digits c.eight_digits-at.ensures.value
 
 pub returns-in_err-value : goal.returns-in_err-value
 returns-in_err-value c =
-    let e : c.read_digits-read.result.0 ≡ digits_len c.args.text.now = omega (arith, c.read_digits-read.ensures.end) in
-    rw c.from_residual.ensures (number_great c.args.text.now (omega (arith, e, c.if-end-eq0.false)) (subst (λ n. 2 ^ 64 ≤ digits_value 10 (take n c.args.text.now)) e c.in_err-value.ensures))
+    let text = c.args.text.now in
+    let digit : is_ascii_digit (get_or text c.loop-at.at 0) ≡ true = sym c.is_ascii_digit.ensures.value ∙ c.if-is_ascii_digit.true in
+    let great : 2 ^ 64 ≤ c.loop-at.value * 10 + digit_value (get_or text c.loop-at.at 0) = omega (arith, c.in_err-value.ensures, digit_less (get_or text c.loop-at.at 0) digit) in
+    rw c.from_residual.ensures (number_great text c.loop-at.at c.loop-at.value c.loop-at-test.true digit great c.loop-at.invariant)
 
-pub returns-then-end-text : goal.returns-then-end-text
-returns-then-end-text c =
-    let e : c.read_digits-read.result.0 ≡ digits_len c.args.text.now = omega (arith, c.read_digits-read.ensures.end) in
-    number_all c.args.text.now c.read_digits-read.result.0 c.in_ok-value.value (omega (arith, c.if-end-text.true)) (spells _ _ _ e c.if-end-eq0.false c.in_ok-value.ensures)
+pub loop-at-preserved : goal.loop-at-preserved
+loop-at-preserved c =
+    let text = c.args.text.now in
+    let digit : is_ascii_digit (get_or text c.loop-at.at 0) ≡ true = sym c.is_ascii_digit.ensures.value ∙ c.if-is_ascii_digit.true in
+    let e : c.loop-at.value * 10 + digit_value (get_or text c.loop-at.at 0) ≡ c.in_ok-value.value = omega (arith, c.in_ok-value.ensures, digit_less (get_or text c.loop-at.at 0) digit) in
+    subst (λ n. Spells text (c.loop-at.at + 1) n) e (spells_more text c.loop-at.at c.loop-at.value c.loop-at-test.true digit (omega (arith, c.in_ok-value.ensures, digit_less (get_or text c.loop-at.at 0) digit)) c.loop-at.invariant)
 
-pub returns-then-text-end-eq32 : goal.returns-then-text-end-eq32
-returns-then-text-end-eq32 c =
-    let e : c.read_digits-read.result.0 ≡ digits_len c.args.text.now = omega (arith, c.read_digits-read.ensures.end) in
-    number_space c.args.text.now _ c.read_digits-read.result.0 c.in_ok-value.value (omega (arith, c.read_digits-read.ensures.within, c.if-end-text.false)) (left_all (c.read_digits-read.result.0 + 1) c.args.text.now) c.if-text-end-eq32.true
-    (spells _ _ _ e c.if-end-eq0.false c.in_ok-value.ensures)
+pub returns-then-at-eq0 : goal.returns-then-at-eq0
+returns-then-at-eq0 c = number_begun c.args.text.now c.loop-at.at c.loop-at-test.true c.if-at-eq0.true (λ d. both_ways _ (sym c.is_ascii_digit.ensures.value ∙ c.if-is_ascii_digit.false) d)
 
-pub returns-then-text-end-eq10 : goal.returns-then-text-end-eq10
-returns-then-text-end-eq10 c =
-    let e : c.read_digits-read.result.0 ≡ digits_len c.args.text.now = omega (arith, c.read_digits-read.ensures.end) in
-    number_end c.args.text.now _ c.read_digits-read.result.0 c.in_ok-value.value (omega (arith, c.read_digits-read.ensures.within, c.if-end-text.false)) (left_all (c.read_digits-read.result.0 + 1) c.args.text.now) c.if-text-end-eq10.true
-    (spells _ _ _ e c.if-end-eq0.false c.in_ok-value.ensures)
+pub returns-then-byte-eq32 : goal.returns-then-byte-eq32
+returns-then-byte-eq32 c = number_space c.args.text.now _ c.loop-at.at c.loop-at.value c.loop-at-test.true (left_all (c.loop-at.at + 1) c.args.text.now) c.if-byte-eq32.true (omega (arith, c.if-at-eq0.false)) c.loop-at.invariant
+
+pub returns-then-byte-eq10 : goal.returns-then-byte-eq10
+returns-then-byte-eq10 c = number_end c.args.text.now _ c.loop-at.at c.loop-at.value c.loop-at-test.true (left_all (c.loop-at.at + 1) c.args.text.now) c.if-byte-eq10.true (omega (arith, c.if-at-eq0.false)) c.loop-at.invariant
+
+pub returns-in-loop-at : goal.returns-in-loop-at
+returns-in-loop-at c = number_other c.args.text.now c.loop-at.at c.loop-at.value c.loop-at-test.true (λ d. both_ways _ (sym c.is_ascii_digit.ensures.value ∙ c.if-is_ascii_digit.false) d) c.if-byte-eq10.false c.if-byte-eq32.false (omega (arith, c.if-at-eq0.false)) c.loop-at.invariant
+
+pub returns-then-is_empty : goal.returns-then-is_empty
+returns-then-is_empty c = number_nothing c.args.text.now (sym c.is_empty.ensures ∙ c.if-is_empty.true)
 
 pub returns : goal.returns
-returns c =
-    let e : c.read_digits-read.result.0 ≡ digits_len c.args.text.now = omega (arith, c.read_digits-read.ensures.end) in
-    number_other c.args.text.now c.read_digits-read.result.0 c.in_ok-value.value (omega (arith, c.read_digits-read.ensures.within, c.if-end-text.false)) c.if-text-end-eq10.false c.if-text-end-eq32.false (spells _ _ _ e c.if-end-eq0.false c.in_ok-value.ensures)
+returns c = number_all c.args.text.now c.loop-at.at c.loop-at.value (sym c.is_empty.ensures ∙ c.if-is_empty.false) c.loop-at-test.false c.loop-at.invariant
