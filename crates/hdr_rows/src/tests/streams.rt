@@ -191,6 +191,46 @@ fn readers_of_bytes(rt: HostRuntime) -> Result<(), Fail> {
     Ok(())
 }
 
+/// Places in the bytes of the first run, what stands there in their stead, and how many bytes are then taken: those up to and
+/// including the field that is refused, or the whole payload.
+const REFUSED: [(usize, u8, usize); 7] = [
+    (0, 0, 4),
+    (3, 0x14, 4),
+    (11, 1, 12),
+    (14, 1, 16),
+    (15, 6, 40),
+    (32, 0, 40),
+    (42, 0x80, 43),
+];
+
+/// Nothing is taken after what decides a refusal, and an early end is told as such.
+#[test]
+fn refused_bytes(rt: HostRuntime) -> Result<(), Fail> {
+    let mut deserializer = Deserializer::new(rt.alloc());
+    for (place, byte, taken) in REFUSED {
+        let mut text = FIRST_RUN;
+        if let Some(there) = text.get_mut(place) {
+            *there = byte;
+        }
+        let mut source = Source {
+            left: text.as_slice(),
+            calls: 0,
+            fails_at: 0,
+            kind: ErrorKind::Other,
+        };
+        let left = 43usize.saturating_sub(taken);
+        match deserializer.deserialize::<u64, Source>(&mut source) {
+            Ok(_) => return Err(Fail::from("it was read")),
+            Err(DeserializeError::IoError(cause)) => {
+                assert_eq!(rt; cause.kind(), ErrorKind::UnexpectedEof)
+            }
+            Err(_) => {}
+        }
+        assert_eq!(rt; source.left.len(), left, "byte {place}");
+    }
+    Ok(())
+}
+
 /// The greatest number, spelt in nine bytes, and a byte after it.
 const GREATEST: [u8; 10] = [0xff, 0xff, 0xff, 0xff, 0xff, 0xff, 0xff, 0xff, 0xff, 7];
 

@@ -1,8 +1,8 @@
 //! The texts of errors that no row meets: those of memory and of streams, and those that a usize of 64 bits never brings.
 
 use hdr_core::{AdditionError, CallError, CreationError, RecordError, UsizeTypeTooSmall};
-use hdrhistogram::serialization::interval_log::{CommentError, IntervalLogWriterError};
-use hdrhistogram::serialization::{DeserializeError, V2SerializeError};
+use hdrhistogram::serialization::interval_log::{CommentError, IntervalLogWriterError, MergeError};
+use hdrhistogram::serialization::{DeserializeError, FieldDecodeError, V2SerializeError};
 use std::fmt::Display;
 use std::io::{Error, ErrorKind};
 use std::process::Abort;
@@ -57,6 +57,17 @@ fn texts_of_usize(rt: HostRuntime) -> Result<(), Fail> {
 
 fn cause() -> Error {
     Error::from(ErrorKind::WriteZero)
+}
+
+#[test]
+fn texts_of_merges(rt: HostRuntime) -> Result<(), Fail> {
+    says(
+        &rt,
+        &MergeError::Creation(CreationError::SigFigExceedsMax),
+        "Number of significant digits must be in the range `[0, 5]`",
+    )?;
+    says(&rt, &FieldDecodeError::OutOfMemory, OUT_OF_MEMORY)?;
+    says(&rt, &MergeError::OutOfMemory, OUT_OF_MEMORY)
 }
 
 #[test]
