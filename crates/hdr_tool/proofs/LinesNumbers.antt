@@ -1,15 +1,13 @@
 -- The number of a text's first field, digit by digit.
-use Rattle.std.proofs.Common.{◌≡◌, ℕ, zero, suc, ◌+◌, ◌-◌, ◌*◌, ◌%◌, ◌^◌, ◌<◌, ◌≤◌, ◌==◌, ◌&&◌, Bool, true, false, cond, nat_lt, List, [], ◌∷◌, length, take, drop, get_or, Option, Some, None, refl, sym, ap, ◌∙◌, arith, length-take, slice_range}
+use Rattle.std.proofs.Common.{◌≡◌, ℕ, zero, suc, ◌+◌, ◌-◌, ◌*◌, ◌^◌, ◌<◌, ◌≤◌, ◌==◌, ◌&&◌, Bool, true, false, cond, nat_lt, List, [], ◌∷◌, length, drop, get_or, Option, Some, None, refl, sym, ap, ◌∙◌, arith, lit<}
 use Rattle.std.specs.Option.{option_map}
-use Rattle.std.specs.List.{list_all, prefix_len}
+use Rattle.std.specs.List.{list_all}
 use Rattle.std.specs.Char.{is_ascii_digit, digit_value}
-use Rattle.std.specs.Str.Parse.{digits_value, digits_value_after}
+use Rattle.std.specs.Str.Parse.{digits_value_after}
 use Rattle.std.proofs.lemmas.Bool.{le-ltb, lt-ltb, ne_eqb}
-use Rattle.std.proofs.lemmas.List.{drop_more, drop_all, take_all}
+use Rattle.std.proofs.lemmas.List.{drop_more, drop_all}
 use Rattle.std.proofs.lemmas.Option.{same_Some}
-use Rattle.std.proofs.lemmas.Str.Parse.{digits_value_short}
 use Rattle.hdr_log.specs.Parts.{number_of}
-use Rattle.hdr_log.proofs.PartsDigits.{own}
 use Rattle.hdr_tool.specs.Lines.{Rest, Line, first_line}
 use Rattle.hdr_tool.proofs.LinesFirst.{with_byte, first_line-byte, first_line-none, some_byte}
 
@@ -96,44 +94,8 @@ pub record Spells (text : List ℕ) (at value : ℕ) : Type 0 where
   pub digit : 0 < at → is_ascii_digit (get_or text 0 0) ≡ true
   pub fits : value < 2 ^ 64
 
--- digits at the front are passed
-pass : (k v : ℕ) (text : List ℕ) → k ≤ length text → list_all is_ascii_digit (take k text) ≡ true → number_on v (first_line text) ≡ number_on (digits_value_after 10 v (take k text)) (first_line (drop k text))
-pass zero v text l d = refl
-pass (suc k) v [] l d = absurd (omega arith)
-pass (suc k) v (b ∷ text) l d =
-    let one : is_ascii_digit b ≡ true = grind (arith, d) in
-    let all : list_all is_ascii_digit (take k text) ≡ true = grind (arith, d) in
-    number_on-digit v b text one ∙ pass k (v * 10 + digit_value b) text (omega arith) all
-
-first_of : (k : ℕ) (text : List ℕ) → k ≤ length text → list_all is_ascii_digit (take k text) ≡ true → 0 < k → is_ascii_digit (get_or text 0 0) ≡ true
-first_of zero text l d p = absurd (omega arith)
-first_of (suc k) [] l d p = absurd (omega arith)
-first_of (suc k) (b ∷ text) l d p = grind (arith, d)
-
-pub spells_front : (text : List ℕ) (at value : ℕ) → at ≤ 8 → at ≤ length text → list_all is_ascii_digit (take at text) ≡ true → value ≡ digits_value 10 (take at text) → Spells text at value
-spells_front text at value few l d e = record {
-  same = pass at 0 text l d ∙ ap (λ n. number_on n (first_line (drop at text))) (sym e);
-  digit = first_of at text l d;
-  fits = let h : digits_value 10 (take at text) < 10 ^ 8 = digits_value_short own (take at text) 8 d (omega (arith, length-take at text, few)) in omega (arith, e, h);
-}
-
--- eight digits, as the kit reads them
-front_more : (t : Bool) (b : ℕ) (text : List ℕ) → is_ascii_digit b ≡ t → (prefix_len is_ascii_digit text ≡ length text → list_all is_ascii_digit text ≡ true) → cond t (1 + prefix_len is_ascii_digit text) 0 ≡ length (b ∷ text) → list_all is_ascii_digit (b ∷ text) ≡ true
-front_more true b text d h e = rw d (h (omega (arith, e)))
-front_more false b text d h e = absurd (omega (arith, e))
-
-pub all_digits : (text : List ℕ) → prefix_len is_ascii_digit text ≡ length text → list_all is_ascii_digit text ≡ true
-all_digits [] e = refl
-all_digits (b ∷ text) e = front_more (is_ascii_digit b) b text refl (all_digits text) e
-
-pub eight_value : (text : List ℕ) (k n : ℕ) → 8 ≤ length text → 8 ≤ k → k ≤ length (take 8 text) → k ≡ 0 + prefix_len is_ascii_digit (take 8 text) → n ≡ (0 * 10 ^ (k - 0) + digits_value 10 (slice_range (take 8 text) 0 k)) % 2 ^ 64 → n ≡ digits_value 10 (take 8 text)
-eight_value text k n l m w e v =
-    let len : length (take 8 text) ≡ 8 = omega (arith, length-take 8 text, l) in
-    let all : k ≡ length (take 8 text) = omega (arith, m, w, len) in
-    let h : digits_value 10 (take 8 text) < 10 ^ 8 = digits_value_short own (take 8 text) 8 (all_digits (take 8 text) (omega (arith, e, all))) (omega (arith, len)) in
-    let whole : slice_range (take 8 text) 0 k ≡ take 8 text = take_all (k - 0) (take 8 text) (omega (arith, all)) in
-    let v2 : n ≡ (0 * 10 ^ (k - 0) + digits_value 10 (take 8 text)) % 2 ^ 64 = v ∙ ap (λ xs. (0 * 10 ^ (k - 0) + digits_value 10 xs) % 2 ^ 64) whole in
-    omega (arith, v2, h)
+pub spells_none : (text : List ℕ) → Spells text 0 0
+spells_none text = record { same = refl; digit = λ l. absurd (omega (arith, l)); fits = lit< tt }
 
 first_digit : (text : List ℕ) (at value : ℕ) → is_ascii_digit (get_or text at 0) ≡ true → Spells text at value → is_ascii_digit (get_or text 0 0) ≡ true
 first_digit text zero value d s = d

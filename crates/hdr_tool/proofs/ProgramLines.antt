@@ -1,20 +1,24 @@
 -- What a line does, by its fields.
-use Rattle.std.proofs.Common.{◌≡◌, ℕ, List, [], ◌∷◌, Option, Some, None, Result, Ok, Err, refl, sym, ap, ◌∙◌, subst}
+use Rattle.std.proofs.Common.{◌≡◌, ℕ, ◌≤◌, ◌==◌, true, false, List, [], ◌∷◌, length, drop, get_or, arith, Option, Some, None, Result, Ok, Err, MatchResult, OnOk, IfErr, ◌^◌, ◌-◌, refl, sym, ap, ◌∙◌, subst}
 use Rattle.hdr_model.specs.Plain.{Plain}
 use Rattle.hdr_core.specs.declared.call.Call.{Call}
 use Rattle.hdr_core.specs.declared.call.CallError.{CallError}
 use Rattle.hdr_core.specs.declared.call.CallError.TheVariants as cause
 use Rattle.hdr_model.specs.declared.errors.RecordError.TheVariants as record_error
 use Rattle.hdr_model.specs.declared.errors.AdditionError.TheVariants as addition_error
-use Rattle.hdr_log.specs.Parts.{parts}
+use Rattle.hdr_core.specs.declared.call.Call.TheVariants.{Record, Clamp}
+use Rattle.hdr_core.specs.Calls.{after_call, RefusesCall}
+use Rattle.hdr_log.specs.Parts.{parts, number_of}
 use Rattle.hdr_tool.specs.declared.fault.Fault.{Fault}
 use Rattle.hdr_tool.specs.declared.fault.Fault.TheVariants.{WrongWords, NotACommand, Refused, NotWritten, NotALog, NotBase64, NotRead, NoMemory, CannotRead, CannotWrite}
-use Rattle.hdr_tool.specs.Lines.{Rest, first_line}
-use Rattle.hdr_tool.specs.Commands.{LogCommand, call_of_name, call_of_fields, call_of, log_command_of_name, log_command_of_fields}
+use Rattle.hdr_tool.specs.Lines.{Rest, Line, first_line, IsValueLine}
+use Rattle.hdr_tool.specs.Commands.{LogCommand, Make, IsCallLine, call_of_name, call_of_fields, call_of, log_command_of_name, log_command_of_fields}
 use Rattle.hdr_tool.specs.Outcomes.{Refuses, StepAnswers}
 use Rattle.hdr_tool.specs.Faults.{refusal_at}
-use Rattle.hdr_tool.specs.Program.{CommandDone, LineDone, LogCommandDone, LogLineDone}
-use Rattle.hdr_tool.proofs.LinesFirst.{fields_first}
+use Rattle.hdr_tool.specs.Program.{CallDone, CommandDone, LineDone, LogCommandDone, LogLineDone}
+use Rattle.hdr_tool.proofs.LinesFirst.{first_line-byte, fields_first}
+use Rattle.hdr_tool.proofs.OutcomesSinks.{appends_nothing, keeps}
+use Rattle.std.proofs.lemmas.Bool.{ne_eqb}
 
 -- the fields of a text's first line, as the code holds them
 fields_of : (text name : List ℕ) (left : Rest) → name ≡ (first_line text).field → left ≡ (first_line text).rest → parts 32 (first_line text).bytes ≡ name ∷ left.fields
@@ -91,3 +95,105 @@ step_as P Q s o n (NotWritten j c) k a = (k (Err (NotWritten j c)) a.0, a.1)
 step_as P Q s o n (NotALog j) k a = (k (Err (NotALog j)) a.0, a.1)
 step_as P Q s o n (NotBase64 j) k a = (k (Err (NotBase64 j)) a.0, a.1)
 step_as P Q s o n (NotRead j c) k a = (k (Err (NotRead j c)) a.0, a.1)
+
+-- a line of `r V` or `s V`
+bytes_not : (name : ℕ) (field : List ℕ) → (name ∷ field ≡ [] → ⊥)
+bytes_not name field h = absurd cc
+
+pub value_first : (name value : ℕ) (text after : List ℕ) → 2 ≤ length text → get_or text 0 0 ≡ name → get_or text 1 0 ≡ 32 → (name ≡ 10 → ⊥) → (name ≡ 32 → ⊥) → number_of (first_line (drop 2 text)).field ≡ Some value
+    → record { fields = []; after = Some after } ≡ (first_line (drop 2 text)).rest → IsValueLine (first_line text) name value after
+value_first name value [] after l n s ten space v r = absurd (omega arith)
+value_first name value (b ∷ []) after l n s ten space v r = absurd (omega arith)
+value_first name value (b ∷ c ∷ text) after l n s ten space v r =
+    let b10 : (b == 10) ≡ false = ne_eqb b 10 (λ e. ten (sym n ∙ e)) in
+    let b32 : (b == 32) ≡ false = ne_eqb b 32 (λ e. space (sym n ∙ e)) in
+    let c10 : (c == 10) ≡ false = ap (λ x. x == 10) s in
+    let c32 : (c == 32) ≡ true = ap (λ x. x == 32) s in
+    let F : List ℕ = (first_line text).field in
+    let line : first_line (b ∷ c ∷ text) ≡ record { bytes = b ∷ c ∷ (first_line text).bytes; field = b ∷ []; rest = record { fields = F ∷ (first_line text).rest.fields; after = (first_line text).rest.after } } = rw (first_line-byte b (c ∷ text), b10, b32, first_line-byte c text, c10, c32) refl in
+    subst (λ (x : Line). IsValueLine x name value after) (sym line) (
+      bytes_not b (c ∷ (first_line text).bytes),
+      ap (λ x. x ∷ []) n,
+      F,
+      v,
+      sym (ap (λ (x : Rest). record { fields = F ∷ x.fields; after = x.after }) r),
+    )
+
+-- the call that such a line asks for
+module _ (field : List ℕ) (value : ℕ) (e : number_of field ≡ Some value) where
+  record_line : call_of_name (114 ∷ []) (field ∷ []) ≡ Some (Record value 1)
+  unfolding call_of_name
+  record_line = rw e refl
+
+  record_log_line : log_command_of_name (114 ∷ []) (field ∷ []) ≡ Some (Make (Record value 1))
+  unfolding log_command_of_name call_of_name
+  record_log_line = rw e refl
+
+  clamp_line : call_of_name (115 ∷ []) (field ∷ []) ≡ Some (Clamp value 1)
+  unfolding call_of_name
+  clamp_line = rw e refl
+
+  clamp_log_line : log_command_of_name (115 ∷ []) (field ∷ []) ≡ Some (Make (Clamp value 1))
+  unfolding log_command_of_name call_of_name
+  clamp_log_line = rw e refl
+
+AsksFor : List ℕ → List (List ℕ) → Call ℕ → Type 0
+AsksFor name fields call = (call_of_name name fields ≡ Some call) × (log_command_of_name name fields ≡ Some (Make call))
+
+call_line : (line : Line) (name value : ℕ) (after : List ℕ) (call : Call ℕ) → ((field : List ℕ) → number_of field ≡ Some value → AsksFor (name ∷ []) (field ∷ []) call) → IsValueLine line name value after → IsCallLine line call
+unfolding AsksFor
+call_line line name value after call h v =
+    let (some, field_is, field, number, rest_is) = v in
+    let asks : AsksFor line.field line.rest.fields call = subst (λ (n : List ℕ). AsksFor n line.rest.fields call) (sym field_is) (subst (λ (r : Rest). AsksFor (name ∷ []) r.fields call) (sym rest_is) (h field number)) in
+    (some, asks.0, asks.1)
+
+pub record_call : (line : Line) (value : ℕ) (after : List ℕ) → IsValueLine line 114 value after → IsCallLine line (Record value 1)
+unfolding AsksFor
+record_call line value after v = call_line line 114 value after (Record value 1) (λ field e. (record_line field value e, record_log_line field value e)) v
+
+pub clamp_call : (line : Line) (value : ℕ) (after : List ℕ) → IsValueLine line 115 value after → IsCallLine line (Clamp value 1)
+unfolding AsksFor
+clamp_call line value after v = call_line line 115 value after (Clamp value 1) (λ field e. (clamp_line field value e, clamp_log_line field value e)) v
+
+not_read : (k : ℕ) (e : CallError) → CannotRead ≡ refusal_at k e → ⊥
+not_read k (cause.Record record_error.OutOfMemory) h = absurd cc
+not_read k (cause.Record record_error.ValueOutOfRangeResizeDisabled) h = absurd cc
+not_read k (cause.Record record_error.ResizeFailedUsizeTypeTooSmall) h = absurd cc
+not_read k (cause.Addition addition_error.ResizeFailedUsizeTypeTooSmall) h = absurd cc
+not_read k (cause.Addition addition_error.OutOfMemory) h = absurd cc
+not_read k (cause.Addition addition_error.OtherAddendValueExceedsRange) h = absurd cc
+
+-- a step that makes a call
+pub step_of : (Q : Result (List ℕ × Plain) Fault → Type 0) (h : Plain) (k : ℕ) (call : Call ℕ) (s : Plain) (o : Option (List ℕ)) (r : Result (Unit {0}) Fault) → ((x : Result (List ℕ × Plain) Fault) → CallDone k h call x → Q x)
+    → MatchResult r (λ _. CallDone k h call (Ok ([], s))) (λ f. CallDone k h call (Err f)) → StepAnswers Q s o o r
+step_of Q h k call s o (Ok u) q d = ([], q (Ok ([], s)) d, appends_nothing o)
+step_of Q h k call s o (Err NoMemory) q d = keeps o
+step_of Q h k call s o (Err CannotRead) q d = absurd (not_read k d.0 d.2)
+step_of Q h k call s o (Err CannotWrite) q d = absurd (not_written k d.0 d.2)
+step_of Q h k call s o (Err WrongWords) q d = (q (Err WrongWords) d, keeps o)
+step_of Q h k call s o (Err (NotACommand j)) q d = (q (Err (NotACommand j)) d, keeps o)
+step_of Q h k call s o (Err (Refused j c)) q d = (q (Err (Refused j c)) d, keeps o)
+step_of Q h k call s o (Err (NotWritten j c)) q d = (q (Err (NotWritten j c)) d, keeps o)
+step_of Q h k call s o (Err (NotALog j)) q d = (q (Err (NotALog j)) d, keeps o)
+step_of Q h k call s o (Err (NotBase64 j)) q d = (q (Err (NotBase64 j)) d, keeps o)
+step_of Q h k call s o (Err (NotRead j c)) q d = (q (Err (NotRead j c)) d, keeps o)
+
+pub call_told : (h new : Plain) (call : Call ℕ) (r : Result (Unit {0}) CallError) → OnOk r (new ≡ after_call (2 ^ 64 - 1) (λ n. n) call h) → IfErr r (λ e. RefusesCall h call e × (new ≡ h))
+    → MatchResult r (λ _. (k : ℕ) → CallDone k h call (Ok ([], new))) (λ e. (k : ℕ) → CallDone k h call (Err (refusal_at k e)))
+call_told h new call (Ok u) ok err = λ k. ap (λ (s : Plain). ([], s)) ok
+call_told h new call (Err e) ok err = λ k. (e, err.0, refl)
+
+module _ (h new : Plain) (call : Call ℕ) (r : Result (Unit {0}) CallError) (d : MatchResult r (λ _. (k : ℕ) → CallDone k h call (Ok ([], new))) (λ e. (k : ℕ) → CallDone k h call (Err (refusal_at k e)))) where
+  pub told_ok : (u : Unit {0}) → r ≡ Ok u → (k : ℕ) → CallDone k h call (Ok ([], new))
+  told_ok u e = subst (λ (x : Result (Unit {0}) CallError). MatchResult x (λ _. (k : ℕ) → CallDone k h call (Ok ([], new))) (λ e. (k : ℕ) → CallDone k h call (Err (refusal_at k e)))) e d
+
+  pub told_err : (c : CallError) (f : Fault) (k : ℕ) → r ≡ Err c → f ≡ refusal_at k c → CallDone k h call (Err f)
+  told_err c f k e q =
+      let all = subst (λ (x : Result (Unit {0}) CallError). MatchResult x (λ _. (k : ℕ) → CallDone k h call (Ok ([], new))) (λ e. (k : ℕ) → CallDone k h call (Err (refusal_at k e)))) e d in
+      subst (λ (f : Fault). CallDone k h call (Err f)) (sym q) (all k)
+
+pub call_line_done : (h : Plain) (k : ℕ) (r : Result (List ℕ × Plain) Fault) (text : List ℕ) (call : Call ℕ) → IsCallLine (first_line text) call → CallDone k h call r → LineDone h (k, (first_line text).bytes) r
+call_line_done h k r text call c d = line_done h k r text (first_line text).field (first_line text).rest (Some call) refl refl c.0 c.1 d
+
+pub call_log_line_done : (h : Plain) (k : ℕ) (r : Result (List ℕ × Plain) Fault) (text : List ℕ) (call : Call ℕ) → IsCallLine (first_line text) call → CallDone k h call r → LogLineDone h (k, (first_line text).bytes) r
+call_log_line_done h k r text call c d = log_line_done h k r text (first_line text).field (first_line text).rest (Some (Make call)) refl refl c.0 c.2 d

@@ -1,5 +1,5 @@
 -- The call or the interval that a line asks for. A line has no line end.
-use Rattle.std.specs.Prelude.{ℕ, ◌==◌, ◌&&◌, not, length, List, [], ◌∷◌, Option, Some, None, if◌then◌else◌, codes}
+use Rattle.std.specs.Prelude.{◌≡◌, ◌≢◌, ℕ, ◌==◌, ◌&&◌, not, length, List, [], ◌∷◌, Option, Some, None, if◌then◌else◌, codes}
 use Rattle.std.specs.Option.{option_map}
 use Rattle.std.specs.Str.{bytes_eq}
 use Rattle.hdr_core.specs.declared.call.Call.{Call}
@@ -7,6 +7,7 @@ use Rattle.hdr_core.specs.declared.call.Call.TheVariants.{Record, Clamp, Correct
 use Rattle.hdr_log.specs.Grammar.{is_tag}
 use Rattle.hdr_log.specs.Parts.{◌>>=◌, parts, number_of}
 use Rattle.hdr_log.specs.Tags.{tag_text}
+use Rattle.hdr_tool.specs.Lines.{Line}
 use Rattle.hdr_tool.specs.declared.command.LogCommand as code
 use Rattle.hdr_tool.specs.declared.command.LogCommand.TheVariants as code_command
 
@@ -105,3 +106,8 @@ log_command_of line = log_command_of_fields (parts 32 line)
 abbrev pub view_of_log_command : code.LogCommand → LogCommand
 view_of_log_command (code_command.Make call) = Make call
 view_of_log_command (code_command.End start duration tag) = End start duration (option_map tag_text tag)
+
+-- a first line that asks for this call, in a log's input too
+abbrev pub IsCallLine : Line → Call ℕ → Type 0
+IsCallLine line call =
+    (line.bytes ≢ []) × (call_of_name line.field line.rest.fields ≡ Some call) × (log_command_of_name line.field line.rest.fields ≡ Some (Make call))

@@ -1,8 +1,8 @@
 //! The commands that lines ask for.
 
-ghost use Rattle.std.specs.Prelude.{◌≡◌, MatchOption, Some, None};
+ghost use Rattle.std.specs.Prelude.{◌≡◌, ◌≢◌, MatchOption, IfSome, Some, None};
 ghost use Rattle.std.specs.Option.{option_map};
-ghost use Rattle.hdr_tool.specs.Lines.{view_of_left};
+ghost use Rattle.hdr_tool.specs.Lines.{first_line, view_of_left, IsValueLine};
 ghost use Rattle.hdr_tool.specs.Commands.{count_of, record_of, clamp_of, correct_of, alone, call_of_name, tag_of_word, end_tag_of, end_of, log_command_of_name, view_of_log_command};
 ghost use Rattle.hdr_log.specs.Tags.{tag_text};
 
@@ -103,6 +103,27 @@ pub(crate) fn call<'a>(
         b"c" => correct(left),
         b"clear" => alone(Call::Clear, left),
         b"reset" => alone(Call::Reset, left),
+        _ => None,
+    }
+}
+
+/// The value of a first line of this name and a value alone, which an LF ends, and the text after it.
+#[inline(always)]
+pub(crate) fn value_line(text: &[u8], name: u8) -> Option<(u64, &[u8])>
+    requires { (name ≢ 10) × (name ≢ 32) }
+    ensures { IfSome result (λ p. IsValueLine (first_line text.now) name p.0 p.1.now) }
+{
+    if text.len() < 2 {
+        return None;
+    }
+    if text[0] != name {
+        return None;
+    }
+    if text[1] != b' ' {
+        return None;
+    }
+    match number_field(&text[2..]) {
+        Some((value, Left::Lines(Some(after)))) => Some((value, after)),
         _ => None,
     }
 }

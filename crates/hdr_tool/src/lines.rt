@@ -1,14 +1,10 @@
 //! The lines of a text and their fields, each read once, as its bytes come.
 
-ghost use Rattle.std.specs.Prelude.{◌≡◌, ◌≢◌, ◌+◌, ◌<◌, ◌≤◌, ◌^◌, length, take, [], MatchOption, Some, None, true};
+ghost use Rattle.std.specs.Prelude.{◌≡◌, ◌≢◌, ◌+◌, ◌<◌, ◌^◌, length, [], MatchOption, Some, None, true};
 ghost use Rattle.std.specs.Option.{option_map};
-ghost use Rattle.std.specs.List.{list_all};
-ghost use Rattle.std.specs.Char.{is_ascii_digit};
-ghost use Rattle.std.specs.Str.Parse.{digits_value};
 ghost use Rattle.hdr_log.specs.Parts.{number_of};
 ghost use Rattle.hdr_tool.specs.Lines.{number_lines, first_line, view_of_left};
 
-use core::dec2flt::read_digits;
 use hdr_log::parts::append_digit;
 
 /// What is left of a text after a field of its first line.
@@ -43,21 +39,19 @@ pub(crate) fn number_field(text: &[u8]) -> Option<(u64, Left<'_>)>
     ensures { let line = first_line text.now in MatchOption result (number_of line.field ≡ None)
         (λ p. (number_of line.field ≡ Some p.0) × (view_of_left p.1 ≡ line.rest)) }
 {
-    let (mut at, mut value) = eight_digits(text);
-    while at < text.len() {
-        let byte = text[at];
+    let mut value = 0;
+    for (at, byte) in text.iter().enumerate() {
         if byte.is_ascii_digit() {
-            value = append_digit(value, u64::from(byte - b'0'))?;
-            at += 1;
+            value = append_digit(value, u64::from(*byte - b'0'))?;
             continue;
         }
         if at == 0 {
             return None;
         }
-        if byte == b' ' {
+        if *byte == b' ' {
             return Some((value, Left::Fields(&text[at + 1..])));
         }
-        if byte == b'\n' {
+        if *byte == b'\n' {
             return Some((value, Left::Lines(Some(&text[at + 1..]))));
         }
         return None;
@@ -66,23 +60,6 @@ pub(crate) fn number_field(text: &[u8]) -> Option<(u64, Left<'_>)>
         return None;
     }
     Some((value, Left::Lines(None)))
-}
-
-/// How many digits are read at the front of a text, eight or none, and their number.
-#[inline(always)]
-fn eight_digits(text: &[u8]) -> (usize, u64)
-    ensures few { (result.0 ≤ 8) × (result.0 ≤ length text.now) }
-    ensures digits { list_all is_ascii_digit (take result.0 text.now) ≡ true }
-    ensures value { result.1 ≡ digits_value 10 (take result.0 text.now) }
-{
-    if text.len() < 8 {
-        return (0, 0);
-    }
-    let read = read_digits(&text[..8], 0, 0);
-    if read.0 < 8 {
-        return (0, 0);
-    }
-    (8, read.1)
 }
 
 /// What follows an empty line that a text begins with; `None` where its first line is not empty.

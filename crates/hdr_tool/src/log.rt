@@ -15,7 +15,7 @@ use crate::command::{LogCommand, log_command};
 use crate::fault::Fault;
 use crate::lines::{after_empty_line, can_number, field};
 use crate::parts::{replace, take_lines};
-use crate::run::refusal;
+use crate::run::{do_value_line, refusal};
 use crate::stream::{PIECE, read_piece, told_at_end};
 use hdrhistogram::Histogram;
 use hdrhistogram::serialization::interval_log::{IntervalLogWriter, IntervalLogWriterError, Tag};
@@ -83,7 +83,7 @@ fn do_command<W: Write>(
 }
 
 /// Does what the first line of a text says, and answers the text after the line. An empty line says nothing.
-#[inline(always)]
+#[inline(never)]
 fn log_line<'c, W: Write>(
     histogram: &mut Histogram<u64>,
     number: u64,
@@ -137,6 +137,14 @@ fn write_lines<W: Write>(
     let mut next = number;
     let mut left = Some(text);
     while let Some(text) = left {
+        if let Some((done, after)) = do_value_line(histogram, text) {
+            if let Err(cause) = done {
+                return Err(refusal(next, cause));
+            }
+            left = Some(after);
+            next += 1;
+            continue;
+        }
         left = match log_line(histogram, next, text, log) {
             Ok(after) => after,
             Err(fault) => return Err(fault),

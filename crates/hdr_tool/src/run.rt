@@ -1,16 +1,18 @@
 //! The program, over any reader and writer.
 
-ghost use Rattle.std.specs.Prelude.{◌≡◌, ◌≢◌, ◌↔◌, ◌+◌, ◌<◌, ℕ, List, map, length, MatchResult, Ok, Err, Some, None, [], IfSome, string_bytes};
+ghost use Rattle.std.specs.Prelude.{◌≡◌, ◌≢◌, ◌↔◌, ◌+◌, ◌<◌, ℕ, List, map, length, MatchResult, Ok, Err, Some, None, [], IfSome, IfNone, string_bytes};
 ghost use Rattle.std.specs.Io.KnownBytes.{IsAtEnd};
 ghost use Rattle.std.specs.Option.{option_map};
 ghost use Rattle.hdr_tool.specs.Lines.{number_lines, first_line};
 ghost use Rattle.hdr_tool.specs.Words.{Report, Merge, task_of, view_of_task};
 ghost use Rattle.hdr_tool.specs.Options.{view_of_options};
+ghost use Rattle.hdr_core.specs.declared.call.Call.{Call};
+ghost use Rattle.hdr_tool.specs.Commands.{IsCallLine};
 ghost use Rattle.hdr_tool.specs.Faults.{refusal_at};
 ghost use Rattle.hdr_tool.specs.Outcomes.{Refuses, Answers, ReadsAll, ReadsTo, Runs};
-ghost use Rattle.hdr_tool.specs.Program.{LineDone, TaskDone, TaskStands, TaskWrites, TaskLeaves, Program, Stands, IsWriting, Leaves};
+ghost use Rattle.hdr_tool.specs.Program.{CallDone, LineDone, TaskDone, TaskStands, TaskWrites, TaskLeaves, Program, Stands, IsWriting, Leaves};
 
-use crate::command::call;
+use crate::command::{call, value_line};
 use crate::fault::Fault;
 use crate::lines::{after_empty_line, can_number, field};
 use crate::log::log_lines;
@@ -20,7 +22,7 @@ use crate::parts::{replace, take_lines};
 use crate::report::write_report;
 use crate::stream::{PIECE, read_piece, read_whole, told_at_end};
 use crate::words::{Task, judge};
-use hdrhistogram::{AdditionError, CallError, Histogram, Quantile, RecordError};
+use hdrhistogram::{AdditionError, Call, CallError, Histogram, Quantile, RecordError};
 use std::alloc::Global;
 use std::io::{Read, Write};
 
@@ -36,8 +38,31 @@ pub(crate) fn refusal(line: u64, cause: CallError) -> Fault
     }
 }
 
-/// Does what the first line of a text says, and answers the lines after it. An empty line says nothing.
+/// Does a first line of `r V` or `s V` that an LF ends, and answers how that went and the text after the line. `None`: it is
+/// another line, and nothing is done. Most lines are such lines, so their answer is small enough for registers.
 #[inline(always)]
+pub(crate) fn do_value_line<'a>(
+    histogram: &mut Histogram<u64>,
+    text: &'a [u8],
+) -> Option<(Result<(), CallError>, &'a [u8])>
+    ensures none { IfNone result (histogram.new ≡ histogram.old) }
+    ensures after { IfSome result (λ p. (first_line text.now).rest.after ≡ Some p.1.now) }
+    ensures done { IfSome result (λ p. (call : Call ℕ) × IsCallLine (first_line text.now) call
+        × MatchResult p.0
+        (λ _. (k : ℕ) → CallDone k histogram.old call (Ok ([], histogram.new)))
+        (λ e. (k : ℕ) → CallDone k histogram.old call (Err (refusal_at k e)))) }
+{
+    if let Some((value, after)) = value_line(text, b'r') {
+        return Some((histogram.apply(&Call::Record(value, 1)), after));
+    }
+    if let Some((value, after)) = value_line(text, b's') {
+        return Some((histogram.apply(&Call::Clamp(value, 1)), after));
+    }
+    None
+}
+
+/// Does what the first line of a text says, and answers the lines after it. An empty line says nothing.
+#[inline(never)]
 fn apply_line<'a>(
     histogram: &mut Histogram<u64>,
     number: u64,
@@ -77,6 +102,14 @@ fn apply_lines(histogram: &mut Histogram<u64>, number: u64, text: &[u8]) -> Resu
     let mut next = number;
     let mut left = Some(text);
     while let Some(text) = left {
+        if let Some((done, after)) = do_value_line(histogram, text) {
+            if let Err(cause) = done {
+                return Err(refusal(next, cause));
+            }
+            left = Some(after);
+            next += 1;
+            continue;
+        }
         left = match apply_line(histogram, next, text) {
             Ok(after) => after,
             Err(fault) => return Err(fault),

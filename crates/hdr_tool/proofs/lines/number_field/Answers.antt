@@ -2,11 +2,8 @@ use Rattle.std.proofs.Common.{◌≡◌, true, ◌+◌, ◌*◌, ◌≤◌, ◌^
 use Rattle.std.specs.Char.{is_ascii_digit, digit_value}
 use Rattle.std.proofs.lemmas.Bool.{both_ways}
 use Rattle.hdr_tool.proofs.LinesFirst.{left_all}
-use Rattle.hdr_tool.proofs.LinesNumbers.{Spells, digit_less, spells_front, spells_more, number_space, number_end, number_all, number_nothing, number_great, number_begun, number_other}
+use Rattle.hdr_tool.proofs.LinesNumbers.{Spells, digit_less, spells_more, number_space, number_end, number_all, number_nothing, number_great, number_begun, number_other}
 use Rattle.hdr_tool.proofs.lines.number_field.Goals as goal
-
-pub loop-at-init : goal.loop-at-init
-loop-at-init c = spells_front c.args.text.now c.eight_digits-at.result.0 c.eight_digits-at.result.1 c.eight_digits-at.ensures.few.0 c.eight_digits-at.ensures.few.1 c.eight_digits-at.ensures.digits c.eight_digits-at.ensures.value
 
 pub returns-in_err-value : goal.returns-in_err-value
 returns-in_err-value c =
