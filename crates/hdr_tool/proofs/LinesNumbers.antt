@@ -26,6 +26,9 @@ not_end b h = grind arith
 not_space : (b : ℕ) → is_ascii_digit b ≡ true → (b == 32) ≡ false
 not_space b h = grind arith
 
+pub digit_small : (b : ℕ) → is_ascii_digit b ≡ true → digit_value b < 10
+digit_small b h = grind arith
+
 pub digit_less : (b : ℕ) → is_ascii_digit b ≡ true → digit_value b ≡ b - 48
 digit_less b h = grind arith
 

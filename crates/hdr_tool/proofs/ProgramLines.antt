@@ -11,8 +11,8 @@ use Rattle.hdr_core.specs.Calls.{after_call, RefusesCall}
 use Rattle.hdr_log.specs.Parts.{parts, number_of}
 use Rattle.hdr_tool.specs.declared.fault.Fault.{Fault}
 use Rattle.hdr_tool.specs.declared.fault.Fault.TheVariants.{WrongWords, NotACommand, Refused, NotWritten, NotALog, NotBase64, NotRead, NoMemory, CannotRead, CannotWrite}
-use Rattle.hdr_tool.specs.Lines.{Rest, Line, first_line, IsValueLine}
-use Rattle.hdr_tool.specs.Commands.{LogCommand, Make, IsCallLine, call_of_name, call_of_fields, call_of, log_command_of_name, log_command_of_fields}
+use Rattle.hdr_tool.specs.Lines.{Rest, Line, first_line}
+use Rattle.hdr_tool.specs.Commands.{LogCommand, Make, count_of, IsValueLine, IsCallLine, call_of_name, call_of_fields, call_of, log_command_of_name, log_command_of_fields}
 use Rattle.hdr_tool.specs.Outcomes.{Refuses, StepAnswers}
 use Rattle.hdr_tool.specs.Faults.{refusal_at}
 use Rattle.hdr_tool.specs.Program.{CallDone, CommandDone, LineDone, LogCommandDone, LogLineDone}
@@ -100,60 +100,62 @@ step_as P Q s o n (NotRead j c) k a = (k (Err (NotRead j c)) a.0, a.1)
 bytes_not : (name : ℕ) (field : List ℕ) → (name ∷ field ≡ [] → ⊥)
 bytes_not name field h = absurd cc
 
-pub value_first : (name value : ℕ) (text after : List ℕ) → 2 ≤ length text → get_or text 0 0 ≡ name → get_or text 1 0 ≡ 32 → (name ≡ 10 → ⊥) → (name ≡ 32 → ⊥) → number_of (first_line (drop 2 text)).field ≡ Some value
-    → record { fields = []; after = Some after } ≡ (first_line (drop 2 text)).rest → IsValueLine (first_line text) name value after
-value_first name value [] after l n s ten space v r = absurd (omega arith)
-value_first name value (b ∷ []) after l n s ten space v r = absurd (omega arith)
-value_first name value (b ∷ c ∷ text) after l n s ten space v r =
+pub value_first : (name value count : ℕ) (more : List (List ℕ)) (text after : List ℕ) → 2 ≤ length text → get_or text 0 0 ≡ name → get_or text 1 0 ≡ 32 → (name ≡ 10 → ⊥) → (name ≡ 32 → ⊥) → number_of (first_line (drop 2 text)).field ≡ Some value → count_of more ≡ Some count
+    → record { fields = more; after = Some after } ≡ (first_line (drop 2 text)).rest → IsValueLine (first_line text) name value count after
+value_first name value count more [] after l n s ten space v m r = absurd (omega arith)
+value_first name value count more (b ∷ []) after l n s ten space v m r = absurd (omega arith)
+value_first name value count more (b ∷ c ∷ text) after l n s ten space v m r =
     let b10 : (b == 10) ≡ false = ne_eqb b 10 (λ e. ten (sym n ∙ e)) in
     let b32 : (b == 32) ≡ false = ne_eqb b 32 (λ e. space (sym n ∙ e)) in
     let c10 : (c == 10) ≡ false = ap (λ x. x == 10) s in
     let c32 : (c == 32) ≡ true = ap (λ x. x == 32) s in
     let F : List ℕ = (first_line text).field in
     let line : first_line (b ∷ c ∷ text) ≡ record { bytes = b ∷ c ∷ (first_line text).bytes; field = b ∷ []; rest = record { fields = F ∷ (first_line text).rest.fields; after = (first_line text).rest.after } } = rw (first_line-byte b (c ∷ text), b10, b32, first_line-byte c text, c10, c32) refl in
-    subst (λ (x : Line). IsValueLine x name value after) (sym line) (
+    subst (λ (x : Line). IsValueLine x name value count after) (sym line) (
       bytes_not b (c ∷ (first_line text).bytes),
       ap (λ x. x ∷ []) n,
       F,
+      more,
       v,
+      m,
       sym (ap (λ (x : Rest). record { fields = F ∷ x.fields; after = x.after }) r),
     )
 
 -- the call that such a line asks for
-module _ (field : List ℕ) (value : ℕ) (e : number_of field ≡ Some value) where
-  record_line : call_of_name (114 ∷ []) (field ∷ []) ≡ Some (Record value 1)
+module _ (field : List ℕ) (more : List (List ℕ)) (value count : ℕ) (e : number_of field ≡ Some value) (m : count_of more ≡ Some count) where
+  record_line : call_of_name (114 ∷ []) (field ∷ more) ≡ Some (Record value count)
   unfolding call_of_name
-  record_line = rw e refl
+  record_line = rw (e, m) refl
 
-  record_log_line : log_command_of_name (114 ∷ []) (field ∷ []) ≡ Some (Make (Record value 1))
+  record_log_line : log_command_of_name (114 ∷ []) (field ∷ more) ≡ Some (Make (Record value count))
   unfolding log_command_of_name call_of_name
-  record_log_line = rw e refl
+  record_log_line = rw (e, m) refl
 
-  clamp_line : call_of_name (115 ∷ []) (field ∷ []) ≡ Some (Clamp value 1)
+  clamp_line : call_of_name (115 ∷ []) (field ∷ more) ≡ Some (Clamp value count)
   unfolding call_of_name
-  clamp_line = rw e refl
+  clamp_line = rw (e, m) refl
 
-  clamp_log_line : log_command_of_name (115 ∷ []) (field ∷ []) ≡ Some (Make (Clamp value 1))
+  clamp_log_line : log_command_of_name (115 ∷ []) (field ∷ more) ≡ Some (Make (Clamp value count))
   unfolding log_command_of_name call_of_name
-  clamp_log_line = rw e refl
+  clamp_log_line = rw (e, m) refl
 
 AsksFor : List ℕ → List (List ℕ) → Call ℕ → Type 0
 AsksFor name fields call = (call_of_name name fields ≡ Some call) × (log_command_of_name name fields ≡ Some (Make call))
 
-call_line : (line : Line) (name value : ℕ) (after : List ℕ) (call : Call ℕ) → ((field : List ℕ) → number_of field ≡ Some value → AsksFor (name ∷ []) (field ∷ []) call) → IsValueLine line name value after → IsCallLine line call
+call_line : (line : Line) (name value count : ℕ) (after : List ℕ) (call : Call ℕ) → ((field : List ℕ) (more : List (List ℕ)) → number_of field ≡ Some value → count_of more ≡ Some count → AsksFor (name ∷ []) (field ∷ more) call) → IsValueLine line name value count after → IsCallLine line call
 unfolding AsksFor
-call_line line name value after call h v =
-    let (some, field_is, field, number, rest_is) = v in
-    let asks : AsksFor line.field line.rest.fields call = subst (λ (n : List ℕ). AsksFor n line.rest.fields call) (sym field_is) (subst (λ (r : Rest). AsksFor (name ∷ []) r.fields call) (sym rest_is) (h field number)) in
+call_line line name value count after call h v =
+    let (some, field_is, field, more, number, counted, rest_is) = v in
+    let asks : AsksFor line.field line.rest.fields call = subst (λ (n : List ℕ). AsksFor n line.rest.fields call) (sym field_is) (subst (λ (r : Rest). AsksFor (name ∷ []) r.fields call) (sym rest_is) (h field more number counted)) in
     (some, asks.0, asks.1)
 
-pub record_call : (line : Line) (value : ℕ) (after : List ℕ) → IsValueLine line 114 value after → IsCallLine line (Record value 1)
+pub record_call : (line : Line) (value count : ℕ) (after : List ℕ) → IsValueLine line 114 value count after → IsCallLine line (Record value count)
 unfolding AsksFor
-record_call line value after v = call_line line 114 value after (Record value 1) (λ field e. (record_line field value e, record_log_line field value e)) v
+record_call line value count after v = call_line line 114 value count after (Record value count) (λ field more e m. (record_line field more value count e m, record_log_line field more value count e m)) v
 
-pub clamp_call : (line : Line) (value : ℕ) (after : List ℕ) → IsValueLine line 115 value after → IsCallLine line (Clamp value 1)
+pub clamp_call : (line : Line) (value count : ℕ) (after : List ℕ) → IsValueLine line 115 value count after → IsCallLine line (Clamp value count)
 unfolding AsksFor
-clamp_call line value after v = call_line line 115 value after (Clamp value 1) (λ field e. (clamp_line field value e, clamp_log_line field value e)) v
+clamp_call line value count after v = call_line line 115 value count after (Clamp value count) (λ field more e m. (clamp_line field more value count e m, clamp_log_line field more value count e m)) v
 
 not_read : (k : ℕ) (e : CallError) → CannotRead ≡ refusal_at k e → ⊥
 not_read k (cause.Record record_error.OutOfMemory) h = absurd cc

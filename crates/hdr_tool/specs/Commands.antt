@@ -107,6 +107,11 @@ abbrev pub view_of_log_command : code.LogCommand → LogCommand
 view_of_log_command (code_command.Make call) = Make call
 view_of_log_command (code_command.End start duration tag) = End start duration (option_map tag_text tag)
 
+-- a first line of a name of one byte, a value and perhaps a count, with a text after it
+abbrev pub IsValueLine : Line → ℕ → ℕ → ℕ → List ℕ → Type 0
+IsValueLine line name value count after =
+    (line.bytes ≢ []) × (line.field ≡ name ∷ []) × (field : List ℕ) × (more : List (List ℕ)) × (number_of field ≡ Some value) × (count_of more ≡ Some count) × (line.rest ≡ record { fields = field ∷ more; after = Some after })
+
 -- a first line that asks for this call, in a log's input too
 abbrev pub IsCallLine : Line → Call ℕ → Type 0
 IsCallLine line call =

@@ -1,8 +1,8 @@
 -- The lines of an input with their numbers, and the fields of a line. A text is a list of bytes.
-use Rattle.std.specs.Prelude.{◌≡◌, ◌≢◌, ℕ, ◌==◌, List, [], ◌∷◌, Option, Some, None, if◌then◌else◌}
+use Rattle.std.specs.Prelude.{ℕ, ◌==◌, List, [], ◌∷◌, Option, Some, None, if◌then◌else◌}
 use Rattle.std.specs.Option.{option_map}
 use Rattle.std.specs.List.{enumerate_from}
-use Rattle.hdr_log.specs.Parts.{parts, number_of}
+use Rattle.hdr_log.specs.Parts.{parts}
 use Rattle.hdr_tool.specs.declared.lines.Left.{Left}
 use Rattle.hdr_tool.specs.declared.lines.Left.TheVariants.{Fields, Lines}
 
@@ -39,8 +39,3 @@ first_line (b ∷ text) =
 abbrev pub view_of_left : Left → Rest
 view_of_left (Fields text) = record { fields = (first_line text.now).field ∷ (first_line text.now).rest.fields; after = (first_line text.now).rest.after }
 view_of_left (Lines text) = record { fields = []; after = option_map (λ t. t.now) text }
-
--- a first line of a name of one byte and a value, with a text after it
-abbrev pub IsValueLine : Line → ℕ → ℕ → List ℕ → Type 0
-IsValueLine line name value after =
-    (line.bytes ≢ []) × (line.field ≡ name ∷ []) × (field : List ℕ) × (number_of field ≡ Some value) × (line.rest ≡ record { fields = field ∷ []; after = Some after })

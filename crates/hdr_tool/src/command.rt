@@ -2,8 +2,8 @@
 
 ghost use Rattle.std.specs.Prelude.{◌≡◌, ◌≢◌, MatchOption, IfSome, Some, None};
 ghost use Rattle.std.specs.Option.{option_map};
-ghost use Rattle.hdr_tool.specs.Lines.{first_line, view_of_left, IsValueLine};
-ghost use Rattle.hdr_tool.specs.Commands.{count_of, record_of, clamp_of, correct_of, alone, call_of_name, tag_of_word, end_tag_of, end_of, log_command_of_name, view_of_log_command};
+ghost use Rattle.hdr_tool.specs.Lines.{first_line, view_of_left};
+ghost use Rattle.hdr_tool.specs.Commands.{IsValueLine, count_of, record_of, clamp_of, correct_of, alone, call_of_name, tag_of_word, end_tag_of, end_of, log_command_of_name, view_of_log_command};
 ghost use Rattle.hdr_log.specs.Tags.{tag_text};
 
 use crate::lines::{Left, field, number_field};
@@ -107,11 +107,12 @@ pub(crate) fn call<'a>(
     }
 }
 
-/// The value of a first line of this name and a value alone, which an LF ends, and the text after it.
+/// The value and the count of a first line of this name, which an LF ends, and the text after it. The count is 1 where there
+/// is none.
 #[inline(always)]
-pub(crate) fn value_line(text: &[u8], name: u8) -> Option<(u64, &[u8])>
+pub(crate) fn value_line(text: &[u8], name: u8) -> Option<(u64, u64, &[u8])>
     requires { (name ≢ 10) × (name ≢ 32) }
-    ensures { IfSome result (λ p. IsValueLine (first_line text.now) name p.0 p.1.now) }
+    ensures { IfSome result (λ p. IsValueLine (first_line text.now) name p.0 p.1 p.2.now) }
 {
     if text.len() < 2 {
         return None;
@@ -123,7 +124,11 @@ pub(crate) fn value_line(text: &[u8], name: u8) -> Option<(u64, &[u8])>
         return None;
     }
     match number_field(&text[2..]) {
-        Some((value, Left::Lines(Some(after)))) => Some((value, after)),
+        Some((value, Left::Lines(Some(after)))) => Some((value, 1, after)),
+        Some((value, Left::Fields(text))) => match number_field(text) {
+            Some((count, Left::Lines(Some(after)))) => Some((value, count, after)),
+            _ => None,
+        },
         _ => None,
     }
 }

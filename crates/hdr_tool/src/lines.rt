@@ -42,7 +42,12 @@ pub(crate) fn number_field(text: &[u8]) -> Option<(u64, Left<'_>)>
     let mut value = 0;
     for (at, byte) in text.iter().enumerate() {
         if byte.is_ascii_digit() {
-            value = append_digit(value, u64::from(*byte - b'0'))?;
+            let digit = u64::from(*byte - b'0');
+            if value < u64::MAX / 10 {
+                value = value * 10 + digit;
+                continue;
+            }
+            value = append_digit(value, digit)?;
             continue;
         }
         if at == 0 {

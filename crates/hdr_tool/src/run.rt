@@ -38,7 +38,7 @@ pub(crate) fn refusal(line: u64, cause: CallError) -> Fault
     }
 }
 
-/// Does a first line of `r V` or `s V` that an LF ends, and answers how that went and the text after the line. `None`: it is
+/// Does a first line of `r V [N]` or `s V [N]` that an LF ends, and answers how that went and the text after the line. `None`: it is
 /// another line, and nothing is done. Most lines are such lines, so their answer is small enough for registers.
 #[inline(always)]
 pub(crate) fn do_value_line<'a>(
@@ -52,11 +52,11 @@ pub(crate) fn do_value_line<'a>(
         (λ _. (k : ℕ) → CallDone k histogram.old call (Ok ([], histogram.new)))
         (λ e. (k : ℕ) → CallDone k histogram.old call (Err (refusal_at k e)))) }
 {
-    if let Some((value, after)) = value_line(text, b'r') {
-        return Some((histogram.apply(&Call::Record(value, 1)), after));
+    if let Some((value, count, after)) = value_line(text, b'r') {
+        return Some((histogram.apply(&Call::Record(value, count)), after));
     }
-    if let Some((value, after)) = value_line(text, b's') {
-        return Some((histogram.apply(&Call::Clamp(value, 1)), after));
+    if let Some((value, count, after)) = value_line(text, b's') {
+        return Some((histogram.apply(&Call::Clamp(value, count)), after));
     }
     None
 }

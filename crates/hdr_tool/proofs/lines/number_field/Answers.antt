@@ -1,8 +1,8 @@
-use Rattle.std.proofs.Common.{◌≡◌, true, ◌+◌, ◌*◌, ◌≤◌, ◌^◌, get_or, subst, sym, arith, ◌∙◌}
+use Rattle.std.proofs.Common.{◌≡◌, true, ◌+◌, ◌*◌, ◌<◌, ◌≤◌, ◌^◌, get_or, subst, sym, arith, ◌∙◌}
 use Rattle.std.specs.Char.{is_ascii_digit, digit_value}
 use Rattle.std.proofs.lemmas.Bool.{both_ways}
 use Rattle.hdr_tool.proofs.LinesFirst.{left_all}
-use Rattle.hdr_tool.proofs.LinesNumbers.{Spells, digit_less, spells_more, number_space, number_end, number_all, number_nothing, number_great, number_begun, number_other}
+use Rattle.hdr_tool.proofs.LinesNumbers.{Spells, digit_small, digit_less, spells_more, number_space, number_end, number_all, number_nothing, number_great, number_begun, number_other}
 use Rattle.hdr_tool.proofs.lines.number_field.Goals as goal
 
 pub returns-in_err-value : goal.returns-in_err-value
@@ -18,6 +18,14 @@ loop-at-preserved c =
     let digit : is_ascii_digit (get_or text c.loop-at.at 0) ≡ true = sym c.is_ascii_digit.ensures.value ∙ c.if-is_ascii_digit.true in
     let e : c.loop-at.value * 10 + digit_value (get_or text c.loop-at.at 0) ≡ c.in_ok-value.value = omega (arith, c.in_ok-value.ensures, digit_less (get_or text c.loop-at.at 0) digit) in
     subst (λ n. Spells text (c.loop-at.at + 1) n) e (spells_more text c.loop-at.at c.loop-at.value c.loop-at-test.true digit (omega (arith, c.in_ok-value.ensures, digit_less (get_or text c.loop-at.at 0) digit)) c.loop-at.invariant)
+
+pub loop-at-preserved-then-value : goal.loop-at-preserved-then-value
+loop-at-preserved-then-value c =
+    let text = c.args.text.now in
+    let digit : is_ascii_digit (get_or text c.loop-at.at 0) ≡ true = sym c.is_ascii_digit.ensures.value ∙ c.if-is_ascii_digit.true in
+    let e : c.loop-at.value * 10 + digit_value (get_or text c.loop-at.at 0) ≡ c.loop-at.value * 10 + c.from-digit.result = omega (arith, c.from-digit.ensures, digit_less (get_or text c.loop-at.at 0) digit) in
+    let small : c.loop-at.value * 10 + digit_value (get_or text c.loop-at.at 0) < 2 ^ 64 = omega (arith, c.if-value.true, digit_small (get_or text c.loop-at.at 0) digit) in
+    subst (λ n. Spells text (c.loop-at.at + 1) n) e (spells_more text c.loop-at.at c.loop-at.value c.loop-at-test.true digit small c.loop-at.invariant)
 
 pub returns-then-at-eq0 : goal.returns-then-at-eq0
 returns-then-at-eq0 c = number_begun c.args.text.now c.loop-at.at c.loop-at-test.true c.if-at-eq0.true (λ d. both_ways _ (sym c.is_ascii_digit.ensures.value ∙ c.if-is_ascii_digit.false) d)
