@@ -41,7 +41,13 @@ impl<T: Counter> IterationValue<T> {
         count_since: u64,
     ) -> IterationValue<T>
         requires { quantile.num < 2 ^ 64 }
-        ensures { result ≡ record { value = value; quantile = quantile; tick = tick; count = T.number count_at; since = count_since } }
+        ensures { result ≡ record {
+          value = value;
+          quantile = quantile;
+          tick = tick;
+          count = T.number count_at;
+          since = count_since;
+        } }
     {
         IterationValue {
             value,
@@ -68,7 +74,8 @@ impl<T: Counter> IterationValue<T> {
 
     /// The same share in hundredths.
     pub fn percentile(&self) -> Fraction
-        ensures { result ≡ record { num = self.now.quantile.num * 100; den = self.now.quantile.den } }
+        ensures { result
+            ≡ record { num = self.now.quantile.num * 100; den = self.now.quantile.den } }
     {
         Fraction {
             num: self.quantile.num * 100,

@@ -174,7 +174,8 @@ impl Scale {
 
     /// How many sections hold the classes up to the bucket of a value.
     pub fn sections(self, value: u64) -> usize
-        ensures value { result * 2 ^ section_digits self.digits ≡ (bucket self value + 2) * 2 ^ (self.digits - 1) }
+        ensures value { result * 2 ^ section_digits self.digits
+            ≡ (bucket self value + 2) * 2 ^ (self.digits - 1) }
         ensures few { result * 2 ^ section_digits self.digits ≤ most_bins }
     {
         (self.buckets(value) + 1) * self.sections_in_block()

@@ -86,7 +86,10 @@ impl Marks {
     #[inline(always)]
     pub(crate) fn widen(&mut self, class: usize)
         requires { class < 2 ^ 32 }
-        ensures { self.new ≡ record { top = later_mark self.old.top class; lower = earlier_mark self.old.lower class } }
+        ensures { self.new ≡ record {
+          top = later_mark self.old.top class;
+          lower = earlier_mark self.old.lower class;
+        } }
     {
         if self.classes <= class || class.wrapping_sub(1) < self.before {
             self.widen_to(class);
@@ -98,7 +101,10 @@ impl Marks {
     #[inline(never)]
     fn widen_to(&mut self, class: usize)
         requires { class < 2 ^ 32 }
-        ensures { self.new ≡ record { top = later_mark self.old.top class; lower = earlier_mark self.old.lower class } }
+        ensures { self.new ≡ record {
+          top = later_mark self.old.top class;
+          lower = earlier_mark self.old.lower class;
+        } }
     {
         if self.classes <= class {
             self.classes = class + 1;
@@ -110,7 +116,10 @@ impl Marks {
 
     /// Widens both marks by those of another histogram.
     pub(crate) fn widen_by(&mut self, other: &Marks)
-        ensures { self.new ≡ record { top = later_of self.old.top other.now.top; lower = earlier_of self.old.lower other.now.lower } }
+        ensures { self.new ≡ record {
+          top = later_of self.old.top other.now.top;
+          lower = earlier_of self.old.lower other.now.lower;
+        } }
     {
         self.classes = self.classes.max(other.classes);
         self.before = self.before.min(other.before);

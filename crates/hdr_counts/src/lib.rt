@@ -242,7 +242,10 @@ impl<T: Counter> Counts<T> {
     pub fn add_capped<F: Counter>(&mut self, source: &Counts<F>)
         requires block { self.old.block ≡ source.now.block }
         requires len { length self.old.numbers ≡ length source.now.numbers }
-        ensures { self.new ≡ record { block = self.old.block; numbers = capped_sums T.greatest self.old.numbers source.now.numbers } }
+        ensures { self.new ≡ record {
+          block = self.old.block;
+          numbers = capped_sums T.greatest self.old.numbers source.now.numbers;
+        } }
     {
         add_blocks(
             &mut self.counters,

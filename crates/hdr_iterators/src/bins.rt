@@ -53,9 +53,20 @@ impl<'a, T: Counter> Bins<'a, T> {
         last: usize,
     ) -> Bins<'a, T>
         requires bins { AreBins
-            (record { grain = scale; numbers = map T.number counters.now; total = total; last = last }) }
-        requires sums { TellEmpty (2 ^ section_digits scale.digits) (map T.number counters.now) sums.now }
-        ensures { result ≡ record { grain = scale; numbers = map T.number counters.now; total = total; last = last } }
+            (record {
+              grain = scale;
+              numbers = map T.number counters.now;
+              total = total;
+              last = last;
+            }) }
+        requires sums { TellEmpty (2 ^ section_digits scale.digits) (map T.number counters.now)
+            sums.now }
+        ensures { result ≡ record {
+          grain = scale;
+          numbers = map T.number counters.now;
+          total = total;
+          last = last;
+        } }
     {
         Bins {
             scale,

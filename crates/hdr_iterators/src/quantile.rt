@@ -144,7 +144,11 @@ impl NextTick {
 
     fn advance(&mut self)
         requires { self.old.number < 64 * self.old.per_half }
-        ensures { self.new ≡ record { per_half = self.old.per_half; number = self.old.number + 1; total = self.old.total } }
+        ensures { self.new ≡ record {
+          per_half = self.old.per_half;
+          number = self.old.number + 1;
+          total = self.old.total;
+        } }
     {
         self.tick.advance();
         self.reached_at = self.tick.reached_at(self.total);

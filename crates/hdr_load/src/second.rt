@@ -49,8 +49,10 @@ pub(crate) fn answered<W: Write>(
 ) -> Result<()>
     requires { divisor_of log.old ≡ 1_000 }
     ensures same { IsSameLog log.old log.new }
-    ensures recorded { OnOk result (second.new ≡ after_answer second.old (end / 1_000_000) response interval) }
-    ensures written { OnOk result ((text : List ℕ) × IsWrittenBefore second.old (end / 1_000_000) text
+    ensures recorded { OnOk result
+        (second.new ≡ after_answer second.old (end / 1_000_000) response interval) }
+    ensures written { OnOk result ((text : List ℕ)
+        × IsWrittenBefore second.old (end / 1_000_000) text
         × Appends (W.contents (sink log.old).now) (W.contents (sink log.new).now) text) }
 {
     let number = end / PER_SECOND;

@@ -30,7 +30,8 @@ fn count(left: Left<'_>) -> Option<(u64, Option<&[u8]>)>
 /// `V [N]`: a value, and how many times.
 #[inline(always)]
 fn record(left: Left<'_>) -> Option<(Call<'static, u64>, Option<&[u8]>)>
-    ensures { let left = view_of_left left.entry in MatchOption result (record_of left.fields ≡ None)
+    ensures { let left = view_of_left left.entry in
+        MatchOption result (record_of left.fields ≡ None)
         (λ p. (record_of left.fields ≡ Some p.0) × (option_map (λ t. t.now) p.1 ≡ left.after)) }
 {
     let Left::Fields(text) = left else {
@@ -58,7 +59,8 @@ fn clamp(left: Left<'_>) -> Option<(Call<'static, u64>, Option<&[u8]>)>
 /// `V I [N]`: a value, the interval at which values were expected, and how many times.
 #[inline(always)]
 fn correct(left: Left<'_>) -> Option<(Call<'static, u64>, Option<&[u8]>)>
-    ensures { let left = view_of_left left.entry in MatchOption result (correct_of left.fields ≡ None)
+    ensures { let left = view_of_left left.entry in
+        MatchOption result (correct_of left.fields ≡ None)
         (λ p. (correct_of left.fields ≡ Some p.0) × (option_map (λ t. t.now) p.1 ≡ left.after)) }
 {
     let Left::Fields(text) = left else {
@@ -78,8 +80,10 @@ fn alone<'a>(
     call: Call<'static, u64>,
     left: Left<'a>,
 ) -> Option<(Call<'static, u64>, Option<&'a [u8]>)>
-    ensures { let left = view_of_left left.entry in MatchOption result (alone call.entry left.fields ≡ None)
-        (λ p. (alone call.entry left.fields ≡ Some p.0) × (option_map (λ t. t.now) p.1 ≡ left.after)) }
+    ensures { let left = view_of_left left.entry in
+        MatchOption result (alone call.entry left.fields ≡ None)
+        (λ p. (alone call.entry left.fields ≡ Some p.0)
+        × (option_map (λ t. t.now) p.1 ≡ left.after)) }
 {
     match left {
         Left::Fields(_) => None,
@@ -94,8 +98,10 @@ pub(crate) fn call<'a>(
     name: &[u8],
     left: Left<'a>,
 ) -> Option<(Call<'static, u64>, Option<&'a [u8]>)>
-    ensures { let left = view_of_left left.entry in MatchOption result (call_of_name name.now left.fields ≡ None)
-        (λ p. (call_of_name name.now left.fields ≡ Some p.0) × (option_map (λ t. t.now) p.1 ≡ left.after)) }
+    ensures { let left = view_of_left left.entry in
+        MatchOption result (call_of_name name.now left.fields ≡ None)
+        (λ p. (call_of_name name.now left.fields ≡ Some p.0)
+        × (option_map (λ t. t.now) p.1 ≡ left.after)) }
 {
     match name {
         b"r" => record(left),
@@ -154,7 +160,8 @@ fn tag(word: &[u8]) -> Option<Tag<'_>>
 
 /// `[TAG]`: the tag after the times, if there is one, and the lines after it.
 fn end_tag(left: Left<'_>) -> Option<(Option<Tag<'_>>, Option<&[u8]>)>
-    ensures { let left = view_of_left left.entry in MatchOption result (end_tag_of left.fields ≡ None)
+    ensures { let left = view_of_left left.entry in
+        MatchOption result (end_tag_of left.fields ≡ None)
         (λ p. (end_tag_of left.fields ≡ Some (option_map tag_text p.0))
         × (option_map (λ t. t.now) p.1 ≡ left.after)) }
 {

@@ -17,5 +17,6 @@ pub mod LogStartsParts
 pub mod LogStartsTexts
 pub mod V2ReadStands
 pub mod ChosenAdded
+pub mod DefectsMemory
 pub mod FieldMerging
 pub mod FinerCounted

@@ -13,7 +13,8 @@ use Rattle.hdr_model.specs.declared.errors.CreationError.TheVariants as make
 use Rattle.hdrhistogram.specs.declared.serialization.errors.DeserializeError.{DeserializeError}
 use Rattle.hdrhistogram.specs.declared.serialization.errors.DeserializeError.TheVariants as errors
 use Rattle.hdrhistogram.specs.Streams.{IsStreamError}
-use Rattle.hdrhistogram.specs.Defects.{Defect, cut, bad_bounds, ◌>>=◌, unless, FailsBy, defect_of_error}
+use Rattle.hdrhistogram.specs.Defects.{Defect, cut, bad_bounds, ◌>>=◌, unless, FailsBy, RunsOutOnly, defect_of_error}
+use Rattle.hdrhistogram.proofs.DefectsMemory.{runs_out, names_out}
 use Rattle.hdrhistogram.specs.PayloadRead.{counts_in}
 use Rattle.hdrhistogram.specs.V2Read.{Header, Contents, bytes_at, header_at, are_bounds, bounds_defect, bins_for, creation_defect, contents_of, v2_at, told_by, told_of, IsRestated, IsReadAs}
 use Rattle.hdrhistogram.proofs.V2ReadHeader.{IsSteady, bind-steady, ok-steady, header-steady, TakenBy, TakenSo, field-then, field-failed, fails_bind, unless_fails}
@@ -74,6 +75,16 @@ bounds-refused h e None r n = tt
 bounds-refused h e (Some f) r n =
     let bad : f ≡ bad_bounds = named_bad e f (sym n) in
     ap (λ (p : Option Defect). unless p 0) (defect-some h (bounds-no h.low h.high h.sigfig e f r (sym n))) ∙ ap Err (sym bad)
+
+-- where memory for the bins runs out, no bound was refused
+pub bounds-memory : (h : Header) (e : CreationError) (r : DeserializeError) → RefusesBounds h.low h.high h.sigfig e → defect_of_error r ≡ creation_defect e → RunsOutOnly (bounds_defect h ≡ None) r
+bounds-memory h make.OutOfMemory r b n = runs_out (bounds_defect h ≡ None) r (defect-none h (bounds-yes h.low h.high h.sigfig b))
+bounds-memory h make.LowIsZero r b n = names_out (bounds_defect h ≡ None) r n
+bounds-memory h make.LowExceedsMax r b n = names_out (bounds_defect h ≡ None) r n
+bounds-memory h make.HighLessThanTwiceLow r b n = names_out (bounds_defect h ≡ None) r n
+bounds-memory h make.SigFigExceedsMax r b n = names_out (bounds_defect h ≡ None) r n
+bounds-memory h make.CannotRepresentSigFigBeyondLow r b n = names_out (bounds_defect h ≡ None) r n
+bounds-memory h make.UsizeTypeTooSmall r b n = names_out (bounds_defect h ≡ None) r n
 
 -- what empty bins tell
 pub record IsMade (f : Open) (low high sigfig : ℕ) : Type 0 where

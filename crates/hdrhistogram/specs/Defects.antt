@@ -38,6 +38,11 @@ defect_of_error EncodedArrayTooLong = Some past_bins
 defect_of_error UsizeTypeTooSmall = Some too_far
 defect_of_error OutOfMemory = None
 
+-- the error says that memory ran out only where the condition holds
+abbrev pub RunsOutOnly : Type 0 → DeserializeError → Type 0
+RunsOutOnly Condition OutOfMemory = Condition
+RunsOutOnly Condition e = Unit {0}
+
 -- the bytes are read as the defect, where one is named
 abbrev pub FailsBy : {A : Type 0} → Option Defect → Result A Defect → Type 0
 FailsBy None read = Unit {0}

@@ -111,7 +111,7 @@ RefusesStep Ends e = Ends e
 abbrev pub RefusesMerge : ℕ → Filter → ℕ → List ℕ → MergeError → Type 0
 RefusesMerge greatest filter sigfig log (Creation make.OutOfMemory) = ⊥
 RefusesMerge greatest filter sigfig log (Creation e) = RefusesBounds 1 2 sigfig e
-RefusesMerge greatest filter sigfig log OutOfMemory = Unit {0}
+RefusesMerge greatest filter sigfig log OutOfMemory = IsBounds 1 2 sigfig
 RefusesMerge greatest filter sigfig log e = IsBounds 1 2 sigfig × Merges greatest filter sigfig log (Err e)
 
 -- a histogram, and how many intervals were chosen and how many of them are coarser, are what a merge comes to

@@ -75,6 +75,10 @@ are_bounds low high sigfig =
 unfoldable pub bounds_defect : Header → Option Defect
 bounds_defect h = if are_bounds h.low h.high h.sigfig then None else Some bad_bounds
 
+-- the text begins with a header of bounds that a histogram can have; memory is taken only then
+abbrev pub HasBounds : List ℕ → Type 0
+HasBounds text = (found : Header × List ℕ) × (header_at text ≡ Ok found) × (bounds_defect found.0 ≡ None)
+
 -- what refused bounds are, running out of memory aside
 abbrev pub creation_defect : CreationError → Option Defect
 creation_defect OutOfMemory = None

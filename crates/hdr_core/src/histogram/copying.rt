@@ -51,7 +51,8 @@ impl<T: Counter> Histogram<T> {
     /// An empty histogram of the same bounds, to which this one is added with correction. Refused for memory alone.
     pub fn clone_correct(&self, interval: u64) -> Result<Histogram<T>, CreationError>
         ensures { MatchResult result (λ h. h ≡ after_add_correct T.greatest
-            (empty_plain self.now.low self.now.high self.now.sigfig self.now.auto_resize) self.now interval) (λ e. e ≡ OutOfMemory) }
+            (empty_plain self.now.low self.now.high self.now.sigfig self.now.auto_resize) self.now interval)
+            (λ e. e ≡ OutOfMemory) }
     {
         let mut copy = Histogram::new_from(self.counts.allocator(), self)?;
         copy.correct_classes(self, interval);

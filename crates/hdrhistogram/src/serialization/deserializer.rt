@@ -1,9 +1,9 @@
 //! Reading V2 bytes.
 
-ghost use Rattle.std.specs.Prelude.{◌≡◌, ℕ, List, [], length, replicate, false, IfOk, IfErr, MatchResult};
+ghost use Rattle.std.specs.Prelude.{◌≡◌, ℕ, List, [], length, replicate, false, None, IfOk, IfErr, MatchResult};
 ghost use Rattle.std.specs.Io.KnownBytes.{Consumes};
-ghost use Rattle.hdrhistogram.specs.Defects.{Gives, TakesAs, Checks, FailsBy, defect_of_error};
-ghost use Rattle.hdrhistogram.specs.V2Read.{creation_defect, bounds_defect, bins_for, bytes_at, v2_at, told_by, told_of, IsRestated, IsReadAs};
+ghost use Rattle.hdrhistogram.specs.Defects.{Gives, TakesAs, Checks, FailsBy, RunsOutOnly, defect_of_error};
+ghost use Rattle.hdrhistogram.specs.V2Read.{HasBounds, creation_defect, bounds_defect, bins_for, bytes_at, v2_at, told_by, told_of, IsRestated, IsReadAs};
 ghost use Rattle.hdrhistogram.specs.HeaderView.{header_of};
 ghost use Rattle.hdrhistogram.specs.FieldRead.{IsHeldIn, RefusesDecoding};
 
@@ -60,6 +60,7 @@ impl Deserializer {
         ensures read { IfOk result (λ found. IsReadAs T.greatest text.now found.0 found.1) }
         ensures refused { IfErr result (λ e. FailsBy (defect_of_error e)
             (v2_at T.greatest text.now)) }
+        ensures memory { IfErr result (RunsOutOnly (HasBounds text.now)) }
         ensures kept { self.new ≡ self.old }
     {
         let (h, rest) = decode(*self.payload.allocator(), text)?;
@@ -83,6 +84,9 @@ impl Deserializer {
         ensures refused { IfErr result (λ e. (taken : List ℕ)
             × Consumes (R.remaining reader.old) (R.remaining reader.new) taken
             × FailsBy (defect_of_error e) (v2_at T.greatest taken)) }
+        ensures memory { IfErr result (λ e. (taken : List ℕ)
+            × Consumes (R.remaining reader.old) (R.remaining reader.new) taken
+            × RunsOutOnly (HasBounds taken) e) }
         ensures as_new { self.new ≡ [] }
     {
         self.payload.clear();
@@ -133,10 +137,16 @@ fn read_field<T: Counter>(
 /// Empty bins of a header's bounds.
 fn empty_for<T: Counter>(alloc: Global, header: Header) -> Result<Filling<T>, DeserializeError>
     ensures bounds { Checks result (bounds_defect (header_of header)) }
+    ensures memory { IfErr result (RunsOutOnly (bounds_defect (header_of header) ≡ None)) }
     ensures empty { IfOk result (λ f. f.counts ≡ replicate (length f.counts) 0) }
     ensures fixed { IfOk result (λ f. f.auto_resize ≡ false) }
     ensures told { IfOk result (λ f. told_by f
-        ≡ record { low = header.low; high = header.high; sigfig = header.sigfig; counts = f.counts }) }
+        ≡ record {
+          low = header.low;
+          high = header.high;
+          sigfig = header.sigfig;
+          counts = f.counts;
+        }) }
     ensures bins { IfOk result (λ f. length f.counts ≡ bins_for (header_of header)) }
 {
     let Header {
@@ -176,6 +186,7 @@ fn bytes_at(text: &[u8], len: usize) -> Result<(&[u8], &[u8]), DeserializeError>
 #[tactic(auto, unfolding(crate::specs::V2Read::v2_at))]
 fn decode<T: Counter>(alloc: Global, text: &[u8]) -> Result<(Histogram<T>, &[u8]), DeserializeError>
     ensures read { Gives (λ x. (told_of x.0, x.1.now)) result (v2_at T.greatest text.now) }
+    ensures memory { IfErr result (RunsOutOnly (HasBounds text.now)) }
     ensures fixed { IfOk result (λ x. x.0.auto_resize ≡ false) }
     ensures restated { IfOk result (λ x. IsRestated x.0) }
 {
@@ -194,6 +205,9 @@ fn read_v2<T: Counter, R: Read>(
     requires { buffer.old.items ≡ [] }
     ensures read { TakesAs (R.remaining reader.old) (R.remaining reader.new)
         told_of (v2_at T.greatest) result }
+    ensures memory { IfErr result (λ e. (taken : List ℕ)
+        × Consumes (R.remaining reader.old) (R.remaining reader.new) taken
+        × RunsOutOnly (HasBounds taken) e) }
     ensures fixed { IfOk result (λ h. h.auto_resize ≡ false) }
     ensures restated { IfOk result (λ h. IsRestated h) }
 {

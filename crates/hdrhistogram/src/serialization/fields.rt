@@ -1,7 +1,7 @@
 //! The header of V2 bytes, read field by field.
 
-ghost use Rattle.std.specs.Prelude.{◌≡◌, Some, IfOk};
-ghost use Rattle.hdrhistogram.specs.Defects.{Gives, TakesAs, Checks, defect_of_error, cut};
+ghost use Rattle.std.specs.Prelude.{◌≡◌, Some, IfOk, IfErr};
+ghost use Rattle.hdrhistogram.specs.Defects.{Gives, TakesAs, Checks, RunsOutOnly, defect_of_error, cut};
 ghost use Rattle.hdrhistogram.specs.V2Read.{four_at, eight_at, cookie_defect, offset_defect, sigfig_defect, ratio_defect, header_at};
 ghost use Rattle.hdrhistogram.specs.HeaderView.{header_of};
 
@@ -25,14 +25,16 @@ pub(crate) struct Header {
 
 /// The error of bytes that end too soon.
 pub(crate) fn ended() -> DeserializeError
-    ensures { defect_of_error result ≡ Some cut }
+    ensures defect { defect_of_error result ≡ Some cut }
+    ensures named { RunsOutOnly ⊥ result }
 {
     DeserializeError::IoError(io::Error::from(ErrorKind::UnexpectedEof))
 }
 
 #[tactic(auto, unfolding(crate::specs::V2Read::cookie_defect))]
 fn check_cookie(cookie: u32) -> Result<(), DeserializeError>
-    ensures { Checks result (cookie_defect cookie) }
+    ensures defect { Checks result (cookie_defect cookie) }
+    ensures named { IfErr result (RunsOutOnly ⊥) }
 {
     if cookie == COOKIE {
         Ok(())
@@ -45,7 +47,8 @@ fn check_cookie(cookie: u32) -> Result<(), DeserializeError>
 
 #[tactic(auto, unfolding(crate::specs::V2Read::offset_defect))]
 fn check_offset(offset: u32) -> Result<(), DeserializeError>
-    ensures { Checks result (offset_defect offset) }
+    ensures defect { Checks result (offset_defect offset) }
+    ensures named { IfErr result (RunsOutOnly ⊥) }
 {
     if offset == 0 {
         Ok(())
@@ -57,6 +60,7 @@ fn check_offset(offset: u32) -> Result<(), DeserializeError>
 #[tactic(auto, unfolding(crate::specs::V2Read::sigfig_defect))]
 fn check_sigfig(sigfig: u32) -> Result<u8, DeserializeError>
     ensures defect { Checks result (sigfig_defect sigfig) }
+    ensures named { IfErr result (RunsOutOnly ⊥) }
     ensures value { IfOk result (λ n. n ≡ sigfig) }
 {
     if sigfig > 255 {
@@ -68,7 +72,8 @@ fn check_sigfig(sigfig: u32) -> Result<u8, DeserializeError>
 
 #[tactic(auto, unfolding(crate::specs::V2Read::ratio_defect))]
 fn check_ratio(ratio: u64) -> Result<(), DeserializeError>
-    ensures { Checks result (ratio_defect ratio) }
+    ensures defect { Checks result (ratio_defect ratio) }
+    ensures named { IfErr result (RunsOutOnly ⊥) }
 {
     if ratio == RATIO {
         Ok(())
@@ -80,7 +85,8 @@ fn check_ratio(ratio: u64) -> Result<(), DeserializeError>
 /// The number in the first four bytes, and the text after them.
 #[tactic(auto, unfolding(crate::specs::V2Read::four_at, crate::specs::V2Read::four_of))]
 fn four_at(text: &[u8]) -> Result<(u32, &[u8]), DeserializeError>
-    ensures { Gives (λ x. (x.0, x.1.now)) result (four_at text.now) }
+    ensures read { Gives (λ x. (x.0, x.1.now)) result (four_at text.now) }
+    ensures named { IfErr result (RunsOutOnly ⊥) }
 {
     if text.len() < 4 {
         return Err(ended());
@@ -91,7 +97,8 @@ fn four_at(text: &[u8]) -> Result<(u32, &[u8]), DeserializeError>
 /// The number in the first eight bytes, and the text after them.
 #[tactic(auto, unfolding(crate::specs::V2Read::eight_at, crate::specs::V2Read::eight_of))]
 fn eight_at(text: &[u8]) -> Result<(u64, &[u8]), DeserializeError>
-    ensures { Gives (λ x. (x.0, x.1.now)) result (eight_at text.now) }
+    ensures read { Gives (λ x. (x.0, x.1.now)) result (eight_at text.now) }
+    ensures named { IfErr result (RunsOutOnly ⊥) }
 {
     if text.len() < 8 {
         return Err(ended());
@@ -102,7 +109,8 @@ fn eight_at(text: &[u8]) -> Result<(u64, &[u8]), DeserializeError>
 /// The header at the front of a text, and the text after it.
 #[tactic(auto, unfolding(crate::specs::V2Read::header_at))]
 pub(crate) fn header_at(text: &[u8]) -> Result<(Header, &[u8]), DeserializeError>
-    ensures { Gives (λ x. (header_of x.0, x.1.now)) result (header_at text.now) }
+    ensures read { Gives (λ x. (header_of x.0, x.1.now)) result (header_at text.now) }
+    ensures named { IfErr result (RunsOutOnly ⊥) }
 {
     let (cookie, text) = four_at(text)?;
     check_cookie(cookie)?;
@@ -126,7 +134,8 @@ pub(crate) fn header_at(text: &[u8]) -> Result<(Header, &[u8]), DeserializeError
 
 /// Takes a field of four bytes from a reader.
 fn read_four<R: Read>(reader: &mut R) -> Result<u32, DeserializeError>
-    ensures { TakesAs (R.remaining reader.old) (R.remaining reader.new) (λ n. n) four_at result }
+    ensures read { TakesAs (R.remaining reader.old) (R.remaining reader.new) (λ n. n) four_at result }
+    ensures named { IfErr result (RunsOutOnly ⊥) }
 {
     let mut bytes = [0u8; 4];
     read_whole(reader, &mut bytes)?;
@@ -135,7 +144,8 @@ fn read_four<R: Read>(reader: &mut R) -> Result<u32, DeserializeError>
 
 /// Takes a field of eight bytes from a reader.
 fn read_eight<R: Read>(reader: &mut R) -> Result<u64, DeserializeError>
-    ensures { TakesAs (R.remaining reader.old) (R.remaining reader.new) (λ n. n) eight_at result }
+    ensures read { TakesAs (R.remaining reader.old) (R.remaining reader.new) (λ n. n) eight_at result }
+    ensures named { IfErr result (RunsOutOnly ⊥) }
 {
     let mut bytes = [0u8; 8];
     read_whole(reader, &mut bytes)?;
@@ -144,7 +154,8 @@ fn read_eight<R: Read>(reader: &mut R) -> Result<u64, DeserializeError>
 
 /// Takes a header from a reader, and nothing after it.
 pub(crate) fn read_header<R: Read>(reader: &mut R) -> Result<Header, DeserializeError>
-    ensures { TakesAs (R.remaining reader.old) (R.remaining reader.new) header_of header_at result }
+    ensures read { TakesAs (R.remaining reader.old) (R.remaining reader.new) header_of header_at result }
+    ensures named { IfErr result (RunsOutOnly ⊥) }
 {
     let cookie = read_four(reader)?;
     check_cookie(cookie)?;

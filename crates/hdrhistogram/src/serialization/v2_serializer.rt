@@ -110,7 +110,8 @@ impl Serializer for V2Serializer {
     ) -> Result<usize, V2SerializeError>
         ensures written { IfOk result (λ n. (bytes : List ℕ) × IsV2 h.now bytes × (n ≡ length bytes)
             × Appends (W.contents writer.old) (W.contents writer.new) bytes) }
-        ensures few { IfOk result (λ n. (n ≤ 40 + 9 * written_bins h.now) × (n ≤ 40 + 9 * most_bins)) }
+        ensures few { IfOk result
+            (λ n. (n ≤ 40 + 9 * written_bins h.now) × (n ≤ 40 + 9 * most_bins)) }
         ensures ok { OnOk result (All (λ n. n < 2 ^ 63) h.now.counts) }
         ensures held { OnOk result (IsV2 h.now self.new) }
         ensures refused { IfErr result (λ e. (self.new ≡ [])

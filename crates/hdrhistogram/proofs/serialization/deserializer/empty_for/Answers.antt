@@ -1,6 +1,6 @@
 use Rattle.hdrhistogram.specs.HeaderView.{header_of}
 use Rattle.hdrhistogram.specs.Defects.{defect_of_error}
-use Rattle.hdrhistogram.proofs.V2ReadHistogram.{bounds-yes, bounds-refused, defect-none, is-made}
+use Rattle.hdrhistogram.proofs.V2ReadHistogram.{bounds-yes, bounds-refused, bounds-memory, defect-none, is-made}
 use Rattle.hdrhistogram.proofs.serialization.deserializer.empty_for.Goals as goal
 
 pub returns-in-Ok-clause-bounds : goal.returns-in-Ok-clause-bounds
@@ -20,3 +20,6 @@ returns-in-Ok-clause-bins g c = (is-made c.in-Ok.filling c.args.header.low c.arg
 
 pub returns-in-Err-clause-bounds : goal.returns-in-Err-clause-bounds
 returns-in-Err-clause-bounds g c = bounds-refused (header_of c.args.header) c.in-Err.error (defect_of_error c.refused.result) c.in-Err.ensures c.refused.ensures
+
+pub returns-in-Err-clause-memory : goal.returns-in-Err-clause-memory
+returns-in-Err-clause-memory g c = bounds-memory (header_of c.args.header) c.in-Err.error c.refused.result c.in-Err.ensures c.refused.ensures

@@ -20,7 +20,7 @@ pub returns-in_default-varint_at-clause-counts : goal.returns-in_default-varint_
 returns-in_default-varint_at-clause-counts g c =
     let p = c.args.payload.now in
     let rest : IsCut (drop c.loop-at.at p) = subst IsCut (take_rest p c.loop-at.at) c.in_default-varint_at.ensures.cut in
-    subst (λ o. FailsBy o (counts_in (length c.args.filling.now.counts) g.T.Counter.greatest p)) (sym c.ended.ensures)
+    subst (λ o. FailsBy o (counts_in (length c.args.filling.now.counts) g.T.Counter.greatest p)) (sym c.ended.ensures.defect)
     (fill_cut (length c.args.filling.now.counts) g.T.Counter.greatest p c.loop-at.filling.counts c.loop-at.at c.loop-at.place c.loop-at.invariant.filled c.loop-at-test.true rest)
 
 pub returns-in_err-place-clause-counts : goal.returns-in_err-place-clause-counts
