@@ -1,11 +1,11 @@
 -- What a builder's headers are written as.
-use Rattle.std.proofs.Common.{◌≡◌, ℕ, ◌<◌, ◌^◌, ◌==◌, Bool, true, false, cond, List, [], ◌∷◌, ◌++◌, Option, Some, None, Result, Ok, Err, map, ap, ◌∙◌, subst}
+use Rattle.std.proofs.Common.{◌≡◌, ℕ, ◌<◌, ◌^◌, ◌==◌, Bool, true, false, cond, List, [], ◌∷◌, ◌++◌, Option, Some, None, Result, Ok, Err, IfErr, length, refl, map, ap, arith, ◌∙◌, subst}
 use Rattle.std.specs.List.{AllByRecursion}
 use Rattle.hdr_log.specs.Pieces.{Piece, Comment, StartsAt, BasedAt, Divided, IsPiece, text_of}
 use Rattle.hdrhistogram.specs.declared.serialization.interval_log.errors.IntervalLogWriterError.{IntervalLogWriterError}
 use Rattle.hdrhistogram.specs.declared.serialization.interval_log.errors.IntervalLogWriterError.TheVariants.{SerializeError, IoError, TimeOutOfRange, OutOfMemory}
-use Rattle.hdrhistogram.specs.LogStarts.{LogStart, thousandths_set, AreSmall, time_pieces, divisor_pieces, start_pieces, pieces_of, IsStartText}
-use Rattle.hdrhistogram.specs.LogLeaving.{WritesText}
+use Rattle.hdrhistogram.specs.LogStarts.{LogStart, new_start, thousandths_set, AreSmall, time_pieces, divisor_pieces, start_pieces, pieces_of, IsStartText}
+use Rattle.hdrhistogram.specs.LogLeaving.{WritesText, IsIoError}
 
 -- a text of which P holds is one of which Q holds
 pub writes_as : {E : Type 0} (P Q : List ℕ → Type 0) (N : E → Type 0) (o n : Option (List ℕ)) (r : Result (Unit {0}) (IntervalLogWriterError E)) → ((t : List ℕ) → P t → Q t) → WritesText P N o n r → WritesText Q N o n r
@@ -53,3 +53,14 @@ start_written v s cs st bt d nothing text now vs ec es eb ed hs hb hd en et ew t
     let S : LogStart → Type 0 = λ z. IsStartText z t in
     let P : List Piece → Type 0 = λ ps. AllByRecursion IsPiece ps × (t ≡ text_of ps) in
     subst S vs (subst P same (are_pieces cs st bt d hs hb hd, e ∙ ew ∙ et ∙ ap (λ x. x ++ text_of (start_pieces cs st bt d)) en))
+
+-- where nothing is set, nothing is to be written, and so no writer fails
+pub plain_written : {E : Type 0} (s : LogStart) (o n : Option (List ℕ)) (r : Result (Unit {0}) (IntervalLogWriterError E)) → WritesText (IsStartText s) (λ _. ⊥) o n r → IfErr r IsIoError → s ≡ new_start → r ≡ Ok tt
+plain_written s o n (Ok tt) h f e = refl
+plain_written s o n (Err (IoError cause)) (text, (all, is), (count, few, front)) f e =
+    let none : text_of (pieces_of s) ≡ [] = ap (λ z. text_of (pieces_of z)) e in
+    let empty : length text ≡ 0 = ap (length {A = ℕ}) (is ∙ none) in
+    absurd (omega (arith, few, empty))
+plain_written s o n (Err (SerializeError x)) h f e = absurd f
+plain_written s o n (Err TimeOutOfRange) h f e = absurd f
+plain_written s o n (Err OutOfMemory) h f e = absurd f

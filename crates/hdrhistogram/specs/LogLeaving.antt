@@ -29,6 +29,11 @@ is_time_error (Err (SerializeError e)) = false
 is_time_error (Err TimeOutOfRange) = true
 is_time_error (Err OutOfMemory) = false
 
+-- the writer failed, and nothing else
+abbrev pub IsIoError : {E : Type 0} → IntervalLogWriterError E → Type 0
+IsIoError (IoError cause) = Unit {0}
+IsIoError e = ⊥
+
 -- a histogram has no bytes: the serializer refuses it, or its buffer could not grow
 abbrev pub RefusesSerialized : {E : Type 0} → (E → Type 0) → IntervalLogWriterError E → Type 0
 RefusesSerialized Q (SerializeError e) = Q e

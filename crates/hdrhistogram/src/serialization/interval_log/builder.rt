@@ -1,6 +1,6 @@
 //! How a log begins.
 
-ghost use Rattle.std.specs.Prelude.{◌≡◌, ◌<◌, ◌++◌, ◌∷◌, [], ◌↔◌, ℕ, List, false, Some, IfOk, OnOk, OnErr, MatchOption, map, string_bytes};
+ghost use Rattle.std.specs.Prelude.{◌≡◌, ◌≢◌, ◌<◌, ◌++◌, ◌∷◌, [], ◌↔◌, ℕ, List, false, Some, None, Ok, IfOk, OnOk, OnErr, MatchOption, map, string_bytes};
 ghost use Rattle.std.specs.List.{flat_map};
 ghost use Rattle.std.specs.Option.{option_map};
 ghost use Rattle.std.specs.Duration.{as_nanos};
@@ -115,6 +115,7 @@ impl IntervalLogWriterBuilder {
         ensures leaves { WritesText (IsStartText self.now) (λ _. ⊥) (W.contents writer.old)
             (W.contents writer.new) result }
         ensures time { (is_time_error result ≡ false) ↔ AreTimesInRange self.now }
+        ensures plain { self.now ≡ new_start → result ≡ Ok tt }
     {
         let Some(start_time) = header_time(self.start_time) else {
             return Err(IntervalLogWriterError::TimeOutOfRange);
@@ -179,8 +180,9 @@ fn header_time(time: Option<Duration>) -> Option<Option<u128>>
 
 /// Adds comments in order.
 fn push_comments(text: &mut Vec<u8>, comments: &[String]) -> Result<(), AllocError>
-    ensures { OnOk result (text.new.items ≡ text.old.items
+    ensures pushed { OnOk result (text.new.items ≡ text.old.items
         ++ flat_map (λ comment. piece_text (Comment (string_bytes comment))) comments.now) }
+    ensures memory { OnErr result (comments.now ≢ []) }
 {
     for comment in comments {
         push_comment(text, comment.as_str())?;
@@ -197,9 +199,11 @@ fn push_headers(
 ) -> Result<(), AllocError>
     requires start { AreSmall start_time }
     requires base { AreSmall base_time }
-    ensures { OnOk result (text.new.items ≡ text.old.items
+    ensures pushed { OnOk result (text.new.items ≡ text.old.items
         ++ (text_of (time_pieces StartsAt start_time) ++ (text_of (time_pieces BasedAt base_time)
         ++ text_of (divisor_pieces divisor)))) }
+    ensures memory { (start_time ≡ None) → (base_time ≡ None) → (divisor ≡ 1)
+        → result ≡ Ok tt }
 {
     if let Some(time) = start_time {
         push_start_time(text, time)?;
@@ -223,8 +227,10 @@ fn push_start(
 ) -> Result<(), AllocError>
     requires start { AreSmall start_time }
     requires base { AreSmall base_time }
-    ensures { OnOk result (text.new.items ≡ text.old.items ++ text_of
+    ensures pushed { OnOk result (text.new.items ≡ text.old.items ++ text_of
         (start_pieces (map string_bytes comments.now) start_time base_time divisor)) }
+    ensures memory { (comments.now ≡ []) → (start_time ≡ None) → (base_time ≡ None)
+        → (divisor ≡ 1) → result ≡ Ok tt }
 {
     push_comments(text, comments)?;
     push_headers(text, start_time, base_time, divisor)

@@ -1,12 +1,12 @@
 //! The writer of a log.
 
-ghost use Rattle.std.specs.Prelude.{◌≡◌, ◌<◌, ◌^◌, ◌↔◌, false};
+ghost use Rattle.std.specs.Prelude.{◌≡◌, ◌<◌, ◌^◌, ◌↔◌, false, IfErr};
 ghost use Rattle.std.specs.Option.{option_map};
 ghost use Rattle.std.specs.Duration.{as_nanos};
 ghost use Rattle.hdr_log.specs.Tags.{tag_text};
 ghost use Rattle.hdr_log.specs.Texts.{IsTimeInRange};
 ghost use Rattle.hdr_log.specs.Pieces.{Comment, piece_text};
-ghost use Rattle.hdrhistogram.specs.LogLeaving.{WritesText, IsIntervalText, is_time_error};
+ghost use Rattle.hdrhistogram.specs.LogLeaving.{WritesText, IsIoError, IsIntervalText, is_time_error};
 
 use crate::serialization::interval_log::buffer::serialized;
 use crate::serialization::interval_log::errors::IntervalLogWriterError;
@@ -36,6 +36,7 @@ pub(crate) fn write_text<W: Write, E>(
 ) -> Result<(), IntervalLogWriterError<E>>
     ensures leaves { WritesText (λ t. t ≡ text.now) (λ _. ⊥) (W.contents writer.old)
         (W.contents writer.new) result }
+    ensures failed { IfErr result IsIoError }
     ensures time { is_time_error result ≡ false }
 {
     match write_whole(writer, text) {
