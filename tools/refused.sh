@@ -1,14 +1,14 @@
 #!/bin/sh
 # For each test below a module `refused`, as the gate built and proved it: runs it with the first, second, .. request for
 # memory refused, until a run meets no refusal. Each run has to pass, to print 'no memory' exactly where a request was
-# refused, and to have freed what it took. Every other test has to have freed what it took, too. Fails where there is no such
-# test.
+# refused, and to have freed what it took. Every other test has to have freed what it took, too. Tests below a module
+# `sparing` have to pass where each request for more than 64 KiB is refused. Fails where there is no such test.
 set -eu
 cd "$(dirname "$0")/.."
 room=$(mktemp -d)
 trap 'rm -rf "$room"' EXIT
 rustc --edition 2024 -O -C panic=abort --crate-type cdylib -o "$room/refuse.so" tools/refuse.rs
-runs=0 failed=0 tests=0
+runs=0 failed=0 tests=0 sparing=0
 for program in crates/*/out/*_tests; do
     [ -x "$program" ] || continue
     for name in $("$program" --list | sed -n 's/^\(.*refused::[a-z0-9_:]*\): test$/\1/p'); do
@@ -28,6 +28,13 @@ for program in crates/*/out/*_tests; do
         done
         echo "$name: $((n - 1)) requests refused in turn"
     done
+    for name in $("$program" --list | sed -n 's/^\(.*sparing::[a-z0-9_:]*\): test$/\1/p'); do
+        runs=$((runs + 1)) sparing=$((sparing + 1))
+        if ! LARGEST=65536 LD_PRELOAD="$room/refuse.so" "$program" "$name" >"$room/out" 2>"$room/err"; then
+            echo "$program $name: fails where large requests are refused" >&2
+            failed=$((failed + 1))
+        fi
+    done
     runs=$((runs + 1))
     LD_PRELOAD="$room/refuse.so" "$program" >"$room/out" 2>"$room/err" || :
     if grep -q '^leaked' "$room/err"; then
@@ -35,5 +42,5 @@ for program in crates/*/out/*_tests; do
         failed=$((failed + 1))
     fi
 done
-echo "refused: $tests tests, $runs runs, $failed failures"
-[ "$failed" = 0 ] && [ "$tests" -gt 0 ]
+echo "refused: $tests tests in turn, $sparing with large requests refused, $runs runs, $failed failures"
+[ "$failed" = 0 ] && [ "$tests" -gt 0 ] && [ "$sparing" -gt 0 ]

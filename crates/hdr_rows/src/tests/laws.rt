@@ -29,6 +29,7 @@ fn call_laws_of_histograms() {
     hdr_core::laws::calls_stand::<u64>();
     hdr_core::laws::adding_commutes();
     hdr_core::laws::adding_associates();
+    hdr_core::laws::joined_stands();
     hdr_core::laws::subtracting_undoes_adding();
     hdr_core::laws::equality();
 }
@@ -46,4 +47,8 @@ fn call_laws_of_bytes() {
     hdrhistogram::laws::bytes_agree();
     hdrhistogram::laws::one_parting();
     hdrhistogram::laws::reading_takes_a_front();
+    hdrhistogram::laws::bytes_read_back();
+    hdrhistogram::laws::read_back_stands();
+    hdrhistogram::laws::merging_adds_the_chosen();
+    hdrhistogram::laws::merged_log_stands();
 }
