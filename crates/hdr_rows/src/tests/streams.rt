@@ -179,7 +179,7 @@ fn readers_of_bytes(rt: HostRuntime) -> Result<(), Fail> {
                 kind,
             };
             let result = deserializer.deserialize::<u64, Source>(&mut source);
-            let left = 43usize.saturating_sub(fails_at.saturating_sub(1));
+            let left = FIRST_RUN.len().saturating_sub(fails_at.saturating_sub(1));
             assert_eq!(rt; source.left.len(), left, "{kind:?} at {fails_at}");
             match result {
                 Ok(h) => assert!(rt; h.len() == 5 && fails_at == 44, "{kind:?} at {fails_at}"),
@@ -218,7 +218,7 @@ fn refused_bytes(rt: HostRuntime) -> Result<(), Fail> {
             fails_at: 0,
             kind: ErrorKind::Other,
         };
-        let left = 43usize.saturating_sub(taken);
+        let left = FIRST_RUN.len().saturating_sub(taken);
         match deserializer.deserialize::<u64, Source>(&mut source) {
             Ok(_) => return Err(Fail::from("it was read")),
             Err(DeserializeError::IoError(cause)) => {
