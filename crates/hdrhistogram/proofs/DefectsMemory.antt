@@ -1,5 +1,5 @@
 -- Where memory may run out.
-use Rattle.std.proofs.Common.{◌≡◌, ◌++◌, List, ℕ, [], Option, Some, None, Result, Ok, Err, IfErr}
+use Rattle.std.proofs.Common.{◌≡◌, ◌++◌, List, ℕ, Option, Some, None, Result, Ok, Err, IfErr}
 use Rattle.std.specs.Io.KnownBytes.{Consumes}
 use Rattle.std.proofs.KnownBytes.{Consumes-trans}
 use Rattle.hdrhistogram.specs.declared.serialization.errors.DeserializeError.{DeserializeError}

@@ -1,6 +1,6 @@
 //! How a log begins.
 
-ghost use Rattle.std.specs.Prelude.{◌≡◌, ◌≢◌, ◌<◌, ◌++◌, ◌∷◌, [], ◌↔◌, ℕ, List, false, Some, None, Ok, IfOk, OnOk, OnErr, MatchOption, map, string_bytes};
+ghost use Rattle.std.specs.Prelude.{◌≡◌, ◌≢◌, ◌<◌, ◌++◌, ◌∷◌, [], ◌↔◌, ℕ, List, false, Some, None, Ok, IfOk, OnOk, OnErr, IfErr, MatchOption, map, string_bytes};
 ghost use Rattle.std.specs.List.{flat_map};
 ghost use Rattle.std.specs.Option.{option_map};
 ghost use Rattle.std.specs.Duration.{as_nanos};
@@ -151,6 +151,7 @@ impl IntervalLogWriterBuilder {
         ensures lent { IfOk result (λ log. ((maker log).now ≡ serializer.old)
             × (divisor_of log ≡ self.now.divisor)) }
         ensures time { (is_time_error result ≡ false) ↔ AreTimesInRange self.now }
+        ensures plain { self.now ≡ new_start → IfErr result (λ _. ⊥) }
     {
         match self.write_headers(writer) {
             Ok(()) => Ok(IntervalLogWriter::new(
