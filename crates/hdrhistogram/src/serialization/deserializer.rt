@@ -51,8 +51,9 @@ impl Deserializer {
     /// takes. What follows them is not looked at.
     ///
     /// The histogram does not grow, its total is the capped sum of its counters, and its marks are
-    /// those of the nonempty ones. Bytes that are no histogram's are refused by their first fault,
-    /// and any bytes may be with `OutOfMemory`. The deserializer is as before.
+    /// those of the nonempty ones. Bytes that are no histogram's are refused by their first fault.
+    /// `OutOfMemory` comes only after a header whose bounds a histogram can have. The deserializer
+    /// is as before.
     pub fn decode_slice<T: Counter>(
         &mut self,
         text: &[u8],
@@ -73,7 +74,8 @@ impl Deserializer {
     /// A refusal names the first fault of the bytes that were taken. They are the reader's up to
     /// and including the field that is refused, or the whole payload where one of its numbers is.
     /// A reader that fails, is interrupted or ends is `IoError`. When memory runs out the answer
-    /// is `OutOfMemory`. The deserializer holds no bytes afterwards.
+    /// is `OutOfMemory`, only after a header as for `decode_slice`. The deserializer holds no bytes
+    /// afterwards.
     pub fn deserialize<T: Counter, R: Read>(
         &mut self,
         reader: &mut R,

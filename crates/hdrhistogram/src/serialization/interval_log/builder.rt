@@ -107,7 +107,8 @@ impl IntervalLogWriterBuilder {
 
     /// Writes the comments in order, and then the headers that are set: start time, base time, and a divisor other than 1.
     /// A time whose seconds do not fit 64 bits is told before memory is asked for. The text is built whole and then
-    /// written: after an i/o error a beginning of it stands in the writer, and any other refusal wrote nothing.
+    /// written: after an i/o error a beginning of it stands in the writer, and any other refusal wrote nothing. Where nothing
+    /// is set, nothing is written and nothing is refused.
     pub fn write_headers<W: Write, E>(
         &self,
         writer: &mut W,
