@@ -4,6 +4,8 @@ use Rattle.hdr_base.specs.Classes.{Grain, grain_of}
 use Rattle.hdr_model.specs.Plain.{Plain, grain, empty_plain}
 use Rattle.hdr_model.specs.Marks.{IsTopMark, IsLowerMark}
 use Rattle.hdr_model.specs.Joining.{after_adds}
+use Rattle.hdr_model.specs.Merging.{after_add}
+use Rattle.hdr_model.proofs.PlainBounds.{bounds, bounds-merged, low-and-sigfig}
 use Rattle.hdr_log.specs.Grammar.{Entry, Start, Base, Span, Interval}
 use Rattle.hdr_log.specs.Texts.{base64_bytes}
 use Rattle.hdrhistogram.specs.Chosen.{Filter, is_chosen}
@@ -133,3 +135,67 @@ chosen_once filter base (Err at ∷ entries) hs ks p q = absurd p
 pub empty_grain : (n : ℕ) → grain (empty_plain 1 2 n true) ≡ grain_of 1 n
 unfolding empty_plain
 empty_grain n = refl
+
+-- ---- where the chosen intervals hold histograms, nothing of a merge is refused
+
+abbrev pub IsDone : Result Merging MergeError → Type 0
+IsDone r = (m : Merging) × (r ≡ Ok m)
+
+read_or_not : (r : Result (Contents × List ℕ) Defect) (p : Contents × List ℕ) (f : Defect) → r ≡ Ok p → r ≡ Err f → ⊥
+read_or_not r p f is not = let both : ◌≡◌ {A = Result (Contents × List ℕ) Defect} (Ok p) (Err f) = sym is ∙ not in absurd cc
+
+bytes_or_not : (o : Option (List ℕ)) (x : List ℕ) → o ≡ None → o ≡ Some x → ⊥
+bytes_or_not o x not is = let both : ◌≡◌ {A = Option (List ℕ)} None (Some x) = sym not ∙ is in absurd cc
+
+bytes_taken : (greatest : ℕ) (filter : Filter) (m : Merging) (entries : List (Result Entry ℕ)) (step r : Result Merging MergeError) (bytes : List ℕ) (h : Plain) (taken : ℕ) (found : Result (Plain × ℕ) DeserializeError)
+    → IsReadAs 18446744073709551615 bytes h taken → ReadsV2 18446744073709551615 bytes found → BytesMerge greatest m found step → MergesOn (EntriesMerge greatest filter entries) step r
+    → ((next : Merging) → next.base ≡ m.base → EntriesMerge greatest filter entries next r → IsDone r) → IsDone r
+bytes_taken greatest filter m entries step r bytes h taken (Ok found) p q b on rest = rest (with_interval greatest m found.0) refl (subst (λ x. MergesOn (EntriesMerge greatest filter entries) x r) b on)
+bytes_taken greatest filter m entries step r bytes h taken (Err e) p q b on rest = absurd (read_or_not _ _ q.0 p.read q.2)
+
+field_taken : (greatest : ℕ) (filter : Filter) (m : Merging) (entries : List (Result Entry ℕ)) (interval : Interval) (step r : Result Merging MergeError) (h : Plain) (o : Option (List ℕ))
+    → base64_bytes interval.field ≡ o → IsHeldIn 18446744073709551615 interval.field h → FieldMerges greatest m o step → MergesOn (EntriesMerge greatest filter entries) step r
+    → ((next : Merging) → next.base ≡ m.base → EntriesMerge greatest filter entries next r → IsDone r) → IsDone r
+field_taken greatest filter m entries interval step r h None e held f on rest = absurd (bytes_or_not (base64_bytes interval.field) held.0 e held.1)
+field_taken greatest filter m entries interval step r h (Some bytes) e held f on rest =
+    let same : held.0 ≡ bytes = same_bytes held.0 bytes (sym held.1 ∙ e) in
+    bytes_taken greatest filter m entries step r bytes h held.2 f.0 (subst (λ t. IsReadAs 18446744073709551615 t h held.2) same held.3) f.1 f.2 on rest
+
+interval_taken : (greatest : ℕ) (filter : Filter) (m : Merging) (entries : List (Result Entry ℕ)) (interval : Interval) (b : Bool) (step r : Result Merging MergeError) (hs : List Plain)
+    → ChosenFirst b interval (AreChosen filter m.base entries) hs → IntervalMerges greatest m b interval step → MergesOn (EntriesMerge greatest filter entries) step r
+    → ((next : Merging) (ks : List Plain) → next.base ≡ m.base → AreChosen filter m.base entries ks → EntriesMerge greatest filter entries next r → IsDone r) → IsDone r
+interval_taken greatest filter m entries interval true step r hs c i on rest =
+    field_taken greatest filter m entries interval step r c.0 (base64_bytes interval.field) refl c.3 i on (λ next same e. rest next c.1 same c.4 e)
+interval_taken greatest filter m entries interval false step r hs c i on rest =
+    rest (past_interval m) hs refl c (subst (λ x. MergesOn (EntriesMerge greatest filter entries) x r) i on)
+
+pub all_taken : (greatest : ℕ) (filter : Filter) (entries : List (Result Entry ℕ)) (m : Merging) (r : Result Merging MergeError) (hs : List Plain)
+    → AreChosen filter m.base entries hs → EntriesMerge greatest filter entries m r → IsDone r
+all_taken greatest filter [] m r hs c e = (m, e)
+all_taken greatest filter (Ok (Start time) ∷ entries) m r hs c e =
+    all_taken greatest filter entries m r hs c (subst (λ x. MergesOn (EntriesMerge greatest filter entries) x r) e.1 e.2)
+all_taken greatest filter (Ok (Base time) ∷ entries) m r hs c e =
+    all_taken greatest filter entries (with_base m time) r hs c (subst (λ x. MergesOn (EntriesMerge greatest filter entries) x r) e.1 e.2)
+all_taken greatest filter (Ok (Span interval) ∷ entries) m r hs c e =
+    interval_taken greatest filter m entries interval (is_chosen filter interval.tag (m.base + interval.start)) e.0 r hs c e.1 e.2
+    (λ next ks same d on. all_taken greatest filter entries next r ks (subst (λ b. AreChosen filter b entries ks) (sym same) d) on)
+all_taken greatest filter (Err at ∷ entries) m r hs c e = absurd c
+
+-- ---- adding changes neither the lowest value nor the digits
+
+added_bounds : (greatest : ℕ) (h : Plain) (ks : List Plain) → bounds (after_adds greatest h ks) ≡ bounds h
+added_bounds greatest h [] = refl
+added_bounds greatest h (k ∷ ks) = added_bounds greatest (after_add greatest h k) ks ∙ bounds-merged greatest h k
+
+empty_low : (n : ℕ) → (empty_plain 1 2 n true).low ≡ 1
+unfolding empty_plain
+empty_low n = refl
+
+empty_sigfig : (n : ℕ) → (empty_plain 1 2 n true).sigfig ≡ n
+unfolding empty_plain
+empty_sigfig n = refl
+
+pub added_digits : (greatest n : ℕ) (h : Plain) (ks : List Plain) → h ≡ after_adds greatest (empty_plain 1 2 n true) ks → (h.low ≡ 1) × (h.sigfig ≡ n)
+added_digits greatest n h ks e =
+    let kept = low-and-sigfig h (empty_plain 1 2 n true) (ap (λ (k : Plain). bounds k) e ∙ added_bounds greatest (empty_plain 1 2 n true) ks) in
+    (kept.0 ∙ empty_low n, kept.1 ∙ empty_sigfig n)

@@ -1,6 +1,8 @@
 -- A histogram that was written and read again.
-use Rattle.std.proofs.Common.{◌≡◌, ℕ, zero, suc, ◌-◌, ◌^◌, ◌<◌, ◌≤◌, min, List, [], ◌∷◌, length, sum, slice_index, All, Option, Some, None, IfSome, sym, ap, ap₂, ◌∙◌, subst, arith}
+use Rattle.std.proofs.Common.{◌≡◌, ℕ, zero, suc, ◌-◌, ◌^◌, ◌<◌, ◌≤◌, min, List, [], ◌∷◌, length, sum, slice_index, All, Option, Some, None, IfSome, refl, sym, ap, ap₂, ◌∙◌, subst, arith}
 use Rattle.hdr_base.specs.Classes.{grain_of, reach_of, bins_to}
+use Rattle.hdr_base.specs.Fractions.{Ratio}
+use Rattle.hdr_model.specs.Quantiles.{quantile_of}
 use Rattle.hdr_model.specs.Plain.{Plain, IsPlain, grain, reach}
 use Rattle.hdr_model.specs.Marks.{IsAbove, IsBelow, IsTopMark, IsLowerMark}
 use Rattle.hdr_model.specs.Samples.{StandsFor, in_class}
@@ -80,3 +82,14 @@ read_stands h k S r s whole few =
       within = subst W reached s.within;
       total = total ∙ omega (arith, whole, few);
     }
+
+-- ---- what is read back answers alike
+
+same_answers : (h k : Plain) (q : Ratio) → k.counts ≡ h.counts → k.total ≡ h.total → grain k ≡ grain h → quantile_of k q ≡ quantile_of h q
+unfolding quantile_of
+same_answers h k q counts total classes = rw (counts, total, classes) refl
+
+pub read_answers : (h k : Plain) (S : List ℕ) → IsReadBack h k → StandsFor h S → StandsFor k S → (k.total ≡ h.total) × ((q : Ratio) → quantile_of k q ≡ quantile_of h q)
+read_answers h k S r s t =
+    let total : k.total ≡ h.total = t.total ∙ sym s.total in
+    (total, λ q. same_answers h k q (same_counts h k r) total (same_classes h k r))

@@ -34,6 +34,11 @@ abbrev pub IsIoError : {E : Type 0} → IntervalLogWriterError E → Type 0
 IsIoError (IoError cause) = Unit {0}
 IsIoError e = ⊥
 
+-- the serializer refused nothing
+abbrev pub IsNoSerializeError : {E : Type 0} → IntervalLogWriterError E → Type 0
+IsNoSerializeError (SerializeError e) = ⊥
+IsNoSerializeError e = Unit {0}
+
 -- a histogram has no bytes: the serializer refuses it, or its buffer could not grow
 abbrev pub RefusesSerialized : {E : Type 0} → (E → Type 0) → IntervalLogWriterError E → Type 0
 RefusesSerialized Q (SerializeError e) = Q e

@@ -7,11 +7,14 @@ ghost use Rattle.std.specs.List.{AllByRecursion};
 ghost use Rattle.hdr_base.specs.Classes.{Grain, IsFiner, grain_of};
 ghost use Rattle.hdr_model.specs.Plain.{Plain, IsPlain, grain, empty_plain};
 ghost use Rattle.hdr_model.specs.Samples.{StandsFor, Fits};
+ghost use Rattle.hdr_base.specs.Fractions.{Ratio};
+ghost use Rattle.hdr_model.specs.Quantiles.{quantile_of};
 ghost use Rattle.hdr_model.specs.Joining.{after_adds, AreParts, joined_samples, AnswersRanked};
 ghost use Rattle.hdr_model.specs.Refusals.{IsBounds};
 ghost use Rattle.hdr_log.specs.Grammar.{Entry, reading};
 ghost use Rattle.hdrhistogram.specs.Chosen.{Filter};
 ghost use Rattle.hdrhistogram.specs.LogMerging.{Merging, Merges, AreChosen, coarser_of};
+ghost use Rattle.hdrhistogram.specs.declared.serialization.interval_log.merge.MergeError.{MergeError};
 ghost use Rattle.hdrhistogram.specs.Varint.{Spells, IsShortest};
 ghost use Rattle.hdrhistogram.specs.ZigZag.{zig_zag, from_zig_zag};
 ghost use Rattle.hdrhistogram.specs.Payload.{Part, IsSplit, IsPayload};
@@ -96,7 +99,8 @@ pub fn bytes_read_back()
     ensures equal { (h k : Plain) → IsRestated h → IsReadBack h k → same_plain k h ≡ true }
 {}
 
-/// What was written and read again is a histogram with the same classes, and stands for the same samples.
+/// What was written and read again is a histogram with the same classes, stands for the same samples, and answers each quantile
+/// alike, 0 and those above 1 among them.
 pub fn read_back_stands()
     ensures plain { (greatest : ℕ) (h k : Plain) → IsPlain greatest h → IsReadBack h k
         → IsPlain greatest k }
@@ -104,12 +108,16 @@ pub fn read_back_stands()
     ensures samples { (greatest : ℕ) (h k : Plain) (S : List ℕ) → IsPlain greatest h
         → IsReadBack h k → StandsFor h S
         → StandsFor k S }
+    ensures answers { (greatest : ℕ) (h k : Plain) (S : List ℕ) → IsPlain greatest h
+        → IsReadBack h k → StandsFor h S
+        → (k.total ≡ h.total) × ((q : Ratio) → quantile_of k q ≡ quantile_of h q) }
 {
     samples_are_counted();
 }
 
 /// Merging a log adds the histograms of its chosen intervals in order, and counts them and those that are coarser than the sum.
-/// Where none is, each of them is finer than the sum.
+/// Where none is, each of them is finer than the sum. The sum has the lowest value 1 and the digits that were asked for. Where
+/// each chosen interval holds a histogram and each line is a log's, nothing is refused by name.
 pub fn merging_adds_the_chosen()
     ensures added { (greatest sigfig : ℕ) (filter : Filter) (log : List ℕ) (m : Merging)
         → Merges greatest filter sigfig log (Ok m)
@@ -122,6 +130,12 @@ pub fn merging_adds_the_chosen()
     ensures only { (filter : Filter) (base : ℕ) (entries : List (Result Entry ℕ))
         (hs others : List Plain) → AreChosen filter base entries hs
         → AreChosen filter base entries others → hs ≡ others }
+    ensures taken { (greatest sigfig : ℕ) (filter : Filter) (log : List ℕ) (hs : List Plain)
+        (r : Result Merging MergeError) → AreChosen filter 0 (reading log) hs
+        → Merges greatest filter sigfig log r → (m : Merging) × (r ≡ Ok m) }
+    ensures digits { (greatest sigfig : ℕ) (filter : Filter) (log : List ℕ) (m : Merging)
+        → Merges greatest filter sigfig log (Ok m)
+        → (m.histogram.low ≡ 1) × (m.histogram.sigfig ≡ sigfig) }
 {}
 
 /// Where the chosen intervals of a log stand for samples, by classes that are no coarser than those of the merge, the

@@ -2,7 +2,7 @@ use Rattle.std.proofs.Common.{◌≡◌, arith, subst}
 use Rattle.hdr_base.specs.Classes.{Grain}
 use Rattle.hdr_log.specs.Grammar.{reading}
 use Rattle.hdrhistogram.specs.LogMerging.{new_merging, coarser_of}
-use Rattle.hdrhistogram.proofs.ChosenAdded.{all_added, chosen_once, empty_grain}
+use Rattle.hdrhistogram.proofs.ChosenAdded.{all_added, chosen_once, all_taken, added_digits, empty_grain}
 use Rattle.hdrhistogram.proofs.FinerCounted.{none_is_coarser}
 use Rattle.hdrhistogram.proofs.laws.merging_adds_the_chosen.Goals as goal
 
@@ -16,3 +16,11 @@ returns-clause-only c = λ filter base entries hs others p q. chosen_once filter
 
 pub returns-clause-finer : goal.returns-clause-finer
 returns-clause-finer c = none_is_coarser
+
+pub returns-clause-taken : goal.returns-clause-taken
+returns-clause-taken c = λ greatest sigfig filter log hs r chosen merges. all_taken greatest filter (reading log) (new_merging sigfig) r hs chosen merges
+
+pub returns-clause-digits : goal.returns-clause-digits
+returns-clause-digits c = λ greatest sigfig filter log m merges.
+    let a = all_added greatest filter (reading log) (new_merging sigfig) m merges in
+    added_digits greatest sigfig m.histogram a.0 a.2

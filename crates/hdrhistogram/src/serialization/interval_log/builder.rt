@@ -7,7 +7,7 @@ ghost use Rattle.std.specs.Duration.{as_nanos};
 ghost use Rattle.std.specs.Io.KnownBytes.{Appends};
 ghost use Rattle.hdr_log.specs.Pieces.{Comment, StartsAt, BasedAt, piece_text, text_of};
 ghost use Rattle.hdrhistogram.specs.LogStarts.{new_start, thousandths_set, AreSmall, time_pieces, divisor_pieces, start_pieces, IsStartText, AreTimesInRange};
-ghost use Rattle.hdrhistogram.specs.LogLeaving.{WritesText, is_time_error};
+ghost use Rattle.hdrhistogram.specs.LogLeaving.{WritesText, IsNoSerializeError, is_time_error};
 ghost use Rattle.hdrhistogram.specs.LogWriters.{sink, maker, divisor_of};
 
 use crate::serialization::interval_log::errors::{CommentError, IntervalLogWriterError};
@@ -153,6 +153,7 @@ impl IntervalLogWriterBuilder {
             × (divisor_of log ≡ self.now.divisor)) }
         ensures time { (is_time_error result ≡ false) ↔ AreTimesInRange self.now }
         ensures plain { self.now ≡ new_start → IfErr result (λ _. ⊥) }
+        ensures named { IfErr result IsNoSerializeError }
     {
         match self.write_headers(writer) {
             Ok(()) => Ok(IntervalLogWriter::new(

@@ -78,6 +78,7 @@ impl<'a, 'b, W: Write, S: Serializer> IntervalLogWriter<'a, 'b, W, S> {
         comment: &str,
     ) -> Result<(), IntervalLogWriterError<S::SerializeError>>
         ensures same { IsSameLog self.old self.new }
+        ensures kept { (maker self.new).now ≡ (maker self.old).now }
         ensures leaves { WritesText (λ text. text ≡ piece_text (Comment comment.now)) (λ _. ⊥)
             (W.contents (sink self.old).now) (W.contents (sink self.new).now) result }
         ensures time { is_time_error result ≡ false }
