@@ -12,6 +12,7 @@ use Rattle.hdr_model.specs.Refusals.{IsBounds}
 use Rattle.hdr_model.specs.Joining.{after_adds, IsPart, AreParts, joined_samples, AnswersRanked}
 use Rattle.hdrhistogram.specs.Chosen.{Filter, is_chosen}
 use Rattle.hdrhistogram.specs.V2Read.{IsReadBack}
+use Rattle.hdrhistogram.proofs.ChosenAdded.{added_digits}
 use Rattle.hdr_tool.specs.declared.fault.Fault.{Fault}
 use Rattle.hdr_tool.specs.declared.words.Command.{Command}
 use Rattle.hdr_tool.specs.declared.words.Command.TheVariants as command
@@ -184,8 +185,10 @@ some_greatest (Some counter.U16) = lit≤ tt
 some_greatest (Some counter.U32) = lit≤ tt
 some_greatest (Some counter.U64) = lit≤ tt
 
-pub record IsMerged (quantiles : List Ratio) (text samples : List ℕ) : Type 0 where
+pub record IsMerged (fewer : ℕ) (quantiles : List Ratio) (text samples : List ℕ) : Type 0 where
   pub histogram : Plain
+  pub low : histogram.low ≡ 1
+  pub sigfig : histogram.sigfig ≡ fewer
   pub report : IsReport histogram quantiles text
   pub stands : StandsFor histogram samples
   pub ranked : AnswersRanked histogram samples
@@ -194,7 +197,7 @@ pub whole_way : (log merge : List (List ℕ)) (sigfig fewer : ℕ) (options : Op
     → NewIsPlain → CallsStand → JoinedStand → ReadsBack → ReadsStand → ((n : ℕ) → StandsFor (empty_plain 1 2 n true) []) → IsFiner (grain_of 1 sigfig) (grain_of 1 fewer)
     → task_of log ≡ Some (Log sigfig) → task_of merge ≡ Some (Merge options fewer quantiles)
     → EndsWith (grain_of 1 sigfig) (record { samples = []; high = 2 }) (enumerate_from 1 (parts 10 input)) Ls → Fits (greatest_into options.into) (grain_of 1 fewer) (joined_samples (chosen_of (filter_of options) Ls))
-    → Program log input written None → Program merge written text fault → (fault ≡ None) × IsMerged quantiles text (joined_samples (chosen_of (filter_of options) Ls))
+    → Program log input written None → Program merge written text fault → (fault ≡ None) × IsMerged fewer quantiles text (joined_samples (chosen_of (filter_of options) Ls))
 whole_way log merge sigfig fewer options quantiles input written text fault Ls new calls joined back stand made fine tl tm ends fits wrote merged =
     let h = empty_plain 1 2 sigfig true in
     let k = empty_plain 1 2 fewer true in
@@ -211,10 +214,13 @@ whole_way log merge sigfig fewer options quantiles input written text fault Ls n
     let parted : AreParts (2 ^ 64 - 1) (grain k) m.1.0 (chosen_of filter Ls) = read_parts (grain k) (grain h) (chosen_of filter (ends_of h lines)) m.1.0 (chosen_of filter Ls) stand finer (chosen_hold filter (grain h) (ends_of h lines) Ls ended) m.1.1 in
     let plain : IsPlain greatest k = empty_is_plain new greatest fewer few_merged in
     let fit = subst (λ (g : Grain). Fits greatest g (joined_samples (chosen_of filter Ls))) (sym (empty_grain fewer)) fits in
+    let digits = added_digits greatest fewer (after_adds greatest k m.1.0) m.1.0 refl in
     let one = some_greatest options.into in (
       m.0,
       record {
         histogram = after_adds greatest k m.1.0;
+        low = digits.0;
+        sigfig = digits.1;
         report = m.1.2;
         stands = (joined.sum greatest (2 ^ 64 - 1) k m.1.0 [] (chosen_of filter Ls) one plain (made fewer) parted fit).0;
         ranked = joined.ranked greatest (2 ^ 64 - 1) k m.1.0 [] (chosen_of filter Ls) one plain (made fewer) parted fit;

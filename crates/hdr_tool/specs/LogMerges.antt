@@ -101,5 +101,5 @@ LogMergeStands =
     → EndsWith (grain_of 1 sigfig) (record { samples = []; high = 2 }) (enumerate_from 1 (parts 10 input)) Ls
     → Fits (greatest_into options.into) (grain_of 1 fewer) (joined_samples (chosen_of (filter_of options) Ls))
     → Program log input written None → Program merge written text fault
-    → (fault ≡ None) × ((h : Plain) × IsReport h quantiles text × StandsFor h (joined_samples (chosen_of (filter_of options) Ls))
+    → (fault ≡ None) × ((h : Plain) × (h.low ≡ 1) × (h.sigfig ≡ fewer) × IsReport h quantiles text × StandsFor h (joined_samples (chosen_of (filter_of options) Ls))
     × AnswersRanked h (joined_samples (chosen_of (filter_of options) Ls)))

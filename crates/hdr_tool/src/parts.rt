@@ -1,6 +1,6 @@
 //! The whole lines of a piece, and words by name.
 
-ghost use Rattle.std.specs.Prelude.{◌≡◌, ◌∷◌, ◌++◌, ℕ, List, IfSome, IfOk, OnOk, MatchOption};
+ghost use Rattle.std.specs.Prelude.{◌≡◌, ◌≢◌, ◌<◌, ◌∷◌, ◌++◌, ℕ, List, length, slice_index, IfSome, IfNone, IfOk, OnOk, MatchOption};
 ghost use Rattle.std.specs.Str.{bytes_eq};
 
 use memchr::memrchr;
@@ -8,7 +8,9 @@ use std::alloc::AllocError;
 
 /// What stands before the last such byte, and what stands after it; `None` where there is none.
 pub(crate) fn split_last(text: &[u8], byte: u8) -> Option<(&[u8], &[u8])>
-    ensures { IfSome result (λ p. text.now ≡ p.0.now ++ byte ∷ p.1.now) }
+    ensures parts { IfSome result (λ p. text.now ≡ p.0.now ++ byte ∷ p.1.now) }
+    ensures last { IfSome result (λ p. (i : ℕ) → i < length p.1.now → slice_index p.1.now i ≢ byte) }
+    ensures none { IfNone result ((i : ℕ) → i < length text.now → slice_index text.now i ≢ byte) }
 {
     let at = memrchr(byte, text)?;
     Some((&text[..at], &text[at + 1..]))
@@ -20,10 +22,13 @@ pub(crate) fn take_lines<'a>(
     text: &mut Vec<u8>,
     piece: &'a [u8],
 ) -> Result<Option<&'a [u8]>, AllocError>
-    ensures { IfOk result (λ tail. MatchOption tail
+    ensures parts { IfOk result (λ tail. MatchOption tail
         (text.new.items ≡ text.old.items ++ piece.now)
         (λ rest. (front : List ℕ) × (piece.now ≡ front ++ 10 ∷ rest.now)
         × (text.new.items ≡ text.old.items ++ front))) }
+    ensures whole { IfOk result (λ tail. MatchOption tail
+        ((i : ℕ) → i < length piece.now → slice_index piece.now i ≢ 10)
+        (λ rest. (i : ℕ) → i < length rest.now → slice_index rest.now i ≢ 10)) }
 {
     match split_last(piece, b'\n') {
         Some((front, tail)) => {

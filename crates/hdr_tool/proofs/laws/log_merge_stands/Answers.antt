@@ -11,4 +11,4 @@ returns c = λ log merge sigfig fewer options quantiles input written text fault
     let stand : ReadsStand = record { plain = c.read_back_stands.ensures.plain; classes = c.read_back_stands.ensures.classes; samples = c.read_back_stands.ensures.samples } in
     let finer = c.finer_classes.ensures.finer 1 sigfig 1 fewer (same_unit sigfig fewer) fine in
     let w = whole_way log merge sigfig fewer options quantiles input written text fault Ls c.new_is_plain.ensures calls joined back stand (λ n. c.clearing_stands.ensures.made 1 2 n _) finer tl tm ends fits wrote merged in
-    (w.0, (w.1.histogram, w.1.report, w.1.stands, w.1.ranked))
+    (w.0, (w.1.histogram, w.1.low, w.1.sigfig, w.1.report, w.1.stands, w.1.ranked))

@@ -75,7 +75,7 @@ pub loop-preserved-in_default-tail : goal.loop-preserved-in_default-tail
 loop-preserved-in_default-tail g c =
     let s = c.loop.invariant.streamed in
     let p = take c.in-Ok.count c.read_piece.new.piece in
-    let t = rw c.in_default-tail.is at c.in-Ok-take_lines.ensures in
+    let t = rw c.in_default-tail.is at c.in-Ok-take_lines.ensures.parts in
     record {
       room = omega (arith, c.read_piece.auto.piece, c.loop.invariant.room);
       same = c.loop.invariant.same;
@@ -100,7 +100,7 @@ pub returns-in-Err-write_lines-2-clause-answers : goal.returns-in-Err-write_line
 returns-in-Err-write_lines-2-clause-answers g c =
     let s = c.loop.invariant.streamed in
     let p = take c.in-Ok.count c.read_piece.new.piece in
-    let t = rw c.in-Some.is at c.in-Ok-take_lines.ensures in
+    let t = rw c.in-Some.is at c.in-Ok-take_lines.ensures.parts in
     answers_now LogLineDone c.args.histogram.now (g.R.Read.remaining c.args.reader.now) (g.R.Read.remaining c.read_piece.new.reader) s.0 c.loop.number c.loop.carry.items s.2.0 c.loop.histogram p t.0 c.in-Some.tail.now c.deref-in-loop.result.now
     (g.W.Write.contents (sink c.args.log.now).now) (g.W.Write.contents (sink c.loop.log).now) (g.W.Write.contents (sink c.write_lines-in-loop.new.log).now) c.in-Err-write_lines-2.fault c.told_at_end.result
     (Consumes-trans (g.R.Read.remaining c.args.reader.now) (g.R.Read.remaining c.loop.reader) (g.R.Read.remaining c.read_piece.new.reader) s.0 p s.1 c.in-Ok.ensures.ok)
@@ -120,7 +120,7 @@ pub returns-in_default-replace-clause-answers : goal.returns-in_default-replace-
 returns-in_default-replace-clause-answers g c =
     let s = c.loop.invariant.streamed in
     let p = take c.in-Ok.count c.read_piece.new.piece in
-    let t = rw c.in-Some.is at c.in-Ok-take_lines.ensures in
+    let t = rw c.in-Some.is at c.in-Ok-take_lines.ensures.parts in
     let a = c.in-Ok-write_lines.ensures.answers.1 in
     answers_unread LogLineDone c.args.histogram.now (g.R.Read.remaining c.args.reader.now) (g.R.Read.remaining c.read_piece.new.reader) (s.0 ++ p) c.in-Ok-write_lines.next c.in-Some.tail.now (s.2.0 ++ a.0) c.write_lines-in-loop.new.histogram
     (g.W.Write.contents (sink c.args.log.now).now) (g.W.Write.contents (sink c.write_lines-in-loop.new.log).now) NoMemory
@@ -134,7 +134,7 @@ pub loop-preserved : goal.loop-preserved
 loop-preserved g c =
     let s = c.loop.invariant.streamed in
     let p = take c.in-Ok.count c.read_piece.new.piece in
-    let t = rw c.in-Some.is at c.in-Ok-take_lines.ensures in
+    let t = rw c.in-Some.is at c.in-Ok-take_lines.ensures.parts in
     let a = c.in-Ok-write_lines.ensures.answers.1 in
     record {
       room = omega (arith, c.read_piece.auto.piece, c.loop.invariant.room);

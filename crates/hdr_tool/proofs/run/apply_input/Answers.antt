@@ -50,7 +50,7 @@ pub loop-preserved-in_default-tail : goal.loop-preserved-in_default-tail
 loop-preserved-in_default-tail g c =
     let s = c.loop.invariant.streamed in
     let p = take c.in-Ok.count c.read_piece.new.piece in
-    let t = rw c.in_default-tail.is at c.in-Ok-take_lines.ensures in
+    let t = rw c.in_default-tail.is at c.in-Ok-take_lines.ensures.parts in
     record {
       room = omega (arith, c.read_piece.auto.piece, c.loop.invariant.room);
       streamed = (
@@ -67,7 +67,7 @@ pub returns-in-Err-apply_lines-2-clause-done : goal.returns-in-Err-apply_lines-2
 returns-in-Err-apply_lines-2-clause-done g c =
     let s = c.loop.invariant.streamed in
     let p = take c.in-Ok.count c.read_piece.new.piece in
-    let t = rw c.in-Some.is at c.in-Ok-take_lines.ensures in
+    let t = rw c.in-Some.is at c.in-Ok-take_lines.ensures.parts in
     refused_now LineDone c.args.histogram.now (g.R.Read.remaining c.args.reader.now) (g.R.Read.remaining c.read_piece.new.reader) s.0 c.loop.number c.loop.carry.items c.loop.histogram p t.0 c.in-Some.tail.now c.deref-in-loop.result.now
     c.in-Err-apply_lines-2.fault c.told_at_end.result
     (Consumes-trans (g.R.Read.remaining c.args.reader.now) (g.R.Read.remaining c.loop.reader) (g.R.Read.remaining c.read_piece.new.reader) s.0 p s.1 c.in-Ok.ensures.ok)
@@ -83,7 +83,7 @@ pub loop-preserved : goal.loop-preserved
 loop-preserved g c =
     let s = c.loop.invariant.streamed in
     let p = take c.in-Ok.count c.read_piece.new.piece in
-    let t = rw c.in-Some.is at c.in-Ok-take_lines.ensures in
+    let t = rw c.in-Some.is at c.in-Ok-take_lines.ensures.parts in
     record {
       room = omega (arith, c.read_piece.auto.piece, c.loop.invariant.room);
       streamed = (
