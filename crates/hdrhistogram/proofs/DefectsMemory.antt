@@ -43,6 +43,6 @@ names_out Condition errors.OutOfMemory h = absurd cc
 pub after_bounds_out : {X : Type 0} (old mid new : Option (List ℕ)) (header : Header) (r : Result X DeserializeError) → TakenBy old mid header_at header → bounds_defect header ≡ None
     → (more : List ℕ) → Consumes mid new more → IfErr r (λ e. (taken : List ℕ) × Consumes old new taken × RunsOutOnly (HasBounds taken) e)
 after_bounds_out old mid new header (Ok x) by fine more d = tt
-after_bounds_out old mid new header (Err e) (t, c, is) fine more d =
+after_bounds_out old mid new header (Err e) (t, c, is, least) fine more d =
     let bounds : HasBounds (t ++ more) = ((header, more), steady_whole header_at header-steady t more header is, fine) in
     (t ++ more, Consumes-trans old mid new t more c d, runs_out (HasBounds (t ++ more)) e bounds)

@@ -1,11 +1,13 @@
 -- A header that a reader gives field by field.
-use Rattle.std.proofs.Common.{◌≡◌, ℕ, ◌<◌, ◌≤◌, Bool, true, false, cond, ltb, List, [], ◌∷◌, ◌++◌, length, drop, Option, Some, None, Result, Ok, Err, refl, sym, ap, ◌∙◌, subst, arith, length-append, length-drop, length-take-le, take, take-append-drop, append-nil, append_assoc, drop_at}
+use Rattle.std.proofs.Common.{◌≡◌, ℕ, ◌+◌, ◌-◌, ◌<◌, ◌≤◌, Bool, true, false, cond, ltb, List, [], ◌∷◌, ◌++◌, length, drop, Option, Some, None, Result, Ok, Err, refl, sym, ap, ◌∙◌, subst, arith, length-append, length-drop, length-take-le, take, take-append-drop, append-nil, append_assoc, drop_at}
 use Rattle.std.specs.Io.KnownBytes.{Consumes}
 use Rattle.std.proofs.KnownBytes.{Consumes-trans}
-use Rattle.std.proofs.lemmas.Bool.{ltb-false, le-ltb, lt-ltb}
+use Rattle.std.proofs.lemmas.Bool.{ltb-true, ltb-false, le-ltb, lt-ltb}
+use Rattle.std.proofs.lemmas.List.{take-append-le}
+use Rattle.std.proofs.Math.Seq.{take-append-add}
 use Rattle.byteorder.specs.Endian.{big_number}
 use Rattle.byteorder.specs.Numbers.{big_from-append, big_from-take}
-use Rattle.hdrhistogram.specs.Defects.{Defect, cut, ◌>>=◌, unless, FailsBy}
+use Rattle.hdrhistogram.specs.Defects.{Defect, cut, ◌>>=◌, unless, FailsBy, TakesNoMore}
 use Rattle.hdrhistogram.specs.V2Read.{Header, four_of, eight_of, four_at, eight_at, check_field, cookie_defect, offset_defect, sigfig_defect, ratio_defect, header_at}
 
 -- ---- a field whose bytes were taken
@@ -51,6 +53,12 @@ four-short t h = rw (lt-ltb (length t) 4 h) refl
 pub eight-short : (t : List ℕ) → length t < 8 → eight_at t ≡ Err cut
 unfolding eight_at
 eight-short t h = rw (lt-ltb (length t) 8 h) refl
+
+pub four-cut : (t : List ℕ) → length t ≤ 4 → TakesNoMore four_at t
+four-cut t h n few = four-short (take n t) (omega (arith, h, few, length-take-le n t (omega (arith, few))))
+
+pub eight-cut : (t : List ℕ) → length t ≤ 8 → TakesNoMore eight_at t
+eight-cut t h n few = eight-short (take n t) (omega (arith, h, few, length-take-le n t (omega (arith, few))))
 
 pub four-whole : (t : List ℕ) (n : ℕ) → length t ≡ 4 → n ≡ big_number 4 t → four_at t ≡ Ok (n, [])
 unfolding four_at four_of
@@ -120,14 +128,35 @@ steady_whole p steady t more x e =
 
 -- bytes were taken that are read as this
 abbrev pub TakenBy : {A : Type 0} → Option (List ℕ) → Option (List ℕ) → (List ℕ → Result (A × List ℕ) Defect) → A → Type 0
-TakenBy old new p x = (t : List ℕ) × Consumes old new t × (p t ≡ Ok (x, []))
+TakenBy old new p x = (t : List ℕ) × Consumes old new t × (p t ≡ Ok (x, [])) × TakesNoMore p t
 
 -- bytes were taken, and what they are read as has G
 abbrev pub TakenSo : {B : Type 0} → Option (List ℕ) → Option (List ℕ) → (List ℕ → Result B Defect) → (Result B Defect → Type 0) → Type 0
-TakenSo old new p G = (t : List ℕ) × Consumes old new t × G (p t)
+TakenSo old new p G = (t : List ℕ) × Consumes old new t × G (p t) × TakesNoMore p t
+
+-- where the front of a text is cut, so is what goes on with it
+pub bind_cut : {A B : Type 0} (r : Result A Defect) (f : A → Result B Defect) → r ≡ Err cut → (r >>= f) ≡ Err cut
+bind_cut r f e = rw e refl
+
+-- a field, and then more, each of which takes no more than it needs
+no_more : {A B : Type 0} (p : List ℕ → Result (A × List ℕ) Defect) (q : A → List ℕ → Result B Defect) (x : A) (t u : List ℕ) → IsSteady p → p t ≡ Ok (x, []) → TakesNoMore p t → TakesNoMore (q x) u
+    → TakesNoMore (λ t. p t >>= λ y. q y.0 y.1) (t ++ u)
+no_more p q x t u steady e m k n few = by_place (ltb n (length t)) refl
+  where
+    by_place : (b : Bool) → ltb n (length t) ≡ b → (p (take n (t ++ u)) >>= λ y. q y.0 y.1) ≡ Err cut
+    by_place true is =
+        let before : n < length t = ltb-true _ _ is in
+        let front : take n (t ++ u) ≡ take n t = take-append-le n t u (omega (arith, before)) in
+        bind_cut (p (take n (t ++ u))) (λ y. q y.0 y.1) (ap p front ∙ m n before)
+    by_place false is =
+        let behind : length t ≤ n = ltb-false _ _ is in
+        let place : length t + (n - length t) ≡ n = omega (arith, behind) in
+        let left : n - length t < length u = omega (arith, behind, few, length-append t u) in
+        let front : take n (t ++ u) ≡ t ++ take (n - length t) u = ap (λ i. take i (t ++ u)) (sym place) ∙ take-append-add t u (n - length t) in
+        ap (λ l. p l >>= λ y. q y.0 y.1) front ∙ (ap (λ r. r >>= λ y. q y.0 y.1) (steady_whole p steady t (take (n - length t) u) x e) ∙ k (n - length t) left)
 
 pub checked-taken : (old new : Option (List ℕ)) (defect : ℕ → Option Defect) (p : List ℕ → Result (ℕ × List ℕ) Defect) (n : ℕ) → TakenBy old new p n → defect n ≡ None → TakenBy old new (λ t. check_field defect (p t)) n
-checked-taken old new defect p n (t, q, e) fine = (t, q, rw e (rw fine refl))
+checked-taken old new defect p n (t, q, e, m) fine = (t, q, rw e (rw fine refl), λ i few. bind_cut (p (take i t)) (λ f. unless (defect f.0) f) (m i few))
 
 pub unless_fails : {A : Type 0} (o defect : Option Defect) (x : A) → FailsBy {A = ℕ} o (unless defect 0) → FailsBy o (unless defect x)
 unless_fails None defect x h = tt
@@ -137,7 +166,8 @@ unless_fails (Some f) (Some g) x h = let same : g ≡ f = cc in ap Err same
 -- the field was taken, and its check fails
 pub checked-refused : (old new : Option (List ℕ)) (defect : ℕ → Option Defect) (p : List ℕ → Result (ℕ × List ℕ) Defect) (n : ℕ) (o : Option Defect) → TakenBy old new p n → FailsBy {A = ℕ} o (unless (defect n) 0)
     → TakenSo old new (λ t. check_field defect (p t)) (FailsBy o)
-checked-refused old new defect p n o (t, q, e) h = (t, q, subst (λ r. FailsBy o (check_field defect r)) (sym e) (unless_fails o (defect n) (n, []) h))
+checked-refused old new defect p n o (t, q, e, m) h =
+    (t, q, subst (λ r. FailsBy o (check_field defect r)) (sym e) (unless_fails o (defect n) (n, []) h), λ i few. bind_cut (p (take i t)) (λ f. unless (defect f.0) f) (m i few))
 
 pub fails_bind : {A B : Type 0} (o : Option Defect) (r : Result A Defect) (f : A → Result B Defect) → FailsBy o r → FailsBy o (r >>= f)
 fails_bind None r f h = tt
@@ -145,18 +175,18 @@ fails_bind (Some e) r f h = rw h refl
 
 -- the field could not be taken
 pub checked-failed : (old new : Option (List ℕ)) (defect : ℕ → Option Defect) (p : List ℕ → Result (ℕ × List ℕ) Defect) (o : Option Defect) → TakenSo old new p (FailsBy o) → TakenSo old new (λ t. check_field defect (p t)) (FailsBy o)
-checked-failed old new defect p o (t, q, h) = (t, q, fails_bind o (p t) (λ f. unless (defect f.0) f) h)
+checked-failed old new defect p o (t, q, h, m) = (t, q, fails_bind o (p t) (λ f. unless (defect f.0) f) h, λ i few. bind_cut (p (take i t)) (λ f. unless (defect f.0) f) (m i few))
 
 -- a field fails, and so what goes on with it
 pub field-failed : {A B : Type 0} (old new : Option (List ℕ)) (p : List ℕ → Result (A × List ℕ) Defect) (q : A → List ℕ → Result B Defect) (o : Option Defect)
     → TakenSo old new p (FailsBy o) → TakenSo old new (λ t. p t >>= λ y. q y.0 y.1) (FailsBy o)
-field-failed old new p q o (t, c, h) = (t, c, fails_bind o (p t) (λ y. q y.0 y.1) h)
+field-failed old new p q o (t, c, h, m) = (t, c, fails_bind o (p t) (λ y. q y.0 y.1) h, λ i few. bind_cut (p (take i t)) (λ y. q y.0 y.1) (m i few))
 
 -- a field, and then more
 pub field-then : {A B : Type 0} (old mid new : Option (List ℕ)) (p : List ℕ → Result (A × List ℕ) Defect) (q : A → List ℕ → Result B Defect) (x : A) (G : Result B Defect → Type 0)
     → IsSteady p → TakenBy old mid p x → TakenSo mid new (q x) G → TakenSo old new (λ t. p t >>= λ y. q y.0 y.1) G
-field-then old mid new p q x G steady (t, c, e) (u, d, h) =
-    (t ++ u, Consumes-trans old mid new t u c d, subst (λ r. G (r >>= λ y. q y.0 y.1)) (sym (steady_whole p steady t u x e)) h)
+field-then old mid new p q x G steady (t, c, e, m) (u, d, h, k) =
+    (t ++ u, Consumes-trans old mid new t u c d, subst (λ r. G (r >>= λ y. q y.0 y.1)) (sym (steady_whole p steady t u x e)) h, no_more p q x t u steady e m k)
 
 -- ---- the header's fields, from each on
 
@@ -212,7 +242,8 @@ headed len sigfig low high = Ok (record { payload_len = len; sigfig = sigfig; lo
 
 pub ratio-ends : (old new : Option (List ℕ)) (len sigfig low high ratio : ℕ) → TakenBy old new (λ t. check_field ratio_defect (eight_at t)) ratio
     → TakenSo old new (from_ratio len sigfig low high) (λ r. r ≡ headed len sigfig low high)
-ratio-ends old new len sigfig low high ratio (t, c, e) = (t, c, rw e refl)
+ratio-ends old new len sigfig low high ratio (t, c, e, m) =
+    (t, c, rw e refl, λ i few. bind_cut (check_field ratio_defect (eight_at (take i t))) (λ ratio. Ok (record { payload_len = len; sigfig = sigfig; low = low; high = high }, ratio.1)) (m i few))
 
 module _ (s0 s1 : Option (List ℕ)) (cookie : ℕ) (cookie_taken : TakenBy s0 s1 four_at cookie) (cookie_fine : cookie_defect cookie ≡ None) (new : Option (List ℕ)) (G : Result (Header × List ℕ) Defect → Type 0) where
   pub after_cookie : TakenSo s1 new from_len G → TakenSo s0 new header_at G

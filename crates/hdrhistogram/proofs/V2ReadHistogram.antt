@@ -13,11 +13,11 @@ use Rattle.hdr_model.specs.declared.errors.CreationError.TheVariants as make
 use Rattle.hdrhistogram.specs.declared.serialization.errors.DeserializeError.{DeserializeError}
 use Rattle.hdrhistogram.specs.declared.serialization.errors.DeserializeError.TheVariants as errors
 use Rattle.hdrhistogram.specs.Streams.{IsStreamError}
-use Rattle.hdrhistogram.specs.Defects.{Defect, cut, bad_bounds, ◌>>=◌, unless, FailsBy, RunsOutOnly, defect_of_error}
+use Rattle.hdrhistogram.specs.Defects.{Defect, cut, bad_bounds, ◌>>=◌, unless, FailsBy, TakesNoMore, RunsOutOnly, defect_of_error}
 use Rattle.hdrhistogram.proofs.DefectsMemory.{runs_out, names_out}
 use Rattle.hdrhistogram.specs.PayloadRead.{counts_in}
 use Rattle.hdrhistogram.specs.V2Read.{Header, Contents, bytes_at, header_at, are_bounds, bounds_defect, bins_for, creation_defect, contents_of, v2_at, told_by, told_of, IsRestated, IsReadAs}
-use Rattle.hdrhistogram.proofs.V2ReadHeader.{IsSteady, bind-steady, ok-steady, header-steady, TakenBy, TakenSo, field-then, field-failed, fails_bind, unless_fails}
+use Rattle.hdrhistogram.proofs.V2ReadHeader.{IsSteady, bind-steady, ok-steady, header-steady, TakenBy, TakenSo, field-then, field-failed, bind_cut, fails_bind, unless_fails}
 
 -- ---- the bounds
 
@@ -157,37 +157,40 @@ pub header-failed : (old new : Option (List ℕ)) (greatest : ℕ) (o : Option D
 header-failed old new greatest o h = from_header old new greatest (λ r. FailsBy o r) (field-failed old new header_at (from_bounds greatest) o h)
 
 pub bounds-failed : (old new : Option (List ℕ)) (greatest : ℕ) (header : Header) (o : Option Defect) → TakenBy old new header_at header → FailsBy {A = ℕ} o (unless (bounds_defect header) 0) → TakenSo old new (v2_at greatest) (FailsBy o)
-bounds-failed old new greatest header o (t, q, e) h =
+bounds-failed old new greatest header o (t, q, e, m) h =
     from_header old new greatest (λ r. FailsBy o r) (
       t,
       q,
       subst (λ (r : Result (Header × List ℕ) Defect). FailsBy o (r >>= λ f. from_bounds greatest f.0 f.1)) (sym e)
           (fails_bind o (unless (bounds_defect header) header) (λ header. from_payload greatest header []) (unless_fails o (bounds_defect header) header h)),
+      λ i few. bind_cut (header_at (take i t)) (λ f. from_bounds greatest f.0 f.1) (m i few),
     )
 
 module _ (s0 s1 : Option (List ℕ)) (greatest : ℕ) (header : Header) (header_taken : TakenBy s0 s1 header_at header) (fine : bounds_defect header ≡ None) (new : Option (List ℕ)) where
   after_bounds : (G : Result (Contents × List ℕ) Defect → Type 0) → TakenSo s1 new (from_payload greatest header) G → TakenSo s0 new (v2_at greatest) G
-  after_bounds G (t, q, h) =
+  after_bounds G (t, q, h, m) =
       from_header s0 new greatest G (field-then s0 s1 new header_at (from_bounds greatest) header G header-steady header_taken
-      (t, q, subst (λ (o : Option Defect). G (unless o header >>= λ header. from_payload greatest header t)) (sym fine) h))
+      (t, q, subst (λ (o : Option Defect). G (unless o header >>= λ header. from_payload greatest header t)) (sym fine) h,
+        λ i few. subst (λ (o : Option Defect). (unless o header >>= λ header. from_payload greatest header (take i t)) ≡ Err cut) (sym fine) (m i few)))
 
   pub payload-failed : (o : Option Defect) → TakenSo s1 new (bytes_at header.payload_len) (FailsBy o) → TakenSo s0 new (v2_at greatest) (FailsBy o)
   payload-failed o h = after_bounds (λ r. FailsBy o r) (field-failed s1 new (bytes_at header.payload_len) (from_counts greatest header) o h)
 
   pub counts-failed : (payload : List ℕ) (o : Option Defect) → TakenBy s1 new (bytes_at header.payload_len) payload → FailsBy o (counts_in (bins_for header) greatest payload) → TakenSo s0 new (v2_at greatest) (FailsBy o)
-  counts-failed payload o (t, q, e) h =
+  counts-failed payload o (t, q, e, m) h =
       after_bounds (λ r. FailsBy o r) (
         t,
         q,
         subst (λ (r : Result (List ℕ × List ℕ) Defect). FailsBy o (r >>= λ p. from_counts greatest header p.0 p.1)) (sym e)
             (fails_bind o (counts_in (bins_for header) greatest payload) (λ counts. Ok (contents_of header counts, [])) h),
+        λ i few. bind_cut (bytes_at header.payload_len (take i t)) (λ p. from_counts greatest header p.0 p.1) (m i few),
       )
 
   pub whole-taken : (payload counts : List ℕ) → TakenBy s1 new (bytes_at header.payload_len) payload → counts_in (bins_for header) greatest payload ≡ Ok counts
       → TakenBy s0 new (v2_at greatest) (contents_of header counts)
-  whole-taken payload counts (t, q, e) h =
+  whole-taken payload counts (t, q, e, m) h =
       after_bounds (λ r. r ≡ Ok (contents_of header counts, []))
-      (t, q, rw e (rw h refl))
+      (t, q, rw e (rw h refl), λ i few. bind_cut (bytes_at header.payload_len (take i t)) (λ p. from_counts greatest header p.0 p.1) (m i few))
 
 -- contents with nothing after them
 abbrev pub whole : Contents → Result (Contents × List ℕ) Defect
@@ -228,6 +231,9 @@ stream_fails errors.EncodedArrayTooLong r s h = absurd s
 pub bytes-short : (len : ℕ) (t : List ℕ) → length t < len → bytes_at len t ≡ Err cut
 unfolding bytes_at
 bytes-short len t h = rw (lt-ltb (length t) len h) refl
+
+pub bytes-cut : (len : ℕ) (t : List ℕ) → length t ≤ len → TakesNoMore (bytes_at len) t
+bytes-cut len t h n few = bytes-short len (take n t) (omega (arith, h, few, length-take-le n t (omega (arith, few))))
 
 pub bytes-whole : (len : ℕ) (t : List ℕ) → length t ≡ len → bytes_at len t ≡ Ok (t, [])
 unfolding bytes_at

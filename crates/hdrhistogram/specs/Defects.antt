@@ -1,5 +1,5 @@
 -- Why V2 bytes are not read, by what is wrong with the bytes, and reading step by step, where the first defect decides.
-use Rattle.std.specs.Prelude.{◌≡◌, ℕ, List, [], Option, Some, None, Result, Ok, Err}
+use Rattle.std.specs.Prelude.{◌≡◌, ℕ, ◌<◌, List, [], length, take, Option, Some, None, Result, Ok, Err}
 use Rattle.std.specs.Io.KnownBytes.{Consumes}
 use Rattle.hdrhistogram.specs.declared.serialization.errors.DeserializeError.{DeserializeError}
 use Rattle.hdrhistogram.specs.declared.serialization.errors.DeserializeError.TheVariants.{IoError, InvalidCookie, UnsupportedFeature, UnsuitableCounterType, InvalidParameters, UsizeTypeTooSmall, EncodedArrayTooLong, OutOfMemory}
@@ -53,9 +53,13 @@ abbrev pub Gives : {X Y : Type 0} → (X → Y) → Result X DeserializeError �
 Gives view (Ok x) read = read ≡ Ok (view x)
 Gives view (Err e) read = FailsBy (defect_of_error e) read
 
--- a function took bytes from a reader, and its answer is what they are read as, with nothing after them
+-- no byte was taken after what decides: each shorter front of the bytes is cut
+abbrev pub TakesNoMore : {Y : Type 0} → (List ℕ → Result Y Defect) → List ℕ → Type 0
+TakesNoMore read taken = (n : ℕ) → n < length taken → read (take n taken) ≡ Err cut
+
+-- a function took bytes from a reader, no more than it needs, and its answer is what they are read as, with nothing after them
 abbrev pub TakesAs : {X Y : Type 0} → Option (List ℕ) → Option (List ℕ) → (X → Y) → (List ℕ → Result (Y × List ℕ) Defect) → Result X DeserializeError → Type 0
-TakesAs old new view read result = (taken : List ℕ) × Consumes old new taken × Gives (λ x. (view x, [])) result (read taken)
+TakesAs old new view read result = (taken : List ℕ) × Consumes old new taken × Gives (λ x. (view x, [])) result (read taken) × TakesNoMore read taken
 
 -- a check's answer tells whether there is this defect
 abbrev pub Checks : {X : Type 0} → Result X DeserializeError → Option Defect → Type 0

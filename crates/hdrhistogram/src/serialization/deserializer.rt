@@ -2,7 +2,7 @@
 
 ghost use Rattle.std.specs.Prelude.{◌≡◌, ℕ, List, [], length, replicate, false, None, IfOk, IfErr, MatchResult};
 ghost use Rattle.std.specs.Io.KnownBytes.{Consumes};
-ghost use Rattle.hdrhistogram.specs.Defects.{Gives, TakesAs, Checks, FailsBy, RunsOutOnly, defect_of_error};
+ghost use Rattle.hdrhistogram.specs.Defects.{Gives, TakesAs, Checks, FailsBy, TakesNoMore, RunsOutOnly, defect_of_error};
 ghost use Rattle.hdrhistogram.specs.V2Read.{HasBounds, creation_defect, bounds_defect, bins_for, bytes_at, v2_at, told_by, told_of, IsRestated, IsReadAs};
 ghost use Rattle.hdrhistogram.specs.HeaderView.{header_of};
 ghost use Rattle.hdrhistogram.specs.FieldRead.{IsHeldIn, RefusesDecoding};
@@ -85,7 +85,8 @@ impl Deserializer {
             × IsReadAs T.greatest taken h (length taken)) }
         ensures refused { IfErr result (λ e. (taken : List ℕ)
             × Consumes (R.remaining reader.old) (R.remaining reader.new) taken
-            × FailsBy (defect_of_error e) (v2_at T.greatest taken)) }
+            × FailsBy (defect_of_error e) (v2_at T.greatest taken)
+            × TakesNoMore (v2_at T.greatest) taken) }
         ensures memory { IfErr result (λ e. (taken : List ℕ)
             × Consumes (R.remaining reader.old) (R.remaining reader.new) taken
             × RunsOutOnly (HasBounds taken) e) }
