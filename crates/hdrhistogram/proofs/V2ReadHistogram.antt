@@ -169,9 +169,12 @@ bounds-failed old new greatest header o (t, q, e, m) h =
 module _ (s0 s1 : Option (List ℕ)) (greatest : ℕ) (header : Header) (header_taken : TakenBy s0 s1 header_at header) (fine : bounds_defect header ≡ None) (new : Option (List ℕ)) where
   after_bounds : (G : Result (Contents × List ℕ) Defect → Type 0) → TakenSo s1 new (from_payload greatest header) G → TakenSo s0 new (v2_at greatest) G
   after_bounds G (t, q, h, m) =
-      from_header s0 new greatest G (field-then s0 s1 new header_at (from_bounds greatest) header G header-steady header_taken
-      (t, q, subst (λ (o : Option Defect). G (unless o header >>= λ header. from_payload greatest header t)) (sym fine) h,
-        λ i few. subst (λ (o : Option Defect). (unless o header >>= λ header. from_payload greatest header (take i t)) ≡ Err cut) (sym fine) (m i few)))
+      from_header s0 new greatest G (field-then s0 s1 new header_at (from_bounds greatest) header G header-steady header_taken (
+        t,
+        q,
+        subst (λ (o : Option Defect). G (unless o header >>= λ header. from_payload greatest header t)) (sym fine) h,
+        λ i few. subst (λ (o : Option Defect). (unless o header >>= λ header. from_payload greatest header (take i t)) ≡ Err cut) (sym fine) (m i few),
+      ))
 
   pub payload-failed : (o : Option Defect) → TakenSo s1 new (bytes_at header.payload_len) (FailsBy o) → TakenSo s0 new (v2_at greatest) (FailsBy o)
   payload-failed o h = after_bounds (λ r. FailsBy o r) (field-failed s1 new (bytes_at header.payload_len) (from_counts greatest header) o h)
