@@ -9,7 +9,7 @@ use Rattle.hdr_core.specs.Calls.{IsCallOf}
 use Rattle.hdr_core.specs.declared.call.Call.{Call}
 use Rattle.hdr_core.specs.declared.call.Call.TheVariants.{Record, Clamp, Correct, Clear, Reset}
 use Rattle.hdr_log.specs.Parts.{◌>>=◌, parts, is_digits, number_of}
-use Rattle.hdr_tool.specs.Commands.{LogCommand, Make, End, count_of, record_of, clamp_of, correct_of, alone, call_of_name, end_tag_of, end_of, log_command_of_name, log_command_of_fields, log_command_of}
+use Rattle.hdr_tool.specs.Commands.{LogCommand, Make, End, count_of, number_and_count_of, record_of, clamp_of, correct_of, alone, call_of_name, end_tag_of, end_of, log_command_of_name, log_command_of_fields, log_command_of}
 
 -- one of two answers, and one after another
 one_of : {A : Type 0} (P : A → Type 0) (b : Bool) (x y : Option A) → IfSome x P → IfSome y P → IfSome (cond b x y) P
@@ -42,25 +42,23 @@ number_small text =
 abbrev pub Fine : Call ℕ → Type 0
 Fine call = IsCallOf (2 ^ 64 - 1) call
 
+pair_small : (fields : List (List ℕ)) → IfSome (number_and_count_of fields) (λ p. Small p.0)
+pair_small [] = tt
+pair_small (n ∷ rest) =
+    tail Small (λ p. Small p.0) (number_of n) (λ number. count_of rest >>= λ count. Some (number, count)) (number_small n) (λ number small.
+    any (λ p. Small p.0) (count_of rest) (λ count. Some (number, count)) (λ count. small))
+
 record_fine : (fields : List (List ℕ)) → IfSome (record_of fields) Fine
-record_fine [] = tt
-record_fine (v ∷ rest) =
-    tail Small Fine (number_of v) (λ value. count_of rest >>= λ count. Some (Record value count)) (number_small v) (λ value small.
-    any Fine (count_of rest) (λ count. Some (Record value count)) (λ count. small))
+record_fine fields = tail (λ p. Small p.0) Fine (number_and_count_of fields) (λ p. Some (Record p.0 p.1)) (pair_small fields) (λ p small. small)
 
 clamp_fine : (fields : List (List ℕ)) → IfSome (clamp_of fields) Fine
-clamp_fine [] = tt
-clamp_fine (v ∷ rest) =
-    tail Small Fine (number_of v) (λ value. count_of rest >>= λ count. Some (Clamp value count)) (number_small v) (λ value small.
-    any Fine (count_of rest) (λ count. Some (Clamp value count)) (λ count. small))
+clamp_fine fields = tail (λ p. Small p.0) Fine (number_and_count_of fields) (λ p. Some (Clamp p.0 p.1)) (pair_small fields) (λ p small. small)
 
 correct_fine : (fields : List (List ℕ)) → IfSome (correct_of fields) Fine
 correct_fine [] = tt
-correct_fine (v ∷ []) = tt
-correct_fine (v ∷ i ∷ rest) =
-    tail Small Fine (number_of v) (λ value. number_of i >>= λ interval. count_of rest >>= λ count. Some (Correct value count interval)) (number_small v) (λ value small.
-    any Fine (number_of i) (λ interval. count_of rest >>= λ count. Some (Correct value count interval)) (λ interval.
-    any Fine (count_of rest) (λ count. Some (Correct value count interval)) (λ count. small)))
+correct_fine (v ∷ rest) =
+    tail Small Fine (number_of v) (λ value. number_and_count_of rest >>= λ p. Some (Correct value p.1 p.0)) (number_small v) (λ value small.
+    any Fine (number_and_count_of rest) (λ p. Some (Correct value p.1 p.0)) (λ p. small))
 
 alone_fine : (call : Call ℕ) (fields : List (List ℕ)) → Fine call → IfSome (alone call fields) Fine
 alone_fine call [] f = f

@@ -1,24 +1,23 @@
 -- What a line does, by its fields.
-use Rattle.std.proofs.Common.{◌≡◌, ℕ, ◌≤◌, ◌==◌, true, false, List, [], ◌∷◌, length, drop, get_or, arith, Option, Some, None, Result, Ok, Err, MatchResult, OnOk, IfErr, ◌^◌, ◌-◌, refl, sym, ap, ◌∙◌, subst}
+use Rattle.std.proofs.Common.{◌≡◌, ℕ, ◌≤◌, ◌==◌, false, List, [], ◌∷◌, length, take, drop, get_or, arith, Option, Some, None, MatchOption, IfSome, Result, Ok, Err, MatchResult, OnOk, IfErr, ◌^◌, ◌-◌, refl, sym, ap, ◌∙◌, subst}
 use Rattle.hdr_model.specs.Plain.{Plain}
 use Rattle.hdr_core.specs.declared.call.Call.{Call}
 use Rattle.hdr_core.specs.declared.call.CallError.{CallError}
 use Rattle.hdr_core.specs.declared.call.CallError.TheVariants as cause
 use Rattle.hdr_model.specs.declared.errors.RecordError.TheVariants as record_error
 use Rattle.hdr_model.specs.declared.errors.AdditionError.TheVariants as addition_error
-use Rattle.hdr_core.specs.declared.call.Call.TheVariants.{Record, Clamp}
 use Rattle.hdr_core.specs.Calls.{after_call, RefusesCall}
-use Rattle.hdr_log.specs.Parts.{parts, number_of}
+use Rattle.hdr_log.specs.Parts.{parts}
 use Rattle.hdr_tool.specs.declared.fault.Fault.{Fault}
 use Rattle.hdr_tool.specs.declared.fault.Fault.TheVariants.{WrongWords, NotACommand, Refused, NotWritten, NotALog, NotBase64, NotRead, NoMemory, CannotRead, CannotWrite}
 use Rattle.hdr_tool.specs.Lines.{Rest, Line, first_line}
-use Rattle.hdr_tool.specs.Commands.{LogCommand, Make, count_of, IsValueLine, IsCallLine, call_of_name, call_of_fields, call_of, log_command_of_name, log_command_of_fields}
+use Rattle.hdr_tool.specs.Commands.{LogCommand, Make, IsCallLine, record_of, clamp_of, correct_of, call_of_name, call_of_fields, call_of, log_command_of_name, log_command_of_fields}
 use Rattle.hdr_tool.specs.Outcomes.{Refuses, StepAnswers}
 use Rattle.hdr_tool.specs.Faults.{refusal_at}
 use Rattle.hdr_tool.specs.Program.{CallDone, CommandDone, LineDone, LogCommandDone, LogLineDone}
-use Rattle.hdr_tool.proofs.LinesFirst.{first_line-byte, fields_first}
+use Rattle.hdr_tool.proofs.LinesFirst.{first_line-byte, fields_first, left_all}
 use Rattle.hdr_tool.proofs.OutcomesSinks.{appends_nothing, keeps}
-use Rattle.std.proofs.lemmas.Bool.{ne_eqb}
+use Rattle.std.specs.Option.{option_map}
 
 -- the fields of a text's first line, as the code holds them
 fields_of : (text name : List ℕ) (left : Rest) → name ≡ (first_line text).field → left ≡ (first_line text).rest → parts 32 (first_line text).bytes ≡ name ∷ left.fields
@@ -54,17 +53,26 @@ line_empty h k bytes e = let F : List ℕ → Type 0 = λ b. LineDone h (k, b) (
 pub log_line_empty : (h : Plain) (k : ℕ) (bytes : List ℕ) → bytes ≡ [] → LogLineDone h (k, bytes) (Ok ([], h))
 log_line_empty h k bytes e = let F : List ℕ → Type 0 = λ b. LogLineDone h (k, b) (Ok ([], h)) in subst F (sym e) refl
 
-not_written : (k : ℕ) (e : CallError) → CannotWrite ≡ refusal_at k e → ⊥
-not_written k (cause.Record record_error.OutOfMemory) h = absurd cc
-not_written k (cause.Record record_error.ValueOutOfRangeResizeDisabled) h = absurd cc
-not_written k (cause.Record record_error.ResizeFailedUsizeTypeTooSmall) h = absurd cc
-not_written k (cause.Addition addition_error.ResizeFailedUsizeTypeTooSmall) h = absurd cc
-not_written k (cause.Addition addition_error.OutOfMemory) h = absurd cc
-not_written k (cause.Addition addition_error.OtherAddendValueExceedsRange) h = absurd cc
+-- the fault of a refused call
+abbrev IsRefusal : Fault → Type 0
+IsRefusal NoMemory = Unit {0}
+IsRefusal (Refused k e) = Unit {0}
+IsRefusal f = ⊥
+
+refusal_is : (k : ℕ) (e : CallError) → IsRefusal (refusal_at k e)
+refusal_is k (cause.Record record_error.OutOfMemory) = tt
+refusal_is k (cause.Record record_error.ValueOutOfRangeResizeDisabled) = tt
+refusal_is k (cause.Record record_error.ResizeFailedUsizeTypeTooSmall) = tt
+refusal_is k (cause.Addition addition_error.ResizeFailedUsizeTypeTooSmall) = tt
+refusal_is k (cause.Addition addition_error.OutOfMemory) = tt
+refusal_is k (cause.Addition addition_error.OtherAddendValueExceedsRange) = tt
+
+call_refused : (h : Plain) (k : ℕ) (call : Call ℕ) (f : Fault) → CallDone k h call (Err f) → IsRefusal f
+call_refused h k call f d = subst IsRefusal (sym d.2) (refusal_is k d.0)
 
 command_not_written : (h : Plain) (k : ℕ) (o : Option (Call ℕ)) → CommandDone k h o (Err CannotWrite) → ⊥
 command_not_written h k None d = absurd cc
-command_not_written h k (Some call) d = absurd (not_written k d.0 d.2)
+command_not_written h k (Some call) d = absurd (call_refused h k call CannotWrite d)
 
 line_not_written : (h : Plain) (k : ℕ) (line : List ℕ) → LineDone h (k, line) (Err CannotWrite) → ⊥
 line_not_written h k [] d = absurd cc
@@ -96,82 +104,51 @@ step_as P Q s o n (NotALog j) k a = (k (Err (NotALog j)) a.0, a.1)
 step_as P Q s o n (NotBase64 j) k a = (k (Err (NotBase64 j)) a.0, a.1)
 step_as P Q s o n (NotRead j c) k a = (k (Err (NotRead j c)) a.0, a.1)
 
--- a line of `r V` or `s V`
-bytes_not : (name : ℕ) (field : List ℕ) → (name ∷ field ≡ [] → ⊥)
-bytes_not name field h = absurd cc
+-- a line of a name of one byte, and more fields
+line_named : (name : ℕ) (text left : List ℕ) → (name == 10) ≡ false → (name == 32) ≡ false → 2 ≤ length text → get_or text 0 0 ≡ name → get_or text 1 0 ≡ 32 → left ≡ drop 2 text
+    → first_line text ≡ record { bytes = name ∷ 32 ∷ (first_line left).bytes; field = name ∷ []; rest = record { fields = (first_line left).field ∷ (first_line left).rest.fields; after = (first_line left).rest.after } }
+line_named name [] left e s l n c d = absurd (omega (arith, l))
+line_named name (a ∷ []) left e s l n c d = absurd (omega (arith, l))
+line_named name (a ∷ b ∷ text) left e s l n c d = rw (d, n, c, first_line-byte name (32 ∷ text), e, s, first_line-byte 32 text) refl
 
-pub value_first : (name value count : ℕ) (more : List (List ℕ)) (text after : List ℕ) → 2 ≤ length text → get_or text 0 0 ≡ name → get_or text 1 0 ≡ 32 → (name ≡ 10 → ⊥) → (name ≡ 32 → ⊥) → number_of (first_line (drop 2 text)).field ≡ Some value → count_of more ≡ Some count
-    → record { fields = more; after = Some after } ≡ (first_line (drop 2 text)).rest → IsValueLine (first_line text) name value count after
-value_first name value count more [] after l n s ten space v m r = absurd (omega arith)
-value_first name value count more (b ∷ []) after l n s ten space v m r = absurd (omega arith)
-value_first name value count more (b ∷ c ∷ text) after l n s ten space v m r =
-    let b10 : (b == 10) ≡ false = ne_eqb b 10 (λ e. ten (sym n ∙ e)) in
-    let b32 : (b == 32) ≡ false = ne_eqb b 32 (λ e. space (sym n ∙ e)) in
-    let c10 : (c == 10) ≡ false = ap (λ x. x == 10) s in
-    let c32 : (c == 32) ≡ true = ap (λ x. x == 32) s in
-    let F : List ℕ = (first_line text).field in
-    let line : first_line (b ∷ c ∷ text) ≡ record { bytes = b ∷ c ∷ (first_line text).bytes; field = b ∷ []; rest = record { fields = F ∷ (first_line text).rest.fields; after = (first_line text).rest.after } } = rw (first_line-byte b (c ∷ text), b10, b32, first_line-byte c text, c10, c32) refl in
-    subst (λ (x : Line). IsValueLine x name value count after) (sym line) (
-      bytes_not b (c ∷ (first_line text).bytes),
-      ap (λ x. x ∷ []) n,
-      F,
-      more,
-      v,
-      m,
-      sym (ap (λ (x : Rest). record { fields = F ∷ x.fields; after = x.after }) r),
-    )
+bytes_not : (name : ℕ) (bytes : List ℕ) → (name ∷ bytes ≡ [] → ⊥)
+bytes_not name bytes h = absurd cc
 
--- the call that such a line asks for
-module _ (field : List ℕ) (more : List (List ℕ)) (value count : ℕ) (e : number_of field ≡ Some value) (m : count_of more ≡ Some count) where
-  record_line : call_of_name (114 ∷ []) (field ∷ more) ≡ Some (Record value count)
-  unfolding call_of_name
-  record_line = rw (e, m) refl
+-- what asks for a call after a name does so in a log's input, too
+pub Asks : ℕ → (List (List ℕ) → Option (Call ℕ)) → Type 0
+Asks name asked = (fields : List (List ℕ)) (call : Call ℕ) → asked fields ≡ Some call → (call_of_name (name ∷ []) fields ≡ Some call) × (log_command_of_name (name ∷ []) fields ≡ Some (Make call))
 
-  record_log_line : log_command_of_name (114 ∷ []) (field ∷ more) ≡ Some (Make (Record value count))
-  unfolding log_command_of_name call_of_name
-  record_log_line = rw (e, m) refl
+-- the call of such a line, by what is left after the name
+pub call_first : {B : Type 0} (lines : B → Option (List ℕ)) (name : ℕ) (asked : List (List ℕ) → Option (Call ℕ)) → Asks name asked → (name == 10) ≡ false → (name == 32) ≡ false
+    → (text : List ℕ) → 2 ≤ length text → get_or text 0 0 ≡ name → get_or text 1 0 ≡ 32 → (o : Option (Call ℕ × B))
+    → (let left = first_line (take (length text - 2) (drop 2 text)) in MatchOption o (asked (left.field ∷ left.rest.fields) ≡ None) (λ p. (asked (left.field ∷ left.rest.fields) ≡ Some p.0) × (lines p.1 ≡ left.rest.after)))
+    → IfSome o (λ p. IsCallLine (first_line text) p.0 × (lines p.1 ≡ (first_line text).rest.after))
+unfolding Asks
+call_first lines name asked asks e s text l n c None m = tt
+call_first lines name asked asks e s text l n c (Some p) m =
+    let left : Line = first_line (take (length text - 2) (drop 2 text)) in
+    let told = asks (left.field ∷ left.rest.fields) p.0 m.0 in
+    subst (λ (x : Line). IsCallLine x p.0 × (lines p.1 ≡ x.rest.after)) (sym (line_named name text _ e s l n c (left_all 2 text))) ((bytes_not name (32 ∷ left.bytes), told.0, told.1), m.1)
 
-  clamp_line : call_of_name (115 ∷ []) (field ∷ more) ≡ Some (Clamp value count)
-  unfolding call_of_name
-  clamp_line = rw (e, m) refl
+pub record_asks : Asks 114 record_of
+unfolding Asks call_of_name log_command_of_name
+record_asks fields call e = (e, ap (option_map Make) e)
 
-  clamp_log_line : log_command_of_name (115 ∷ []) (field ∷ more) ≡ Some (Make (Clamp value count))
-  unfolding log_command_of_name call_of_name
-  clamp_log_line = rw (e, m) refl
+pub clamp_asks : Asks 115 clamp_of
+unfolding Asks call_of_name log_command_of_name
+clamp_asks fields call e = (e, ap (option_map Make) e)
 
-AsksFor : List ℕ → List (List ℕ) → Call ℕ → Type 0
-AsksFor name fields call = (call_of_name name fields ≡ Some call) × (log_command_of_name name fields ≡ Some (Make call))
-
-call_line : (line : Line) (name value count : ℕ) (after : List ℕ) (call : Call ℕ) → ((field : List ℕ) (more : List (List ℕ)) → number_of field ≡ Some value → count_of more ≡ Some count → AsksFor (name ∷ []) (field ∷ more) call) → IsValueLine line name value count after → IsCallLine line call
-unfolding AsksFor
-call_line line name value count after call h v =
-    let (some, field_is, field, more, number, counted, rest_is) = v in
-    let asks : AsksFor line.field line.rest.fields call = subst (λ (n : List ℕ). AsksFor n line.rest.fields call) (sym field_is) (subst (λ (r : Rest). AsksFor (name ∷ []) r.fields call) (sym rest_is) (h field more number counted)) in
-    (some, asks.0, asks.1)
-
-pub record_call : (line : Line) (value count : ℕ) (after : List ℕ) → IsValueLine line 114 value count after → IsCallLine line (Record value count)
-unfolding AsksFor
-record_call line value count after v = call_line line 114 value count after (Record value count) (λ field more e m. (record_line field more value count e m, record_log_line field more value count e m)) v
-
-pub clamp_call : (line : Line) (value count : ℕ) (after : List ℕ) → IsValueLine line 115 value count after → IsCallLine line (Clamp value count)
-unfolding AsksFor
-clamp_call line value count after v = call_line line 115 value count after (Clamp value count) (λ field more e m. (clamp_line field more value count e m, clamp_log_line field more value count e m)) v
-
-not_read : (k : ℕ) (e : CallError) → CannotRead ≡ refusal_at k e → ⊥
-not_read k (cause.Record record_error.OutOfMemory) h = absurd cc
-not_read k (cause.Record record_error.ValueOutOfRangeResizeDisabled) h = absurd cc
-not_read k (cause.Record record_error.ResizeFailedUsizeTypeTooSmall) h = absurd cc
-not_read k (cause.Addition addition_error.ResizeFailedUsizeTypeTooSmall) h = absurd cc
-not_read k (cause.Addition addition_error.OutOfMemory) h = absurd cc
-not_read k (cause.Addition addition_error.OtherAddendValueExceedsRange) h = absurd cc
+pub correct_asks : Asks 99 correct_of
+unfolding Asks call_of_name log_command_of_name
+correct_asks fields call e = (e, ap (option_map Make) e)
 
 -- a step that makes a call
 pub step_of : (Q : Result (List ℕ × Plain) Fault → Type 0) (h : Plain) (k : ℕ) (call : Call ℕ) (s : Plain) (o : Option (List ℕ)) (r : Result (Unit {0}) Fault) → ((x : Result (List ℕ × Plain) Fault) → CallDone k h call x → Q x)
     → MatchResult r (λ _. CallDone k h call (Ok ([], s))) (λ f. CallDone k h call (Err f)) → StepAnswers Q s o o r
 step_of Q h k call s o (Ok u) q d = ([], q (Ok ([], s)) d, appends_nothing o)
 step_of Q h k call s o (Err NoMemory) q d = keeps o
-step_of Q h k call s o (Err CannotRead) q d = absurd (not_read k d.0 d.2)
-step_of Q h k call s o (Err CannotWrite) q d = absurd (not_written k d.0 d.2)
+step_of Q h k call s o (Err CannotRead) q d = absurd (call_refused h k call CannotRead d)
+step_of Q h k call s o (Err CannotWrite) q d = absurd (call_refused h k call CannotWrite d)
 step_of Q h k call s o (Err WrongWords) q d = (q (Err WrongWords) d, keeps o)
 step_of Q h k call s o (Err (NotACommand j)) q d = (q (Err (NotACommand j)) d, keeps o)
 step_of Q h k call s o (Err (Refused j c)) q d = (q (Err (Refused j c)) d, keeps o)

@@ -17,30 +17,33 @@ count_of [] = Some 1
 count_of (count ∷ []) = number_of count
 count_of _ = None
 
+-- a number, and the count after it
+abbrev pub number_and_count_of : List (List ℕ) → Option (ℕ × ℕ)
+number_and_count_of [] = None
+number_and_count_of (n ∷ rest) = do
+  number ← number_of n
+  count ← count_of rest
+  Some (number, count)
+
 -- `r V [N]`, after the name
 abbrev pub record_of : List (List ℕ) → Option (Call ℕ)
-record_of [] = None
-record_of (v ∷ rest) = do
-  value ← number_of v
-  count ← count_of rest
+record_of fields = do
+  (value, count) ← number_and_count_of fields
   Some (Record value count)
 
 -- `s V [N]`
 abbrev pub clamp_of : List (List ℕ) → Option (Call ℕ)
-clamp_of [] = None
-clamp_of (v ∷ rest) = do
-  value ← number_of v
-  count ← count_of rest
+clamp_of fields = do
+  (value, count) ← number_and_count_of fields
   Some (Clamp value count)
 
 -- `c V I [N]`
 abbrev pub correct_of : List (List ℕ) → Option (Call ℕ)
-correct_of (v ∷ i ∷ rest) = do
+correct_of [] = None
+correct_of (v ∷ rest) = do
   value ← number_of v
-  interval ← number_of i
-  count ← count_of rest
+  (interval, count) ← number_and_count_of rest
   Some (Correct value count interval)
-correct_of _ = None
 
 -- a call by its name alone
 abbrev pub alone : Call ℕ → List (List ℕ) → Option (Call ℕ)
@@ -106,11 +109,6 @@ log_command_of line = log_command_of_fields (parts 32 line)
 abbrev pub view_of_log_command : code.LogCommand → LogCommand
 view_of_log_command (code_command.Make call) = Make call
 view_of_log_command (code_command.End start duration tag) = End start duration (option_map tag_text tag)
-
--- a first line of a name of one byte, a value and perhaps a count, with a text after it
-abbrev pub IsValueLine : Line → ℕ → ℕ → ℕ → List ℕ → Type 0
-IsValueLine line name value count after =
-    (line.bytes ≢ []) × (line.field ≡ name ∷ []) × (field : List ℕ) × (more : List (List ℕ)) × (number_of field ≡ Some value) × (count_of more ≡ Some count) × (line.rest ≡ record { fields = field ∷ more; after = Some after })
 
 -- a first line that asks for this call, in a log's input too
 abbrev pub IsCallLine : Line → Call ℕ → Type 0

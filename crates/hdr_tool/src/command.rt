@@ -1,9 +1,10 @@
 //! The commands that lines ask for.
 
-ghost use Rattle.std.specs.Prelude.{◌≡◌, ◌≢◌, MatchOption, IfSome, Some, None};
+ghost use Rattle.std.specs.Prelude.{◌≡◌, ◌∷◌, MatchOption, IfSome, Some, None};
 ghost use Rattle.std.specs.Option.{option_map};
 ghost use Rattle.hdr_tool.specs.Lines.{first_line, view_of_left};
-ghost use Rattle.hdr_tool.specs.Commands.{IsValueLine, count_of, record_of, clamp_of, correct_of, alone, call_of_name, tag_of_word, end_tag_of, end_of, log_command_of_name, view_of_log_command};
+ghost use Rattle.hdr_tool.specs.Commands.{IsCallLine, count_of, number_and_count_of, record_of, clamp_of, correct_of, alone, call_of_name, tag_of_word, end_tag_of, end_of, log_command_of_name, view_of_log_command};
+ghost use Rattle.hdr_core.specs.declared.call.Call.TheVariants.{Correct};
 ghost use Rattle.hdr_log.specs.Tags.{tag_text};
 
 use crate::lines::{Left, field, number_field};
@@ -27,6 +28,22 @@ fn count(left: Left<'_>) -> Option<(u64, Option<&[u8]>)>
     }
 }
 
+/// A number, and the count after it, with the lines after them.
+#[inline(always)]
+fn number_and_count(left: Left<'_>) -> Option<(u64, u64, Option<&[u8]>)>
+    ensures { let left = view_of_left left.entry in
+        MatchOption result (number_and_count_of left.fields ≡ None)
+        (λ p. (number_and_count_of left.fields ≡ Some (p.0, p.1))
+        × (option_map (λ t. t.now) p.2 ≡ left.after)) }
+{
+    let Left::Fields(text) = left else {
+        return None;
+    };
+    let (number, left) = number_field(text)?;
+    let (count, after) = count(left)?;
+    Some((number, count, after))
+}
+
 /// `V [N]`: a value, and how many times.
 #[inline(always)]
 fn record(left: Left<'_>) -> Option<(Call<'static, u64>, Option<&[u8]>)>
@@ -34,11 +51,7 @@ fn record(left: Left<'_>) -> Option<(Call<'static, u64>, Option<&[u8]>)>
         MatchOption result (record_of left.fields ≡ None)
         (λ p. (record_of left.fields ≡ Some p.0) × (option_map (λ t. t.now) p.1 ≡ left.after)) }
 {
-    let Left::Fields(text) = left else {
-        return None;
-    };
-    let (value, left) = number_field(text)?;
-    let (count, after) = count(left)?;
+    let (value, count, after) = number_and_count(left)?;
     Some((Call::Record(value, count), after))
 }
 
@@ -48,12 +61,22 @@ fn clamp(left: Left<'_>) -> Option<(Call<'static, u64>, Option<&[u8]>)>
     ensures { let left = view_of_left left.entry in MatchOption result (clamp_of left.fields ≡ None)
         (λ p. (clamp_of left.fields ≡ Some p.0) × (option_map (λ t. t.now) p.1 ≡ left.after)) }
 {
-    let Left::Fields(text) = left else {
-        return None;
-    };
-    let (value, left) = number_field(text)?;
-    let (count, after) = count(left)?;
+    let (value, count, after) = number_and_count(left)?;
     Some((Call::Clamp(value, count), after))
+}
+
+/// The numbers of `V I [N]`, and the lines after them. They are read out of the loop over lines: in it, three numbers would take
+/// the registers of the others.
+#[inline(never)]
+fn correction(text: &[u8]) -> Option<(u64, u64, u64, Option<&[u8]>)>
+    ensures { let line = first_line text.now in
+        MatchOption result (correct_of (line.field ∷ line.rest.fields) ≡ None)
+        (λ p. (correct_of (line.field ∷ line.rest.fields) ≡ Some (Correct p.0 p.2 p.1))
+        × (option_map (λ t. t.now) p.3 ≡ line.rest.after)) }
+{
+    let (value, left) = number_field(text)?;
+    let (interval, count, after) = number_and_count(left)?;
+    Some((value, interval, count, after))
 }
 
 /// `V I [N]`: a value, the interval at which values were expected, and how many times.
@@ -66,12 +89,7 @@ fn correct(left: Left<'_>) -> Option<(Call<'static, u64>, Option<&[u8]>)>
     let Left::Fields(text) = left else {
         return None;
     };
-    let (value, left) = number_field(text)?;
-    let Left::Fields(text) = left else {
-        return None;
-    };
-    let (interval, left) = number_field(text)?;
-    let (count, after) = count(left)?;
+    let (value, interval, count, after) = correction(text)?;
     Some((Call::Correct(value, count, interval), after))
 }
 
@@ -113,28 +131,17 @@ pub(crate) fn call<'a>(
     }
 }
 
-/// The value and the count of a first line of this name, which an LF ends, and the text after it. The count is 1 where there
-/// is none.
+/// The call of a text's first line, where that is `r V [N]`, `s V [N]` or `c V I [N]`, and the lines after it. `None`: it is
+/// another line.
 #[inline(always)]
-pub(crate) fn value_line(text: &[u8], name: u8) -> Option<(u64, u64, &[u8])>
-    requires { (name ≢ 10) × (name ≢ 32) }
-    ensures { IfSome result (λ p. IsValueLine (first_line text.now) name p.0 p.1 p.2.now) }
+pub(crate) fn value_line(text: &[u8]) -> Option<(Call<'static, u64>, Option<&[u8]>)>
+    ensures { let line = first_line text.now in
+        IfSome result (λ p. IsCallLine line p.0 × (option_map (λ t. t.now) p.1 ≡ line.rest.after)) }
 {
-    if text.len() < 2 {
-        return None;
-    }
-    if text[0] != name {
-        return None;
-    }
-    if text[1] != b' ' {
-        return None;
-    }
-    match number_field(&text[2..]) {
-        Some((value, Left::Lines(Some(after)))) => Some((value, 1, after)),
-        Some((value, Left::Fields(text))) => match number_field(text) {
-            Some((count, Left::Lines(Some(after)))) => Some((value, count, after)),
-            _ => None,
-        },
+    match text {
+        [b'r', b' ', left @ ..] => record(Left::Fields(left)),
+        [b's', b' ', left @ ..] => clamp(Left::Fields(left)),
+        [b'c', b' ', left @ ..] => correct(Left::Fields(left)),
         _ => None,
     }
 }

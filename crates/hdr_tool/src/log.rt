@@ -141,7 +141,7 @@ fn write_lines<W: Write>(
             if let Err(cause) = done {
                 return Err(refusal(next, cause));
             }
-            left = Some(after);
+            left = after;
             next += 1;
             continue;
         }

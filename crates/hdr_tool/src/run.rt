@@ -38,27 +38,24 @@ pub(crate) fn refusal(line: u64, cause: CallError) -> Fault
     }
 }
 
-/// Does a first line of `r V [N]` or `s V [N]` that an LF ends, and answers how that went and the text after the line. `None`: it is
-/// another line, and nothing is done. Most lines are such lines, so their answer is small enough for registers.
+/// Does a first line of `r V [N]`, `s V [N]` or `c V I [N]`, and answers how that went and the lines after it. `None`: it is another
+/// line, and nothing is done. A `CallError` is small, so the answer is returned in registers; one that may hold a `Fault` is
+/// written to memory and copied.
 #[inline(always)]
 pub(crate) fn do_value_line<'a>(
     histogram: &mut Histogram<u64>,
     text: &'a [u8],
-) -> Option<(Result<(), CallError>, &'a [u8])>
+) -> Option<(Result<(), CallError>, Option<&'a [u8]>)>
     ensures none { IfNone result (histogram.new ≡ histogram.old) }
-    ensures after { IfSome result (λ p. (first_line text.now).rest.after ≡ Some p.1.now) }
+    ensures after { IfSome result (λ p. option_map (λ t. t.now) p.1
+        ≡ (first_line text.now).rest.after) }
     ensures done { IfSome result (λ p. (call : Call ℕ) × IsCallLine (first_line text.now) call
         × MatchResult p.0
         (λ _. (k : ℕ) → CallDone k histogram.old call (Ok ([], histogram.new)))
         (λ e. (k : ℕ) → CallDone k histogram.old call (Err (refusal_at k e)))) }
 {
-    if let Some((value, count, after)) = value_line(text, b'r') {
-        return Some((histogram.apply(&Call::Record(value, count)), after));
-    }
-    if let Some((value, count, after)) = value_line(text, b's') {
-        return Some((histogram.apply(&Call::Clamp(value, count)), after));
-    }
-    None
+    let (call, after) = value_line(text)?;
+    Some((histogram.apply(&call), after))
 }
 
 /// Does what the first line of a text says, and answers the lines after it. An empty line says nothing.
@@ -106,7 +103,7 @@ fn apply_lines(histogram: &mut Histogram<u64>, number: u64, text: &[u8]) -> Resu
             if let Err(cause) = done {
                 return Err(refusal(next, cause));
             }
-            left = Some(after);
+            left = after;
             next += 1;
             continue;
         }

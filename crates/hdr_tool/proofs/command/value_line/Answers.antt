@@ -1,32 +1,14 @@
-use Rattle.std.proofs.Common.{◌≡◌, List, [], ◌∷◌, ℕ, drop, subst, sym, refl, ap, ◌∙◌, Some, arith}
+use Rattle.std.proofs.Common.{refl, arith}
 use Rattle.std.specs.Option.{option_map}
-use Rattle.hdr_log.specs.Parts.{number_of}
-use Rattle.hdr_tool.specs.Lines.{Rest, first_line, view_of_left}
-use Rattle.hdr_tool.proofs.LinesFirst.{left_all}
-use Rattle.hdr_tool.proofs.ProgramLines.{value_first}
+use Rattle.hdr_tool.specs.Commands.{record_of, clamp_of, correct_of}
+use Rattle.hdr_tool.proofs.ProgramLines.{call_first, record_asks, clamp_asks, correct_asks}
 use Rattle.hdr_tool.proofs.command.value_line.Goals as goal
 
-pub returns-in-Some-default-Lines-Some : goal.returns-in-Some-default-Lines-Some
-returns-in-Some-default-Lines-Some c =
-    let text = c.args.text.now in
-    let found = c.in-Some-default-Lines-Some in
-    let rest = left_all 2 text in
-    let left : view_of_left found.field-0-1 ≡ record { fields = []; after = Some found.after.now } = ap view_of_left found.field-0-1-is ∙ ap (λ o. record { fields = []; after = option_map (λ t. t.now) o }) found.field-0-1-0-is in
-    value_first c.args.name found.value 1 [] text found.after.now c.if-text-lt2.false (omega (arith, c.if-text-name.false)) (omega (arith, c.if-text-ne32.false)) c.requires.0 c.requires.1
-    (subst (λ x. number_of (first_line x).field ≡ Some found.value) rest found.ensures.0)
-    refl
-    (sym left ∙ found.ensures.1 ∙ ap (λ x. (first_line x).rest) rest)
+pub returns-in-114 : goal.returns-in-114
+returns-in-114 c = call_first (option_map (λ t. t.now)) 114 record_of record_asks refl refl c.args.text.now c.in-114.len_at_least (omega arith) (omega arith) c.record.result c.record.ensures
 
-pub returns-in-Some-default-Lines-Some-number_field : goal.returns-in-Some-default-Lines-Some-number_field
-returns-in-Some-default-Lines-Some-number_field c =
-    let text = c.args.text.now in
-    let value = c.in-Some-default-Fields in
-    let count = c.in-Some-default-Lines-Some-number_field in
-    let more : List ℕ = (first_line value.text.now).field in
-    let rest = left_all 2 text in
-    let left : view_of_left count.field-0-1 ≡ record { fields = []; after = Some count.after.now } = ap view_of_left count.field-0-1-is ∙ ap (λ o. record { fields = []; after = option_map (λ t. t.now) o }) count.field-0-1-0-is in
-    let inner : record { fields = []; after = Some count.after.now } ≡ (first_line value.text.now).rest = sym left ∙ count.ensures.1 in
-    value_first c.args.name value.value count.count (more ∷ []) text count.after.now c.if-text-lt2.false (omega (arith, c.if-text-name.false)) (omega (arith, c.if-text-ne32.false)) c.requires.0 c.requires.1
-    (subst (λ x. number_of (first_line x).field ≡ Some value.value) rest value.ensures.0)
-    count.ensures.0
-    (ap (λ (r : Rest). record { fields = more ∷ r.fields; after = r.after }) inner ∙ sym (ap view_of_left value.field-0-1-is) ∙ value.ensures.1 ∙ ap (λ x. (first_line x).rest) rest)
+pub returns-in-115 : goal.returns-in-115
+returns-in-115 c = call_first (option_map (λ t. t.now)) 115 clamp_of clamp_asks refl refl c.args.text.now c.in-115.len_at_least (omega arith) (omega arith) c.clamp.result c.clamp.ensures
+
+pub returns-in-99 : goal.returns-in-99
+returns-in-99 c = call_first (option_map (λ t. t.now)) 99 correct_of correct_asks refl refl c.args.text.now c.in-99.len_at_least (omega arith) (omega arith) c.correct.result c.correct.ensures

@@ -41,11 +41,11 @@ returns-in-Err-clause-answers g c =
 
 pub overflow_add-next : goal.overflow_add-next
 overflow_add-next g c =
-    let e = lines_step c.loop-left.next c.in-Some.text.now _ _ (ap (option_map (λ t. t.now)) c.in-Some.is) (sym c.in-Some-do_value_line.ensures.after) in
+    let e = lines_step c.loop-left.next c.in-Some.text.now _ _ (ap (option_map (λ t. t.now)) c.in-Some.is) c.in-Some-do_value_line.ensures.after in
     omega (arith, ap length e, c.loop-left.invariant.counts, c.if-not-can_number.ensures refl)
 
 pub loop-left-smaller-in-Some-do_value_line : goal.loop-left-smaller-in-Some-do_value_line
-loop-left-smaller-in-Some-do_value_line g c = rw c.in-Some.is (lines_shorter c.in-Some.text.now _ (sym c.in-Some-do_value_line.ensures.after))
+loop-left-smaller-in-Some-do_value_line g c = rw c.in-Some.is (lines_shorter c.in-Some.text.now _ c.in-Some-do_value_line.ensures.after)
 
 pub loop-left-preserved-in-Some-do_value_line : goal.loop-left-preserved-in-Some-do_value_line
 loop-left-preserved-in-Some-do_value_line g c =
@@ -54,7 +54,7 @@ loop-left-preserved-in-Some-do_value_line g c =
     let d = c.in-Some-do_value_line.ensures.done in
     let (h, new, k) : Plain × Plain × ℕ = (c.loop-left.histogram, c.do_value_line.new.histogram, c.loop-left.next) in
     let o = g.W.Write.contents (sink c.loop-left.log).now in
-    let e = lines_step k text _ _ (ap (option_map (λ t. t.now)) c.in-Some.is) (sym c.in-Some-do_value_line.ensures.after) in
+    let e = lines_step k text _ _ (ap (option_map (λ t. t.now)) c.in-Some.is) c.in-Some-do_value_line.ensures.after in
     let done = call_log_line_done h k (Ok ([], new)) text d.0 d.1 (told_ok h new d.0 c.in-Some-do_value_line.done d.2 c.in_default-done.field-0 c.in_default-done.is k) in
     record {
       same = c.loop-left.invariant.same;

@@ -22,18 +22,18 @@ returns-in-Err-clause-done c =
 
 pub overflow_add-next : goal.overflow_add-next
 overflow_add-next c =
-    let e = lines_step c.loop-left.next c.in-Some.text.now _ _ (ap (option_map (λ t. t.now)) c.in-Some.is) (sym c.in-Some-do_value_line.ensures.after) in
+    let e = lines_step c.loop-left.next c.in-Some.text.now _ _ (ap (option_map (λ t. t.now)) c.in-Some.is) c.in-Some-do_value_line.ensures.after in
     omega (arith, ap length e, c.loop-left.invariant.counts, c.if-not-can_number.ensures refl)
 
 pub loop-left-smaller-in-Some-do_value_line : goal.loop-left-smaller-in-Some-do_value_line
-loop-left-smaller-in-Some-do_value_line c = rw c.in-Some.is (lines_shorter c.in-Some.text.now _ (sym c.in-Some-do_value_line.ensures.after))
+loop-left-smaller-in-Some-do_value_line c = rw c.in-Some.is (lines_shorter c.in-Some.text.now _ c.in-Some-do_value_line.ensures.after)
 
 pub loop-left-preserved-in-Some-do_value_line : goal.loop-left-preserved-in-Some-do_value_line
 loop-left-preserved-in-Some-do_value_line c =
     let text = c.in-Some.text.now in
     let d = c.in-Some-do_value_line.ensures.done in
     let new = c.do_value_line.new.histogram in
-    let e = lines_step c.loop-left.next text _ _ (ap (option_map (λ t. t.now)) c.in-Some.is) (sym c.in-Some-do_value_line.ensures.after) in
+    let e = lines_step c.loop-left.next text _ _ (ap (option_map (λ t. t.now)) c.in-Some.is) c.in-Some-do_value_line.ensures.after in
     let done = call_line_done c.loop-left.histogram c.loop-left.next (Ok ([], new)) text d.0 d.1 (told_ok c.loop-left.histogram new d.0 c.in-Some-do_value_line.done d.2 c.in_default-done.field-0 c.in_default-done.is c.loop-left.next) in
     record {
       goes = λ out r. c.loop-left.invariant.goes out (goes_on LineDone c.loop-left.histogram new _ _ (c.loop-left.next, (first_line text).bytes) [] out e done r);
