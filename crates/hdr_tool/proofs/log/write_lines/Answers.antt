@@ -1,4 +1,4 @@
-use Rattle.std.proofs.Common.{ℕ, List, Option, Ok, Err, Some, [], refl, sym, ap, subst, length, arith, ◌∙◌}
+use Rattle.std.proofs.Common.{ℕ, List, Option, Ok, Err, Some, [], refl, ap, subst, length, arith, ◌∙◌}
 use Rattle.std.specs.Option.{option_map}
 use Rattle.std.specs.Io.KnownBytes.{Appends}
 use Rattle.hdr_model.specs.Plain.{Plain}

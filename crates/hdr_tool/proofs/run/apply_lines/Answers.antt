@@ -1,4 +1,4 @@
-use Rattle.std.proofs.Common.{[], Some, Ok, Err, length, refl, sym, ap, subst, arith}
+use Rattle.std.proofs.Common.{[], Some, Ok, Err, length, refl, ap, subst, arith}
 use Rattle.std.specs.Option.{option_map}
 use Rattle.hdr_tool.specs.Lines.{first_line, number_lines}
 use Rattle.hdr_model.specs.Plain.{Plain}
