@@ -4,6 +4,7 @@ use Rattle.std.specs.Option.{option_map}
 use Rattle.std.specs.List.{list_all}
 use Rattle.std.specs.Char.{is_ascii_digit, digit_value}
 use Rattle.std.specs.Str.Parse.{digits_value_after}
+use Rattle.std.proofs.Math.Nat.{pow-suc, pow-le-pow_right}
 use Rattle.std.proofs.lemmas.Bool.{le-ltb, lt-ltb, ne_eqb}
 use Rattle.std.proofs.lemmas.List.{drop_more, drop_all}
 use Rattle.std.proofs.lemmas.Option.{same_Some}
@@ -50,18 +51,17 @@ number_on-great v l h =
       | false ↦ refl
     ]
 
--- the text's end, the line's end, a space, and any other byte
+-- the text's end, the field's end, and any other byte
 pub number_on-none : (v : ℕ) → v < 2 ^ 64 → number_on v (first_line []) ≡ Some (v, record { fields = []; after = None })
 number_on-none v h = rw (first_line-none, lt-ltb v (2 ^ 64) h) refl
 
-pub number_on-end : (v : ℕ) (text : List ℕ) → v < 2 ^ 64 → number_on v (first_line (10 ∷ text)) ≡ Some (v, record { fields = []; after = Some text })
-number_on-end v text h = rw (first_line-byte 10 text, lt-ltb v (2 ^ 64) h) refl
+number_on-ended : (v : ℕ) (l : Line) → l.field ≡ [] → v < 2 ^ 64 → number_on v l ≡ Some (v, l.rest)
+number_on-ended v l e h = rw (e, lt-ltb v (2 ^ 64) h) refl
 
-pub number_on-space : (v : ℕ) (text : List ℕ) → v < 2 ^ 64 → number_on v (first_line (32 ∷ text)) ≡ Some (v, record { fields = (first_line text).field ∷ (first_line text).rest.fields; after = (first_line text).rest.after })
-number_on-space v text h = rw (first_line-byte 32 text, lt-ltb v (2 ^ 64) h) refl
-
-pub number_on-other : (v b : ℕ) (text : List ℕ) → is_ascii_digit b ≡ false → (b == 10) ≡ false → (b == 32) ≡ false → number_on v (first_line (b ∷ text)) ≡ None
-number_on-other v b text d e s = rw (first_line-byte b text, e, s, d) refl
+number_on-other : (t u : Bool) (v b : ℕ) (text : List ℕ) (l : Line) → is_ascii_digit b ≡ false → ((with_byte t u b text l).field ≡ [] → ⊥) → number_on v (with_byte t u b text l) ≡ None
+number_on-other true u v b text l d n = absurd (n refl)
+number_on-other false true v b text l d n = absurd (n refl)
+number_on-other false false v b text l d n = rw d refl
 
 not_true : (t : Bool) → (t ≡ true → ⊥) → t ≡ false
 not_true true h = absurd (h refl)
@@ -133,17 +133,8 @@ module _ (text : List ℕ) (at value : ℕ) (some : 0 < length text) (pos : 0 < 
   none : number_on value (first_line (drop at text)) ≡ None → number_of (first_line text).field ≡ None
   none h = of_none (number_of (first_line text).field) (first_line text).rest (begins text some (s.digit pos) ∙ s.same ∙ h)
 
-pub number_space : (text later : List ℕ) (at value : ℕ) → at < length text → later ≡ drop (at + 1) text → get_or text at 0 ≡ 32 → 0 < at → Spells text at value →
-    (number_of (first_line text).field ≡ Some value) × (record { fields = (first_line later).field ∷ (first_line later).rest.fields; after = (first_line later).rest.after } ≡ (first_line text).rest)
-number_space text later at value l q e pos s =
-    let d : drop at text ≡ 32 ∷ later = drop_more text at 0 l ∙ ap (λ b. b ∷ drop (at + 1) text) e ∙ ap (λ x. 32 ∷ x) (sym q) in
-    found text at value (omega arith) pos s (record { fields = (first_line later).field ∷ (first_line later).rest.fields; after = (first_line later).rest.after }) (ap (λ x. number_on value (first_line x)) d ∙ number_on-space value later s.fits)
-
-pub number_end : (text later : List ℕ) (at value : ℕ) → at < length text → later ≡ drop (at + 1) text → get_or text at 0 ≡ 10 → 0 < at → Spells text at value →
-    (number_of (first_line text).field ≡ Some value) × (record { fields = []; after = Some later } ≡ (first_line text).rest)
-number_end text later at value l q e pos s =
-    let d : drop at text ≡ 10 ∷ later = drop_more text at 0 l ∙ ap (λ b. b ∷ drop (at + 1) text) e ∙ ap (λ x. 10 ∷ x) (sym q) in
-    found text at value (omega arith) pos s (record { fields = []; after = Some later }) (ap (λ x. number_on value (first_line x)) d ∙ number_on-end value later s.fits)
+pub number_left : (text : List ℕ) (at value : ℕ) (rest : Rest) → at < length text → 0 < at → Spells text at value → (first_line (drop at text)).field ≡ [] → rest ≡ (first_line (drop at text)).rest → (number_of (first_line text).field ≡ Some value) × (rest ≡ (first_line text).rest)
+number_left text at value rest l pos s e r = found text at value (omega arith) pos s rest (number_on-ended value (first_line (drop at text)) e s.fits ∙ ap (λ (x : Rest). Some (value, x)) (sym r))
 
 pub number_all : (text : List ℕ) (at value : ℕ) → (length text == 0) ≡ false → length text ≤ at → Spells text at value →
     (number_of (first_line text).field ≡ Some value) × (record { fields = []; after = None } ≡ (first_line text).rest)
@@ -171,7 +162,36 @@ number_begun [] at l e d = absurd (omega arith)
 number_begun (b ∷ text) zero l e d = begin_other b text (not_true (is_ascii_digit b) d)
 number_begun (b ∷ text) (suc at) l e d = absurd (omega (arith, e))
 
-pub number_other : (text : List ℕ) (at value : ℕ) → at < length text → (is_ascii_digit (get_or text at 0) ≡ true → ⊥) → (get_or text at 0 ≡ 10 → ⊥) → (get_or text at 0 ≡ 32 → ⊥) → 0 < at → Spells text at value → number_of (first_line text).field ≡ None
-number_other text at value l d e w pos s =
-    let b = get_or text at 0 in
-    none text at value (omega arith) pos s (ap (λ x. number_on value (first_line x)) (drop_more text at 0 l) ∙ number_on-other value b (drop (at + 1) text) (not_true (is_ascii_digit b) d) (ne_eqb b 10 e) (ne_eqb b 32 w))
+pub number_other : (text : List ℕ) (at value : ℕ) → at < length text → is_ascii_digit (get_or text at 0) ≡ false → ((first_line (drop at text)).field ≡ [] → ⊥) → 0 < at → Spells text at value → number_of (first_line text).field ≡ None
+number_other text at value l d n pos s =
+    let (b, later) : ℕ × List ℕ = (get_or text at 0, drop (at + 1) text) in
+    let line : first_line (drop at text) ≡ with_byte (b == 10) (b == 32) b later (first_line later) = ap first_line (drop_more text at 0 l) ∙ first_line-byte b later in
+    none text at value (omega arith) pos s (ap (number_on value) line ∙ number_on-other (b == 10) (b == 32) value b later (first_line later) d (λ e. n (ap (λ (x : Line). x.field) line ∙ e)))
+
+-- one more digit of few
+pub few_more : (at value digit : ℕ) → at < 19 → value < 10 ^ at → digit < 10 → (value * 10 + digit < 10 ^ (at + 1)) × (value * 10 + digit < 2 ^ 64)
+few_more at value digit l v d =
+    let next : at + 1 ≡ suc at = omega arith in
+    let more : 10 ^ (at + 1) ≡ 10 ^ at * 10 = ap (λ n. 10 ^ n) next ∙ pow-suc 10 at in
+    let within : at + 1 ≤ 19 = omega arith in
+    let most : 10 ^ (at + 1) ≤ 10 ^ 19 = pow-le-pow_right (lit< tt) within in
+    (omega (arith, more), omega (arith, more, most))
+
+-- what is left where a field ends, by the byte there
+module _ (text later : List ℕ) (at : ℕ) (l : at < length text) (q : later ≡ drop (at + 1) text) where
+  at_byte : (b : ℕ) → get_or text at 0 ≡ b → drop at text ≡ b ∷ later
+  at_byte b e = drop_more text at 0 l ∙ ap (λ x. x ∷ drop (at + 1) text) e ∙ ap (λ x. b ∷ x) (sym q)
+
+  pub left_space : get_or text at 0 ≡ 32 → ((first_line (drop at text)).field ≡ []) × (record { fields = (first_line later).field ∷ (first_line later).rest.fields; after = (first_line later).rest.after } ≡ (first_line (drop at text)).rest)
+  left_space e = rw (at_byte 32 e, first_line-byte 32 later) (refl, refl)
+
+  pub left_end : get_or text at 0 ≡ 10 → ((first_line (drop at text)).field ≡ []) × (record { fields = []; after = Some later } ≡ (first_line (drop at text)).rest)
+  left_end e = rw (at_byte 10 e, first_line-byte 10 later) (refl, refl)
+
+pub left_none : (text : List ℕ) (at : ℕ) → at < length text → (get_or text at 0 ≡ 32 → ⊥) → (get_or text at 0 ≡ 10 → ⊥) → (first_line (drop at text)).field ≡ [] → ⊥
+left_none text at l w e h =
+    let (b, later) : ℕ × List ℕ = (get_or text at 0, drop (at + 1) text) in
+    let line : first_line (drop at text) ≡ first_line (b ∷ later) = ap first_line (drop_more text at 0 l) in
+    let byte : first_line (b ∷ later) ≡ with_byte false false b later (first_line later) = rw (first_line-byte b later, ne_eqb b 10 e, ne_eqb b 32 w) refl in
+    let f : b ∷ (first_line later).field ≡ [] = sym (ap (λ (x : Line). x.field) (line ∙ byte)) ∙ h in
+    absurd cc

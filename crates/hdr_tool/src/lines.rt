@@ -1,6 +1,6 @@
 //! The lines of a text and their fields, each read once, as its bytes come.
 
-ghost use Rattle.std.specs.Prelude.{◌≡◌, ◌≢◌, ◌+◌, ◌<◌, ◌^◌, length, [], MatchOption, Some, None, true};
+ghost use Rattle.std.specs.Prelude.{◌≡◌, ◌≢◌, ◌+◌, ◌<◌, ◌^◌, length, drop, [], MatchOption, Some, None, true};
 ghost use Rattle.std.specs.Option.{option_map};
 ghost use Rattle.hdr_log.specs.Parts.{number_of};
 ghost use Rattle.hdr_tool.specs.Lines.{number_lines, first_line, view_of_left};
@@ -33,6 +33,25 @@ pub(crate) fn field(text: &[u8]) -> (&[u8], Left<'_>)
     (text, Left::Lines(None))
 }
 
+/// What is left of a text after a field that ends at this place; `None` where it goes on.
+#[inline(always)]
+fn left_after(text: &[u8], at: usize) -> Option<Left<'_>>
+    requires { at < length text.now }
+    ensures { let line = first_line (drop at text.now) in MatchOption result (line.field ≢ [])
+        (λ left. (line.field ≡ []) × (view_of_left left ≡ line.rest)) }
+{
+    if text[at] == b' ' {
+        return Some(Left::Fields(&text[at + 1..]));
+    }
+    if text[at] == b'\n' {
+        return Some(Left::Lines(Some(&text[at + 1..])));
+    }
+    None
+}
+
+/// As many digits as 64 bits always hold.
+const SAFE_DIGITS: usize = 19;
+
 /// The number of a text's first field, and what is left after it; `None` where the field is no number of 64 bits.
 #[inline(always)]
 pub(crate) fn number_field(text: &[u8]) -> Option<(u64, Left<'_>)>
@@ -40,26 +59,21 @@ pub(crate) fn number_field(text: &[u8]) -> Option<(u64, Left<'_>)>
         (λ p. (number_of line.field ≡ Some p.0) × (view_of_left p.1 ≡ line.rest)) }
 {
     let mut value = 0;
-    for (at, byte) in text.iter().enumerate() {
-        if byte.is_ascii_digit() {
-            let digit = u64::from(*byte - b'0');
-            if value < u64::MAX / 10 {
-                value = value * 10 + digit;
-                continue;
+    let short = text.len().min(SAFE_DIGITS);
+    for at in 0..short {
+        if !text[at].is_ascii_digit() {
+            if at == 0 {
+                return None;
             }
-            value = append_digit(value, digit)?;
-            continue;
+            return Some((value, left_after(text, at)?));
         }
-        if at == 0 {
-            return None;
+        value = value * 10 + u64::from(text[at] - b'0');
+    }
+    for at in short..text.len() {
+        if !text[at].is_ascii_digit() {
+            return Some((value, left_after(text, at)?));
         }
-        if *byte == b' ' {
-            return Some((value, Left::Fields(&text[at + 1..])));
-        }
-        if *byte == b'\n' {
-            return Some((value, Left::Lines(Some(&text[at + 1..]))));
-        }
-        return None;
+        value = append_digit(value, u64::from(text[at] - b'0'))?;
     }
     if text.is_empty() {
         return None;
