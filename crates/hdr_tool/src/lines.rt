@@ -1,6 +1,6 @@
 //! The lines of a text and their fields, each read once, as its bytes come.
 
-ghost use Rattle.std.specs.Prelude.{◌≡◌, ◌≢◌, ◌+◌, ◌<◌, ◌^◌, length, drop, [], MatchOption, Some, None, true};
+ghost use Rattle.std.specs.Prelude.{◌≡◌, ◌≢◌, ◌+◌, ◌<◌, ◌≤◌, ◌^◌, length, drop, [], MatchOption, Some, None, true, false};
 ghost use Rattle.std.specs.Option.{option_map};
 ghost use Rattle.hdr_log.specs.Parts.{number_of};
 ghost use Rattle.hdr_tool.specs.Lines.{number_lines, first_line, view_of_left};
@@ -98,7 +98,8 @@ pub(crate) fn after_empty_line(text: &[u8]) -> Option<Option<&[u8]>>
 
 /// Whether 64 bits hold the numbers of a text's lines, the first of which has this number, and of the line after them.
 pub(crate) fn can_number(number: u64, text: &[u8]) -> bool
-    ensures { result ≡ true → number + length (number_lines number (Some text.now)) < 2 ^ 64 }
+    ensures fit { result ≡ true → number + length (number_lines number (Some text.now)) < 2 ^ 64 }
+    ensures full { result ≡ false → 2 ^ 64 ≤ number + length text.now + 1 }
 {
     if number >= u64::MAX - text.len() as u64 {
         return false;

@@ -42,7 +42,7 @@ returns-in-Err-clause-answers g c =
 pub overflow_add-next : goal.overflow_add-next
 overflow_add-next g c =
     let e = lines_step c.loop-left.next c.in-Some.text.now _ _ (ap (option_map (λ t. t.now)) c.in-Some.is) c.in-Some-do_value_line.ensures.after in
-    omega (arith, ap length e, c.loop-left.invariant.counts, c.if-not-can_number.ensures refl)
+    omega (arith, ap length e, c.loop-left.invariant.counts, c.if-not-can_number.ensures.fit refl)
 
 pub loop-left-smaller-in-Some-do_value_line : goal.loop-left-smaller-in-Some-do_value_line
 loop-left-smaller-in-Some-do_value_line g c = rw c.in-Some.is (lines_shorter c.in-Some.text.now _ c.in-Some-do_value_line.ensures.after)
@@ -67,7 +67,7 @@ loop-left-preserved-in-Some-do_value_line g c =
 pub overflow_add-next-in-Some : goal.overflow_add-next-in-Some
 overflow_add-next-in-Some g c =
     let e = lines_step c.loop-left.next c.in-Some.text.now _ _ (ap (option_map (λ t. t.now)) c.in-Some.is) c.in-Ok.ensures.after in
-    omega (arith, ap length e, c.loop-left.invariant.counts, c.if-not-can_number.ensures refl)
+    omega (arith, ap length e, c.loop-left.invariant.counts, c.if-not-can_number.ensures.fit refl)
 
 pub loop-left-smaller : goal.loop-left-smaller
 loop-left-smaller g c = rw c.in-Some.is (lines_shorter c.in-Some.text.now _ c.in-Ok.ensures.after)
