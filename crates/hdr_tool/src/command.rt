@@ -65,8 +65,8 @@ fn clamp(left: Left<'_>) -> Option<(Call<'static, u64>, Option<&[u8]>)>
     Some((Call::Clamp(value, count), after))
 }
 
-/// The numbers of `V I [N]`, and the lines after them. They are read out of the loop over lines: in it, three numbers would take
-/// the registers of the others.
+/// The numbers of `V I [N]`, and the lines after them. They are read out of the loop over lines, where three numbers would take
+/// registers from one another.
 #[inline(never)]
 fn correction(text: &[u8]) -> Option<(u64, u64, u64, Option<&[u8]>)>
     ensures { let line = first_line text.now in
