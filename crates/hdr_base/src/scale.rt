@@ -111,7 +111,7 @@ impl Scale {
         self.lowest(value) + (self.width(value) - 1)
     }
 
-    /// The greatest value of the bucket of a value: how far bins reach that were made for it.
+    /// The greatest value of the bucket of a value: the last one that bins made for it hold.
     pub fn reach(self, value: u64) -> u64
         ensures value { result ≡ reach_of self value }
         ensures least { IsLeast (λ r. (k : ℕ) × (r ≡ 2 ^ (self.unit + self.digits + k) - 1)
@@ -153,7 +153,7 @@ impl Scale {
         1 << self.section_digits()
     }
 
-    /// The exponent of that number.
+    /// The exponent of `section()`.
     pub fn section_digits(self) -> u32
         ensures value { result ≡ section_digits self.digits }
         ensures bound { result < self.digits }

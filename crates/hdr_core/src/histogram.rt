@@ -62,7 +62,8 @@ impl<T: Counter> Histogram<T> {
     /// from `low` on, which is rounded down to a power of two, the unit.
     ///
     /// `low` is 1 to `u64::MAX / 2`, `high` at least twice `low`, `sigfig` 0 to 5, and unit and digits fit 63 bits. The first
-    /// of these that does not hold is the error; where all hold, only memory can run out.
+    /// of these that does not hold is the error: `LowIsZero` or `LowExceedsMax`, `HighLessThanTwiceLow`, `SigFigExceedsMax`, or
+    /// `CannotRepresentSigFigBeyondLow`. Where all hold, only memory can run out.
     pub fn new_with_bounds(
         alloc: Global,
         low: u64,
@@ -96,7 +97,8 @@ impl<T: Counter> Histogram<T> {
         Histogram::new_with_bounds(alloc, 1, high, sigfig)
     }
 
-    /// A histogram of units of 1 that grows as values are recorded, and begins with `high` 2. `sigfig` is 0 to 5.
+    /// A histogram of units of 1 that grows as values are recorded, and begins with `high` 2. `sigfig` is 0 to 5;
+    /// above that it is refused as `SigFigExceedsMax`. Else only memory can run out.
     #[tactic(auto, unfolding(hdr_model::specs::Plain::empty_plain))]
     pub fn new(alloc: Global, sigfig: u8) -> Result<Histogram<T>, CreationError>
         ensures { MatchResult result (λ h. (h ≡ empty_plain 1 2 sigfig true) × IsBounds 1 2 sigfig)

@@ -79,7 +79,7 @@ impl<T: Counter> Counts<T> {
         self.counters.resize(len, T::zero())
     }
 
-    /// Where the counters are.
+    /// The allocator of the counters.
     pub fn allocator(&self) -> Global {
         *self.counters.allocator()
     }

@@ -43,8 +43,8 @@ impl<T: Counter> Model for OpenCounts<T> {
 }
 
 impl<T: Counter> OpenCounts<T> {
-    /// Counters of 0, `blocks` times `block` of them. `sets` is about how many will be set, and decides the time alone that
-    /// it takes. Refused only when memory runs out.
+    /// Counters of 0, `blocks` times `block` of them. `sets` is a guess at how many will be set: only the time depends on
+    /// it. Refused only when memory runs out.
     pub fn new(
         alloc: Global,
         blocks: usize,

@@ -12,16 +12,16 @@ use std::alloc::Global;
 use std::time::Duration;
 
 /// The histogram of an interval, which grows.
-fn histogram_of(alloc: Global, part: &Part<'_>) -> Result<Histogram<u64>>
+fn histogram_of(deserializer: &mut Deserializer, part: &Part<'_>) -> Result<Histogram<u64>>
     ensures { IfOk result (IsGrowing (field_of part.now)) }
 {
     let place = part.place;
-    match Deserializer::new(alloc).decode_field(part.field) {
+    match deserializer.decode_field(part.field) {
         Ok(mut histogram) => {
             histogram.auto(true);
             Ok(histogram)
         }
-        Err(FieldDecodeError::OutOfMemory) => bail!("no memory"),
+        Err(FieldDecodeError::OutOfMemory) => bail!("Out of memory"),
         Err(cause) => bail!("interval {place}: {cause}"),
     }
 }
@@ -46,9 +46,10 @@ fn joined(mut one: Histogram<u64>, mut other: Histogram<u64>, place: u64) -> Res
 pub(crate) fn sum_of(alloc: Global, first: &Part<'_>, others: &[Part<'_>]) -> Result<Histogram<u64>>
     ensures { IfOk result (IsSumOf (field_of first.now ∷ map field_of others.now)) }
 {
-    let mut sum = histogram_of(alloc, first)?;
+    let mut deserializer = Deserializer::new(alloc);
+    let mut sum = histogram_of(&mut deserializer, first)?;
     for part in others {
-        let histogram = histogram_of(alloc, part)?;
+        let histogram = histogram_of(&mut deserializer, part)?;
         sum = joined(sum, histogram, part.place)?;
     }
     Ok(sum)

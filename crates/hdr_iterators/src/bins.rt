@@ -24,7 +24,7 @@ pub trait Binned<T: Counter> {
 pub struct Bins<'a, T: Counter> {
     scale: Scale,
     counters: &'a [T],
-    /// The sums of the counters section by section, as long as the scale's sections of a block: they tell where there is nothing.
+    /// The sum of each section of counters, of which a scale tells the size. A sum of 0 tells that the section is empty.
     sums: &'a [u128],
     total: u64,
     last: usize,

@@ -25,7 +25,7 @@ pub struct Iter<'a, T: Counter> {
 
 impl<'a, T: Counter> Iter<'a, T> {
     /// The levels `step - 1`, `2 * step - 1`, .. up to the top of the class of the first that is not below the last
-    /// recorded class. A level past `u64::MAX` is that, and the last.
+    /// recorded class. A level past `u64::MAX` becomes `u64::MAX`, and is the last. `step` is at least 1.
     pub fn new<H: Binned<T>>(histogram: &'a H, step: u64) -> HistogramIterator<'a, T, Iter<'a, T>>
         requires { 1 ≤ step }
         ensures { result ≡ items_of (H.seen histogram.now)

@@ -22,7 +22,7 @@ pub struct Iter<'a, T: Counter> {
 
 impl<'a, T: Counter> Iter<'a, T> {
     /// The levels `start - 1`, `start * base - 1`, `start * base ^ 2 - 1`, .. up to the first that is not below the last
-    /// recorded class. A power past `u64::MAX` is that.
+    /// recorded class. A power past `u64::MAX` counts as `u64::MAX`. `start` is at least 1, and `base` at least 2.
     pub fn new<H: Binned<T>>(
         histogram: &'a H,
         start: u64,

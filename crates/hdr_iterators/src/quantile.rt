@@ -166,8 +166,8 @@ pub struct Iter<'a, T: Counter> {
 }
 
 impl<'a, T: Counter> Iter<'a, T> {
-    /// At each nonempty bin the ticks that are reached there, so many to each half of the distance to the whole; where all
-    /// samples are reached, the next tick and then the whole.
+    /// At each nonempty bin the ticks that are reached there. Each half of the distance to the whole has
+    /// `ticks_per_half_distance` of them, at least 1. Where all samples are reached, the next tick follows, and then the whole.
     pub fn new<H: Binned<T>>(
         histogram: &'a H,
         ticks_per_half_distance: u32,

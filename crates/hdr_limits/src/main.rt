@@ -1,9 +1,9 @@
 //! Whether quantiles of a log keep their limits.
 //!
-//! `hdr_limits NUM/DEN=LIMIT.. <log` is called by a job that runs after a load test or at the end of a day, and that acts on the
-//! status: 0 where each limit is kept, 3 where one is broken, 1 where the log is damaged, 2 for wrong words. Each broken limit is
-//! told on a line `NUM/DEN: VALUE above LIMIT`. Intervals that are coarser than their sum are counted on standard error: there a
-//! value may be further from its samples than the digits of the sum promise.
+//! A job calls `hdr_limits NUM/DEN=LIMIT.. <log` after a load test or at the end of a day, and acts on the status. Status 0: each
+//! limit is kept. 3: one is broken. 2: wrong words. 1: the log is damaged, the input or the output failed, or memory ran out. Each
+//! broken limit is told on a line `NUM/DEN: VALUE above LIMIT`. Intervals that are coarser than their sum are counted on standard
+//! error: there a value may be further from its samples than the digits of the sum promise.
 #![tactic(auto)]
 
 mod limit;

@@ -68,7 +68,7 @@ pub enum LogEntry<'a> {
     Interval(IntervalLogHistogram<'a>),
 }
 
-/// Why a log ends before its end.
+/// Why the reading of a log stops before its end.
 #[derive(Debug, PartialEq, Drop)]
 pub enum LogIteratorError {
     /// The line that begins at this byte is no line of a log.

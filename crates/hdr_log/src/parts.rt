@@ -27,14 +27,14 @@ fn position(text: &[u8], byte: u8) -> Option<usize>
     text.iter().position(|b| *b == byte)
 }
 
-/// Where the first line ends.
+/// Where the first line ends. `memchr` looks for it, since lines of a log are long.
 fn line_end(text: &[u8]) -> Option<usize>
     ensures { result ≡ position (λ x. x == 10) text.now }
 {
     memchr(b'\n', text)
 }
 
-/// The first line of a text without its LF, and what follows it; `None` where no line ends. Lines of a log are long.
+/// The first line of a text without its LF, and what follows it; `None` where no line ends.
 #[tactic(auto, unfolding(crate::specs::Parts::split_at_byte))]
 pub(crate) fn split_line(text: &[u8]) -> Option<(&[u8], &[u8])>
     ensures parts { option_map (λ p. (p.0.now, p.1.now)) result ≡ split_at_byte 10 text.now }

@@ -11,8 +11,8 @@ const TICKS: u32 = 5;
 
 const HEAD: &str = "       Value     Percentile TotalCount 1/(1-Percentile)\n\n";
 
-/// The distribution of all values of a log, in the text form of HdrHistogram: a row for each share of the samples that was asked
-/// for, with a value, the share, how many samples there are up to that value, and the share's distance from the whole, inverted.
+/// The distribution of all values of a log, in the text form of HdrHistogram. Each share of the samples that is asked for has a
+/// row: a value, the share, how many samples there are up to that value, and the share's distance from the whole, inverted.
 pub(crate) fn distribution(alloc: Global, log: &[u8]) -> Result<String> {
     let histogram = merged(alloc, log)?;
     let mut text = String::from_str(alloc, HEAD)?;

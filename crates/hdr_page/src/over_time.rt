@@ -6,7 +6,7 @@ use crate::svg::{HEIGHT, Point, WIDTH, along, push_begin, push_end, push_line, p
 use hdrhistogram::serialization::interval_log::Tag;
 use std::alloc::{AllocError, Global};
 
-/// The quantiles that are drawn, each with its name and its place among the answers.
+/// The names of the quantiles that are drawn; `drawn` has the answer at each index.
 pub(crate) const DRAWN: [&str; 4] = ["50%", "90%", "99%", "100%"];
 
 /// The answer to the quantile that is drawn at this place.

@@ -255,7 +255,7 @@ fn do_task<R: Read, W: Write>(
 
 /// Runs the program on its words, without its own name. Ok is the exit status 0, and `Fault::status` that of a fault.
 /// The words are judged first. `report` and `log` do the lines of the input in order as they are read, up to the first fault,
-/// and tell it at the end of the input; `merge` reads its whole input first. Where the reader fails, `report` and `merge` wrote
+/// and tell it at the end of the input. `merge` reads its whole input first. Where the reader fails, `report` and `merge` wrote
 /// nothing, and `log` the intervals of the lines before. Where the writer fails, `log` reads no further.
 pub fn run<R: Read, W: Write>(
     alloc: Global,

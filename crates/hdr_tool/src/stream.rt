@@ -50,8 +50,8 @@ pub(crate) fn read_piece<R: Read>(reader: &mut R, piece: &mut [u8]) -> Result<us
     Err(Fault::CannotRead)
 }
 
-/// The fault that a run tells where a line has this one: the input is read to its end first, without keeping it, and a reader
-/// that fails on the way is told in its place. A fault of memory or of a stream is told at once.
+/// The fault that a run tells where a line has this one. The input is read to its end first and dropped, and a reader that fails
+/// on the way is told instead. A fault of memory or of a stream is told at once.
 pub(crate) fn told_at_end<R: Read>(reader: &mut R, piece: &mut [u8], fault: Fault) -> Fault
     requires { 0 < length piece.old }
     ensures told { (result ≡ fault) ⊎ ((result ≡ Fault.NoMemory) ⊎ (result ≡ Fault.CannotRead)) }

@@ -79,7 +79,7 @@ fn quantiles(alloc: Global, words: &[String]) -> Result<Vec<Quantile>, Fault>
     Ok(quantiles)
 }
 
-/// The digits and the quantiles of the words after the word `report` or `merge`.
+/// The digits and the quantiles that end the words of `report` and `merge`.
 fn figures(alloc: Global, words: &[String]) -> Result<(u8, Vec<Quantile>), Fault>
     ensures { MatchResult result
         (λ f. figures_of (map string_bytes words.now) ≡ Some (f.0, f.1.items))
@@ -100,7 +100,7 @@ fn figures(alloc: Global, words: &[String]) -> Result<(u8, Vec<Quantile>), Fault
     }
 }
 
-/// The digits of the words after the word `log`.
+/// The log that the words after the word `log` ask for.
 fn log(words: &[String]) -> Option<Task<'_>>
     ensures { option_map view_of_task result ≡ log_of (map string_bytes words.now) }
 {

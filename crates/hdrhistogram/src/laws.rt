@@ -138,8 +138,8 @@ pub fn merging_adds_the_chosen()
         → (m.histogram.low ≡ 1) × (m.histogram.sigfig ≡ sigfig) }
 {}
 
-/// Where the chosen intervals of a log stand for samples, by classes that are no coarser than those of the merge, the
-/// merge stands for the samples joined, as far as those fit; and its quantiles are theirs.
+/// A merge stands for the samples of its chosen intervals joined, as far as those fit, and its quantiles are theirs. The classes
+/// of the intervals must be no coarser than those of the merge.
 pub fn merged_log_stands()
     ensures sum { (greatest sigfig : ℕ) (filter : Filter) (log : List ℕ) (m : Merging)
         (hs : List Plain) (Ls : List (List ℕ)) → 1 ≤ greatest

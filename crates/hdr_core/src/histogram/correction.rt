@@ -51,8 +51,8 @@ impl<T: Counter> Histogram<T> {
         self.record_n_correct_counted(value, count, interval, &mut Work::new())
     }
 
-    /// The same, and what it costs: `work` grows by one for each counter that is updated after the first. There is one for each
-    /// class that holds a missing value, and so no more than there are bins.
+    /// `record_n_correct`, and what it costs: `work` grows by one for each counter that is updated after the first. There is one
+    /// for each class that holds a missing value, and so no more than there are bins.
     pub fn record_n_correct_counted(
         &mut self,
         value: u64,

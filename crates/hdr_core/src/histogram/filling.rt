@@ -39,8 +39,8 @@ impl<T: Counter> Model for Filling<T> {
 }
 
 impl<T: Counter> Filling<T> {
-    /// Empty bins, as those of `Histogram::new_with_bounds`, which refuses the same bounds. `sets` is about how many bins
-    /// will be set, and decides the time alone that it takes.
+    /// Empty bins, as those of `Histogram::new_with_bounds`, which refuses the same bounds. `sets` is a guess at how many
+    /// bins will be set: only the time depends on it.
     pub fn new_with_bounds(
         alloc: Global,
         low: u64,

@@ -23,7 +23,7 @@ impl<T: Counter> Histogram<T> {
         self.answer(quantile.num(), self.first_reaching(rank))
     }
 
-    /// The same answer, and what it costs: `work` grows by one for each look at a block's sum or at a counter. There are at most
+    /// The answer of `value_at_quantile`, and what it costs: `work` grows by one for each look at a block's sum or at a counter. There are at most
     /// as many looks as there are blocks and counters in a block together. A block holds half as many bins as the first bucket.
     pub fn value_at_quantile_counted(&self, quantile: Quantile, work: &mut Work) -> u64
         requires { work.old ≤ 2 ^ 63 }
@@ -40,7 +40,7 @@ impl<T: Counter> Histogram<T> {
         self.answer(quantile.num(), place)
     }
 
-    /// The answer to a percentile: that to the quantile of a hundredth of it.
+    /// The answer of `value_at_quantile` to a hundredth of this fraction: 999/10 asks for 99.9 %.
     pub fn value_at_percentile(&self, percentile: Quantile) -> u64
         ensures value { result ≡ quantile_of self.now (hundredth percentile) }
         ensures ranked { (S : List ℕ) → StandsFor self.now S → 0 < length S → 0 < percentile.num

@@ -113,10 +113,10 @@ fn put_run(buf: &mut [u8], at: usize, empty: u64) -> usize
     }
 }
 
-/// Writes the payload of a histogram at the front of the buffer, and gives its length in bytes: the
-/// counts of the bins up to the top mark's in order, each run of empty bins as one number, by
-/// zig-zag and the shortest spellings. The buffer must have room for nine bytes for each of these
-/// bins.
+/// Writes the payload of a histogram at the front of the buffer, and gives its length in bytes. It
+/// holds the counts of the bins up to the top mark's, in order. Each run of empty bins is one number.
+/// Numbers are by zig-zag and in their shortest spellings. The buffer must have room for nine bytes
+/// for each of these bins.
 ///
 /// A count above the greatest `i64` is refused as `CountNotSerializable`, and nothing else is; what
 /// the buffer holds then is left open. The call takes no memory.

@@ -38,9 +38,9 @@ pub enum TagChoice<'a> {
 pub struct IntervalFilter<'a> {
     /// Whether their tags matter, and which one they have to have.
     pub tags: TagChoice<'a>,
-    /// Intervals that begin at this time or later, since the epoch.
+    /// Intervals that begin at this time or later, since the epoch; `None`: from the first on.
     pub from: Option<Duration>,
-    /// Intervals that begin before this time, since the epoch.
+    /// Intervals that begin before this time, since the epoch; `None`: to the last.
     pub to: Option<Duration>,
 }
 
