@@ -1,4 +1,5 @@
-//! What rows can't show: memory refused, in turn or where much is asked for, readers and writers that fail, texts of errors that no row meets, and laws.
+//! What rows can't show: memory refused, in turn or where much is asked for, readers and writers that fail, texts of errors
+//! that no row meets, and laws.
 
 mod laws;
 mod refused;

@@ -1,5 +1,5 @@
 -- Where memory may run out.
-use Rattle.std.proofs.Common.{◌≡◌, ◌++◌, List, ℕ, Option, Some, None, Result, Ok, Err, IfErr}
+use Rattle.std.proofs.Common.{◌≡◌, ◌++◌, List, ℕ, Option, Some, None, Result, Ok, Err, IfErr, refl, sym, ap, ◌∙◌}
 use Rattle.std.specs.Io.KnownBytes.{Consumes}
 use Rattle.std.proofs.KnownBytes.{Consumes-trans}
 use Rattle.hdrhistogram.specs.declared.serialization.errors.DeserializeError.{DeserializeError}
@@ -8,36 +8,23 @@ use Rattle.hdrhistogram.specs.Defects.{Defect, RunsOutOnly, defect_of_error}
 use Rattle.hdrhistogram.specs.V2Read.{Header, HasBounds, header_at, bounds_defect}
 use Rattle.hdrhistogram.proofs.V2ReadHeader.{TakenBy, header-steady, steady_whole}
 
--- an error that names a defect, and one where the condition holds
-pub never_out : (Condition : Type 0) (e : DeserializeError) → RunsOutOnly ⊥ e → RunsOutOnly Condition e
-never_out Condition (errors.IoError cause) h = tt
-never_out Condition errors.InvalidCookie h = tt
-never_out Condition errors.UnsupportedFeature h = tt
-never_out Condition errors.UnsuitableCounterType h = tt
-never_out Condition errors.InvalidParameters h = tt
-never_out Condition errors.UsizeTypeTooSmall h = tt
-never_out Condition errors.EncodedArrayTooLong h = tt
-never_out Condition errors.OutOfMemory h = absurd h
+-- the condition is owed for one error alone
+runs_out_if : (Condition : Type 0) (e : DeserializeError) → (e ≡ errors.OutOfMemory → Condition) → RunsOutOnly Condition e
+runs_out_if Condition (errors.IoError cause) h = tt
+runs_out_if Condition errors.InvalidCookie h = tt
+runs_out_if Condition errors.UnsupportedFeature h = tt
+runs_out_if Condition errors.UnsuitableCounterType h = tt
+runs_out_if Condition errors.InvalidParameters h = tt
+runs_out_if Condition errors.UsizeTypeTooSmall h = tt
+runs_out_if Condition errors.EncodedArrayTooLong h = tt
+runs_out_if Condition errors.OutOfMemory h = h refl
 
+-- where the condition holds, and where the error names a defect
 pub runs_out : (Condition : Type 0) (e : DeserializeError) → Condition → RunsOutOnly Condition e
-runs_out Condition (errors.IoError cause) h = tt
-runs_out Condition errors.InvalidCookie h = tt
-runs_out Condition errors.UnsupportedFeature h = tt
-runs_out Condition errors.UnsuitableCounterType h = tt
-runs_out Condition errors.InvalidParameters h = tt
-runs_out Condition errors.UsizeTypeTooSmall h = tt
-runs_out Condition errors.EncodedArrayTooLong h = tt
-runs_out Condition errors.OutOfMemory h = h
+runs_out Condition e h = runs_out_if Condition e (λ _. h)
 
 pub names_out : {f : Defect} (Condition : Type 0) (e : DeserializeError) → defect_of_error e ≡ Some f → RunsOutOnly Condition e
-names_out Condition (errors.IoError cause) h = tt
-names_out Condition errors.InvalidCookie h = tt
-names_out Condition errors.UnsupportedFeature h = tt
-names_out Condition errors.UnsuitableCounterType h = tt
-names_out Condition errors.InvalidParameters h = tt
-names_out Condition errors.UsizeTypeTooSmall h = tt
-names_out Condition errors.EncodedArrayTooLong h = tt
-names_out Condition errors.OutOfMemory h = absurd cc
+names_out {f} Condition e h = runs_out_if Condition e (λ is. let no : ◌≡◌ {A = Option Defect} None (Some f) = sym (ap defect_of_error is) ∙ h in absurd cc)
 
 -- where a header was taken whose bounds are those of a histogram, whatever was taken after it, memory may run out
 pub after_bounds_out : {X : Type 0} (old mid new : Option (List ℕ)) (header : Header) (r : Result X DeserializeError) → TakenBy old mid header_at header → bounds_defect header ≡ None

@@ -23,8 +23,9 @@ impl<T: Counter> Histogram<T> {
         self.answer(quantile.num(), self.first_reaching(rank))
     }
 
-    /// The answer of `value_at_quantile`, and what it costs: `work` grows by one for each look at a block's sum or at a counter. There are at most
-    /// as many looks as there are blocks and counters in a block together. A block holds half as many bins as the first bucket.
+    /// The answer of `value_at_quantile`, and what it costs: `work` grows by one for each look at a block's sum or at a counter.
+    /// There are at most as many looks as there are blocks and counters in a block together. A block holds half as many bins as
+    /// the first bucket.
     pub fn value_at_quantile_counted(&self, quantile: Quantile, work: &mut Work) -> u64
         requires { work.old ≤ 2 ^ 63 }
         ensures value { result ≡ quantile_of self.now quantile }

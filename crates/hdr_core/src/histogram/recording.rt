@@ -104,7 +104,8 @@ impl<T: Counter> Histogram<T> {
         }
     }
 
-    /// Forgets what was recorded, and keeps `max` and `min_nz`, the bins and the bounds. Where nothing is counted it costs a comparison.
+    /// Forgets what was recorded, and keeps `max` and `min_nz`, the bins and the bounds. Where nothing is counted it costs a
+    /// comparison.
     pub fn clear(&mut self)
         ensures { self.new ≡ after_clear self.old }
     {
