@@ -21,7 +21,7 @@ proofs-and-runs:
 	tools/refused.sh
 	tools/refused_main.sh
 	tools/cases.sh
-	tools/documents crates/hdr_tool/out/hdr_tool
+	tools/documents crates/hdr/out/hdr
 
 # The edits alone.
 edits:

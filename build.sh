@@ -26,14 +26,14 @@ exec 9>target/lock
 flock 9
 is_fresh && exit 0
 echo "build.sh: proving and building (about ten minutes at first, seconds after an edit)" >&2
-built=crates/hdr_tool/out/hdr_tool
+built=crates/hdr/out/hdr
 begun=target/begun.$$
 new=target/hdr.$$
 trap 'rm -f "$begun" "$new"' EXIT
 : >"$begun"
 rm -f "$built"
 # `rt run` ends with the status of the program, which has wrong words here: the file tells how the build went.
-{ (cd crates/hdr_tool && rt run -- none </dev/null) 2>&1 || :; } 9>&- | tee target/build.log | awk '
+{ (cd crates/hdr && rt run -- none </dev/null) 2>&1 || :; } 9>&- | tee target/build.log | awk '
     /^fn / { split($2, path, "::"); crate = path[1] }
     /^logic=proved/ { split($2, count, "="); print "build.sh: " crate ": " count[2] " functions proved"; fflush() }' >&2
 if [ ! -x "$built" ]; then

@@ -8,8 +8,8 @@ cd "$(dirname "$0")/.."
 room=$(mktemp -d)
 trap 'rm -rf "$room"' EXIT
 rustc --edition 2024 -O -C panic=abort --crate-type cdylib -o "$room/refuse.so" tools/refuse.rs
-program=crates/hdr_tool/out/hdr_tool
-[ -x "$program" ] || { echo "$program is not built: run rt run in crates/hdr_tool" >&2; exit 1; }
+program=crates/hdr/out/hdr
+[ -x "$program" ] || { echo "$program is not built: run rt run in crates/hdr" >&2; exit 1; }
 runs=0 failed=0
 
 # Runs the words with request $n refused, or none where $n is 0; the answer goes to files, 'refused' lines apart from the fault's.

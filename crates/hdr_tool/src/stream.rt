@@ -76,8 +76,9 @@ pub(crate) fn told_at_end<R: Read>(reader: &mut R, piece: &mut [u8], fault: Faul
 
 /// A writer that tries an interrupted write again. The program's output is one.
 #[derive(Drop)]
-pub(crate) struct Patient<W> {
-    pub(crate) writer: W,
+pub struct Patient<W> {
+    /// The writer that it writes to.
+    pub writer: W,
 }
 
 impl<W: Write> Write for Patient<W> {

@@ -1,27 +1,14 @@
 //! The program `hdr`: reports quantiles of samples, logs their histograms interval by interval, and merges such logs.
 #![tactic(auto)]
 
-mod command;
-mod fault;
-mod laws;
-mod lines;
-mod log;
-mod merge;
-mod options;
-mod parts;
-mod report;
-mod run;
-mod stream;
 #[cfg(test)]
 mod tests;
-mod words;
 
-use fault::Fault;
-use run::run;
+use hdr_tool::run::run;
+use hdr_tool::{Fault, Patient};
 use std::env;
 use std::io::ErrorKind;
 use std::process::ExitCode;
-use stream::Patient;
 
 /// The words of the command line, without the program's name.
 fn words_given(rt: &HostRuntime) -> Result<Vec<String>, Fault> {

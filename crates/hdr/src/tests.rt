@@ -1,10 +1,11 @@
-//! Tests over `run`: readers and writers that give or take little, and that fail.
+//! The program over readers and writers that give or take little, and that fail.
 
-use super::*;
+use hdr_tool::run::run;
+use hdr_tool::{Fault, Patient};
 use hdrhistogram::{CallError, RecordError};
 use std::alloc::{AllocError, Global};
 use std::io;
-use std::io::{Read, Write};
+use std::io::{ErrorKind, Read, Write};
 use std::process::Abort;
 use std::test::Fail;
 
@@ -356,7 +357,7 @@ fn a_refused_line(rt: HostRuntime) -> Result<(), Fail> {
 
 #[test]
 fn law_calls(_rt: HostRuntime) {
-    crate::laws::ends_stand();
-    crate::laws::log_then_merge();
-    crate::laws::log_merge_stands();
+    hdr_tool::laws::ends_stand();
+    hdr_tool::laws::log_then_merge();
+    hdr_tool::laws::log_merge_stands();
 }
