@@ -176,10 +176,10 @@ fn has_ended<T: Counter, P: PickyIterator<T>>(
     ensures end { (h : Seen) → P.goes_with picker.old h last_picked_index → last ≡ h.last
         → IsTrue result → P.picks picker.old h ≡ [] }
 {
-    match last_picked_index {
-        Some(picked) if picked >= last => !picker.more(index),
-        _ => false,
-    }
+    let Some(picked) = last_picked_index else {
+        return false;
+    };
+    picked >= last && !picker.more(index)
 }
 
 /// The bin to ask a picker at once it has declined one: the next that holds samples, where it picks no other and this one

@@ -9,7 +9,7 @@ use std::alloc::Global;
 pub type LogError = IntervalLogWriterError<V2SerializeError>;
 
 /// What a call answered.
-#[derive(Debug, Drop)]
+#[derive(Drop)]
 pub enum Answer {
     Done,
     Nothing,

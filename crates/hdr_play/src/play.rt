@@ -5,6 +5,7 @@ use crate::c12::C12;
 use crate::table::Table;
 use hdr_core::CreationError;
 use std::alloc::Global;
+use std::mem;
 
 /// The row that is played, by its counter type.
 #[derive(Drop)]
@@ -16,8 +17,9 @@ pub enum Play {
     C12(Table<C12>),
 }
 
-/// A row that begins. None: no counter type has the name, or memory was refused.
-fn begun(alloc: Global, counter: &str) -> Option<Play> {
+/// The row of a title. None: no counter type has the name that ends it, or memory was refused.
+fn begun(alloc: Global, title: &str) -> Option<Play> {
+    let (_, counter) = title.split_once(' ')?;
     match counter {
         "u8" => Some(Play::U8(Table::new(alloc).ok()?)),
         "u16" => Some(Play::U16(Table::new(alloc).ok()?)),
@@ -44,20 +46,25 @@ impl Play {
         }
     }
 
+    /// Begins the row of a title, and says whether there is one.
+    fn begin(&mut self, alloc: Global, title: &str) -> bool {
+        match begun(alloc, title) {
+            Some(row) => {
+                // (an assignment through the reference would take the prover half a minute)
+                drop(mem::replace(self, row));
+                true
+            }
+            None => false,
+        }
+    }
+
     /// Whether what a line asks for answers as the line says. A line that asks for nothing known doesn't.
     pub fn agrees(&mut self, alloc: Global, line: &str) -> bool {
         if line.is_empty() || line.starts_with('#') {
             return true;
         }
         if let Some(title) = line.strip_prefix("row ") {
-            let Some((_, counter)) = title.split_once(' ') else {
-                return false;
-            };
-            let Some(row) = begun(alloc, counter) else {
-                return false;
-            };
-            *self = row;
-            return true;
+            return self.begin(alloc, title);
         }
         let (asked, told) = line.split_once(" = ").unwrap_or((line, "ok"));
         match self.answer(alloc, asked) {
