@@ -87,7 +87,8 @@ fn two_byte_count<T: Counter>(first: u8, second: u8) -> Option<T>
     if second == 0 {
         return None;
     }
-    T::from_u64(u64::from(first) % 128 / 2 + 64 * u64::from(second))
+    let low = u64::from(first % 128 / 2);
+    T::from_u64(low + 64 * u64::from(second))
 }
 
 /// Puts two counts that two bytes each spell at the front. Whether there are two such, and neither is refused; else

@@ -21,5 +21,5 @@ pub fn zig_zag_decode(encoded: u64) -> i64
     ensures { result ≡ from_zig_zag encoded }
 {
     let half = (encoded / 2) as i64;
-    if encoded % 2 == 0 { half } else { -half - 1 }
+    if encoded % 2 == 0 { half } else { -1 - half }
 }
