@@ -121,13 +121,18 @@ pub(crate) fn call<'a>(
         (λ p. (call_of_name name.now left.fields ≡ Some p.0)
         × (option_map (λ t. t.now) p.1 ≡ left.after)) }
 {
-    match name {
-        b"r" => record(left),
-        b"s" => clamp(left),
-        b"c" => correct(left),
-        b"clear" => alone(Call::Clear, left),
-        b"reset" => alone(Call::Reset, left),
-        _ => None,
+    if name == b"r".as_slice() {
+        record(left)
+    } else if name == b"s".as_slice() {
+        clamp(left)
+    } else if name == b"c".as_slice() {
+        correct(left)
+    } else if name == b"clear".as_slice() {
+        alone(Call::Clear, left)
+    } else if name == b"reset".as_slice() {
+        alone(Call::Reset, left)
+    } else {
+        None
     }
 }
 

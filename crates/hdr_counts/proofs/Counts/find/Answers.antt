@@ -1,4 +1,6 @@
-use Rattle.std.proofs.Common.{◌≡◌, ◌+◌, ◌-◌, ◌*◌, ◌/◌, ◌^◌, ◌<◌, length, map, sum, take, drop, sym, ap, ◌∙◌, subst, arith}
+use Rattle.std.proofs.Common.{◌≡◌, ◌+◌, ◌-◌, ◌*◌, ◌/◌, ◌^◌, ◌<◌, ◌≤◌, ℕ, List, length, map, sum, take, drop, sym, ap, ◌∙◌, subst, arith}
+use Rattle.std.proofs.lemmas.List.{length-map, length-take}
+use Rattle.std.proofs.lemmas.Nat.{div-mul-add, mod-mul-add}
 use Rattle.hdr_counts.specs.Blocks.{Blocks, sum_below, IsFirstToReach}
 use Rattle.hdr_counts.proofs.BlocksBounds.{le_as}
 use Rattle.hdr_counts.proofs.BlocksPlaces.{first-in-part}
@@ -57,6 +59,20 @@ returns-then-sum-from-clause-place g c =
     (first-in-part n c.deref-then-sum-from.result.now a (a + w - a) c.in_ok-place.place c.args.rank c.loop-k.rest
     (subst (λ l. c.loop-k.rest + sum_below (map n l) a ≡ c.args.rank) (sym c.deref-then-sum-from.ensures.value) c.loop-k.invariant.0)
     c.in_ok-place.ensures.place))
+
+-- a part is no longer than what is asked for
+part-short : {X : Type 0} (a w : ℕ) (xs : List X) → length (take (a + w - a) xs) ≤ w
+part-short a w xs = omega (arith, length-take (a + w - a) xs)
+
+pub returns-then-sum-from-clause-work : goal.returns-then-sum-from-clause-work
+returns-then-sum-from-clause-work g c =
+    let s = c.self.inside in
+    let k = c.loop-k.k in
+    let w = c.args.group * s.block in
+    let p = c.in_ok-place.place in
+    let from = drop (k * w) c.deref-then-sum-from.result.now in
+    let inside : p < w = omega (arith, c.in_ok-place.ensures.place.0, length-map (take (k * w + w - k * w) from) g.T.Counter.number, part-short (k * w) w from) in
+    rw (← c.self.view_is, div-mul-add k w p inside, mod-mul-add k w p inside) (omega (arith, c.in_ok-place.ensures.work, c.look-sum.ensures.counted, c.loop-k.invariant.2))
 
 pub loop-k-preserved : goal.loop-k-preserved
 loop-k-preserved g c = (
