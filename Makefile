@@ -1,5 +1,5 @@
 # make: proves and builds the program, target/hdr. make install: puts it and its manual page below PREFIX. make check: the gate.
-# make edits: the wrong bodies of crates/*/edits alone, which the prover has to refuse.
+# make edits: the wrong bodies alone, which the prover has to refuse: those of crates/*/edits and of crates/*/further-edits.
 # make quick: what has changed since the last commit, over the work that earlier checks kept.
 # make bench: times beside the Rust crate hdrhistogram (compare/run says where that comes from).
 PREFIX ?= /usr/local
@@ -22,15 +22,15 @@ proofs-and-runs:
 	tools/cases.sh
 	tools/documents crates/hdr/out/hdr
 
-# The edits alone.
+# The edits alone, the further ones too.
 edits:
-	tools/edits
+	tools/edits --further
 
 # Both read crates/*/out: a crate that has not changed costs a few seconds, and the edits of changed crates alone are tried.
 # It proves no test, and is no gate.
 quick:
 	rt all check
-	tools/edits --changed
+	tools/edits --further --changed
 
 bench:
 	compare/run
