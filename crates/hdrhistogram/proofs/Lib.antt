@@ -15,6 +15,7 @@ pub mod PayloadReadFilling
 pub mod VarintRead
 pub mod LogStartsParts
 pub mod LogStartsTexts
+pub mod LogRefused
 pub mod V2ReadStands
 pub mod ChosenAdded
 pub mod DefectsMemory
