@@ -2,6 +2,7 @@
 //! tries again succeeds, and is seen.
 
 use crate::tests::{FIRST_RUN, first_run};
+use hdrhistogram::Histogram;
 use hdrhistogram::serialization::deserializer::varint_read;
 use hdrhistogram::serialization::interval_log::{
     IntervalLogWriter, IntervalLogWriterBuilder, IntervalLogWriterError, Tag,
@@ -116,6 +117,17 @@ struct Source<'a> {
     kind: ErrorKind,
 }
 
+impl<'a> Source<'a> {
+    fn new(left: &'a [u8], fails_at: usize, kind: ErrorKind) -> Source<'a> {
+        Source {
+            left,
+            calls: 0,
+            fails_at,
+            kind,
+        }
+    }
+}
+
 impl<'a> Read for Source<'a> {
     fn read(&mut self, buf: &mut [u8]) -> io::Result<usize> {
         self.calls = self.calls.saturating_add(1);
@@ -138,57 +150,66 @@ fn wanted(kind: Option<ErrorKind>) -> ErrorKind {
     kind.unwrap_or(ErrorKind::WriteZero)
 }
 
+/// A failure at a call is told as it has to be.
+fn sees(rt: &impl Abort, is_right: bool, kind: Option<ErrorKind>, fails_at: usize) {
+    assert!(rt; is_right, "{kind:?} at {fails_at}");
+}
+
+/// Whether bytes are written whole at the eighth call, or the writer's failure is told, and what it took stands.
+fn serializes(h: &Histogram<u64>, serializer: &mut V2Serializer, mut slow: Slow) -> bool {
+    let is_told = match serializer.serialize(h, &mut slow) {
+        Ok(count) => count == 43 && slow.fails_at == 8,
+        Err(V2SerializeError::IoError(cause)) => cause.kind() == wanted(slow.kind),
+        Err(_) => false,
+    };
+    is_told && slow.holds_front(FIRST_RUN.as_slice())
+}
+
 /// Serializes to a writer that fails at each of its calls in turn.
-fn serializes(rt: &(impl Abort + AllocGlobal), kind: Option<ErrorKind>) -> Result<(), Fail> {
+fn serializes_each(rt: &(impl Abort + AllocGlobal), kind: Option<ErrorKind>) -> Result<(), Fail> {
     let h = first_run(rt.alloc())?;
     let mut serializer = V2Serializer::new(rt.alloc());
     for fails_at in 1..9usize {
-        let mut slow = Slow::new(rt.alloc(), fails_at, kind);
-        let result = serializer.serialize(&h, &mut slow);
-        assert!(rt;
-            slow.holds_front(FIRST_RUN.as_slice()),
-            "{kind:?} at {fails_at}"
-        );
-        match result {
-            Ok(count) => assert!(rt; count == 43 && fails_at == 8, "{kind:?} at {fails_at}"),
-            Err(V2SerializeError::IoError(cause)) => assert_eq!(rt; cause.kind(), wanted(kind)),
-            Err(_) => return Err(Fail::from("another error")),
-        }
+        let slow = Slow::new(rt.alloc(), fails_at, kind);
+        sees(rt, serializes(&h, &mut serializer, slow), kind, fails_at);
     }
     Ok(())
 }
 
 #[test]
 fn writers_of_bytes(rt: HostRuntime) -> Result<(), Fail> {
-    serializes(&rt, None)?;
+    serializes_each(&rt, None)?;
     for kind in KINDS {
-        serializes(&rt, Some(kind))?;
+        serializes_each(&rt, Some(kind))?;
     }
     Ok(())
 }
 
+/// Whether bytes are read whole before the call that fails, or the reader's failure is told.
+fn reads(deserializer: &mut Deserializer, source: &mut Source) -> bool {
+    match deserializer.deserialize::<u64, Source>(source) {
+        Ok(h) => h.len() == 5 && source.fails_at == 44,
+        Err(DeserializeError::IoError(cause)) => cause.kind() == source.kind,
+        Err(_) => false,
+    }
+}
+
 #[test]
-fn readers_of_bytes(rt: HostRuntime) -> Result<(), Fail> {
+fn readers_of_bytes(rt: HostRuntime) {
     let mut deserializer = Deserializer::new(rt.alloc());
     for kind in KINDS {
         for fails_at in 1..45usize {
-            let mut source = Source {
-                left: FIRST_RUN.as_slice(),
-                calls: 0,
-                fails_at,
-                kind,
-            };
-            let result = deserializer.deserialize::<u64, Source>(&mut source);
+            let mut source = Source::new(FIRST_RUN.as_slice(), fails_at, kind);
+            let is_right = reads(&mut deserializer, &mut source);
             let left = FIRST_RUN.len().saturating_sub(fails_at.saturating_sub(1));
-            assert_eq!(rt; source.left.len(), left, "{kind:?} at {fails_at}");
-            match result {
-                Ok(h) => assert!(rt; h.len() == 5 && fails_at == 44, "{kind:?} at {fails_at}"),
-                Err(DeserializeError::IoError(cause)) => assert_eq!(rt; cause.kind(), kind),
-                Err(_) => return Err(Fail::from("another error")),
-            }
+            sees(
+                &rt,
+                is_right && source.left.len() == left,
+                Some(kind),
+                fails_at,
+            );
         }
     }
-    Ok(())
 }
 
 /// Places in the bytes of the first run, what stands there in their stead, and how many bytes are then taken: those up to and
@@ -203,123 +224,131 @@ const REFUSED: [(usize, u8, usize); 7] = [
     (42, 0x80, 43),
 ];
 
-/// Nothing is taken after what decides a refusal, and an early end is told as such.
+/// Whether a reader that does not fail is refused, and an early end is told as such.
+fn refuses(deserializer: &mut Deserializer, source: &mut Source) -> bool {
+    match deserializer.deserialize::<u64, Source>(source) {
+        Ok(_) => false,
+        Err(DeserializeError::IoError(cause)) => cause.kind() == ErrorKind::UnexpectedEof,
+        Err(_) => true,
+    }
+}
+
+/// Nothing is taken after what decides a refusal.
 #[test]
-fn refused_bytes(rt: HostRuntime) -> Result<(), Fail> {
+fn refused_bytes(rt: HostRuntime) {
     let mut deserializer = Deserializer::new(rt.alloc());
     for (place, byte, taken) in REFUSED {
         let mut text = FIRST_RUN;
         if let Some(there) = text.get_mut(place) {
             *there = byte;
         }
-        let mut source = Source {
-            left: text.as_slice(),
-            calls: 0,
-            fails_at: 0,
-            kind: ErrorKind::Other,
-        };
-        let left = FIRST_RUN.len().saturating_sub(taken);
-        match deserializer.deserialize::<u64, Source>(&mut source) {
-            Ok(_) => return Err(Fail::from("it was read")),
-            Err(DeserializeError::IoError(cause)) => {
-                assert_eq!(rt; cause.kind(), ErrorKind::UnexpectedEof)
-            }
-            Err(_) => {}
-        }
-        assert_eq!(rt; source.left.len(), left, "byte {place}");
+        let mut source = Source::new(text.as_slice(), 0, ErrorKind::Other);
+        assert!(rt; refuses(&mut deserializer, &mut source), "byte {place}");
+        assert!(rt;
+            source.left.len() == FIRST_RUN.len().saturating_sub(taken),
+            "byte {place}"
+        );
     }
-    Ok(())
 }
 
 /// The greatest number, spelt in nine bytes, and a byte after it.
 const GREATEST: [u8; 10] = [0xff, 0xff, 0xff, 0xff, 0xff, 0xff, 0xff, 0xff, 0xff, 7];
 
+/// Whether the greatest number is read before the call that fails, or the reader's failure is told.
+fn reads_greatest(source: &mut Source) -> bool {
+    match varint_read(source) {
+        Ok(n) => n == u64::MAX && source.fails_at == 10,
+        Err(cause) => cause.kind() == source.kind,
+    }
+}
+
 #[test]
-fn readers_of_varints(rt: HostRuntime) -> Result<(), Fail> {
+fn readers_of_varints(rt: HostRuntime) {
     for kind in KINDS {
         for fails_at in 1..11usize {
-            let mut source = Source {
-                left: GREATEST.as_slice(),
-                calls: 0,
+            let mut source = Source::new(GREATEST.as_slice(), fails_at, kind);
+            let is_right = reads_greatest(&mut source);
+            let left = 11usize.saturating_sub(fails_at);
+            sees(
+                &rt,
+                is_right && source.left.len() == left,
+                Some(kind),
                 fails_at,
-                kind,
-            };
-            match varint_read(&mut source) {
-                Ok(n) => assert!(rt; n == u64::MAX && fails_at == 10, "{kind:?} at {fails_at}"),
-                Err(cause) => assert_eq!(rt; cause.kind(), kind),
-            }
-            assert_eq!(rt;
-                source.left.len(),
-                11usize.saturating_sub(fails_at),
-                "{kind:?} at {fails_at}"
             );
         }
     }
-    Ok(())
 }
 
 const LINE: &[u8; 85] =
     b"Tag=a,0.000,1.000,2.000,HISTEwAAAAMAAAAAAAAAAwAAAAAAAAABAAAAAAAAAAI/8AAAAAAAAAACCA==\n";
 
-/// Writes an interval to a writer that fails at each of its calls in turn.
-fn logs(rt: &(impl Abort + AllocGlobal), kind: Option<ErrorKind>) -> Result<(), Fail> {
-    let h = first_run(rt.alloc())?;
-    let mut serializer = V2Serializer::new(rt.alloc());
-    for fails_at in 1..15usize {
-        let mut slow = Slow::new(rt.alloc(), fails_at, kind);
-        let result = {
-            let mut log = IntervalLogWriter::new(rt.alloc(), &mut slow, &mut serializer, 1);
-            log.write_histogram(&h, Duration::new(0, 0), Duration::new(1, 0), Tag::new("a"))
-        };
-        assert!(rt; slow.holds_front(LINE.as_slice()), "{kind:?} at {fails_at}");
-        match result {
-            Ok(()) => assert_eq!(rt; fails_at, 14, "{kind:?}"),
-            Err(IntervalLogWriterError::IoError(cause)) => assert_eq!(rt;
-                cause.kind(),
-                wanted(kind)
-            ),
-            Err(_) => return Err(Fail::from("another error")),
-        }
+/// Whether a part of a log is written before the call that fails, or the writer's failure is told.
+fn is_told(
+    answer: Result<(), IntervalLogWriterError<V2SerializeError>>,
+    slow: &Slow,
+    calls: usize,
+) -> bool {
+    match answer {
+        Ok(()) => slow.fails_at > calls,
+        Err(IntervalLogWriterError::IoError(cause)) => slow.fails_at <= calls
+            && cause.kind() == wanted(slow.kind),
+        Err(_) => false,
     }
-    Ok(())
 }
 
-/// Begins a log with a comment at a writer that fails at each of its calls in turn.
-fn begins(rt: &(impl Abort + AllocGlobal), kind: Option<ErrorKind>) -> Result<(), Fail> {
+/// Whether an interval is written so, by 13 calls.
+fn logs(alloc: Global, h: &Histogram<u64>, serializer: &mut V2Serializer, mut slow: Slow) -> bool {
+    let answer = {
+        let mut log = IntervalLogWriter::new(alloc, &mut slow, serializer, 1);
+        log.write_histogram(h, Duration::new(0, 0), Duration::new(1, 0), Tag::new("a"))
+    };
+    is_told(answer, &slow, 13) && slow.holds_front(LINE.as_slice())
+}
+
+/// Whether a log is begun so, with a comment, by 2 calls.
+fn begins(
+    builder: &IntervalLogWriterBuilder,
+    serializer: &mut V2Serializer,
+    mut slow: Slow,
+) -> bool {
+    let answer = match builder.begin_log_with(&mut slow, serializer) {
+        Ok(_) => Ok(()),
+        Err(e) => Err(e),
+    };
+    is_told(answer, &slow, 2) && slow.holds_front(b"#a comment\n")
+}
+
+/// Whether a comment of two lines is written so, by 4 calls.
+fn comments(alloc: Global, serializer: &mut V2Serializer, mut slow: Slow) -> bool {
+    let answer = {
+        let mut log = IntervalLogWriter::new(alloc, &mut slow, serializer, 1);
+        log.write_comment("a comment\nof two lines")
+    };
+    is_told(answer, &slow, 4) && slow.holds_front(b"#a comment\n#of two lines\n")
+}
+
+/// Writes to writers that fail at each of their calls in turn.
+fn logs_each(rt: &(impl Abort + AllocGlobal), kind: Option<ErrorKind>) -> Result<(), Fail> {
+    let h = first_run(rt.alloc())?;
     let mut serializer = V2Serializer::new(rt.alloc());
     let mut builder = IntervalLogWriterBuilder::new(rt.alloc());
     builder.add_comment("a comment")?;
-    for fails_at in 1..4usize {
-        let mut slow = Slow::new(rt.alloc(), fails_at, kind);
-        let is_right = match builder.begin_log_with(&mut slow, &mut serializer) {
-            Ok(_) => fails_at == 3,
-            Err(IntervalLogWriterError::IoError(cause)) => cause.kind() == wanted(kind),
-            Err(_) => false,
-        };
-        assert!(rt; is_right, "{kind:?} at {fails_at}");
-        assert!(rt; slow.holds_front(b"#a comment\n"), "{kind:?} at {fails_at}");
-    }
-    Ok(())
-}
-
-/// Writes a comment of two lines to a writer that fails at each of its calls in turn.
-fn comments(rt: &(impl Abort + AllocGlobal), kind: Option<ErrorKind>) -> Result<(), Fail> {
-    let mut serializer = V2Serializer::new(rt.alloc());
-    for fails_at in 1..6usize {
-        let mut slow = Slow::new(rt.alloc(), fails_at, kind);
-        let result = {
-            let mut log = IntervalLogWriter::new(rt.alloc(), &mut slow, &mut serializer, 1);
-            log.write_comment("a comment\nof two lines")
-        };
-        let is_right = match result {
-            Ok(()) => fails_at == 5,
-            Err(IntervalLogWriterError::IoError(cause)) => cause.kind() == wanted(kind),
-            Err(_) => false,
-        };
-        assert!(rt; is_right, "{kind:?} at {fails_at}");
-        assert!(rt;
-            slow.holds_front(b"#a comment\n#of two lines\n"),
-            "{kind:?} at {fails_at}"
+    for fails_at in 1..15usize {
+        let slow = Slow::new(rt.alloc(), fails_at, kind);
+        sees(
+            rt,
+            logs(rt.alloc(), &h, &mut serializer, slow),
+            kind,
+            fails_at,
+        );
+        let slow = Slow::new(rt.alloc(), fails_at, kind);
+        sees(rt, begins(&builder, &mut serializer, slow), kind, fails_at);
+        let slow = Slow::new(rt.alloc(), fails_at, kind);
+        sees(
+            rt,
+            comments(rt.alloc(), &mut serializer, slow),
+            kind,
+            fails_at,
         );
     }
     Ok(())
@@ -327,13 +356,9 @@ fn comments(rt: &(impl Abort + AllocGlobal), kind: Option<ErrorKind>) -> Result<
 
 #[test]
 fn writers_of_logs(rt: HostRuntime) -> Result<(), Fail> {
-    logs(&rt, None)?;
-    begins(&rt, None)?;
-    comments(&rt, None)?;
+    logs_each(&rt, None)?;
     for kind in KINDS {
-        logs(&rt, Some(kind))?;
-        begins(&rt, Some(kind))?;
-        comments(&rt, Some(kind))?;
+        logs_each(&rt, Some(kind))?;
     }
     Ok(())
 }

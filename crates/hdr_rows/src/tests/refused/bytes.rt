@@ -14,73 +14,101 @@ use std::process::Abort;
 use std::test::Fail;
 use std::time::Duration;
 
+/// An empty histogram, and one with a sample in its top class. None: memory was refused.
+fn small_and_large(alloc: Global) -> Option<(Histogram<u64>, Histogram<u64>)> {
+    let small = Histogram::new(alloc, 0).ok()?;
+    let mut large = Histogram::new_with_max(alloc, 1000, 2).ok()?;
+    large.saturating_record(1000);
+    Some((small, large))
+}
+
+/// Whether bytes of that length are lent; else memory was refused to them.
+fn lends(
+    rt: &impl Abort,
+    serializer: &mut V2Serializer,
+    h: &Histogram<u64>,
+    length: usize,
+) -> bool {
+    match serializer.to_bytes(h) {
+        Ok(bytes) => {
+            assert_eq!(rt; bytes.len(), length);
+            true
+        }
+        Err(error) => {
+            assert!(rt; matches!(error, V2SerializeError::OutOfMemory));
+            false
+        }
+    }
+}
+
 #[test]
 fn to_bytes(rt: HostRuntime) -> Result<(), Fail> {
-    let Ok(small) = Histogram::<u64>::new(rt.alloc(), 0) else {
+    let Some((small, large)) = small_and_large(rt.alloc()) else {
         return Ok(println!(rt; "no memory")?);
     };
-    let Ok(mut large) = Histogram::<u64>::new_with_max(rt.alloc(), 1000, 2) else {
-        return Ok(println!(rt; "no memory")?);
-    };
-    large.record_n(1000, 1)?;
     let mut serializer = V2Serializer::new(rt.alloc());
-    let mut refused = 0;
-    if let Err(error) = serializer.to_bytes(&small) {
-        assert!(rt; matches!(error, V2SerializeError::OutOfMemory));
-        refused += 1;
-    }
-    if let Err(error) = serializer.to_bytes(&large) {
-        assert!(rt; matches!(error, V2SerializeError::OutOfMemory));
-        refused += 1;
-    }
-    assert!(rt; refused <= 1);
-    assert_eq!(rt; serializer.to_bytes(&small)?.len(), 41);
-    assert_eq!(rt; serializer.to_bytes(&large)?.len(), 43);
-    if refused == 1 {
+    let first = lends(&rt, &mut serializer, &small, 41);
+    let second = lends(&rt, &mut serializer, &large, 43);
+    if !first || !second {
         println!(rt; "no memory")?;
     }
+    assert!(rt; first || second);
+    assert!(rt; lends(&rt, &mut serializer, &small, 41));
+    assert!(rt; lends(&rt, &mut serializer, &large, 43));
     Ok(())
 }
 
+/// The histogram of the first run. None: memory was refused.
+fn held(alloc: Global) -> Option<Histogram<u64>> {
+    let mut h = Histogram::new(alloc, 3).ok()?;
+    h.saturating_record(1);
+    h.saturating_record_n(2, 4);
+    Some(h)
+}
+
+/// Whether the bytes of the first run are written; else memory was refused to them, and nothing is written.
+fn serializes(
+    rt: &impl Abort,
+    serializer: &mut V2Serializer,
+    h: &Histogram<u64>,
+    written: &mut Vec<u8>,
+) -> bool {
+    match serializer.serialize(h, written) {
+        Ok(_) => {
+            assert!(rt; written.as_slice() == FIRST_RUN.as_slice());
+            true
+        }
+        Err(error) => {
+            assert!(rt; matches!(error, V2SerializeError::OutOfMemory));
+            assert!(rt; written.is_empty());
+            false
+        }
+    }
+}
+
+/// Whether the bytes of the first run are lent.
+fn lends_first_run(serializer: &mut V2Serializer, h: &Histogram<u64>) -> bool {
+    match serializer.to_bytes(h) {
+        Ok(bytes) => bytes == FIRST_RUN.as_slice(),
+        Err(_) => false,
+    }
+}
+
+/// A serializer that memory was refused to makes the right bytes then, written and lent.
 #[test]
 fn serialize(rt: HostRuntime) -> Result<(), Fail> {
-    let Ok(h) = Histogram::<u8>::new(rt.alloc(), 1) else {
+    let Some(h) = held(rt.alloc()) else {
         return Ok(println!(rt; "no memory")?);
     };
     let Ok(mut written) = Vec::with_capacity(rt.alloc(), 100) else {
         return Ok(println!(rt; "no memory")?);
     };
     let mut serializer = V2Serializer::new(rt.alloc());
-    if let Err(error) = serializer.serialize(&h, &mut written) {
-        assert!(rt; matches!(error, V2SerializeError::OutOfMemory));
-        assert!(rt; written.is_empty());
+    if !serializes(&rt, &mut serializer, &h, &mut written) {
         println!(rt; "no memory")?;
-        serializer.serialize(&h, &mut written)?;
+        assert!(rt; serializes(&rt, &mut serializer, &h, &mut written));
     }
-    assert_eq!(rt; written.len(), 41);
-    Ok(())
-}
-
-/// A serializer that memory was refused to makes the right bytes then, lent and written.
-#[test]
-fn first_run_again(rt: HostRuntime) -> Result<(), Fail> {
-    let Ok(mut h) = Histogram::<u64>::new(rt.alloc(), 3) else {
-        return Ok(println!(rt; "no memory")?);
-    };
-    h.record_n(1, 1)?;
-    h.record_n(2, 4)?;
-    let Ok(mut written) = Vec::with_capacity(rt.alloc(), 100) else {
-        return Ok(println!(rt; "no memory")?);
-    };
-    let mut serializer = V2Serializer::new(rt.alloc());
-    if let Err(error) = serializer.serialize(&h, &mut written) {
-        assert!(rt; matches!(error, V2SerializeError::OutOfMemory));
-        assert!(rt; written.is_empty());
-        println!(rt; "no memory")?;
-        serializer.serialize(&h, &mut written)?;
-    }
-    assert!(rt; written.as_slice() == FIRST_RUN.as_slice());
-    assert!(rt; serializer.to_bytes(&h)? == FIRST_RUN.as_slice());
+    assert!(rt; lends_first_run(&mut serializer, &h));
     Ok(())
 }
 
