@@ -230,14 +230,20 @@ fn is_stopped(
     true
 }
 
+/// The histograms of `TWINS`. None: memory was refused.
+fn twins(alloc: Global) -> Option<Table<u64>> {
+    let mut table = Table::new(alloc).ok()?;
+    if is_refused(alloc, &mut table, TWINS.as_slice()) {
+        return None;
+    }
+    Some(table)
+}
+
 #[test]
 fn running(rt: HostRuntime) -> Result<(), Fail> {
-    let Ok(mut table) = Table::<u64>::new(rt.alloc()) else {
+    let Some(mut table) = twins(rt.alloc()) else {
         return Ok(println!(rt; "no memory")?);
     };
-    if is_refused(rt.alloc(), &mut table, TWINS.as_slice()) {
-        return Ok(println!(rt; "no memory")?);
-    }
     let calls = [Call::Record(4, 1), Call::Record(1000, 5), Call::Clear];
     let ran = table.one.apply_all(&calls);
     if is_stopped(&rt, rt.alloc(), &mut table, ran) {
@@ -248,12 +254,9 @@ fn running(rt: HostRuntime) -> Result<(), Fail> {
 
 #[test]
 fn running_from(rt: HostRuntime) -> Result<(), Fail> {
-    let Ok(mut table) = Table::<u64>::new(rt.alloc()) else {
+    let Some(mut table) = twins(rt.alloc()) else {
         return Ok(println!(rt; "no memory")?);
     };
-    if is_refused(rt.alloc(), &mut table, TWINS.as_slice()) {
-        return Ok(println!(rt; "no memory")?);
-    }
     let calls = [
         CallFrom::Own(Call::Record(4, 1)),
         CallFrom::AddFrom(&table.wide.inner),

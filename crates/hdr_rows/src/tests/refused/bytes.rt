@@ -217,6 +217,13 @@ fn field(rt: HostRuntime) -> Result<(), Fail> {
     Ok(())
 }
 
+/// An empty histogram, and room for its log. None: memory was refused.
+fn empty_and_log(alloc: Global) -> Option<(Histogram<u64>, Vec<u8>)> {
+    let h = Histogram::new(alloc, 0).ok()?;
+    let log = Vec::with_capacity(alloc, 200).ok()?;
+    Some((h, log))
+}
+
 /// Whether comments and an interval are written whole, or memory is refused and nothing is written.
 fn is_written(alloc: Global, h: &Histogram<u64>, log: &mut Vec<u8>) -> Option<bool> {
     let mut serializer = V2Serializer::new(alloc);
@@ -239,10 +246,7 @@ fn is_written(alloc: Global, h: &Histogram<u64>, log: &mut Vec<u8>) -> Option<bo
 
 #[test]
 fn log(rt: HostRuntime) -> Result<(), Fail> {
-    let Ok(h) = Histogram::<u64>::new(rt.alloc(), 0) else {
-        return Ok(println!(rt; "no memory")?);
-    };
-    let Ok(mut log) = Vec::with_capacity(rt.alloc(), 200) else {
+    let Some((h, mut log)) = empty_and_log(rt.alloc()) else {
         return Ok(println!(rt; "no memory")?);
     };
     match is_written(rt.alloc(), &h, &mut log) {
@@ -289,10 +293,7 @@ fn parts_written(alloc: Global, h: &Histogram<u64>, log: &mut Vec<u8>) -> Option
 /// A part that memory is refused to leaves the parts before it, and nothing of its own.
 #[test]
 fn log_part_by_part(rt: HostRuntime) -> Result<(), Fail> {
-    let Ok(h) = Histogram::<u64>::new(rt.alloc(), 0) else {
-        return Ok(println!(rt; "no memory")?);
-    };
-    let Ok(mut log) = Vec::with_capacity(rt.alloc(), 200) else {
+    let Some((h, mut log)) = empty_and_log(rt.alloc()) else {
         return Ok(println!(rt; "no memory")?);
     };
     let Some(parts) = parts_written(rt.alloc(), &h, &mut log) else {
