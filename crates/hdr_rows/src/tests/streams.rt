@@ -150,16 +150,17 @@ fn wanted(kind: Option<ErrorKind>) -> ErrorKind {
     kind.unwrap_or(ErrorKind::WriteZero)
 }
 
-/// A failure at a call is told as it has to be.
-fn sees(rt: &impl Abort, is_right: bool, kind: Option<ErrorKind>, fails_at: usize) {
+/// Ends the test where a call was answered wrongly, and says with which failure and where it came.
+fn assert_right(rt: &impl Abort, is_right: bool, kind: Option<ErrorKind>, fails_at: usize) {
     assert!(rt; is_right, "{kind:?} at {fails_at}");
 }
 
-/// Whether bytes are written whole at the eighth call, or the writer's failure is told, and what it took stands.
+/// Whether bytes are written whole by seven calls, or the failure of one of them is told; what was taken before it stands.
 fn serializes(h: &Histogram<u64>, serializer: &mut V2Serializer, mut slow: Slow) -> bool {
     let is_told = match serializer.serialize(h, &mut slow) {
         Ok(count) => count == 43 && slow.fails_at == 8,
-        Err(V2SerializeError::IoError(cause)) => cause.kind() == wanted(slow.kind),
+        Err(V2SerializeError::IoError(cause)) => slow.fails_at < 8
+            && cause.kind() == wanted(slow.kind),
         Err(_) => false,
     };
     is_told && slow.holds_front(FIRST_RUN.as_slice())
@@ -171,7 +172,7 @@ fn serializes_each(rt: &(impl Abort + AllocGlobal), kind: Option<ErrorKind>) -> 
     let mut serializer = V2Serializer::new(rt.alloc());
     for fails_at in 1..9usize {
         let slow = Slow::new(rt.alloc(), fails_at, kind);
-        sees(rt, serializes(&h, &mut serializer, slow), kind, fails_at);
+        assert_right(rt, serializes(&h, &mut serializer, slow), kind, fails_at);
     }
     Ok(())
 }
@@ -185,11 +186,12 @@ fn writers_of_bytes(rt: HostRuntime) -> Result<(), Fail> {
     Ok(())
 }
 
-/// Whether bytes are read whole before the call that fails, or the reader's failure is told.
+/// Whether bytes are read whole by 43 calls, or the failure of one of them is told.
 fn reads(deserializer: &mut Deserializer, source: &mut Source) -> bool {
     match deserializer.deserialize::<u64, Source>(source) {
         Ok(h) => h.len() == 5 && source.fails_at == 44,
-        Err(DeserializeError::IoError(cause)) => cause.kind() == source.kind,
+        Err(DeserializeError::IoError(cause)) => source.fails_at < 44
+            && cause.kind() == source.kind,
         Err(_) => false,
     }
 }
@@ -202,7 +204,7 @@ fn readers_of_bytes(rt: HostRuntime) {
             let mut source = Source::new(FIRST_RUN.as_slice(), fails_at, kind);
             let is_right = reads(&mut deserializer, &mut source);
             let left = FIRST_RUN.len().saturating_sub(fails_at.saturating_sub(1));
-            sees(
+            assert_right(
                 &rt,
                 is_right && source.left.len() == left,
                 Some(kind),
@@ -254,11 +256,11 @@ fn refused_bytes(rt: HostRuntime) {
 /// The greatest number, spelt in nine bytes, and a byte after it.
 const GREATEST: [u8; 10] = [0xff, 0xff, 0xff, 0xff, 0xff, 0xff, 0xff, 0xff, 0xff, 7];
 
-/// Whether the greatest number is read before the call that fails, or the reader's failure is told.
+/// Whether the greatest number is read by nine calls, or the failure of one of them is told.
 fn reads_greatest(source: &mut Source) -> bool {
     match varint_read(source) {
         Ok(n) => n == u64::MAX && source.fails_at == 10,
-        Err(cause) => cause.kind() == source.kind,
+        Err(cause) => source.fails_at < 10 && cause.kind() == source.kind,
     }
 }
 
@@ -269,7 +271,7 @@ fn readers_of_varints(rt: HostRuntime) {
             let mut source = Source::new(GREATEST.as_slice(), fails_at, kind);
             let is_right = reads_greatest(&mut source);
             let left = 11usize.saturating_sub(fails_at);
-            sees(
+            assert_right(
                 &rt,
                 is_right && source.left.len() == left,
                 Some(kind),
@@ -282,7 +284,7 @@ fn readers_of_varints(rt: HostRuntime) {
 const LINE: &[u8; 85] =
     b"Tag=a,0.000,1.000,2.000,HISTEwAAAAMAAAAAAAAAAwAAAAAAAAABAAAAAAAAAAI/8AAAAAAAAAACCA==\n";
 
-/// Whether a part of a log is written before the call that fails, or the writer's failure is told.
+/// Whether a part of a log is written by so many calls, or the failure of one of them is told.
 fn is_told(
     answer: Result<(), IntervalLogWriterError<V2SerializeError>>,
     slow: &Slow,
@@ -296,7 +298,7 @@ fn is_told(
     }
 }
 
-/// Whether an interval is written so, by 13 calls.
+/// Whether an interval is written whole by 13 calls, or a failure is told; what was taken before it stands.
 fn logs(alloc: Global, h: &Histogram<u64>, serializer: &mut V2Serializer, mut slow: Slow) -> bool {
     let answer = {
         let mut log = IntervalLogWriter::new(alloc, &mut slow, serializer, 1);
@@ -305,7 +307,7 @@ fn logs(alloc: Global, h: &Histogram<u64>, serializer: &mut V2Serializer, mut sl
     is_told(answer, &slow, 13) && slow.holds_front(LINE.as_slice())
 }
 
-/// Whether a log is begun so, with a comment, by 2 calls.
+/// The same of a log's beginning with a comment, and 2 calls.
 fn begins(
     builder: &IntervalLogWriterBuilder,
     serializer: &mut V2Serializer,
@@ -318,7 +320,7 @@ fn begins(
     is_told(answer, &slow, 2) && slow.holds_front(b"#a comment\n")
 }
 
-/// Whether a comment of two lines is written so, by 4 calls.
+/// The same of a comment of two lines, and 4 calls.
 fn comments(alloc: Global, serializer: &mut V2Serializer, mut slow: Slow) -> bool {
     let answer = {
         let mut log = IntervalLogWriter::new(alloc, &mut slow, serializer, 1);
@@ -327,7 +329,7 @@ fn comments(alloc: Global, serializer: &mut V2Serializer, mut slow: Slow) -> boo
     is_told(answer, &slow, 4) && slow.holds_front(b"#a comment\n#of two lines\n")
 }
 
-/// Writes to writers that fail at each of their calls in turn.
+/// Writes an interval, a beginning and a comment to writers that fail at each of their calls in turn.
 fn logs_each(rt: &(impl Abort + AllocGlobal), kind: Option<ErrorKind>) -> Result<(), Fail> {
     let h = first_run(rt.alloc())?;
     let mut serializer = V2Serializer::new(rt.alloc());
@@ -335,16 +337,16 @@ fn logs_each(rt: &(impl Abort + AllocGlobal), kind: Option<ErrorKind>) -> Result
     builder.add_comment("a comment")?;
     for fails_at in 1..15usize {
         let slow = Slow::new(rt.alloc(), fails_at, kind);
-        sees(
+        assert_right(
             rt,
             logs(rt.alloc(), &h, &mut serializer, slow),
             kind,
             fails_at,
         );
         let slow = Slow::new(rt.alloc(), fails_at, kind);
-        sees(rt, begins(&builder, &mut serializer, slow), kind, fails_at);
+        assert_right(rt, begins(&builder, &mut serializer, slow), kind, fails_at);
         let slow = Slow::new(rt.alloc(), fails_at, kind);
-        sees(
+        assert_right(
             rt,
             comments(rt.alloc(), &mut serializer, slow),
             kind,
