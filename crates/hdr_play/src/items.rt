@@ -9,21 +9,28 @@ use std::alloc::Global;
 /// How many items of a list a text shows.
 const SHOWN: u64 = 16;
 
+/// Writes numbers, each with what stands after it.
+pub fn push_numbers(told: &mut String, numbers: &[(u128, &str)]) -> Option<()> {
+    for (number, after) in numbers {
+        write!(told, "{number}{after}").ok()?;
+    }
+    Some(())
+}
+
 /// Writes the numbers of an item: its value, its counter, the samples since the item before, its quantile, and the
 /// quantile iterated to.
 fn push_item<T: Counter>(told: &mut String, item: &IterationValue<T>) -> Option<()> {
-    let value = item.value_iterated_to();
-    let count = item.count_at_value().as_u64();
-    let since = item.count_since_last_iteration();
-    let quantile = item.quantile();
-    let tick = item.quantile_iterated_to();
-    write!(
-        told,
-        "{value} {count} {since} {}/{} ",
-        quantile.num, quantile.den
-    )
-    .ok()?;
-    write!(told, "{}/{}", tick.num, tick.den).ok()
+    let (quantile, tick) = (item.quantile(), item.quantile_iterated_to());
+    let numbers = [
+        (u128::from(item.value_iterated_to()), " "),
+        (u128::from(item.count_at_value().as_u64()), " "),
+        (u128::from(item.count_since_last_iteration()), " "),
+        (quantile.num, "/"),
+        (quantile.den, " "),
+        (tick.num, "/"),
+        (tick.den, ""),
+    ];
+    push_numbers(told, &numbers)
 }
 
 /// Whether the percentile of an item is a hundred times its quantile, and its parts make the same item again.

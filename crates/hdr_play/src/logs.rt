@@ -2,6 +2,7 @@
 
 use crate::answer::{Answer, LogError, text};
 use crate::bare::Histogram;
+use crate::items::push_numbers;
 use hdr_base::Counter;
 use hdr_log::field::{FieldError, decoded};
 use hdrhistogram::serialization::V2Serializer;
@@ -56,11 +57,14 @@ fn push_interval(told: &mut String, line: &IntervalLogHistogram<'_>) -> Option<(
         Some(tag) => tag.as_str(),
         None => "-",
     };
-    let start = line.start_timestamp().as_millis();
-    let duration = line.duration().as_millis();
-    let max = line.max();
-    let field = line.encoded_histogram();
-    write!(told, "{tag} {start} {duration} {max} {field};").ok()
+    told.push_str(tag).ok()?;
+    told.push(' ').ok()?;
+    let numbers = [
+        (line.start_timestamp().as_millis(), " "),
+        (line.duration().as_millis(), " "),
+    ];
+    push_numbers(told, &numbers)?;
+    write!(told, "{} {};", line.max(), line.encoded_histogram()).ok()
 }
 
 /// Writes what was read of an entry.

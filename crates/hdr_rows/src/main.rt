@@ -53,7 +53,10 @@ fn differing(rt: &HostRuntime, play: &mut Play, text: &str) -> io::Result<u64> {
 /// Plays a text from its first line. None: memory was refused.
 fn played(rt: &HostRuntime, text: &str) -> Option<io::Result<u64>> {
     let mut play = Play::new(rt.alloc()).ok()?;
-    Some(differing(rt, &mut play, text))
+    let differ = differing(rt, &mut play, text);
+    // (without this call the prover takes the parts of all tables apart here)
+    drop(play);
+    Some(differ)
 }
 
 /// Plays the rows of standard input. Whether all answered as they say.

@@ -84,14 +84,15 @@ const MAKERS: [&str; 7] = [
 /// Whether a call was refused for memory.
 fn is_memory(answer: &Answer) -> bool {
     match answer {
-        Answer::Unmade(error) => *error == CreationError::OutOfMemory,
-        Answer::Unrecorded(error) => *error == RecordError::OutOfMemory,
-        Answer::Unadded(error) => *error == AdditionError::OutOfMemory,
-        Answer::Unmerged(error) => matches!(error, MergeError::OutOfMemory),
-        Answer::Stopped(error) => match &error.cause {
-            CallError::Record(error) => *error == RecordError::OutOfMemory,
-            CallError::Addition(error) => *error == AdditionError::OutOfMemory,
-        },
+        Answer::Unmade(CreationError::OutOfMemory)
+        | Answer::Unrecorded(RecordError::OutOfMemory)
+        | Answer::Unadded(AdditionError::OutOfMemory)
+        | Answer::Unmerged(MergeError::OutOfMemory) => true,
+        Answer::Stopped(error) => matches!(
+            error.cause,
+            CallError::Record(RecordError::OutOfMemory)
+                | CallError::Addition(AdditionError::OutOfMemory)
+        ),
         _ => false,
     }
 }
@@ -136,6 +137,7 @@ fn refuses(rt: &impl Abort, alloc: Global, making: &[&str], call: &str, twin: &[
     if refused {
         assert!(rt; are_alike(alloc, &mut table, twin), "{call}");
     }
+    drop(table);
     refused
 }
 
@@ -234,6 +236,7 @@ fn is_stopped(
 fn twins(alloc: Global) -> Option<Table<u64>> {
     let mut table = Table::new(alloc).ok()?;
     if is_refused(alloc, &mut table, TWINS.as_slice()) {
+        drop(table);
         return None;
     }
     Some(table)
@@ -246,7 +249,9 @@ fn running(rt: HostRuntime) -> Result<(), Fail> {
     };
     let calls = [Call::Record(4, 1), Call::Record(1000, 5), Call::Clear];
     let ran = table.one.apply_all(&calls);
-    if is_stopped(&rt, rt.alloc(), &mut table, ran) {
+    let stopped = is_stopped(&rt, rt.alloc(), &mut table, ran);
+    drop(table);
+    if stopped {
         println!(rt; "no memory")?;
     }
     Ok(())
@@ -263,7 +268,9 @@ fn running_from(rt: HostRuntime) -> Result<(), Fail> {
         CallFrom::Own(Call::Clear),
     ];
     let ran = table.one.apply_all_from(&calls);
-    if is_stopped(&rt, rt.alloc(), &mut table, ran) {
+    let stopped = is_stopped(&rt, rt.alloc(), &mut table, ran);
+    drop(table);
+    if stopped {
         println!(rt; "no memory")?;
     }
     Ok(())

@@ -41,20 +41,34 @@ fn lends(
     }
 }
 
+/// Whether the bytes of both are lent at once; else memory was refused to one of them, and then they are lent.
+fn lends_both(
+    rt: &impl Abort,
+    small: &Histogram<u64>,
+    large: &Histogram<u64>,
+    alloc: Global,
+) -> bool {
+    let mut serializer = V2Serializer::new(alloc);
+    let first = lends(rt, &mut serializer, small, 41);
+    let second = lends(rt, &mut serializer, large, 43);
+    assert!(rt; first || second);
+    assert!(rt; lends(rt, &mut serializer, small, 41));
+    assert!(rt; lends(rt, &mut serializer, large, 43));
+    drop(serializer);
+    first && second
+}
+
 #[test]
 fn to_bytes(rt: HostRuntime) -> Result<(), Fail> {
     let Some((small, large)) = small_and_large(rt.alloc()) else {
         return Ok(println!(rt; "no memory")?);
     };
-    let mut serializer = V2Serializer::new(rt.alloc());
-    let first = lends(&rt, &mut serializer, &small, 41);
-    let second = lends(&rt, &mut serializer, &large, 43);
-    if !first || !second {
+    let at_once = lends_both(&rt, &small, &large, rt.alloc());
+    drop(small);
+    drop(large);
+    if !at_once {
         println!(rt; "no memory")?;
     }
-    assert!(rt; first || second);
-    assert!(rt; lends(&rt, &mut serializer, &small, 41));
-    assert!(rt; lends(&rt, &mut serializer, &large, 43));
     Ok(())
 }
 
@@ -104,11 +118,16 @@ fn serialize(rt: HostRuntime) -> Result<(), Fail> {
         return Ok(println!(rt; "no memory")?);
     };
     let mut serializer = V2Serializer::new(rt.alloc());
-    if !serializes(&rt, &mut serializer, &h, &mut written) {
-        println!(rt; "no memory")?;
+    let at_once = serializes(&rt, &mut serializer, &h, &mut written);
+    if !at_once {
         assert!(rt; serializes(&rt, &mut serializer, &h, &mut written));
     }
     assert!(rt; lends_first_run(&mut serializer, &h));
+    drop(serializer);
+    drop(h);
+    if !at_once {
+        println!(rt; "no memory")?;
+    }
     Ok(())
 }
 
@@ -224,24 +243,28 @@ fn empty_and_log(alloc: Global) -> Option<(Histogram<u64>, Vec<u8>)> {
     Some((h, log))
 }
 
+/// Writes a log that begins as a builder says, and an interval.
+fn write(
+    builder: &IntervalLogWriterBuilder,
+    serializer: &mut V2Serializer,
+    h: &Histogram<u64>,
+    log: &mut Vec<u8>,
+) -> Result<(), IntervalLogWriterError<V2SerializeError>> {
+    let mut writer = builder.begin_log_with(log, serializer)?;
+    writer.write_histogram(h, Duration::new(0, 0), Duration::new(0, 0), None)
+}
+
 /// Whether comments and an interval are written whole, or memory is refused and nothing is written.
 fn is_written(alloc: Global, h: &Histogram<u64>, log: &mut Vec<u8>) -> Option<bool> {
     let mut serializer = V2Serializer::new(alloc);
     let mut builder = IntervalLogWriterBuilder::new(alloc);
-    if let Err(CommentError::OutOfMemory) = builder.add_comment("a") {
-        return Some(false);
-    }
-    let mut writer = match builder.begin_log_with(log, &mut serializer) {
-        Ok(writer) => writer,
-        Err(IntervalLogWriterError::OutOfMemory) => return Some(false),
-        Err(_) => return None,
+    let answer = match builder.add_comment("a") {
+        Err(CommentError::OutOfMemory) => Some(false),
+        _ => is_done(write(&builder, &mut serializer, h, log)),
     };
-    match writer.write_histogram(h, Duration::new(0, 0), Duration::new(0, 0), None) {
-        Ok(()) => Some(true),
-        Err(IntervalLogWriterError::OutOfMemory) => Some(false),
-        Err(IntervalLogWriterError::SerializeError(V2SerializeError::OutOfMemory)) => Some(false),
-        Err(_) => None,
-    }
+    drop(serializer);
+    drop(builder);
+    answer
 }
 
 #[test]
@@ -249,7 +272,9 @@ fn log(rt: HostRuntime) -> Result<(), Fail> {
     let Some((h, mut log)) = empty_and_log(rt.alloc()) else {
         return Ok(println!(rt; "no memory")?);
     };
-    match is_written(rt.alloc(), &h, &mut log) {
+    let answer = is_written(rt.alloc(), &h, &mut log);
+    drop(h);
+    match answer {
         Some(true) => assert!(rt; log.as_slice().starts_with(b"#a\n0.000,0.000,0.000,HIST")),
         Some(false) => {
             assert!(rt; log.is_empty() || log.as_slice() == b"#a\n".as_slice());
@@ -275,9 +300,13 @@ fn is_done(answer: Result<(), IntervalLogWriterError<V2SerializeError>>) -> Opti
 }
 
 /// How many parts of `LOG` are written before memory is refused. None: another error.
-fn parts_written(alloc: Global, h: &Histogram<u64>, log: &mut Vec<u8>) -> Option<usize> {
-    let mut serializer = V2Serializer::new(alloc);
-    let mut writer = IntervalLogWriter::new(alloc, log, &mut serializer, 1);
+fn parts_written(
+    alloc: Global,
+    serializer: &mut V2Serializer,
+    h: &Histogram<u64>,
+    log: &mut Vec<u8>,
+) -> Option<usize> {
+    let mut writer = IntervalLogWriter::new(alloc, log, serializer, 1);
     if !is_done(writer.write_comment("a\nb"))? {
         return Some(0);
     }
@@ -296,7 +325,11 @@ fn log_part_by_part(rt: HostRuntime) -> Result<(), Fail> {
     let Some((h, mut log)) = empty_and_log(rt.alloc()) else {
         return Ok(println!(rt; "no memory")?);
     };
-    let Some(parts) = parts_written(rt.alloc(), &h, &mut log) else {
+    let mut serializer = V2Serializer::new(rt.alloc());
+    let parts = parts_written(rt.alloc(), &mut serializer, &h, &mut log);
+    drop(serializer);
+    drop(h);
+    let Some(parts) = parts else {
         return Err(Fail::from("another error"));
     };
     let end = match parts {
