@@ -1,9 +1,6 @@
 //! The program `hdr`: reports quantiles of samples, logs their histograms interval by interval, and merges such logs.
 #![tactic(auto)]
 
-#[cfg(test)]
-mod tests;
-
 use hdr_tool::run::run;
 use hdr_tool::{Fault, Patient};
 use std::env;

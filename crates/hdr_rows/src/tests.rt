@@ -1,7 +1,9 @@
-//! What rows can't show: memory refused, in turn or where much is asked for, readers and writers that fail, texts of errors
-//! that no row meets, and laws.
+//! What rows can't show: memory refused, in turn or where much is asked for, readers and writers that fail, of the library and
+//! of the program, texts of errors that no row meets, and laws.
 
+mod failing;
 mod laws;
+mod program;
 mod refused;
 mod sparing;
 mod streams;

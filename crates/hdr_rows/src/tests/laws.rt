@@ -6,6 +6,7 @@ use std::test::Fail;
 fn laws_hold(_rt: HostRuntime) -> Result<(), Fail> {
     call_laws_of_histograms();
     call_laws_of_bytes();
+    call_laws_of_the_program();
     Ok(())
 }
 
@@ -51,4 +52,10 @@ fn call_laws_of_bytes() {
     hdrhistogram::laws::read_back_stands();
     hdrhistogram::laws::merging_adds_the_chosen();
     hdrhistogram::laws::merged_log_stands();
+}
+
+fn call_laws_of_the_program() {
+    hdr_tool::laws::ends_stand();
+    hdr_tool::laws::log_then_merge();
+    hdr_tool::laws::log_merge_stands();
 }
