@@ -1,6 +1,6 @@
 //! The intervals of a log, one by one and together.
 
-use anyhow::{Context, Result, bail};
+use anyhow::{Context, Error, Result, anyhow, bail};
 use hdrhistogram::serialization::interval_log::{
     IntervalFilter, IntervalLogHistogram, IntervalLogIterator, LogEntry, LogIteratorError,
     MergeError, Tag, TagChoice, merge_log,
@@ -113,9 +113,16 @@ fn see<'a>(
 fn decoded(alloc: Global, place: u64, field: &str) -> Result<Histogram<u64>> {
     match Deserializer::new(alloc).decode_field(field) {
         Ok(histogram) => Ok(histogram),
-        Err(FieldDecodeError::OutOfMemory) => bail!("Out of memory"),
-        Err(cause) => bail!("interval {place}: {cause}"),
+        Err(cause) => Err(undecoded(place, cause)),
     }
+}
+
+/// Why the field of the interval of this place is not decoded.
+fn undecoded(place: u64, cause: FieldDecodeError) -> Error {
+    if matches!(cause, FieldDecodeError::OutOfMemory) {
+        return anyhow!("Out of memory");
+    }
+    anyhow!("interval {place}: {cause}")
 }
 
 /// Adds a histogram to the sum of its tag.

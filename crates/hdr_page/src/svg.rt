@@ -81,13 +81,18 @@ pub(crate) fn push_line(
 /// Adds a text, with the letters that HTML reads otherwise spelt out.
 pub(crate) fn push_text(text: &mut String, plain: &str) -> Result<(), AllocError> {
     for letter in plain.chars() {
-        match letter {
-            '&' => text.push_str("&amp;")?,
-            '<' => text.push_str("&lt;")?,
-            '>' => text.push_str("&gt;")?,
-            '"' => text.push_str("&quot;")?,
-            letter => text.push(letter)?,
-        }
+        push_letter(text, letter)?;
     }
     Ok(())
+}
+
+/// Adds a letter of a text.
+fn push_letter(text: &mut String, letter: char) -> Result<(), AllocError> {
+    match letter {
+        '&' => text.push_str("&amp;"),
+        '<' => text.push_str("&lt;"),
+        '>' => text.push_str("&gt;"),
+        '"' => text.push_str("&quot;"),
+        letter => text.push(letter),
+    }
 }

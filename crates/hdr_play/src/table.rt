@@ -21,15 +21,29 @@ pub struct Table<T: Counter> {
     pub wide: Histogram<u64>,
 }
 
+/// The number that a text begins with, and the words after it; 0 where there is no text.
+fn front(words: Option<&str>) -> Option<(u64, Option<&str>)> {
+    let Some(words) = words else {
+        return Some((0, None));
+    };
+    match words.split_once(' ') {
+        Some((word, rest)) => Some((word.parse::<u64>().ok()?, Some(rest))),
+        None => Some((words.parse::<u64>().ok()?, None)),
+    }
+}
+
 /// The words of a text that are numbers, up to three.
 fn numbers_of(words: &str) -> Option<Numbers> {
-    let mut numbers = [0; 3];
-    if !words.is_empty() {
-        for (place, word) in words.split(' ').enumerate() {
-            *numbers.get_mut(place)? = word.parse::<u64>().ok()?;
-        }
+    if words.is_empty() {
+        return Some([0; 3]);
     }
-    Some(numbers)
+    let (first, words) = front(Some(words))?;
+    let (second, words) = front(words)?;
+    let (third, words) = front(words)?;
+    match words {
+        Some(_) => None,
+        None => Some([first, second, third]),
+    }
 }
 
 /// A name and the numbers after it.
