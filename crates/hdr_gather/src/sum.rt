@@ -5,7 +5,7 @@ ghost use Rattle.hdr_gather.specs.Parts.{field_of};
 ghost use Rattle.hdr_gather.specs.Sums.{IsJoined, IsGrowing, IsSumOf};
 
 use crate::part::Part;
-use anyhow::{Error, Result, anyhow, bail};
+use anyhow::{Result, bail};
 use hdrhistogram::Histogram;
 use hdrhistogram::serialization::{Deserializer, FieldDecodeError};
 use std::alloc::Global;
@@ -15,21 +15,15 @@ use std::time::Duration;
 fn histogram_of(deserializer: &mut Deserializer, part: &Part<'_>) -> Result<Histogram<u64>>
     ensures { IfOk result (IsGrowing (field_of part.now)) }
 {
+    let place = part.place;
     match deserializer.decode_field(part.field) {
         Ok(mut histogram) => {
             histogram.auto(true);
             Ok(histogram)
         }
-        Err(cause) => Err(undecoded(part.place, cause)),
+        Err(FieldDecodeError::OutOfMemory) => bail!("Out of memory"),
+        Err(cause) => bail!("interval {place}: {cause}"),
     }
-}
-
-/// Why the field of the interval of this place is not decoded.
-fn undecoded(place: u64, cause: FieldDecodeError) -> Error {
-    if matches!(cause, FieldDecodeError::OutOfMemory) {
-        return anyhow!("Out of memory");
-    }
-    anyhow!("interval {place}: {cause}")
 }
 
 /// The histogram of the samples of both, by the coarser classes. Two are refused where the classes of neither lie in those of
