@@ -1,8 +1,7 @@
 //! The program `hdr`: reports quantiles of samples, logs their histograms interval by interval, and merges such logs.
 #![tactic(auto)]
 
-use hdr_tool::run::run;
-use hdr_tool::{Fault, Patient};
+use hdr_tool::{Fault, Patient, run};
 use std::env;
 use std::io::ErrorKind;
 use std::process::ExitCode;

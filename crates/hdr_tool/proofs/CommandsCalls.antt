@@ -9,7 +9,8 @@ use Rattle.hdr_core.specs.Calls.{IsCallOf}
 use Rattle.hdr_core.specs.declared.call.Call.{Call}
 use Rattle.hdr_core.specs.declared.call.Call.TheVariants.{Record, Clamp, Correct, Clear, Reset}
 use Rattle.hdr_log.specs.Parts.{◌>>=◌, parts, is_digits, number_of}
-use Rattle.hdr_tool.specs.Commands.{LogCommand, Make, End, count_of, number_and_count_of, record_of, clamp_of, correct_of, alone, call_of_name, end_tag_of, end_of, log_command_of_name, log_command_of_fields, log_command_of}
+use Rattle.hdr_tool.specs.Lines.{first_number}
+use Rattle.hdr_tool.specs.Commands.{Command, Apply, End, alone, count_of, record_of, correct_of, end_tag_of, end_of, command_of_name, command_of_fields, command_of}
 
 -- one of two answers, and one after another
 one_of : {A : Type 0} (P : A → Type 0) (b : Bool) (x y : Option A) → IfSome x P → IfSome y P → IfSome (cond b x y) P
@@ -39,62 +40,48 @@ number_small text =
     let v = digits_value 10 text in
     small_if (is_digits text) (nat_lt v (2 ^ 64)) v (λ e. ltb-true v (2 ^ 64) e)
 
-abbrev pub Fine : Call ℕ → Type 0
-Fine call = IsCallOf (2 ^ 64 - 1) call
+first_of : (o : Option ℕ) (fields : List (List ℕ)) → IfSome o Small → IfSome (option_map {U = ℕ × List (List ℕ)} (λ n. (n, fields)) o) (λ p. Small p.0)
+first_of None fields s = tt
+first_of (Some n) fields s = s
 
-pair_small : (fields : List (List ℕ)) → IfSome (number_and_count_of fields) (λ p. Small p.0)
-pair_small [] = tt
-pair_small (n ∷ rest) =
-    tail Small (λ p. Small p.0) (number_of n) (λ number. count_of rest >>= λ count. Some (number, count)) (number_small n) (λ number small.
-    any (λ p. Small p.0) (count_of rest) (λ count. Some (number, count)) (λ count. small))
+first_small : (fields : List (List ℕ)) → IfSome (first_number fields) (λ p. Small p.0)
+first_small [] = tt
+first_small (field ∷ fields) = first_of (number_of field) fields (number_small field)
 
-record_fine : (fields : List (List ℕ)) → IfSome (record_of fields) Fine
-record_fine fields = tail (λ p. Small p.0) Fine (number_and_count_of fields) (λ p. Some (Record p.0 p.1)) (pair_small fields) (λ p small. small)
+abbrev pub IsLineCommand : Command → Type 0
+IsLineCommand (Apply call) = IsCallOf (2 ^ 64 - 1) call
+IsLineCommand (End start duration tag) = Unit {0}
 
-clamp_fine : (fields : List (List ℕ)) → IfSome (clamp_of fields) Fine
-clamp_fine fields = tail (λ p. Small p.0) Fine (number_and_count_of fields) (λ p. Some (Clamp p.0 p.1)) (pair_small fields) (λ p small. small)
+record_fine : (call : ℕ → ℕ → Call ℕ) (fields : List (List ℕ)) → ((v n : ℕ) → Small v → IsLineCommand (Apply (call v n))) → IfSome (record_of call fields) IsLineCommand
+record_fine call fields h =
+    tail (λ (p : ℕ × List (List ℕ)). Small p.0) IsLineCommand (first_number fields) _ (first_small fields) (λ p small. any IsLineCommand (count_of p.1) (λ n. Some (Apply (call p.0 n))) (λ n. h p.0 n small))
 
-correct_fine : (fields : List (List ℕ)) → IfSome (correct_of fields) Fine
-correct_fine [] = tt
-correct_fine (v ∷ rest) =
-    tail Small Fine (number_of v) (λ value. number_and_count_of rest >>= λ p. Some (Correct value p.1 p.0)) (number_small v) (λ value small.
-    any Fine (number_and_count_of rest) (λ p. Some (Correct value p.1 p.0)) (λ p. small))
+correct_fine : (fields : List (List ℕ)) → IfSome (correct_of fields) IsLineCommand
+correct_fine fields =
+    tail (λ (p : ℕ × List (List ℕ)). Small p.0) IsLineCommand (first_number fields) _ (first_small fields) (λ p small.
+    any IsLineCommand (first_number p.1) _ (λ q. any IsLineCommand (count_of q.1) (λ n. Some (Apply (Correct p.0 n q.0))) (λ n. small)))
 
-alone_fine : (call : Call ℕ) (fields : List (List ℕ)) → Fine call → IfSome (alone call fields) Fine
+alone_fine : (call : Call ℕ) (fields : List (List ℕ)) → IsLineCommand (Apply call) → IfSome (option_map Apply (alone call fields)) IsLineCommand
 alone_fine call [] f = f
 alone_fine call (x ∷ xs) f = tt
 
-named_fine : (name : List ℕ) (fields : List (List ℕ)) → IfSome (call_of_name name fields) Fine
-unfolding call_of_name
-named_fine name fields =
-    one_of Fine (bytes_eq name (codes "r")) _ _ (record_fine fields)
-    (one_of Fine (bytes_eq name (codes "s")) _ _ (clamp_fine fields)
-    (one_of Fine (bytes_eq name (codes "c")) _ _ (correct_fine fields)
-    (one_of Fine (bytes_eq name (codes "clear")) _ _ (alone_fine Clear fields tt)
-    (one_of Fine (bytes_eq name (codes "reset")) _ None (alone_fine Reset fields tt) tt))))
-
-abbrev pub IsLineCommand : LogCommand → Type 0
-IsLineCommand (Make call) = Fine call
-IsLineCommand (End start duration tag) = Unit {0}
-
-made : (o : Option (Call ℕ)) → IfSome o Fine → IfSome (option_map Make o) IsLineCommand
-made None f = tt
-made (Some call) f = f
-
 end_fine : (fields : List (List ℕ)) → IfSome (end_of fields) IsLineCommand
-end_fine [] = tt
-end_fine (s ∷ []) = tt
-end_fine (s ∷ d ∷ rest) =
-    any IsLineCommand (number_of s) _ (λ start. any IsLineCommand (number_of d) _ (λ duration. any IsLineCommand (end_tag_of rest) (λ tag. Some (End start duration tag)) (λ tag. tt)))
+end_fine fields = any IsLineCommand (first_number fields) _ (λ p. any IsLineCommand (first_number p.1) _ (λ q. any IsLineCommand (end_tag_of q.1) (λ tag. Some (End p.0 q.0 tag)) (λ tag. tt)))
 
-log_named_fine : (name : List ℕ) (fields : List (List ℕ)) → IfSome (log_command_of_name name fields) IsLineCommand
-unfolding log_command_of_name
-log_named_fine name fields = one_of IsLineCommand (bytes_eq name (codes "end")) (end_of fields) _ (end_fine fields) (made (call_of_name name fields) (named_fine name fields))
+named_fine : (name : List ℕ) (fields : List (List ℕ)) → IfSome (command_of_name name fields) IsLineCommand
+unfolding command_of_name
+named_fine name fields =
+    one_of IsLineCommand (bytes_eq name (codes "r")) _ _ (record_fine Record fields (λ v n small. small))
+    (one_of IsLineCommand (bytes_eq name (codes "s")) _ _ (record_fine Clamp fields (λ v n small. small))
+    (one_of IsLineCommand (bytes_eq name (codes "c")) _ _ (correct_fine fields)
+    (one_of IsLineCommand (bytes_eq name (codes "clear")) _ _ (alone_fine Clear fields tt)
+    (one_of IsLineCommand (bytes_eq name (codes "reset")) _ _ (alone_fine Reset fields tt)
+    (one_of IsLineCommand (bytes_eq name (codes "end")) _ None (end_fine fields) tt)))))
 
-fields_fine : (fields : List (List ℕ)) → IfSome (log_command_of_fields fields) IsLineCommand
+fields_fine : (fields : List (List ℕ)) → IfSome (command_of_fields fields) IsLineCommand
 fields_fine [] = tt
-fields_fine (name ∷ fields) = log_named_fine name fields
+fields_fine (name ∷ fields) = named_fine name fields
 
 -- the command of a line has a value of 64 bits, and adds no histogram
-pub command_fine : (line : List ℕ) → IfSome (log_command_of line) IsLineCommand
+pub command_fine : (line : List ℕ) → IfSome (command_of line) IsLineCommand
 command_fine line = fields_fine (parts 32 line)

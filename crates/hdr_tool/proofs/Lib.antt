@@ -1,16 +1,14 @@
 pub mod LinesParts
-pub mod LinesFirst
-pub mod LinesNumbers
 pub mod WordsEach
 pub mod OutcomesSinks
 pub mod OutcomesAnswers
 pub mod OutcomesRuns
 pub mod OutcomesLists
-pub mod ProgramLines
 pub mod ProgramStreaming
 pub mod ProgramIntervals
 pub mod LogMergesWritten
 pub mod LogMergesEnds
 pub mod CommandsCalls
+pub mod CommandsLines
 pub mod LogMergesStands
 pub mod OutcomesRefused

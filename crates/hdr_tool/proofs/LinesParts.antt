@@ -1,7 +1,14 @@
 -- The parts of a text.
-use Rattle.std.proofs.Common.{ℕ, ◌==◌, true, false, cond, List, [], ◌∷◌}
-use Rattle.std.specs.List.{slice_split, onto_first}
+use Rattle.std.proofs.Common.{◌≡◌, ℕ, ◌+◌, ◌-◌, ◌<◌, ◌==◌, not, Bool, true, false, cond, List, [], ◌∷◌, length, take, drop, Option, Some, None, IfSome, is_some, refl, sym, ap, ◌∙◌, arith}
+use Rattle.std.specs.List.{slice_split, onto_first, position_or_len}
+use Rattle.std.proofs.lemmas.List.{take_all, length-drop, get_or_default}
+use Rattle.std.proofs.lemmas.List.Splits.{slice_split_first, slice_split_none}
+use Rattle.std.proofs.lemmas.List.Sums.{position_or_len_is}
+use Rattle.memchr.specs.Find.{IsFirstByte, is_byte}
+use Rattle.std.proofs.lemmas.Bool.{ne_eqb}
+use Rattle.std.specs.Option.{option_map}
 use Rattle.hdr_log.specs.Parts.{parts}
+use Rattle.hdr_tool.specs.Lines.{parts_of_rest}
 
 -- there is a first part
 pub parts_some : (b : ℕ) (text : List ℕ) (P : List (List ℕ) → Type 0) → ((first : List ℕ) (rest : List (List ℕ)) → P (first ∷ rest)) → P (parts b text)
@@ -11,3 +18,35 @@ parts_some b (x ∷ xs) P h =
       | true ↦ h [] (slice_split (λ y. y == b) xs)
       | false ↦ parts_some b xs (λ ps. P (onto_first x ps)) (λ first rest. h (x ∷ first) rest)
     ]
+
+fails : (t : Bool) → (t ≡ true → ⊥) → t ≡ false
+fails true h = absurd (h refl)
+fails false h = refl
+
+-- the first part ends at the first such byte, and where there is none, it is the whole text
+pub first_part : (b : ℕ) (text : List ℕ) (at : ℕ) → IsFirstByte (is_byte b) text (Some at) → parts b text ≡ take at text ∷ parts b (drop (at + 1) text)
+first_part b text at h =
+    let e : position_or_len (λ x. x == b) text ≡ at = position_or_len_is (λ x. x == b) text at 0 (omega (arith, h.0.high)) (λ j l. fails _ (λ q. h.0.before j (omega arith) l q)) (λ l. h.1) in
+    slice_split_first (λ x. x == b) text 0 (omega (arith, e, h.0.high)) ∙ ap (λ n. take n text ∷ parts b (drop (n + 1) text)) e
+
+pub only_part : (b : ℕ) (text : List ℕ) → IsFirstByte (is_byte b) text None → parts b text ≡ text ∷ []
+only_part b text h = slice_split_none (λ x. x == b) text (λ k d l. fails _ (λ q. h k (omega arith) l (ap (λ x. x == b) (sym (get_or_default text k d 0 l)) ∙ q)))
+
+pub left_all : (k : ℕ) (text : List ℕ) → take (length text - k) (drop k text) ≡ drop k text
+left_all k text = take_all (length text - k) (drop k text) (omega (arith, length-drop k text))
+
+-- how long a text is that is left
+abbrev pub left_length : Option (List ℕ) → ℕ
+left_length None = 0
+left_length (Some text) = length text + 1
+
+pub left_shorter : (text : List ℕ) (after : Option (List ℕ)) → IfSome after (λ t. length t < length text) → left_length after < left_length (Some text)
+left_shorter text None h = omega arith
+left_shorter text (Some after) h = omega (arith, h)
+
+-- whether nothing is left
+pub nothing_left : {A : Type 0} (text_of : A → List ℕ) (b : ℕ) (left : Option A) (none : Bool) → is_some left ≡ not none → none ≡ (length (parts_of_rest b (option_map text_of left)) == 0)
+nothing_left text_of b None true e = refl
+nothing_left text_of b None false e = absurd (let f : false ≡ true = e in cc)
+nothing_left text_of b (Some x) true e = absurd (let f : true ≡ false = e in cc)
+nothing_left text_of b (Some x) false e = parts_some b (text_of x) (λ ps. false ≡ (length ps == 0)) (λ first rest. sym (ne_eqb (length (first ∷ rest)) 0 (λ e. absurd (omega (arith, e)))))

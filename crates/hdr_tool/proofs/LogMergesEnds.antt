@@ -8,7 +8,7 @@ use Rattle.hdr_core.specs.Calls.{after_call, CallTo, IsCallOf}
 use Rattle.hdr_model.specs.Runs.{StandsAt, State}
 use Rattle.hdr_core.specs.declared.call.Call.{Call}
 use Rattle.hdr_core.specs.declared.call.Call.TheVariants.{Reset}
-use Rattle.hdr_tool.specs.Commands.{LogCommand, Make, End, log_command_of}
+use Rattle.hdr_tool.specs.Commands.{Command, Apply, End, command_of}
 use Rattle.hdr_tool.proofs.CommandsCalls.{IsLineCommand, command_fine}
 use Rattle.hdr_tool.specs.LogMerges.{EndOf, at_command, ends_of, AfterCommand, EndsWith, AreEnds}
 
@@ -22,11 +22,11 @@ pub record CallsStand : Type 0 where
 nothing_fits : (g : Grain) → Fits (2 ^ 64 - 1) g []
 nothing_fits g = record { in_all = lit< tt; in_classes = λ i. lit≤ tt }
 
-command_ends : (c : Option LogCommand) (h : Plain) (s : State) (lines : List (ℕ × List ℕ)) (Ls : List (EndOf (List ℕ))) → CallsStand → IsPlain (2 ^ 64 - 1) h → StandsAt h s → IfSome c IsLineCommand → AfterCommand (grain h) s c (λ t rest. EndsWith (grain h) t lines rest) Ls
+command_ends : (c : Option Command) (h : Plain) (s : State) (lines : List (ℕ × List ℕ)) (Ls : List (EndOf (List ℕ))) → CallsStand → IsPlain (2 ^ 64 - 1) h → StandsAt h s → IfSome c IsLineCommand → AfterCommand (grain h) s c (λ t rest. EndsWith (grain h) t lines rest) Ls
     → ((g : Plain) (t : State) (rest : List (EndOf (List ℕ))) → IsPlain (2 ^ 64 - 1) g → StandsAt g t → EndsWith (grain g) t lines rest → AreEnds (grain g) (ends_of g lines) rest)
     → AreEnds (grain h) (at_command h c (λ g. ends_of g lines)) Ls
 command_ends None h s lines Ls calls p st fine a tail = let A : List (EndOf (List ℕ)) → Type 0 = λ x. AreEnds (grain h) [] x in subst A (sym a) tt
-command_ends (Some (Make call)) h s lines Ls calls p st fine a tail =
+command_ends (Some (Apply call)) h s lines Ls calls p st fine a tail =
     let next = after_call (2 ^ 64 - 1) (λ (n : ℕ). n) call h in
     let same : grain next ≡ grain h = calls.classes (2 ^ 64 - 1) h call fine in
     let W : Grain → Type 0 = λ g. EndsWith g a.0 lines Ls in
@@ -45,4 +45,4 @@ pub ends_stand : CallsStand → (h : Plain) (s : State) (lines : List (ℕ × Li
     → AreEnds (grain h) (ends_of h lines) Ls
 ends_stand calls h s [] Ls p st w = let A : List (EndOf (List ℕ)) → Type 0 = λ x. AreEnds (grain h) [] x in subst A (sym w) tt
 ends_stand calls h s ((k, []) ∷ lines) Ls p st w = ends_stand calls h s lines Ls p st w
-ends_stand calls h s ((k, b ∷ line) ∷ lines) Ls p st w = command_ends (log_command_of (b ∷ line)) h s lines Ls calls p st (command_fine (b ∷ line)) w (λ g t rest q u v. ends_stand calls g t lines rest q u v)
+ends_stand calls h s ((k, b ∷ line) ∷ lines) Ls p st w = command_ends (command_of (b ∷ line)) h s lines Ls calls p st (command_fine (b ∷ line)) w (λ g t rest q u v. ends_stand calls g t lines rest q u v)

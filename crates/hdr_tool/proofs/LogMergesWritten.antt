@@ -1,9 +1,10 @@
 -- A log that was written is merged.
-use Rattle.std.proofs.Common.{◌≡◌, ℕ, ◌+◌, ◌-◌, ◌*◌, ◌^◌, ◌<◌, Bool, true, false, cond, arith, List, length, slice_index, [], ◌∷◌, ◌++◌, Option, Some, None, Result, Ok, Err, map, refl, sym, ap, ◌∙◌, subst}
+use Rattle.std.proofs.Common.{◌≡◌, ℕ, ◌+◌, ◌-◌, ◌*◌, ◌^◌, ◌<◌, Bool, true, false, cond, arith, List, length, slice_index, [], ◌∷◌, ◌++◌, Option, Some, None, MatchOption, Result, Ok, Err, map, refl, sym, ap, ◌∙◌, subst}
 use Rattle.std.specs.List.{AllByRecursion, enumerate_from, flat_map}
 use Rattle.hdr_base.specs.Fractions.{Ratio}
 use Rattle.hdr_model.specs.Plain.{Plain, IsPlain, empty_plain, max_of}
 use Rattle.hdr_model.specs.Joining.{after_adds}
+use Rattle.hdr_core.specs.Calls.{after_call}
 use Rattle.hdr_log.specs.Grammar.{Entry, Span, Interval, reading}
 use Rattle.hdr_log.specs.Texts.{thousandths, to_thousandths, max_thousandths, base64_of, base64_bytes}
 use Rattle.hdr_log.specs.Pieces.{Piece, IsPiece, piece_text, text_of, said_by, is_read}
@@ -18,13 +19,14 @@ use Rattle.hdrhistogram.specs.Defects.{Defect}
 use Rattle.hdrhistogram.specs.declared.serialization.errors.DeserializeError.{DeserializeError}
 use Rattle.hdrhistogram.specs.declared.serialization.interval_log.merge.MergeError.{MergeError}
 use Rattle.hdr_tool.specs.declared.fault.Fault.{Fault}
+use Rattle.hdr_tool.specs.declared.fault.Fault.TheVariants.{WrongWords}
 use Rattle.hdr_log.specs.Parts.{parts}
-use Rattle.hdr_tool.specs.Commands.{LogCommand, Make, End, log_command_of}
+use Rattle.hdr_tool.specs.Commands.{Command, Apply, End, command_of}
 use Rattle.hdr_tool.specs.Words.{Task}
 use Rattle.hdr_tool.specs.Outcomes.{Outcome, Runs, GoesOn}
 use Rattle.hdr_tool.specs.Report.{IsReport}
 use Rattle.hdr_tool.specs.Options.{greatest_into, filter_of}
-use Rattle.hdr_tool.specs.Program.{LogCommandDone, LogLineDone, LogDone, fault_in, Reported, merged_histogram, MergeReported, TaskDone, Program}
+use Rattle.hdr_tool.specs.Program.{CommandDone, LineDone, LinesDone, fault_in, Reported, merged_histogram, MergeReported, TaskDone, Program}
 use Rattle.hdr_tool.proofs.OutcomesSinks.{append_nothing}
 use Rattle.hdr_tool.specs.LogMerges.{EndOf, chosen_of, at_command, ends_of, AreReadBack, LogThenMerge}
 
@@ -64,35 +66,35 @@ one_more h tag start duration es line text i l =
       ends = ap (λ xs. end_of first ∷ xs) l.ends;
     }
 
-command_logs : (k : ℕ) (h : Plain) (c : Option LogCommand) (step : List ℕ × Plain) (tail : Plain → List (EndOf Plain)) (text : List ℕ) → LogCommandDone k h c (Ok step) → Logs (tail step.1) text → Logs (at_command h c tail) (step.0 ++ text)
+same_Ok : {A E : Type 0} (x y : A) → (λ (r : Result A E). r) (Ok x) ≡ Ok y → x ≡ y
+same_Ok x y e = cc
+
+command_logs : (k : ℕ) (h : Plain) (c : Option Command) (step : List ℕ × Plain) (tail : Plain → List (EndOf Plain)) (text : List ℕ) → CommandDone true k h c (Ok step) → Logs (tail step.1) text → Logs (at_command h c tail) (step.0 ++ text)
 command_logs k h None step tail text d l = absurd (let e = d in cc)
-command_logs k h (Some (Make call)) step tail text d l =
-    let S : List ℕ × Plain → Type 0 = λ s. Logs (tail s.1) text → Logs (at_command h (Some (Make call)) tail) (s.0 ++ text) in
-    subst S (sym d) (λ m. m) l
+command_logs k h (Some (Apply call)) step tail text d l =
+    let S : List ℕ × Plain → Type 0 = λ s. Logs (tail s.1) text → Logs (at_command h (Some (Apply call)) tail) (s.0 ++ text) in
+    subst S (sym (same_Ok {E = Fault} step ([], after_call (2 ^ 64 - 1) (λ n. n) call h) d)) (λ m. m) l
 command_logs k h (Some (End start duration tag)) step tail text d l =
     let S : Plain → Type 0 = λ g. Logs (tail g) text in
     one_more h tag start duration _ step.0 text d.0 (subst S d.1 l)
 
-same_Ok : {A E : Type 0} (x y : A) → (λ (r : Result A E). r) (Ok x) ≡ Ok y → x ≡ y
-same_Ok x y e = cc
-
-line_logs : (x : ℕ × List ℕ) (h : Plain) (step : List ℕ × Plain) (lines : List (ℕ × List ℕ)) (text : List ℕ) → LogLineDone h x (Ok step) → Logs (ends_of step.1 lines) text → Logs (ends_of h (x ∷ lines)) (step.0 ++ text)
+line_logs : (x : ℕ × List ℕ) (h : Plain) (step : List ℕ × Plain) (lines : List (ℕ × List ℕ)) (text : List ℕ) → LineDone true h x (Ok step) → Logs (ends_of step.1 lines) text → Logs (ends_of h (x ∷ lines)) (step.0 ++ text)
 line_logs (k, []) h step lines text d l =
     let e : step ≡ ([], h) = same_Ok {E = Fault} step ([], h) d in
     let S : List ℕ × Plain → Type 0 = λ s. Logs (ends_of s.1 lines) text → Logs (ends_of h lines) (s.0 ++ text) in
     subst S (sym e) (λ m. m) l
-line_logs (k, b ∷ line) h step lines text d l = command_logs k h (log_command_of (b ∷ line)) step (λ g. ends_of g lines) text d l
+line_logs (k, b ∷ line) h step lines text d l = command_logs k h (command_of (b ∷ line)) step (λ g. ends_of g lines) text d l
 
 -- one line, and what comes after it
-step_log : (x : ℕ × List ℕ) (lines : List (ℕ × List ℕ)) (h last : Plain) (out : Outcome Plain) (r : Result (List ℕ × Plain) Fault) → LogLineDone h x r → GoesOn (λ b. Runs LogLineDone b lines) r out → out.ended ≡ Ok last
-    → ((b : Plain) (o : Outcome Plain) → Runs LogLineDone b lines o → o.ended ≡ Ok last → Logs (ends_of b lines) o.written) → Logs (ends_of h (x ∷ lines)) out.written
+step_log : (x : ℕ × List ℕ) (lines : List (ℕ × List ℕ)) (h last : Plain) (out : Outcome Plain) (r : Result (List ℕ × Plain) Fault) → LineDone true h x r → GoesOn (λ b. Runs (LineDone true) b lines) r out → out.ended ≡ Ok last
+    → ((b : Plain) (o : Outcome Plain) → Runs (LineDone true) b lines o → o.ended ≡ Ok last → Logs (ends_of b lines) o.written) → Logs (ends_of h (x ∷ lines)) out.written
 step_log x lines h last out (Err f) s g e tail = absurd (let f : out.ended ≡ Err f = ap (λ (o : Outcome Plain). o.ended) g in cc)
 step_log x lines h last out (Ok step) s g e tail =
     let T : List ℕ → Type 0 = λ t. Logs (ends_of h (x ∷ lines)) t in
     subst T (sym (ap (λ (o : Outcome Plain). o.written) g.2)) (line_logs x h step lines g.0.written s (tail step.1 g.0 g.1 (sym (ap (λ (o : Outcome Plain). o.ended) g.2) ∙ e)))
 
 -- what is written without a fault is a log
-lines_log : (lines : List (ℕ × List ℕ)) (h last : Plain) (out : Outcome Plain) → Runs LogLineDone h lines out → out.ended ≡ Ok last → Logs (ends_of h lines) out.written
+lines_log : (lines : List (ℕ × List ℕ)) (h last : Plain) (out : Outcome Plain) → Runs (LineDone true) h lines out → out.ended ≡ Ok last → Logs (ends_of h lines) out.written
 lines_log [] h last out r e = record { intervals = []; each = tt; text_is = ap (λ (o : Outcome Plain). o.written) r; ends = refl }
 lines_log (x ∷ lines) h last out r e = step_log x lines h last out r.0 r.1 r.2 e (λ b o q f. lines_log lines b last o q f)
 
@@ -180,7 +182,7 @@ no_fault (Err f) e = absurd (let g = e in cc)
 
 -- the parts joined
 merged_log : (h : Plain) (lines : List (ℕ × List ℕ)) (fewer greatest : ℕ) (filter : Filter) (quantiles : List Ratio) (written text : List ℕ) (fault : Option Fault) → ReadsBack → AllByRecursion (λ (e : EndOf Plain). IsPlain (2 ^ 64 - 1) e.holds) (ends_of h lines)
-    → LogDone h lines written None → MergeReported greatest filter fewer quantiles written text fault
+    → LinesDone true h lines written None → MergeReported greatest filter fewer quantiles written text fault
     → (fault ≡ None) × ((ks : List Plain) × AreReadBack (chosen_of filter (ends_of h lines)) ks × IsReport (after_adds greatest (empty_plain 1 2 fewer true) ks) quantiles text)
 merged_log h lines fewer greatest filter quantiles written text fault back plain d t =
     let ok = no_fault d.0 d.2 in
@@ -198,6 +200,6 @@ merged_log h lines fewer greatest filter quantiles written text fault back plain
 pub log_then_merge : ReadsBack → LogThenMerge
 unfolding Program
 log_then_merge back log merge sigfig fewer options quantiles input written text fault tl tm plain p q =
-    let L : Option Task → Type 0 = λ task. TaskDone task input written None in
-    let M : Option Task → Type 0 = λ task. TaskDone task written text fault in
+    let L : Option Task → Type 0 = λ o. MatchOption o ((written ≡ []) × (None ≡ Some WrongWords)) (λ task. TaskDone task input written None) in
+    let M : Option Task → Type 0 = λ o. MatchOption o ((text ≡ []) × (fault ≡ Some WrongWords)) (λ task. TaskDone task written text fault) in
     merged_log (empty_plain 1 2 sigfig true) (enumerate_from 1 (parts 10 input)) fewer (greatest_into options.into) (filter_of options) quantiles written text fault back plain (subst L tl p) (subst M tm q)

@@ -1,161 +1,136 @@
--- What stands where a run is refused.
-use Rattle.std.proofs.Common.{◌≡◌, ◌≢◌, ℕ, List, [], Option, Some, None, Result, Ok, Err, MatchResult, refl, sym, inl, inr, ◌⊎◌, subst, true}
-use Rattle.std.specs.List.{enumerate_from}
+-- What a task answers, by what its parts do.
+use Rattle.std.proofs.Common.{◌≡◌, ℕ, List, [], ◌∷◌, ◌++◌, length, true, false, Option, Some, None, IfSome, Result, Ok, Err, refl, ap, ◌∙◌, inl, inr, subst, arith}
+use Rattle.std.specs.Io.KnownBytes.{Appends, IsAtEnd}
 use Rattle.hdr_base.specs.Fractions.{Ratio}
 use Rattle.hdr_model.specs.Plain.{Plain, empty_plain}
-use Rattle.hdr_log.specs.Parts.{parts}
-use Rattle.std.specs.Io.KnownBytes.{IsAtEnd}
+use Rattle.hdrhistogram.specs.Streams.{AppendsFront}
 use Rattle.hdr_tool.specs.declared.fault.Fault.{Fault}
-use Rattle.hdr_tool.specs.declared.fault.Fault.TheVariants.{WrongWords, NotACommand, Refused, NotWritten, NotALog, NotBase64, NotRead, NoMemory, CannotRead, CannotWrite}
-use Rattle.hdr_tool.specs.Outcomes.{Answers, ReadsAll, ReadsTo, Refuses, Runs}
+use Rattle.hdr_tool.specs.declared.fault.Fault.TheVariants.{WrongWords}
+use Rattle.hdr_tool.specs.Outcomes.{Outcome, Runs, Begins, GoesOn, Cause, Shortage, Output, Input, cause_of, RunRefused, Answers, ReadsTo, ReadsAll}
 use Rattle.hdr_tool.specs.Lines.{number_lines}
-use Rattle.hdr_tool.specs.Words.{Task, Report, Log, Merge, task_of, RefusesWords}
-use Rattle.hdr_tool.specs.Program.{LineDone, LogLineDone, Reported, TaskDone, TaskStands, TaskWrites, TaskLeaves, Program, Stands, IsWriting, Leaves}
-use Rattle.hdr_tool.proofs.OutcomesRuns.{begins_nothing}
-use Rattle.hdr_tool.proofs.OutcomesSinks.{appends_nothing, keeps}
-use Rattle.hdr_tool.proofs.ProgramStreaming.{AnswersLines}
+use Rattle.hdr_tool.specs.Commands.{Command, Apply, End, command_of}
+use Rattle.hdr_tool.specs.Words.{Task, Report, Log, Merge, RefusesWords}
+use Rattle.hdr_tool.specs.Program.{CommandDone, LineDone, Reported, TaskDone, TaskStands, TaskWrites, TaskLeaves}
+use Rattle.hdr_tool.proofs.OutcomesRuns.{begins_nothing, front_behind}
+use Rattle.hdr_tool.proofs.OutcomesSinks.{appends_nothing, appends_both}
+use Rattle.hdr_tool.proofs.ProgramStreaming.{LinesRefused, some_input}
+
+-- ---- the lines of a report write nothing
+
+command_quiet : (k : ℕ) (h : Plain) (c : Option Command) (step : List ℕ × Plain) → CommandDone false k h c (Ok step) → step.0 ≡ []
+command_quiet k h None step d = absurd (let e = d in cc)
+command_quiet k h (Some (Apply call)) step d = let e = d in cc
+command_quiet k h (Some (End start duration tag)) step d = absurd (let e = d in cc)
+
+line_quiet : (h : Plain) (x : ℕ × List ℕ) (step : List ℕ × Plain) → LineDone false h x (Ok step) → step.0 ≡ []
+line_quiet h (k, []) step d = let e = d in cc
+line_quiet h (k, b ∷ line) step d = command_quiet k h (command_of (b ∷ line)) step d
+
+begins_on : (h : Plain) (x : ℕ × List ℕ) (xs : List (ℕ × List ℕ)) (t : List ℕ) → ((b : Plain) (u : List ℕ) → Begins (LineDone false) b xs u → u ≡ []) → Begins (LineDone false) h (x ∷ xs) t → t ≡ []
+begins_on h x xs t j (inl e) = e
+begins_on h x xs t j (inr s) = s.2.2 ∙ ap (λ u. u ++ s.2.0) (line_quiet h x s.0 s.1) ∙ j s.0.1 s.2.0 s.2.1
+
+begins_quiet : (h : Plain) (xs : List (ℕ × List ℕ)) (t : List ℕ) → Begins (LineDone false) h xs t → t ≡ []
+begins_quiet h [] t e = e
+begins_quiet h (x ∷ xs) t b = begins_on h x xs t (λ c u d. begins_quiet c xs u d) b
+
+runs_on : (h : Plain) (x : ℕ × List ℕ) (xs : List (ℕ × List ℕ)) (out : Outcome Plain) (r : Result (List ℕ × Plain) Fault) → ((b : Plain) (o : Outcome Plain) → Runs (LineDone false) b xs o → o.written ≡ []) → LineDone false h x r → GoesOn (λ b. Runs (LineDone false) b xs) r out → out.written ≡ []
+runs_on h x xs out (Err f) j d g = ap (λ (o : Outcome Plain). o.written) g
+runs_on h x xs out (Ok step) j d g = ap (λ (o : Outcome Plain). o.written) g.2 ∙ ap (λ u. u ++ g.0.written) (line_quiet h x step d) ∙ j step.1 g.0 g.1
+
+runs_quiet : (h : Plain) (xs : List (ℕ × List ℕ)) (out : Outcome Plain) → Runs (LineDone false) h xs out → out.written ≡ []
+runs_quiet h [] out r = ap (λ (o : Outcome Plain). o.written) r
+runs_quiet h (x ∷ xs) out r = runs_on h x xs out r.0 (λ b o s. runs_quiet b xs o s) r.1 r.2
+
+no_front : (o n : Option (List ℕ)) (t : List ℕ) → t ≡ [] → AppendsFront o n t → ⊥
+no_front o n t e f = let l : length t ≡ 0 = ap length e in absurd (omega (arith, f.1, l))
+
+-- ---- a report
+
+-- what a task answers of a fault
+abbrev pub TaskRefused : Task → List ℕ → Option (List ℕ) → Option (List ℕ) → Cause → Fault → Type 0
+TaskRefused task input o n c f = RunRefused (TaskDone task input) (TaskStands task input) (TaskWrites task input) o n c f
+
+module _ (sigfig : ℕ) (quantiles : List Ratio) (input : List ℕ) (o n : Option (List ℕ)) where
+  report_by : (f : Fault) (c : Cause) → LinesRefused false (empty_plain 1 2 sigfig true) (number_lines 1 (Some input)) o n c f → TaskRefused (Report sigfig quantiles) input o n c f
+  report_by f Shortage a = (a.0, begins_quiet (empty_plain 1 2 sigfig true) (number_lines 1 (Some input)) a.0 a.1, a.2)
+  report_by f Output a = absurd (no_front o n a.0 (begins_quiet (empty_plain 1 2 sigfig true) (number_lines 1 (Some input)) a.0 a.1) a.2)
+  report_by f Input (text, (Ok h, r, q), a) = absurd (let e = q in cc)
+  report_by f Input (text, (Err g, r, q), a) =
+      let e : text ≡ [] = runs_quiet (empty_plain 1 2 sigfig true) (number_lines 1 (Some input)) (record { written = text; ended = Err g }) r in
+      let F : List ℕ → Type 0 = λ t. Runs (LineDone false) (empty_plain 1 2 sigfig true) (number_lines 1 (Some input)) (record { written = t; ended = Err g }) in
+      (text, (Err g, subst F e r, (e, q)), a)
+
+  pub report_refused : (f : Fault) → LinesRefused false (empty_plain 1 2 sigfig true) (number_lines 1 (Some input)) o n (cause_of f) f → TaskRefused (Report sigfig quantiles) input o n (cause_of f) f
+  report_refused f a = report_by f (cause_of f) a
+
+  reads_by : (f : Fault) (m : Option (List ℕ)) (c : Cause) → LinesRefused false (empty_plain 1 2 sigfig true) (number_lines 1 (Some input)) o n c f → ReadsTo (λ _. Unit {0}) m c → ReadsTo IsAtEnd m c
+  reads_by f m Shortage a e = tt
+  reads_by f m Output a e = absurd (no_front o n a.0 (begins_quiet (empty_plain 1 2 sigfig true) (number_lines 1 (Some input)) a.0 a.1) a.2)
+  reads_by f m Input a e = e
+
+  pub report_reads : (f : Fault) (m : Option (List ℕ)) → LinesRefused false (empty_plain 1 2 sigfig true) (number_lines 1 (Some input)) o n (cause_of f) f → ReadsTo (λ _. Unit {0}) m (cause_of f) → ReadsTo IsAtEnd m (cause_of f)
+  report_reads f m a e = reads_by f m (cause_of f) a e
+
+  module _ (h : Plain) (d : (done : List ℕ) × Runs (LineDone false) (empty_plain 1 2 sigfig true) (number_lines 1 (Some input)) (record { written = done; ended = Ok h }) × Appends o n done) (m : Option (List ℕ)) where
+    quiet : d.0 ≡ []
+    quiet = runs_quiet (empty_plain 1 2 sigfig true) (number_lines 1 (Some input)) (record { written = d.0; ended = Ok h }) d.1
+
+    ran : Runs (LineDone false) (empty_plain 1 2 sigfig true) (number_lines 1 (Some input)) (record { written = []; ended = Ok h })
+    ran = let F : List ℕ → Type 0 = λ t. Runs (LineDone false) (empty_plain 1 2 sigfig true) (number_lines 1 (Some input)) (record { written = t; ended = Ok h }) in subst F quiet d.1
+
+    before : Appends o n []
+    before = subst (λ t. Appends o n t) quiet d.2
+
+    written_by : (f : Fault) (c : Cause) → RunRefused (Reported quantiles (Ok h)) (λ text. text ≡ []) (λ text. Reported quantiles (Ok h) text None) n m c f → TaskRefused (Report sigfig quantiles) input o m c f
+    written_by f Shortage a = (a.0, a.1, appends_both o n m [] a.0 before a.2)
+    written_by f Output a = (a.0, (Ok h, ran, a.1), front_behind o n m [] a.0 before a.2)
+    written_by f Input a = (a.0, (Ok h, ran, a.1), appends_both o n m [] a.0 before a.2)
+
+    pub report_written : (r : Result (Unit {0}) Fault) → Answers (Reported quantiles (Ok h)) (λ text. text ≡ []) (λ text. Reported quantiles (Ok h) text None) n m r
+        → Answers (TaskDone (Report sigfig quantiles) input) (TaskStands (Report sigfig quantiles) input) (TaskWrites (Report sigfig quantiles) input) o m r
+    report_written (Ok u) a = (a.0, (Ok h, ran, a.1), appends_both o n m [] a.0 before a.2)
+    report_written (Err f) a = written_by f (cause_of f) a
+
+-- ---- what is read
+
+all_by : (m : Option (List ℕ)) (c : Cause) → IsAtEnd m → ReadsTo IsAtEnd m c
+all_by m Shortage e = tt
+all_by m Output e = e
+all_by m Input e = e
+
+pub reads_all : (m : Option (List ℕ)) (r : Result (Unit {0}) Fault) → IsAtEnd m → ReadsAll IsAtEnd m r
+reads_all m (Ok u) e = e
+reads_all m (Err f) e = all_by m (cause_of f) e
+
+pub reads_none : (m : Option (List ℕ)) (f : Fault) → cause_of f ≡ Shortage → ReadsTo IsAtEnd m (cause_of f)
+reads_none m f e = rw e tt
+
+-- ---- the input is not read whole, or memory runs out before
 
 -- nothing may stand, whatever the task
-stands_nothing : (task : Option Task) (input : List ℕ) → TaskStands task input []
-stands_nothing None input = refl
-stands_nothing (Some (Report sigfig quantiles)) input = refl
-stands_nothing (Some (Log sigfig)) input = begins_nothing LogLineDone (empty_plain 1 2 sigfig true) (enumerate_from 1 (parts 10 input))
-stands_nothing (Some (Merge options sigfig quantiles)) input = refl
+stands_nothing : (task : Task) (input : List ℕ) → TaskStands task input []
+stands_nothing (Report sigfig quantiles) input = refl
+stands_nothing (Log sigfig) input = begins_nothing (LineDone true) (empty_plain 1 2 sigfig true) (number_lines 1 (Some input))
+stands_nothing (Merge options sigfig quantiles) input = refl
 
-task_refused : (task : Option Task) (input : List ℕ) (f : Fault) (o : Option (List ℕ)) → RefusesWords task f → Answers (TaskDone task input) (TaskStands task input) (TaskWrites task input) o o (Err f)
-task_refused None input f o h = rw h ([], (refl, refl), appends_nothing o)
-task_refused (Some task) input f o h = rw h ([], stands_nothing (Some task) input, appends_nothing o)
+pub unread : (task : Task) (i o : Option (List ℕ)) (f : Fault) → cause_of f ≡ Shortage → (input : List ℕ) × IfSome i (λ bytes. input ≡ bytes) × TaskRefused task input o o (cause_of f) f
+unread task i o f e =
+    let x = some_input i in
+    let nothing : (t : List ℕ) × TaskStands task x.0 t × Appends o o t = ([], stands_nothing task x.0, appends_nothing o) in
+    (x.0, x.1, rw e nothing)
 
--- the words are refused
-pub words_refused : (words : List (List ℕ)) (input : List ℕ) (f : Fault) (o : Option (List ℕ)) → RefusesWords (task_of words) f → Answers (Program words input) (Stands words input) (IsWriting words input) o o (Err f)
-unfolding Program Stands IsWriting
-words_refused words input f o h = task_refused (task_of words) input f o h
+-- ---- the arguments
 
--- the input is not read whole
-pub not_read : (task : Task) (input : List ℕ) (o : Option (List ℕ)) (f : Fault) → (f ≡ NoMemory) ⊎ (f ≡ CannotRead) → Answers (TaskDone (Some task) input) (TaskStands (Some task) input) (TaskWrites (Some task) input) o o (Err f)
-not_read task input o f (inl e) = rw e ([], stands_nothing (Some task) input, appends_nothing o)
-not_read task input o f (inr e) = rw e ([], stands_nothing (Some task) input, appends_nothing o)
+pub wrong_words : (given : Option Task) (f : Fault) → RefusesWords given f → given ≡ None → f ≡ WrongWords
+wrong_words None f r e = r
+wrong_words (Some task) f r e = absurd (let q = e in cc)
 
--- the lines of a report are refused
-report_refuses : (sigfig : ℕ) (quantiles : List Ratio) (input : List ℕ) (o : Option (List ℕ)) (f : Fault) → Refuses (λ g. Runs LineDone (empty_plain 1 2 sigfig true) (number_lines 1 (Some input)) (record { written = []; ended = Err g })) f
-    → Answers (TaskDone (Some (Report sigfig quantiles)) input) (TaskStands (Some (Report sigfig quantiles)) input) (TaskWrites (Some (Report sigfig quantiles)) input) o o (Err f)
-report_refuses sigfig quantiles input o WrongWords r = ([], (Err WrongWords, r, (refl, refl)), appends_nothing o)
-report_refuses sigfig quantiles input o (NotACommand k) r = ([], (Err (NotACommand k), r, (refl, refl)), appends_nothing o)
-report_refuses sigfig quantiles input o (Refused k c) r = ([], (Err (Refused k c), r, (refl, refl)), appends_nothing o)
-report_refuses sigfig quantiles input o (NotWritten k c) r = ([], (Err (NotWritten k c), r, (refl, refl)), appends_nothing o)
-report_refuses sigfig quantiles input o (NotALog k) r = ([], (Err (NotALog k), r, (refl, refl)), appends_nothing o)
-report_refuses sigfig quantiles input o (NotBase64 k) r = ([], (Err (NotBase64 k), r, (refl, refl)), appends_nothing o)
-report_refuses sigfig quantiles input o (NotRead k c) r = ([], (Err (NotRead k c), r, (refl, refl)), appends_nothing o)
-report_refuses sigfig quantiles input o NoMemory r = ([], refl, appends_nothing o)
-report_refuses sigfig quantiles input o CannotRead r = ([], refl, appends_nothing o)
-report_refuses sigfig quantiles input o CannotWrite r = absurd r
+pub words_refused : (given : Option Task) (f : Fault) (i o : Option (List ℕ)) → RefusesWords given f
+    → IfSome given (λ task. (input : List ℕ) × IfSome i (λ bytes. input ≡ bytes) × Answers (TaskDone task input) (TaskStands task input) (TaskWrites task input) o o (Err f))
+words_refused None f i o r = tt
+words_refused (Some task) f i o r = unread task i o f (rw r refl)
 
-pub report_refused : (sigfig : ℕ) (quantiles : List Ratio) (input : List ℕ) (o : Option (List ℕ)) (h : Plain) (f : Fault) → h ≡ empty_plain 1 2 sigfig true → Refuses (λ g. Runs LineDone h (number_lines 1 (Some input)) (record { written = []; ended = Err g })) f
-    → Answers (TaskDone (Some (Report sigfig quantiles)) input) (TaskStands (Some (Report sigfig quantiles)) input) (TaskWrites (Some (Report sigfig quantiles)) input) o o (Err f)
-report_refused sigfig quantiles input o h f e r =
-    let F : Plain → Type 0 = λ x. Refuses (λ g. Runs LineDone x (number_lines 1 (Some input)) (record { written = []; ended = Err g })) f in
-    report_refuses sigfig quantiles input o f (subst F e r)
-
--- the report of lines is written
-report_written_of : (sigfig : ℕ) (quantiles : List Ratio) (input : List ℕ) (o n : Option (List ℕ)) (h : Plain) (r : Result (Unit {0}) Fault) → Runs LineDone (empty_plain 1 2 sigfig true) (number_lines 1 (Some input)) (record { written = []; ended = Ok h })
-    → Answers (Reported quantiles (Ok h)) (λ text. text ≡ []) (λ text. Reported quantiles (Ok h) text None) o n r
-    → Answers (TaskDone (Some (Report sigfig quantiles)) input) (TaskStands (Some (Report sigfig quantiles)) input) (TaskWrites (Some (Report sigfig quantiles)) input) o n r
-report_written_of sigfig quantiles input o n h (Ok u) d a = (a.0, (Ok h, d, a.1), a.2)
-report_written_of sigfig quantiles input o n h (Err WrongWords) d a = (a.0, (Ok h, d, a.1), a.2)
-report_written_of sigfig quantiles input o n h (Err (NotACommand k)) d a = (a.0, (Ok h, d, a.1), a.2)
-report_written_of sigfig quantiles input o n h (Err (Refused k c)) d a = (a.0, (Ok h, d, a.1), a.2)
-report_written_of sigfig quantiles input o n h (Err (NotWritten k c)) d a = (a.0, (Ok h, d, a.1), a.2)
-report_written_of sigfig quantiles input o n h (Err (NotALog k)) d a = (a.0, (Ok h, d, a.1), a.2)
-report_written_of sigfig quantiles input o n h (Err (NotBase64 k)) d a = (a.0, (Ok h, d, a.1), a.2)
-report_written_of sigfig quantiles input o n h (Err (NotRead k c)) d a = (a.0, (Ok h, d, a.1), a.2)
-report_written_of sigfig quantiles input o n h (Err NoMemory) d a = a
-report_written_of sigfig quantiles input o n h (Err CannotRead) d a = a
-report_written_of sigfig quantiles input o n h (Err CannotWrite) d a = (a.0, (Ok h, d, a.1), a.2)
-
-pub report_written : (sigfig : ℕ) (quantiles : List Ratio) (input : List ℕ) (o n : Option (List ℕ)) (first h : Plain) (r : Result (Unit {0}) Fault) → first ≡ empty_plain 1 2 sigfig true → Runs LineDone first (number_lines 1 (Some input)) (record { written = []; ended = Ok h })
-    → Answers (Reported quantiles (Ok h)) (λ text. text ≡ []) (λ text. Reported quantiles (Ok h) text None) o n r
-    → Answers (TaskDone (Some (Report sigfig quantiles)) input) (TaskStands (Some (Report sigfig quantiles)) input) (TaskWrites (Some (Report sigfig quantiles)) input) o n r
-report_written sigfig quantiles input o n first h r e d a =
-    let F : Plain → Type 0 = λ x. Runs LineDone x (number_lines 1 (Some input)) (record { written = []; ended = Ok h }) in
-    report_written_of sigfig quantiles input o n h r (subst F e d) a
-
--- the lines of a log are done
-pub log_written : (sigfig : ℕ) (input : List ℕ) (o n : Option (List ℕ)) (first : Plain) (r : Result (Unit {0}) Fault) → first ≡ empty_plain 1 2 sigfig true → AnswersLines LogLineDone first (number_lines 1 (Some input)) o n r
-    → Answers (TaskDone (Some (Log sigfig)) input) (TaskStands (Some (Log sigfig)) input) (TaskWrites (Some (Log sigfig)) input) o n r
-log_written sigfig input o n first r e a =
-    let F : Plain → Type 0 = λ x. AnswersLines LogLineDone x (number_lines 1 (Some input)) o n r in
-    subst F e a
-
--- the words ask for a task
-pub chosen : (words : List (List ℕ)) (input given : List ℕ) (task : Task) (o n : Option (List ℕ)) (r : Result (Unit {0}) Fault) → task_of words ≡ Some task → given ≡ input
-    → Answers (TaskDone (Some task) given) (TaskStands (Some task) given) (TaskWrites (Some task) given) o n r → Answers (Program words input) (Stands words input) (IsWriting words input) o n r
-unfolding Program Stands IsWriting
-chosen words input given task o n r h e a =
-    let J : Option Task → Type 0 = λ j. Answers (TaskDone j input) (TaskStands j input) (TaskWrites j input) o n r in
-    let I : List ℕ → Type 0 = λ i. Answers (TaskDone (Some task) i) (TaskStands (Some task) i) (TaskWrites (Some task) i) o n r in
-    subst J (sym h) (subst I e a)
-
--- the same of equal contents of the writer
-pub log_moved : (first : Plain) (lines : List (ℕ × List ℕ)) (o p n q : Option (List ℕ)) (r : Result (Unit {0}) Fault) → o ≡ p → n ≡ q → AnswersLines LogLineDone first lines o n r → AnswersLines LogLineDone first lines p q r
-log_moved first lines o p n q r e f a =
-    let O : Option (List ℕ) → Type 0 = λ x. AnswersLines LogLineDone first lines x n r in
-    let N : Option (List ℕ) → Type 0 = λ x. AnswersLines LogLineDone first lines p x r in
-    subst N f (subst O e a)
-
--- what is left of the input, by the task that the words ask for
-pub leaves_chosen : (words : List (List ℕ)) (task : Task) (o n : Option (List ℕ)) (r : Result (Unit {0}) Fault) → task_of words ≡ Some task → ReadsAll (TaskLeaves (Some task)) o n r → ReadsAll (Leaves words) o n r
-unfolding Leaves
-leaves_chosen words task o n r e h = let F : Option Task → Type 0 = λ t. ReadsAll (TaskLeaves t) o n r in subst F (sym e) h
-
-unread_of : (task : Option Task) (f : Fault) (o : Option (List ℕ)) → RefusesWords task f → ReadsAll (TaskLeaves task) o o (Err f)
-unread_of None f o h = rw h (keeps o)
-unread_of (Some task) f o h = rw h tt
-
-pub words_unread : (words : List (List ℕ)) (f : Fault) (o : Option (List ℕ)) → RefusesWords (task_of words) f → ReadsAll (Leaves words) o o (Err f)
-unfolding Leaves
-words_unread words f o h = unread_of (task_of words) f o h
-
--- a refused report
-pub reads_refused : (P : Fault → Type 0) (o n : Option (List ℕ)) (f : Fault) → Refuses P f → ReadsTo f n → (◌≡◌ {A = Result (Unit {0}) Fault} (Err f) (Err WrongWords) → ⊥) → ReadsAll IsAtEnd o n (Err f)
-reads_refused P o n WrongWords r e h = absurd (h refl)
-reads_refused P o n (NotACommand k) r e h = e
-reads_refused P o n (Refused k c) r e h = e
-reads_refused P o n (NotWritten k c) r e h = e
-reads_refused P o n (NotALog k) r e h = e
-reads_refused P o n (NotBase64 k) r e h = e
-reads_refused P o n (NotRead k c) r e h = e
-reads_refused P o n NoMemory r e h = tt
-reads_refused P o n CannotRead r e h = tt
-reads_refused P o n CannotWrite r e h = absurd r
-
--- a log
-pub reads_log : (sigfig : ℕ) (o n : Option (List ℕ)) (r : Result (Unit {0}) Fault) → MatchResult r (λ _. IsAtEnd n) (λ f. ReadsTo f n) → r ≢ Err WrongWords → ReadsAll (TaskLeaves (Some (Log sigfig))) o n r
-reads_log sigfig o n (Ok u) e h = e
-reads_log sigfig o n (Err WrongWords) e h = absurd (h refl)
-reads_log sigfig o n (Err (NotACommand k)) e h = e
-reads_log sigfig o n (Err (Refused k c)) e h = e
-reads_log sigfig o n (Err (NotWritten k c)) e h = e
-reads_log sigfig o n (Err (NotALog k)) e h = e
-reads_log sigfig o n (Err (NotBase64 k)) e h = e
-reads_log sigfig o n (Err (NotRead k c)) e h = e
-reads_log sigfig o n (Err NoMemory) e h = tt
-reads_log sigfig o n (Err CannotRead) e h = tt
-reads_log sigfig o n (Err CannotWrite) e h = tt
-
-pub reads_none : (Leaves : Option (List ℕ) → Type 0) (o n : Option (List ℕ)) (f : Fault) → (f ≡ NoMemory) ⊎ (f ≡ CannotRead) → ReadsAll Leaves o n (Err f)
-reads_none Leaves o n f (inl e) = rw e tt
-reads_none Leaves o n f (inr e) = rw e tt
-
--- all is read
-pub reads_all : (o n : Option (List ℕ)) (r : Result (Unit {0}) Fault) → IsAtEnd n → r ≢ Err WrongWords → ReadsAll IsAtEnd o n r
-reads_all o n (Ok u) e h = e
-reads_all o n (Err WrongWords) e h = absurd (h refl)
-reads_all o n (Err (NotACommand k)) e h = e
-reads_all o n (Err (Refused k c)) e h = e
-reads_all o n (Err (NotWritten k c)) e h = e
-reads_all o n (Err (NotALog k)) e h = e
-reads_all o n (Err (NotBase64 k)) e h = e
-reads_all o n (Err (NotRead k c)) e h = e
-reads_all o n (Err NoMemory) e h = tt
-reads_all o n (Err CannotRead) e h = tt
-reads_all o n (Err CannotWrite) e h = e
+pub words_unread : (given : Option Task) (f : Fault) (i : Option (List ℕ)) → RefusesWords given f → IfSome given (λ task. ReadsAll (TaskLeaves task) i (Err f))
+words_unread None f i r = tt
+words_unread (Some task) f i r = rw r tt

@@ -1,5 +1,5 @@
 -- Runs over lists in two parts, and the lines of a text in two parts.
-use Rattle.std.proofs.Common.{◌≡◌, ℕ, suc, ◌+◌, ◌≤◌, ◌==◌, Bool, true, false, cond, List, [], ◌∷◌, ◌++◌, length, Some, Result, Ok, Err, refl, sym, ap, ◌∙◌, subst, inl, inr, append_assoc, arith, lit≤}
+use Rattle.std.proofs.Common.{◌≡◌, ℕ, suc, ◌+◌, ◌==◌, Bool, true, false, cond, List, [], ◌∷◌, ◌++◌, length, Some, Result, Ok, Err, refl, sym, ap, ◌∙◌, subst, inl, inr, append_assoc, arith}
 use Rattle.std.specs.List.{enumerate_from, onto_first}
 use Rattle.std.proofs.lemmas.List.FromFn.{length-enumerate_from}
 use Rattle.hdr_log.specs.Parts.{parts}
@@ -105,27 +105,3 @@ module _ {A B : Type 0} (Step : A → B → Result (List ℕ × A) Fault → Typ
   pub runs_begin : (a : A) (xs : List B) (e : Outcome A) → Runs Step a xs e → Begins Step a xs e.written
   runs_begin a [] e r = ap (λ (o : Outcome A). o.written) r
   runs_begin a (x ∷ xs) e r = stands_on a x xs e r.0 r.1 r.2 (λ c d s. runs_begin c xs d s)
-
-few_on : (t : Bool) (x : ℕ) (ps : List (List ℕ)) (n : ℕ) → length ps ≤ n → length (cond t ([] ∷ ps) (onto_first x ps)) ≤ n + 1
-few_on true x ps n h = omega arith
-few_on false x [] n h = omega arith
-few_on false x (p ∷ ps) n h = omega arith
-
-parts_few : (text : List ℕ) → length (parts 10 text) ≤ length text + 1
-parts_few [] = lit≤ tt
-parts_few (x ∷ text) = let h = few_on (x == 10) x (parts 10 text) (length text + 1) (parts_few text) in omega arith
-
--- a text has no more lines than bytes and one
-pub numbered_few : (n : ℕ) (text : List ℕ) → length (number_lines n (Some text)) ≤ length text + 1
-numbered_few n text = let e : length (number_lines n (Some text)) ≡ length (parts 10 text) = length-enumerate_from n (parts 10 text) in let h = parts_few text in omega arith
-
--- the first of numbered lines has the first number
-pub first_number : (it rest : List (ℕ × List ℕ)) (n k : ℕ) (line : List ℕ) (left : List (List ℕ)) → it ≡ enumerate_from n left → it ≡ (k, line) ∷ rest
-    → (k ≡ n) × (length it ≡ suc (length rest)) × ((later : List (List ℕ)) × (rest ≡ enumerate_from (k + 1) later))
-first_number it rest n k line [] e f = absurd cc
-first_number it rest n k line (x ∷ left) e f =
-    let g : (n, x) ∷ enumerate_from (n + 1) left ≡ (k, line) ∷ rest = sym e ∙ f in
-    let h : ◌≡◌ {A = ℕ × List ℕ} (k, line) (n, x) = cc in
-    let q : k ≡ n = ap (λ (p : ℕ × List ℕ). p.0) h in
-    let r : rest ≡ enumerate_from (n + 1) left = cc in
-    (q, ap length f, (left, r ∙ ap (λ m. enumerate_from (m + 1) left) (sym q)))

@@ -1,10 +1,9 @@
 -- Runs, one step further.
 use Rattle.std.proofs.Common.{◌≡◌, ℕ, suc, ◌+◌, List, [], ◌∷◌, ◌++◌, length, take, Option, Some, Result, Ok, Err, refl, sym, ap, ◌∙◌, subst, inl, inr, append_assoc, length-append, zero-add, arith}
-use Rattle.std.specs.Io.KnownBytes.{Appends, Keeps}
+use Rattle.std.specs.Io.KnownBytes.{Appends}
 use Rattle.hdrhistogram.specs.Streams.{AppendsFront}
 use Rattle.hdr_tool.specs.declared.fault.Fault.{Fault}
-use Rattle.hdr_tool.specs.declared.fault.Fault.TheVariants.{WrongWords, NotACommand, Refused, NotWritten, NotALog, NotBase64, NotRead, NoMemory, CannotRead, CannotWrite}
-use Rattle.hdr_tool.specs.Outcomes.{Outcome, Runs, Begins, after, StepAnswers, Answers}
+use Rattle.hdr_tool.specs.Outcomes.{Outcome, Runs, Begins, after, Cause, Shortage, Output, Input, cause_of, StepRefused, RunRefused}
 use Rattle.hdr_tool.proofs.OutcomesSinks.{appends_both, appends_kept, append_nothing}
 
 pub after_after : {A : Type 0} (done text : List ℕ) (out : Outcome A) → after done (after text out) ≡ after (done ++ text) out
@@ -62,26 +61,23 @@ front_behind o m n done text a f =
     let A : List ℕ → Type 0 = λ t. Appends o n t in
     (length done + f.0, omega (arith, length-append done text, f.1), subst A (sym (take_both done text f.0)) (appends_both o m n done (take f.0 text) a f.2))
 
-stopped : {A B : Type 0} (Step : A → B → Result (List ℕ × A) Fault → Type 0) (All : Outcome A → Type 0) (Stands : List ℕ → Type 0) (Ends : List ℕ → Option Fault → Type 0) (a : A) (it rest : List B) (x : B) (o m n : Option (List ℕ)) (f : Fault)
-    → ((text : List ℕ) → All (record { written = text; ended = Err f }) → Ends text (Some f)) → Goes Step All Stands o m a it → it ≡ x ∷ rest → Step a x (Err f) × Keeps m n → (text : List ℕ) × Ends text (Some f) × Appends o n text
-stopped Step All Stands Ends a it rest x o m n f k i e s =
+-- a step that ended the run, by what ended it
+ended_by : {A B : Type 0} (Step : A → B → Result (List ℕ × A) Fault → Type 0) (All : Outcome A → Type 0) (Stands : List ℕ → Type 0) (Ends : List ℕ → Option Fault → Type 0) (a : A) (it rest : List B) (x : B) (o m n : Option (List ℕ)) (f : Fault) (c : Cause)
+    → ((text : List ℕ) → All (record { written = text; ended = Err f }) → Ends text (Some f)) → Goes Step All Stands o m a it → it ≡ x ∷ rest → StepRefused (Step a x) m n c f → RunRefused Ends Stands Stands o n c f
+ended_by Step All Stands Ends a it rest x o m n f Shortage k i e s = (i.done, subst Stands (append_nothing i.done) (i.standing [] (begins_nothing Step a it)), appends_kept o m n i.done i.written s)
+ended_by Step All Stands Ends a it rest x o m n f Output k i e s =
+    (i.done ++ s.0.0, subst Stands (ap (λ t. i.done ++ t) (append_nothing s.0.0)) (i.standing (s.0.0 ++ []) (begins_step Step a it rest x s.0 [] e s.1 (begins_nothing Step s.0.1 rest))), front_behind o m n i.done s.0.0 i.written s.2)
+ended_by Step All Stands Ends a it rest x o m n f Input k i e s =
     let E : List ℕ → Type 0 = λ t. Ends t (Some f) in
     (i.done, subst E (append_nothing i.done) (k (i.done ++ []) (i.ending (record { written = []; ended = Err f }) (ends Step a it rest x f e s.0))), appends_kept o m n i.done i.written s.1)
 
--- a step that ended the run
-pub ended : {A B : Type 0} (Step : A → B → Result (List ℕ × A) Fault → Type 0) (All : Outcome A → Type 0) (Stands : List ℕ → Type 0) (Ends : List ℕ → Option Fault → Type 0) (a b : A) (it rest : List B) (x : B) (o m n : Option (List ℕ)) (f : Fault)
-    → ((text : List ℕ) (e : Fault) → All (record { written = text; ended = Err e }) → Ends text (Some e)) → Goes Step All Stands o m a it → it ≡ x ∷ rest → StepAnswers (Step a x) b m n (Err f) → Answers Ends Stands Stands o n (Err f)
-ended Step All Stands Ends a b it rest x o m n NoMemory k i e s = (i.done, subst Stands (append_nothing i.done) (i.standing [] (begins_nothing Step a it)), appends_kept o m n i.done i.written s)
-ended Step All Stands Ends a b it rest x o m n CannotRead k i e s = absurd s
-ended Step All Stands Ends a b it rest x o m n CannotWrite k i e s =
-    (i.done ++ s.0.0, subst Stands (ap (λ t. i.done ++ t) (append_nothing s.0.0)) (i.standing (s.0.0 ++ []) (begins_step Step a it rest x s.0 [] e s.1 (begins_nothing Step s.0.1 rest))), front_behind o m n i.done s.0.0 i.written s.2)
-ended Step All Stands Ends a b it rest x o m n WrongWords k i e s = stopped Step All Stands Ends a it rest x o m n WrongWords (λ t. k t WrongWords) i e s
-ended Step All Stands Ends a b it rest x o m n (NotACommand j) k i e s = stopped Step All Stands Ends a it rest x o m n (NotACommand j) (λ t. k t (NotACommand j)) i e s
-ended Step All Stands Ends a b it rest x o m n (Refused j c) k i e s = stopped Step All Stands Ends a it rest x o m n (Refused j c) (λ t. k t (Refused j c)) i e s
-ended Step All Stands Ends a b it rest x o m n (NotWritten j c) k i e s = stopped Step All Stands Ends a it rest x o m n (NotWritten j c) (λ t. k t (NotWritten j c)) i e s
-ended Step All Stands Ends a b it rest x o m n (NotALog j) k i e s = stopped Step All Stands Ends a it rest x o m n (NotALog j) (λ t. k t (NotALog j)) i e s
-ended Step All Stands Ends a b it rest x o m n (NotBase64 j) k i e s = stopped Step All Stands Ends a it rest x o m n (NotBase64 j) (λ t. k t (NotBase64 j)) i e s
-ended Step All Stands Ends a b it rest x o m n (NotRead j c) k i e s = stopped Step All Stands Ends a it rest x o m n (NotRead j c) (λ t. k t (NotRead j c)) i e s
+pub ended : {A B : Type 0} (Step : A → B → Result (List ℕ × A) Fault → Type 0) (All : Outcome A → Type 0) (Stands : List ℕ → Type 0) (Ends : List ℕ → Option Fault → Type 0) (a : A) (it rest : List B) (x : B) (o m n : Option (List ℕ)) (f : Fault)
+    → ((text : List ℕ) → All (record { written = text; ended = Err f }) → Ends text (Some f)) → Goes Step All Stands o m a it → it ≡ x ∷ rest → StepRefused (Step a x) m n (cause_of f) f → RunRefused Ends Stands Stands o n (cause_of f) f
+ended Step All Stands Ends a it rest x o m n f k i e s = ended_by Step All Stands Ends a it rest x o m n f (cause_of f) k i e s
+
+-- what was written so far
+pub stands : {A B : Type 0} (Step : A → B → Result (List ℕ × A) Fault → Type 0) (All : Outcome A → Type 0) (Stands : List ℕ → Type 0) (a : A) (it : List B) (o m : Option (List ℕ)) → Goes Step All Stands o m a it → (text : List ℕ) × Stands text × Appends o m text
+stands Step All Stands a it o m i = (i.done, subst Stands (append_nothing i.done) (i.standing [] (begins_nothing Step a it)), i.written)
 
 -- nothing is left
 pub all_done : {A B : Type 0} (Step : A → B → Result (List ℕ × A) Fault → Type 0) (All : Outcome A → Type 0) (Stands : List ℕ → Type 0) (a : A) (it : List B) (o m : Option (List ℕ)) → Goes Step All Stands o m a it → it ≡ [] → (text : List ℕ) × All (record { written = text; ended = Ok a }) × Appends o m text

@@ -1,116 +1,114 @@
--- The call or the interval that a line asks for. A line has no line end.
-use Rattle.std.specs.Prelude.{◌≡◌, ◌≢◌, ℕ, ◌==◌, ◌&&◌, not, length, List, [], ◌∷◌, Option, Some, None, if◌then◌else◌, codes}
+-- The command of a line. A line has no line end.
+use Rattle.std.specs.Prelude.{◌≡◌, ℕ, ◌<◌, true, take, ◌==◌, ◌&&◌, not, length, List, [], ◌∷◌, Option, Some, None, if◌then◌else◌, codes}
 use Rattle.std.specs.Option.{option_map}
+use Rattle.std.specs.List.{list_all}
+use Rattle.std.specs.Char.{is_ascii_digit}
 use Rattle.std.specs.Str.{bytes_eq}
 use Rattle.hdr_core.specs.declared.call.Call.{Call}
 use Rattle.hdr_core.specs.declared.call.Call.TheVariants.{Record, Clamp, Correct, Clear, Reset}
 use Rattle.hdr_log.specs.Grammar.{is_tag}
 use Rattle.hdr_log.specs.Parts.{◌>>=◌, parts, number_of}
 use Rattle.hdr_log.specs.Tags.{tag_text}
-use Rattle.hdr_tool.specs.Lines.{Line}
-use Rattle.hdr_tool.specs.declared.command.LogCommand as code
-use Rattle.hdr_tool.specs.declared.command.LogCommand.TheVariants as code_command
+use Rattle.hdr_tool.specs.Lines.{first_number}
+use Rattle.hdr_tool.specs.declared.command.Command as code
+use Rattle.hdr_tool.specs.declared.command.Command.TheVariants as code_command
 
--- the count after a value, 1 where there is none
+-- a call, or an interval that ends, with its start and its duration in milliseconds and its tag
+pub data Command : Type 0 where
+  Apply : Call ℕ → Command
+  End : ℕ → ℕ → Option (List ℕ) → Command
+
+-- what is asked for, where no field is left
+abbrev pub alone : {A : Type 0} → A → List (List ℕ) → Option A
+alone x [] = Some x
+alone x _ = None
+
+-- `[N]`: a count, 1 where there is none
 abbrev pub count_of : List (List ℕ) → Option ℕ
 count_of [] = Some 1
-count_of (count ∷ []) = number_of count
-count_of _ = None
+count_of fields = do
+  (count, rest) ← first_number fields
+  alone count rest
 
--- a number, and the count after it
-abbrev pub number_and_count_of : List (List ℕ) → Option (ℕ × ℕ)
-number_and_count_of [] = None
-number_and_count_of (n ∷ rest) = do
-  number ← number_of n
+-- `V [N]`, `V I [N]`
+abbrev pub record_of : (ℕ → ℕ → Call ℕ) → List (List ℕ) → Option Command
+record_of call fields = do
+  (value, rest) ← first_number fields
   count ← count_of rest
-  Some (number, count)
+  Some (Apply (call value count))
 
--- `r V [N]`, after the name
-abbrev pub record_of : List (List ℕ) → Option (Call ℕ)
-record_of fields = do
-  (value, count) ← number_and_count_of fields
-  Some (Record value count)
-
--- `s V [N]`
-abbrev pub clamp_of : List (List ℕ) → Option (Call ℕ)
-clamp_of fields = do
-  (value, count) ← number_and_count_of fields
-  Some (Clamp value count)
-
--- `c V I [N]`
-abbrev pub correct_of : List (List ℕ) → Option (Call ℕ)
-correct_of [] = None
-correct_of (v ∷ rest) = do
-  value ← number_of v
-  (interval, count) ← number_and_count_of rest
-  Some (Correct value count interval)
-
--- a call by its name alone
-abbrev pub alone : Call ℕ → List (List ℕ) → Option (Call ℕ)
-alone call [] = Some call
-alone call _ = None
-
--- the call of a name and of the fields after it
-unfoldable pub call_of_name : List ℕ → List (List ℕ) → Option (Call ℕ)
-call_of_name name fields =
-    if bytes_eq name (codes "r") then record_of fields
-    else if bytes_eq name (codes "s") then clamp_of fields
-    else if bytes_eq name (codes "c") then correct_of fields
-    else if bytes_eq name (codes "clear") then alone Clear fields
-    else if bytes_eq name (codes "reset") then alone Reset fields
-    else None
-
--- the call of fields
-abbrev pub call_of_fields : List (List ℕ) → Option (Call ℕ)
-call_of_fields [] = None
-call_of_fields (name ∷ fields) = call_of_name name fields
-
--- the call of a line, whose fields are separated by one space each
-abbrev pub call_of : List ℕ → Option (Call ℕ)
-call_of line = call_of_fields (parts 32 line)
-
--- what a line of a log's input asks for: a call, or an interval that ends, with its start and its duration in milliseconds
--- and its tag
-pub data LogCommand : Type 0 where
-  Make : Call ℕ → LogCommand
-  End : ℕ → ℕ → Option (List ℕ) → LogCommand
+abbrev pub correct_of : List (List ℕ) → Option Command
+correct_of fields = do
+  (value, rest) ← first_number fields
+  (interval, rest) ← first_number rest
+  count ← count_of rest
+  Some (Apply (Correct value count interval))
 
 -- the tag of a word that is not empty
 abbrev pub tag_of_word : List ℕ → Option (List ℕ)
 tag_of_word word = if not (length word == 0) && is_tag word then Some word else None
 
--- the tag after the times, none where there is none
+-- `[TAG]`: a tag, if there is one
 abbrev pub end_tag_of : List (List ℕ) → Option (Option (List ℕ))
 end_tag_of [] = Some None
 end_tag_of (word ∷ []) = option_map Some (tag_of_word word)
 end_tag_of _ = None
 
--- `end START DURATION [TAG]`, after the name
-abbrev pub end_of : List (List ℕ) → Option LogCommand
-end_of (s ∷ d ∷ rest) = do
-  start ← number_of s
-  duration ← number_of d
+-- `START DURATION [TAG]`
+abbrev pub end_of : List (List ℕ) → Option Command
+end_of fields = do
+  (start, rest) ← first_number fields
+  (duration, rest) ← first_number rest
   tag ← end_tag_of rest
   Some (End start duration tag)
-end_of _ = None
 
 -- the command of a name and of the fields after it
-unfoldable pub log_command_of_name : List ℕ → List (List ℕ) → Option LogCommand
-log_command_of_name name fields = if bytes_eq name (codes "end") then end_of fields else option_map Make (call_of_name name fields)
+unfoldable pub command_of_name : List ℕ → List (List ℕ) → Option Command
+command_of_name name fields =
+    if bytes_eq name (codes "r") then record_of Record fields
+    else if bytes_eq name (codes "s") then record_of Clamp fields
+    else if bytes_eq name (codes "c") then correct_of fields
+    else if bytes_eq name (codes "clear") then option_map Apply (alone Clear fields)
+    else if bytes_eq name (codes "reset") then option_map Apply (alone Reset fields)
+    else if bytes_eq name (codes "end") then end_of fields
+    else None
 
-abbrev pub log_command_of_fields : List (List ℕ) → Option LogCommand
-log_command_of_fields [] = None
-log_command_of_fields (name ∷ fields) = log_command_of_name name fields
+abbrev pub command_of_fields : List (List ℕ) → Option Command
+command_of_fields [] = None
+command_of_fields (name ∷ fields) = command_of_name name fields
 
-abbrev pub log_command_of : List ℕ → Option LogCommand
-log_command_of line = log_command_of_fields (parts 32 line)
+-- the command of a line, whose fields are separated by one space each
+abbrev pub command_of : List ℕ → Option Command
+command_of line = command_of_fields (parts 32 line)
 
--- a command as the code holds it, by what its line asks for
-abbrev pub view_of_log_command : code.LogCommand → LogCommand
-view_of_log_command (code_command.Make call) = Make call
-view_of_log_command (code_command.End start duration tag) = End start duration (option_map tag_text tag)
+-- a command as the code holds it
+abbrev pub view_of_command : code.Command → Command
+view_of_command (code_command.Apply call) = Apply call
+view_of_command (code_command.End start duration tag) = End start duration (option_map tag_text tag)
 
--- a first line that asks for this call, in a log's input too
-abbrev pub IsCallLine : Line → Call ℕ → Type 0
-IsCallLine line call =
-    (line.bytes ≢ []) × (call_of_name line.field line.rest.fields ≡ Some call) × (log_command_of_name line.field line.rest.fields ≡ Some (Make call))
+-- a text begins with digits up to a place, and they spell this number
+pub record BeginsWith (text : List ℕ) (value at : ℕ) : Type 0 where
+  pub some : 0 < at
+  pub within : at < length text
+  pub digits : list_all is_ascii_digit (take at text) ≡ true
+  pub number : number_of (take at text) ≡ Some value
+
+-- fields are one number, or two
+abbrev pub AreNumbers : List (List ℕ) → ℕ → Option ℕ → Type 0
+AreNumbers (f ∷ []) n None = number_of f ≡ Some n
+AreNumbers (f ∷ g ∷ []) n (Some m) = (number_of f ≡ Some n) × (number_of g ≡ Some m)
+AreNumbers _ _ _ = ⊥
+
+-- a text's first line is these numbers, and this is the text after it
+pub record HasNumbers (text : List ℕ) (first : ℕ) (second : Option ℕ) (after : List ℕ) : Type 0 where
+  pub line : List ℕ
+  pub lines : parts 10 text ≡ line ∷ parts 10 after
+  pub shorter : length after < length text
+  pub numbers : AreNumbers (parts 32 line) first second
+
+-- a text's first line asks for this call, and this is the text after it
+pub record IsCallLine (text : List ℕ) (call : Call ℕ) (after : List ℕ) : Type 0 where
+  pub line : List ℕ
+  pub lines : parts 10 text ≡ line ∷ parts 10 after
+  pub shorter : length after < length text
+  pub command : command_of line ≡ Some (Apply call)

@@ -1,20 +1,10 @@
--- Why a run is refused: the fault of a refused call, its line on standard error, and the exit status.
+-- Why a run is refused: its line on standard error, and the exit status.
 use Rattle.std.specs.Prelude.{ℕ, List, ◌++◌, Option, Some, None, codes}
 use Rattle.std.specs.Fmt.{decimal}
-use Rattle.hdr_core.specs.declared.call.CallError.{CallError}
-use Rattle.hdr_core.specs.declared.call.CallError.TheVariants as call
-use Rattle.hdr_model.specs.declared.errors.RecordError.TheVariants as record_error
-use Rattle.hdr_model.specs.declared.errors.AdditionError.TheVariants as addition_error
 use Rattle.hdrhistogram.specs.declared.serialization.interval_log.merge.MergeError.{MergeError}
 use Rattle.hdrhistogram.specs.declared.serialization.interval_log.merge.MergeError.TheVariants as merging
 use Rattle.hdr_tool.specs.declared.fault.Fault.{Fault}
 use Rattle.hdr_tool.specs.declared.fault.Fault.TheVariants.{WrongWords, NotACommand, Refused, NotWritten, NotALog, NotBase64, NotRead, NoMemory, CannotRead, CannotWrite}
-
--- the fault of a call that line k asked for and that was refused
-abbrev pub refusal_at : ℕ → CallError → Fault
-refusal_at k (call.Record record_error.OutOfMemory) = NoMemory
-refusal_at k (call.Addition addition_error.OutOfMemory) = NoMemory
-refusal_at k e = Refused k e
 
 -- the fault of a merge that was refused; each number of digits that words can ask for has a histogram
 abbrev pub merge_fault : MergeError → Fault

@@ -13,7 +13,7 @@ use Rattle.hdrhistogram.specs.Chosen.{Filter, is_chosen}
 use Rattle.hdrhistogram.specs.V2Read.{IsReadBack}
 use Rattle.hdr_tool.specs.declared.fault.Fault.{Fault}
 use Rattle.hdr_log.specs.Parts.{parts}
-use Rattle.hdr_tool.specs.Commands.{LogCommand, Make, End, log_command_of}
+use Rattle.hdr_tool.specs.Commands.{Command, Apply, End, command_of}
 use Rattle.hdr_tool.specs.Options.{Options, greatest_into, filter_of}
 use Rattle.hdr_tool.specs.Words.{Log, Merge, task_of}
 use Rattle.hdr_tool.specs.Report.{IsReport}
@@ -32,16 +32,16 @@ chosen_of filter (e ∷ ends) =
     if is_chosen filter e.tag (e.start * 1_000_000) then e.holds ∷ chosen_of filter ends else chosen_of filter ends
 
 -- the intervals that commands end: what a command adds to those that come after it
-abbrev pub at_command : Plain → Option LogCommand → (Plain → List (EndOf Plain)) → List (EndOf Plain)
+abbrev pub at_command : Plain → Option Command → (Plain → List (EndOf Plain)) → List (EndOf Plain)
 at_command h None onward = []
-at_command h (Some (Make call)) onward = onward (after_call (2 ^ 64 - 1) (λ n. n) call h)
+at_command h (Some (Apply call)) onward = onward (after_call (2 ^ 64 - 1) (λ n. n) call h)
 at_command h (Some (End start duration tag)) onward = record { holds = h; tag = tag; start = start } ∷ onward (after_reset h)
 
 -- the intervals that the lines of a log's input end, from a histogram on
 abbrev pub ends_of : Plain → List (ℕ × List ℕ) → List (EndOf Plain)
 ends_of h [] = []
 ends_of h ((k, []) ∷ lines) = ends_of h lines
-ends_of h ((k, b ∷ line) ∷ lines) = at_command h (log_command_of (b ∷ line)) (λ g. ends_of g lines)
+ends_of h ((k, b ∷ line) ∷ lines) = at_command h (command_of (b ∷ line)) (λ g. ends_of g lines)
 
 -- each histogram was written and read again
 abbrev pub AreReadBack : List Plain → List Plain → Type 0
@@ -61,16 +61,16 @@ LogThenMerge =
     × IsReport (after_adds (greatest_into options.into) (empty_plain 1 2 fewer true) ks) quantiles text)
 
 -- a command takes samples to others that fit, or ends an interval with them and begins with none
-abbrev pub AfterCommand : Grain → State → Option LogCommand → (State → List (EndOf (List ℕ)) → Type 0) → List (EndOf (List ℕ)) → Type 0
+abbrev pub AfterCommand : Grain → State → Option Command → (State → List (EndOf (List ℕ)) → Type 0) → List (EndOf (List ℕ)) → Type 0
 AfterCommand g s None Onward Ls = Ls ≡ []
-AfterCommand g s (Some (Make call)) Onward Ls = (t : State) × CallTo (λ n. n) g call s t × Fits (2 ^ 64 - 1) g t.samples × Onward t Ls
+AfterCommand g s (Some (Apply call)) Onward Ls = (t : State) × CallTo (λ n. n) g call s t × Fits (2 ^ 64 - 1) g t.samples × Onward t Ls
 AfterCommand g s (Some (End start duration tag)) Onward Ls = (rest : List (EndOf (List ℕ))) × (Ls ≡ record { holds = s.samples; tag = tag; start = start } ∷ rest) × Onward (record { samples = []; high = s.high }) rest
 
 -- the samples before the ends of the lines of a log's input, which fit all the way
 abbrev pub EndsWith : Grain → State → List (ℕ × List ℕ) → List (EndOf (List ℕ)) → Type 0
 EndsWith g s [] Ls = Ls ≡ []
 EndsWith g s ((k, []) ∷ lines) Ls = EndsWith g s lines Ls
-EndsWith g s ((k, b ∷ line) ∷ lines) Ls = AfterCommand g s (log_command_of (b ∷ line)) (λ t rest. EndsWith g t lines rest) Ls
+EndsWith g s ((k, b ∷ line) ∷ lines) Ls = AfterCommand g s (command_of (b ∷ line)) (λ t rest. EndsWith g t lines rest) Ls
 
 -- a histogram with these classes stands for samples, in an interval of the same tag and start
 pub record IsEnd (g : Grain) (h : EndOf Plain) (L : EndOf (List ℕ)) : Type 0 where

@@ -1,9 +1,9 @@
--- What a run leaves and answers.
+-- What a run leaves and returns.
 use Rattle.std.specs.Prelude.{◌≡◌, ◌⊎◌, ℕ, List, [], ◌∷◌, ◌++◌, Option, Some, None, Result, Ok, Err}
 use Rattle.std.specs.Io.KnownBytes.{Appends, Keeps, IsAtEnd}
 use Rattle.hdrhistogram.specs.Streams.{AppendsFront}
 use Rattle.hdr_tool.specs.declared.fault.Fault.{Fault}
-use Rattle.hdr_tool.specs.declared.fault.Fault.TheVariants.{WrongWords, NoMemory, CannotRead, CannotWrite}
+use Rattle.hdr_tool.specs.declared.fault.Fault.TheVariants.{NoMemory, CannotRead, CannotWrite}
 
 -- what is written, and the last state or the fault
 pub record Outcome (A : Type 0) : Type 0 where
@@ -30,48 +30,48 @@ Begins Step a [] text = text ≡ []
 Begins {A = A} Step a (x ∷ xs) text =
     (text ≡ []) ⊎ ((step : List ℕ × A) × Step a x (Ok step) × ((rest : List ℕ) × Begins Step step.1 xs rest × (text ≡ step.0 ++ rest)))
 
--- an answer without what it hands on
-abbrev pub without_value : {A : Type 0} → Result A Fault → Result (Unit {0}) Fault
-without_value (Ok a) = Ok tt
-without_value (Err f) = Err f
+-- what ends a run early: memory or the reader, the writer, or what it was given
+pub data Cause : Type 0 where
+  Shortage : Cause
+  Output : Cause
+  Input : Cause
 
--- P holds of each fault but two: running out of memory, or a reader that fails, may come in place of any answer
-abbrev pub Refuses : (Fault → Type 0) → Fault → Type 0
-Refuses P NoMemory = Unit {0}
-Refuses P CannotRead = Unit {0}
-Refuses P CannotWrite = ⊥
-Refuses P f = P f
+abbrev pub cause_of : Fault → Cause
+cause_of NoMemory = Shortage
+cause_of CannotRead = Shortage
+cause_of CannotWrite = Output
+cause_of f = Input
 
--- a step wrote what its definition says and left the state, or it was refused. A refusal wrote nothing; where the writer failed,
--- a part of the step's text from its beginning was written, not all
+-- a refused step wrote nothing; where the writer failed, a part of the step's text from its beginning was written, not all
+abbrev pub StepRefused : {A : Type 0} → (Result (List ℕ × A) Fault → Type 0) → Option (List ℕ) → Option (List ℕ) → Cause → Fault → Type 0
+StepRefused P old new Shortage f = Keeps old new
+StepRefused {A = A} P old new Output f = (step : List ℕ × A) × P (Ok step) × AppendsFront old new step.0
+StepRefused P old new Input f = P (Err f) × Keeps old new
+
+-- a step wrote what its definition says and left the state, or it was refused
 abbrev pub StepAnswers : {A : Type 0} → (Result (List ℕ × A) Fault → Type 0) → A → Option (List ℕ) → Option (List ℕ) → Result (Unit {0}) Fault → Type 0
 StepAnswers P state old new (Ok u) = (text : List ℕ) × P (Ok (text, state)) × Appends old new text
-StepAnswers P state old new (Err NoMemory) = Keeps old new
-StepAnswers P state old new (Err CannotRead) = ⊥
-StepAnswers {A = A} P state old new (Err CannotWrite) = (step : List ℕ × A) × P (Ok step) × AppendsFront old new step.0
-StepAnswers P state old new (Err f) = P (Err f) × Keeps old new
+StepAnswers P state old new (Err f) = StepRefused P old new (cause_of f) f
 
--- Ok and each fault by name are how a program ends (Ends), and the writer gets all that it writes. Running out of memory, or a reader
+-- Ok and a fault by name are how a program ends (Ends), and the writer gets all that it writes. Running out of memory, or a reader
 -- that fails, may come in place of any answer, where what was written so far stands (Stands). Where the writer itself fails, it
 -- has a beginning, not all, of what the program was writing (IsWriting).
+abbrev pub RunRefused : (List ℕ → Option Fault → Type 0) → (List ℕ → Type 0) → (List ℕ → Type 0) → Option (List ℕ) → Option (List ℕ) → Cause → Fault → Type 0
+RunRefused Ends Stands IsWriting old new Shortage f = (text : List ℕ) × Stands text × Appends old new text
+RunRefused Ends Stands IsWriting old new Output f = (text : List ℕ) × IsWriting text × AppendsFront old new text
+RunRefused Ends Stands IsWriting old new Input f = (text : List ℕ) × Ends text (Some f) × Appends old new text
+
 abbrev pub Answers : (List ℕ → Option Fault → Type 0) → (List ℕ → Type 0) → (List ℕ → Type 0) → Option (List ℕ) → Option (List ℕ) → Result (Unit {0}) Fault → Type 0
 Answers Ends Stands IsWriting old new (Ok u) = (text : List ℕ) × Ends text None × Appends old new text
-Answers Ends Stands IsWriting old new (Err NoMemory) = (text : List ℕ) × Stands text × Appends old new text
-Answers Ends Stands IsWriting old new (Err CannotRead) = (text : List ℕ) × Stands text × Appends old new text
-Answers Ends Stands IsWriting old new (Err CannotWrite) = (text : List ℕ) × IsWriting text × AppendsFront old new text
-Answers Ends Stands IsWriting old new (Err f) = (text : List ℕ) × Ends text (Some f) × Appends old new text
+Answers Ends Stands IsWriting old new (Err f) = RunRefused Ends Stands IsWriting old new (cause_of f) f
 
--- all of the input is read before a fault is told, unless memory or a stream fails
-abbrev pub ReadsTo : Fault → Option (List ℕ) → Type 0
-ReadsTo NoMemory new = Unit {0}
-ReadsTo CannotRead new = Unit {0}
-ReadsTo CannotWrite new = Unit {0}
-ReadsTo f new = IsAtEnd new
+-- all of the input is read before a fault by name is returned. Leaves says what is left of it where the writer fails.
+abbrev pub ReadsTo : (Option (List ℕ) → Type 0) → Option (List ℕ) → Cause → Type 0
+ReadsTo Leaves new Shortage = Unit {0}
+ReadsTo Leaves new Output = Leaves new
+ReadsTo Leaves new Input = IsAtEnd new
 
--- wrong words leave the input unread; else all of it is read, unless memory or the reader fails. Leaves says what is left of it
--- where the writer fails.
-abbrev pub ReadsAll : (Option (List ℕ) → Type 0) → Option (List ℕ) → Option (List ℕ) → Result (Unit {0}) Fault → Type 0
-ReadsAll Leaves old new (Ok u) = IsAtEnd new
-ReadsAll Leaves old new (Err WrongWords) = Keeps old new
-ReadsAll Leaves old new (Err CannotWrite) = Leaves new
-ReadsAll Leaves old new (Err f) = ReadsTo f new
+-- all of the input is read, unless memory or a stream fails
+abbrev pub ReadsAll : (Option (List ℕ) → Type 0) → Option (List ℕ) → Result (Unit {0}) Fault → Type 0
+ReadsAll Leaves new (Ok u) = IsAtEnd new
+ReadsAll Leaves new (Err f) = ReadsTo Leaves new (cause_of f)

@@ -5,6 +5,7 @@ ghost use Rattle.std.specs.Prelude.{◌≡◌};
 use hdrhistogram::CallError;
 use hdrhistogram::serialization::interval_log::IntervalLogWriterError;
 use hdrhistogram::serialization::{DeserializeError, V2SerializeError};
+use std::alloc::AllocError;
 use std::fmt;
 
 /// Why a run is refused. Its text is the line on standard error, and takes no memory.
@@ -43,6 +44,17 @@ impl Fault {
             Fault::WrongWords => 2,
             _ => 1,
         }
+    }
+}
+
+impl From<AllocError> for Fault {
+    ghost use Rattle.std.specs.Prelude.{◌≡◌};
+    ghost use Rattle.hdr_tool.specs.declared.fault.Fault.TheVariants.{NoMemory};
+
+    ghost from_gives = { λ _ fault. fault ≡ NoMemory };
+
+    fn from(_error: AllocError) -> Fault {
+        Fault::NoMemory
     }
 }
 

@@ -3,17 +3,18 @@
 #![tactic(auto)]
 
 mod command;
+mod driver;
 mod fault;
 pub mod laws;
 mod lines;
-mod log;
 mod merge;
 mod options;
 mod parts;
+mod program;
 mod report;
-pub mod run;
 mod stream;
 mod words;
 
 pub use fault::Fault;
+pub use program::run;
 pub use stream::Patient;

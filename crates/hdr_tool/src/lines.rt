@@ -1,108 +1,76 @@
-//! The lines of a text and their fields, each read once, as its bytes come.
+//! The lines of a text, and the fields of a line.
 
-ghost use Rattle.std.specs.Prelude.{◌≡◌, ◌≢◌, ◌+◌, ◌<◌, ◌≤◌, ◌^◌, length, drop, [], MatchOption, Some, None, true, false};
+ghost use Rattle.std.specs.Prelude.{◌≡◌, ◌==◌, ◌<◌, ◌∷◌, length, [], IfSome, MatchOption};
 ghost use Rattle.std.specs.Option.{option_map};
-ghost use Rattle.hdr_log.specs.Parts.{number_of};
-ghost use Rattle.hdr_tool.specs.Lines.{number_lines, first_line, view_of_left};
+ghost use Rattle.hdr_log.specs.Parts.{parts};
+ghost use Rattle.hdr_tool.specs.Lines.{parts_of_rest, first_number};
 
-use hdr_log::parts::append_digit;
+use hdr_log::parts::number;
+use memchr::memchr;
+use std::marker::Model;
 
-/// What is left of a text after a field of its first line.
-#[derive(Clone, Copy)]
-pub(crate) enum Left<'a> {
-    /// More fields of the line, and the lines after it.
-    Fields(&'a [u8]),
-    /// The lines after the line, where an LF ended it.
-    Lines(Option<&'a [u8]>),
-}
-
-/// A text's first field, and what is left after it.
+/// What stands before the first such byte, and what stands after it, where there is one.
 #[inline(always)]
-pub(crate) fn field(text: &[u8]) -> (&[u8], Left<'_>)
-    ensures field { result.0.now ≡ (first_line text.now).field }
-    ensures left { view_of_left result.1 ≡ (first_line text.now).rest }
+pub(crate) fn split_first(text: &[u8], byte: u8) -> (&[u8], Option<&[u8]>)
+    ensures parts { parts byte text.now
+        ≡ result.0.now ∷ parts_of_rest byte (option_map (λ t. t.now) result.1) }
+    ensures shorter { IfSome result.1 (λ rest. length rest.now < length text.now) }
 {
-    for (at, byte) in text.iter().enumerate() {
-        if *byte == b' ' {
-            return (&text[..at], Left::Fields(&text[at + 1..]));
-        }
-        if *byte == b'\n' {
-            return (&text[..at], Left::Lines(Some(&text[at + 1..])));
-        }
+    match memchr(byte, text) {
+        Some(at) => (&text[..at], Some(&text[at + 1..])),
+        None => (text, None),
     }
-    (text, Left::Lines(None))
 }
 
-/// What is left of a text after a field that ends at this place; `None` where it goes on.
-#[inline(always)]
-fn left_after(text: &[u8], at: usize) -> Option<Left<'_>>
-    requires { at < length text.now }
-    ensures { let line = first_line (drop at text.now) in MatchOption result (line.field ≢ [])
-        (λ left. (line.field ≡ []) × (view_of_left left ≡ line.rest)) }
-{
-    if text[at] == b' ' {
-        return Some(Left::Fields(&text[at + 1..]));
-    }
-    if text[at] == b'\n' {
-        return Some(Left::Lines(Some(&text[at + 1..])));
-    }
-    None
+/// The fields of a line that are left, separated by one space each. It is seen as their list.
+#[derive(Drop)]
+pub(crate) struct Fields<'a> {
+    left: Option<&'a [u8]>,
 }
 
-/// As many digits as 64 bits always hold.
-const SAFE_DIGITS: usize = 19;
+impl<'a> Model for Fields<'a> {
+    ghost use Rattle.std.specs.Prelude.{ℕ, List};
+    ghost use Rattle.std.specs.Option.{option_map};
+    ghost use Rattle.hdr_tool.specs.Lines.{parts_of_rest};
 
-/// The number of a text's first field, and what is left after it; `None` where the field is no number of 64 bits.
-#[inline(always)]
-pub(crate) fn number_field(text: &[u8]) -> Option<(u64, Left<'_>)>
-    ensures { let line = first_line text.now in MatchOption result (number_of line.field ≡ None)
-        (λ p. (number_of line.field ≡ Some p.0) × (view_of_left p.1 ≡ line.rest)) }
-{
-    let mut value = 0;
-    let short = text.len().min(SAFE_DIGITS);
-    for at in 0..short {
-        if !text[at].is_ascii_digit() {
-            if at == 0 {
-                return None;
-            }
-            return Some((value, left_after(text, at)?));
-        }
-        value = value * 10 + u64::from(text[at] - b'0');
-    }
-    for at in short..text.len() {
-        if !text[at].is_ascii_digit() {
-            return Some((value, left_after(text, at)?));
-        }
-        value = append_digit(value, u64::from(text[at] - b'0'))?;
-    }
-    if text.is_empty() {
-        return None;
-    }
-    Some((value, Left::Lines(None)))
+    ghost Value = { List (List ℕ) };
+
+    ghost view = { λ fields. parts_of_rest 32 (option_map (λ t. t.now) fields.left) };
 }
 
-/// What follows an empty line that a text begins with; `None` where its first line is not empty.
-#[inline(always)]
-pub(crate) fn after_empty_line(text: &[u8]) -> Option<Option<&[u8]>>
-    ensures { let line = first_line text.now in MatchOption result (line.bytes ≢ [])
-        (λ after. (line.bytes ≡ []) × (option_map (λ t. t.now) after ≡ line.rest.after)) }
-{
-    if text.is_empty() {
-        return Some(None);
+impl<'a> Fields<'a> {
+    /// The fields of a line.
+    #[inline(always)]
+    pub fn new(line: &'a [u8]) -> Fields<'a>
+        ensures { result ≡ parts 32 line.now }
+    {
+        Fields { left: Some(line) }
     }
-    if text[0] == b'\n' {
-        return Some(Some(&text[1..]));
-    }
-    None
-}
 
-/// Whether 64 bits hold the numbers of a text's lines, the first of which has this number, and of the line after them.
-pub(crate) fn can_number(number: u64, text: &[u8]) -> bool
-    ensures fit { result ≡ true → number + length (number_lines number (Some text.now)) < 2 ^ 64 }
-    ensures full { result ≡ false → 2 ^ 64 ≤ number + length text.now + 1 }
-{
-    if number >= u64::MAX - text.len() as u64 {
-        return false;
+    /// The next field.
+    #[inline(always)]
+    pub fn next(&mut self) -> Option<&'a [u8]>
+        ensures { MatchOption result ((self.old ≡ []) × (self.new ≡ []))
+            (λ field. self.old ≡ field.now ∷ self.new) }
+    {
+        let (field, left) = split_first(self.left?, b' ');
+        self.left = left;
+        Some(field)
     }
-    true
+
+    /// The number of the next field.
+    #[inline(always)]
+    pub fn number(&mut self) -> Option<u64>
+        ensures { option_map (λ n. (n, self.new)) result ≡ first_number self.old }
+    {
+        number(self.next()?)
+    }
+
+    /// Whether no field is left.
+    #[inline(always)]
+    pub fn is_empty(&self) -> bool
+        ensures { result ≡ length self.now == 0 }
+    {
+        self.left.is_none()
+    }
 }

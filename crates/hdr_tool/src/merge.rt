@@ -1,6 +1,6 @@
 //! Merging a log.
 
-ghost use Rattle.std.specs.Prelude.{◌≡◌, ◌≢◌, [], Some, None, Err};
+ghost use Rattle.std.specs.Prelude.{◌≡◌, [], Some, None};
 ghost use Rattle.hdrhistogram.specs.Chosen.{view_of_filter};
 ghost use Rattle.hdr_tool.specs.Faults.{merge_fault};
 ghost use Rattle.hdr_tool.specs.Options.{view_of_options};
@@ -25,11 +25,9 @@ pub(crate) fn report_log<W: Write>(
     input: &[u8],
     writer: &mut W,
 ) -> Result<(), Fault>
-    ensures words { result ≢ Err Fault.WrongWords }
-    ensures answers { Answers (TaskDone
-        (Some (Merge (view_of_options options.now) sigfig quantiles.now)) input.now)
-        (TaskStands (Some (Merge (view_of_options options.now) sigfig quantiles.now)) input.now)
-        (TaskWrites (Some (Merge (view_of_options options.now) sigfig quantiles.now)) input.now)
+    ensures { Answers (TaskDone (Merge (view_of_options options.now) sigfig quantiles.now) input.now)
+        (TaskStands (Merge (view_of_options options.now) sigfig quantiles.now) input.now)
+        (TaskWrites (Merge (view_of_options options.now) sigfig quantiles.now) input.now)
         (W.contents writer.old) (W.contents writer.new) result }
 {
     let filter = options.filter();
@@ -58,8 +56,7 @@ fn report_merged<T: Counter, W: Write>(
     input: &[u8],
     writer: &mut W,
 ) -> Result<(), Fault>
-    ensures words { result ≢ Err Fault.WrongWords }
-    ensures answers { Answers (MergeReported T.greatest
+    ensures { Answers (MergeReported T.greatest
         (view_of_filter filter.now) sigfig quantiles.now input.now) (λ text. text ≡ [])
         (λ text. MergeReported T.greatest
         (view_of_filter filter.now) sigfig quantiles.now input.now text None)

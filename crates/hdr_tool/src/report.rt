@@ -1,6 +1,6 @@
 //! The report.
 
-ghost use Rattle.std.specs.Prelude.{◌≡◌, ◌≢◌, ◌++◌, [], None, Ok, Err, OnOk, IfOk, string_bytes};
+ghost use Rattle.std.specs.Prelude.{◌≡◌, ◌++◌, [], None, Ok, Err, OnOk, IfOk, string_bytes};
 ghost use Rattle.std.specs.List.{flat_map};
 ghost use Rattle.hdr_tool.specs.Outcomes.{Answers};
 ghost use Rattle.hdr_tool.specs.Program.{Reported};
@@ -79,13 +79,10 @@ pub(crate) fn write_report<T: Counter, W: Write>(
     quantiles: &[Quantile],
     writer: &mut W,
 ) -> Result<(), Fault>
-    ensures words { result ≢ Err Fault.WrongWords }
-    ensures answers { Answers (Reported quantiles.now (Ok histogram.now)) (λ text. text ≡ [])
+    ensures { Answers (Reported quantiles.now (Ok histogram.now)) (λ text. text ≡ [])
         (λ text. Reported quantiles.now (Ok histogram.now) text None) (W.contents writer.old)
         (W.contents writer.new) result }
 {
-    let Ok(text) = report(alloc, histogram, quantiles) else {
-        return Err(Fault::NoMemory);
-    };
+    let text = report(alloc, histogram, quantiles)?;
     write_whole(writer, text.as_bytes())
 }

@@ -3,7 +3,7 @@
 ghost use Rattle.std.specs.Prelude.{◌≡◌, ◌<◌, ◌≤◌, length, take, OnOk, IfOk, IfErr, IfSome, MatchResult, ◌⊎◌};
 ghost use Rattle.std.specs.Io.KnownBytes.{Appends, Consumes, IsAtEnd};
 ghost use Rattle.hdrhistogram.specs.Streams.{AppendsFront};
-ghost use Rattle.hdr_tool.specs.Outcomes.{ReadsTo};
+ghost use Rattle.hdr_tool.specs.Outcomes.{Shortage, Input, cause_of, ReadsTo};
 
 use crate::fault::Fault;
 use std::alloc::Global;
@@ -14,7 +14,7 @@ pub(crate) fn read_whole<R: Read>(alloc: Global, reader: &mut R) -> Result<Vec<u
     ensures ok { IfOk result (λ input. IfSome (R.remaining reader.old)
         (λ bytes. input.items ≡ bytes)) }
     ensures end { OnOk result (IsAtEnd (R.remaining reader.new)) }
-    ensures err { IfErr result (λ f. (f ≡ Fault.NoMemory) ⊎ (f ≡ Fault.CannotRead)) }
+    ensures err { IfErr result (λ f. cause_of f ≡ Shortage) }
 {
     let mut input = Vec::new(alloc);
     match reader.read_to_end(&mut input) {
@@ -35,7 +35,7 @@ pub(crate) fn read_piece<R: Read>(reader: &mut R, piece: &mut [u8]) -> Result<us
         (take count piece.new)) }
     ensures end { IfOk result (λ count. count ≡ 0 → 0 < length piece.old → IsAtEnd
         (R.remaining reader.new)) }
-    ensures err { IfErr result (λ f. (f ≡ Fault.NoMemory) ⊎ (f ≡ Fault.CannotRead)) }
+    ensures err { IfErr result (λ f. cause_of f ≡ Shortage) }
 {
     for _ in 0..u64::MAX {
         match reader.read(piece) {
@@ -54,9 +54,8 @@ pub(crate) fn read_piece<R: Read>(reader: &mut R, piece: &mut [u8]) -> Result<us
 /// on the way is told instead. A fault of memory or of a stream is told at once.
 pub(crate) fn told_at_end<R: Read>(reader: &mut R, piece: &mut [u8], fault: Fault) -> Fault
     requires { 0 < length piece.old }
-    ensures told { (result ≡ fault) ⊎ ((result ≡ Fault.NoMemory) ⊎ (result ≡ Fault.CannotRead)) }
-    ensures write { fault ≡ Fault.CannotWrite → result ≡ Fault.CannotWrite }
-    ensures end { ReadsTo result (R.remaining reader.new) }
+    ensures told { (result ≡ fault) ⊎ ((cause_of fault ≡ Input) × (cause_of result ≡ Shortage)) }
+    ensures end { ReadsTo (λ _. Unit {0}) (R.remaining reader.new) (cause_of result) }
 {
     if matches!(
         fault,

@@ -94,10 +94,7 @@ fn figures(alloc: Global, words: &[String]) -> Result<(u8, Vec<Quantile>), Fault
     if words.is_empty() {
         return Err(Fault::WrongWords);
     }
-    match quantiles(alloc, words) {
-        Ok(quantiles) => Ok((sigfig, quantiles)),
-        Err(fault) => Err(fault),
-    }
+    Ok((sigfig, quantiles(alloc, words)?))
 }
 
 /// The log that the words after the word `log` ask for.
@@ -123,10 +120,8 @@ fn merge(alloc: Global, words: &[String]) -> Result<Task<'_>, Fault>
     let Some((options, words)) = take_options(words) else {
         return Err(Fault::WrongWords);
     };
-    match figures(alloc, words) {
-        Ok((sigfig, quantiles)) => Ok(Task::Merge(options, sigfig, quantiles)),
-        Err(fault) => Err(fault),
-    }
+    let (sigfig, quantiles) = figures(alloc, words)?;
+    Ok(Task::Merge(options, sigfig, quantiles))
 }
 
 /// The command that a word names.
@@ -159,10 +154,10 @@ pub(crate) fn judge(alloc: Global, words: &[String]) -> Result<Task<'_>, Fault>
         return Err(Fault::WrongWords);
     };
     match command {
-        Command::Report => match figures(alloc, words) {
-            Ok((sigfig, quantiles)) => Ok(Task::Report(sigfig, quantiles)),
-            Err(fault) => Err(fault),
-        },
+        Command::Report => {
+            let (sigfig, quantiles) = figures(alloc, words)?;
+            Ok(Task::Report(sigfig, quantiles))
+        }
         Command::Log => log(words).ok_or(Fault::WrongWords),
         Command::Merge => merge(alloc, words),
     }

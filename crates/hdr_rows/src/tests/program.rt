@@ -1,8 +1,7 @@
 //! The program over readers and writers that give or take little, and that fail.
 
 use crate::tests::failing::{KINDS, Sink, Source};
-use hdr_tool::run::run;
-use hdr_tool::{Fault, Patient};
+use hdr_tool::{Fault, Patient, run};
 use std::alloc::{AllocError, Global};
 use std::io::ErrorKind;
 use std::process::Abort;

@@ -1,0 +1,201 @@
+//! The lines of an input, one after another. A report is a log without `end`: the same driver does both.
+
+ghost use Rattle.std.specs.Prelude.{◌≡◌, ◌+◌, ◌<◌, ℕ, List, length, MatchResult, IfSome, Ok, Err, Some, true};
+ghost use Rattle.std.specs.Option.{option_map};
+ghost use Rattle.std.specs.Io.KnownBytes.{Appends, IsAtEnd};
+ghost use Rattle.hdr_model.specs.Plain.{empty_plain};
+ghost use Rattle.hdr_log.specs.Tags.{tag_text};
+ghost use Rattle.hdrhistogram.specs.LogWriters.{sink, divisor_of, IsSameLog};
+ghost use Rattle.hdr_tool.specs.Lines.{number_lines};
+ghost use Rattle.hdr_tool.specs.Outcomes.{Begins, Runs, Answers, StepAnswers, ReadsTo, cause_of};
+ghost use Rattle.hdr_tool.specs.Program.{EndDone, LineDone, LinesDone};
+
+use crate::command::{Command, parse, value_line};
+use crate::fault::Fault;
+use crate::lines::split_first;
+use crate::parts::{replace, take_lines};
+use crate::stream::{PIECE, read_piece, told_at_end};
+use hdrhistogram::Histogram;
+use hdrhistogram::serialization::interval_log::{IntervalLogWriter, IntervalLogWriterError, Tag};
+use hdrhistogram::serialization::{V2SerializeError, V2Serializer};
+use std::alloc::Global;
+use std::io::{Read, Write};
+use std::time::Duration;
+
+/// Writes the histogram's interval, and begins the next one.
+fn end<W: Write>(
+    histogram: &mut Histogram<u64>,
+    line: u64,
+    start: u64,
+    duration: u64,
+    tag: Option<Tag<'_>>,
+    log: &mut IntervalLogWriter<'_, '_, W, V2Serializer>,
+) -> Result<(), Fault>
+    requires { divisor_of log.old ≡ 1 }
+    ensures same { IsSameLog log.old log.new }
+    ensures answers { StepAnswers (EndDone line histogram.old start duration
+        (option_map tag_text tag.entry)) histogram.new
+        (W.contents (sink log.old).now) (W.contents (sink log.new).now) result }
+{
+    let start = Duration::from_millis(start);
+    let duration = Duration::from_millis(duration);
+    match log.write_histogram(histogram, start, duration, tag) {
+        Ok(()) => {
+            histogram.reset();
+            Ok(())
+        }
+        Err(IntervalLogWriterError::IoError(_)) => Err(Fault::CannotWrite),
+        Err(IntervalLogWriterError::SerializeError(V2SerializeError::CountNotSerializable)) => Err(
+            Fault::NotWritten(
+                line,
+                IntervalLogWriterError::SerializeError(V2SerializeError::CountNotSerializable),
+            ),
+        ),
+        Err(_) => Err(Fault::NoMemory),
+    }
+}
+
+/// Runs the command of a line. An empty line has none, and `end` is a command of a log alone.
+#[inline(always)]
+fn run_line<W: Write>(
+    is_log: bool,
+    histogram: &mut Histogram<u64>,
+    number: u64,
+    line: &[u8],
+    log: &mut IntervalLogWriter<'_, '_, W, V2Serializer>,
+) -> Result<(), Fault>
+    requires { divisor_of log.old ≡ 1 }
+    ensures same { IsSameLog log.old log.new }
+    ensures answers { StepAnswers (LineDone is_log histogram.old (number, line.now)) histogram.new
+        (W.contents (sink log.old).now) (W.contents (sink log.new).now) result }
+{
+    if line.is_empty() {
+        return Ok(());
+    }
+    match parse(line) {
+        Some(Command::Apply(call)) => match histogram.apply(&call) {
+            Ok(()) => Ok(()),
+            // A histogram that grows takes each value, so only memory can run out.
+            Err(_) => Err(Fault::NoMemory),
+        },
+        Some(Command::End(start, duration, tag)) if is_log => {
+            end(histogram, number, start, duration, tag, log)
+        }
+        _ => Err(Fault::NotACommand(number)),
+    }
+}
+
+/// Runs the lines of a text, the first of which has this number, and returns the number of the line after them.
+fn run_lines<W: Write>(
+    is_log: bool,
+    histogram: &mut Histogram<u64>,
+    number: u64,
+    text: &[u8],
+    log: &mut IntervalLogWriter<'_, '_, W, V2Serializer>,
+) -> Result<u64, Fault>
+    requires { divisor_of log.old ≡ 1 }
+    ensures same { IsSameLog log.old log.new }
+    ensures answers { let lines = number_lines number (Some text.now) in MatchResult result
+        (λ next. (next ≡ number + length lines) × ((done : List ℕ)
+        × Runs (LineDone is_log) histogram.old lines (record { written = done; ended = Ok histogram.new })
+        × Appends (W.contents (sink log.old).now) (W.contents (sink log.new).now) done))
+        (λ f. Answers (LinesDone is_log histogram.old lines) (Begins (LineDone is_log) histogram.old lines)
+        (Begins (LineDone is_log) histogram.old lines)
+        (W.contents (sink log.old).now) (W.contents (sink log.new).now) (Err f)) }
+{
+    let mut next = number;
+    let mut left = Some(text);
+    while let Some(text) = left {
+        let Some(number) = next.checked_add(1) else {
+            return Err(Fault::CannotRead);
+        };
+        if let Some((call, after)) = value_line(text) {
+            let Ok(()) = histogram.apply(&call) else {
+                return Err(Fault::NoMemory);
+            };
+            next = number;
+            left = Some(after);
+            continue;
+        }
+        let (line, after) = split_first(text, b'\n');
+        run_line(is_log, histogram, next, line, log)?;
+        next = number;
+        left = after;
+    }
+    Ok(next)
+}
+
+/// Runs the lines of the whole input as they are read, up to the first fault.
+fn run_input<R: Read, W: Write>(
+    alloc: Global,
+    is_log: bool,
+    histogram: &mut Histogram<u64>,
+    reader: &mut R,
+    piece: &mut [u8],
+    log: &mut IntervalLogWriter<'_, '_, W, V2Serializer>,
+) -> Result<(), Fault>
+    requires divisor { divisor_of log.old ≡ 1 }
+    requires room { 0 < length piece.old }
+    ensures same { IsSameLog log.old log.new }
+    ensures answers { (input : List ℕ) × IfSome (R.remaining reader.old) (λ bytes. input ≡ bytes)
+        × (let lines = number_lines 1 (Some input) in MatchResult result
+        (λ _. (done : List ℕ)
+        × Runs (LineDone is_log) histogram.old lines (record { written = done; ended = Ok histogram.new })
+        × Appends (W.contents (sink log.old).now) (W.contents (sink log.new).now) done)
+        (λ f. Answers (LinesDone is_log histogram.old lines) (Begins (LineDone is_log) histogram.old lines)
+        (Begins (LineDone is_log) histogram.old lines)
+        (W.contents (sink log.old).now) (W.contents (sink log.new).now) (Err f))) }
+    ensures read { MatchResult result (λ _. IsAtEnd (R.remaining reader.new))
+        (λ f. ReadsTo (λ _. Unit {0}) (R.remaining reader.new) (cause_of f)) }
+{
+    let mut carry = Vec::new(alloc);
+    let mut number = 1;
+    for _ in 0..u64::MAX {
+        let count = read_piece(reader, piece)?;
+        if count == 0 {
+            run_lines(is_log, histogram, number, &carry, log)?;
+            return Ok(());
+        }
+        let Some(tail) = take_lines(&mut carry, &piece[..count])? else {
+            continue;
+        };
+        number = match run_lines(is_log, histogram, number, &carry, log) {
+            Ok(next) => next,
+            Err(fault) => return Err(told_at_end(reader, piece, fault)),
+        };
+        replace(&mut carry, tail)?;
+    }
+    Err(Fault::CannotRead)
+}
+
+/// Runs the lines of the input on a new histogram, and returns it. The intervals of a log are written as their lines are
+/// reached.
+pub(crate) fn run_task<R: Read, W: Write>(
+    alloc: Global,
+    is_log: bool,
+    sigfig: u8,
+    reader: &mut R,
+    writer: &mut W,
+) -> Result<Histogram<u64>, Fault>
+    ensures answers { (input : List ℕ) × IfSome (R.remaining reader.old) (λ bytes. input ≡ bytes)
+        × (let lines = number_lines 1 (Some input) in MatchResult result
+        (λ h. (done : List ℕ)
+        × Runs (LineDone is_log) (empty_plain 1 2 sigfig true) lines (record { written = done; ended = Ok h })
+        × Appends (W.contents writer.old) (W.contents writer.new) done)
+        (λ f. Answers (LinesDone is_log (empty_plain 1 2 sigfig true) lines)
+        (Begins (LineDone is_log) (empty_plain 1 2 sigfig true) lines)
+        (Begins (LineDone is_log) (empty_plain 1 2 sigfig true) lines)
+        (W.contents writer.old) (W.contents writer.new) (Err f))) }
+    ensures read { MatchResult result (λ _. IsAtEnd (R.remaining reader.new))
+        (λ f. ReadsTo (λ _. Unit {0}) (R.remaining reader.new) (cause_of f)) }
+{
+    // Each digit from 0 to 5 has a histogram, so only memory can run out.
+    let Ok(mut histogram) = Histogram::new(alloc, sigfig) else {
+        return Err(Fault::NoMemory);
+    };
+    let mut piece = vec![in alloc; 0; PIECE]?;
+    let mut serializer = V2Serializer::new(alloc);
+    let mut log = IntervalLogWriter::new(alloc, writer, &mut serializer, 1);
+    run_input(alloc, is_log, &mut histogram, reader, &mut piece, &mut log)?;
+    Ok(histogram)
+}
