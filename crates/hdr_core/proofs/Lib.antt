@@ -1,2 +1,4 @@
 pub mod CallsFacts
 pub mod IteratingFacts
+pub mod UsedBins
+pub mod EqualityParts

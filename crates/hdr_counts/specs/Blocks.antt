@@ -1,6 +1,6 @@
 -- A list of numbers in blocks of one length: its sums, the first place where they reach a rank, and the capped sums of
 -- two lists. (No item of the Rust crate: it keeps its counters in one vector and adds them up wherever a sum is asked for.)
-use Rattle.std.specs.Prelude.{◌≡◌, ℕ, Bool, false, ◌+◌, ◌-◌, ◌*◌, ◌/◌, ◌%◌, ◌^◌, ◌<◌, ◌≤◌, min, List, ◌∷◌, ◌++◌, length, replicate, take, sum, slice_index, All, Option, Some, None, IfSome}
+use Rattle.std.specs.Prelude.{◌≡◌, ℕ, ◌+◌, ◌-◌, ◌*◌, ◌/◌, ◌%◌, ◌^◌, ◌<◌, ◌≤◌, min, List, ◌∷◌, ◌++◌, length, replicate, take, sum, slice_index, All, Option, Some, None, IfSome}
 use Rattle.hdr_base.specs.Classes.{most_bins}
 
 -- how many numbers a sum is of (a section of a block, in the words of `Scale`), and all numbers in order
@@ -68,14 +68,26 @@ pub record AreHeld (greatest block : ℕ) (numbers sums : List ℕ) (shift : Opt
 abbrev pub with_zeros : List ℕ → ℕ → List ℕ
 with_zeros numbers len = numbers ++ replicate (len - length numbers) 0
 
--- what is true of counters that are being set: the first stand in the list, and the others are 0. There is room for all, and a
--- sum for each block. Unless sums are made late, they are those of the blocks
-pub record AreOpen (greatest block len capacity : ℕ) (numbers sums : List ℕ) (shift : Option ℕ) (late : Bool) : Type 0 where
+-- what is true of counters that are being set: the first stand in the list, and the others are 0. There is room for all, and the
+-- sums are those of the blocks
+pub record AreOpen (greatest block len capacity : ℕ) (numbers sums : List ℕ) (shift : Option ℕ) : Type 0 where
   pub some : 1 ≤ block
   pub few : len ≤ most_bins
   pub whole : len ≡ length sums * block
   pub within : length numbers ≤ len
   pub room : len ≤ capacity
-  pub kept : late ≡ false → AreSums block (with_zeros numbers len) sums
+  pub kept : AreSums block (with_zeros numbers len) sums
   pub shift_is : IsShift block shift
   pub fit : All (λ n. n ≤ greatest) numbers
+
+-- from the place `next` on all numbers are 0, and those of them before `end` stand in block k. Before the place `first` none
+-- but place 0 holds a number above 0
+pub record IsAt (block k next end first : ℕ) (numbers : List ℕ) : Type 0 where
+  pub rest : (j : ℕ) → next ≤ j → slice_index numbers j ≡ 0
+  pub from : k * block ≤ next
+  pub to : end ≤ (k + 1) * block
+  pub at_hand : end ≤ length numbers
+  pub within : next ≤ length numbers
+  pub some : 0 < first
+  pub low : (j : ℕ) → 0 < j → j < first → slice_index numbers j ≡ 0
+  pub order : next < end → first ≤ next

@@ -66,7 +66,7 @@ fn next_place<T: Counter>(counters: &[T], sums: &[u128], block: usize) -> Option
 }
 
 /// The last place of a counter above 0; `most` is no less than their sum.
-fn last_of<T: Counter>(counters: &[T], most: u128) -> Option<usize>
+pub(crate) fn last_of<T: Counter>(counters: &[T], most: u128) -> Option<usize>
     requires { sum (map T.number counters.now) ≤ most }
     ensures within { IfSome result (λ m. m < length counters.now) }
     ensures place { MatchOption result (AreZeros (map T.number counters.now))
@@ -85,7 +85,7 @@ fn last_of<T: Counter>(counters: &[T], most: u128) -> Option<usize>
 }
 
 /// The first place of a counter above 0; `most` is no less than their sum.
-fn first_of<T: Counter>(counters: &[T], most: u128) -> Option<usize>
+pub(crate) fn first_of<T: Counter>(counters: &[T], most: u128) -> Option<usize>
     requires { sum (map T.number counters.now) ≤ most }
     ensures within { IfSome result (λ m. m < length counters.now) }
     ensures place { MatchOption result (AreZeros (map T.number counters.now))

@@ -52,14 +52,17 @@ impl<T: Counter> Counts<T> {
         ensures { IfOk result (λ c. c
             ≡ record { block = block; numbers = replicate (blocks * block) 0 }) }
     {
-        let mut counts = Counts {
-            counters: Vec::new(alloc),
-            sums: Vec::new(alloc),
+        let len = blocks * block;
+        let mut counters = Vec::with_capacity(alloc, len)?;
+        counters.resize(len, T::zero())?;
+        let mut sums = Vec::with_capacity(alloc, blocks)?;
+        sums.resize(blocks, 0)?;
+        Ok(Counts {
+            counters,
+            sums,
             block,
             shift: exponent(block),
-        };
-        counts.grow(blocks)?;
-        Ok(counts)
+        })
     }
 
     /// As many blocks as `blocks`, the new ones all zero. Refused only when memory runs out, and then unchanged.
@@ -77,6 +80,27 @@ impl<T: Counter> Counts<T> {
         self.counters.reserve(len - self.counters.len())?;
         self.sums.resize(blocks, 0)?;
         self.counters.resize(len, T::zero())
+    }
+
+    /// The same counters in memory of their own. Those from place `used` on are 0, and are not read. Refused only when
+    /// memory runs out.
+    pub fn copied(&self, used: usize) -> Result<Counts<T>, AllocError>
+        requires within { used ≤ length self.now.numbers }
+        requires rest { (i : ℕ) → used ≤ i → slice_index self.now.numbers i ≡ 0 }
+        ensures { IfOk result (λ c. c ≡ self.now) }
+    {
+        let len = self.counters.len();
+        let mut counters = Vec::with_capacity(self.allocator(), len)?;
+        counters.extend_from_slice(&self.counters[..used])?;
+        counters.resize(len, T::zero())?;
+        let mut sums = Vec::with_capacity(self.allocator(), self.sums.len())?;
+        sums.extend_from_slice(&self.sums)?;
+        Ok(Counts {
+            counters,
+            sums,
+            block: self.block,
+            shift: self.shift,
+        })
     }
 
     /// The allocator of the counters.

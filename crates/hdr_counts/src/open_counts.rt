@@ -1,71 +1,77 @@
 //! Counters that are being set.
 
-ghost use Rattle.std.specs.Prelude.{◌≡◌, ℕ, ◌+◌, ◌*◌, ◌<◌, ◌≤◌, ◌++◌, false, length, map, replicate, slice_set, vec_capacity, All, IfOk};
+ghost use Rattle.std.specs.Prelude.{◌≡◌, ℕ, ◌+◌, ◌*◌, ◌<◌, ◌≤◌, ◌++◌, length, map, replicate, slice_index, slice_set, vec_capacity, All, IfOk, IfSome, MatchOption};
 ghost use Rattle.hdr_base.specs.Classes.{most_bins};
-ghost use Rattle.hdr_counts.specs.Blocks.{AreSums, with_zeros};
+ghost use Rattle.hdr_counts.specs.Blocks.{with_zeros};
 
-use crate::adding::sum_of;
+use crate::ends::{first_of, last_of};
 use crate::{Counts, exchanged, exponent, quotient};
 use hdr_base::Counter;
 use std::alloc::{AllocError, Global};
 use std::marker::Model;
 
-/// How many counters are made 0 at once.
+/// How many counters are made 0 at once, beyond the block that comes to hand.
 const PIECE: usize = 128;
 
 /// Counters that are being set, seen as `Counts` are.
 ///
-/// They have their room from the start, and are made 0 piece by piece as the places that are set come to them. Where many
-/// places are to be set, one costs one store, and the sums of the blocks are made at the end. Else each place that is set
-/// changes the sum of its block.
+/// They have their room from the start, and are made 0 piece by piece as the places that are set come to them. Places
+/// that are set in order cost a store and an addition each: the block is found once.
 #[derive(Debug, Drop)]
 pub struct OpenCounts<T: Counter> {
     /// The first counters; those after them are 0.
     counters: Vec<T>,
     sums: Vec<u128>,
+    /// The sum of the current block. The one in `sums` is from when it became current.
+    sum: u128,
     block: usize,
     shift: Option<u32>,
     /// How many counters there are.
     len: usize,
-    /// Whether the sums are made at the end.
-    late: bool,
+    /// The block of the last of the places that were set.
+    current: usize,
+    /// From here on all counters are 0.
+    next: usize,
+    /// The end of the counters at hand that lie in the current block from `next` on, or no such place.
+    end: usize,
+    /// Before here no counter but the first is above 0. It lies before the places from `next` to `end`.
+    first: usize,
 }
 
 impl<T: Counter> Model for OpenCounts<T> {
-    ghost use Rattle.std.specs.Prelude.{map, vec_capacity};
-    ghost use Rattle.hdr_counts.specs.Blocks.{Blocks, AreOpen, with_zeros};
+    ghost use Rattle.std.specs.Prelude.{map, vec_capacity, slice_set};
+    ghost use Rattle.hdr_counts.specs.Blocks.{Blocks, AreOpen, IsAt, with_zeros};
 
     ghost Value = { Blocks };
 
     ghost view = { λ c. record { block = c.block; numbers = with_zeros (map T.number c.counters.items) c.len } };
 
-    ghost invariant = { λ c. AreOpen T.greatest c.block c.len (vec_capacity c.counters) (map T.number c.counters.items) c.sums.items c.shift c.late };
+    ghost invariant = { λ c. AreOpen T.greatest c.block c.len (vec_capacity c.counters) (map T.number c.counters.items) (slice_set c.sums.items c.current c.sum) c.shift
+        × IsAt c.block c.current c.next c.end c.first (map T.number c.counters.items) };
 }
 
 impl<T: Counter> OpenCounts<T> {
-    /// Counters of 0, `blocks` times `block` of them. `sets` is a guess at how many will be set: only the time depends on
-    /// it. Refused only when memory runs out.
-    pub fn new(
-        alloc: Global,
-        blocks: usize,
-        block: usize,
-        sets: usize,
-    ) -> Result<OpenCounts<T>, AllocError>
+    /// Counters of 0, `blocks` times `block` of them. Refused only when memory runs out.
+    pub fn new(alloc: Global, blocks: usize, block: usize) -> Result<OpenCounts<T>, AllocError>
         requires some { 1 ≤ block }
         requires few { blocks * block ≤ most_bins }
         ensures { IfOk result (λ c. c
             ≡ record { block = block; numbers = replicate (blocks * block) 0 }) }
     {
         let len = blocks * block;
-        let mut sums = Vec::new(alloc);
+        let mut sums = Vec::with_capacity(alloc, blocks)?;
         sums.resize(blocks, 0)?;
         Ok(OpenCounts {
             counters: Vec::with_capacity(alloc, len)?,
             sums,
+            sum: 0,
             block,
             shift: exponent(block),
             len,
-            late: sets >= len / 2,
+            current: 0,
+            next: 0,
+            end: 0,
+            first: usize::MAX,
         })
     }
 
@@ -88,10 +94,10 @@ impl<T: Counter> OpenCounts<T> {
               (T.number value);
         } }
     {
-        // Shows that the number is at most the greatest.
-        let _ = value.as_u64();
-        if self.late && i < self.counters.len() {
+        if i >= self.next && i < self.end {
+            self.sum += u128::from(value.as_u64());
             self.counters[i] = value;
+            self.next = i + 1;
             return;
         }
         self.set_further(i, value);
@@ -107,19 +113,13 @@ impl<T: Counter> OpenCounts<T> {
               (slice_set self.old.numbers i (T.number first)) (i + 1) (T.number second);
         } }
     {
-        // Show that the numbers are at most the greatest.
-        let _ = first.as_u64();
-        let _ = second.as_u64();
-        if self.late && i + 1 < self.counters.len() {
-            self.counters[i] = first;
-            self.counters[i + 1] = second;
-            return;
-        }
-        self.set_further(i, first);
-        self.set_further(i + 1, second);
+        // Shows that the place after it fits a `usize`.
+        let _ = self.len();
+        self.set(i, first);
+        self.set(i + 1, second);
     }
 
-    /// Puts a value at a place that may not be at hand, or where the sum of the block is kept.
+    /// Puts a value at a place of another block, or before one that was set.
     #[inline(never)]
     fn set_further(&mut self, i: usize, value: T)
         requires { i < length self.old.numbers }
@@ -129,16 +129,51 @@ impl<T: Counter> OpenCounts<T> {
               (T.number value);
         } }
     {
-        cover(&mut self.counters, i, self.len);
+        let k = quotient(i, self.block, self.shift);
+        let end = (k + 1) * self.block;
+        cover(&mut self.counters, end, self.len);
+        keep_sum(&mut self.sums, self.current, self.sum);
         let new = value.as_u64();
-        if self.late {
-            self.counters[i] = value;
+        let old = self.counters[i].as_u64();
+        let sum = exchanged(self.sums[k], old, new);
+        self.sums[k] = sum;
+        self.counters[i] = value;
+        self.first = lower(self.first, i);
+        if i < self.next {
+            self.sum = sum_at(&self.sums, self.current);
             return;
         }
-        let k = quotient(i, self.block, self.shift);
-        let old = self.counters[i].as_u64();
-        self.sums[k] = exchanged(self.sums[k], old, new);
-        self.counters[i] = value;
+        self.current = k;
+        self.sum = sum;
+        self.next = i + 1;
+        self.end = end_after(i, end);
+    }
+
+    /// The last place of a counter above 0.
+    pub fn last_nonzero(&self) -> Option<usize>
+        ensures within { IfSome result (λ m. m < most_bins) }
+        ensures place { MatchOption result ((i : ℕ) → slice_index self.now.numbers i ≡ 0)
+            (λ m. (0 < slice_index self.now.numbers m)
+            × ((i : ℕ) → m < i → slice_index self.now.numbers i ≡ 0)) }
+    {
+        match last_of(&self.counters[..self.next], u128::MAX) {
+            Some(place) => Some(place),
+            None => None,
+        }
+    }
+
+    /// The first place after place 0 of a counter above 0.
+    pub fn next_nonzero(&self) -> Option<usize>
+        ensures within { IfSome result (λ m. (0 < m) × (m < most_bins)) }
+        ensures place { MatchOption result ((i : ℕ) → 0 < i → slice_index self.now.numbers i ≡ 0)
+            (λ m. (0 < slice_index self.now.numbers m)
+            × ((i : ℕ) → 0 < i → i < m → slice_index self.now.numbers i ≡ 0)) }
+    {
+        let from = self.first.min(self.next);
+        match first_of(&self.counters[from..self.next], u128::MAX) {
+            Some(place) => Some(from + place),
+            None => None,
+        }
     }
 
     /// The counters with the sums of their blocks.
@@ -149,13 +184,17 @@ impl<T: Counter> OpenCounts<T> {
         let OpenCounts {
             mut counters,
             mut sums,
+            sum,
             block,
             shift,
             len,
-            late,
+            current,
+            next: _,
+            end: _,
+            first: _,
         } = self;
         fill_up(&mut counters, len);
-        restate(&counters, &mut sums, block, late);
+        keep_sum(&mut sums, current, sum);
         Counts {
             counters,
             sums,
@@ -165,20 +204,63 @@ impl<T: Counter> OpenCounts<T> {
     }
 }
 
-/// Has the counter at a place at hand, with zeros before it and after it where it was not.
-fn cover<T: Counter>(counters: &mut Vec<T>, i: usize, len: usize)
-    requires inside { i < len }
+/// Puts the sum of a block in its place, where there is such a block.
+fn keep_sum(sums: &mut Vec<u128>, k: usize, sum: u128)
+    ensures { sums.new.items ≡ slice_set sums.old.items k sum }
+{
+    if k < sums.len() {
+        sums[k] = sum;
+    }
+}
+
+/// The sum of a block, 0 where there is no such block.
+fn sum_at(sums: &[u128], k: usize) -> u128
+    ensures { result ≡ slice_index sums.now k }
+{
+    if k < sums.len() {
+        return sums[k];
+    }
+    0
+}
+
+/// The lower of two places, but never the first of all.
+fn lower(first: usize, i: usize) -> usize
+    requires { 0 < first }
+    ensures some { 0 < result }
+    ensures within { result ≤ first }
+    ensures own { 0 < i → result ≤ i }
+{
+    if i == 0 {
+        return first;
+    }
+    first.min(i)
+}
+
+/// The end of a block in which places follow place `i`; no such end where that is the first of all.
+fn end_after(i: usize, end: usize) -> usize
+    ensures within { result ≤ end }
+    ensures some { 0 < result → 0 < i }
+{
+    if i == 0 {
+        return 0;
+    }
+    end
+}
+
+/// Has the counters before a place at hand, with zeros after those that were, and some more.
+fn cover<T: Counter>(counters: &mut Vec<T>, end: usize, len: usize)
+    requires inside { end ≤ len }
     requires few { len ≤ most_bins }
     requires within { length counters.old.items ≤ len }
     requires room { len ≤ vec_capacity counters.old }
     ensures numbers { (more : ℕ) × (map T.number counters.new.items
         ≡ map T.number counters.old.items ++ replicate more 0) }
-    ensures covered { i < length counters.new.items }
+    ensures covered { end ≤ length counters.new.items }
     ensures within { length counters.new.items ≤ len }
     ensures room { len ≤ vec_capacity counters.new }
 {
-    if i >= counters.len() {
-        fill_up(counters, len.min(i + PIECE));
+    if end > counters.len() {
+        fill_up(counters, len.min(end + PIECE));
     }
 }
 
@@ -192,22 +274,4 @@ fn fill_up<T: Counter>(counters: &mut Vec<T>, len: usize)
     ensures room { vec_capacity counters.old ≤ vec_capacity counters.new }
 {
     let _ = counters.resize(len, T::zero());
-}
-
-/// Makes the sums of the blocks, where that was left to the end.
-fn restate<T: Counter>(counters: &[T], sums: &mut [u128], block: usize, late: bool)
-    requires some { 1 ≤ block }
-    requires few { length counters.now ≤ most_bins }
-    requires whole { length counters.now ≡ length sums.old * block }
-    requires fit { All (λ n. n ≤ T.greatest) (map T.number counters.now) }
-    requires kept { late ≡ false → AreSums block (map T.number counters.now) sums.old }
-    ensures { AreSums block (map T.number counters.now) sums.new }
-{
-    if !late {
-        return;
-    }
-    for k in 0..sums.len() {
-        let from = k * block;
-        sums[k] = sum_of(&counters[from..from + block]);
-    }
 }

@@ -64,7 +64,7 @@ impl<'a, T: Counter> Search<'a, T> {
 }
 
 /// How many counters are added up at once.
-const FEW: usize = 16;
+const FEW: usize = 64;
 
 /// Looks at a sum or at a counter's number: the one step that is counted.
 pub(crate) fn look(number: u128, work: &mut Work) -> u128

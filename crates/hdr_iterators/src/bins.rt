@@ -128,9 +128,27 @@ impl<'a, T: Counter> Bins<'a, T> {
         counters[bin]
     }
 
-    /// The first bin from one on that holds samples, or how many bins there are. A section whose sum is 0 is passed over.
+    /// The first bin from one on that holds samples, or how many bins there are.
+    #[inline(always)]
+    pub fn next_filled(&self, from: usize) -> usize
+        requires { from ≤ bins_in self.now }
+        ensures onward { from ≤ result }
+        ensures within { result ≤ bins_in self.now }
+        ensures empty { AreEmpty self.now.numbers from result }
+        ensures filled { result < bins_in self.now → 0 < slice_index self.now.numbers result }
+    {
+        let counters = self.counters;
+        if from < counters.len() {
+            if counters[from].as_u64() > 0 {
+                return from;
+            }
+        }
+        self.filled_by_section(from)
+    }
+
+    /// The same. A section whose sum is 0 is passed over.
     #[inline(never)]
-    pub(crate) fn next_filled(&self, from: usize) -> usize
+    fn filled_by_section(&self, from: usize) -> usize
         requires { from ≤ bins_in self.now }
         ensures onward { from ≤ result }
         ensures within { result ≤ bins_in self.now }

@@ -149,7 +149,7 @@ impl<'a, T: Counter, P: PickyIterator<T>> Iterator for HistogramIterator<'a, T, 
                 self.last_picked_index = Some(index);
                 return Some(value);
             }
-            let next = next_asked(&self.bins, &self.picker, index, counter);
+            let next = next_asked(&self.bins, &self.picker, index);
             if next == len {
                 self.ended = true;
                 return None;
@@ -182,13 +182,12 @@ fn has_ended<T: Counter, P: PickyIterator<T>>(
     picked >= last && !picker.more(index)
 }
 
-/// The bin to ask a picker at once it has declined one: the next that holds samples, where it picks no other and this one
-/// holds none. How many bins there are, where none is left.
+/// The bin to ask a picker at once it has declined one: the next that holds samples, where it picks no other. How many
+/// bins there are, where none is left.
 fn next_asked<T: Counter, P: PickyIterator<T>>(
     bins: &Bins<'_, T>,
     picker: &P,
     index: usize,
-    count_at_index: T,
 ) -> usize
     requires inside { index < bins_in bins.now }
     requires room { index + 1 < 2 ^ 64 }
@@ -199,7 +198,7 @@ fn next_asked<T: Counter, P: PickyIterator<T>>(
         → NoneBefore (index + 1) (P.picks picker.now bins.now)
         → NoneBefore result (P.picks picker.now bins.now) }
 {
-    if count_at_index.as_u64() == 0 && picker.skips_empty() {
+    if picker.skips_empty() {
         bins.next_filled(index + 1)
     } else {
         index + 1

@@ -1,5 +1,5 @@
 -- The payload: counts in parts, and the loop that writes them.
-use Rattle.std.proofs.Common.{◌≡◌, ◌≢◌, ℕ, zero, suc, ◌+◌, ◌*◌, ◌^◌, ◌<◌, ◌≤◌, Bool, true, false, cond, List, [], ◌∷◌, ◌++◌, length, take, drop, get_or, replicate, refl, sym, ap, ◌∙◌, subst, arith, append_assoc, append-nil, length-take-le, length-append, drop_of_length-le, take-append-drop, eqb, flat_map, ℤ, pos, add-one, below_more, drop-cons, min, nat_lt, map}
+use Rattle.std.proofs.Common.{◌≡◌, ◌≢◌, ℕ, zero, suc, ◌+◌, ◌-◌, ◌*◌, ◌^◌, ◌<◌, ◌≤◌, Bool, true, false, cond, List, [], ◌∷◌, ◌++◌, length, take, drop, get_or, replicate, refl, sym, ap, ◌∙◌, subst, arith, append_assoc, append-nil, length-take-le, length-append, drop_of_length-le, take-append-drop, eqb, flat_map, pos, add-one, below_more, drop-cons, min, nat_lt, map}
 use Rattle.std.proofs.lemmas.Bool.{eqb-true, eqb-false, eq-eqb, ne_eqb, lt-ltb, le-ltb}
 use Rattle.std.proofs.lemmas.Grind.{get_or_default_zero}
 use Rattle.std.proofs.lemmas.List.{length-replicate, length-map, get_or-take, get_or-map, take-take}
@@ -177,6 +177,23 @@ encode_empty counts out old index written empty e h zero_here =
       small = below_more _ index e.small (omega (arith, zero_here));
     }
 
+-- several empty bins wait
+pub encode_skip : (counts out old : List ℕ) (index written empty k : ℕ) → IsEncodedTo counts out old index written empty → index + k ≤ length counts → ((i : ℕ) → index ≤ i → i < index + k → get_or counts i 0 ≡ 0)
+    → IsEncodedTo counts out old (index + k) written (empty + k)
+encode_skip counts out old index written empty zero e h zeros =
+    subst (λ i. IsEncodedTo counts out old i written (empty + 0)) (let a : index ≡ index + 0 = omega arith in a) (subst (λ z. IsEncodedTo counts out old index written z) (let a : empty ≡ empty + 0 = omega arith in a) e)
+encode_skip counts out old index written empty (suc k) e h zeros =
+    let next = encode_empty counts out old (index + k) written (empty + k) (encode_skip counts out old index written empty k e (omega arith) (λ i a b. zeros i a (omega (arith, b)))) (omega arith) (zeros (index + k) (omega arith) (omega arith)) in
+    subst (λ i. IsEncodedTo counts out old i written (empty + suc k)) (let a : index + k + 1 ≡ index + suc k = omega arith in a) (subst (λ z. IsEncodedTo counts out old (index + k + 1) written z) (let a : empty + k + 1 ≡ empty + suc k = omega arith in a) next)
+
+-- up to a bin before which all are empty
+pub encode_past : (counts out old : List ℕ) (index next written empty : ℕ) → IsEncodedTo counts out old index written empty → index ≤ next → next ≤ length counts → ((i : ℕ) → index ≤ i → i < next → get_or counts i 0 ≡ 0)
+    → IsEncodedTo counts out old next written (empty + (next - index))
+encode_past counts out old index next written empty e on h zeros =
+    let is : index + (next - index) ≡ next = omega arith in
+    subst (λ i. IsEncodedTo counts out old i written (empty + (next - index))) is
+    (encode_skip counts out old index written empty (next - index) e (omega arith) (λ i a b. zeros i a (omega (arith, b))))
+
 -- the run that waits is written, and a nonempty bin
 pub encode_full : (counts out mid next old : List ℕ) (index written between further empty : ℕ) → IsEncodedTo counts out old index written empty → index < length counts
     → get_or counts index 0 ≢ 0 → get_or counts index 0 < 2 ^ 63
@@ -287,9 +304,15 @@ run_is zero whole front h w = let (text, p, e) = w in e ∙ ap (λ l. front ++ l
 run_is (suc z) whole front h w = number_is (zig_zag (number_of (run (suc z)))) whole front (number_fits (suc z) h) w
 
 -- what is written of a count
-pub count_is : (z : ℤ) (count c : ℕ) (whole front : List ℕ) → z ≡ pos count → count ≡ c → c < 2 ^ 63 → (text : List ℕ) × IsShortest text (zig_zag z) × (whole ≡ front ++ text)
+pub count_is : (count c : ℕ) (whole front : List ℕ) → count ≡ c → c < 2 ^ 63 → (text : List ℕ) × IsShortest text (2 * count) × (whole ≡ front ++ text)
     → whole ≡ front ++ spelling (zig_zag (pos c))
-count_is z count c whole front e same h w = number_is (2 * c) whole front (omega arith) (subst (λ n. (text : List ℕ) × IsShortest text (zig_zag n) × (whole ≡ front ++ text)) (e ∙ ap pos same) w)
+count_is count c whole front same h w = number_is (2 * c) whole front (omega arith) (subst (λ n. (text : List ℕ) × IsShortest text (2 * n) × (whole ≡ front ++ text)) same w)
+
+-- a run of several bins
+pub run_spelt : (z : ℕ) (text : List ℕ) → 2 ≤ z → IsShortest text (2 * z - 1) → IsRunText z text
+run_spelt zero text h s = absurd (omega arith)
+run_spelt (suc zero) text h s = absurd (omega arith)
+run_spelt (suc (suc z)) text h s = let e : 2 * (suc (suc z)) - 1 ≡ 2 * (suc z) + 1 = omega arith in subst (IsShortest text) e s
 
 -- the count of a bin that is written
 pub count_here : (counts : List ℕ) (bins at count : ℕ) → at < bins → count ≡ get_or counts at 0 → count ≡ get_or (take bins counts) at 0

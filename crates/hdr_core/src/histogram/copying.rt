@@ -43,9 +43,19 @@ impl<T: Counter> Histogram<T> {
     pub fn clone(&self) -> Result<Histogram<T>, CreationError>
         ensures { MatchResult result (λ h. h ≡ self.now) (λ e. e ≡ OutOfMemory) }
     {
-        let mut copy = Histogram::new_from(self.counts.allocator(), self)?;
-        copy.join(self);
-        Ok(copy)
+        let Ok(counts) = self.counts.copied(self.used_bins()) else {
+            return Err(CreationError::OutOfMemory);
+        };
+        Ok(Histogram {
+            scale: self.scale,
+            low: self.low,
+            high: self.high,
+            sigfig: self.sigfig,
+            auto_resize: self.auto_resize,
+            counts,
+            total: self.total,
+            marks: self.marks.same(),
+        })
     }
 
     /// An empty histogram of the same bounds, to which this one is added with correction. Refused for memory alone.

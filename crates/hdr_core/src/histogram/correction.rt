@@ -1,6 +1,6 @@
 //! Recording with correction for coordinated omission, class by class.
 
-ghost use Rattle.std.specs.Prelude.{◌≡◌, ℕ, List, ◌∷◌, ◌++◌, ◌+◌, ◌-◌, ◌*◌, ◌/◌, ◌^◌, ◌<◌, ◌≤◌, OnOk, IfErr, length};
+ghost use Rattle.std.specs.Prelude.{◌≡◌, ℕ, List, ◌∷◌, ◌++◌, ◌+◌, ◌-◌, ◌*◌, ◌/◌, ◌^◌, ◌<◌, ◌≤◌, OnOk, IfErr, true, false, [], length};
 ghost use Rattle.hdr_base.specs.Classes.{bucket, reach_of};
 ghost use Rattle.hdr_model.specs.Plain.{grain, reach};
 ghost use Rattle.hdr_model.specs.Recording.{after_add_to_bin, after_records, samples_of, high_with};
@@ -75,7 +75,7 @@ impl<T: Counter> Histogram<T> {
             × (work.new ≡ work.old)) }
     {
         self.record_n(value, count)?;
-        if interval > 0 {
+        if hides(value, interval) {
             self.add_missing(
                 value.saturating_sub(interval),
                 count.as_u64(),
@@ -164,6 +164,22 @@ impl<T: Counter> Histogram<T> {
         }
         work.add_one();
     }
+}
+
+/// Whether a value stands for missed samples, an interval apart.
+#[inline(always)]
+pub(super) fn hides(value: u64, interval: u64) -> bool
+    ensures step { result ≡ true → 0 < interval }
+    ensures none { result ≡ false → missing value interval ≡ [] }
+{
+    if interval == 0 {
+        return false;
+    }
+    let half = value / 2;
+    if half < interval {
+        return false;
+    }
+    true
 }
 
 /// How many intervals a span holds. `few`, and one more, are tried before a division is done.

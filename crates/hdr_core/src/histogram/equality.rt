@@ -1,6 +1,6 @@
 //! Equality of histograms.
 
-ghost use Rattle.std.specs.Prelude.{◌≡◌, ℕ, slice_index};
+ghost use Rattle.std.specs.Prelude.{◌≡◌, ◌≢◌, ℕ, ◌<◌, ◌≤◌, true, false, length, map, slice_index};
 ghost use Rattle.std.proofs.Common.{rules};
 ghost use Rattle.std.specs.Cmp.Rules.{comparing};
 ghost use Rattle.hdr_model.specs.Equality.{same_numbers, same_plain};
@@ -8,6 +8,9 @@ ghost use Rattle.hdr_model.specs.Equality.{same_numbers, same_plain};
 use super::Histogram;
 use hdr_base::Counter;
 use hdr_counts::Counts;
+
+/// How many counters are compared at once.
+const FEW: usize = 16;
 
 impl<T: Counter> PartialEq for Histogram<T> {
     ghost eq = { same_plain };
@@ -30,14 +33,32 @@ impl<T: Counter> Histogram<T> {
             && self.total == other.total
             && self.max() == other.max()
             && self.min_nz() == other.min_nz()
-            && same_numbers(&self.counts, &other.counts)
+            && same_numbers(
+                &self.counts,
+                self.used_bins(),
+                &other.counts,
+                other.used_bins(),
+            )
     }
 }
 
-fn same_numbers<T: Counter, F: Counter>(left: &Counts<T>, right: &Counts<F>) -> bool
+/// Whether two lists of counters hold the same numbers; each holds only zeros from the given place on.
+fn same_numbers<T: Counter, F: Counter>(
+    left: &Counts<T>,
+    left_used: usize,
+    right: &Counts<F>,
+    right_used: usize,
+) -> bool
+    requires left { (i : ℕ) → left_used ≤ i → slice_index left.now.numbers i ≡ 0 }
+    requires right { (i : ℕ) → right_used ≤ i → slice_index right.now.numbers i ≡ 0 }
     ensures { result ≡ same_numbers left.now.numbers right.now.numbers }
 {
-    for i in 0..left.len().max(right.len()) {
+    let used = left_used.max(right_used);
+    let both = used.min(left.len()).min(right.len());
+    if !same_front(&left.as_slice()[..both], &right.as_slice()[..both]) {
+        return false;
+    }
+    for i in both..used {
         if number_at(left, i) != number_at(right, i) {
             return false;
         }
@@ -54,4 +75,41 @@ fn number_at<T: Counter>(counts: &Counts<T>, index: usize) -> u64
     } else {
         0
     }
+}
+
+/// Whether as many counters hold the same numbers, a few compared at once.
+fn same_front<T: Counter, F: Counter>(left: &[T], right: &[F]) -> bool
+    requires { length left.now ≡ length right.now }
+    ensures same { result ≡ true → (i : ℕ) → i < length left.now
+        → slice_index (map T.number left.now) i ≡ slice_index (map F.number right.now) i }
+    ensures other { result ≡ false → (i : ℕ) × (i < length left.now)
+        × (slice_index (map T.number left.now) i ≢ slice_index (map F.number right.now) i) }
+{
+    let mut from = 0usize;
+    while left.len() - from >= FEW {
+        let to = from + FEW;
+        if !same_few(&left[from..to], &right[from..to]) {
+            return false;
+        }
+        from = to;
+    }
+    let end = left.len();
+    same_few(&left[from..end], &right[from..end])
+}
+
+/// The same; each place is looked at, so that several can be at once.
+fn same_few<T: Counter, F: Counter>(left: &[T], right: &[F]) -> bool
+    requires { length left.now ≡ length right.now }
+    ensures same { result ≡ true → (i : ℕ) → i < length left.now
+        → slice_index (map T.number left.now) i ≡ slice_index (map F.number right.now) i }
+    ensures other { result ≡ false → (i : ℕ) × (i < length left.now)
+        × (slice_index (map T.number left.now) i ≢ slice_index (map F.number right.now) i) }
+{
+    let mut same = true;
+    for i in 0..left.len() {
+        if left[i].as_u64() != right[i].as_u64() {
+            same = false;
+        }
+    }
+    same
 }

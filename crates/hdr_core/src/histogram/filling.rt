@@ -3,12 +3,13 @@
 ghost use Rattle.std.specs.Prelude.{◌≡◌, ◌+◌, ◌<◌, ◌≤◌, MatchResult, false, length, slice_set};
 ghost use Rattle.hdr_base.specs.Classes.{most_bins};
 ghost use Rattle.hdr_model.specs.Filling.{open_of, IsClosed};
+ghost use Rattle.hdr_model.specs.Marks.{IsTopMark, IsLowerMark};
 ghost use Rattle.hdr_model.specs.Plain.{empty_plain};
 ghost use Rattle.hdr_model.specs.Refusals.{RefusesBounds, IsBounds};
 
 use super::merging::capped_sum;
-use super::subtracting::marks_of;
 use super::{Histogram, scale_for};
+use crate::marks::Marks;
 use hdr_base::{Counter, Scale};
 use hdr_counts::OpenCounts;
 use hdr_model::CreationError;
@@ -17,7 +18,7 @@ use std::marker::Model;
 
 /// A histogram whose bins are being set, seen as its bounds and the number of each bin.
 ///
-/// A bin that is set costs about one store. Total and marks are made when the histogram is taken out of it.
+/// A bin that is set costs about two stores, in order. Total and marks are made when the histogram is taken out of it.
 #[derive(Debug, Drop)]
 pub struct Filling<T: Counter> {
     scale: Scale,
@@ -39,20 +40,18 @@ impl<T: Counter> Model for Filling<T> {
 }
 
 impl<T: Counter> Filling<T> {
-    /// Empty bins, as those of `Histogram::new_with_bounds`, which refuses the same bounds. `sets` is a guess at how many
-    /// bins will be set: only the time depends on it.
+    /// Empty bins, as those of `Histogram::new_with_bounds`, which refuses the same bounds.
     pub fn new_with_bounds(
         alloc: Global,
         low: u64,
         high: u64,
         sigfig: u8,
-        sets: usize,
     ) -> Result<Filling<T>, CreationError>
         ensures { MatchResult result (λ f. (f ≡ open_of (empty_plain low high sigfig false))
             × IsBounds low high sigfig) (RefusesBounds low high sigfig) }
     {
         let scale = scale_for(low, high, sigfig)?;
-        let Ok(counts) = OpenCounts::new(alloc, scale.sections(high), scale.section(), sets) else {
+        let Ok(counts) = OpenCounts::new(alloc, scale.sections(high), scale.section()) else {
             return Err(CreationError::OutOfMemory);
         };
         Ok(Filling {
@@ -110,9 +109,9 @@ impl<T: Counter> Filling<T> {
             auto_resize,
             counts,
         } = self;
+        let marks = open_marks(&counts);
         let counts = counts.into_counts();
         let total = capped_sum(&counts);
-        let marks = marks_of(&counts);
         Histogram {
             scale,
             low,
@@ -124,4 +123,12 @@ impl<T: Counter> Filling<T> {
             marks,
         }
     }
+}
+
+/// The marks of counters that are being set.
+fn open_marks<T: Counter>(counts: &OpenCounts<T>) -> Marks
+    ensures top { IsTopMark counts.now.numbers result.top }
+    ensures lower { IsLowerMark counts.now.numbers result.lower }
+{
+    Marks::new(counts.last_nonzero(), counts.next_nonzero())
 }

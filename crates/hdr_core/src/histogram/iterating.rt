@@ -1,6 +1,6 @@
 //! Iterators over a histogram.
 
-ghost use Rattle.std.specs.Prelude.{◌≡◌, ◌≤◌};
+ghost use Rattle.std.specs.Prelude.{◌≡◌, ℕ, ◌<◌, ◌≤◌, length, slice_index};
 ghost use Rattle.hdr_core.specs.Iterating.{bins_seen};
 ghost use Rattle.hdr_iterators.specs.Picks.{items_of};
 ghost use Rattle.hdr_iterators.specs.Places.{all_picks, recorded_picks, linear_picks, log_picks, quantile_picks};
@@ -27,6 +27,17 @@ impl<T: Counter> Binned<T> for Histogram<T> {
 }
 
 impl<T: Counter> Histogram<T> {
+    /// The first bin from one on that holds samples, or how many bins there are. Long runs of empty bins cost little.
+    pub fn next_filled(&self, from: usize) -> usize
+        requires { from ≤ length self.now.counts }
+        ensures onward { from ≤ result }
+        ensures within { result ≤ length self.now.counts }
+        ensures empty { (i : ℕ) → from ≤ i → i < result → slice_index self.now.counts i ≡ 0 }
+        ensures filled { result < length self.now.counts → 0 < slice_index self.now.counts result }
+    {
+        self.binned().next_filled(from)
+    }
+
     /// Every bin once, in ascending order, each at the greatest value of its class.
     pub fn iter_all(&self) -> HistogramIterator<'_, T, all::Iter>
         ensures { result ≡ items_of (bins_seen self.now) (all_picks (bins_seen self.now)) }

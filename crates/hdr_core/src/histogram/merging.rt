@@ -1,6 +1,6 @@
 //! Adding one histogram to another, of the same or of another counter type.
 
-ghost use Rattle.std.specs.Prelude.{◌==◌, if◌then◌else◌, ◌≡◌, ℕ, ◌+◌, ◌-◌, ◌^◌, ◌<◌, ◌≤◌, ◌⊎◌, ◌++◌, List, OnOk, IfErr, true, min, length, sum};
+ghost use Rattle.std.specs.Prelude.{◌==◌, if◌then◌else◌, ◌≡◌, ℕ, ◌+◌, ◌-◌, ◌^◌, ◌<◌, ◌≤◌, ◌⊎◌, ◌++◌, List, OnOk, IfErr, true, min, length, slice_index, sum};
 ghost use Rattle.hdr_base.specs.Classes.{value_of, IsFiner};
 ghost use Rattle.hdr_model.specs.Plain.{IsPlain, grain, reach, max_of};
 ghost use Rattle.hdr_model.specs.Recording.{after_record, after_records, after_reset, high_with};
@@ -120,6 +120,17 @@ impl<T: Counter> Histogram<T> {
         }
     }
 
+    /// How many of the first bins hold all samples: those up to the top mark's.
+    pub(super) fn used_bins(&self) -> usize
+        ensures within { result ≤ length self.now.counts }
+        ensures rest { (i : ℕ) → result ≤ i → slice_index self.now.counts i ≡ 0 }
+    {
+        match self.marks.top() {
+            Some(bin) => self.counts.len().min(bin + 1),
+            None => 0,
+        }
+    }
+
     /// Records the classes of a source, each at its lowest value.
     fn record_classes<F: Counter>(&mut self, source: &Histogram<F>)
         requires { max_of source.now ≤ reach self.old }
@@ -127,7 +138,7 @@ impl<T: Counter> Histogram<T> {
             (classes_from (grain source.now) 0 source.now.counts ++ top_class
             (grain source.now) source.now.top_mark) }
     {
-        for bin in 0..source.counts.len() {
+        for bin in 0..source.used_bins() {
             let count = source.counts.get(bin).as_u64();
             if count > 0 {
                 self.record_inside(source.class_value(bin), count);

@@ -10,6 +10,7 @@ ghost use Rattle.hdr_model.specs.Correction.{missing, each_times};
 ghost use Rattle.hdr_model.specs.Merging.{corrections_from, highest_top, after_add_correct, corrected_samples};
 
 use super::Histogram;
+use super::correction::hides;
 use hdr_base::{Counter, Work};
 use hdr_model::RecordError;
 
@@ -101,7 +102,7 @@ impl<T: Counter> Histogram<T> {
             (corrections_from (grain source.now) interval 0 source.now.counts) }
         ensures source { IsPlain F.greatest source.now }
     {
-        for bin in 0..source.counts.len() {
+        for bin in 0..source.used_bins() {
             let count = source.counts.get(bin).as_u64();
             if count > 0 {
                 self.correct_inside(source.class_top(bin), count, interval);
@@ -116,7 +117,7 @@ impl<T: Counter> Histogram<T> {
             (each_times count (value ∷ missing value interval)) }
     {
         self.record_inside(value, count);
-        if interval > 0 {
+        if hides(value, interval) {
             self.add_missing(
                 value.saturating_sub(interval),
                 count,

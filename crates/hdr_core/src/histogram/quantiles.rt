@@ -1,6 +1,7 @@
 //! Quantiles of what was recorded.
 
 ghost use Rattle.std.specs.Prelude.{◌≡◌, ℕ, ◌+◌, ◌^◌, ◌<◌, ◌≤◌, List, IfSome, MatchOption, length, sum};
+ghost use Rattle.std.specs.Int.{div_ceil};
 ghost use Rattle.hdr_base.specs.Classes.{bucket};
 ghost use Rattle.hdr_counts.specs.Blocks.{looks, IsFirstToReach};
 ghost use Rattle.hdr_model.specs.Plain.{grain, block_of};
@@ -107,6 +108,18 @@ pub(super) fn rank_of(num: u64, whole: u128, total: u64) -> u64
     ensures at_least_one { 1 ≤ result }
 {
     let share = u128::from(num).min(whole);
-    let place = (share * u128::from(total)).div_ceil(whole);
+    let place = divided_up(share * u128::from(total), whole);
     (place as u64).max(1)
+}
+
+/// The quotient, rounded up; divided in 64 bits where both numbers fit them, which takes less time.
+fn divided_up(number: u128, by: u128) -> u128
+    requires { 0 < by }
+    ensures { result ≡ div_ceil number by }
+{
+    let greatest = u128::from(u64::MAX);
+    if number > greatest || by > greatest {
+        return number.div_ceil(by);
+    }
+    u128::from((number as u64).div_ceil(by as u64))
 }

@@ -152,13 +152,7 @@ fn empty_for<T: Counter>(alloc: Global, header: Header) -> Result<Filling<T>, De
         }) }
     ensures bins { IfOk result (λ f. length f.counts ≡ bins_for (header_of header)) }
 {
-    let Header {
-        payload_len,
-        sigfig,
-        low,
-        high,
-    } = header;
-    match Filling::new_with_bounds(alloc, low, high, sigfig, payload_len as usize) {
+    match Filling::new_with_bounds(alloc, header.low, header.high, header.sigfig) {
         Ok(filling) => Ok(filling),
         Err(error) => Err(refused(error)),
     }

@@ -1,23 +1,24 @@
 //! The payload of V2 bytes: the counts, with runs of empty bins.
 
-ghost use Rattle.std.specs.Prelude.{◌≡◌, ℕ, List, length, map, drop, take, slice_index, ◌++◌, ◌+◌, ◌*◌, ◌≤◌, ◌<◌, ◌^◌, min, max, IfOk, IfErr, OnOk, All};
+ghost use Rattle.std.specs.Prelude.{◌≡◌, ℕ, List, length, map, drop, take, slice_index, ◌++◌, ◌+◌, ◌-◌, ◌*◌, ◌≤◌, ◌<◌, ◌^◌, min, max, IfOk, IfErr, OnOk, All};
 ghost use Rattle.std.specs.Option.{SomeIff};
 ghost use Rattle.hdr_base.specs.Classes.{most_bins};
 ghost use Rattle.hdr_model.specs.Plain.{IsPlain};
 ghost use Rattle.hdrhistogram.specs.Streams.{WritesFront};
 ghost use Rattle.hdrhistogram.specs.Varint.{IsShortest};
-ghost use Rattle.hdrhistogram.specs.ZigZag.{zig_zag};
 ghost use Rattle.hdrhistogram.specs.Payload.{IsPayload, IsRunText, nonempty, enough_bytes};
 ghost use Rattle.hdrhistogram.specs.V2.{written_bins, written_counts, HasTooGreatCount};
 
 use crate::serialization::errors::V2SerializeError;
 use crate::serialization::varint::varint_write;
-use crate::serialization::zig_zag::zig_zag_encode;
 use hdr_base::Counter;
 use hdr_core::Histogram;
 
 /// The greatest count that zig-zag takes.
 const GREATEST_COUNT: u64 = i64::MAX as u64;
+
+/// So many bins are looked at one by one, from a nonempty one on, before the next nonempty one is looked for.
+const PIECE: usize = 256;
 
 /// Room of at most so many bytes is taken without a look at which bins are empty.
 const SMALL_ROOM: usize = 1_048_576;
@@ -82,34 +83,53 @@ fn count_of<T: Counter>(counters: &[T], bin: usize) -> u64
     counters[bin].as_u64()
 }
 
-/// Writes a number at a place, and gives the place after it.
+/// Writes the spelling of a number at a place, and gives the place after it.
 #[inline]
-fn put_number(buf: &mut [u8], at: usize, number: i64) -> usize
+fn put_number(buf: &mut [u8], at: usize, number: u64) -> usize
     requires { at + 9 ≤ length buf.old }
     ensures few { result ≤ at + 9 }
     ensures further { at ≤ result }
-    ensures front { (text : List ℕ) × IsShortest text (zig_zag number)
+    ensures front { (text : List ℕ) × IsShortest text number
         × (take result buf.new ≡ take at buf.old ++ text) }
     ensures kept { drop result buf.new ≡ drop result buf.old }
 {
-    at + varint_write(zig_zag_encode(number), &mut buf[at..])
+    at + varint_write(number, &mut buf[at..])
 }
 
-/// Writes a run of empty bins at a place, or nothing for none, and gives the place after it.
-#[inline]
-fn put_run(buf: &mut [u8], at: usize, empty: u64) -> usize
-    requires room { at + 9 * min empty 1 ≤ length buf.old }
-    requires fits { empty < 2 ^ 63 }
-    ensures few { result ≤ at + 9 * min empty 1 }
+/// Writes the run of empty bins from one bin up to another at a place, or nothing where there are none, and gives the
+/// place after it.
+#[inline(always)]
+fn put_run(buf: &mut [u8], at: usize, from: usize, to: usize) -> usize
+    requires order { from ≤ to }
+    requires room { at + 9 * min (to - from) 1 ≤ length buf.old }
+    requires fits { to < 2 ^ 63 }
+    ensures few { result ≤ at + 9 * min (to - from) 1 }
     ensures further { at ≤ result }
-    ensures front { (text : List ℕ) × IsRunText empty text
+    ensures front { (text : List ℕ) × IsRunText (to - from) text
         × (take result buf.new ≡ take at buf.old ++ text) }
     ensures kept { drop result buf.new ≡ drop result buf.old }
 {
-    match empty {
-        0 => at,
+    if from == to {
+        return at;
+    }
+    put_empty(buf, at, from, to)
+}
+
+/// The same for one empty bin or more. Zig-zag makes 2n - 1 of -n.
+#[inline(never)]
+fn put_empty(buf: &mut [u8], at: usize, from: usize, to: usize) -> usize
+    requires some { from < to }
+    requires room { at + 9 ≤ length buf.old }
+    requires fits { to < 2 ^ 63 }
+    ensures few { result ≤ at + 9 }
+    ensures further { at ≤ result }
+    ensures front { (text : List ℕ) × IsRunText (to - from) text
+        × (take result buf.new ≡ take at buf.old ++ text) }
+    ensures kept { drop result buf.new ≡ drop result buf.old }
+{
+    match to - from {
         1 => put_number(buf, at, 0),
-        _ => put_number(buf, at, -(empty as i64)),
+        empty => put_number(buf, at, 2 * empty as u64 - 1),
     }
 }
 
@@ -149,18 +169,25 @@ pub(crate) fn encode_within<T: Counter>(
     let bins = written_bins(h);
     let counters = h.counters();
     let mut written = 0;
-    let mut empty = 0;
-    for bin in 0..bins {
-        let count = count_of(counters, bin);
-        if count >= 1 && count <= GREATEST_COUNT {
-            written = put_run(buf, written, empty);
-            empty = 0;
-            written = put_number(buf, written, count as i64);
-        } else if count == 0 {
-            empty += 1;
-        } else {
-            return Err(V2SerializeError::CountNotSerializable);
+    let mut from = 0usize;
+    let mut bin = 0usize;
+    while bin < bins {
+        bin = h.next_filled(bin).min(bins);
+        let end = bins.min(bin + PIECE);
+        while bin < end {
+            let count = count_of(counters, bin);
+            if count == 0 {
+                bin += 1;
+                continue;
+            }
+            if count > GREATEST_COUNT {
+                return Err(V2SerializeError::CountNotSerializable);
+            }
+            written = put_run(buf, written, from, bin);
+            written = put_number(buf, written, 2 * count);
+            bin += 1;
+            from = bin;
         }
     }
-    Ok(put_run(buf, written, empty))
+    Ok(put_run(buf, written, from, bin))
 }

@@ -1,15 +1,12 @@
-use Rattle.std.proofs.Common.{◌≡◌, ◌∙◌, true, ap, sym, subst}
+use Rattle.std.proofs.Common.{◌∙◌, ap, get_or}
 use Rattle.hdr_model.specs.Plain.{Plain}
-use Rattle.hdr_model.specs.Merging.{same_bins, after_add_same_bins}
-use Rattle.hdr_model.proofs.MergingCopies.{same-bins-empty, joined-copy}
 use Rattle.hdr_core.proofs.histogram.Histogram.clone.Goals as goal
 
-pub join-requires : goal.join-requires
-join-requires g c =
-    let h = c.args.self.now in
-    subst (λ (w : Plain). same_bins w h ≡ true) (sym c.in_ok-copy.ensures.made) (same-bins-empty g.T.Counter.greatest h c.new_from.ensures.source)
+pub invariant_of-result : goal.invariant_of-result
+invariant_of-result g c = rw (c.in-Ok.ensures, c.same.ensures) c.self.invariant
 
 pub returns : goal.returns
-returns g c =
-    let h = c.args.self.now in
-    c.join.ensures ∙ ap (λ (w : Plain). after_add_same_bins g.T.Counter.greatest w h) c.in_ok-copy.ensures.made ∙ joined-copy g.T.Counter.greatest h c.new_from.ensures.source
+returns g c = rw (c.in-Ok.ensures, c.same.ensures) c.self.view_is
+
+pub copied-requires-clause-rest : goal.copied-requires-clause-rest
+copied-requires-clause-rest g c = λ i le. ap (λ (p : Plain). get_or p.counts i 0) c.self.view_is ∙ c.used_bins.ensures.rest i le

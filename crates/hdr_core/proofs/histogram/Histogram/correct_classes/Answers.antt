@@ -1,6 +1,5 @@
 use Rattle.std.proofs.Common.{◌≡◌, ◌∙◌, ◌<◌, ◌≤◌, ◌∷◌, ap, arith, length, get_or, take}
 use Rattle.std.specs.List.{All}
-use Rattle.std.proofs.lemmas.List.{take_all}
 use Rattle.std.proofs.lemmas.List.Elements.{All-cons}
 use Rattle.hdr_base.specs.Classes.{top_of, value_of}
 use Rattle.hdr_model.specs.Plain.{Plain, grain, reach}
@@ -11,6 +10,7 @@ use Rattle.hdr_model.proofs.CorrectionFacts.{missing-within}
 use Rattle.hdr_model.proofs.CorrectionByClass.{each-within}
 use Rattle.hdr_model.proofs.MergingStands.{reach-each}
 use Rattle.hdr_model.proofs.MergingCorrects.{class-inside, corrected-next, corrected-same}
+use Rattle.hdr_core.proofs.UsedBins.{corrections-used}
 use Rattle.hdr_core.proofs.histogram.Histogram.correct_classes.Goals as goal
 use Rattle.hdr_core.proofs.histogram.Histogram.correct_classes.Goals.{then-count-gt0, else-count-gt0}
 
@@ -33,7 +33,7 @@ loop-bin-preserved g c =
     let v = top_of (grain s) (value_of (grain s) i) in
     let n = c.as_u64-count.result in
     let at : n ≡ get_or s.counts i 0 = c.as_u64-count.ensures.value ∙ c.get.ensures ∙ ap (λ (p : Plain). get_or p.counts i 0) c.source.view_is in
-    let inside : i < length s.counts = omega (arith, ap (λ (p : Plain). length p.counts) c.source.view_is, c.loop-bin-test.true, c.len-bin-end.ensures, c.loop-bin.auto.bin-end) in
+    let inside : i < length s.counts = omega (arith, c.loop-bin-test.true, c.used_bins-bin-end.ensures.within, c.loop-bin.auto.bin-end) in
     elim c.if-count-gt0.branch [
       | then-count-gt0 w ↦ (
           let pos : 0 < get_or s.counts i 0 = omega (arith, at, w.if-count-gt0.true) in
@@ -61,6 +61,7 @@ loop-bin-preserved g c =
 pub returns-clause-made : goal.returns-clause-made
 returns-clause-made g c =
     let s = c.args.source.now in
-    let same : length c.source.inside.counts.numbers ≡ length s.counts = ap (λ (p : Plain). length p.counts) c.source.view_is in
-    let all : take c.loop-bin.bin s.counts ≡ s.counts = take_all c.loop-bin.bin s.counts (omega (arith, same, c.loop-bin-test.false, c.len-bin-end.ensures, c.loop-bin.auto.bin-end)) in
-    c.loop-bin.invariant.made ∙ ap (λ ns. after_records g.T.Counter.greatest c.args.self.now (corrections_from (grain s) c.args.interval 0 ns)) all
+    let k = c.loop-bin.bin in
+    let all : corrections_from (grain s) c.args.interval 0 (take k s.counts) ≡ corrections_from (grain s) c.args.interval 0 s.counts =
+    corrections-used (grain s) c.args.interval 0 k s.counts (λ j le. c.used_bins-bin-end.ensures.rest j (omega (arith, le, c.loop-bin-test.false, c.loop-bin.auto.bin-end))) in
+    c.loop-bin.invariant.made ∙ ap (λ ts. after_records g.T.Counter.greatest c.args.self.now ts) all

@@ -2,7 +2,7 @@ use Rattle.std.proofs.Common.{◌≡◌, ◌∙◌, [], ap, sym, arith}
 use Rattle.hdr_model.specs.Plain.{Plain}
 use Rattle.hdr_model.specs.Recording.{after_record, after_records}
 use Rattle.hdr_model.specs.Correction.{missing, down_to, each_times}
-use Rattle.hdr_model.proofs.CorrectionFacts.{missing-down, missing-none}
+use Rattle.hdr_model.proofs.CorrectionFacts.{missing-down}
 use Rattle.hdr_model.proofs.CorrectionByClass.{recorded-holds}
 use Rattle.hdr_core.proofs.histogram.Histogram.correct_inside.Goals as goal
 
@@ -10,19 +10,19 @@ pub add_missing-requires-clause-within : goal.add_missing-requires-clause-within
 add_missing-requires-clause-within g c =
     rw (c.record_inside.ensures) (omega (arith, c.saturating_sub.ensures, recorded-holds g.T.Counter.greatest c.args.self.now c.args.value c.args.count))
 
-pub returns-then-interval-gt0 : goal.returns-then-interval-gt0
-returns-then-interval-gt0 g c =
+pub returns-then-hides : goal.returns-then-hides
+returns-then-hides g c =
     let greatest = g.T.Counter.greatest in
     let n = c.args.count in
     let v = c.args.value in
     let i = c.args.interval in
-    let list : down_to c.saturating_sub.result i ≡ missing v i = ap (λ x. down_to x i) c.saturating_sub.ensures ∙ sym (missing-down v i (omega arith)) in
+    let list : down_to c.saturating_sub.result i ≡ missing v i = ap (λ x. down_to x i) c.saturating_sub.ensures ∙ sym (missing-down v i (c.hides.ensures.step c.if-hides.true)) in
     c.add_missing.ensures.state
     ∙ ap (λ (h : Plain). after_records greatest h (each_times n (down_to c.saturating_sub.result i))) c.record_inside.ensures
     ∙ ap (λ xs. after_records greatest (after_record greatest c.args.self.now v n) (each_times n xs)) list
 
-pub returns-else-interval-gt0 : goal.returns-else-interval-gt0
-returns-else-interval-gt0 g c =
-    let none : missing c.args.value c.args.interval ≡ [] = ap (λ i. missing c.args.value i) (let e : c.args.interval ≡ 0 = omega arith in e) ∙ missing-none c.args.value in
+pub returns-else-hides : goal.returns-else-hides
+returns-else-hides g c =
+    let none : missing c.args.value c.args.interval ≡ [] = c.hides.ensures.none c.if-hides.false in
     c.record_inside.ensures
     ∙ ap (λ xs. after_records g.T.Counter.greatest (after_record g.T.Counter.greatest c.args.self.now c.args.value c.args.count) (each_times c.args.count xs)) (sym none)

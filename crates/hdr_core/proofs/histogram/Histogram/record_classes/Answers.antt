@@ -1,12 +1,12 @@
-use Rattle.std.proofs.Common.{◌≡◌, ◌∙◌, ◌<◌, ◌≤◌, ap, sym, arith, length, get_or, take}
-use Rattle.std.proofs.lemmas.List.{take_all}
+use Rattle.std.proofs.Common.{◌≡◌, ◌∙◌, ◌<◌, ◌≤◌, [], ap, sym, arith, length, get_or, take, ◌++◌, append-nil}
 use Rattle.hdr_base.specs.Classes.{value_of}
 use Rattle.hdr_base.proofs.ClassesFiner.{bin-value_of}
 use Rattle.hdr_model.specs.Plain.{Plain, grain, reach}
 use Rattle.hdr_model.specs.Recording.{after_record, after_records}
-use Rattle.hdr_model.specs.Merging.{classes_from}
+use Rattle.hdr_model.specs.Merging.{classes_from, top_class}
 use Rattle.hdr_model.proofs.PlainKept.{grain-digits}
 use Rattle.hdr_model.proofs.MergingKeeps.{number-le-max, value-le-max, mark-in, classes-next, classes-same, classes-end, reach-recorded}
+use Rattle.hdr_core.proofs.UsedBins.{classes-used, no-top}
 use Rattle.hdr_core.proofs.histogram.Histogram.record_classes.Goals as goal
 use Rattle.hdr_core.proofs.histogram.Histogram.record_classes.Goals.{then-count-gt0, else-count-gt0}
 
@@ -32,7 +32,7 @@ loop-bin-preserved g c =
     let n = c.as_u64-count.result in
     let before = c.loop-bin.invariant.made in
     let at : n ≡ get_or s.counts i 0 = c.as_u64-count.ensures.value ∙ c.get.ensures ∙ ap (λ (p : Plain). get_or p.counts i 0) c.source.view_is in
-    let inside : i < length s.counts = omega (arith, ap (λ (p : Plain). length p.counts) c.source.view_is, c.loop-bin-test.true, c.len-bin-end.ensures, c.loop-bin.auto.bin-end) in
+    let inside : i < length s.counts = omega (arith, c.loop-bin-test.true, c.used_bins-bin-end.ensures.within, c.loop-bin.auto.bin-end) in
     elim c.if-count-gt0.branch [
       | then-count-gt0 w ↦ (
           let pos : 0 < get_or s.counts i 0 = omega (arith, at, w.if-count-gt0.true) in
@@ -68,8 +68,16 @@ returns-in-Some g c =
     let h = c.args.self.now in
     let s = c.args.source.now in
     let i = c.in-Some.bin in
-    let same : length c.source.inside.counts.numbers ≡ length s.counts = ap (λ (p : Plain). length p.counts) c.source.view_is in
-    let all : take c.loop-bin.bin s.counts ≡ s.counts = take_all c.loop-bin.bin s.counts (omega (arith, same, c.loop-bin-test.false, c.len-bin-end.ensures, c.loop-bin.auto.bin-end)) in
+    let all : classes_from (grain s) 0 (take c.loop-bin.bin s.counts) ≡ classes_from (grain s) 0 s.counts = classes-used (grain s) 0 c.loop-bin.bin s.counts (λ j le. c.used_bins-bin-end.ensures.rest j (omega (arith, le, c.loop-bin-test.false, c.loop-bin.auto.bin-end))) in
     c.record_inside-in-Some.ensures ∙ ap (λ x. after_record greatest c.loop-bin.self x 0) c.class_value-in-Some.ensures
-    ∙ ap (λ (h : Plain). after_record greatest h (value_of (grain s) i) 0) (c.loop-bin.invariant.made ∙ ap (λ ns. after_records greatest h (classes_from (grain s) 0 ns)) all)
+    ∙ ap (λ (h : Plain). after_record greatest h (value_of (grain s) i) 0) (c.loop-bin.invariant.made ∙ ap (λ ts. after_records greatest h ts) all)
     ∙ classes-end greatest h (grain s) s.counts s.top_mark i (sym (ap (λ (p : Plain). p.top_mark) c.source.view_is) ∙ sym c.top.ensures ∙ c.in-Some.is)
+
+pub returns-in_default : goal.returns-in_default
+returns-in_default g c =
+    let greatest = g.T.Counter.greatest in
+    let h = c.args.self.now in
+    let s = c.args.source.now in
+    let all : classes_from (grain s) 0 (take c.loop-bin.bin s.counts) ≡ classes_from (grain s) 0 s.counts = classes-used (grain s) 0 c.loop-bin.bin s.counts (λ j le. c.used_bins-bin-end.ensures.rest j (omega (arith, le, c.loop-bin-test.false, c.loop-bin.auto.bin-end))) in
+    let top : top_class (grain s) s.top_mark ≡ [] = no-top (grain s) s.top_mark (λ i e. c.in_default.not-Some i (c.top.ensures ∙ ap (λ (p : Plain). p.top_mark) c.source.view_is ∙ e)) in
+    c.loop-bin.invariant.made ∙ ap (λ ts. after_records greatest h ts) (all ∙ sym (append-nil (classes_from (grain s) 0 s.counts)) ∙ ap (λ ts. classes_from (grain s) 0 s.counts ++ ts) (sym top))

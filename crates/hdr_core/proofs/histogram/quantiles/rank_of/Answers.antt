@@ -6,5 +6,5 @@ use Rattle.hdr_core.proofs.histogram.quantiles.rank_of.Goals as goal
 pub returns-clause-value : goal.returns-clause-value
 unfolding rank
 returns-clause-value c =
-    let place = rw (c.min-share.ensures, c.from.ensures, c.from-2.ensures) at c.div_ceil-place.ensures in
+    let place = rw (c.min-share.ensures, c.from.ensures, c.from-2.ensures) at c.divided_up-place.ensures in
     c.max.ensures ∙ max_comm _ 1 ∙ ap (λ n. max 1 n) place

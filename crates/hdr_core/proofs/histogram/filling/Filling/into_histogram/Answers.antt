@@ -2,6 +2,7 @@ use Rattle.std.proofs.Common.{◌≤◌, sym, subst}
 use Rattle.std.specs.List.{All}
 use Rattle.hdr_counts.specs.Blocks.{Blocks}
 use Rattle.hdr_model.specs.Filling.{AreBinsFor}
+use Rattle.hdr_model.specs.Marks.{IsTopMark, IsLowerMark}
 use Rattle.hdr_model.proofs.FillingFacts.{some-bins, closed-plain}
 use Rattle.hdr_core.proofs.histogram.filling.Filling.into_histogram.Goals as goal
 
@@ -19,5 +20,5 @@ invariant_of-result g c =
     record {
       scale = b.same_scale;
       block = b.block;
-      plain = closed-plain g.T.Counter.greatest _ c.into_counts-counts.result.block f.scale b fit c.capped_sum-total.ensures c.marks_of-marks.ensures.top c.marks_of-marks.ensures.lower;
+      plain = closed-plain g.T.Counter.greatest _ c.into_counts-counts.result.block f.scale b fit c.capped_sum-total.ensures (subst (λ (b : Blocks). IsTopMark b.numbers c.open_marks-marks.result.top) (sym c.into_counts-counts.ensures.value) c.open_marks-marks.ensures.top) (subst (λ (b : Blocks). IsLowerMark b.numbers c.open_marks-marks.result.lower) (sym c.into_counts-counts.ensures.value) c.open_marks-marks.ensures.lower);
     }

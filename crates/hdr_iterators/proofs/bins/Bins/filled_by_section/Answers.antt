@@ -1,10 +1,10 @@
-use Rattle.std.proofs.Common.{◌+◌, ◌-◌, ◌*◌, ◌/◌, ◌^◌, map, ap, arith}
+use Rattle.std.proofs.Common.{◌+◌, ◌*◌, ◌/◌, ◌^◌, map, ap, arith}
 use Rattle.std.proofs.lemmas.Nat.{pow_pos}
 use Rattle.hdr_base.specs.Classes.{section_digits}
 use Rattle.hdr_iterators.proofs.SeenEmpty.{AreEmpty-join, BlockPart, BlockPart-of}
-use Rattle.hdr_iterators.proofs.bins.Bins.next_filled.Given as given
-use Rattle.hdr_iterators.proofs.bins.Bins.next_filled.Goals as goal
-use Rattle.hdr_iterators.proofs.bins.Bins.next_filled.Goals.{In-loop-bin}
+use Rattle.hdr_iterators.proofs.bins.Bins.filled_by_section.Given as given
+use Rattle.hdr_iterators.proofs.bins.Bins.filled_by_section.Goals as goal
+use Rattle.hdr_iterators.proofs.bins.Bins.filled_by_section.Goals.{In-loop-bin}
 
 -- what is left of the bin's section
 part : (g : given.Over) (c : In-loop-bin g) → BlockPart g.T.Counter.number c.self.inside.counters.now c.self.inside.sums.now (2 ^ section_digits c.self.inside.scale.digits)
@@ -25,8 +25,8 @@ slice_bounds-first_in_block-start g c = omega (arith, (part g (goal.at.slice_bou
 pub slice_bounds-first_in_block-end : goal.slice_bounds-first_in_block-end
 slice_bounds-first_in_block-end g c = (part g (goal.at.slice_bounds-first_in_block-end g c).In-loop-bin).within
 
-pub first_in_block-requires-clause-whole : goal.first_in_block-requires-clause-whole
-first_in_block-requires-clause-whole g c = (part g (goal.at.first_in_block-requires-clause-whole g c).In-loop-bin).none
+pub first_in_block-requires : goal.first_in_block-requires
+first_in_block-requires g c = (part g (goal.at.first_in_block-requires g c).In-loop-bin).none
 
 pub returns-in-Some-clause-empty : goal.returns-in-Some-clause-empty
 returns-in-Some-clause-empty g c =

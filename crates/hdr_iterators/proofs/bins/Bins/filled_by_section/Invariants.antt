@@ -1,6 +1,6 @@
 use Rattle.std.proofs.Common.{◌-◌, ◌≤◌, length, map}
 use Rattle.hdr_iterators.specs.Seen.{AreEmpty}
-use Rattle.hdr_iterators.proofs.bins.Bins.next_filled.Given as goal
+use Rattle.hdr_iterators.proofs.bins.Bins.filled_by_section.Given as goal
 
 abbrev pub invariant-loop-bin : goal.invariant-loop-bin
 invariant-loop-bin g l =
