@@ -41,6 +41,10 @@ unit-IsLeast low u from below = record {
   ];
 }
 
+-- a value below 2 ^ 46 has a unit of at most 45
+pub unit-small : (low u : ℕ) → 2 ^ u ≤ low → low < 2 ^ 46 → u ≤ 45
+unit-small low u from below = elim (cases_lt 45 u) [ inl lt ↦ absurd (omega (arith, pow_mono_le 46 u lt)) | inr le ↦ le ]
+
 -- values of one class have one number, and values of one number have one class
 pub equivalent-bin : (g : Grain) (a b : ℕ) → 0 < g.digits → AreEquivalent g a b → bin_of g a ≡ bin_of g b
 unfolding top_of

@@ -2,6 +2,7 @@
 
 ghost use Rattle.std.specs.Prelude.{◌≡◌, ◌<◌, ℕ, SomeIff};
 
+use std::fmt;
 use std::marker::Model;
 
 /// A share of the samples: the fraction `num / den`, with `den` at least 1.
@@ -66,4 +67,11 @@ impl Model for Fraction {
     ghost view = { λ f. record { num = f.num; den = f.den } };
 
     ghost inverse = { λ r. record { num = r.num; den = r.den } };
+}
+
+/// `num/den`.
+impl fmt::Display for Fraction {
+    fn fmt<W: fmt::Write>(&self, f: &mut fmt::Formatter<W>) -> fmt::Result {
+        write!(f, "{}/{}", self.num, self.den)
+    }
 }

@@ -67,7 +67,8 @@ impl<T: Counter> IterationValue<T> {
 
     /// The share of the samples that lie at this bin or before it: 0 of 0 where there are none.
     pub fn quantile(&self) -> Fraction
-        ensures { result ≡ self.now.quantile }
+        ensures value { result ≡ self.now.quantile }
+        ensures fits { result.num < 2 ^ 64 }
     {
         self.quantile
     }

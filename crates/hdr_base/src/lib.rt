@@ -6,10 +6,10 @@ pub mod fraction;
 pub mod iteration_value;
 pub mod laws;
 pub mod scale;
-pub mod work;
+pub mod ticks;
 
 pub use counter::Counter;
 pub use fraction::{Fraction, Quantile};
 pub use iteration_value::IterationValue;
 pub use scale::Scale;
-pub use work::Work;
+pub use ticks::Ticks;

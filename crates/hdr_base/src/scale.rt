@@ -1,6 +1,6 @@
 //! The classes of values, from a lowest value and a number of significant digits.
 
-ghost use Rattle.std.specs.Prelude.{◌≡◌, ℕ, ◌+◌, ◌-◌, ◌*◌, ◌^◌, ◌<◌, ◌≤◌, MatchOption, SomeIff, IfSome};
+ghost use Rattle.std.specs.Prelude.{◌≡◌, ℕ, ◌+◌, ◌-◌, ◌*◌, ◌^◌, ◌<◌, ◌≤◌, MatchOption, SomeIff, IfSome, IsSome};
 ghost use Rattle.hdr_base.specs.Classes.{most_bins, section_digits, IsLeast, grain_of, digits_of, bucket, width_of, lowest_of, top_of, bin_of, value_of, reach_of, HasScale};
 
 use std::marker::Model;
@@ -30,11 +30,12 @@ impl Model for Scale {
 
 impl Scale {
     /// The scale whose classes keep `sigfig` digits of values that are at least `low`. `None` where `low` is 0, where
-    /// `sigfig` is above 5, and where unit and digits together would pass 63 bits.
+    /// `sigfig` is above 5, and where unit and digits together would pass 63 bits. A `low` below 2^46 fits with all digits.
     pub fn new(low: u64, sigfig: u8) -> Option<Scale>
         ensures scale { SomeIff result (HasScale low sigfig) (grain_of low sigfig) }
         ensures unit { IfSome result (λ s. IsLeast (λ u. low < 2 ^ (u + 1)) s.unit) }
         ensures digits { IfSome result (λ s. IsLeast (λ m. 2 * 10 ^ sigfig ≤ 2 ^ m) s.digits) }
+        ensures small { 0 < low → low < 2 ^ 46 → sigfig ≤ 5 → IsSome result }
     {
         let digits = digits_for(sigfig)?;
         if low == 0 {

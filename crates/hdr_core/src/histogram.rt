@@ -1,9 +1,10 @@
 //! The histogram: how it is made, and what it tells of itself.
 
-ghost use Rattle.std.specs.Prelude.{◌≡◌, ◌↔◌, MatchResult, MatchOption, IsTrue, false, true, ◌+◌, ◌*◌, ◌<◌, ◌≤◌, IfSome, SomeIff, length, map, slice_index, unwrap_or};
+ghost use Rattle.std.specs.Prelude.{◌≡◌, ◌↔◌, MatchResult, MatchOption, IsTrue, false, true, ◌+◌, ◌*◌, ◌<◌, ◌≤◌, IfSome, SomeIff, IfErr, length, map, slice_index, unwrap_or};
 ghost use Rattle.hdr_base.specs.Classes.{most_bins, bin_of, bucket, grain_of, value_of, top_of};
 ghost use Rattle.hdr_model.specs.Plain.{IsPlain, grain, reach, block_of, empty_plain, max_of, min_nz_of, min_of};
-ghost use Rattle.hdr_model.specs.Refusals.{RefusesBounds, IsBounds};
+ghost use Rattle.hdr_model.specs.Refusals.{RefusesBounds, IsBounds, IsBeyondLow};
+ghost use Rattle.hdr_model.specs.Merging.{highest_top};
 
 mod classes;
 mod copying;
@@ -70,8 +71,9 @@ impl<T: Counter> Histogram<T> {
         high: u64,
         sigfig: u8,
     ) -> Result<Histogram<T>, CreationError>
-        ensures { MatchResult result (λ h. (h ≡ empty_plain low high sigfig false)
+        ensures made { MatchResult result (λ h. (h ≡ empty_plain low high sigfig false)
             × IsBounds low high sigfig) (RefusesBounds low high sigfig) }
+        ensures beyond { IfErr result (IsBeyondLow low) }
     {
         let scale = scale_for(low, high, sigfig)?;
         let Ok(counts) = Counts::new(alloc, scale.sections(high), scale.section()) else {
@@ -91,8 +93,9 @@ impl<T: Counter> Histogram<T> {
 
     /// `new_with_bounds` with `low` 1: `high` is at least 2, and `sigfig` 0 to 5.
     pub fn new_with_max(alloc: Global, high: u64, sigfig: u8) -> Result<Histogram<T>, CreationError>
-        ensures { MatchResult result (λ h. (h ≡ empty_plain 1 high sigfig false)
+        ensures made { MatchResult result (λ h. (h ≡ empty_plain 1 high sigfig false)
             × IsBounds 1 high sigfig) (RefusesBounds 1 high sigfig) }
+        ensures beyond { IfErr result (IsBeyondLow 1) }
     {
         Histogram::new_with_bounds(alloc, 1, high, sigfig)
     }
@@ -101,8 +104,9 @@ impl<T: Counter> Histogram<T> {
     /// above that it is refused as `SigFigExceedsMax`. Else only memory can run out.
     #[tactic(auto, unfolding(hdr_model::specs::Plain::empty_plain))]
     pub fn new(alloc: Global, sigfig: u8) -> Result<Histogram<T>, CreationError>
-        ensures { MatchResult result (λ h. (h ≡ empty_plain 1 2 sigfig true) × IsBounds 1 2 sigfig)
-            (RefusesBounds 1 2 sigfig) }
+        ensures made { MatchResult result (λ h. (h ≡ empty_plain 1 2 sigfig true)
+            × IsBounds 1 2 sigfig) (RefusesBounds 1 2 sigfig) }
+        ensures beyond { IfErr result (IsBeyondLow 1) }
     {
         let mut histogram = Histogram::new_with_bounds(alloc, 1, 2, sigfig)?;
         histogram.auto_resize = true;
@@ -134,9 +138,13 @@ impl<T: Counter> Histogram<T> {
     }
 
     /// The highest value that the bins were made for. It moves where the bins grow: to the reach of a value that is recorded
-    /// past them, and to the `max` of a histogram that is added.
+    /// past them, and to the `max` of a histogram that is added. It has a bin, and it is no lower than `low`: the bounds of a
+    /// histogram are allowed for another.
     pub fn high(&self) -> u64
-        ensures { result ≡ self.now.high }
+        ensures value { result ≡ self.now.high }
+        ensures in_bins { self.now.high ≤ reach self.now }
+        ensures wide { self.now.low ≤ self.now.high }
+        ensures bounds { IsBounds self.now.low self.now.high self.now.sigfig }
     {
         self.high
     }
@@ -170,9 +178,10 @@ impl<T: Counter> Histogram<T> {
         self.total == 0
     }
 
-    /// How many buckets there are up to that of `high`.
+    /// How many buckets there are up to that of `high`, 1 to 64.
     pub fn buckets(&self) -> u8
-        ensures { result ≡ bucket (grain self.now) self.now.high + 1 }
+        ensures value { result ≡ bucket (grain self.now) self.now.high + 1 }
+        ensures bound { result ≤ 64 }
     {
         self.scale.buckets(self.high) as u8
     }
@@ -258,11 +267,12 @@ impl<T: Counter> Histogram<T> {
         self.scale.top(self.class_value(bin))
     }
 
-    /// The greatest value of the last class that counts as recorded, 0 where none does.
+    /// The greatest value of the last class that counts as recorded, 0 where none does. No class after it holds samples.
     pub fn max(&self) -> u64
         ensures value { result ≡ max_of self.now }
         ensures bin { bin_of (grain self.now) result ≡ unwrap_or self.now.top_mark 0 }
         ensures within { result ≤ reach self.now }
+        ensures covers { highest_top self.now ≤ result }
     {
         match self.marks.top() {
             Some(bin) => self.class_top(bin),
@@ -295,8 +305,9 @@ impl<T: Counter> Histogram<T> {
 
 /// The scale of a histogram's bounds; the first that does not hold is the error.
 fn scale_for(low: u64, high: u64, sigfig: u8) -> Result<Scale, CreationError>
-    ensures { MatchResult result (λ s. (s ≡ grain_of low sigfig) × IsBounds low high sigfig)
+    ensures made { MatchResult result (λ s. (s ≡ grain_of low sigfig) × IsBounds low high sigfig)
         (RefusesBounds low high sigfig) }
+    ensures beyond { IfErr result (IsBeyondLow low) }
 {
     if low < 1 {
         return Err(CreationError::LowIsZero);

@@ -4,13 +4,13 @@
 pub mod call;
 pub mod call_from;
 pub mod histogram;
+pub mod iterators;
 pub mod laws;
 mod marks;
 
 pub use call::{Call, CallError, RunError};
 pub use call_from::CallFrom;
-pub use hdr_base::{Counter, Fraction, IterationValue, Quantile, Work};
-pub use hdr_iterators as iterators;
+pub use hdr_base::{Counter, Fraction, IterationValue, Quantile, Ticks};
 pub use hdr_model::{
     AdditionError, CreationError, RecordError, SubtractionError, UsizeTypeTooSmall, errors,
 };

@@ -14,10 +14,10 @@ ghost use Rattle.hdr_counts.specs.Blocks.{Blocks, sum_below, IsFirstToReach, loo
 
 use adding::add_blocks;
 use clearing::clear_blocks;
-use hdr_base::{Counter, Work};
+use hdr_base::{Counter, Ticks};
 pub use open_counts::OpenCounts;
 pub use search::Search;
-use search::{first_reaching, first_reaching_looked, look, sum_of_sums};
+use search::{first_reaching, first_reaching_looked, look_blocks};
 use std::alloc::{AllocError, Global};
 use std::marker::Model;
 
@@ -193,27 +193,27 @@ impl<T: Counter> Counts<T> {
         total + self.sum_in_block(k, i)
     }
 
-    /// The first place where the running sum reaches `rank`. Work is counted for each group's sum up to that of the place's
+    /// The first place where the running sum reaches `rank`. Ticks is counted for each group's sum up to that of the place's
     /// group, and then for each counter of that group up to the place. Where no place reaches the rank, each group's sum was
-    /// looked at. A group is `group` blocks.
-    pub fn find(&self, rank: u64, group: usize, work: &mut Work) -> Option<usize>
+    /// looked at. A group is `group` blocks: its sum is added up from those of its blocks, which is one look.
+    pub fn find(&self, rank: u64, group: usize, ticks: &mut Ticks) -> Option<usize>
         requires some { 1 ≤ rank }
         requires group { 1 ≤ group }
         requires groups { length self.now.numbers % (group * self.now.block) ≡ 0 }
         requires few { group * self.now.block ≤ most_bins }
-        requires room { work.old ≤ 2 ^ 63 }
+        requires room { ticks.old ≤ 2 ^ 63 }
         ensures place { MatchOption result (sum self.now.numbers < rank)
             (IsFirstToReach self.now.numbers rank) }
-        ensures work { work.new ≡ work.old + looks (group * self.now.block)
+        ensures ticks { ticks.new ≡ ticks.old + looks (group * self.now.block)
             (length self.now.numbers) result }
     {
         let len = group * self.block;
         let mut rest = rank;
         for k in 0..self.sums.len() / group {
-            let sum = look(sum_of_sums(&self.sums[k * group..k * group + group]), work);
+            let sum = look_blocks(&self.sums[k * group..k * group + group], ticks);
             if sum >= u128::from(rest) {
                 let from = k * len;
-                let place = first_reaching_looked(&self.counters[from..from + len], rest, work)?;
+                let place = first_reaching_looked(&self.counters[from..from + len], rest, ticks)?;
                 return Some(from + place);
             }
             rest -= sum as u64;

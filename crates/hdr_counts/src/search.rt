@@ -6,7 +6,7 @@ ghost use Rattle.hdr_counts.specs.Blocks.{sum_below, IsFirstToReach};
 
 use crate::Counts;
 use crate::adding::short_sum;
-use hdr_base::{Counter, Work};
+use hdr_base::{Counter, Ticks};
 use std::marker::Model;
 
 /// A search for ranks that do not fall: each goes on from the block where the one before was found.
@@ -66,18 +66,29 @@ impl<'a, T: Counter> Search<'a, T> {
 /// How many counters are added up at once.
 const FEW: usize = 64;
 
-/// Looks at a sum or at a counter's number: the one step that is counted.
-pub(crate) fn look(number: u128, work: &mut Work) -> u128
-    requires { work.old < 2 ^ 64 - 1 }
-    ensures value { result ≡ number }
-    ensures counted { work.new ≡ work.old + 1 }
+/// Reads the sum of several blocks, and counts that as a look.
+pub(crate) fn look_blocks(sums: &[u128], ticks: &mut Ticks) -> u128
+    requires fits { sum sums.now < 2 ^ 128 }
+    requires room { ticks.old < 2 ^ 64 - 1 }
+    ensures value { result ≡ sum sums.now }
+    ensures counted { ticks.new ≡ ticks.old + 1 }
 {
-    work.add_one();
-    number
+    ticks.tick();
+    sum_of_sums(sums)
+}
+
+/// Reads the number of a counter, and counts that as a look.
+fn look_counter<T: Counter>(counter: &T, ticks: &mut Ticks) -> u64
+    requires { ticks.old < 2 ^ 64 - 1 }
+    ensures value { result ≡ T.number counter.now }
+    ensures counted { ticks.new ≡ ticks.old + 1 }
+{
+    ticks.tick();
+    counter.as_u64()
 }
 
 /// The sum of the sums of several blocks.
-pub(crate) fn sum_of_sums(sums: &[u128]) -> u128
+fn sum_of_sums(sums: &[u128]) -> u128
     requires { sum sums.now < 2 ^ 128 }
     ensures { result ≡ sum sums.now }
 {
@@ -92,17 +103,17 @@ pub(crate) fn sum_of_sums(sums: &[u128]) -> u128
 pub(crate) fn first_reaching_looked<T: Counter>(
     counters: &[T],
     mut rest: u64,
-    work: &mut Work,
+    ticks: &mut Ticks,
 ) -> Option<usize>
     requires some { 1 ≤ rest }
-    requires room { work.old + length counters.now < 2 ^ 64 }
+    requires room { ticks.old + length counters.now < 2 ^ 64 }
     ensures place { MatchOption result (sum (map T.number counters.now) < rest)
         (IsFirstToReach (map T.number counters.now) rest) }
-    ensures work { MatchOption result (work.new ≡ work.old + length counters.now)
-        (λ i. work.new ≡ work.old + i + 1) }
+    ensures ticks { MatchOption result (ticks.new ≡ ticks.old + length counters.now)
+        (λ i. ticks.new ≡ ticks.old + i + 1) }
 {
     for (i, counter) in counters.iter().enumerate() {
-        let number = look(u128::from(counter.as_u64()), work) as u64;
+        let number = look_counter(counter, ticks);
         if number >= rest {
             return Some(i);
         }

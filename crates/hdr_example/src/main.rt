@@ -8,7 +8,7 @@ ghost use Rattle.hdr_model.specs.Quantiles.{ranked_sample, IsTopNear};
 use anyhow::Result;
 use hdrhistogram::serialization::V2Serializer;
 use hdrhistogram::serialization::interval_log::{
-    IntervalFilter, IntervalLogWriterBuilder, Tag, TagChoice, merge_log,
+    IntervalFilter, IntervalLogWriterBuilder, Tag, merge_log,
 };
 use hdrhistogram::{Histogram, Quantile};
 use std::alloc::Global;
@@ -52,7 +52,7 @@ fn main(rt: HostRuntime) -> Result<()> {
     write_interval(alloc, &histogram, &mut log)?;
 
     let every = IntervalFilter {
-        tags: TagChoice::Every,
+        tag: None,
         from: None,
         to: None,
     };

@@ -64,14 +64,6 @@ pub trait PickyIterator<T: Counter>: Drop {
             → goes_with self.new h last × (picks self.new h ≡ picks self.old h) }
         ensures end { (h : Seen) (last : Option ℕ) → goes_with self.old h last → IsAtEnd h last
             → result ≡ false → picks self.old h ≡ [] };
-
-    /// Whether each bin that is picked holds samples, so that no other need be asked.
-    fn skips_empty(&self) -> bool
-        ensures { (h : Seen) (last : Option ℕ) → goes_with self.now h last → IsTrue result
-            → AllFilled h (picks self.now h) }
-    {
-        false
-    }
 }
 
 /// An iterator over the bins of a histogram that stops where its picker picks, seen as the list of items still to come.
@@ -86,13 +78,15 @@ pub struct HistogramIterator<'a, T: Counter, P: PickyIterator<T>> {
     current_index: usize,
     last_picked_index: Option<usize>,
     ended: bool,
+    /// Each bin that is still picked holds samples, so that no other is asked.
+    skips_empty: bool,
     picker: P,
 }
 
 impl<'a, T: Counter, P: PickyIterator<T>> Model for HistogramIterator<'a, T, P> {
     ghost use Rattle.std.specs.Prelude.{List, ◌≡◌, IsTrue, []};
     ghost use Rattle.hdr_base.specs.Items.{Item};
-    ghost use Rattle.hdr_iterators.specs.Picks.{items_from, bin_after, InStep};
+    ghost use Rattle.hdr_iterators.specs.Picks.{items_from, bin_after, InStep, AllFilled};
 
     ghost Value = { List Item };
 
@@ -100,13 +94,34 @@ impl<'a, T: Counter, P: PickyIterator<T>> Model for HistogramIterator<'a, T, P> 
 
     ghost invariant = { λ it. P.goes_with it.picker it.bins it.last_picked_index
         × InStep it.bins (P.picks it.picker it.bins) it.current_index it.total_count_to_index it.count_since_last_iteration (T.number it.count_at_index) it.last_picked_index
-        × (IsTrue it.ended → P.picks it.picker it.bins ≡ []) };
+        × (IsTrue it.ended → P.picks it.picker it.bins ≡ [])
+        × (IsTrue it.skips_empty → AllFilled it.bins (P.picks it.picker it.bins)) };
 }
 
 impl<'a, T: Counter, P: PickyIterator<T>> HistogramIterator<'a, T, P> {
+    /// An iterator that asks a picker at each bin.
     pub(crate) fn new(bins: Bins<'a, T>, picker: P) -> HistogramIterator<'a, T, P>
         requires made { P.goes_with picker bins None }
         requires within { AllBefore (bins_in bins) (P.picks picker bins) }
+        ensures { result ≡ items_of bins.entry (P.picks picker bins.entry) }
+    {
+        HistogramIterator::made(bins, picker, false)
+    }
+
+    /// An iterator that asks a picker at the bins that hold samples alone, since it picks no other.
+    pub(crate) fn of_filled(bins: Bins<'a, T>, picker: P) -> HistogramIterator<'a, T, P>
+        requires made { P.goes_with picker bins None }
+        requires within { AllBefore (bins_in bins) (P.picks picker bins) }
+        requires filled { AllFilled bins (P.picks picker bins) }
+        ensures { result ≡ items_of bins.entry (P.picks picker bins.entry) }
+    {
+        HistogramIterator::made(bins, picker, true)
+    }
+
+    fn made(bins: Bins<'a, T>, picker: P, skips_empty: bool) -> HistogramIterator<'a, T, P>
+        requires made { P.goes_with picker bins None }
+        requires within { AllBefore (bins_in bins) (P.picks picker bins) }
+        requires filled { IsTrue skips_empty → AllFilled bins (P.picks picker bins) }
         ensures { result ≡ items_of bins.entry (P.picks picker bins.entry) }
     {
         let count_at_index = bins.first();
@@ -119,6 +134,7 @@ impl<'a, T: Counter, P: PickyIterator<T>> HistogramIterator<'a, T, P> {
             current_index: 0,
             last_picked_index: None,
             ended: false,
+            skips_empty,
             picker,
         }
     }
@@ -149,7 +165,7 @@ impl<'a, T: Counter, P: PickyIterator<T>> Iterator for HistogramIterator<'a, T, 
                 self.last_picked_index = Some(index);
                 return Some(value);
             }
-            let next = next_asked(&self.bins, &self.picker, index);
+            let next = next_asked(&self.bins, self.skips_empty, index);
             if next == len {
                 self.ended = true;
                 return None;
@@ -184,21 +200,16 @@ fn has_ended<T: Counter, P: PickyIterator<T>>(
 
 /// The bin to ask a picker at once it has declined one: the next that holds samples, where it picks no other. How many
 /// bins there are, where none is left.
-fn next_asked<T: Counter, P: PickyIterator<T>>(
-    bins: &Bins<'_, T>,
-    picker: &P,
-    index: usize,
-) -> usize
+fn next_asked<T: Counter>(bins: &Bins<'_, T>, skips_empty: bool, index: usize) -> usize
     requires inside { index < bins_in bins.now }
     requires room { index + 1 < 2 ^ 64 }
     ensures onward { index < result }
     ensures within { result ≤ bins_in bins.now }
     ensures empty { AreEmpty bins.now.numbers (index + 1) result }
-    ensures unasked { (last : Option ℕ) → P.goes_with picker.now bins.now last
-        → NoneBefore (index + 1) (P.picks picker.now bins.now)
-        → NoneBefore result (P.picks picker.now bins.now) }
+    ensures unasked { (picks : List Pick) → (IsTrue skips_empty → AllFilled bins.now picks)
+        → NoneBefore (index + 1) picks → NoneBefore result picks }
 {
-    if picker.skips_empty() {
+    if skips_empty {
         bins.next_filled(index + 1)
     } else {
         index + 1

@@ -183,7 +183,7 @@ impl<'a, T: Counter> Iter<'a, T> {
             closing: false,
             done: false,
         };
-        HistogramIterator::new(bins, picker)
+        HistogramIterator::of_filled(bins, picker)
     }
 }
 
@@ -222,9 +222,5 @@ impl<'a, T: Counter> PickyIterator<T> for Iter<'a, T> {
 
     fn more(&mut self, _: usize) -> bool {
         !self.done
-    }
-
-    fn skips_empty(&self) -> bool {
-        true
     }
 }

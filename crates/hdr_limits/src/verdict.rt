@@ -7,7 +7,9 @@ ghost use Rattle.hdr_limits.specs.Limits.{every, told, IsVerdict};
 
 use crate::limit::Limit;
 use hdrhistogram::Histogram;
-use hdrhistogram::serialization::interval_log::{IntervalFilter, MergeError, TagChoice, merge_log};
+use hdrhistogram::serialization::interval_log::{
+    IntervalChoice, MergeError, TagChoice, merge_chosen,
+};
 use std::alloc::{AllocError, Global};
 
 /// The significant digits that the sum of a log keeps.
@@ -33,12 +35,12 @@ pub(crate) fn broken_limits(
         (string_bytes verdict.text) verdict.intervals verdict.coarser)
         (RefusesMerge (2 ^ 64 - 1) every 3 log.now) }
 {
-    let every = IntervalFilter {
+    let every = IntervalChoice {
         tags: TagChoice::Every,
         from: None,
         to: None,
     };
-    let merged = match merge_log::<u64>(alloc, log, &every, DIGITS) {
+    let merged = match merge_chosen::<u64>(alloc, log, &every, DIGITS) {
         Ok(merged) => merged,
         Err(fault) => return Err(fault),
     };

@@ -37,7 +37,7 @@ either : (b : Bool) (x : ℕ) (part : List ℕ) (parts : List (List ℕ)) → (f
 either true x part parts = ([], part ∷ parts, refl)
 either false x part parts = (x ∷ part, parts, refl)
 
-some_part : (text : List ℕ) → (first : List ℕ) × (more : List (List ℕ)) × (parts 10 text ≡ first ∷ more)
+pub some_part : (text : List ℕ) → (first : List ℕ) × (more : List (List ℕ)) × (parts 10 text ≡ first ∷ more)
 some_part [] = ([], [], refl)
 some_part (x ∷ text) = let p : (first : List ℕ) × (more : List (List ℕ)) × (parts 10 text ≡ first ∷ more) = some_part text in rw p.2 (either (x == 10) x p.0 p.1)
 

@@ -1,6 +1,6 @@
 -- The lines of an interval log, and what each says (the Rust crate's module `interval_log`, and the log of
 -- HdrHistogram's tools). A line is a list of bytes without its LF; times are in nanoseconds.
-use Rattle.std.specs.Prelude.{ℕ, ◌+◌, ◌-◌, ◌*◌, ◌^◌, Bool, true, false, not, ◌&&◌, ◌||◌, ◌==◌, if◌then◌else◌, List, [], ◌∷◌, length, take, Option, Some, None, Result, Ok, Err, codes}
+use Rattle.std.specs.Prelude.{ℕ, ◌+◌, ◌-◌, ◌*◌, ◌^◌, ◌<◌, Bool, true, false, not, ◌&&◌, ◌||◌, ◌==◌, if◌then◌else◌, List, [], ◌∷◌, length, take, Option, Some, None, Result, Ok, Err, IfErr, codes}
 use Rattle.std.specs.Option.{option_map, option_or, is_some}
 use Rattle.std.specs.List.{list_all}
 use Rattle.std.specs.Str.{is_utf8}
@@ -127,3 +127,7 @@ readings at (line ∷ next ∷ lines) = and_then (entry_of line) (is_skipped lin
 -- what is read of a text, in order
 abbrev pub reading : List ℕ → List (Result Entry ℕ)
 reading text = readings 0 (parts 10 text)
+
+-- the place of a line that is not one lies among so many bytes
+abbrev pub LiesIn : ℕ → Result Entry ℕ → Type 0
+LiesIn bytes item = IfErr item (λ at. at < bytes)

@@ -1,8 +1,8 @@
 //! The entries of a log, in order.
 
-ghost use Rattle.std.specs.Prelude.{◌≡◌, ◌≤◌, ◌+◌, length};
+ghost use Rattle.std.specs.Prelude.{◌≡◌, ◌≤◌, ◌+◌, length, All};
 ghost use Rattle.std.specs.Iterator.{YieldsFirstBy, item_count};
-ghost use Rattle.hdr_log.specs.Grammar.{reading};
+ghost use Rattle.hdr_log.specs.Grammar.{reading, LiesIn};
 ghost use Rattle.hdr_log.specs.Reading.{view_of_item};
 
 use crate::entry::{LogEntry, LogIteratorError};
@@ -32,10 +32,11 @@ impl<'a> Model for IntervalLogIterator<'a> {
 }
 
 impl<'a> IntervalLogIterator<'a> {
-    /// The entries of a log's bytes.
+    /// The entries of a log's bytes. The place of a fault lies in them.
     pub fn new(input: &'a [u8]) -> IntervalLogIterator<'a>
         ensures items { result ≡ reading input.now }
         ensures few { length result ≤ length input.now + 1 }
+        ensures places { All (LiesIn (length input.now)) result }
     {
         IntervalLogIterator { input, offset: 0 }
     }

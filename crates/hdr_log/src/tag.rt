@@ -1,6 +1,6 @@
 //! Tags of intervals.
 
-ghost use Rattle.std.specs.Prelude.{◌≡◌, true};
+ghost use Rattle.std.specs.Prelude.{◌≡◌, true, IsSome};
 ghost use Rattle.std.specs.Option.{option_map};
 ghost use Rattle.std.specs.List.{list_all};
 ghost use Rattle.hdr_log.specs.Grammar.{is_tag, is_tag_byte, only_if};
@@ -25,7 +25,8 @@ impl<'a> Tag<'a> {
 
     /// The tag of a text; `None` where it has a comma, a CR, an LF or a space. The empty text is a tag.
     pub fn new(text: &'a str) -> Option<Tag<'a>>
-        ensures { option_map tag_text result ≡ only_if (is_tag text.now) text.now }
+        ensures value { option_map tag_text result ≡ only_if (is_tag text.now) text.now }
+        ensures allowed { list_all is_tag_byte text.now ≡ true → IsSome result }
     {
         if has_only_tag_bytes(text) {
             Some(Tag { text })

@@ -1,8 +1,8 @@
 -- How many bins there are, and the bin of the greatest value.
-use Rattle.std.proofs.Common.{◌≡◌, ℕ, ◌+◌, ◌-◌, ◌*◌, ◌<◌, ◌≤◌, length, ◌∙◌, ap, arith, Option, Some, None, IfSome, unwrap_or, lit≤, inl, inr}
+use Rattle.std.proofs.Common.{◌≡◌, ℕ, ◌+◌, ◌-◌, ◌*◌, ◌^◌, ◌<◌, ◌≤◌, length, ◌∙◌, ap, arith, Option, Some, None, IfSome, unwrap_or, lit≤, inl, inr}
 use Rattle.std.proofs.lemmas.Bool.{cases_lt}
 use Rattle.hdr_base.specs.Classes.{most_bins, Grain, grain_of, bucket, bin_of, value_of, top_of, lowest_of, width_of, reach_of, digits_of, unit_of}
-use Rattle.hdr_base.proofs.ClassesLaws.{same-bin, width-pos}
+use Rattle.hdr_base.proofs.ClassesLaws.{same-bin, width-pos, pow_mono_le}
 use Rattle.hdr_base.proofs.ClassesScale.{bucket-bound, blocks-most}
 use Rattle.hdr_base.proofs.ClassesDigits.{digits-pos-of, digits-mono, digits-IsLeast}
 use Rattle.hdr_base.proofs.ClassesReach.{past-bins, bins-blocks, bins_by}
@@ -34,6 +34,14 @@ few-bins greatest h p =
     let bound = bucket-bound g h.high p.high_fits (fits-of h.low h.sigfig p.scale.fits) in
     let most = blocks-most g.unit g.digits (bucket g h.high + 1) (omega (arith, bound)) (digits-most h.low h.sigfig p.scale.digits) in
     omega (arith, p.bins, bins-blocks g h.high (digits-pos-of h.low h.sigfig), most)
+
+-- there are few blocks, and few bins in a block
+pub looks-few : (greatest : ℕ) (h : Plain) → IsPlain greatest h → bucket (grain h) h.high + 2 + block_of h ≤ most_bins
+looks-few greatest h p =
+    let g = grain h in
+    let bound = bucket-bound g h.high p.high_fits (fits-of h.low h.sigfig p.scale.fits) in
+    let most : 2 ^ (g.digits - 1) ≤ 131072 = pow_mono_le (g.digits - 1) 17 (omega (arith, digits-most h.low h.sigfig p.scale.digits)) in
+    omega (arith, bound, most)
 
 pub bin-of-top : (g : Grain) (v : ℕ) → 0 < g.digits → bin_of g (top_of g v) ≡ bin_of g v
 unfolding top_of

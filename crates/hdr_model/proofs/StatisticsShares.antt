@@ -13,7 +13,7 @@ use Rattle.hdr_base.proofs.ClassesLaws.{bin-mono, bin-top}
 use Rattle.hdr_base.proofs.ClassesFiner.{bin-value_of}
 use Rattle.hdr_base.proofs.ClassesIntervals.{bin-first, lowest-first}
 use Rattle.hdr_base.proofs.ClassesReach.{past-bins}
-use Rattle.hdr_counts.proofs.BlocksSums.{sum_below-le}
+use Rattle.hdr_counts.proofs.BlocksSums.{sum_below-le, sum_below-le-sum}
 use Rattle.hdr_model.specs.Plain.{Plain, IsPlain, grain, reach}
 use Rattle.hdr_model.specs.Samples.{StandsFor}
 use Rattle.hdr_model.specs.Statistics.{held_bin, samples_between, share_below, IsAtMost}
@@ -33,6 +33,17 @@ share-of-none h v e = rw (eq-eqb h.total 0 e) refl
 pub share-of-some : (h : Plain) (v : ℕ) → 0 < h.total → share_below h v ≡ record { num = min (sum (take (held_bin h v + 1) h.counts)) (2 ^ 64 - 1); den = h.total }
 unfolding share_below
 share-of-some h v some = rw (eqb-other h.total 0 (λ z. omega (arith, z))) refl
+
+-- a part of the numbers, capped, is at most the total
+pub part-covered : (greatest : ℕ) (h : Plain) (k : ℕ) → IsPlain greatest h → min (sum (take k h.counts)) (2 ^ 64 - 1) ≤ h.total
+part-covered greatest h k p = omega (arith, p.total_covers, sum_below-le-sum h.counts k)
+
+-- a share is at most the whole, and no share of nothing
+pub share-at-most : (greatest : ℕ) (h : Plain) (v : ℕ) → IsPlain greatest h → ((share_below h v).num ≤ (share_below h v).den) × (0 < (share_below h v).den)
+share-at-most greatest h v p = elim (cases_lt 0 h.total) [
+  | inl some ↦ rw (share-of-some h v some) (part-covered greatest h (held_bin h v + 1) p, some)
+  | inr none ↦ rw (share-of-none h v (omega arith)) (omega arith, omega arith)
+]
 
 -- the samples of the classes up to that of a value are those from 0 to its top
 up-to-class : (g : Grain) (m : 0 < g.digits) (v : ℕ) (S : List ℕ) → in_first g (bin_of g v + 1) S ≡ samples_between 0 (top_of g v) S
@@ -104,7 +115,7 @@ rank-within q n c pos one some =
     )
 
 -- the top of a class is at most that of a value's exactly where its number is
-top-order : (g : Grain) (i v : ℕ) → 0 < g.digits → (top_of g (value_of g i) ≤ top_of g v) ↔ (i ≤ bin_of g v)
+pub top-order : (g : Grain) (i v : ℕ) → 0 < g.digits → (top_of g (value_of g i) ≤ top_of g v) ↔ (i ≤ bin_of g v)
 top-order g i v m =
     let here : bin_of g (top_of g (value_of g i)) ≡ i = bin-of-top g (value_of g i) m ∙ bin-value_of g i m in
     let there = bin-of-top g v m in (

@@ -41,6 +41,11 @@ RefusesBounds low high sigfig make.CannotRepresentSigFigBeyondLow = (0 < low) ×
 RefusesBounds low high sigfig make.UsizeTypeTooSmall = ⊥
 RefusesBounds low high sigfig make.OutOfMemory = IsBounds low high sigfig
 
+-- all digits fit beyond a low below 2 ^ 46, so that they refuse none
+abbrev pub IsBeyondLow : ℕ → CreationError → Type 0
+IsBeyondLow low make.CannotRepresentSigFigBeyondLow = 2 ^ 46 ≤ low
+IsBeyondLow low _ = Unit {0}
+
 -- room for a value past the reach is refused where the bins may not grow, and otherwise only when memory runs out
 abbrev pub RefusesRoom : Plain → ℕ → AdditionError → Type 0
 RefusesRoom h x addition.OtherAddendValueExceedsRange = (reach h < x) × (h.auto_resize ≡ false)

@@ -3,7 +3,7 @@
 use anyhow::{Context, Error, Result, anyhow, bail};
 use hdrhistogram::serialization::interval_log::{
     IntervalFilter, IntervalLogHistogram, IntervalLogIterator, LogEntry, LogIteratorError,
-    MergeError, Tag, TagChoice, merge_log,
+    MergeError, Tag, merge_log,
 };
 use hdrhistogram::serialization::{Deserializer, FieldDecodeError};
 use hdrhistogram::{Histogram, Quantile};
@@ -53,7 +53,7 @@ pub(crate) struct Seen<'a> {
 /// The sum of all intervals of a log.
 pub(crate) fn merged(alloc: Global, log: &[u8]) -> Result<Histogram<u64>> {
     let every = IntervalFilter {
-        tags: TagChoice::Every,
+        tag: None,
         from: None,
         to: None,
     };

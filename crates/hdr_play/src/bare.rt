@@ -3,12 +3,12 @@
 
 ghost use Rattle.std.specs.Prelude.{◌^◌, ◌≤◌};
 
-use hdr_base::{Counter, Fraction, Quantile, Work};
+use hdr_base::{Counter, Fraction, Quantile, Ticks};
 use hdr_core::{
     AdditionError, Call, CallError, CallFrom, CreationError, RecordError, RunError,
     SubtractionError,
 };
-use hdrhistogram::serialization::interval_log::{IntervalFilter, MergeError, merge_log};
+use hdrhistogram::serialization::interval_log::{IntervalChoice, MergeError, merge_chosen};
 use hdrhistogram::serialization::{
     DeserializeError, Deserializer, FieldDecodeError, Serializer, V2SerializeError, V2Serializer,
 };
@@ -63,10 +63,10 @@ impl<T: Counter> Histogram<T> {
         Ok(Histogram { inner })
     }
 
-    pub fn value_at_quantile_counted(&self, quantile: Quantile, work: &mut Work) -> u64
-        requires { work.old ≤ 2 ^ 63 }
+    pub fn value_at_quantile_counted(&self, quantile: Quantile, ticks: &mut Ticks) -> u64
+        requires { ticks.old ≤ 2 ^ 63 }
     {
-        self.inner.value_at_quantile_counted(quantile, work)
+        self.inner.value_at_quantile_counted(quantile, ticks)
     }
 
     pub fn record_n_correct_counted(
@@ -74,12 +74,12 @@ impl<T: Counter> Histogram<T> {
         value: u64,
         count: T,
         interval: u64,
-        work: &mut Work,
+        ticks: &mut Ticks,
     ) -> Result<(), RecordError>
-        requires { work.old ≤ 2 ^ 63 }
+        requires { ticks.old ≤ 2 ^ 63 }
     {
         self.inner
-            .record_n_correct_counted(value, count, interval, work)
+            .record_n_correct_counted(value, count, interval, ticks)
     }
 
     pub fn is(&self, other: &Histogram<T>) -> bool {
@@ -283,13 +283,13 @@ impl<T: Counter> Histogram<T> {
     }
 
     /// The merge of a log's chosen intervals, and how many they are.
-    pub fn merge_log(
+    pub fn merge_chosen(
         alloc: Global,
         log: &[u8],
-        filter: &IntervalFilter<'_>,
+        filter: &IntervalChoice<'_>,
         sigfig: u8,
     ) -> Result<(Histogram<T>, u64), MergeError> {
-        let merged = merge_log(alloc, log, filter, sigfig)?;
+        let merged = merge_chosen(alloc, log, filter, sigfig)?;
         Ok((
             Histogram {
                 inner: merged.histogram,

@@ -2,7 +2,7 @@
 
 use crate::answer::{Answer, number};
 use crate::single::Numbers;
-use hdr_base::{Counter, Quantile, Scale, Work};
+use hdr_base::{Counter, Quantile, Scale, Ticks};
 
 fn counted<T: Counter>(counter: Option<T>) -> Answer {
     match counter {
@@ -68,9 +68,9 @@ pub fn fraction(name: &str, numbers: Numbers) -> Option<Answer> {
         "num" => Some(number(Quantile::new(num, den).map(|quantile| quantile.num()))),
         "den" => Some(number(Quantile::new(num, den).map(|quantile| quantile.den()))),
         "work" => {
-            let mut work = Work::new();
-            work.add_one();
-            Some(Answer::Number(work.count()))
+            let mut ticks = Ticks::new();
+            ticks.tick();
+            Some(Answer::Number(ticks.count()))
         }
         _ => None,
     }

@@ -4,7 +4,7 @@ use crate::answer::Answer;
 use crate::bare::Histogram;
 use crate::logs::{time, unescaped};
 use hdr_base::Counter;
-use hdrhistogram::serialization::interval_log::{IntervalFilter, Tag, TagChoice};
+use hdrhistogram::serialization::interval_log::{IntervalChoice, Tag, TagChoice};
 use std::alloc::Global;
 use std::time::Duration;
 
@@ -16,14 +16,14 @@ fn bound(word: &str) -> Option<Option<Duration>> {
     Some(Some(time(word)?))
 }
 
-/// The filter of three words; a `-` stands for no such word, and a comma, which no tag has, for intervals without a tag.
-fn filter<'a>(tag: &'a str, from: &str, to: &str) -> Option<IntervalFilter<'a>> {
+/// The choice of three words; a `-` stands for no such word, and a comma, which no tag has, for intervals without a tag.
+fn filter<'a>(tag: &'a str, from: &str, to: &str) -> Option<IntervalChoice<'a>> {
     let tags = match tag {
         "-" => TagChoice::Every,
         "," => TagChoice::Untagged,
         _ => TagChoice::Tagged(Tag::new(tag)?),
     };
-    Some(IntervalFilter {
+    Some(IntervalChoice {
         tags,
         from: bound(from)?,
         to: bound(to)?,
@@ -40,7 +40,7 @@ pub fn merge<T: Counter>(alloc: Global, h: &mut Histogram<T>, words: &str) -> Op
     let filter = filter(tag, from, to)?;
     let log = unescaped(alloc, log)?;
     let sigfig = sigfig.parse::<u8>().ok()?;
-    match Histogram::merge_log(alloc, log.as_slice(), &filter, sigfig) {
+    match Histogram::merge_chosen(alloc, log.as_slice(), &filter, sigfig) {
         Ok((merged, chosen)) => {
             *h = merged;
             Some(Answer::Number(chosen))

@@ -6,7 +6,7 @@ use crate::names::{
     BINS, Bin, CHANGES, Change, MAKES, MANIES, Make, Many, PARTS, Part, RANKS, Rank, SINGLES,
     Single, WHOLES, Whole, named,
 };
-use hdr_base::{Counter, Quantile, Work};
+use hdr_base::{Counter, Quantile, Ticks};
 use hdr_core::{CreationError, RecordError};
 use std::alloc::Global;
 
@@ -82,9 +82,9 @@ fn work_of_correction<T: Counter>(
     count: T,
     interval: u64,
 ) -> Answer {
-    let mut work = Work::new();
-    match h.record_n_correct_counted(value, count, interval, &mut work) {
-        Ok(()) => Answer::Number(work.count()),
+    let mut ticks = Ticks::new();
+    match h.record_n_correct_counted(value, count, interval, &mut ticks) {
+        Ok(()) => Answer::Number(ticks.count()),
         Err(e) => Answer::Unrecorded(e),
     }
 }
@@ -142,10 +142,10 @@ fn whole<T: Counter>(h: &Histogram<T>, ask: Whole) -> u64 {
 
 /// The looks of a quantile. None: counted and uncounted, it answers two values.
 fn looks<T: Counter>(h: &Histogram<T>, quantile: Quantile) -> Option<u64> {
-    let mut work = Work::new();
-    let value = h.value_at_quantile_counted(quantile, &mut work);
+    let mut ticks = Ticks::new();
+    let value = h.value_at_quantile_counted(quantile, &mut ticks);
     if value == h.value_at_quantile(quantile) {
-        Some(work.count())
+        Some(ticks.count())
     } else {
         None
     }

@@ -5,7 +5,7 @@ use Rattle.std.specs.Str.{bytes_eq}
 use Rattle.hdr_log.specs.Parts.{◌>>=◌, number_of}
 use Rattle.hdr_log.specs.Grammar.{is_tag, only_if}
 use Rattle.hdr_log.specs.Tags.{tag_text}
-use Rattle.hdrhistogram.specs.Chosen.{TagChoice, Every, Tagged, Filter}
+use Rattle.hdrhistogram.specs.Chosen.{choice_of, Filter}
 use Rattle.hdr_tool.specs.declared.options.CounterType.{CounterType}
 use Rattle.hdr_tool.specs.declared.options.CounterType.TheVariants as counter
 use Rattle.hdr_tool.specs.declared.options.OptionName.{OptionName}
@@ -71,11 +71,6 @@ greatest_into (Some counter.U16) = 2 ^ 16 - 1
 greatest_into (Some counter.U32) = 2 ^ 32 - 1
 greatest_into (Some counter.U64) = 2 ^ 64 - 1
 greatest_into None = 2 ^ 64 - 1
-
--- intervals of a tag that was named, and else every interval
-abbrev pub choice_of : Option (List ℕ) → TagChoice
-choice_of None = Every
-choice_of (Some tag) = Tagged tag
 
 -- which intervals are chosen, by times in nanoseconds
 abbrev pub filter_of : Options → Filter

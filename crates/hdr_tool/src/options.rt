@@ -8,7 +8,7 @@ ghost use Rattle.hdr_tool.specs.Options.{no_options, counter_of_word, option_of_
 
 use crate::parts::is_word;
 use hdr_log::parts::number;
-use hdrhistogram::serialization::interval_log::{IntervalFilter, Tag, TagChoice};
+use hdrhistogram::serialization::interval_log::{IntervalFilter, Tag};
 use std::time::Duration;
 
 /// The counter types that a merge counts in.
@@ -43,12 +43,8 @@ impl<'a> Options<'a> {
     pub fn filter(&self) -> IntervalFilter<'a>
         ensures { view_of_filter result ≡ filter_of (view_of_options self.now) }
     {
-        let tags = match self.tag {
-            Some(tag) => TagChoice::Tagged(tag),
-            None => TagChoice::Every,
-        };
         IntervalFilter {
-            tags,
+            tag: self.tag,
             from: time(self.from),
             to: time(self.to),
         }

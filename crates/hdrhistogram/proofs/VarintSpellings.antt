@@ -1,6 +1,6 @@
 -- Spellings of numbers: one begins no other, and each number of 64 bits has one that is shortest.
-use Rattle.std.proofs.Common.{◌≡◌, ℕ, zero, suc, ◌+◌, ◌*◌, ◌/◌, ◌%◌, ◌^◌, ◌<◌, ◌≤◌, Bool, true, false, cond, List, [], ◌∷◌, ◌++◌, length, refl, sym, ap, ◌∙◌, arith, MatchBool, pow-add, ltb}
-use Rattle.std.proofs.lemmas.Bool.{ltb-true, ltb-false, le-ltb}
+use Rattle.std.proofs.Common.{◌≡◌, ℕ, zero, suc, ◌+◌, ◌*◌, ◌/◌, ◌%◌, ◌^◌, ◌<◌, ◌≤◌, Bool, true, false, cond, List, [], ◌∷◌, ◌++◌, length, refl, sym, ap, ◌∙◌, arith, MatchBool, pow-add, ltb, inl, inr}
+use Rattle.std.proofs.lemmas.Bool.{ltb-true, ltb-false, le-ltb, cases_lt}
 use Rattle.std.specs.List.{AllByRecursion}
 use Rattle.hdrhistogram.specs.Varint.{IsSpelling, number_of_spelling, Spells, IsShortest}
 
@@ -160,6 +160,16 @@ spelling_ends (suc left) (b ∷ bs) h = told (ltb b 128) (λ more. spelling_ends
     told : (t : Bool) → (IsSpelling left bs → length bs ≤ left + 1) → MatchBool t (bs ≡ []) (IsSpelling left bs) → length (b ∷ bs) ≤ suc left + 1
     told true rest none = rw none (omega arith)
     told false rest more = omega (arith, rest more)
+
+-- there is room for the spelling where there are nine bytes, or where it is known to fit
+pub shortest_room : (n room : ℕ) → n < 2 ^ 64 → (room < 9 → (text : List ℕ) → IsShortest text n → length text ≤ room) → (text : List ℕ) → IsShortest text n → length text ≤ room
+shortest_room n room fits h text shortest = elim (cases_lt room 9) [
+  | inl few ↦ h few text shortest
+  | inr enough ↦ omega (arith, enough, shortest_short n text fits shortest)
+]
+
+pub spelling_room : (n room : ℕ) → n < 2 ^ 64 → (room < 9 → (text : List ℕ) → IsShortest text n → length text ≤ room) → length (spelling n) ≤ room
+spelling_room n room fits h = shortest_room n room fits h (spelling n) (spelling_least n fits)
 
 pub spelt_short : (n : ℕ) (text : List ℕ) → Spells text n → length text ≤ 9
 spelt_short n text s = spelling_ends 8 text s.whole

@@ -5,6 +5,7 @@ use Rattle.std.specs.Duration.{as_nanos}
 use Rattle.std.specs.Str.{bytes_eq}
 use Rattle.hdr_log.specs.Tags.{tag_text}
 use Rattle.hdrhistogram.specs.declared.serialization.interval_log.merge.IntervalFilter.{IntervalFilter}
+use Rattle.hdrhistogram.specs.declared.serialization.interval_log.merge.IntervalChoice.{IntervalChoice}
 use Rattle.hdrhistogram.specs.declared.serialization.interval_log.merge.TagChoice as code
 use Rattle.hdrhistogram.specs.declared.serialization.interval_log.merge.TagChoice.TheVariants as choice
 
@@ -25,8 +26,16 @@ pub record Filter : Type 0 where
   pub from : Option ℕ
   pub to : Option ℕ
 
+-- those of a tag that is asked for, and else every interval
+abbrev pub choice_of : Option (List ℕ) → TagChoice
+choice_of None = Every
+choice_of (Some tag) = Tagged tag
+
 abbrev pub view_of_filter : IntervalFilter → Filter
-view_of_filter f = record { tags = view_of_choice f.tags; from = option_map as_nanos f.from; to = option_map as_nanos f.to }
+view_of_filter f = record { tags = choice_of (option_map tag_text f.tag); from = option_map as_nanos f.from; to = option_map as_nanos f.to }
+
+abbrev pub view_of_interval_choice : IntervalChoice → Filter
+view_of_interval_choice c = record { tags = view_of_choice c.tags; from = option_map as_nanos c.from; to = option_map as_nanos c.to }
 
 -- an interval with this tag, or with none, is chosen
 abbrev pub chooses_tag : TagChoice → Option (List ℕ) → Bool

@@ -1,5 +1,5 @@
 -- What merging a log comes to: the histograms of its chosen intervals are added in order, up to the first that is refused.
-use Rattle.std.specs.Prelude.{◌≡◌, ℕ, ◌+◌, Bool, true, false, ◌&&◌, nat_le, if◌then◌else◌, List, [], ◌∷◌, Option, Some, None, Result, Ok, Err}
+use Rattle.std.specs.Prelude.{◌≡◌, ℕ, ◌+◌, ◌<◌, Bool, true, false, ◌&&◌, nat_le, if◌then◌else◌, List, [], ◌∷◌, Option, Some, None, Result, Ok, Err}
 use Rattle.hdr_base.specs.Classes.{Grain}
 use Rattle.hdr_model.specs.Plain.{Plain, grain, empty_plain}
 use Rattle.hdr_model.specs.Merging.{after_add}
@@ -118,6 +118,15 @@ RefusesMerge greatest filter sigfig log e = IsBounds 1 2 sigfig × Merges greate
 abbrev pub IsMergedBy : (Result Merging MergeError → Type 0) → Plain → ℕ → ℕ → Type 0
 IsMergedBy Ends histogram chosen coarser =
     (base : ℕ) × (intervals : ℕ) × Ends (Ok (record { histogram = histogram; base = base; intervals = intervals; chosen = chosen; coarser = coarser }))
+
+-- the same, whatever the number of those that are coarser
+abbrev pub IsMerged : (Result Merging MergeError → Type 0) → Plain → ℕ → Type 0
+IsMerged Ends histogram chosen = (coarser : ℕ) × IsMergedBy Ends histogram chosen coarser
+
+-- no histogram was made, for too many digits alone
+abbrev pub IsOfDigits : ℕ → MergeError → Type 0
+IsOfDigits sigfig (Creation e) = (e ≡ make.SigFigExceedsMax) × (5 < sigfig)
+IsOfDigits sigfig e = Unit {0}
 
 -- the histograms of the chosen intervals of what is read, with the base time before it
 abbrev pub ChosenFirst : Bool → Interval → (List Plain → Type 0) → List Plain → Type 0

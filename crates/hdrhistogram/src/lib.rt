@@ -6,6 +6,6 @@ pub mod serialization;
 
 pub use hdr_core::{
     AdditionError, Call, CallError, CallFrom, Counter, CreationError, Filling, Fraction, Histogram,
-    IterationValue, Quantile, RecordError, RunError, SubtractionError, UsizeTypeTooSmall, Values,
-    Work, errors, iterators,
+    IterationValue, Quantile, RecordError, RunError, SubtractionError, Ticks, UsizeTypeTooSmall,
+    Values, errors, iterators,
 };

@@ -1,6 +1,6 @@
 //! The classes of values, for every `u64`, past the bins too.
 
-ghost use Rattle.std.specs.Prelude.{◌≡◌, ◌↔◌, ◌+◌, ◌-◌, ◌/◌, ◌^◌, IsTrue, min};
+ghost use Rattle.std.specs.Prelude.{◌≡◌, ◌↔◌, ◌+◌, ◌-◌, ◌/◌, ◌^◌, ◌≤◌, IsTrue, min};
 ghost use Rattle.hdr_base.specs.Classes.{width_of, lowest_of, top_of, AreEquivalent, IsFiner};
 ghost use Rattle.hdr_model.specs.Plain.{grain};
 
@@ -24,8 +24,9 @@ impl<T: Counter> Histogram<T> {
 
     /// The lowest value of the next class, or `u64::MAX` where there is none.
     pub fn next_non_equivalent(&self, value: u64) -> u64
-        ensures { result ≡ min (lowest_of (grain self.now) value + width_of (grain self.now) value)
-            (2 ^ 64 - 1) }
+        ensures next { result ≡ min (lowest_of (grain self.now) value
+            + width_of (grain self.now) value) (2 ^ 64 - 1) }
+        ensures at_least { value ≤ result }
     {
         let scale = self.scale;
         scale.lowest(value).saturating_add(scale.width(value))
@@ -41,7 +42,8 @@ impl<T: Counter> Histogram<T> {
 
     /// The width of the class of a value.
     pub fn equivalent_range(&self, value: u64) -> u64
-        ensures { result ≡ width_of (grain self.now) value }
+        ensures width { result ≡ width_of (grain self.now) value }
+        ensures at_least_one { 1 ≤ result }
     {
         self.scale.width(value)
     }

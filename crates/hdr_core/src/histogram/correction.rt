@@ -1,7 +1,7 @@
 //! Recording with correction for coordinated omission, class by class.
 
 ghost use Rattle.std.specs.Prelude.{◌≡◌, ℕ, List, ◌∷◌, ◌++◌, ◌+◌, ◌-◌, ◌*◌, ◌/◌, ◌^◌, ◌<◌, ◌≤◌, OnOk, IfErr, true, false, [], length};
-ghost use Rattle.hdr_base.specs.Classes.{bucket, reach_of};
+ghost use Rattle.hdr_base.specs.Classes.{bucket, reach_of, most_bins};
 ghost use Rattle.hdr_model.specs.Plain.{grain, reach};
 ghost use Rattle.hdr_model.specs.Recording.{after_add_to_bin, after_records, samples_of, high_with};
 ghost use Rattle.hdr_model.specs.Samples.{GainsSamples};
@@ -9,7 +9,7 @@ ghost use Rattle.hdr_model.specs.Refusals.{HasRoom, RefusesRecord};
 ghost use Rattle.hdr_model.specs.Correction.{missing, each_times, after_correct, classes_held, down_to};
 
 use super::Histogram;
-use hdr_base::{Counter, Work};
+use hdr_base::{Counter, Ticks};
 use hdr_model::RecordError;
 
 impl<T: Counter> Histogram<T> {
@@ -48,31 +48,32 @@ impl<T: Counter> Histogram<T> {
         ensures refused { IfErr result (λ e. RefusesRecord self.old value e
             × (self.new ≡ self.old)) }
     {
-        self.record_n_correct_counted(value, count, interval, &mut Work::new())
+        self.record_n_correct_counted(value, count, interval, &mut Ticks::new())
     }
 
-    /// `record_n_correct`, and what it costs: `work` grows by one for each counter that is updated after the first. There is one
+    /// `record_n_correct`, and what it costs: `ticks` grows by one for each counter that is updated after the first. There is one
     /// for each class that holds a missing value, and so no more than there are bins.
     pub fn record_n_correct_counted(
         &mut self,
         value: u64,
         count: T,
         interval: u64,
-        work: &mut Work,
+        ticks: &mut Ticks,
     ) -> Result<(), RecordError>
-        requires { work.old ≤ 2 ^ 63 }
+        requires { ticks.old ≤ 2 ^ 63 }
         ensures ok { OnOk result (self.new ≡ after_correct T.greatest self.old value
             (T.number count) interval) }
-        ensures work { OnOk result (work.new ≡ work.old + classes_held (grain self.new)
+        ensures ticks { OnOk result (ticks.new ≡ ticks.old + classes_held (grain self.new)
             (length self.new.counts) (missing value interval)) }
-        ensures at_most_bins { OnOk result (work.new ≤ work.old + length self.new.counts) }
+        ensures at_most_bins { OnOk result (ticks.new ≤ ticks.old + length self.new.counts) }
+        ensures few { OnOk result (ticks.new ≤ ticks.old + most_bins) }
         ensures samples { OnOk result (GainsSamples T.greatest self.old self.new
             (samples_of (each_times (T.number count) (value ∷ missing value interval)))) }
         ensures high { OnOk result (self.new.high ≡ high_with (grain self.old) self.old.high value
             (reach_of (grain self.old) value)) }
         ensures can { OnOk result (HasRoom self.old value) }
         ensures refused { IfErr result (λ e. RefusesRecord self.old value e × (self.new ≡ self.old)
-            × (work.new ≡ work.old)) }
+            × (ticks.new ≡ ticks.old)) }
     {
         self.record_n(value, count)?;
         if hides(value, interval) {
@@ -80,31 +81,32 @@ impl<T: Counter> Histogram<T> {
                 value.saturating_sub(interval),
                 count.as_u64(),
                 interval,
-                work,
+                ticks,
             );
         }
         Ok(())
     }
 
     /// Records the values from `first` down to the interval, an interval apart, class by class.
-    pub(super) fn add_missing(&mut self, first: u64, count: u64, interval: u64, work: &mut Work)
+    pub(super) fn add_missing(&mut self, first: u64, count: u64, interval: u64, ticks: &mut Ticks)
         requires step { 0 < interval }
         requires within { first ≤ reach self.old }
-        requires room { work.old ≤ 2 ^ 63 }
+        requires room { ticks.old ≤ 2 ^ 63 }
         ensures state { self.new ≡ after_records T.greatest self.old
             (each_times count (down_to first interval)) }
-        ensures work { work.new ≡ work.old + classes_held (grain self.old)
+        ensures ticks { ticks.new ≡ ticks.old + classes_held (grain self.old)
             (length self.old.counts) (down_to first interval) }
         ensures samples { GainsSamples T.greatest self.old self.new
             (samples_of (each_times count (down_to first interval))) }
         ensures same_classes { grain self.new ≡ grain self.old }
         ensures same_bins { length self.new.counts ≡ length self.old.counts }
+        ensures few { length self.new.counts ≤ most_bins }
     {
         let scale = self.scale;
         let mut next = first;
         while next >= interval {
             let start = scale.bucket_start(next).max(interval);
-            next = self.add_in_bucket(next, start, count, interval, work);
+            next = self.add_in_bucket(next, start, count, interval, ticks);
         }
     }
 
@@ -116,22 +118,22 @@ impl<T: Counter> Histogram<T> {
         start: u64,
         count: u64,
         interval: u64,
-        work: &mut Work,
+        ticks: &mut Ticks,
     ) -> u64
         requires step { 0 < interval }
         requires some { (interval ≤ start) × (start ≤ first) }
         requires one_bucket { (x : ℕ) → start ≤ x → x ≤ first
             → bucket (grain self.old) x ≡ bucket (grain self.old) first }
         requires within { first ≤ reach self.old }
-        requires room { work.old + classes_held (grain self.old) (length self.old.counts)
+        requires room { ticks.old + classes_held (grain self.old) (length self.old.counts)
             (down_to first interval) < 2 ^ 64 }
         ensures less { result < first }
         ensures state { after_records T.greatest self.new
             (each_times count (down_to result interval)) ≡ after_records T.greatest self.old
             (each_times count (down_to first interval)) }
-        ensures work { work.new + classes_held (grain self.old) (length self.old.counts)
+        ensures ticks { ticks.new + classes_held (grain self.old) (length self.old.counts)
             (down_to result interval)
-            ≡ work.old + classes_held (grain self.old) (length self.old.counts)
+            ≡ ticks.old + classes_held (grain self.old) (length self.old.counts)
             (down_to first interval) }
         ensures same_classes { grain self.new ≡ grain self.old }
         ensures same_bins { length self.new.counts ≡ length self.old.counts }
@@ -144,25 +146,25 @@ impl<T: Counter> Histogram<T> {
         while next >= start {
             let span = (next % width).min(next - interval);
             let members = steps(span, interval, few) + 1;
-            self.add_counted(bin + (next / width) as usize, members, count, work);
+            self.add_counted(bin + (next / width) as usize, members, count, ticks);
             next -= members * interval;
         }
         next
     }
 
-    /// Adds members of a class, `count` times each, to its bin, and counts that update as work.
-    fn add_counted(&mut self, bin: usize, members: u64, count: u64, work: &mut Work)
+    /// Adds members of a class, `count` times each, to its bin, and counts that update.
+    fn add_counted(&mut self, bin: usize, members: u64, count: u64, ticks: &mut Ticks)
         requires bin { bin < length self.old.counts }
-        requires room { work.old < 2 ^ 64 - 1 }
+        requires room { ticks.old < 2 ^ 64 - 1 }
         ensures state { self.new ≡ after_add_to_bin T.greatest self.old bin (members * count) }
-        ensures work { work.new ≡ work.old + 1 }
+        ensures ticks { ticks.new ≡ ticks.old + 1 }
     {
         let number = u128::from(members) * u128::from(count);
         match u64::try_from(number) {
             Ok(number) => self.add_to_bin(bin, number),
             Err(_) => self.add_capped(bin, number),
         }
-        work.add_one();
+        ticks.tick();
     }
 }
 

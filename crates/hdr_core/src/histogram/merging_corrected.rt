@@ -11,7 +11,7 @@ ghost use Rattle.hdr_model.specs.Merging.{corrections_from, highest_top, after_a
 
 use super::Histogram;
 use super::correction::hides;
-use hdr_base::{Counter, Work};
+use hdr_base::{Counter, Ticks};
 use hdr_model::RecordError;
 
 impl<T: Counter> Histogram<T> {
@@ -122,7 +122,7 @@ impl<T: Counter> Histogram<T> {
                 value.saturating_sub(interval),
                 count,
                 interval,
-                &mut Work::new(),
+                &mut Ticks::new(),
             );
         }
     }

@@ -2,14 +2,14 @@
 
 ghost use Rattle.std.specs.Prelude.{◌≡◌, ℕ, ◌+◌, ◌^◌, ◌<◌, ◌≤◌, List, IfSome, MatchOption, length, sum};
 ghost use Rattle.std.specs.Int.{div_ceil};
-ghost use Rattle.hdr_base.specs.Classes.{bucket};
+ghost use Rattle.hdr_base.specs.Classes.{bucket, most_bins};
 ghost use Rattle.hdr_counts.specs.Blocks.{looks, IsFirstToReach};
 ghost use Rattle.hdr_model.specs.Plain.{grain, block_of};
 ghost use Rattle.hdr_model.specs.Samples.{StandsFor};
 ghost use Rattle.hdr_model.specs.Quantiles.{rank, ranked_sample, first_reaching, answer_at, quantile_of, IsTopNear, hundredth};
 
 use super::Histogram;
-use hdr_base::{Counter, Quantile, Work};
+use hdr_base::{Counter, Quantile, Ticks};
 
 impl<T: Counter> Histogram<T> {
     /// The greatest value of the class that holds the sample of a quantile: the sample at the place
@@ -24,21 +24,22 @@ impl<T: Counter> Histogram<T> {
         self.answer(quantile.num(), self.first_reaching(rank))
     }
 
-    /// The answer of `value_at_quantile`, and what it costs: `work` grows by one for each look at a block's sum or at a counter.
+    /// The answer of `value_at_quantile`, and what it costs: `ticks` grows by one for each look at a block's sum or at a counter.
     /// There are at most as many looks as there are blocks and counters in a block together. A block holds half as many bins as
-    /// the first bucket.
-    pub fn value_at_quantile_counted(&self, quantile: Quantile, work: &mut Work) -> u64
-        requires { work.old ≤ 2 ^ 63 }
+    /// the first bucket. Its sum is added up from those of its sections, up to 32 of them, which is one look.
+    pub fn value_at_quantile_counted(&self, quantile: Quantile, ticks: &mut Ticks) -> u64
+        requires { ticks.old ≤ 2 ^ 63 }
         ensures value { result ≡ quantile_of self.now quantile }
         ensures ranked { (S : List ℕ) → StandsFor self.now S → 0 < length S → 0 < quantile.num
             → IsTopNear self.now (ranked_sample quantile S) result }
-        ensures looks { work.new ≡ work.old + looks (block_of self.now) (length self.now.counts)
+        ensures looks { ticks.new ≡ ticks.old + looks (block_of self.now) (length self.now.counts)
             (first_reaching self.now.counts (rank quantile self.now.total)) }
-        ensures at_most { work.new ≤ work.old +
+        ensures at_most { ticks.new ≤ ticks.old +
             (bucket (grain self.now) self.now.high + 2 + block_of self.now) }
+        ensures few { ticks.new ≤ ticks.old + most_bins }
     {
         let rank = rank_of(quantile.num(), u128::from(quantile.den()), self.total);
-        let place = self.find(rank, work);
+        let place = self.find(rank, ticks);
         self.answer(quantile.num(), place)
     }
 
@@ -65,17 +66,17 @@ impl<T: Counter> Histogram<T> {
         self.counts.first_reaching(rank)
     }
 
-    /// The same, and counts each look as work.
-    fn find(&self, rank: u64, work: &mut Work) -> Option<usize>
+    /// The same, and counts each look.
+    fn find(&self, rank: u64, ticks: &mut Ticks) -> Option<usize>
         requires some { 1 ≤ rank }
-        requires room { work.old ≤ 2 ^ 63 }
+        requires room { ticks.old ≤ 2 ^ 63 }
         ensures place { result ≡ first_reaching self.now.counts rank }
         ensures within { IfSome result (λ i. i < length self.now.counts) }
-        ensures looks { work.new ≡ work.old + looks (block_of self.now)
+        ensures looks { ticks.new ≡ ticks.old + looks (block_of self.now)
             (length self.now.counts) result }
     {
         let sections = self.scale.sections_in_block();
-        self.counts.find(rank, sections, work)
+        self.counts.find(rank, sections, ticks)
     }
 
     /// What the first class that reaches a rank answers to a quantile of that numerator.

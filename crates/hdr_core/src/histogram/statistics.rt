@@ -1,6 +1,6 @@
 //! What the counters of a histogram hold.
 
-ghost use Rattle.std.specs.Prelude.{◌≡◌, ℕ, ◌+◌, ◌-◌, ◌*◌, ◌^◌, ◌<◌, ◌≤◌, min, slice_index, length, List};
+ghost use Rattle.std.specs.Prelude.{◌≡◌, ℕ, ◌+◌, ◌-◌, ◌*◌, ◌^◌, ◌<◌, ◌≤◌, min, slice_index, length, List, IfSome};
 ghost use Rattle.hdr_base.specs.Classes.{lowest_of, top_of, value_of, bin_of};
 ghost use Rattle.hdr_model.specs.Plain.{IsPlain, grain, reach};
 ghost use Rattle.hdr_model.specs.Samples.{StandsFor};
@@ -19,12 +19,13 @@ impl<T: Counter> Histogram<T> {
     }
 
     /// The sum of the counters from one value's bin to another's, up to `u64::MAX`; 0 where the first is later.
-    /// A value past the bins counts as one of the last bin.
+    /// A value past the bins counts as one of the last bin. It is at most `len`.
     pub fn count_between(&self, low: u64, high: u64) -> u64
         ensures value { result ≡ min (sum_between self.now low high) (2 ^ 64 - 1) }
         ensures samples { (S : List ℕ) → StandsFor self.now S → low ≤ high → high ≤ reach self.now
             → result ≡ samples_between (lowest_of (grain self.now) low)
             (top_of (grain self.now) high) S }
+        ensures at_most { result ≤ self.now.total }
     {
         let from = self.held_bin(low);
         let to = self.held_bin(high);
@@ -50,6 +51,8 @@ impl<T: Counter> Histogram<T> {
               den = length S;
             } }
         ensures fits { result.num < 2 ^ 64 }
+        ensures share { result.num ≤ result.den }
+        ensures den { 0 < result.den }
     {
         if self.total == 0 {
             return Fraction { num: 1, den: 1 };
@@ -63,7 +66,9 @@ impl<T: Counter> Histogram<T> {
 
     /// The same share in hundredths.
     pub fn percentile_below(&self, value: u64) -> Fraction
-        ensures { result ≡ in_hundredths (share_below self.now value) }
+        ensures value { result ≡ in_hundredths (share_below self.now value) }
+        ensures share { result.num ≤ 100 * result.den }
+        ensures den { 0 < result.den }
     {
         let share = self.quantile_below(value);
         Fraction {
@@ -75,7 +80,8 @@ impl<T: Counter> Histogram<T> {
     /// The mean of the samples, each taken as the value in the middle of its class: the exact sum over `len`. 0 of 1 where
     /// there are no samples; `None` where `len` is `u64::MAX`, which more samples than that may stand for.
     pub fn mean(&self) -> Option<Fraction>
-        ensures { result ≡ mean_of self.now }
+        ensures value { result ≡ mean_of self.now }
+        ensures den { IfSome result (λ mean. 0 < mean.den) }
     {
         if self.total == u64::MAX {
             return None;

@@ -13,5 +13,8 @@ mod writer;
 pub use builder::IntervalLogWriterBuilder;
 pub use errors::{CommentError, IntervalLogWriterError};
 pub use hdr_log::{IntervalLogHistogram, IntervalLogIterator, LogEntry, LogIteratorError, Tag};
-pub use merge::{IntervalFilter, MergeError, Merged, TagChoice, merge_log};
+pub use merge::{
+    IntervalChoice, IntervalFilter, MergeError, Merged, MergedChoice, TagChoice, merge_chosen,
+    merge_log,
+};
 pub use writer::IntervalLogWriter;

@@ -11,14 +11,14 @@ use std::io::Write;
 /// Writes histograms as bytes.
 pub trait Serializer {
     /// Why a histogram is not written.
-    type SerializeError;
+    type SerializeError: Drop;
 
     /// The histogram may be written as these bytes. The relation speaks of the histogram's numbers
     /// alone, of no counter type and of no writer.
     ghost writes: { Plain → List ℕ → Type 0 };
 
-    /// Why the histogram may be refused, whatever the writer holds.
-    ghost refuses: { Plain → Self.SerializeError → Type 0 };
+    /// Why the histogram may be refused, whatever the writer holds; any reason where it is left out.
+    ghost refuses: { Plain → Self.SerializeError → Type 0 } = { λ _ _. Unit {0} };
 
     /// Writes the histogram whole, and gives the number of bytes written.
     fn serialize<T: Counter, W: Write>(

@@ -1,6 +1,6 @@
 //! Numbers as bytes of seven bits each, and a ninth of eight.
 
-ghost use Rattle.std.specs.Prelude.{List, length, take, ℕ, ◌≤◌, IfSome, IfNone, IfOk, OnErr};
+ghost use Rattle.std.specs.Prelude.{List, length, take, ℕ, ◌<◌, ◌≤◌, IfSome, IfNone, IfOk, OnErr};
 ghost use Rattle.std.specs.Io.KnownBytes.{Consumes};
 ghost use Rattle.hdrhistogram.specs.Streams.{WritesFront};
 ghost use Rattle.hdrhistogram.specs.Varint.{IsShortest, Spells};
@@ -21,7 +21,7 @@ const SHORT_BELOW: u64 = 128 * 128;
 /// nine bytes always suffice.
 #[inline]
 pub fn varint_write(n: u64, buf: &mut [u8]) -> usize
-    requires { (text : List ℕ) → IsShortest text n → length text ≤ length buf.old }
+    requires { length buf.old < 9 → (text : List ℕ) → IsShortest text n → length text ≤ length buf.old }
     ensures written { WritesFront (λ text. IsShortest text n) buf.old buf.new result }
     ensures few { result ≤ 9 }
 {

@@ -1,4 +1,4 @@
-use Rattle.std.proofs.Common.{◌≡◌, ◌+◌, ◌-◌, ◌*◌, ◌/◌, ◌^◌, ◌<◌, ◌≤◌, ℕ, List, length, map, sum, take, drop, sym, ap, ◌∙◌, subst, arith}
+use Rattle.std.proofs.Common.{◌≡◌, ◌+◌, ◌-◌, ◌*◌, ◌/◌, ◌^◌, ◌<◌, ◌≤◌, ℕ, List, length, map, sum, take, drop, refl, sym, ap, ◌∙◌, subst, arith}
 use Rattle.std.proofs.lemmas.List.{length-map, length-take}
 use Rattle.std.proofs.lemmas.Nat.{div-mul-add, mod-mul-add}
 use Rattle.hdr_counts.specs.Blocks.{Blocks, sum_below, IsFirstToReach}
@@ -21,12 +21,12 @@ read g c = group-sum-read c.args.group c.loop-k.k (c.loop-k.k * c.args.group + c
 found : (g : given.Over) (c : After-from_residual g) → ⊥
 found g c =
     none-found g.T.Counter.number c.self.inside.counters.items c.deref-then-sum-from.result.now c.self.inside.sums.items c.self.inside.block c.args.group c.loop-k.k _ _ _
-    (group g (goal.at.returns-in_err-place-clause-place g c).In-loop-k) c.deref-then-sum-from.ensures.value (c.sum_of_sums.ensures ∙ read g (goal.at.returns-in_err-place-clause-place g c).After-deref) c.look-sum.ensures.value
+    (group g (goal.at.returns-in_err-place-clause-place g c).In-loop-k) c.deref-then-sum-from.ensures.value (c.look_blocks-sum.ensures.value ∙ read g (goal.at.returns-in_err-place-clause-place g c).After-deref) refl
     (omega (arith, c.if-sum-from.true, c.from.ensures)) c.in_err-place.ensures.place
 
-pub sum_of_sums-requires : goal.sum_of_sums-requires
-sum_of_sums-requires g c =
-    subst (λ n. n < 2 ^ 128) (sym (read g (goal.at.sum_of_sums-requires g c).After-deref)) (group g (goal.at.sum_of_sums-requires g c).In-loop-k).fits
+pub look_blocks-sum-requires-clause-fits : goal.look_blocks-sum-requires-clause-fits
+look_blocks-sum-requires-clause-fits g c =
+    subst (λ n. n < 2 ^ 128) (sym (read g (goal.at.look_blocks-sum-requires-clause-fits g c).After-deref)) (group g (goal.at.look_blocks-sum-requires-clause-fits g c).In-loop-k).fits
 
 pub overflow_mul-from : goal.overflow_mul-from
 overflow_mul-from g c = record { fits = omega (arith, (group g (goal.at.overflow_mul-from g c).In-loop-k).end_fits) }
@@ -45,8 +45,8 @@ slice_bounds-first_reaching_looked-end g c =
 pub returns-in_err-place-clause-place : goal.returns-in_err-place-clause-place
 returns-in_err-place-clause-place g c = absurd (found g c)
 
-pub returns-in_err-place-clause-work : goal.returns-in_err-place-clause-work
-returns-in_err-place-clause-work g c = absurd (found g c)
+pub returns-in_err-place-clause-ticks : goal.returns-in_err-place-clause-ticks
+returns-in_err-place-clause-ticks g c = absurd (found g c)
 
 pub returns-then-sum-from-clause-place : goal.returns-then-sum-from-clause-place
 returns-then-sum-from-clause-place g c =
@@ -64,15 +64,15 @@ returns-then-sum-from-clause-place g c =
 part-short : {X : Type 0} (a w : ℕ) (xs : List X) → length (take (a + w - a) xs) ≤ w
 part-short a w xs = omega (arith, length-take (a + w - a) xs)
 
-pub returns-then-sum-from-clause-work : goal.returns-then-sum-from-clause-work
-returns-then-sum-from-clause-work g c =
+pub returns-then-sum-from-clause-ticks : goal.returns-then-sum-from-clause-ticks
+returns-then-sum-from-clause-ticks g c =
     let s = c.self.inside in
     let k = c.loop-k.k in
     let w = c.args.group * s.block in
     let p = c.in_ok-place.place in
     let from = drop (k * w) c.deref-then-sum-from.result.now in
     let inside : p < w = omega (arith, c.in_ok-place.ensures.place.0, length-map (take (k * w + w - k * w) from) g.T.Counter.number, part-short (k * w) w from) in
-    rw (← c.self.view_is, div-mul-add k w p inside, mod-mul-add k w p inside) (omega (arith, c.in_ok-place.ensures.work, c.look-sum.ensures.counted, c.loop-k.invariant.2))
+    rw (← c.self.view_is, div-mul-add k w p inside, mod-mul-add k w p inside) (omega (arith, c.in_ok-place.ensures.ticks, c.look_blocks-sum.ensures.counted, c.loop-k.invariant.2))
 
 pub loop-k-preserved : goal.loop-k-preserved
 loop-k-preserved g c = (
@@ -81,14 +81,13 @@ loop-k-preserved g c = (
     (group g (goal.at.loop-k-preserved g c).In-loop-k).sums.each c.loop-k.k (group g (goal.at.loop-k-preserved g c).In-loop-k).inside,
     (group g (goal.at.loop-k-preserved g c).In-loop-k).own,
     read g (goal.at.loop-k-preserved g c).After-deref,
-    c.sum_of_sums.ensures,
-    c.look-sum.ensures.value,
+    c.look_blocks-sum.ensures.value,
     c.from.ensures,
     c.if-sum-from.false,
     c.loop-k.invariant.0,
   ),
-  omega (arith, c.look-sum.ensures.value, c.from.ensures, c.if-sum-from.false),
-  omega (arith, c.look-sum.ensures.counted, c.loop-k.invariant.2),
+  omega (arith, c.look_blocks-sum.ensures.value, c.from.ensures, c.if-sum-from.false),
+  omega (arith, c.look_blocks-sum.ensures.counted, c.loop-k.invariant.2),
 )
 
 -- after the last group nothing is left
@@ -101,5 +100,5 @@ end g c =
 pub returns-clause-place : goal.returns-clause-place
 returns-clause-place g c = rw (← c.self.view_is) (omega (arith, (end g c).0, c.loop-k.invariant.0, c.loop-k.invariant.1))
 
-pub returns-clause-work : goal.returns-clause-work
-returns-clause-work g c = rw (← c.self.view_is) (omega (arith, (end g c).1, c.loop-k.invariant.2))
+pub returns-clause-ticks : goal.returns-clause-ticks
+returns-clause-ticks g c = rw (← c.self.view_is) (omega (arith, (end g c).1, c.loop-k.invariant.2))

@@ -5,13 +5,13 @@ use Rattle.hdr_counts.proofs.search.first_reaching_looked.Goals as goal
 pub returns-then-number-rest-clause-place : goal.returns-then-number-rest-clause-place
 returns-then-number-rest-clause-place g c =
     first-here g.T.Counter.number c.args.counters.now c.loop-i.i c.index-counters-i.result c.args.rest c.loop-i.rest c.loop-i-test.true c.index-counters-i.is
-    c.loop-i.invariant.0 c.loop-i.invariant.1 (omega (arith, c.as_u64.ensures.value, c.from.ensures, c.look-number.ensures.value, c.if-number-rest.true))
+    c.loop-i.invariant.0 c.loop-i.invariant.1 (omega (arith, c.look_counter-number.ensures.value, c.if-number-rest.true))
 
 pub loop-i-preserved : goal.loop-i-preserved
 loop-i-preserved g c =
     let few = less-left g.T.Counter.number c.args.counters.now c.loop-i.i c.index-counters-i.result c.args.rest c.loop-i.rest c.loop-i-test.true c.index-counters-i.is
-    c.loop-i.invariant.0 (omega (arith, c.as_u64.ensures.value, c.from.ensures, c.look-number.ensures.value, c.if-number-rest.false)) in
-    (omega (arith, few, c.as_u64.ensures.value, c.from.ensures, c.look-number.ensures.value), omega arith, omega (arith, c.look-number.ensures.counted, c.loop-i.invariant.2))
+    c.loop-i.invariant.0 (omega (arith, c.look_counter-number.ensures.value, c.if-number-rest.false)) in
+    (omega (arith, few, c.look_counter-number.ensures.value), omega arith, omega (arith, c.look_counter-number.ensures.counted, c.loop-i.invariant.2))
 
 pub returns-clause-place : goal.returns-clause-place
 returns-clause-place g c = none-left g.T.Counter.number c.args.counters.now c.loop-i.i c.args.rest c.loop-i.rest (omega arith) c.loop-i.invariant.0 c.loop-i.invariant.1

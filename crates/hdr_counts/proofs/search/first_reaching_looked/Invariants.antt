@@ -4,4 +4,4 @@ use Rattle.hdr_counts.proofs.search.first_reaching_looked.Given as goal
 
 abbrev pub invariant-loop-i : goal.invariant-loop-i
 invariant-loop-i g l =
-    (l.rest + sum_below (map g.T.Counter.number l.counters) l.i ≡ l.initial.rest) × (0 < l.rest) × (l.work ≡ l.initial.work + l.i)
+    (l.rest + sum_below (map g.T.Counter.number l.counters) l.i ≡ l.initial.rest) × (0 < l.rest) × (l.ticks ≡ l.initial.ticks + l.i)

@@ -28,7 +28,7 @@ returns-in_err-run_input-clause-answers g c =
       a.0,
       a.1,
       moved (λ h o n. LinesRefused c.args.is_log h (number_lines 1 (Some a.0)) o n (cause_of fault) fault) c.in-Ok.histogram (empty_plain 1 2 c.args.sigfig true) (g.W.Write.contents (sink c.new-log.result).now) (g.W.Write.contents c.args.writer.now) (g.W.Write.contents (sink c.run_input.new.log).now) _
-          c.in-Ok.ensures.0 (ap g.W.Write.contents c.new-log.ensures.holds) (ap g.W.Write.contents (sym (c.writer-1.given.1 (sym (c.run_input.ensures.same.writer ∙ c.new-log.ensures.writer)) ∙ c.drop-log.ensures.writer))) a.2,
+          c.in-Ok.ensures.made.0 (ap g.W.Write.contents c.new-log.ensures.holds) (ap g.W.Write.contents (sym (c.writer-1.given.1 (sym (c.run_input.ensures.same.writer ∙ c.new-log.ensures.writer)) ∙ c.drop-log.ensures.writer))) a.2,
     )
 
 pub returns-clause-answers : goal.returns-clause-answers
@@ -37,5 +37,5 @@ returns-clause-answers g c =
       a.0,
       a.1,
       moved (λ h o n. (done : List ℕ) × Runs (LineDone c.args.is_log) h (number_lines 1 (Some a.0)) (record { written = done; ended = Ok c.run_input.new.histogram }) × Appends o n done) c.in-Ok.histogram (empty_plain 1 2 c.args.sigfig true) (g.W.Write.contents (sink c.new-log.result).now) (g.W.Write.contents c.args.writer.now) (g.W.Write.contents (sink c.run_input.new.log).now) _
-          c.in-Ok.ensures.0 (ap g.W.Write.contents c.new-log.ensures.holds) (ap g.W.Write.contents (sym (c.writer-2-1.given.1 (sym (c.run_input.ensures.same.writer ∙ c.new-log.ensures.writer)) ∙ c.drop-log-2.ensures.writer))) a.2,
+          c.in-Ok.ensures.made.0 (ap g.W.Write.contents c.new-log.ensures.holds) (ap g.W.Write.contents (sym (c.writer-2-1.given.1 (sym (c.run_input.ensures.same.writer ∙ c.new-log.ensures.writer)) ∙ c.drop-log-2.ensures.writer))) a.2,
     )

@@ -44,8 +44,6 @@ pub(crate) fn serialized<T: Counter, S: Serializer>(
     serializer: &mut S,
     h: &Histogram<T>,
 ) -> Result<Vec<u8>, IntervalLogWriterError<S::SerializeError>>
-where
-    S::SerializeError: Drop,
     ensures { MatchResult result (λ bytes. S.writes h.now bytes.items)
         (RefusesSerialized (S.refuses h.now)) }
 {

@@ -1,6 +1,6 @@
 //! Merging the chosen intervals of a log.
 
-ghost use Rattle.std.specs.Prelude.{◌≡◌, ◌+◌, ◌<◌, ◌≤◌, ◌^◌, ℕ, length, MatchResult, Ok, Err};
+ghost use Rattle.std.specs.Prelude.{◌≡◌, ◌+◌, ◌<◌, ◌≤◌, ◌^◌, ℕ, length, MatchResult, IfErr, Ok, Err};
 ghost use Rattle.std.specs.Option.{option_map};
 ghost use Rattle.std.specs.Duration.{as_nanos};
 ghost use Rattle.hdr_model.specs.Plain.{grain};
@@ -8,8 +8,8 @@ ghost use Rattle.hdr_model.specs.Refusals.{IsBounds, RefusesBounds};
 ghost use Rattle.hdr_log.specs.Tags.{tag_text};
 ghost use Rattle.hdr_log.specs.Texts.{base64_bytes};
 ghost use Rattle.hdr_log.specs.Reading.{view_of_interval, view_of_item};
-ghost use Rattle.hdrhistogram.specs.Chosen.{chooses_tag, begins_from, begins_before, is_chosen, view_of_choice, view_of_filter};
-ghost use Rattle.hdrhistogram.specs.LogMerging.{one_if_coarser, FieldMerges, EntryMerges, Merges, RefusesStep, RefusesMerge, IsMergedBy, creation_error, field_error};
+ghost use Rattle.hdrhistogram.specs.Chosen.{chooses_tag, begins_from, begins_before, is_chosen, view_of_choice, view_of_filter, view_of_interval_choice};
+ghost use Rattle.hdrhistogram.specs.LogMerging.{one_if_coarser, FieldMerges, EntryMerges, Merges, RefusesStep, RefusesMerge, IsMergedBy, IsMerged, IsOfDigits, creation_error, field_error};
 ghost use Rattle.hdrhistogram.specs.MergeView.{view_of_merging};
 
 use crate::serialization::deserializer::Deserializer;
@@ -20,6 +20,18 @@ use hdr_log::{IntervalLogHistogram, IntervalLogIterator, LogEntry, LogIteratorEr
 use std::alloc::Global;
 use std::time::Duration;
 use thiserror::Error;
+
+/// Which intervals of a log are chosen. An interval begins at its start after the log's last base time before it, or
+/// after the epoch where it has none.
+#[derive(Debug, PartialEq, Clone, Copy)]
+pub struct IntervalFilter<'a> {
+    /// Intervals of this tag alone; `None`: tagged or not.
+    pub tag: Option<Tag<'a>>,
+    /// Intervals that begin at this time or later, since the epoch; `None`: from the first on.
+    pub from: Option<Duration>,
+    /// Intervals that begin before this time, since the epoch; `None`: to the last.
+    pub to: Option<Duration>,
+}
 
 /// Which intervals of a log are chosen by their tags.
 #[derive(Debug, PartialEq, Eq, Clone, Copy)]
@@ -32,10 +44,9 @@ pub enum TagChoice<'a> {
     Untagged,
 }
 
-/// Which intervals of a log are chosen. An interval begins at its start after the log's last base time before it, or
-/// after the epoch where it has none.
+/// An `IntervalFilter` that can also choose the intervals without a tag.
 #[derive(Debug, PartialEq, Clone, Copy)]
-pub struct IntervalFilter<'a> {
+pub struct IntervalChoice<'a> {
     /// Whether their tags matter, and which one they have to have.
     pub tags: TagChoice<'a>,
     /// Intervals that begin at this time or later, since the epoch; `None`: from the first on.
@@ -47,6 +58,15 @@ pub struct IntervalFilter<'a> {
 /// What was merged of a log.
 #[derive(Debug, Drop)]
 pub struct Merged<T: Counter> {
+    /// The sum of the chosen intervals' histograms.
+    pub histogram: Histogram<T>,
+    /// How many intervals were chosen.
+    pub chosen: u64,
+}
+
+/// What was merged of a log, and how many of its intervals are coarser than the sum.
+#[derive(Debug, Drop)]
+pub struct MergedChoice<T: Counter> {
     /// The sum of the chosen intervals' histograms.
     pub histogram: Histogram<T>,
     /// How many intervals were chosen.
@@ -99,10 +119,33 @@ pub fn merge_log<T: Counter>(
     filter: &IntervalFilter<'_>,
     sigfig: u8,
 ) -> Result<Merged<T>, MergeError>
-    ensures { MatchResult result
-        (λ m. IsBounds 1 2 sigfig × IsMergedBy (λ r. Merges T.greatest
-        (view_of_filter filter.now) sigfig log.now r) m.histogram m.chosen m.coarser)
+    ensures merged { MatchResult result
+        (λ m. IsBounds 1 2 sigfig × IsMerged (λ r. Merges T.greatest
+        (view_of_filter filter.now) sigfig log.now r) m.histogram m.chosen)
         (RefusesMerge T.greatest (view_of_filter filter.now) sigfig log.now) }
+    ensures digits { IfErr result (IsOfDigits sigfig) }
+{
+    match merge_chosen(alloc, log, &filter.choice(), sigfig) {
+        Ok(merged) => Ok(Merged {
+            histogram: merged.histogram,
+            chosen: merged.chosen,
+        }),
+        Err(error) => Err(error),
+    }
+}
+
+/// `merge_log` of a choice, which also counts the chosen intervals that are coarser than the sum.
+pub fn merge_chosen<T: Counter>(
+    alloc: Global,
+    log: &[u8],
+    choice: &IntervalChoice<'_>,
+    sigfig: u8,
+) -> Result<MergedChoice<T>, MergeError>
+    ensures merged { MatchResult result
+        (λ m. IsBounds 1 2 sigfig × IsMergedBy (λ r. Merges T.greatest
+        (view_of_interval_choice choice.now) sigfig log.now r) m.histogram m.chosen m.coarser)
+        (RefusesMerge T.greatest (view_of_interval_choice choice.now) sigfig log.now) }
+    ensures digits { IfErr result (IsOfDigits sigfig) }
 {
     let histogram = match Histogram::new(alloc, sigfig) {
         Ok(histogram) => histogram,
@@ -117,11 +160,11 @@ pub fn merge_log<T: Counter>(
         coarser: 0,
     };
     for entry in IntervalLogIterator::new(log) {
-        if let Err(error) = merge_entry(&mut merging, filter, &entry) {
+        if let Err(error) = merge_entry(&mut merging, choice, &entry) {
             return Err(error);
         }
     }
-    Ok(Merged {
+    Ok(MergedChoice {
         histogram: merging.histogram,
         chosen: merging.chosen,
         coarser: merging.coarser,
@@ -155,7 +198,7 @@ fn not_made(cause: CreationError) -> MergeError
 /// Does what is read of a log.
 fn merge_entry<T: Counter>(
     merging: &mut Merging<T>,
-    filter: &IntervalFilter<'_>,
+    choice: &IntervalChoice<'_>,
     entry: &Result<LogEntry<'_>, LogIteratorError>,
 ) -> Result<(), MergeError>
     requires room { merging.old.intervals + 1 < 2 ^ 64 }
@@ -165,9 +208,9 @@ fn merge_entry<T: Counter>(
     ensures chosen { merging.new.chosen ≤ merging.new.intervals }
     ensures coarser { merging.new.coarser ≤ merging.new.intervals }
     ensures done { MatchResult result
-        (λ _. EntryMerges T.greatest (view_of_filter filter.now) (view_of_merging merging.old)
+        (λ _. EntryMerges T.greatest (view_of_interval_choice choice.now) (view_of_merging merging.old)
         (view_of_item entry.now) (Ok (view_of_merging merging.new)))
-        (RefusesStep (λ e. EntryMerges T.greatest (view_of_filter filter.now)
+        (RefusesStep (λ e. EntryMerges T.greatest (view_of_interval_choice choice.now)
         (view_of_merging merging.old) (view_of_item entry.now) (Err e))) }
 {
     match entry {
@@ -177,7 +220,7 @@ fn merge_entry<T: Counter>(
             Ok(())
         }
         Ok(LogEntry::Interval(interval)) => {
-            if filter.chooses(merging.base, interval) {
+            if choice.chooses(merging.base, interval) {
                 merge_field(merging, interval.encoded_histogram())
             } else {
                 merging.intervals += 1;
@@ -238,11 +281,36 @@ fn not_decoded(interval: u64, cause: FieldDecodeError) -> MergeError
     }
 }
 
-impl IntervalFilter<'_> {
+impl<'a> IntervalFilter<'a> {
+    /// The same choice, for `merge_chosen`.
+    pub fn choice(&self) -> IntervalChoice<'a>
+        ensures { view_of_interval_choice result ≡ view_of_filter self.now }
+    {
+        let tags = match self.tag {
+            Some(tag) => TagChoice::Tagged(tag),
+            None => TagChoice::Every,
+        };
+        IntervalChoice {
+            tags,
+            from: self.from,
+            to: self.to,
+        }
+    }
+
+    /// Whether an interval is chosen, with this base time.
+    pub fn chooses(&self, base: Duration, interval: &IntervalLogHistogram<'_>) -> bool
+        ensures { result ≡ is_chosen (view_of_filter self.now) (view_of_interval interval.now).tag
+            (as_nanos base + (view_of_interval interval.now).start) }
+    {
+        self.choice().chooses(base, interval)
+    }
+}
+
+impl IntervalChoice<'_> {
     /// Whether an interval is chosen, with this base time.
     #[tactic(auto, unfolding(crate::specs::Chosen::is_chosen))]
     pub fn chooses(&self, base: Duration, interval: &IntervalLogHistogram<'_>) -> bool
-        ensures { result ≡ is_chosen (view_of_filter self.now) (view_of_interval interval.now).tag
+        ensures { result ≡ is_chosen (view_of_interval_choice self.now) (view_of_interval interval.now).tag
             (as_nanos base + (view_of_interval interval.now).start) }
     {
         let time = base.as_nanos() + interval.start_timestamp().as_nanos();

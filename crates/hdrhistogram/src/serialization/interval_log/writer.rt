@@ -103,8 +103,6 @@ impl<'a, 'b, W: Write, S: Serializer> IntervalLogWriter<'a, 'b, W, S> {
         duration: Duration,
         tag: Option<Tag<'_>>,
     ) -> Result<(), IntervalLogWriterError<S::SerializeError>>
-    where
-        S::SerializeError: Drop,
         ensures same { IsSameLog self.old self.new }
         ensures leaves { WritesText (IsIntervalText S.writes h.now (option_map tag_text tag.entry)
             (as_nanos start_timestamp) (as_nanos duration) (divisor_of self.old)) (S.refuses h.now)

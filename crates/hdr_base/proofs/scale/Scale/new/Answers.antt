@@ -2,7 +2,7 @@ use Rattle.std.proofs.Common.{◌≡◌, refl, arith}
 use Rattle.hdr_base.specs.Classes.{grain_of, unit_of}
 use Rattle.hdr_base.proofs.ClassesScale.{unit-is}
 use Rattle.hdr_base.proofs.ClassesDigits.{digits-IsLeast}
-use Rattle.hdr_base.proofs.ClassesIntervals.{unit-IsLeast}
+use Rattle.hdr_base.proofs.ClassesIntervals.{unit-IsLeast, unit-small}
 use Rattle.hdr_base.proofs.scale.Scale.new.Goals as goal
 
 pub returns-then-unit-digits-gt63-clause-scale : goal.returns-then-unit-digits-gt63-clause-scale
@@ -23,3 +23,7 @@ returns-clause-unit c = unit-IsLeast c.args.low c.ilog2-unit.result c.ilog2-unit
 
 pub returns-clause-digits : goal.returns-clause-digits
 returns-clause-digits c = rw c.in_ok-digits.ensures.value.1 (digits-IsLeast c.args.sigfig)
+
+pub returns-then-unit-digits-gt63-clause-small : goal.returns-then-unit-digits-gt63-clause-small
+returns-then-unit-digits-gt63-clause-small c = λ some below few.
+    absurd (omega (arith, unit-small c.args.low c.ilog2-unit.result c.ilog2-unit.ensures.power_le below, c.in_ok-digits.ensures.bounds.1))

@@ -53,7 +53,7 @@ add_counted-requires-clause-room g c =
     let i = c.args.interval in
     let low = max (lowest_of (grain h) x) i in
     let f = found g (goal.at.add_counted-requires-clause-room g c).In-loop-next in
-    omega (arith, c.requires.room, c.loop-next.invariant.work, held-step (grain h) x i low ((x - low) / i + 1) (omega arith) f.digits f.ge refl refl (length h.counts) f.room)
+    omega (arith, c.requires.room, c.loop-next.invariant.ticks, held-step (grain h) x i low ((x - low) / i + 1) (omega arith) f.digits f.ge refl refl (length h.counts) f.room)
 
 pub overflow_sub-next-in-loop-next : goal.overflow_sub-next-in-loop-next
 overflow_sub-next-in-loop-next g c =
@@ -87,7 +87,7 @@ loop-next-preserved g c =
     rw steps (record {
       state = ap (λ (s : Plain). after_records greatest s (each_times n (down_to (x - m * i) i))) new
           ∙ state-step greatest k x i low m n (omega arith) digits_here f.ge is_low_here refl (omega (arith, c.requires.within, inv.below, inv.same_reach)) room_here ∙ inv.state;
-      work = omega (arith, c.add_counted.ensures.work, inv.work, held-step (grain h) x i low m (omega arith) f.digits f.ge refl refl (length h.counts) f.room);
+      ticks = omega (arith, c.add_counted.ensures.ticks, inv.ticks, held-step (grain h) x i low m (omega arith) f.digits f.ge refl refl (length h.counts) f.room);
       same_classes = ap (λ (s : Plain). grain s) new ∙ grain-added greatest k (bin_of (grain k) x) (m * n) ∙ inv.same_classes;
       same_bins = ap (λ (s : Plain). length s.counts) new ∙ bins-added greatest k (bin_of (grain k) x) (m * n) ∙ inv.same_bins;
       same_reach = ap (λ (s : Plain). reach s) new ∙ reach-added greatest k (bin_of (grain k) x) (m * n) ∙ inv.same_reach;

@@ -7,8 +7,8 @@ use Rattle.hdr_core.proofs.histogram.Histogram.add_in_bucket.Given as goal
 abbrev pub invariant-loop-next : goal.invariant-loop-next
 invariant-loop-next g l = record {
   state : after_records g.T.Counter.greatest l.self (each_times l.count (down_to l.next l.interval)) ≡ after_records g.T.Counter.greatest l.initial.self (each_times l.count (down_to l.initial.next l.interval));
-  work : l.work + classes_held (grain l.initial.self) (length l.initial.self.counts) (down_to l.next l.interval)
-      ≡ l.initial.work + classes_held (grain l.initial.self) (length l.initial.self.counts) (down_to l.initial.next l.interval);
+  ticks : l.ticks + classes_held (grain l.initial.self) (length l.initial.self.counts) (down_to l.next l.interval)
+      ≡ l.initial.ticks + classes_held (grain l.initial.self) (length l.initial.self.counts) (down_to l.initial.next l.interval);
   same_classes : grain l.self ≡ grain l.initial.self;
   same_bins : length l.self.counts ≡ length l.initial.self.counts;
   same_reach : reach l.self ≡ reach l.initial.self;

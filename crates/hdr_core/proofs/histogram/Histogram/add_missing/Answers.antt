@@ -6,6 +6,7 @@ use Rattle.hdr_model.specs.Correction.{each_times, classes_held, down_to}
 use Rattle.hdr_model.proofs.CorrectionFacts.{down_to-end, down_to-within}
 use Rattle.hdr_model.proofs.CorrectionClasses.{held-le, held-none}
 use Rattle.hdr_model.proofs.MergingStands.{StandsFor-each}
+use Rattle.hdr_model.proofs.PlainBins.{few-bins}
 use Rattle.hdr_model.proofs.CorrectionByClass.{bins-few, each-within}
 use Rattle.hdr_core.proofs.histogram.Histogram.add_missing.Goals as goal
 
@@ -13,7 +14,7 @@ pub add_in_bucket-next-requires-clause-room : goal.add_in_bucket-next-requires-c
 add_in_bucket-next-requires-clause-room g c =
     let h = c.args.self.now in
     rw (c.loop-next.invariant.same_classes, c.loop-next.invariant.same_bins)
-    (omega (arith, c.requires.room, c.loop-next.invariant.work, held-le (grain h) (length h.counts) (down_to c.args.first c.args.interval), bins-few g.T.Counter.greatest h (rw c.self.view_is at c.self.invariant.plain)))
+    (omega (arith, c.requires.room, c.loop-next.invariant.ticks, held-le (grain h) (length h.counts) (down_to c.args.first c.args.interval), bins-few g.T.Counter.greatest h (rw c.self.view_is at c.self.invariant.plain)))
 
 pub returns-clause-state : goal.returns-clause-state
 returns-clause-state g c =
@@ -22,13 +23,13 @@ returns-clause-state g c =
     let end : down_to c.loop-next.next c.args.interval ≡ [] = down_to-end c.loop-next.next c.args.interval (omega arith) in
     sym (ap (λ ys. after_records greatest c.loop-next.self (each_times n ys)) end) ∙ c.loop-next.invariant.state
 
-pub returns-clause-work : goal.returns-clause-work
-returns-clause-work g c =
+pub returns-clause-ticks : goal.returns-clause-ticks
+returns-clause-ticks g c =
     let h = c.args.self.now in
     let end : down_to c.loop-next.next c.args.interval ≡ [] = down_to-end c.loop-next.next c.args.interval (omega arith) in
     let none : classes_held (grain h) (length h.counts) (down_to c.loop-next.next c.args.interval) ≡ 0 =
     ap (λ ys. classes_held (grain h) (length h.counts) ys) end ∙ held-none (grain h) (length h.counts) in
-    omega (arith, c.loop-next.invariant.work)
+    omega (arith, c.loop-next.invariant.ticks)
 
 pub returns-clause-samples : goal.returns-clause-samples
 returns-clause-samples g c = λ S stands fits.
@@ -37,3 +38,6 @@ returns-clause-samples g c = λ S stands fits.
     let within = All-weaker (λ y. (c.args.interval ≤ y) × (y ≤ c.args.first)) (λ y. y ≤ reach h) (λ y e. omega (arith, e, c.requires.within)) values (down_to-within c.args.first c.args.interval (omega arith)) in
     rw (returns-clause-state g c)
     (StandsFor-each g.T.Counter.greatest h (each_times c.args.count values) S g.met.T.Counter.one_fits (rw c.self.view_is at c.self.invariant.plain) (each-within (reach h) c.args.count values within) stands fits)
+
+pub returns-clause-few : goal.returns-clause-few
+returns-clause-few g c = omega (arith, c.loop-next.invariant.same_bins, few-bins g.T.Counter.greatest c.args.self.now (rw c.self.view_is at c.self.invariant.plain))

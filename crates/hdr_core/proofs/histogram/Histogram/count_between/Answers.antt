@@ -3,6 +3,7 @@ use Rattle.std.specs.List.{slice_range}
 use Rattle.hdr_model.specs.Plain.{Plain}
 use Rattle.hdr_model.specs.Statistics.{held_bin}
 use Rattle.hdr_model.proofs.StatisticsBetween.{between-samples, held-order, part-sum}
+use Rattle.hdr_model.proofs.StatisticsShares.{part-covered}
 use Rattle.hdr_core.proofs.histogram.Histogram.count_between.Given as given
 use Rattle.hdr_core.proofs.histogram.Histogram.count_between.Goals as goal
 use Rattle.hdr_core.proofs.histogram.Histogram.count_between.Goals.{Joined-from-eq0, then-from-eq0, else-from-eq0}
@@ -36,6 +37,15 @@ returns-clause-value g c =
     ∙ ap (λ (p : Plain). sum (slice_range p.counts from (to + 1))) c.self.view_is
     ∙ ap (λ a. sum (slice_range h.counts a (to + 1))) c.held_bin-from.ensures.value
     ∙ ap (λ b. sum (slice_range h.counts (held_bin h c.args.low) (b + 1))) c.held_bin-to.ensures.value)
+
+pub returns-clause-at_most : goal.returns-clause-at_most
+returns-clause-at_most g c =
+    let h = c.args.self.now in
+    let p = c.held_bin-from.ensures.plain in
+    let from = c.held_bin-from.result in
+    let to = c.held_bin-to.result in
+    let less : c.sum_to.result ≡ sum (take (to + 1) h.counts) = c.sum_to.ensures ∙ ap (λ (q : Plain). sum (take (to + 1) q.counts)) c.self.view_is in
+    omega (arith, c.capped_total.ensures, less, part-covered g.T.Counter.greatest h (to + 1) p)
 
 pub returns-clause-samples : goal.returns-clause-samples
 returns-clause-samples g c = λ S stands le within.

@@ -31,5 +31,5 @@ pub returns-clause-looks : goal.returns-clause-looks
 returns-clause-looks g c =
     let h = plain_of c.self.inside in
     let block : c.sections_in_block-sections.result * c.self.inside.counts.block ≡ block_of h = sections-in-block c.self.inside.scale (grain h) c.sections_in_block-sections.result c.self.inside.counts.block c.self.invariant.scale c.sections_in_block-sections.ensures.value c.self.invariant.block in
-    c.find.ensures.work ∙ ap (λ b. c.args.work.now + looks b (length c.self.inside.counts.numbers) c.find.result) block
-    ∙ ap (λ (p : Plain). c.args.work.now + looks (block_of p) (length p.counts) c.find.result) c.self.view_is
+    c.find.ensures.ticks ∙ ap (λ b. c.args.ticks.now + looks b (length c.self.inside.counts.numbers) c.find.result) block
+    ∙ ap (λ (p : Plain). c.args.ticks.now + looks (block_of p) (length p.counts) c.find.result) c.self.view_is

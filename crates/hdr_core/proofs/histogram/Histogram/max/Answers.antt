@@ -3,6 +3,8 @@ use Rattle.hdr_base.specs.Classes.{bin_of}
 use Rattle.hdr_model.specs.Plain.{Plain, grain, reach}
 use Rattle.hdr_model.proofs.PlainBins.{bin-of-max, max-has-bin}
 use Rattle.hdr_model.proofs.RecordingClears.{max-marked, max-unmarked}
+use Rattle.hdr_model.proofs.MergingCopies.{highest-max}
+use Rattle.hdr_model.specs.Merging.{highest_top}
 use Rattle.hdr_core.proofs.histogram.Histogram.max.Goals as goal
 
 pub returns-in-Some-clause-value : goal.returns-in-Some-clause-value
@@ -27,3 +29,11 @@ returns-in-None-clause-bin g c =
 pub returns-in-None-clause-within : goal.returns-in-None-clause-within
 returns-in-None-clause-within g c =
     subst (λ v. v ≤ reach c.args.self.now) (sym (returns-in-None-clause-value g c)) (max-has-bin g.T.Counter.greatest c.args.self.now (rw c.self.view_is at c.self.invariant.plain))
+
+pub returns-in-Some-clause-covers : goal.returns-in-Some-clause-covers
+returns-in-Some-clause-covers g c =
+    subst (λ v. highest_top c.args.self.now ≤ v) (sym (returns-in-Some-clause-value g c)) (highest-max g.T.Counter.greatest c.args.self.now (rw c.self.view_is at c.self.invariant.plain))
+
+pub returns-in-None-clause-covers : goal.returns-in-None-clause-covers
+returns-in-None-clause-covers g c =
+    subst (λ v. highest_top c.args.self.now ≤ v) (sym (returns-in-None-clause-value g c)) (highest-max g.T.Counter.greatest c.args.self.now (rw c.self.view_is at c.self.invariant.plain))

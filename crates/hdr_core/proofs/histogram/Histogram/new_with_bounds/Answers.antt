@@ -8,15 +8,15 @@ new-requires-clause-few g c = rw (c.section.ensures.value) c.sections.ensures.fe
 pub invariant_of-result : goal.invariant_of-result
 invariant_of-result g c =
     let a = c.args in
-    let bins = made c.in_ok-scale.scale a.low a.high a.sigfig c.sections.result c.section.result false c.in-Ok.counts c.in_ok-scale.ensures.0 c.section.ensures.value c.sections.ensures.value c.in-Ok.ensures in
+    let bins = made c.in_ok-scale.scale a.low a.high a.sigfig c.sections.result c.section.result false c.in-Ok.counts c.in_ok-scale.ensures.made.0 c.section.ensures.value c.sections.ensures.value c.in-Ok.ensures in
     record {
-      scale = c.in_ok-scale.ensures.0;
+      scale = c.in_ok-scale.ensures.made.0;
       block = bins.block;
-      plain = rw (c.none.ensures, bins.empty) (IsPlain-empty g.T.Counter.greatest a.low a.high a.sigfig false c.in_ok-scale.ensures.1.scale (omega arith) c.in_ok-scale.ensures.1.wide);
+      plain = rw (c.none.ensures, bins.empty) (IsPlain-empty g.T.Counter.greatest a.low a.high a.sigfig false c.in_ok-scale.ensures.made.1.scale (omega arith) c.in_ok-scale.ensures.made.1.wide);
     }
 
-pub returns : goal.returns
-returns g c =
+pub returns-clause-made : goal.returns-clause-made
+returns-clause-made g c =
     let a = c.args in
-    let bins = made c.in_ok-scale.scale a.low a.high a.sigfig c.sections.result c.section.result false c.in-Ok.counts c.in_ok-scale.ensures.0 c.section.ensures.value c.sections.ensures.value c.in-Ok.ensures in
-    (rw c.none.ensures bins.empty, c.in_ok-scale.ensures.1)
+    let bins = made c.in_ok-scale.scale a.low a.high a.sigfig c.sections.result c.section.result false c.in-Ok.counts c.in_ok-scale.ensures.made.0 c.section.ensures.value c.sections.ensures.value c.in-Ok.ensures in
+    (rw c.none.ensures bins.empty, c.in_ok-scale.ensures.made.1)

@@ -1,7 +1,8 @@
-use Rattle.std.proofs.Common.{◌≡◌, ◌+◌, ◌-◌, ◌^◌, min, take, sum, sym, ap, ◌∙◌, arith}
+use Rattle.std.proofs.Common.{◌≡◌, ◌+◌, ◌-◌, ◌^◌, ◌≤◌, min, take, sum, sym, ap, ◌∙◌, subst, arith}
+use Rattle.hdr_base.specs.Fractions.{Ratio}
 use Rattle.hdr_model.specs.Plain.{Plain}
 use Rattle.hdr_model.specs.Statistics.{held_bin}
-use Rattle.hdr_model.proofs.StatisticsShares.{share-of-none, share-of-some, share-of-samples}
+use Rattle.hdr_model.proofs.StatisticsShares.{share-of-none, share-of-some, share-of-samples, share-at-most}
 use Rattle.hdr_core.proofs.histogram.Histogram.quantile_below.Goals as goal
 
 pub returns-then-self-eq0-clause-value : goal.returns-then-self-eq0-clause-value
@@ -19,3 +20,7 @@ returns-clause-value g c =
 pub returns-clause-samples : goal.returns-clause-samples
 returns-clause-samples g c = λ S stands some.
     returns-clause-value g c ∙ share-of-samples g.T.Counter.greatest c.args.self.now c.args.value S c.held_bin.ensures.plain stands some
+
+pub returns-clause-share : goal.returns-clause-share
+returns-clause-share g c =
+    subst (λ (q : Ratio). q.num ≤ q.den) (sym (returns-clause-value g c)) (share-at-most g.T.Counter.greatest c.args.self.now c.args.value c.held_bin.ensures.plain).0

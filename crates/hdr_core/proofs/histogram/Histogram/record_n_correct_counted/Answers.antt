@@ -36,21 +36,21 @@ returns-then-hides-clause-ok g c =
     ∙ ap (λ k. after_records greatest (after_record greatest c.args.self.now v n) (each_times k (down_to c.saturating_sub.result i))) c.as_u64.ensures.value
     ∙ ap (λ xs. after_records greatest (after_record greatest c.args.self.now v n) (each_times n xs)) (list g c)
 
-pub returns-then-hides-clause-work : goal.returns-then-hides-clause-work
-returns-then-hides-clause-work g c =
+pub returns-then-hides-clause-ticks : goal.returns-then-hides-clause-ticks
+returns-then-hides-clause-ticks g c =
     let v = c.args.value in
     let i = c.args.interval in
     let mid = c.record_n.new.self in
     let new = c.add_missing.new.self in
-    c.add_missing.ensures.work
-    ∙ ap (λ xs. c.args.work.now + classes_held (grain mid) (length mid.counts) xs) (list g c)
-    ∙ ap (λ (k : Grain). c.args.work.now + classes_held k (length mid.counts) (missing v i)) (sym c.add_missing.ensures.same_classes)
-    ∙ ap (λ m. c.args.work.now + classes_held (grain new) m (missing v i)) (sym c.add_missing.ensures.same_bins)
+    c.add_missing.ensures.ticks
+    ∙ ap (λ xs. c.args.ticks.now + classes_held (grain mid) (length mid.counts) xs) (list g c)
+    ∙ ap (λ (k : Grain). c.args.ticks.now + classes_held k (length mid.counts) (missing v i)) (sym c.add_missing.ensures.same_classes)
+    ∙ ap (λ m. c.args.ticks.now + classes_held (grain new) m (missing v i)) (sym c.add_missing.ensures.same_bins)
 
 pub returns-then-hides-clause-at_most_bins : goal.returns-then-hides-clause-at_most_bins
 returns-then-hides-clause-at_most_bins g c =
     let new = c.add_missing.new.self in
-    omega (arith, returns-then-hides-clause-work g c, held-le (grain new) (length new.counts) (missing c.args.value c.args.interval))
+    omega (arith, returns-then-hides-clause-ticks g c, held-le (grain new) (length new.counts) (missing c.args.value c.args.interval))
 
 pub returns-then-hides-clause-samples : goal.returns-then-hides-clause-samples
 returns-then-hides-clause-samples g c = λ S stands fits.
@@ -78,8 +78,8 @@ returns-else-hides-clause-ok g c =
     c.in_ok-record_n.ensures.ok
     ∙ ap (λ xs. after_records g.T.Counter.greatest (after_record g.T.Counter.greatest c.args.self.now c.args.value n) (each_times n xs)) (sym (none g c))
 
-pub returns-else-hides-clause-work : goal.returns-else-hides-clause-work
-returns-else-hides-clause-work g c =
+pub returns-else-hides-clause-ticks : goal.returns-else-hides-clause-ticks
+returns-else-hides-clause-ticks g c =
     let h = c.record_n.new.self in
     let no_class : classes_held (grain h) (length h.counts) (missing c.args.value c.args.interval) ≡ 0 =
     ap (λ xs. classes_held (grain h) (length h.counts) xs) (none g c) ∙ held-none (grain h) (length h.counts) in
@@ -93,3 +93,6 @@ returns-else-hides-clause-samples g c = λ S stands fits.
     ap (λ xs. S ++ (replicate n v ++ samples_of (each_times n xs))) (none g c) ∙ ap (λ xs. S ++ xs) (append-nil (replicate n v)) in
     subst (λ xs. StandsFor c.record_n.new.self xs) (sym list)
     (c.in_ok-record_n.ensures.samples S stands (subst (λ xs. Fits g.T.Counter.greatest (grain c.args.self.now) xs) list fits))
+
+pub returns-then-hides-clause-few : goal.returns-then-hides-clause-few
+returns-then-hides-clause-few g c = omega (arith, returns-then-hides-clause-at_most_bins g c, c.add_missing.ensures.few)

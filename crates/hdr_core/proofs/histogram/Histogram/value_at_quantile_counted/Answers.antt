@@ -8,6 +8,7 @@ use Rattle.std.proofs.lemmas.Nat.{pow_pos}
 use Rattle.hdr_base.specs.Classes.{bucket}
 use Rattle.hdr_base.proofs.ClassesReach.{bins-blocks}
 use Rattle.hdr_model.proofs.PlainKept.{grain-digits}
+use Rattle.hdr_model.proofs.PlainBins.{looks-few}
 use Rattle.hdr_model.proofs.QuantilesAnswers.{looks-most}
 use Rattle.hdr_core.proofs.histogram.Histogram.value_at_quantile_counted.Given as given
 use Rattle.hdr_core.proofs.histogram.Histogram.value_at_quantile_counted.Goals as goal
@@ -33,7 +34,7 @@ returns-clause-ranked g c = λ S stands some share.
 
 pub returns-clause-looks : goal.returns-clause-looks
 returns-clause-looks g c =
-    c.find-place.ensures.looks ∙ ap (λ o. c.args.work.now + looks (block_of c.args.self.now) (length c.args.self.now.counts) o) (found g (goal.at.returns-clause-looks g c).After-find-place)
+    c.find-place.ensures.looks ∙ ap (λ o. c.args.ticks.now + looks (block_of c.args.self.now) (length c.args.self.now.counts) o) (found g (goal.at.returns-clause-looks g c).After-find-place)
 
 pub returns-clause-at_most : goal.returns-clause-at_most
 returns-clause-at_most g c =
@@ -45,3 +46,7 @@ returns-clause-at_most g c =
       looks-most (block_of h) (length h.counts) (bucket (grain h) h.high + 2) c.find-place.result
           (pow_pos ((grain h).digits - 1)) (p.bins ∙ bins-blocks (grain h) h.high (grain-digits g.T.Counter.greatest h p) ∙ ap (λ n. n * block_of h) (let e : bucket (grain h) h.high + 1 + 1 ≡ bucket (grain h) h.high + 2 = omega arith in e)) c.find-place.ensures.within,
     )
+
+pub returns-clause-few : goal.returns-clause-few
+returns-clause-few g c =
+    omega (arith, returns-clause-at_most g c, looks-few g.T.Counter.greatest c.args.self.now (rw c.self.view_is at c.self.invariant.plain))

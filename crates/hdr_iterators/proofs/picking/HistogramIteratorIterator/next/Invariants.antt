@@ -1,6 +1,6 @@
 use Rattle.std.proofs.Common.{◌≡◌, ◌-◌, IsTrue, []}
 use Rattle.hdr_iterators.specs.Seen.{bins_in}
-use Rattle.hdr_iterators.specs.Picks.{InStep}
+use Rattle.hdr_iterators.specs.Picks.{InStep, AllFilled}
 use Rattle.hdr_iterators.proofs.picking.HistogramIteratorIterator.next.Given as goal
 
 abbrev pub invariant-loop-self : goal.invariant-loop-self
@@ -15,6 +15,7 @@ invariant-loop-self g l =
     × (s.last_picked_index ≡ first.last_picked_index)
     × (s.bins ≡ first.bins)
     × (l.len ≡ bins_in s.bins)
+    × (IsTrue s.skips_empty → AllFilled s.bins (P.picks s.picker s.bins))
 
 abbrev pub decreases-loop-self : goal.decreases-loop-self
 decreases-loop-self g l = l.len - l.self-inside.current_index

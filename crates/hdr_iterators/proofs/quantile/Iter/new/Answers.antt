@@ -1,12 +1,17 @@
 use Rattle.std.proofs.Common.{drop, sym, subst}
 use Rattle.hdr_iterators.specs.Seen.{bins_in}
-use Rattle.hdr_iterators.specs.Picks.{AllBefore}
+use Rattle.hdr_iterators.specs.Picks.{AllBefore, AllFilled}
 use Rattle.hdr_iterators.specs.Ticks.{TickOf}
 use Rattle.hdr_iterators.specs.Places.{quantile_picks}
-use Rattle.hdr_iterators.proofs.TicksLists.{picks_within}
+use Rattle.hdr_iterators.proofs.TicksLists.{picks_within, picks_filled}
 use Rattle.hdr_iterators.proofs.quantile.Iter.new.Goals as goal
 
-pub new-requires-clause-within : goal.new-requires-clause-within
-new-requires-clause-within g c =
+pub of_filled-requires-clause-within : goal.of_filled-requires-clause-within
+of_filled-requires-clause-within g c =
     let h = c.binned-bins.result in
     subst (λ (k : TickOf). AllBefore (bins_in h) (drop k.number (quantile_picks h k.per_half))) (sym c.first.ensures) (picks_within h c.args.ticks_per_half_distance)
+
+pub of_filled-requires-clause-filled : goal.of_filled-requires-clause-filled
+of_filled-requires-clause-filled g c =
+    let h = c.binned-bins.result in
+    subst (λ (k : TickOf). AllFilled h (drop k.number (quantile_picks h k.per_half))) (sym c.first.ensures) (picks_filled h c.args.ticks_per_half_distance 0)

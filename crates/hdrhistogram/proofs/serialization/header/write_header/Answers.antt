@@ -9,6 +9,6 @@ returns g c =
     ∙ c.put_u32-3.ensures.kept 40 (omega arith) ∙ c.put_u32-2.ensures.kept 40 (omega arith) ∙ c.put_u32.ensures.kept 40 (omega arith) in
     header_written c.args.h.now c.args.payload_len c.from.result c.low.result c.high.result c.args.buf.now
     c.put_u32.new.buf c.put_u32-2.new.buf c.put_u32-3.new.buf c.put_u32-4.new.buf c.put_u64.new.buf c.put_u64-2.new.buf c.put_u64-3.new.buf
-    (c.from.ensures ∙ c.sigfig.ensures.value) c.low.ensures c.high.ensures
+    (c.from.ensures ∙ c.sigfig.ensures.value) c.low.ensures c.high.ensures.value
     c.put_u32.ensures.front c.put_u32-2.ensures.front c.put_u32-3.ensures.front c.put_u32-4.ensures.front
     c.put_u64.ensures.front c.put_u64-2.ensures.front c.put_u64-3.ensures.front behind

@@ -5,7 +5,7 @@ use Rattle.hdrhistogram.proofs.VarintWriting.{put_behind}
 use Rattle.hdrhistogram.proofs.serialization.payload.put_number.Goals as goal
 
 pub varint_write-requires : goal.varint_write-requires
-varint_write-requires c text h = simp (length-take, length-drop) (omega (arith, shortest_short c.args.number text (omega arith) h))
+varint_write-requires c few text h = simp (length-take, length-drop) (omega (arith, shortest_short c.args.number text (omega arith) h))
 
 pub returns-clause-kept : goal.returns-clause-kept
 returns-clause-kept c =

@@ -10,18 +10,18 @@ new-requires-clause-few g c = rw (c.section.ensures.value) c.sections.ensures.fe
 pub invariant_of-result : goal.invariant_of-result
 invariant_of-result g c =
     let a = c.args in
-    let bins = made c.in_ok-scale.scale a.low a.high a.sigfig c.sections.result c.section.result false c.in-Ok.counts c.in_ok-scale.ensures.0 c.section.ensures.value c.sections.ensures.value c.in-Ok.ensures in
+    let bins = made c.in_ok-scale.scale a.low a.high a.sigfig c.sections.result c.section.result false c.in-Ok.counts c.in_ok-scale.ensures.made.0 c.section.ensures.value c.sections.ensures.value c.in-Ok.ensures in
     record {
-      same_scale = c.in_ok-scale.ensures.0;
+      same_scale = c.in_ok-scale.ensures.made.0;
       block = bins.block;
-      has_scale = c.in_ok-scale.ensures.1.scale;
+      has_scale = c.in_ok-scale.ensures.made.1.scale;
       high_fits = omega arith;
-      wide = c.in_ok-scale.ensures.1.wide;
+      wide = c.in_ok-scale.ensures.made.1.wide;
       whole = bins.bins;
     }
 
 pub returns : goal.returns
 returns g c =
     let a = c.args in
-    let bins = made c.in_ok-scale.scale a.low a.high a.sigfig c.sections.result c.section.result false c.in-Ok.counts c.in_ok-scale.ensures.0 c.section.ensures.value c.sections.ensures.value c.in-Ok.ensures in
-    (ap (λ (h : Plain). open_of h) bins.empty, c.in_ok-scale.ensures.1)
+    let bins = made c.in_ok-scale.scale a.low a.high a.sigfig c.sections.result c.section.result false c.in-Ok.counts c.in_ok-scale.ensures.made.0 c.section.ensures.value c.sections.ensures.value c.in-Ok.ensures in
+    (ap (λ (h : Plain). open_of h) bins.empty, c.in_ok-scale.ensures.made.1)
