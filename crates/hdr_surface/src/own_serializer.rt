@@ -1,0 +1,69 @@
+//! Serializers of the caller's own, for the writer of logs.
+
+use hdrhistogram::{Counter, Histogram};
+use hdrhistogram::serialization::{Serializer, V2SerializeError, V2Serializer};
+use std::alloc::Global;
+use std::io::Write;
+
+/// Writes V2 bytes by the library's serializer, and counts the calls that succeeded.
+#[derive(Drop)]
+pub struct Counted {
+    inner: V2Serializer,
+    calls: u64,
+}
+
+impl Counted {
+    pub fn new(alloc: Global) -> Counted {
+        Counted {
+            inner: V2Serializer::new(alloc),
+            calls: 0,
+        }
+    }
+
+    pub fn calls(&self) -> u64 {
+        self.calls
+    }
+}
+
+impl Serializer for Counted {
+    ghost use Rattle.hdrhistogram.specs.V2.{IsV2};
+    ghost use Rattle.hdrhistogram.specs.SerializeRefusals.{RefusesNamed};
+
+    type SerializeError = V2SerializeError;
+
+    ghost writes = { IsV2 };
+
+    ghost refuses = { RefusesNamed };
+
+    fn serialize<T: Counter, W: Write>(
+        &mut self,
+        h: &Histogram<T>,
+        writer: &mut W,
+    ) -> Result<usize, V2SerializeError> {
+        let count = self.inner.serialize(h, writer)?;
+        self.calls = self.calls.saturating_add(1);
+        Ok(count)
+    }
+}
+
+/// Writes V2 bytes by the library's serializer.
+#[derive(Drop)]
+pub struct Handing {
+    inner: V2Serializer,
+}
+
+impl Serializer for Handing {
+    ghost use Rattle.hdrhistogram.specs.V2.{IsV2};
+
+    type SerializeError = V2SerializeError;
+
+    ghost writes = { IsV2 };
+
+    fn serialize<T: Counter, W: Write>(
+        &mut self,
+        h: &Histogram<T>,
+        writer: &mut W,
+    ) -> Result<usize, V2SerializeError> {
+        self.inner.serialize(h, writer)
+    }
+}

@@ -1,0 +1,35 @@
+//! The program, over any reader and writer, and its faults.
+
+use hdr_tool::{Fault, run};
+use std::alloc::{AllocError, Global};
+use std::io::{Read, Write};
+
+/// Words lack the program's name.
+pub fn run_words<R: Read, W: Write>(
+    alloc: Global,
+    words: &[String],
+    reader: &mut R,
+    writer: &mut W,
+) -> Result<(), Fault> {
+    run(alloc, words, reader, writer)
+}
+
+/// By the whole path.
+pub fn run_by_path<R: Read, W: Write>(
+    alloc: Global,
+    words: &[String],
+    reader: &mut R,
+    writer: &mut W,
+) -> Result<(), Fault> {
+    hdr_tool::run(alloc, words, reader, writer)
+}
+
+/// 1 or 2.
+pub fn status(fault: &Fault) -> u8 {
+    fault.status()
+}
+
+/// The line on standard error.
+pub fn line(alloc: Global, fault: &Fault) -> Result<String, AllocError> {
+    fault.to_string(alloc)
+}

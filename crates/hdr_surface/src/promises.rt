@@ -1,0 +1,298 @@
+//! What a caller may rest on: a variant that can't come is `unreachable!()`, and what is there is unwrapped.
+
+use hdrhistogram::serialization::interval_log::{
+    IntervalLogWriter, IntervalLogWriterBuilder, IntervalLogWriterError, Tag,
+};
+use hdrhistogram::serialization::{V2SerializeError, V2Serializer};
+use hdrhistogram::{
+    AdditionError, Call, CallError, Counter, CreationError, Histogram, RecordError, SubtractionError,
+};
+use std::alloc::Global;
+use std::io::Write;
+
+/// A counter's own number is one of its type.
+pub fn same_counter<T: Counter>(counter: T) -> T {
+    T::from_u64(counter.as_u64()).unwrap()
+}
+
+/// Guard: a place below `distinct_values`.
+pub fn number_at<T: Counter>(histogram: &Histogram<T>, index: usize) -> u64 {
+    if index >= histogram.distinct_values() {
+        return 0;
+    }
+    histogram.bin_count(index).unwrap().as_u64()
+}
+
+/// Guard: a place below `distinct_values`.
+pub fn value_at<T: Counter>(histogram: &Histogram<T>, index: usize) -> u64 {
+    if index >= histogram.distinct_values() {
+        return 0;
+    }
+    histogram.bin_value(index).unwrap()
+}
+
+/// The bin of a value is a bin.
+pub fn count_of<T: Counter>(histogram: &Histogram<T>, value: u64) -> Option<T> {
+    let bin = histogram.bin_of(value)?;
+    Some(histogram.bin_count(bin).unwrap())
+}
+
+/// The greatest value has a bin.
+pub fn last_bin<T: Counter>(histogram: &Histogram<T>) -> usize {
+    histogram.bin_of(histogram.max()).unwrap()
+}
+
+/// A `low` of 0 is an error.
+pub fn low_of_zero<T: Counter>(alloc: Global, high: u64, sigfig: u8) -> CreationError {
+    match Histogram::<T>::new_with_bounds(alloc, 0, high, sigfig) {
+        Ok(_) => unreachable!(),
+        Err(error) => error,
+    }
+}
+
+/// Memory alone can fail.
+pub fn cloned<T: Counter>(histogram: &Histogram<T>) -> Option<Histogram<T>> {
+    match histogram.clone() {
+        Ok(copy) => Some(copy),
+        Err(CreationError::OutOfMemory) => None,
+        Err(_) => unreachable!(),
+    }
+}
+
+/// Memory alone can fail.
+pub fn new_from<T: Counter, F: Counter>(
+    alloc: Global,
+    source: &Histogram<F>,
+) -> Option<Histogram<T>> {
+    match Histogram::new_from(alloc, source) {
+        Ok(made) => Some(made),
+        Err(CreationError::OutOfMemory) => None,
+        Err(_) => unreachable!(),
+    }
+}
+
+/// Memory alone can fail.
+pub fn clone_correct<T: Counter>(histogram: &Histogram<T>, interval: u64) -> Option<Histogram<T>> {
+    match histogram.clone_correct(interval) {
+        Ok(made) => Some(made),
+        Err(CreationError::OutOfMemory) => None,
+        Err(_) => unreachable!(),
+    }
+}
+
+/// Inside the bins recording succeeds.
+pub fn record<T: Counter>(histogram: &mut Histogram<T>, value: u64) {
+    if histogram.bin_of(value).is_none() {
+        return;
+    }
+    match histogram.record(value) {
+        Ok(()) => {}
+        Err(RecordError::ValueOutOfRangeResizeDisabled) => unreachable!(),
+        Err(RecordError::ResizeFailedUsizeTypeTooSmall) => unreachable!(),
+        Err(RecordError::OutOfMemory) => unreachable!(),
+    }
+}
+
+/// Inside the bins correction succeeds.
+pub fn record_correct<T: Counter>(histogram: &mut Histogram<T>, value: u64, interval: u64) {
+    if histogram.bin_of(value).is_none() {
+        return;
+    }
+    match histogram.record_correct(value, interval) {
+        Ok(()) => {}
+        Err(RecordError::ValueOutOfRangeResizeDisabled) => unreachable!(),
+        Err(RecordError::ResizeFailedUsizeTypeTooSmall) => unreachable!(),
+        Err(RecordError::OutOfMemory) => unreachable!(),
+    }
+}
+
+/// Inside the bins correction succeeds.
+pub fn record_n_correct<T: Counter>(
+    histogram: &mut Histogram<T>,
+    value: u64,
+    count: T,
+    interval: u64,
+) {
+    if histogram.bin_of(value).is_none() {
+        return;
+    }
+    match histogram.record_n_correct(value, count, interval) {
+        Ok(()) => {}
+        Err(RecordError::ValueOutOfRangeResizeDisabled) => unreachable!(),
+        Err(RecordError::ResizeFailedUsizeTypeTooSmall) => unreachable!(),
+        Err(RecordError::OutOfMemory) => unreachable!(),
+    }
+}
+
+/// A value is past the bins only where they may not grow, and memory runs out only where they may.
+pub fn recorded<T: Counter>(histogram: &mut Histogram<T>, value: u64) -> bool {
+    let grows = histogram.is_auto_resize();
+    match histogram.record(value) {
+        Ok(()) => true,
+        Err(RecordError::ValueOutOfRangeResizeDisabled) => {
+            if grows { unreachable!() } else { false }
+        }
+        Err(RecordError::ResizeFailedUsizeTypeTooSmall) => unreachable!(),
+        Err(RecordError::OutOfMemory) => { if grows { false } else { unreachable!() } }
+    }
+}
+
+/// A source whose greatest value has a bin is added.
+pub fn add<T: Counter>(target: &mut Histogram<T>, source: &Histogram<T>) {
+    if target.bin_of(source.max()).is_none() {
+        return;
+    }
+    match target.add(source) {
+        Ok(()) => {}
+        Err(AdditionError::OtherAddendValueExceedsRange) => unreachable!(),
+        Err(AdditionError::ResizeFailedUsizeTypeTooSmall) => unreachable!(),
+        Err(AdditionError::OutOfMemory) => unreachable!(),
+    }
+}
+
+/// An empty source is added.
+pub fn add_empty<T: Counter>(target: &mut Histogram<T>, source: &Histogram<T>) {
+    if !source.is_empty() {
+        return;
+    }
+    match target.add(source) {
+        Ok(()) => {}
+        Err(AdditionError::OtherAddendValueExceedsRange) => unreachable!(),
+        Err(AdditionError::ResizeFailedUsizeTypeTooSmall) => unreachable!(),
+        Err(AdditionError::OutOfMemory) => unreachable!(),
+    }
+}
+
+/// A source whose greatest value has a bin is taken over.
+pub fn set_to<T: Counter>(target: &mut Histogram<T>, source: &Histogram<T>) {
+    if target.bin_of(source.max()).is_none() {
+        return;
+    }
+    match target.set_to(source) {
+        Ok(()) => {}
+        Err(AdditionError::OtherAddendValueExceedsRange) => unreachable!(),
+        Err(AdditionError::ResizeFailedUsizeTypeTooSmall) => unreachable!(),
+        Err(AdditionError::OutOfMemory) => unreachable!(),
+    }
+}
+
+/// The same of a source of another counter type.
+pub fn add_from<T: Counter, F: Counter>(target: &mut Histogram<T>, source: &Histogram<F>) {
+    if target.bin_of(source.max()).is_none() {
+        return;
+    }
+    match target.add_from(source) {
+        Ok(()) => {}
+        Err(AdditionError::OtherAddendValueExceedsRange) => unreachable!(),
+        Err(AdditionError::ResizeFailedUsizeTypeTooSmall) => unreachable!(),
+        Err(AdditionError::OutOfMemory) => unreachable!(),
+    }
+}
+
+/// A subtrahend whose greatest value has a bin fails at a count alone.
+pub fn subtract<T: Counter>(target: &mut Histogram<T>, source: &Histogram<T>) -> bool {
+    if target.bin_of(source.max()).is_none() {
+        return false;
+    }
+    match target.subtract(source) {
+        Ok(()) => true,
+        Err(SubtractionError::SubtrahendValueExceedsMinuendRange) => unreachable!(),
+        Err(SubtractionError::SubtrahendCountExceedsMinuendCount) => false,
+    }
+}
+
+/// An empty subtrahend is subtracted.
+pub fn subtract_empty<T: Counter>(target: &mut Histogram<T>, source: &Histogram<T>) {
+    if !source.is_empty() {
+        return;
+    }
+    match target.subtract(source) {
+        Ok(()) => {}
+        Err(SubtractionError::SubtrahendValueExceedsMinuendRange) => unreachable!(),
+        Err(SubtractionError::SubtrahendCountExceedsMinuendCount) => unreachable!(),
+    }
+}
+
+/// Clamping always succeeds.
+pub fn clamp<T: Counter>(histogram: &mut Histogram<T>, value: u64, count: T) {
+    match histogram.apply(&Call::Clamp(value, count)) {
+        Ok(()) => {}
+        Err(CallError::Record(_)) => unreachable!(),
+        Err(CallError::Addition(_)) => unreachable!(),
+    }
+}
+
+/// An error of a record is one of records.
+pub fn apply_record<T: Counter>(
+    histogram: &mut Histogram<T>,
+    value: u64,
+    count: T,
+) -> Result<(), RecordError> {
+    match histogram.apply(&Call::Record(value, count)) {
+        Ok(()) => Ok(()),
+        Err(CallError::Record(cause)) => Err(cause),
+        Err(CallError::Addition(_)) => unreachable!(),
+    }
+}
+
+/// The call that failed is one of the list.
+pub fn failed_call<'a, 'b, T: Counter>(
+    histogram: &mut Histogram<T>,
+    calls: &'a [Call<'b, T>],
+) -> Option<&'a Call<'b, T>> {
+    match histogram.apply_all(calls) {
+        Ok(()) => None,
+        Err(error) => Some(&calls[error.at]),
+    }
+}
+
+/// Lent bytes meet no stream.
+pub fn to_bytes<'a, T: Counter>(
+    serializer: &'a mut V2Serializer,
+    histogram: &Histogram<T>,
+) -> Option<&'a [u8]> {
+    match serializer.to_bytes(histogram) {
+        Ok(bytes) => Some(bytes),
+        Err(V2SerializeError::CountNotSerializable) => None,
+        Err(V2SerializeError::OutOfMemory) => None,
+        Err(V2SerializeError::UsizeTypeTooSmall) => unreachable!(),
+        Err(V2SerializeError::IoError(_)) => unreachable!(),
+    }
+}
+
+/// A comment has no time and no histogram.
+pub fn write_comment<W: Write>(
+    log: &mut IntervalLogWriter<'_, '_, W, V2Serializer>,
+    comment: &str,
+) -> bool {
+    match log.write_comment(comment) {
+        Ok(()) => true,
+        Err(IntervalLogWriterError::IoError(_)) => false,
+        Err(IntervalLogWriterError::OutOfMemory) => false,
+        Err(IntervalLogWriterError::TimeOutOfRange) => unreachable!(),
+        Err(IntervalLogWriterError::SerializeError(_)) => unreachable!(),
+    }
+}
+
+/// A plain beginning writes nothing and succeeds.
+pub fn begin<W: Write>(alloc: Global, writer: &mut W, serializer: &mut V2Serializer) {
+    match IntervalLogWriterBuilder::new(alloc).begin_log_with(writer, serializer) {
+        Ok(_) => {}
+        Err(_) => unreachable!(),
+    }
+}
+
+/// A tag's own text is a tag.
+pub fn tag_again<'a>(tag: Tag<'a>) -> Tag<'a> {
+    Tag::new(tag.as_str()).unwrap()
+}
+
+/// A letter is a tag.
+pub fn tag_a() -> Tag<'static> {
+    Tag::new("a").unwrap()
+}
+
+/// The empty text is a tag.
+pub fn no_text() -> Tag<'static> {
+    Tag::new("").unwrap()
+}

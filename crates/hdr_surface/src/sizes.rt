@@ -1,0 +1,139 @@
+//! What fits is computed without a test: numbers, shares, places and lengths.
+
+use hdr_base::Scale;
+use hdr_base::laws::intervals;
+use hdr_counts::Counts;
+use hdrhistogram::serialization::deserializer::varint_read_slice;
+use hdrhistogram::serialization::v2_serializer::{counts_array_max_encoded_size, encode_counts};
+use hdrhistogram::serialization::{Deserializer, Serializer, V2SerializeError, V2Serializer};
+use hdrhistogram::{Counter, Histogram, Quantile};
+use std::alloc::Global;
+
+/// A denominator that is written down is not 0.
+pub fn three_tenths() -> Quantile {
+    Quantile::new(3, 10).unwrap()
+}
+
+/// Guard: a denominator of at least 1.
+pub fn share(num: u64, den: u64) -> Quantile {
+    if den == 0 {
+        return Quantile::new(1, 1).unwrap();
+    }
+    Quantile::new(num, den).unwrap()
+}
+
+/// The denominator of a quantile is at least 1.
+pub fn whole_part(quantile: Quantile) -> u64 {
+    quantile.num() / quantile.den()
+}
+
+/// The numerator of a share fits 64 bits.
+pub fn share_below<T: Counter>(histogram: &Histogram<T>, value: u64) -> u64 {
+    histogram.quantile_below(value).num as u64
+}
+
+/// The middle of a class is not below its lowest value.
+pub fn half_class<T: Counter>(histogram: &Histogram<T>, value: u64) -> u64 {
+    histogram.median_equivalent(value) - histogram.lowest_equivalent(value)
+}
+
+/// A width of a scale is at least 1.
+pub fn in_widths_of_scale(scale: &Scale, value: u64) -> u64 {
+    value / scale.width(value)
+}
+
+/// The exponent of the unit is below 64.
+pub fn unit_of_scale(scale: &Scale) -> u64 {
+    1 << scale.unit()
+}
+
+/// How far a value lies above the lowest of its class, and below the top. The law says that it lies between them.
+pub fn place_in_class<T: Counter>(histogram: &Histogram<T>, value: u64) -> (u64, u64) {
+    intervals();
+    (
+        value - histogram.lowest_equivalent(value),
+        histogram.highest_equivalent(value) - value,
+    )
+}
+
+/// The same of a scale.
+pub fn place_in_scale(scale: &Scale, value: u64) -> (u64, u64) {
+    intervals();
+    (value - scale.lowest(value), scale.top(value) - value)
+}
+
+/// One part in so many is kept of a value: no more than five digits are.
+pub fn precision<T: Counter>(histogram: &Histogram<T>) -> u64 {
+    let powers = [1, 10, 100, 1000, 10_000, 100_000];
+    powers[histogram.sigfig() as usize]
+}
+
+/// There are few enough counters for this.
+pub fn len_of_counts<T: Counter>(counts: &Counts<T>) -> usize {
+    2 * counts.len()
+}
+
+/// The sum of all counters.
+pub fn last_sum<T: Counter>(counts: &Counts<T>) -> u128 {
+    if counts.len() == 0 {
+        return 0;
+    }
+    counts.sum_to(counts.len() - 1)
+}
+
+/// Blocks of any length, and then one more. Guard: room for one more among the most that there may be.
+pub fn grown_by_one<T: Counter>(alloc: Global, blocks: usize, block: usize) -> Option<Counts<T>> {
+    if block == 0 || blocks >= 6_291_456 / block {
+        return None;
+    }
+    let mut counts = Counts::new(alloc, blocks, block).ok()?;
+    counts.grow(blocks + 1).ok()?;
+    Some(counts)
+}
+
+/// A payload fails at a great count alone, and lies in the buffer.
+pub fn payload<'a, T: Counter>(histogram: &Histogram<T>, buffer: &'a mut [u8]) -> Option<&'a [u8]> {
+    let room = counts_array_max_encoded_size(histogram.distinct_values()).unwrap();
+    if buffer.len() < room {
+        return None;
+    }
+    match encode_counts(histogram, buffer) {
+        Ok(len) => Some(&buffer[..len]),
+        Err(V2SerializeError::CountNotSerializable) => None,
+        Err(V2SerializeError::OutOfMemory) => unreachable!(),
+        Err(V2SerializeError::UsizeTypeTooSmall) => unreachable!(),
+        Err(V2SerializeError::IoError(_)) => unreachable!(),
+    }
+}
+
+/// What follows a number. Guard: at least nine bytes.
+pub fn after_varint(bytes: &[u8]) -> Option<&[u8]> {
+    if bytes.len() < 9 {
+        return None;
+    }
+    let (_, len) = varint_read_slice(bytes);
+    Some(&bytes[len..])
+}
+
+/// What follows a histogram.
+pub fn after_histogram<'a>(deserializer: &mut Deserializer, bytes: &'a [u8]) -> Option<&'a [u8]> {
+    match deserializer.decode_slice::<u64>(bytes) {
+        Ok((_, taken)) => Some(&bytes[taken..]),
+        Err(_) => None,
+    }
+}
+
+/// A vector holds as many bytes as the serializer says.
+pub fn in_vector<T: Counter>(alloc: Global, histogram: &Histogram<T>) -> Option<Vec<u8>> {
+    let mut bytes = Vec::new(alloc);
+    match V2Serializer::new(alloc).serialize(histogram, &mut bytes) {
+        Ok(count) => {
+            if count == bytes.len() {
+                Some(bytes)
+            } else {
+                unreachable!()
+            }
+        }
+        Err(_) => None,
+    }
+}
