@@ -1,17 +1,17 @@
 -- One call keeps what is true of every histogram, and takes what it stands for to what the call makes of it.
 use Rattle.std.proofs.Common.{◌≡◌, ℕ, ◌≤◌, cond, eqb, List, ◌++◌, length, replicate, sym, ap, subst, ◌∙◌}
-use Rattle.hdr_base.specs.Classes.{reach_of}
+use Rattle.hdr_base.specs.Classes.{Grain, reach_of}
 use Rattle.hdr_model.specs.Plain.{Plain, IsPlain, grain, max_of}
 use Rattle.hdr_model.specs.Recording.{clamp_to_bins, high_with, clamp}
 use Rattle.hdr_model.specs.Merging.{highest_top}
 use Rattle.hdr_model.specs.Samples.{StandsFor, Fits}
 use Rattle.hdr_core.specs.Calls.{after_call, CallTo, IsCallOf}
-use Rattle.hdr_model.specs.Runs.{StandsAt, State}
+use Rattle.hdr_model.specs.Runs.{StandsAt, StandsWhereFits, State}
 use Rattle.hdr_core.specs.declared.call.Call.{Call}
 use Rattle.hdr_core.specs.declared.call.Call.TheVariants.{Record, Clamp, Correct, Clear, Reset, Add, AddCorrect}
 use Rattle.hdr_model.proofs.PlainKept.{grain-recorded}
 use Rattle.hdr_model.proofs.RecordingStands.{StandsFor-recorded}
-use Rattle.hdr_model.proofs.MergingStands.{StandsFor-merged, merged-high, grain-merged, recorded-high_with}
+use Rattle.hdr_model.proofs.MergingStands.{Fits-front, StandsFor-merged, merged-high, grain-merged, recorded-high_with}
 use Rattle.hdr_model.proofs.CorrectionByClass.{high-corrected, grain-corrected}
 use Rattle.hdr_model.proofs.RecordingClears.{IsPlain-cleared, clamped-is, clamped-small, high-clamped, grain-cleared, grain-restarted, high-cleared, high-restarted, stands-cleared, stands-restarted}
 use Rattle.hdr_model.proofs.MergingCorrects.{StandsFor-one-corrected, StandsFor-merged_corrected, merged_corrected-high, grain-merged_corrected}
@@ -46,32 +46,52 @@ call-classes greatest most number h (AddCorrect source i) fine = grain-merged_co
 same-samples : (k : Plain) (S R : List ℕ) → S ≡ R → StandsFor k R → StandsFor k S
 same-samples k S R e s = subst (λ l. StandsFor k l) (sym e) s
 
-pub call-stands : {T : Type 0} (greatest most : ℕ) (number : T → ℕ) (h : Plain) (call : Call T) (s t : State) → 1 ≤ greatest → IsCallOf most call → IsPlain greatest h
-    → StandsAt h s → CallTo number (grain h) call s t → Fits greatest (grain h) t.samples → StandsAt (after_call greatest number call h) t
-call-stands greatest most number h (Record v n) s t one small p stands to fits = (
-  same-samples _ t.samples _ to.0 (StandsFor-recorded greatest h v (number n) s.samples small p stands.0 (subst (λ l. Fits greatest (grain h) l) to.0 fits)),
+-- a call's samples where its classes are those of before
+fits-before : (greatest : ℕ) (g k : Grain) (S R : List ℕ) → k ≡ g → S ≡ R → Fits greatest k S → Fits greatest g R
+fits-before greatest g k S R same e fits = subst (λ l. Fits greatest g l) e (subst (λ x. Fits greatest x S) same fits)
+
+pub call-wherever : {T : Type 0} (greatest most : ℕ) (number : T → ℕ) (h : Plain) (call : Call T) (s t : State) → 1 ≤ greatest → IsCallOf most call → IsPlain greatest h
+    → StandsWhereFits greatest h s → CallTo number (grain h) call s t → StandsWhereFits greatest (after_call greatest number call h) t
+call-wherever greatest most number h (Record v n) s t one small p stands to = (
+  (λ fits.
+    let f = fits-before greatest (grain h) _ t.samples _ (grain-recorded greatest h v (number n)) to.0 fits in
+    same-samples _ t.samples _ to.0 (StandsFor-recorded greatest h v (number n) s.samples small p (stands.0 (Fits-front greatest (grain h) s.samples _ f)) f)),
   recorded-high_with greatest h v (number n) ∙ ap (λ x. high_with (grain h) x v (reach_of (grain h) v)) stands.1 ∙ sym to.1,
 )
-call-stands greatest most number h (Clamp v n) s t one small p stands to fits =
+call-wherever greatest most number h (Clamp v n) s t one small p stands to =
     let list = to.0 ∙ ap (λ k. s.samples ++ replicate (number n) (clamp (grain h) k v)) (sym stands.1) ∙ ap (λ x. s.samples ++ replicate (number n) x) (sym (clamped-is h v)) in (
-      same-samples _ t.samples _ list (StandsFor-recorded greatest h (clamp_to_bins h v) (number n) s.samples (clamped-small greatest h v small p) p stands.0 (subst (λ l. Fits greatest (grain h) l) list fits)),
+      (λ fits.
+        let f = fits-before greatest (grain h) _ t.samples _ (grain-recorded greatest h (clamp_to_bins h v) (number n)) list fits in
+        same-samples _ t.samples _ list (StandsFor-recorded greatest h (clamp_to_bins h v) (number n) s.samples (clamped-small greatest h v small p) p (stands.0 (Fits-front greatest (grain h) s.samples _ f)) f)),
       high-clamped greatest h v (number n) ∙ stands.1 ∙ sym to.1,
     )
-call-stands greatest most number h (Correct v n i) s t one small p stands to fits = (
-  same-samples _ t.samples _ to.0 (StandsFor-one-corrected greatest h v (number n) i s.samples small one p stands.0 (subst (λ l. Fits greatest (grain h) l) to.0 fits)),
+call-wherever greatest most number h (Correct v n i) s t one small p stands to = (
+  (λ fits.
+    let f = fits-before greatest (grain h) _ t.samples _ (grain-corrected greatest h v (number n) i) to.0 fits in
+    same-samples _ t.samples _ to.0 (StandsFor-one-corrected greatest h v (number n) i s.samples small one p (stands.0 (Fits-front greatest (grain h) s.samples _ f)) f)),
   high-corrected greatest h v (number n) i ∙ ap (λ x. high_with (grain h) x v (reach_of (grain h) v)) stands.1 ∙ sym to.1,
 )
-call-stands greatest most number h Clear s t one small p stands to fits =
-    (same-samples _ t.samples _ to.0 (stands-cleared h), high-cleared h ∙ stands.1 ∙ sym to.1)
-call-stands greatest most number h Reset s t one small p stands to fits =
-    (same-samples _ t.samples _ to.0 (stands-restarted h), high-restarted h ∙ stands.1 ∙ sym to.1)
-call-stands greatest most number h (Add source) s t one q p stands to fits =
+call-wherever greatest most number h Clear s t one small p stands to =
+    ((λ fits. same-samples _ t.samples _ to.0 (stands-cleared h)), high-cleared h ∙ stands.1 ∙ sym to.1)
+call-wherever greatest most number h Reset s t one small p stands to =
+    ((λ fits. same-samples _ t.samples _ to.0 (stands-restarted h)), high-restarted h ∙ stands.1 ∙ sym to.1)
+call-wherever greatest most number h (Add source) s t one q p stands to =
     let m = max_of source.now in (
-      same-samples _ t.samples _ to.3 (StandsFor-merged greatest most h source.now s.samples to.0 one p q (max-small most source.now q) stands.0 to.1 to.2 (subst (λ l. Fits greatest (grain h) l) to.3 fits)),
+      (λ fits.
+        let f = fits-before greatest (grain h) _ t.samples _ (grain-merged greatest most h source.now q) to.3 fits in
+        same-samples _ t.samples _ to.3 (StandsFor-merged greatest most h source.now s.samples to.0 one p q (max-small most source.now q) (stands.0 (Fits-front greatest (grain h) s.samples to.0 f)) to.1 to.2 f)),
       merged-high greatest most h source.now q ∙ ap (λ n. cond (eqb n 0) h.high (high_with (grain h) h.high m m)) to.1.total ∙ ap (λ x. cond (eqb (length to.0) 0) x (high_with (grain h) x m m)) stands.1 ∙ sym to.4,
     )
-call-stands greatest most number h (AddCorrect source i) s t one q p stands to fits =
+call-wherever greatest most number h (AddCorrect source i) s t one q p stands to =
     let m = highest_top source.now in (
-      same-samples _ t.samples _ to.2 (StandsFor-merged_corrected greatest most h source.now i s.samples to.0 one p q (highest-small most source.now q) stands.0 to.1 (subst (λ l. Fits greatest (grain h) l) to.2 fits)),
+      (λ fits.
+        let f = fits-before greatest (grain h) _ t.samples _ (grain-merged_corrected greatest h source.now i) to.2 fits in
+        same-samples _ t.samples _ to.2 (StandsFor-merged_corrected greatest most h source.now i s.samples to.0 one p q (highest-small most source.now q) (stands.0 (Fits-front greatest (grain h) s.samples _ f)) to.1 f)),
       merged_corrected-high greatest h source.now i ∙ ap (λ x. high_with (grain h) x m (reach_of (grain h) m)) stands.1 ∙ sym to.3,
     )
+
+pub call-stands : {T : Type 0} (greatest most : ℕ) (number : T → ℕ) (h : Plain) (call : Call T) (s t : State) → 1 ≤ greatest → IsCallOf most call → IsPlain greatest h
+    → StandsAt h s → CallTo number (grain h) call s t → Fits greatest (grain h) t.samples → StandsAt (after_call greatest number call h) t
+call-stands greatest most number h call s t one small p stands to fits =
+    let after = call-wherever greatest most number h call s t one small p ((λ before. stands.0), stands.1) to in
+    (after.0 (subst (λ g. Fits greatest g t.samples) (sym (call-classes greatest most number h call small)) fits), after.1)

@@ -4,7 +4,7 @@
 ghost use Rattle.std.specs.Prelude.{◌≡◌, ℕ};
 ghost use Rattle.hdr_model.specs.Plain.{Plain, IsPlain, grain};
 ghost use Rattle.hdr_model.specs.Samples.{Fits};
-ghost use Rattle.hdr_model.specs.Runs.{StandsAt, State};
+ghost use Rattle.hdr_model.specs.Runs.{StandsAt, StandsWhereFits, State};
 ghost use Rattle.hdr_core.specs.Calls.{after_call, CallTo, IsCallOf};
 ghost use Rattle.hdr_core.specs.declared.call.Call.{Call};
 
@@ -16,7 +16,8 @@ pub use hdr_model::laws::{
     subtracting_undoes_adding,
 };
 
-/// What a call makes of a histogram is one again, with its classes, and stands for what the call makes of the samples.
+/// What a call makes of a histogram is one again, with its classes, and stands for what the call makes of the samples. Samples
+/// that don't fit are asked for nothing: after them it stands again for those that fit, as after a `clear`.
 pub fn calls_stand<T: Counter>()
     ensures plain { (most : ℕ) (h : Plain) (call : Call T) → IsCallOf most call
         → IsPlain T.greatest h → IsPlain T.greatest (after_call T.greatest T.number call h) }
@@ -26,4 +27,8 @@ pub fn calls_stand<T: Counter>()
         → IsPlain T.greatest h → StandsAt h s
         → CallTo T.number (grain h) call s t → Fits T.greatest (grain h) t.samples
         → StandsAt (after_call T.greatest T.number call h) t }
+    ensures wherever { (most : ℕ) (h : Plain) (call : Call T) (s t : State) → IsCallOf most call
+        → IsPlain T.greatest h → StandsWhereFits T.greatest h s
+        → CallTo T.number (grain h) call s t
+        → StandsWhereFits T.greatest (after_call T.greatest T.number call h) t }
 {}

@@ -1,6 +1,6 @@
 -- The texts that an interval log is written by.
 use Rattle.std.specs.Prelude.{◌≡◌, ℕ, ◌+◌, ◌*◌, ◌/◌, ◌%◌, ◌<◌, ◌^◌, List, [], ◌∷◌, ◌++◌, Option, Some, None, codes, true}
-use Rattle.std.specs.List.{flat_map}
+use Rattle.std.specs.List.{flat_map, slice_index}
 use Rattle.std.specs.Fmt.{decimal}
 use Rattle.std.specs.Result.{result_ok}
 use Rattle.base64.specs.Engines.{standard}
@@ -60,6 +60,10 @@ interval_line tag start duration max field =
 abbrev pub AreTags : Option (List ℕ) → Type 0
 AreTags None = Unit {0}
 AreTags (Some tag) = is_tag tag ≡ true
+
+-- each number is a byte
+abbrev pub AreBytes : List ℕ → Type 0
+AreBytes bytes = (i : ℕ) → slice_index bytes i < 256
 
 -- bytes in Base64, of the standard alphabet with padding (RFC 4648, section 4)
 unfoldable pub base64_of : List ℕ → List ℕ

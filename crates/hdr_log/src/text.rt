@@ -6,7 +6,7 @@ ghost use Rattle.std.specs.Fmt.{decimal};
 ghost use Rattle.std.specs.Option.{option_map};
 ghost use Rattle.std.specs.Duration.{as_nanos};
 ghost use Rattle.hdr_log.specs.Tags.{tag_text};
-ghost use Rattle.hdr_log.specs.Texts.{thousandths, to_thousandths, IsTimeInRange, max_thousandths, with_line_feed, comment_line, tag_front, AreTags, base64_of};
+ghost use Rattle.hdr_log.specs.Texts.{AreBytes, thousandths, to_thousandths, IsTimeInRange, max_thousandths, with_line_feed, comment_line, tag_front, AreTags, base64_of};
 ghost use Rattle.hdr_log.specs.Pieces.{Comment, StartsAt, BasedAt, Divided, Measured, piece_text, IsPiece};
 
 use crate::parts::split_once;
@@ -180,6 +180,7 @@ pub fn push_interval(
         (base64_of bytes.now))) }
     ensures piece { IsPiece (Measured (option_map tag_text tag.entry) start duration max
         (base64_of bytes.now)) }
+    ensures bytes { AreBytes bytes.now }
 {
     push_tag(text, tag)?;
     push_number(text, start)?;

@@ -2,7 +2,7 @@
 -- a caller has a history of them.)
 use Rattle.std.specs.Prelude.{◌≡◌, ℕ, List, [], ◌∷◌, ◌==◌, if◌then◌else◌, ◌++◌, length}
 use Rattle.hdr_model.specs.Plain.{Plain, grain, max_of}
-use Rattle.hdr_model.specs.Samples.{StandsFor}
+use Rattle.hdr_model.specs.Samples.{StandsFor, Fits}
 use Rattle.hdr_base.specs.Classes.{Grain, IsFiner, reach_of}
 use Rattle.hdr_model.specs.Merging.{highest_top, corrected_samples}
 use Rattle.hdr_model.specs.Recording.{high_with}
@@ -29,6 +29,10 @@ EachTo CallTo fits (call ∷ calls) s t = (r : State) × CallTo call s r × fits
 
 abbrev pub StandsAt : Plain → State → Type 0
 StandsAt h s = StandsFor h s.samples × (h.high ≡ s.high)
+
+-- a histogram stands for the samples of a state wherever they fit, and its bins were last made for the state's value
+abbrev pub StandsWhereFits : ℕ → Plain → State → Type 0
+StandsWhereFits greatest h s = (Fits greatest (grain h) s.samples → StandsFor h s.samples) × (h.high ≡ s.high)
 
 -- adding a source takes one state to another, whatever list the source stands for; its classes are no coarser
 abbrev pub AddTo : Grain → Plain → State → State → Type 0

@@ -7,7 +7,7 @@ use Rattle.hdr_base.specs.Classes.{least_from, Grain, unit_of, digits_of, grain_
 use Rattle.hdr_base.specs.Fractions.{Ratio}
 use Rattle.hdr_model.specs.Plain.{Plain, IsPlain, grain, empty_plain}
 use Rattle.hdr_model.specs.Samples.{StandsFor, Fits}
-use Rattle.hdr_model.specs.Runs.{StandsAt, State}
+use Rattle.hdr_model.specs.Runs.{StandsWhereFits, State}
 use Rattle.hdr_model.specs.Refusals.{IsBounds}
 use Rattle.hdr_model.specs.Joining.{after_adds, IsPart, AreParts, joined_samples, AnswersRanked}
 use Rattle.hdrhistogram.specs.Chosen.{Filter, is_chosen}
@@ -207,7 +207,7 @@ whole_way log merge sigfig fewer options quantiles input written text fault Ls n
     let lines = enumerate_from 1 (parts 10 input) in
     let few : sigfig ≤ 5 = subst (λ o. IfSome o HasFew) tl (task_few log) in
     let few_merged : fewer ≤ 5 = subst (λ o. IfSome o HasFew) tm (task_few merge) in
-    let stands : StandsAt h start = (made sigfig, empty_high sigfig) in
+    let stands : StandsWhereFits (2 ^ 64 - 1) h start = ((λ fits. made sigfig), empty_high sigfig) in
     let ended : AreEnds (grain h) (ends_of h lines) Ls = ends_stand calls h start lines Ls (empty_is_plain new (2 ^ 64 - 1) sigfig few) stands (subst (λ (g : Grain). EndsWith g start lines Ls) (sym (empty_grain sigfig)) ends) in
     let m = log_then_merge back log merge sigfig fewer options quantiles input written text fault tl tm (ends_plain (grain h) (ends_of h lines) Ls ended) wrote merged in
     let finer : IsFiner (grain h) (grain k) = subst (λ (g : Grain). IsFiner g (grain k)) (sym (empty_grain sigfig)) (subst (λ (g : Grain). IsFiner (grain_of 1 sigfig) g) (sym (empty_grain fewer)) fine) in

@@ -5,7 +5,7 @@ use Rattle.hdr_base.specs.Fractions.{Ratio}
 use Rattle.hdr_model.specs.Plain.{Plain, IsPlain, grain, empty_plain}
 use Rattle.hdr_model.specs.Recording.{after_reset}
 use Rattle.hdr_core.specs.Calls.{after_call, CallTo}
-use Rattle.hdr_model.specs.Runs.{StandsAt, State}
+use Rattle.hdr_model.specs.Runs.{StandsWhereFits, State}
 use Rattle.hdr_model.specs.Samples.{StandsFor, Fits}
 use Rattle.hdr_model.specs.Joining.{after_adds, joined_samples, AnswersRanked}
 use Rattle.hdr_base.specs.Classes.{Grain, grain_of}
@@ -60,13 +60,15 @@ LogThenMerge =
     → (fault ≡ None) × ((ks : List Plain) × AreReadBack (chosen_of (filter_of options) (ends_of (empty_plain 1 2 sigfig true) (enumerate_from 1 (parts 10 input)))) ks
     × IsReport (after_adds (greatest_into options.into) (empty_plain 1 2 fewer true) ks) quantiles text)
 
--- a command takes samples to others that fit, or ends an interval with them and begins with none
+-- a command takes samples to others, or ends an interval with them, which fit there, and begins with none
 abbrev pub AfterCommand : Grain → State → Option Command → (State → List (EndOf (List ℕ)) → Type 0) → List (EndOf (List ℕ)) → Type 0
 AfterCommand g s None Onward Ls = Ls ≡ []
-AfterCommand g s (Some (Apply call)) Onward Ls = (t : State) × CallTo (λ n. n) g call s t × Fits (2 ^ 64 - 1) g t.samples × Onward t Ls
-AfterCommand g s (Some (End start duration tag)) Onward Ls = (rest : List (EndOf (List ℕ))) × (Ls ≡ record { holds = s.samples; tag = tag; start = start } ∷ rest) × Onward (record { samples = []; high = s.high }) rest
+AfterCommand g s (Some (Apply call)) Onward Ls = (t : State) × CallTo (λ n. n) g call s t × Onward t Ls
+AfterCommand g s (Some (End start duration tag)) Onward Ls =
+    (rest : List (EndOf (List ℕ))) × (Ls ≡ record { holds = s.samples; tag = tag; start = start } ∷ rest)
+    × Fits (2 ^ 64 - 1) g s.samples × Onward (record { samples = []; high = s.high }) rest
 
--- the samples before the ends of the lines of a log's input, which fit all the way
+-- the samples before the ends of the lines of a log's input, which fit at each end
 abbrev pub EndsWith : Grain → State → List (ℕ × List ℕ) → List (EndOf (List ℕ)) → Type 0
 EndsWith g s [] Ls = Ls ≡ []
 EndsWith g s ((k, []) ∷ lines) Ls = EndsWith g s lines Ls
@@ -88,7 +90,7 @@ AreEnds g _ _ = ⊥
 -- the histograms of a log's intervals stand for the samples before the ends
 abbrev pub EndsStand : Type 0
 EndsStand =
-    (h : Plain) (s : State) (lines : List (ℕ × List ℕ)) (Ls : List (EndOf (List ℕ))) → IsPlain (2 ^ 64 - 1) h → StandsAt h s → EndsWith (grain h) s lines Ls
+    (h : Plain) (s : State) (lines : List (ℕ × List ℕ)) (Ls : List (EndOf (List ℕ))) → IsPlain (2 ^ 64 - 1) h → StandsWhereFits (2 ^ 64 - 1) h s → EndsWith (grain h) s lines Ls
     → AreEnds (grain h) (ends_of h lines) Ls
 
 -- samples that are logged and merged again. A merge of the written log, by as many digits or fewer, has no fault. Its histogram

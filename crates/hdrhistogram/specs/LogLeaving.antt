@@ -2,7 +2,7 @@
 use Rattle.std.specs.Prelude.{◌≡◌, ℕ, Bool, true, false, List, Option, Result, Ok, Err}
 use Rattle.std.specs.Io.KnownBytes.{Appends, Keeps}
 use Rattle.hdr_model.specs.Plain.{Plain, max_of}
-use Rattle.hdr_log.specs.Texts.{to_thousandths, max_thousandths, base64_of}
+use Rattle.hdr_log.specs.Texts.{AreBytes, to_thousandths, max_thousandths, base64_of}
 use Rattle.hdr_log.specs.Pieces.{Piece, Measured, IsPiece, piece_text}
 use Rattle.hdrhistogram.specs.Streams.{AppendsFront}
 use Rattle.hdrhistogram.specs.declared.serialization.interval_log.errors.IntervalLogWriterError.{IntervalLogWriterError}
@@ -55,4 +55,4 @@ interval_piece h tag start duration divisor bytes =
 abbrev pub IsIntervalText : (Plain → List ℕ → Type 0) → Plain → Option (List ℕ) → ℕ → ℕ → ℕ → List ℕ → Type 0
 IsIntervalText writes h tag start duration divisor text =
     (bytes : List ℕ) × writes h bytes × IsPiece (interval_piece h tag start duration divisor bytes)
-    × (text ≡ piece_text (interval_piece h tag start duration divisor bytes))
+    × (text ≡ piece_text (interval_piece h tag start duration divisor bytes)) × AreBytes bytes

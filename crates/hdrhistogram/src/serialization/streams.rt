@@ -1,10 +1,11 @@
 //! Loops over a writer's `write` and a reader's `read`.
 
-ghost use Rattle.std.specs.Prelude.{◌≡◌, ◌≤◌, ◌<◌, ◌+◌, ◌++◌, ℕ, List, min, length, vec_len, OnOk, OnErr, IfErr};
+ghost use Rattle.std.specs.Prelude.{◌≡◌, ◌≤◌, ◌<◌, ◌+◌, ◌++◌, ℕ, List, min, max, length, replicate, vec_len, vec_capacity, OnOk, OnErr, IfErr};
 ghost use Rattle.std.specs.Io.KnownBytes.{Appends, Consumes};
 ghost use Rattle.hdrhistogram.specs.Streams.{AppendsFront, ConsumesFewer, IsStreamError};
 
 use crate::serialization::errors::DeserializeError;
+use std::alloc::AllocError;
 use std::io::{self, ErrorKind, Read, Write};
 
 /// Writes the whole text. The first call of `write` that fails, is interrupted or takes no byte
@@ -62,15 +63,30 @@ pub(crate) fn read_piece<R: Read>(
     ensures err { IfErr result (λ e. IsStreamError e
         × ConsumesFewer (R.remaining reader.old) (R.remaining reader.new) left) }
     ensures bounded { vec_len buffer.new ≤ vec_len buffer.old + 4096 }
+    ensures room { vec_capacity buffer.new ≤ max (vec_capacity buffer.old)
+        (vec_len buffer.old + 4096) }
 {
     let start = buffer.len();
     let piece = left.min(PIECE);
-    let Ok(()) = buffer.reserve_exact(piece) else {
-        return Err(DeserializeError::OutOfMemory);
-    };
-    let Ok(()) = buffer.resize(start + piece, 0) else {
+    let Ok(()) = push_zeros(buffer, piece) else {
         return Err(DeserializeError::OutOfMemory);
     };
     read_whole(reader, &mut buffer[start..])?;
+    Ok(())
+}
+
+/// Appends `count` zeros, and allocates room for no more than these. Nothing else bounds the capacity: `resize` may double it.
+fn push_zeros(buffer: &mut Vec<u8>, count: usize) -> Result<(), AllocError>
+    ensures ok { OnOk result (buffer.new.items ≡ buffer.old.items ++ replicate count 0) }
+    ensures len { OnOk result (vec_len buffer.new ≡ vec_len buffer.old + count) }
+    ensures err { OnErr result (vec_len buffer.new ≡ vec_len buffer.old) }
+    ensures room { vec_capacity buffer.new ≤ max (vec_capacity buffer.old)
+        (vec_len buffer.old + count) }
+{
+    buffer.reserve_exact(count)?;
+    let end = buffer.len() + count;
+    while buffer.len() < end {
+        buffer.push_reserved(0);
+    }
     Ok(())
 }

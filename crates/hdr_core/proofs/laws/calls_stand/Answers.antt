@@ -1,4 +1,4 @@
-use Rattle.hdr_core.proofs.CallsFacts.{call-plain, call-classes, call-stands}
+use Rattle.hdr_core.proofs.CallsFacts.{call-plain, call-classes, call-stands, call-wherever}
 use Rattle.hdr_core.proofs.laws.calls_stand.Goals as goal
 
 pub returns-clause-plain : goal.returns-clause-plain
@@ -9,3 +9,6 @@ returns-clause-classes g c = λ most h call. call-classes g.T.Counter.greatest m
 
 pub returns-clause-samples : goal.returns-clause-samples
 returns-clause-samples g c = λ most h call s t. call-stands g.T.Counter.greatest most g.T.Counter.number h call s t g.met.T.Counter.one_fits
+
+pub returns-clause-wherever : goal.returns-clause-wherever
+returns-clause-wherever g c = λ most h call s t. call-wherever g.T.Counter.greatest most g.T.Counter.number h call s t g.met.T.Counter.one_fits

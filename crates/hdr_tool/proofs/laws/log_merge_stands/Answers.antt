@@ -5,7 +5,7 @@ use Rattle.hdr_tool.proofs.laws.log_merge_stands.Goals as goal
 
 pub returns : goal.returns
 returns c = λ log merge sigfig fewer options quantiles input written text fault Ls tl tm fine ends fits wrote merged.
-    let calls : CallsStand = record { plain = c.calls_stand.ensures.plain; classes = c.calls_stand.ensures.classes; samples = c.calls_stand.ensures.samples } in
+    let calls : CallsStand = record { plain = c.calls_stand.ensures.plain; classes = c.calls_stand.ensures.classes; wherever = c.calls_stand.ensures.wherever } in
     let joined : JoinedStand = record { sum = c.joined_stands.ensures.sum; ranked = c.joined_stands.ensures.ranked } in
     let back : ReadsBack = record { bytes = c.bytes_read_back.ensures.bytes; contents = c.bytes_read_back.ensures.contents; histogram = c.bytes_read_back.ensures.histogram } in
     let stand : ReadsStand = record { plain = c.read_back_stands.ensures.plain; classes = c.read_back_stands.ensures.classes; samples = c.read_back_stands.ensures.samples } in

@@ -1,6 +1,6 @@
 //! The writer of a log.
 
-ghost use Rattle.std.specs.Prelude.{◌≡◌, ◌<◌, ◌^◌, ◌↔◌, false, IfErr};
+ghost use Rattle.std.specs.Prelude.{◌≡◌, ◌<◌, ◌^◌, ◌↔◌, true, false, IfErr};
 ghost use Rattle.std.specs.Option.{option_map};
 ghost use Rattle.std.specs.Duration.{as_nanos};
 ghost use Rattle.hdr_log.specs.Tags.{tag_text};
@@ -94,8 +94,10 @@ impl<'a, 'b, W: Write, S: Serializer> IntervalLogWriter<'a, 'b, W, S> {
     /// The start counts from the log's base time, or from the epoch where there is none. Times are rounded to milliseconds,
     /// and the greatest value to thousandths.
     ///
-    /// A time whose seconds do not fit 64 bits is refused first, then what the serializer refuses. The line is built whole.
-    /// After an i/o error a beginning of it stands in the writer; any other refusal writes nothing.
+    /// # Errors
+    /// `TimeOutOfRange` where the seconds of a time don't fit 64 bits: the serializer isn't called then. `SerializeError` with
+    /// the serializer's own error. `OutOfMemory` where the line, which is built whole, can't be allocated. `IoError` from the
+    /// writer, in which a beginning of the line may stand; after every other error nothing was written.
     pub fn write_histogram<T: Counter>(
         &mut self,
         h: &Histogram<T>,
@@ -107,6 +109,7 @@ impl<'a, 'b, W: Write, S: Serializer> IntervalLogWriter<'a, 'b, W, S> {
         ensures leaves { WritesText (IsIntervalText S.writes h.now (option_map tag_text tag.entry)
             (as_nanos start_timestamp) (as_nanos duration) (divisor_of self.old)) (S.refuses h.now)
             (W.contents (sink self.old).now) (W.contents (sink self.new).now) result }
+        ensures early { is_time_error result ≡ true → (maker self.new).now ≡ (maker self.old).now }
         ensures time { (is_time_error result ≡ false)
             ↔ (IsTimeInRange (as_nanos start_timestamp) × IsTimeInRange (as_nanos duration)) }
     {
