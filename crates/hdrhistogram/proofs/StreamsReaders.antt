@@ -1,5 +1,5 @@
 -- Bytes that a reader gives, call by call.
-use Rattle.std.proofs.Common.{◌≡◌, ℕ, ◌+◌, ◌-◌, ◌<◌, ◌≤◌, List, ◌++◌, length, take, drop, sym, ap, ◌∙◌, subst, arith, Option, Some, None, length-take-le, length-drop, length-append, append-nil, drop_of_length-le, [], take_all}
+use Rattle.std.proofs.Common.{◌≡◌, ℕ, ◌+◌, ◌-◌, ◌<◌, ◌≤◌, List, ◌++◌, length, take, drop, sym, ap, ◌∙◌, subst, arith, Option, Some, None, length-take-le, length-drop, length-append, append-nil, drop_of_length-le, []}
 use Rattle.std.specs.Io.KnownBytes.{Consumes, Keeps}
 use Rattle.std.proofs.KnownBytes.{Consumes-trans, Consumes-kept}
 use Rattle.hdrhistogram.specs.Streams.{ConsumesFewer}
@@ -44,6 +44,5 @@ piece_text old grown part behind start piece all front s g p a =
     let size : all ≡ length (old ++ part) = omega (arith, length-append old part) in
     ap (λ l. take all (l ++ behind)) text ∙ ap (λ n. take n ((old ++ part) ++ behind)) size ∙ take-append_seam (old ++ part) behind
 
-pub grown_front : (old grown more : List ℕ) (start piece : ℕ) → start ≡ length old → grown ≡ take (start + piece) old ++ more → take start grown ≡ old
-grown_front old grown more start piece s e =
-    ap (take start) (e ∙ ap (λ l. l ++ more) (take_all (start + piece) old (omega arith))) ∙ ap (λ n. take n (old ++ more)) s ∙ take-append_seam old more
+pub grown_front : (old grown more : List ℕ) (start : ℕ) → start ≡ length old → grown ≡ old ++ more → take start grown ≡ old
+grown_front old grown more start s e = ap (take start) e ∙ ap (λ n. take n (old ++ more)) s ∙ take-append_seam old more

@@ -3,7 +3,7 @@ use Rattle.std.specs.Prelude.{vec_len, vec_capacity}
 use Rattle.hdrhistogram.proofs.serialization.streams.push_zeros.Given as goal
 
 abbrev pub invariant-loop-buffer : goal.invariant-loop-buffer
-invariant-loop-buffer g l = record {
+invariant-loop-buffer l = record {
   items : l.buffer.items ≡ l.fn.buffer.items ++ replicate (vec_len l.buffer - vec_len l.fn.buffer) 0;
   above : vec_len l.fn.buffer ≤ vec_len l.buffer;
   below : vec_len l.buffer ≤ l.end;
@@ -12,4 +12,4 @@ invariant-loop-buffer g l = record {
 }
 
 abbrev pub decreases-loop-buffer : goal.decreases-loop-buffer
-decreases-loop-buffer g l = l.end - vec_len l.buffer
+decreases-loop-buffer l = l.end - vec_len l.buffer
