@@ -74,10 +74,12 @@ impl V2Serializer {
     /// The V2 bytes of a histogram, lent from the serializer's own buffer: at most 40 bytes and
     /// nine for each bin up to the top mark's.
     ///
-    /// The buffer grows first and once, so running out of memory is answered before a count above the
-    /// greatest `i64`. Where nine bytes for each bin are more than 1 MiB, it grows to nine bytes for
-    /// each nonempty bin and for each run of empty ones at most. Nothing else is refused, and after
-    /// a refusal the serializer holds no bytes.
+    /// The buffer grows first and once. Where nine bytes for each bin are more than 1 MiB, it grows to nine bytes for each
+    /// nonempty bin and for each run of empty ones at most.
+    ///
+    /// # Errors
+    /// `OutOfMemory` where the buffer can't grow, and then `CountNotSerializable` for a count above the greatest `i64`. After
+    /// an error the serializer holds no bytes; the clause `after` that says so is starred, for proofs of borrows alone.
     pub fn to_bytes<T: Counter>(&mut self, h: &Histogram<T>) -> Result<&[u8], V2SerializeError>
         ensures bytes { IfOk result (λ bytes. IsV2 h.now bytes.now) }
         ensures few { IfOk result (λ bytes. (length bytes.now ≤ 40 + 9 * written_bins h.now)

@@ -106,9 +106,12 @@ impl IntervalLogWriterBuilder {
     }
 
     /// Writes the comments in order, and then the headers that are set: start time, base time, and a divisor other than 1.
-    /// A time whose seconds do not fit 64 bits is told before memory is asked for. The text is built whole and then
-    /// written: after an i/o error a beginning of it stands in the writer, and any other refusal wrote nothing. Where nothing
-    /// is set, nothing is written and nothing is refused.
+    /// Where nothing is set, it writes nothing and succeeds.
+    ///
+    /// # Errors
+    /// `TimeOutOfRange` where the seconds of a time don't fit 64 bits, before memory is asked for. `OutOfMemory` where the
+    /// text, which is built whole, can't be allocated. `IoError` from the writer, in which a beginning of the text may stand;
+    /// after the other errors nothing was written.
     pub fn write_headers<W: Write, E>(
         &self,
         writer: &mut W,
@@ -138,7 +141,11 @@ impl IntervalLogWriterBuilder {
     }
 
     /// Begins a log: `write_headers`, and then `IntervalLogWriter::new`, which lends the writer and the serializer to the
-    /// log's writer until that is dropped. What stands in the writer after a refusal is said at `write_headers`.
+    /// log's writer until that is dropped.
+    ///
+    /// # Errors
+    /// Those of `write_headers`. What stands in the writer after one is a clause of `write_headers`, and of this call it is
+    /// only tested: no clause here speaks of a writer that was to be lent.
     pub fn begin_log_with<'a, 'b, W: Write, S: Serializer>(
         &self,
         writer: &'a mut W,
