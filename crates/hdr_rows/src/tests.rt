@@ -5,6 +5,7 @@ mod failing;
 mod laws;
 mod program;
 mod refused;
+mod serializers;
 mod sparing;
 mod streams;
 mod texts;

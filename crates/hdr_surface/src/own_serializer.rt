@@ -1,5 +1,8 @@
 //! Serializers of the caller's own, for the writer of logs.
 
+ghost use Rattle.hdr_surface.specs.OwnBytes.{OwnBytesAreRead};
+
+use hdr_log::laws::{base64_is_read, written_is_read};
 use hdrhistogram::{Counter, Histogram};
 use hdrhistogram::serialization::{Serializer, V2SerializeError, V2Serializer};
 use std::alloc::Global;
@@ -66,4 +69,12 @@ impl Serializer for Handing {
     ) -> Result<usize, V2SerializeError> {
         self.inner.serialize(h, writer)
     }
+}
+
+/// An interval that any serializer wrote is read, and its field decodes to bytes that the serializer may write.
+pub fn own_bytes_are_read()
+    ensures { OwnBytesAreRead }
+{
+    written_is_read();
+    base64_is_read();
 }
