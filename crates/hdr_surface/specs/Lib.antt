@@ -1,1 +1,2 @@
+pub mod Overflows
 pub mod OwnBytes

@@ -38,7 +38,7 @@ pub fn merge_tagged<T: Counter>(
 }
 
 /// A pattern has these two fields.
-pub fn parts<T: Counter>(merged: Merged<T>) -> (Histogram<T>, u64) {
+pub fn parts_of_merged<T: Counter>(merged: Merged<T>) -> (Histogram<T>, u64) {
     let Merged { histogram, chosen } = merged;
     (histogram, chosen)
 }
