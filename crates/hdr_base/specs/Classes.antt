@@ -1,6 +1,6 @@
 -- The classes of values that are counted together. Where each definition comes from follows it: the Rust crate's
 -- documentation of that item.
-use Rattle.std.specs.Prelude.{◌≡◌, ℕ, min, ◌+◌, ◌-◌, ◌*◌, ◌/◌, ◌%◌, ◌^◌, ◌<◌, ◌≤◌, Bool, true, false, nat_lt, nat_le}
+use Rattle.std.specs.Prelude.{◌≡◌, ℕ, ◌+◌, ◌-◌, ◌*◌, ◌/◌, ◌%◌, ◌^◌, ◌<◌, ◌≤◌, Bool, true, false, nat_lt, nat_le}
 use Rattle.std.proofs.Common.{zero, suc}
 
 -- the least number from k on that passes the test, looked for at n numbers; k + n where none of these passes (ours)
@@ -78,11 +78,6 @@ pub record HasScale (low sigfig : ℕ) : Type 0 where
 pub record IsFiner (f g : Grain) : Type 0 where
   pub unit : f.unit ≤ g.unit
   pub digits : g.digits ≤ f.digits
-
--- a block is half as many classes as the first bucket has. A sum is kept of each 2 ^ section_digits bins: those of a block, or of
--- a section of it where blocks are long (no item of the Rust crate, which keeps no sums)
-abbrev pub section_digits : ℕ → ℕ
-section_digits digits = min (digits - 1) (digits / 2 + 3)
 
 -- how many bins the largest histogram has: 5 digits over all values are 48 blocks of 131,072 (`new_with_bounds`)
 abbrev pub most_bins : ℕ

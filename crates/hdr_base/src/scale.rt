@@ -1,7 +1,7 @@
 //! The classes of values, from a lowest value and a number of significant digits.
 
 ghost use Rattle.std.specs.Prelude.{◌≡◌, ℕ, ◌+◌, ◌-◌, ◌*◌, ◌^◌, ◌<◌, ◌≤◌, MatchOption, SomeIff, IfSome, IsSome};
-ghost use Rattle.hdr_base.specs.Classes.{most_bins, section_digits, IsLeast, grain_of, digits_of, bucket, width_of, lowest_of, top_of, bin_of, value_of, reach_of, HasScale};
+ghost use Rattle.hdr_base.specs.Classes.{most_bins, IsLeast, grain_of, digits_of, bucket, width_of, lowest_of, top_of, bin_of, value_of, reach_of, HasScale};
 
 use std::marker::Model;
 
@@ -145,41 +145,20 @@ impl Scale {
         self.bucket(value) as usize + 1
     }
 
-    /// The number of classes in a section of a block, of which one sum is kept. A block is half of the classes in the first
-    /// bucket, and all that each further bucket adds; a long one has several sections.
-    pub fn section(self) -> usize
-        ensures value { result ≡ 2 ^ section_digits self.digits }
+    /// The number of classes in a block: half of those in the first bucket, and all that each further bucket adds.
+    pub fn block(self) -> usize
+        ensures value { result ≡ 2 ^ (self.digits - 1) }
         ensures at_least_one { 1 ≤ result }
     {
-        1 << self.section_digits()
+        1 << (self.digits - 1)
     }
 
-    /// The exponent of `section()`.
-    pub fn section_digits(self) -> u32
-        ensures value { result ≡ section_digits self.digits }
-        ensures bound { result < self.digits }
+    /// How many blocks hold the classes up to the bucket of a value.
+    pub fn blocks(self, value: u64) -> usize
+        ensures value { result ≡ bucket self value + 2 }
+        ensures few { result * 2 ^ (self.digits - 1) ≤ most_bins }
     {
-        let digits = u32::from(self.digits);
-        (digits - 1).min(digits / 2 + 3)
-    }
-
-    /// How many sections a block has.
-    pub fn sections_in_block(self) -> usize
-        ensures value { result * 2 ^ section_digits self.digits ≡ 2 ^ (self.digits - 1) }
-        ensures at_least_one { 1 ≤ result }
-        ensures bound { result ≤ 2 ^ 17 }
-        ensures few { 2 ^ (self.digits - 1) ≤ most_bins }
-    {
-        1 << (u32::from(self.digits) - 1 - self.section_digits())
-    }
-
-    /// How many sections hold the classes up to the bucket of a value.
-    pub fn sections(self, value: u64) -> usize
-        ensures value { result * 2 ^ section_digits self.digits
-            ≡ (bucket self value + 2) * 2 ^ (self.digits - 1) }
-        ensures few { result * 2 ^ section_digits self.digits ≤ most_bins }
-    {
-        (self.buckets(value) + 1) * self.sections_in_block()
+        self.buckets(value) + 1
     }
 
     /// The lowest value of the class of a number; `None` past the class of `u64::MAX`.

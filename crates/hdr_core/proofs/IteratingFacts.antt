@@ -1,5 +1,5 @@
 -- The bins of a histogram are such that iterators can go over them.
-use Rattle.std.proofs.Common.{ℕ, List, length, ◌+◌, ◌*◌, ◌≤◌, ◌-◌, ◌^◌, ◌<◌, Option, Some, None, unwrap_or, arith}
+use Rattle.std.proofs.Common.{ℕ, ◌-◌, ◌^◌, ◌<◌, Option, Some, None, unwrap_or, arith}
 use Rattle.hdr_base.specs.Classes.{reach_of}
 use Rattle.hdr_base.proofs.ClassesLaws.{bin-mono}
 use Rattle.hdr_base.proofs.ClassesDigits.{digits-pos-of}
@@ -8,9 +8,7 @@ use Rattle.hdr_model.specs.Plain.{Plain, IsPlain, grain}
 use Rattle.hdr_model.specs.Marks.{IsAbove}
 use Rattle.hdr_core.specs.Iterating.{bins_seen}
 use Rattle.hdr_model.proofs.PlainBins.{few-bins, fits-of, mark-inside}
-use Rattle.hdr_counts.specs.Blocks.{AreSums}
-use Rattle.hdr_counts.proofs.BlocksSums.{number-le-sum_below, sum_below-le, block_past}
-use Rattle.hdr_iterators.specs.Seen.{AreBins, TellEmpty}
+use Rattle.hdr_iterators.specs.Seen.{AreBins}
 
 above-mark : (mark : Option ℕ) (i : ℕ) → unwrap_or mark 0 < i → IsAbove mark i
 above-mark None i lt = tt
@@ -33,13 +31,3 @@ AreBins-binned greatest h p =
       last_inside = mark-inside greatest h p;
       none_above = λ i lt. p.none_above i (above-mark h.top_mark i lt);
     }
-
--- the sums of the blocks tell which of them hold no sample
-pub TellEmpty-sums : (block : ℕ) (numbers sums : List ℕ) → AreSums block numbers sums → TellEmpty block numbers sums
-TellEmpty-sums block numbers sums s = record {
-  whole = s.whole;
-  none = λ k l z i from to.
-      let end : (k + 1) * block ≤ length sums * block = block_past block k (length sums) l in
-      let inside : i < length numbers = omega (arith, end, s.whole, to) in
-      omega (arith, s.each k l, z, number-le-sum_below numbers i ((k + 1) * block) to inside, sum_below-le numbers (k * block) i from);
-}

@@ -76,7 +76,7 @@ impl<T: Counter> Histogram<T> {
         ensures beyond { IfErr result (IsBeyondLow low) }
     {
         let scale = scale_for(low, high, sigfig)?;
-        let Ok(counts) = Counts::new(alloc, scale.sections(high), scale.section()) else {
+        let Ok(counts) = Counts::new(alloc, scale.blocks(high), scale.block()) else {
             return Err(CreationError::OutOfMemory);
         };
         Ok(Histogram {

@@ -1,6 +1,6 @@
 -- The sums of groups of blocks: blocks of a greater length.
 use Rattle.std.proofs.Common.{◌≡◌, ℕ, ◌+◌, ◌-◌, ◌*◌, ◌/◌, ◌%◌, ◌^◌, ◌<◌, ◌≤◌, zero, suc, List, [], ◌∷◌, length, get_or, take, drop, map, sum, refl, sym, ap, ◌∙◌, subst, arith}
-use Rattle.std.proofs.Math.Nat.{mul_assoc, mul-le-mul_right, mul-div_cancel}
+use Rattle.std.proofs.Math.Nat.{mul_assoc, mul-le-mul_right, mul-le-mul_left, mul-div_cancel}
 use Rattle.std.proofs.lemmas.Nat.{div-add-mod'}
 use Rattle.hdr_counts.specs.Blocks.{AreSums, sum_below}
 use Rattle.hdr_counts.proofs.BlocksBounds.{block-within, block-end-fits}
@@ -68,12 +68,12 @@ AreSums-groups b g n ns ss h some size = record {
   fits = h.fits;
 }
 
--- lists whose length is a number of groups
-pub whole-groups : (b g : ℕ) (ns ss : List ℕ) → AreSums b ns ss → 1 ≤ g → length ns % (g * b) ≡ 0 → (length ss ≡ length ss / g * g) × (length ns / (g * b) ≡ length ss / g)
-whole-groups b g ns ss h some whole =
-    let q = length ns / (g * b) in
-    let parts = div-add-mod' (length ns) (g * b) in
-    let size : length ss * b ≡ q * g * b = omega (arith, parts, whole, h.whole, mul_assoc q g b) in
+-- lists whose length is a number of groups, each of w numbers
+pub whole-groups : (b g w : ℕ) (ns ss : List ℕ) → AreSums b ns ss → 1 ≤ g → g * b ≡ w → length ns % w ≡ 0 → (length ss ≡ length ss / g * g) × (length ns / w ≡ length ss / g)
+whole-groups b g w ns ss h some wide whole =
+    let q = length ns / w in
+    let parts = div-add-mod' (length ns) w in
+    let size : length ss * b ≡ q * g * b = omega (arith, parts, whole, h.whole, ap (λ m. q * m) wide, mul_assoc q g b) in
     let upto : length ss ≤ q * g = blocks_more b (length ss) (q * g) h.some (omega (arith, size)) in
     let from : q * g ≤ length ss = blocks_more b (q * g) (length ss) h.some (omega (arith, size)) in
     let same : length ss ≡ q * g = omega (arith, upto, from) in
@@ -81,27 +81,33 @@ whole-groups b g ns ss h some whole =
     (same ∙ ap (λ m. m * g) (sym number), sym number)
 
 -- group k: the sums of all groups, its own, and its place
-pub record IsGroup {X : Type 0} (f : X → ℕ) (xs : List X) (b g k : ℕ) (ss : List ℕ) : Type 0 where
-  pub sums : AreSums (g * b) (map f xs) (groups g (length ss / g) ss)
+pub record IsGroup {X : Type 0} (f : X → ℕ) (xs : List X) (g w k : ℕ) (ss : List ℕ) : Type 0 where
+  pub sums : AreSums w (map f xs) (groups g (length ss / g) ss)
   pub inside : k < length (groups g (length ss / g) ss)
   pub own : get_or (groups g (length ss / g) ss) k 0 ≡ sum (take g (drop (k * g) ss))
   pub fits : sum (take g (drop (k * g) ss)) < 2 ^ 128
-  pub within : k * (g * b) + g * b ≤ length xs
-  pub end_fits : k * (g * b) + g * b < 2 ^ 64
+  pub sums_within : k * g + g ≤ length ss
+  pub sums_end_fits : k * g + g < 2 ^ 64
+  pub within : k * w + w ≤ length xs
+  pub end_fits : k * w + w < 2 ^ 64
 
-pub group-of : {X : Type 0} (f : X → ℕ) (xs : List X) (b g k len : ℕ) (ss : List ℕ) → AreSums b (map f xs) ss → 1 ≤ g → length (map f xs) % (g * b) ≡ 0 → len ≡ length ss → k < len / g → IsGroup f xs b g k ss
-group-of f xs b g k len ss h some whole size lt =
-    let w = g * b in
+pub group-of : {X : Type 0} (f : X → ℕ) (xs : List X) (b g w k len : ℕ) (ss : List ℕ) → AreSums b (map f xs) ss → 1 ≤ g → g * b ≡ w → length (map f xs) % w ≡ 0 → len ≡ length ss → k < len / g → IsGroup f xs g w k ss
+group-of f xs b g w k len ss h some wide whole size lt =
     let n = length ss / g in
     let inside : k < n = subst (λ m. k < m / g) size lt in
-    let sums = AreSums-groups b g n (map f xs) ss h some (whole-groups b g (map f xs) ss h some whole).0 in
+    let all = (whole-groups b g w (map f xs) ss h some wide whole).0 in
+    let sums = subst (λ m. AreSums m (map f xs) (groups g n ss)) wide (AreSums-groups b g n (map f xs) ss h some all) in
     let at : k < length (groups g n ss) = omega (arith, inside, groups-length g n ss) in
     let own = groups-at g n ss k inside in
+    let end : (k + 1) * g ≤ n * g = mul-le-mul_right g (let next : k + 1 ≤ n = omega (arith, inside) in next) in
+    let few : length ss * 1 ≤ length ss * b = mul-le-mul_left (length ss) h.some in
     record {
       sums = sums;
       inside = at;
       own = own;
       fits = omega (arith, sums.each k at, sum_below-le-sum (map f xs) ((k + 1) * w), sum-fits (map f xs) h.few h.fits, own);
+      sums_within = omega (arith, end, all);
+      sums_end_fits = omega (arith, end, all, few, h.whole, h.few);
       within = block-within f xs w k (groups g n ss) sums at;
       end_fits = block-end-fits f xs w k (groups g n ss) sums at;
     }
@@ -111,19 +117,18 @@ pub group-sum-read : (g k w : ℕ) (ss r : List ℕ) → r ≡ ss → w ≡ g �
 group-sum-read g k w ss r same wide = ap (λ v. sum (take v (drop (k * g) r))) wide ∙ ap (λ q. sum (take g (drop (k * g) q))) same
 
 -- where a group's sum reaches what is left of a rank, its counters do
-pub none-found : {X : Type 0} (f : X → ℕ) (xs l : List X) (ss : List ℕ) (b g k r s rest : ℕ) → IsGroup f xs b g k ss → l ≡ xs → r ≡ sum (take g (drop (k * g) ss)) → s ≡ r → rest ≤ s
-    → sum (map f (take (k * (g * b) + g * b - k * (g * b)) (drop (k * (g * b)) l))) < rest → ⊥
-none-found f xs l ss b g k r s rest p read r_is s_is le lt =
-    let w = g * b in
+pub none-found : {X : Type 0} (f : X → ℕ) (xs l : List X) (ss : List ℕ) (g w k r s rest : ℕ) → IsGroup f xs g w k ss → l ≡ xs → r ≡ sum (take g (drop (k * g) ss)) → s ≡ r → rest ≤ s
+    → sum (map f (take (k * w + w - k * w) (drop (k * w) l))) < rest → ⊥
+none-found f xs l ss g w k r s rest p read r_is s_is le lt =
     let all = groups g (length ss / g) ss in
     omega (arith, block-sum-read f xs l w k (k * w + w - k * w) all all p.sums p.inside refl read (omega arith), p.own)
 
 -- after the last group there is nothing left
-pub groups-end : (b g k len : ℕ) (ns ss : List ℕ) → AreSums b ns ss → 1 ≤ g → length ns % (g * b) ≡ 0 → len ≡ length ss → k ≤ len / g → len / g ≤ k → (sum_below ns (k * (g * b)) ≡ sum ns) × (k ≡ length ns / (g * b))
-groups-end b g k len ns ss h some whole size upto stop =
-    let parts = whole-groups b g ns ss h some whole in
+pub groups-end : (b g w k len : ℕ) (ns ss : List ℕ) → AreSums b ns ss → 1 ≤ g → g * b ≡ w → length ns % w ≡ 0 → len ≡ length ss → k ≤ len / g → len / g ≤ k → (sum_below ns (k * w) ≡ sum ns) × (k ≡ length ns / w)
+groups-end b g w k len ns ss h some wide whole size upto stop =
+    let parts = whole-groups b g w ns ss h some wide whole in
     let here : k ≡ len / g = omega (arith, upto, stop) in
-    let at : k ≡ length ns / (g * b) = here ∙ ap (λ m. m / g) size ∙ sym parts.1 in
-    let all = div-add-mod' (length ns) (g * b) in
-    let end : k * (g * b) ≡ length ns / (g * b) * (g * b) = ap (λ m. m * (g * b)) at in
-    (sum_below_all ns (k * (g * b)) (omega (arith, end, all, whole)), at)
+    let at : k ≡ length ns / w = here ∙ ap (λ m. m / g) size ∙ sym parts.1 in
+    let all = div-add-mod' (length ns) w in
+    let end : k * w ≡ length ns / w * w = ap (λ m. m * w) at in
+    (sum_below_all ns (k * w) (omega (arith, end, all, whole)), at)

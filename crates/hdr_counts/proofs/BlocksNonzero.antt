@@ -1,9 +1,9 @@
 -- The first and the last place of a number above 0, block by block.
-use Rattle.std.proofs.Common.{◌≡◌, ℕ, ◌+◌, ◌-◌, ◌*◌, ◌<◌, ◌≤◌, List, length, get_or, take, drop, map, replicate, sum, max, ap, ◌∙◌, arith, inl, inr}
+use Rattle.std.proofs.Common.{◌≡◌, ℕ, ◌+◌, ◌-◌, ◌*◌, ◌/◌, ◌<◌, ◌≤◌, List, length, get_or, take, drop, map, replicate, sum, ap, sym, subst, ◌∙◌, arith, inl, inr}
 use Rattle.std.proofs.lemmas.Bool.{cases_lt}
-use Rattle.std.proofs.lemmas.List.{get_or-take, get_or-drop, get_or-replicate, get_or_past, length-replicate}
+use Rattle.std.proofs.lemmas.List.{get_or-take, get_or-drop, get_or-replicate, get_or_past, length-map, length-replicate, length-take}
 use Rattle.hdr_counts.specs.Blocks.{sum_below, AreSums, AreZeros, IsLastNonzero, IsFirstNonzero}
-use Rattle.hdr_counts.proofs.BlocksSums.{sum_below-le, part_whole, zeros-of}
+use Rattle.hdr_counts.proofs.BlocksSums.{sum_below-le, part_whole, zeros-of, block_in, block_of, block_past}
 use Rattle.hdr_counts.proofs.BlocksCapped.{map-middle}
 
 get-zeros : (n i : ℕ) → get_or {A = ℕ} (replicate n 0) i 0 ≡ 0
@@ -52,25 +52,38 @@ last-before f xs a w e i end lt last behind = (
   ],
 )
 
--- zeros up to a place, but for place 0
-abbrev pub ZerosUpTo : List ℕ → ℕ → Type 0
-ZerosUpTo ns e = (j : ℕ) → 0 < j → j < e → get_or ns j 0 ≡ 0
+-- zeros from one place up to another
+abbrev pub ZerosBetween : List ℕ → ℕ → ℕ → Type 0
+ZerosBetween ns a e = (j : ℕ) → a ≤ j → j < e → get_or ns j 0 ≡ 0
 
--- a block of zeros after zeros
-pub zeros-behind : {X : Type 0} (f : X → ℕ) (xs : List X) (b a w e : ℕ) → a ≡ max b 1 → e ≡ a + w → ZerosUpTo (map f xs) b → AreZeros (map f (take w (drop a xs))) → ZerosUpTo (map f xs) e
-zeros-behind f xs b a w e from end before zeros j some lt =
-    elim (cases_lt j a) [
-      | inl inside ↦ before j some (omega arith)
-      | inr ge ↦ whole-get f xs a w j ge (omega arith) ∙ zeros (j - a)
-    ]
+pub zeros-join : (ns : List ℕ) (a b c : ℕ) → ZerosBetween ns a b → ZerosBetween ns b c → ZerosBetween ns a c
+zeros-join ns a b c first second j ge lt = elim (cases_lt j b) [ inl less ↦ first j ge less | inr more ↦ second j more lt ]
 
--- the first place of a block after zeros
-pub first-behind : {X : Type 0} (f : X → ℕ) (xs : List X) (b a w i : ℕ) → a ≡ max b 1 → i < w → ZerosUpTo (map f xs) b → IsFirstNonzero (map f (take w (drop a xs))) i
-    → (0 < get_or (map f xs) (a + i) 0) × ZerosUpTo (map f xs) (a + i)
-first-behind f xs b a w i from lt before first = (
-  omega (arith, first.0, part-get f xs a w i lt),
-  λ j some less. elim (cases_lt j a) [
-    | inl inside ↦ before j some (omega arith)
-    | inr ge ↦ whole-get f xs a w j ge (omega arith) ∙ first.1 (j - a) (omega arith)
-  ],
-)
+-- what is left of block k from place i on, up to its end e
+pub record BlockRest {X : Type 0} (f : X → ℕ) (xs : List X) (ss : List ℕ) (i k e : ℕ) : Type 0 where
+  pub number : k < length ss
+  pub inside : i < e
+  pub within : e ≤ length xs
+  pub least : (l : List X) → l ≡ xs → sum (map f (take (e - i) (drop i l))) ≤ get_or ss k 0
+  pub none : (l : List X) → l ≡ xs → AreZeros (map f (take (e - i) (drop i l))) → ZerosBetween (map f xs) i e
+  pub some : (l : List X) (p : ℕ) → l ≡ xs → p < length (take (e - i) (drop i l)) → IsFirstNonzero (map f (take (e - i) (drop i l))) p → (i + p < length xs) × (0 < get_or (map f xs) (i + p) 0) × ZerosBetween (map f xs) i (i + p)
+
+pub BlockRest-of : {X : Type 0} (f : X → ℕ) (xs : List X) (ss : List ℕ) (b i k e : ℕ) → AreSums b (map f xs) ss → i < length xs → k ≡ i / b → e ≡ (k + 1) * b → BlockRest f xs ss i k e
+BlockRest-of f xs ss b i k e h lt at end =
+    let number : k < length ss = rw at (block_in b i (length ss) h.some (omega (arith, lt, h.whole, length-map xs f))) in
+    let own : (k * b ≤ i) × (i < (k + 1) * b) = rw at (block_of b i h.some) in
+    let within : (k + 1) * b ≤ length ss * b = block_past b k (length ss) number in
+    let inside : i < e = omega (arith, own.1, end) in
+    let far : i + (e - i) ≡ k * b + b = omega (arith, inside, end) in
+    let to : i + (e - i) ≡ e = omega (arith, inside) in
+    record {
+      number = number;
+      inside = inside;
+      within = omega (arith, end, within, h.whole, length-map xs f);
+      least = λ l same. subst (λ ys. sum (map f (take (e - i) (drop i ys))) ≤ get_or ss k 0) (sym same) (part-at-most f xs ss b k i (e - i) h number own.0 far);
+      none = λ l same zeros j ge less. whole-get f xs i (e - i) j ge (omega (arith, less, to)) ∙ subst (λ ys. AreZeros (map f (take (e - i) (drop i ys)))) same zeros (j - i);
+      some = λ l p same short first.
+          let w : p < e - i = omega (arith, short, length-take (e - i) (drop i l)) in
+          let own_first = subst (λ ys. IsFirstNonzero (map f (take (e - i) (drop i ys))) p) same first in
+          (omega (arith, w, within, end, h.whole, length-map xs f), omega (arith, own_first.0, part-get f xs i (e - i) p w), λ j ge less. whole-get f xs i (e - i) j ge (omega (arith, less, w)) ∙ own_first.1 (j - i) (omega (arith, ge, less)));
+    }

@@ -65,19 +65,19 @@ zeros-made b blocks some few =
     subst (λ n. AreSums b (replicate n 0) (replicate blocks 0)) every (subst (λ k. AreSums b (with_zeros [] (blocks * b)) (replicate k 0)) all (AreSums-grow b [] [] blocks none (omega arith) few))
 
 -- counters of 0, none of which is at hand
-pub open-none : (greatest b blocks capacity : ℕ) (ss : List ℕ) (shift : Option ℕ) → 1 ≤ b → blocks * b ≤ most_bins → blocks * b ≤ capacity → ss ≡ replicate blocks 0 → IsShift b shift
-    → AreOpen greatest b (blocks * b) capacity [] ss shift
-open-none greatest b blocks capacity ss shift some few room e is_shift =
-    let size : length ss ≡ blocks = ap (length {A = ℕ}) e ∙ length-replicate {A = ℕ} blocks 0 in
-    let every : blocks * b - 0 ≡ blocks * b = omega arith in
-    let zeros : AreSums b (with_zeros [] (blocks * b)) (replicate blocks 0) = subst (λ n. AreSums b (replicate n 0) (replicate blocks 0)) (sym every) (zeros-made b blocks some few) in
+pub open-none : (greatest b n len capacity : ℕ) (ss : List ℕ) (shift : Option ℕ) → 1 ≤ b → n * b ≡ len → len ≤ most_bins → len ≤ capacity → ss ≡ replicate n 0 → IsShift b shift
+    → AreOpen greatest b len capacity [] ss shift
+open-none greatest b n len capacity ss shift some is few room e is_shift =
+    let size : length ss ≡ n = ap (length {A = ℕ}) e ∙ length-replicate {A = ℕ} n 0 in
+    let every : n * b ≡ len - 0 = omega (arith, is) in
+    let zeros : AreSums b (with_zeros [] len) (replicate n 0) = subst (λ m. AreSums b (replicate m 0) (replicate n 0)) every (zeros-made b n some (omega (arith, is, few))) in
     record {
       some = some;
       few = few;
-      whole = ap (λ n. n * b) (sym size);
+      whole = sym is ∙ ap (λ m. m * b) (sym size);
       within = omega arith;
       room = room;
-      kept = subst (λ l. AreSums b (with_zeros [] (blocks * b)) l) (sym e) zeros;
+      kept = subst (λ l. AreSums b (with_zeros [] len) l) (sym e) zeros;
       shift_is = is_shift;
       fit = All-nil _;
     }

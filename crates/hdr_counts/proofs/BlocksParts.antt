@@ -1,7 +1,7 @@
 -- The sums of the two parts of a block, up to a place and after it.
 use Rattle.std.proofs.Common.{◌≡◌, ℕ, ◌+◌, ◌-◌, ◌*◌, ◌<◌, ◌≤◌, List, length, get_or, take, drop, map, sum, refl, ap, arith}
 use Rattle.std.proofs.lemmas.List.{get_or_read}
-use Rattle.hdr_counts.specs.Blocks.{Blocks, sum_below, AreSums}
+use Rattle.hdr_counts.specs.Blocks.{Blocks, section_of, sum_below, AreSums}
 use Rattle.hdr_counts.proofs.BlocksSums.{sum_below-le, part_whole, blocks_more}
 
 module _ {X : Type 0} (f : X → ℕ) (xs l : List X) (ss : List ℕ) (b k i : ℕ) (sums : AreSums b (map f xs) ss) (same : l ≡ xs) (from : k * b ≤ i) (before : i < (k + 1) * b) (within : (k + 1) * b ≤ length (map f xs)) where
@@ -33,9 +33,9 @@ module _ {X : Type 0} (f : X → ℕ) (xs l : List X) (ss : List ℕ) (b k i : �
   pub back-le : sum (map f (take (k * b + b - (i + 1)) (drop (i + 1) l))) ≤ get_or ss k 0
   back-le = omega (arith, back-sum, sum_below-le (map f xs) (k * b) (i + 1) (omega (arith, from)))
 
--- the same of blocks as they are seen, where the sum of the block was read
-module _ {X : Type 0} (f : X → ℕ) (v : Blocks) (xs l : List X) (ss : List ℕ) (b k i whole : ℕ) (b_is : b ≡ v.block) (ns_is : map f xs ≡ v.numbers) (sums : AreSums b (map f xs) ss) (same : l ≡ xs) (read : whole ≡ get_or ss k whole)
-    (from : k * v.block ≤ i) (before : i < (k + 1) * v.block) (within : (k + 1) * v.block ≤ length v.numbers) where
+-- the same of blocks as they are seen, where the sum of a section was read
+module _ {X : Type 0} (f : X → ℕ) (v : Blocks) (xs l : List X) (ss : List ℕ) (b k i whole : ℕ) (b_is : b ≡ section_of v.block) (ns_is : map f xs ≡ v.numbers) (sums : AreSums b (map f xs) ss) (same : l ≡ xs) (read : whole ≡ get_or ss k whole)
+    (from : k * section_of v.block ≤ i) (before : i < (k + 1) * section_of v.block) (within : (k + 1) * section_of v.block ≤ length v.numbers) where
   its-from : k * b ≤ i
   its-from = rw b_is from
 
@@ -51,11 +51,11 @@ module _ {X : Type 0} (f : X → ℕ) (v : Blocks) (xs l : List X) (ss : List �
   pub front-within : sum (map f (take (i + 1 - k * b) (drop (k * b) l))) ≤ whole
   front-within = omega (arith, front-le f xs l ss b k i sums same its-from its-before its-within, read-is)
 
-  pub front-is : (part : ℕ) → part ≡ sum (map f (take (i + 1 - k * b) (drop (k * b) l))) → sum_below v.numbers (k * v.block) + part ≡ sum_below v.numbers (i + 1)
+  pub front-is : (part : ℕ) → part ≡ sum (map f (take (i + 1 - k * b) (drop (k * b) l))) → sum_below v.numbers (k * section_of v.block) + part ≡ sum_below v.numbers (i + 1)
   front-is part is = rw (← ns_is, ← b_is) (omega (arith, front-sum f xs l ss b k i sums same its-from its-before its-within, is))
 
   pub back-within : sum (map f (take (k * b + b - (i + 1)) (drop (i + 1) l))) ≤ whole
   back-within = omega (arith, back-le f xs l ss b k i sums same its-from its-before its-within, read-is)
 
-  pub back-is : (part : ℕ) → part ≡ sum (map f (take (k * b + b - (i + 1)) (drop (i + 1) l))) → sum_below v.numbers (k * v.block) + (whole - part) ≡ sum_below v.numbers (i + 1)
+  pub back-is : (part : ℕ) → part ≡ sum (map f (take (k * b + b - (i + 1)) (drop (i + 1) l))) → sum_below v.numbers (k * section_of v.block) + (whole - part) ≡ sum_below v.numbers (i + 1)
   back-is part is = rw (← ns_is, ← b_is) (omega (arith, back-sum f xs l ss b k i sums same its-from its-before its-within, back-within, read-is, is))

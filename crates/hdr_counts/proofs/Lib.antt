@@ -1,5 +1,6 @@
 pub mod BlocksSums
 pub mod BlocksPlaces
+pub mod BlocksSections
 pub mod BlocksCapped
 pub mod BlocksOpen
 pub mod BlocksNonzero

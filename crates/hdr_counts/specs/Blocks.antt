@@ -1,9 +1,9 @@
 -- A list of numbers in blocks of one length: its sums, the first place where they reach a rank, and the capped sums of
 -- two lists. (No item of the Rust crate: it keeps its counters in one vector and adds them up wherever a sum is asked for.)
-use Rattle.std.specs.Prelude.{◌≡◌, ℕ, ◌+◌, ◌-◌, ◌*◌, ◌/◌, ◌%◌, ◌^◌, ◌<◌, ◌≤◌, min, List, ◌∷◌, ◌++◌, length, replicate, take, sum, slice_index, All, Option, Some, None, IfSome}
+use Rattle.std.specs.Prelude.{◌≡◌, ℕ, ◌+◌, ◌-◌, ◌*◌, ◌/◌, ◌%◌, ◌^◌, ◌<◌, ◌≤◌, min, List, ◌∷◌, ◌++◌, length, replicate, take, sum, slice_index, All, Option, Some, None, IfSome, nat_le, ◌&&◌, ◌==◌, if◌then◌else◌}
 use Rattle.hdr_base.specs.Classes.{most_bins}
 
--- how many numbers a sum is of (a section of a block, in the words of `Scale`), and all numbers in order
+-- how many numbers a block has, and all numbers in order
 pub record Blocks : Type 0 where
   pub block : ℕ
   pub numbers : List ℕ
@@ -45,6 +45,20 @@ abbrev pub capped_sums : ℕ → List ℕ → List ℕ → List ℕ
 capped_sums greatest (m ∷ ms) (n ∷ ns) = min (m + n) greatest ∷ capped_sums greatest ms ns
 capped_sums greatest ms ns = ms
 
+-- the length of a section, where a block is at least that long and can be parted so; else another length
+unfoldable pub parted : ℕ → ℕ → ℕ → ℕ → ℕ
+parted block least section otherwise = if nat_le least block && block % section == 0 then section else otherwise
+
+-- the length of a block's sections, of each of which a sum is kept: a long block has several
+unfoldable pub section_of : ℕ → ℕ
+section_of block = parted block 131072 4096 (parted block 16384 1024 (parted block 1024 256 block))
+
+-- blocks of one length, in sections, and the length of a list of whole ones
+pub record AreSections (block section len : ℕ) : Type 0 where
+  pub some : 1 ≤ block
+  pub section_is : section ≡ section_of block
+  pub whole : len % block ≡ 0
+
 -- the sums are those of the numbers' blocks: each one is what its block adds to the sum before it
 pub record AreSums (block : ℕ) (numbers sums : List ℕ) : Type 0 where
   pub some : 1 ≤ block
@@ -57,11 +71,12 @@ pub record AreSums (block : ℕ) (numbers sums : List ℕ) : Type 0 where
 abbrev pub IsShift : ℕ → Option ℕ → Type 0
 IsShift block shift = IfSome shift (λ s. (s < 64) × (block ≡ 2 ^ s))
 
--- what is true of counters in blocks: their sums are those of the blocks, the exponent is the block's, and no number is
--- above the greatest counter
-pub record AreHeld (greatest block : ℕ) (numbers sums : List ℕ) (shift : Option ℕ) : Type 0 where
-  pub sums_are : AreSums block numbers sums
-  pub shift_is : IsShift block shift
+-- what is true of counters in blocks: their sums are those of the blocks' sections, the exponent is a section's, and no number
+-- is above the greatest counter
+pub record AreHeld (greatest block section : ℕ) (numbers sums : List ℕ) (shift : Option ℕ) : Type 0 where
+  pub sections : AreSections block section (length numbers)
+  pub sums_are : AreSums section numbers sums
+  pub shift_is : IsShift section shift
   pub fit : All (λ n. n ≤ greatest) numbers
 
 -- numbers, and zeros after them up to a length

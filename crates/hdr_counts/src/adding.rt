@@ -1,4 +1,4 @@
-//! Sums of a block, and one block added to another.
+//! Sums of a section, and one section added to another.
 
 ghost use Rattle.std.specs.Prelude.{◌≡◌, ℕ, ◌+◌, ◌-◌, ◌*◌, ◌^◌, ◌<◌, ◌≤◌, min, length, map, sum, All};
 ghost use Rattle.hdr_base.specs.Classes.{most_bins};
@@ -30,34 +30,34 @@ pub(crate) fn short_sum<T: Counter>(counters: &[T]) -> u64
     total
 }
 
-/// Adds the blocks of `source` to those of `counters`, each sum of two up to the greatest counter. `sums` and `more`
-/// are the sums of their blocks.
-pub(crate) fn add_blocks<T: Counter, F: Counter>(
+/// Adds the sections of `source` to those of `counters`, each sum of two up to the greatest counter. `sums` and `more`
+/// are the sums of their sections.
+pub(crate) fn add_sections<T: Counter, F: Counter>(
     counters: &mut [T],
     sums: &mut [u128],
     source: &[F],
     more: &[u128],
-    block: usize,
+    section: usize,
 )
-    requires sums { AreSums block (map T.number counters.old) sums.old }
-    requires more { AreSums block (map F.number source.now) more.now }
+    requires sums { AreSums section (map T.number counters.old) sums.old }
+    requires more { AreSums section (map F.number source.now) more.now }
     requires len { length counters.old ≡ length source.now }
     requires fit { All (λ n. n ≤ T.greatest) (map T.number counters.old) }
     ensures numbers { map T.number counters.new ≡ capped_sums T.greatest (map T.number counters.old)
         (map F.number source.now) }
-    ensures sums { AreSums block (map T.number counters.new) sums.new }
+    ensures sums { AreSums section (map T.number counters.new) sums.new }
     ensures fit { All (λ n. n ≤ T.greatest) (map T.number counters.new) }
 {
     for k in 0..sums.len() {
-        let from = k * block;
-        let to = from + block;
-        sums[k] = add_block(&mut counters[from..to], &source[from..to], sums[k], more[k]);
+        let from = k * section;
+        let to = from + section;
+        sums[k] = add_section(&mut counters[from..to], &source[from..to], sums[k], more[k]);
     }
 }
 
-/// Adds one block to another and gives the new sum; `had` and `more` are their sums, which tell whether there is
+/// Adds one section to another and gives the new sum; `had` and `more` are their sums, which tell whether there is
 /// anything to add, and whether any place can pass the greatest.
-fn add_block<T: Counter, F: Counter>(
+fn add_section<T: Counter, F: Counter>(
     counters: &mut [T],
     source: &[F],
     had: u128,

@@ -1,25 +1,25 @@
-//! Blocks made 0.
+//! Sections made 0.
 
 ghost use Rattle.std.specs.Prelude.{◌≡◌, length, map, sum, replicate};
 ghost use Rattle.hdr_counts.specs.Blocks.{AreSums};
 
 use hdr_base::Counter;
 
-/// Makes each counter 0, block by block. `sums` are the sums of the blocks: one whose sum is 0 costs a look at it.
-pub(crate) fn clear_blocks<T: Counter>(counters: &mut [T], sums: &mut [u128], block: usize)
-    requires { AreSums block (map T.number counters.old) sums.old }
+/// Makes each counter 0, section by section. `sums` are the sums of the sections: one whose sum is 0 costs a look at it.
+pub(crate) fn clear_sections<T: Counter>(counters: &mut [T], sums: &mut [u128], section: usize)
+    requires { AreSums section (map T.number counters.old) sums.old }
     ensures numbers { map T.number counters.new ≡ replicate (length counters.old) 0 }
-    ensures sums { AreSums block (map T.number counters.new) sums.new }
+    ensures sums { AreSums section (map T.number counters.new) sums.new }
 {
     for k in 0..sums.len() {
-        let from = k * block;
-        clear_block(&mut counters[from..from + block], sums[k]);
+        let from = k * section;
+        clear_section(&mut counters[from..from + section], sums[k]);
         sums[k] = 0;
     }
 }
 
-/// Makes the counters of a block 0; `had` is their sum.
-fn clear_block<T: Counter>(counters: &mut [T], had: u128)
+/// Makes the counters of a section 0; `had` is their sum.
+fn clear_section<T: Counter>(counters: &mut [T], had: u128)
     requires { had ≡ sum (map T.number counters.old) }
     ensures { map T.number counters.new ≡ replicate (length counters.old) 0 }
 {

@@ -4,61 +4,85 @@ ghost use Rattle.std.specs.Prelude.{◌≡◌, ℕ, ◌<◌, ◌≤◌, IfSome, 
 ghost use Rattle.hdr_base.specs.Classes.{most_bins};
 ghost use Rattle.hdr_counts.specs.Blocks.{AreSums, AreZeros, IsLastNonzero, IsFirstNonzero};
 
-use crate::Counts;
+use crate::{Counts, quotient};
 use hdr_base::Counter;
 
 impl<T: Counter> Counts<T> {
-    /// The last place of a counter above 0. A block whose sum is 0 costs a look at it.
+    /// The last place of a counter above 0. A section whose sum is 0 costs a look at it.
     pub fn last_nonzero(&self) -> Option<usize>
         ensures within { IfSome result (λ m. m < most_bins) }
         ensures place { MatchOption result ((i : ℕ) → slice_index self.now.numbers i ≡ 0)
             (λ m. (0 < slice_index self.now.numbers m)
             × ((i : ℕ) → m < i → slice_index self.now.numbers i ≡ 0)) }
     {
-        last_place(&self.counters, &self.sums, self.block)
+        last_place(&self.counters, &self.sums, self.section)
     }
 
-    /// The first place after place 0 of a counter above 0. A block whose sum is 0 costs a look at it.
+    /// The first place after place 0 of a counter above 0.
     pub fn next_nonzero(&self) -> Option<usize>
         ensures within { IfSome result (λ m. (0 < m) × (m < most_bins)) }
         ensures place { MatchOption result ((i : ℕ) → 0 < i → slice_index self.now.numbers i ≡ 0)
             (λ m. (0 < slice_index self.now.numbers m)
             × ((i : ℕ) → 0 < i → i < m → slice_index self.now.numbers i ≡ 0)) }
     {
-        next_place(&self.counters, &self.sums, self.block)
+        let place = self.next_filled(self.len().min(1));
+        if place < self.len() {
+            Some(place)
+        } else {
+            None
+        }
+    }
+
+    /// The first place from one on of a counter above 0, or how many counters there are.
+    #[inline(always)]
+    pub fn next_filled(&self, from: usize) -> usize
+        requires { from ≤ length self.now.numbers }
+        ensures onward { from ≤ result }
+        ensures within { result ≤ length self.now.numbers }
+        ensures empty { (i : ℕ) → from ≤ i → i < result → slice_index self.now.numbers i ≡ 0 }
+        ensures filled { result < length self.now.numbers → 0 < slice_index self.now.numbers result }
+    {
+        if from < self.counters.len() {
+            if self.counters[from].as_u64() > 0 {
+                return from;
+            }
+        }
+        self.filled_by_section(from)
+    }
+
+    /// The same. A section whose sum is 0 costs a look at it.
+    #[inline(never)]
+    fn filled_by_section(&self, from: usize) -> usize
+        requires { from ≤ length self.now.numbers }
+        ensures onward { from ≤ result }
+        ensures within { result ≤ length self.now.numbers }
+        ensures empty { (i : ℕ) → from ≤ i → i < result → slice_index self.now.numbers i ≡ 0 }
+        ensures filled { result < length self.now.numbers → 0 < slice_index self.now.numbers result }
+    {
+        let mut place = from;
+        while place < self.counters.len() {
+            let k = quotient(place, self.section, self.shift);
+            let end = (k + 1) * self.section;
+            match first_of(&self.counters[place..end], self.sums[k]) {
+                Some(i) => return place + i,
+                None => place = end,
+            }
+        }
+        place
     }
 }
 
-/// The last place of a counter above 0; `sums` are the sums of the blocks.
-fn last_place<T: Counter>(counters: &[T], sums: &[u128], block: usize) -> Option<usize>
-    requires { AreSums block (map T.number counters.now) sums.now }
+/// The last place of a counter above 0; `sums` are the sums of the sections.
+fn last_place<T: Counter>(counters: &[T], sums: &[u128], section: usize) -> Option<usize>
+    requires { AreSums section (map T.number counters.now) sums.now }
     ensures within { IfSome result (λ m. m < most_bins) }
     ensures place { MatchOption result (AreZeros (map T.number counters.now))
         (IsLastNonzero (map T.number counters.now)) }
 {
     for passed in 0..sums.len() {
         let k = sums.len() - 1 - passed;
-        let from = k * block;
-        if let Some(i) = last_of(&counters[from..from + block], sums[k]) {
-            return Some(from + i);
-        }
-    }
-    None
-}
-
-/// The first place after place 0 of a counter above 0; `sums` are the sums of the blocks.
-fn next_place<T: Counter>(counters: &[T], sums: &[u128], block: usize) -> Option<usize>
-    requires { AreSums block (map T.number counters.now) sums.now }
-    ensures within { IfSome result (λ m. (0 < m) × (m < most_bins)) }
-    ensures place { MatchOption result ((i : ℕ) → 0 < i → slice_index (map T.number counters.now) i
-        ≡ 0)
-        (λ m. (0 < slice_index (map T.number counters.now) m)
-        × ((i : ℕ) → 0 < i → i < m → slice_index (map T.number counters.now) i ≡ 0)) }
-{
-    for k in 0..sums.len() {
-        let from = (k * block).max(1);
-        let to = k * block + block;
-        if let Some(i) = first_of(&counters[from..to], sums[k]) {
+        let from = k * section;
+        if let Some(i) = last_of(&counters[from..from + section], sums[k]) {
             return Some(from + i);
         }
     }

@@ -1,35 +1,38 @@
-//! A list of counters in blocks of one length, with the exact sum of each block beside it.
+//! A list of counters in blocks of one length, with exact sums beside it.
 #![tactic(auto)]
 
 mod adding;
-mod blocks;
 mod clearing;
 mod ends;
 mod open_counts;
 mod search;
+mod sections;
 
 ghost use Rattle.std.specs.Prelude.{◌≡◌, ℕ, ◌+◌, ◌-◌, ◌*◌, ◌/◌, ◌%◌, ◌^◌, ◌<◌, ◌≤◌, length, take, map, sum, replicate, slice_index, slice_set, MatchOption, MatchResult, IfOk, IfSome, [], ◌++◌, All};
 ghost use Rattle.hdr_base.specs.Classes.{most_bins};
-ghost use Rattle.hdr_counts.specs.Blocks.{Blocks, sum_below, IsFirstToReach, looks, capped_sums, IsShift};
+ghost use Rattle.hdr_counts.specs.Blocks.{Blocks, sum_below, IsFirstToReach, looks, capped_sums, parted, section_of, IsShift};
 
-use adding::add_blocks;
-use clearing::clear_blocks;
+use adding::add_sections;
+use clearing::clear_sections;
 use hdr_base::{Counter, Ticks};
 pub use open_counts::OpenCounts;
 pub use search::Search;
-use search::{first_reaching, first_reaching_looked, look_blocks};
+use search::{first_reaching, first_reaching_looked, look_block};
 use std::alloc::{AllocError, Global};
 use std::marker::Model;
 
 /// Counters in blocks of one length, seen as that length and the list of their numbers.
 ///
-/// It takes the room of its counters, and 16 bytes a block for the sums. At most 6,291,456 counters are held, as many
-/// as the largest histogram has bins.
+/// A sum is kept of each section of a block: of the whole block, or of equal parts of a long one. It takes the room of its
+/// counters, and 16 bytes a section. At most 6,291,456 counters are held, as many as the largest histogram has bins.
 #[derive(Debug, Drop)]
 pub struct Counts<T: Counter> {
     counters: Vec<T>,
+    /// The sum of each section.
     sums: Vec<u128>,
     block: usize,
+    /// The length of a section, and its exponent where it is a power of two.
+    section: usize,
     shift: Option<u32>,
 }
 
@@ -41,7 +44,7 @@ impl<T: Counter> Model for Counts<T> {
 
     ghost view = { λ c. record { block = c.block; numbers = map T.number c.counters.items } };
 
-    ghost invariant = { λ c. AreHeld T.greatest c.block (map T.number c.counters.items) c.sums.items c.shift };
+    ghost invariant = { λ c. AreHeld T.greatest c.block c.section (map T.number c.counters.items) c.sums.items c.shift };
 }
 
 impl<T: Counter> Counts<T> {
@@ -53,15 +56,18 @@ impl<T: Counter> Counts<T> {
             ≡ record { block = block; numbers = replicate (blocks * block) 0 }) }
     {
         let len = blocks * block;
+        let section = section_len(block);
+        let sections = sections_in(blocks, block, section);
         let mut counters = Vec::with_capacity(alloc, len)?;
         counters.resize(len, T::zero())?;
-        let mut sums = Vec::with_capacity(alloc, blocks)?;
-        sums.resize(blocks, 0)?;
+        let mut sums = Vec::with_capacity(alloc, sections)?;
+        sums.resize(sections, 0)?;
         Ok(Counts {
             counters,
             sums,
             block,
-            shift: exponent(block),
+            section,
+            shift: exponent(section),
         })
     }
 
@@ -78,7 +84,8 @@ impl<T: Counter> Counts<T> {
     {
         let len = blocks * self.block;
         self.counters.reserve(len - self.counters.len())?;
-        self.sums.resize(blocks, 0)?;
+        let sections = sections_in(blocks, self.block, self.section);
+        self.sums.resize(sections, 0)?;
         self.counters.resize(len, T::zero())
     }
 
@@ -99,6 +106,7 @@ impl<T: Counter> Counts<T> {
             counters,
             sums,
             block: self.block,
+            section: self.section,
             shift: self.shift,
         })
     }
@@ -141,7 +149,7 @@ impl<T: Counter> Counts<T> {
               (T.number value);
         } }
     {
-        let k = quotient(i, self.block, self.shift);
+        let k = quotient(i, self.section, self.shift);
         let old = self.counters[i].as_u64();
         let new = value.as_u64();
         self.sums[k] = exchanged(self.sums[k], old, new);
@@ -163,13 +171,13 @@ impl<T: Counter> Counts<T> {
     {
         let sum = self.counters[i].as_u64().checked_add(number)?;
         let counter = T::from_u64(sum)?;
-        let k = quotient(i, self.block, self.shift);
+        let k = quotient(i, self.section, self.shift);
         self.sums[k] += u128::from(number);
         self.counters[i] = counter;
         Some(())
     }
 
-    /// Makes each counter 0. It looks at the sum of each block, and at the counters of those that hold something.
+    /// Makes each counter 0. It looks at the sum of each section, and at the counters of those that hold something.
     pub fn clear(&mut self)
         ensures { self.new ≡ record {
           block = self.old.block;
@@ -177,43 +185,42 @@ impl<T: Counter> Counts<T> {
               (length self.old.numbers) 0;
         } }
     {
-        clear_blocks(&mut self.counters, &mut self.sums, self.block);
+        clear_sections(&mut self.counters, &mut self.sums, self.section);
     }
 
-    /// The exact sum of the counters up to and including place `i`, by the sums of the blocks before its own.
+    /// The exact sum of the counters up to and including place `i`, by the sums of the sections before its own.
     pub fn sum_to(&self, i: usize) -> u128
         requires { i < length self.now.numbers }
         ensures { result ≡ sum_below self.now.numbers (i + 1) }
     {
-        let k = quotient(i, self.block, self.shift);
+        let k = quotient(i, self.section, self.shift);
         let mut total: u128 = 0;
         for sum in &self.sums[..k] {
             total += *sum;
         }
-        total + self.sum_in_block(k, i)
+        total + self.sum_in_section(k, i)
     }
 
-    /// The first place where the running sum reaches `rank`. Ticks is counted for each group's sum up to that of the place's
-    /// group, and then for each counter of that group up to the place. Where no place reaches the rank, each group's sum was
-    /// looked at. A group is `group` blocks: its sum is added up from those of its blocks, which is one look.
-    pub fn find(&self, rank: u64, group: usize, ticks: &mut Ticks) -> Option<usize>
+    /// The first place where the running sum reaches `rank`. Ticks is counted for each block's sum up to that of the place's
+    /// block, and then for each counter of that block up to the place. Where no place reaches the rank, each block's sum was
+    /// looked at. A block's sum is added up from those of its sections, which is one look.
+    pub fn find(&self, rank: u64, ticks: &mut Ticks) -> Option<usize>
         requires some { 1 ≤ rank }
-        requires group { 1 ≤ group }
-        requires groups { length self.now.numbers % (group * self.now.block) ≡ 0 }
-        requires few { group * self.now.block ≤ most_bins }
         requires room { ticks.old ≤ 2 ^ 63 }
         ensures place { MatchOption result (sum self.now.numbers < rank)
             (IsFirstToReach self.now.numbers rank) }
-        ensures ticks { ticks.new ≡ ticks.old + looks (group * self.now.block)
-            (length self.now.numbers) result }
+        ensures ticks { ticks.new ≡ ticks.old + looks self.now.block (length self.now.numbers)
+            result }
     {
-        let len = group * self.block;
+        let sections = self.block / self.section;
         let mut rest = rank;
-        for k in 0..self.sums.len() / group {
-            let sum = look_blocks(&self.sums[k * group..k * group + group], ticks);
+        for k in 0..self.sums.len() / sections {
+            let from = k * sections;
+            let sum = look_block(&self.sums[from..from + sections], ticks);
             if sum >= u128::from(rest) {
-                let from = k * len;
-                let place = first_reaching_looked(&self.counters[from..from + len], rest, ticks)?;
+                let from = k * self.block;
+                let counters = &self.counters[from..from + self.block];
+                let place = first_reaching_looked(counters, rest, ticks)?;
                 return Some(from + place);
             }
             rest -= sum as u64;
@@ -230,11 +237,11 @@ impl<T: Counter> Counts<T> {
         Search::new(self).first_reaching(rank)
     }
 
-    /// The sum of a block; `None` past the blocks.
-    fn block_sum(&self, k: usize) -> Option<u128>
-        ensures sum { MatchOption result (length self.now.numbers ≤ k * self.now.block)
-            (λ s. (sum_below self.now.numbers (k * self.now.block) + s ≡ sum_below self.now.numbers
-            ((k + 1) * self.now.block)) × ((k + 1) * self.now.block ≤ length self.now.numbers)) }
+    /// The sum of a section; `None` past the sections.
+    fn section_sum(&self, k: usize) -> Option<u128>
+        ensures sum { MatchOption result (length self.now.numbers ≤ k * section_of self.now.block)
+            (λ s. (sum_below self.now.numbers (k * section_of self.now.block) + s ≡ sum_below self.now.numbers
+            ((k + 1) * section_of self.now.block)) × ((k + 1) * section_of self.now.block ≤ length self.now.numbers)) }
         ensures inside { IfSome result (λ _. k < length self.now.numbers) }
         ensures few { length self.now.numbers ≤ most_bins }
     {
@@ -245,24 +252,28 @@ impl<T: Counter> Counts<T> {
         }
     }
 
-    /// The place where the sum up to and including it reaches `rest` more than the sum before a block, in a block that does.
-    fn first_in_block(&self, k: usize, rest: u64) -> usize
+    /// The place where the sum up to and including it reaches `rest` more than the sum before a section, in a section that does.
+    fn first_in_section(&self, k: usize, rest: u64) -> usize
         requires some { 1 ≤ rest }
-        requires within { (k + 1) * self.now.block ≤ length self.now.numbers }
-        requires reached { sum_below self.now.numbers (k * self.now.block) + rest
-            ≤ sum_below self.now.numbers ((k + 1) * self.now.block) }
+        requires within { (k + 1) * section_of self.now.block ≤ length self.now.numbers }
+        requires reached { sum_below self.now.numbers (k * section_of self.now.block) + rest
+            ≤ sum_below self.now.numbers ((k + 1) * section_of self.now.block) }
         ensures { IsFirstToReach self.now.numbers
-            (sum_below self.now.numbers (k * self.now.block) + rest) result }
+            (sum_below self.now.numbers (k * section_of self.now.block) + rest) result }
     {
-        let from = k * self.block;
-        match first_reaching(&self.counters[from..from + self.block], rest, self.sums[k]) {
+        let from = k * self.section;
+        match first_reaching(
+            &self.counters[from..from + self.section],
+            rest,
+            self.sums[k],
+        ) {
             Some(place) => from + place,
             None => from,
         }
     }
 
-    /// Adds the counters of a list of the same shape place by place, each sum up to the greatest counter. A block that
-    /// adds nothing is passed over.
+    /// Adds the counters of a list of the same shape place by place, each sum up to the greatest counter. A section
+    /// that adds nothing is passed over.
     pub fn add_capped<F: Counter>(&mut self, source: &Counts<F>)
         requires block { self.old.block ≡ source.now.block }
         requires len { length self.old.numbers ≡ length source.now.numbers }
@@ -271,14 +282,49 @@ impl<T: Counter> Counts<T> {
           numbers = capped_sums T.greatest self.old.numbers source.now.numbers;
         } }
     {
-        add_blocks(
+        add_sections(
             &mut self.counters,
             &mut self.sums,
             &source.counters,
             &source.sums,
-            self.block,
+            self.section,
         );
     }
+}
+
+/// The length of a block's sections.
+#[tactic(auto, unfolding(crate::specs::Blocks::section_of))]
+fn section_len(block: usize) -> usize
+    requires { 1 ≤ block }
+    ensures value { result ≡ section_of block }
+    ensures some { 1 ≤ result }
+{
+    let short = part_len(block, 1024, 256, block);
+    let medium = part_len(block, 16_384, 1024, short);
+    part_len(block, 131_072, 4096, medium)
+}
+
+/// The length of a section, where a block is at least that long and can be parted so; else another length.
+#[tactic(auto, unfolding(crate::specs::Blocks::parted))]
+fn part_len(block: usize, least: usize, section: usize, otherwise: usize) -> usize
+    requires { 1 ≤ section }
+    ensures { result ≡ parted block least section otherwise }
+{
+    if block >= least && block % section == 0 {
+        section
+    } else {
+        otherwise
+    }
+}
+
+/// How many sections so many blocks have.
+fn sections_in(blocks: usize, block: usize, section: usize) -> usize
+    requires some { 1 ≤ block }
+    requires section { section ≡ section_of block }
+    requires few { blocks * block ≤ most_bins }
+    ensures { result * section ≡ blocks * block }
+{
+    blocks * (block / section)
 }
 
 /// The exponent of a power of two, `None` for other numbers.
@@ -307,24 +353,24 @@ fn exchanged(sum: u128, old: u64, new: u64) -> u128
     }
 }
 
-/// The quotient of a place and a block, by a shift where the block is a power of two.
-fn quotient(place: usize, block: usize, shift: Option<u32>) -> usize
-    requires some { 1 ≤ block }
-    requires shift { IsShift block shift }
-    ensures { result ≡ place / block }
+/// The quotient of a place and a section, by a shift where the section is a power of two.
+fn quotient(place: usize, section: usize, shift: Option<u32>) -> usize
+    requires some { 1 ≤ section }
+    requires shift { IsShift section shift }
+    ensures { result ≡ place / section }
 {
     match shift {
         Some(shift) => place >> shift,
-        None => divided(place, block),
+        None => divided(place, section),
     }
 }
 
-/// The quotient of a place and a block that is no power of two.
+/// The quotient of a place and a section that is no power of two.
 #[cold]
 #[inline(never)]
-fn divided(place: usize, block: usize) -> usize
-    requires { 1 ≤ block }
-    ensures { result ≡ place / block }
+fn divided(place: usize, section: usize) -> usize
+    requires { 1 ≤ section }
+    ensures { result ≡ place / section }
 {
-    place / block
+    place / section
 }

@@ -5,34 +5,35 @@ ghost use Rattle.hdr_base.specs.Classes.{most_bins};
 ghost use Rattle.hdr_counts.specs.Blocks.{with_zeros};
 
 use crate::ends::{first_of, last_of};
-use crate::{Counts, exchanged, exponent, quotient};
+use crate::{Counts, exchanged, exponent, quotient, section_len, sections_in};
 use hdr_base::Counter;
 use std::alloc::{AllocError, Global};
 use std::marker::Model;
 
-/// How many counters are made 0 at once, beyond the block that comes to hand.
+/// How many counters are made 0 at once, beyond the section that comes to hand.
 const PIECE: usize = 128;
 
 /// Counters that are being set, seen as `Counts` are.
 ///
 /// They have their room from the start, and are made 0 piece by piece as the places that are set come to them. Places
-/// that are set in order cost a store and an addition each: the block is found once.
+/// that are set in order cost a store and an addition each: the section is found once.
 #[derive(Debug, Drop)]
 pub struct OpenCounts<T: Counter> {
     /// The first counters; those after them are 0.
     counters: Vec<T>,
     sums: Vec<u128>,
-    /// The sum of the current block. The one in `sums` is from when it became current.
+    /// The sum of the current section. The one in `sums` is from when it became current.
     sum: u128,
     block: usize,
+    section: usize,
     shift: Option<u32>,
     /// How many counters there are.
     len: usize,
-    /// The block of the last of the places that were set.
+    /// The section of the last of the places that were set.
     current: usize,
     /// From here on all counters are 0.
     next: usize,
-    /// The end of the counters at hand that lie in the current block from `next` on, or no such place.
+    /// The end of the counters at hand that lie in the current section from `next` on, or no such place.
     end: usize,
     /// Before here no counter but the first is above 0. It lies before the places from `next` to `end`.
     first: usize,
@@ -40,14 +41,15 @@ pub struct OpenCounts<T: Counter> {
 
 impl<T: Counter> Model for OpenCounts<T> {
     ghost use Rattle.std.specs.Prelude.{map, vec_capacity, slice_set};
-    ghost use Rattle.hdr_counts.specs.Blocks.{Blocks, AreOpen, IsAt, with_zeros};
+    ghost use Rattle.hdr_counts.specs.Blocks.{Blocks, AreOpen, AreSections, IsAt, with_zeros};
 
     ghost Value = { Blocks };
 
     ghost view = { λ c. record { block = c.block; numbers = with_zeros (map T.number c.counters.items) c.len } };
 
-    ghost invariant = { λ c. AreOpen T.greatest c.block c.len (vec_capacity c.counters) (map T.number c.counters.items) (slice_set c.sums.items c.current c.sum) c.shift
-        × IsAt c.block c.current c.next c.end c.first (map T.number c.counters.items) };
+    ghost invariant = { λ c. AreOpen T.greatest c.section c.len (vec_capacity c.counters) (map T.number c.counters.items) (slice_set c.sums.items c.current c.sum) c.shift
+        × IsAt c.section c.current c.next c.end c.first (map T.number c.counters.items)
+        × AreSections c.block c.section c.len };
 }
 
 impl<T: Counter> OpenCounts<T> {
@@ -59,14 +61,17 @@ impl<T: Counter> OpenCounts<T> {
             ≡ record { block = block; numbers = replicate (blocks * block) 0 }) }
     {
         let len = blocks * block;
-        let mut sums = Vec::with_capacity(alloc, blocks)?;
-        sums.resize(blocks, 0)?;
+        let section = section_len(block);
+        let sections = sections_in(blocks, block, section);
+        let mut sums = Vec::with_capacity(alloc, sections)?;
+        sums.resize(sections, 0)?;
         Ok(OpenCounts {
             counters: Vec::with_capacity(alloc, len)?,
             sums,
             sum: 0,
             block,
-            shift: exponent(block),
+            section,
+            shift: exponent(section),
             len,
             current: 0,
             next: 0,
@@ -119,7 +124,7 @@ impl<T: Counter> OpenCounts<T> {
         self.set(i + 1, second);
     }
 
-    /// Puts a value at a place of another block, or before one that was set.
+    /// Puts a value at a place of another section, or before one that was set.
     #[inline(never)]
     fn set_further(&mut self, i: usize, value: T)
         requires { i < length self.old.numbers }
@@ -129,8 +134,8 @@ impl<T: Counter> OpenCounts<T> {
               (T.number value);
         } }
     {
-        let k = quotient(i, self.block, self.shift);
-        let end = (k + 1) * self.block;
+        let k = quotient(i, self.section, self.shift);
+        let end = (k + 1) * self.section;
         cover(&mut self.counters, end, self.len);
         keep_sum(&mut self.sums, self.current, self.sum);
         let new = value.as_u64();
@@ -176,7 +181,7 @@ impl<T: Counter> OpenCounts<T> {
         }
     }
 
-    /// The counters with the sums of their blocks.
+    /// The counters with the sums of their sections.
     pub fn into_counts(self) -> Counts<T>
         ensures value { result ≡ self }
         ensures fit { All (λ n. n ≤ T.greatest) self.numbers }
@@ -186,6 +191,7 @@ impl<T: Counter> OpenCounts<T> {
             mut sums,
             sum,
             block,
+            section,
             shift,
             len,
             current,
@@ -199,12 +205,13 @@ impl<T: Counter> OpenCounts<T> {
             counters,
             sums,
             block,
+            section,
             shift,
         }
     }
 }
 
-/// Puts the sum of a block in its place, where there is such a block.
+/// Puts the sum of a section in its place, where there is such a section.
 fn keep_sum(sums: &mut Vec<u128>, k: usize, sum: u128)
     ensures { sums.new.items ≡ slice_set sums.old.items k sum }
 {
@@ -213,7 +220,7 @@ fn keep_sum(sums: &mut Vec<u128>, k: usize, sum: u128)
     }
 }
 
-/// The sum of a block, 0 where there is no such block.
+/// The sum of a section, 0 where there is no such section.
 fn sum_at(sums: &[u128], k: usize) -> u128
     ensures { result ≡ slice_index sums.now k }
 {
@@ -236,7 +243,7 @@ fn lower(first: usize, i: usize) -> usize
     first.min(i)
 }
 
-/// The end of a block in which places follow place `i`; no such end where that is the first of all.
+/// The end of a section in which places follow place `i`; no such end where that is the first of all.
 fn end_after(i: usize, end: usize) -> usize
     ensures within { result ≤ end }
     ensures some { 0 < result → 0 < i }

@@ -1,4 +1,4 @@
-//! The first place of a block where its counters reach a rank.
+//! The first place where counters reach a rank.
 
 ghost use Rattle.std.specs.Prelude.{◌≡◌, ℕ, ◌+◌, ◌-◌, ◌*◌, ◌^◌, ◌<◌, ◌≤◌, length, take, drop, map, sum, MatchOption};
 ghost use Rattle.hdr_base.specs.Classes.{most_bins};
@@ -9,25 +9,25 @@ use crate::adding::short_sum;
 use hdr_base::{Counter, Ticks};
 use std::marker::Model;
 
-/// A search for ranks that do not fall: each goes on from the block where the one before was found.
+/// A search for ranks that do not fall: each goes on from the section where the one before was found.
 #[derive(Debug, Drop)]
 pub struct Search<'a, T: Counter> {
     counts: &'a Counts<T>,
-    /// The block that is looked at next, and the sum of those before it.
-    block: usize,
+    /// The section that is looked at next, and the sum of those before it.
+    section: usize,
     before: u64,
 }
 
 impl<'a, T: Counter> Model for Search<'a, T> {
     ghost use Rattle.std.specs.Prelude.{◌≡◌, ◌*◌, ◌≤◌};
-    ghost use Rattle.hdr_counts.specs.Blocks.{Searched, sum_below};
+    ghost use Rattle.hdr_counts.specs.Blocks.{Searched, section_of, sum_below};
     ghost use Rattle.hdr_base.specs.Classes.{most_bins};
 
     ghost Value = { Searched };
 
     ghost view = { λ s. record { numbers = s.counts.now.numbers; passed = s.before } };
 
-    ghost invariant = { λ s. (s.before ≡ sum_below s.counts.now.numbers (s.block * s.counts.now.block)) × (s.block ≤ most_bins) };
+    ghost invariant = { λ s. (s.before ≡ sum_below s.counts.now.numbers (s.section * section_of s.counts.now.block)) × (s.section ≤ most_bins) };
 }
 
 impl<'a, T: Counter> Search<'a, T> {
@@ -37,7 +37,7 @@ impl<'a, T: Counter> Search<'a, T> {
     {
         Search {
             counts,
-            block: 0,
+            section: 0,
             before: 0,
         }
     }
@@ -51,13 +51,13 @@ impl<'a, T: Counter> Search<'a, T> {
             (IsFirstToReach self.old.numbers rank) }
     {
         let counts = self.counts;
-        while let Some(sum) = counts.block_sum(self.block) {
+        while let Some(sum) = counts.section_sum(self.section) {
             let rest = rank - self.before;
             if sum >= u128::from(rest) {
-                return Some(counts.first_in_block(self.block, rest));
+                return Some(counts.first_in_section(self.section, rest));
             }
             self.before += sum as u64;
-            self.block += 1;
+            self.section += 1;
         }
         None
     }
@@ -66,8 +66,8 @@ impl<'a, T: Counter> Search<'a, T> {
 /// How many counters are added up at once.
 const FEW: usize = 64;
 
-/// Reads the sum of several blocks, and counts that as a look.
-pub(crate) fn look_blocks(sums: &[u128], ticks: &mut Ticks) -> u128
+/// Reads the sum of a block, which is that of the sums of its sections, and counts that as a look.
+pub(crate) fn look_block(sums: &[u128], ticks: &mut Ticks) -> u128
     requires fits { sum sums.now < 2 ^ 128 }
     requires room { ticks.old < 2 ^ 64 - 1 }
     ensures value { result ≡ sum sums.now }
@@ -87,7 +87,7 @@ fn look_counter<T: Counter>(counter: &T, ticks: &mut Ticks) -> u64
     counter.as_u64()
 }
 
-/// The sum of the sums of several blocks.
+/// The sum of the sums of several sections.
 fn sum_of_sums(sums: &[u128]) -> u128
     requires { sum sums.now < 2 ^ 128 }
     ensures { result ≡ sum sums.now }

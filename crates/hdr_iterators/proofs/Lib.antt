@@ -8,6 +8,5 @@ pub mod TicksTests
 pub mod TicksHalves
 pub mod TicksLists
 pub mod TicksSteps
-pub mod SeenEmpty
 pub mod PicksOnce
 pub mod PlacesRows

@@ -1,5 +1,5 @@
 -- A histogram as its iterators see it. (The Rust crate's iterators hold the histogram itself; these stand below it.)
-use Rattle.std.specs.Prelude.{◌≡◌, ℕ, ◌+◌, ◌-◌, ◌*◌, ◌^◌, ◌<◌, ◌≤◌, min, List, length, take, sum, slice_index}
+use Rattle.std.specs.Prelude.{◌≡◌, ℕ, ◌+◌, ◌-◌, ◌^◌, ◌<◌, ◌≤◌, min, List, length, take, sum, slice_index}
 use Rattle.hdr_base.specs.Classes.{most_bins, Grain, bin_of, value_of, top_of}
 
 -- the classes, the number of each bin, how many samples there are, and the bin of the greatest value that counts as
@@ -51,12 +51,3 @@ pub record AreBins (h : Seen) : Type 0 where
 -- the numbers of the bins from a up to b are 0
 abbrev pub AreEmpty : List ℕ → ℕ → ℕ → Type 0
 AreEmpty numbers a b = (i : ℕ) → a ≤ i → i < b → slice_index numbers i ≡ 0
-
--- place p is the first of a number above 0
-abbrev pub IsFirstFilled : List ℕ → ℕ → Type 0
-IsFirstFilled numbers p = (p < length numbers) × (0 < slice_index numbers p) × AreEmpty numbers 0 p
-
--- the sums of blocks of bins tell where there is nothing: a block whose sum is 0 holds no sample
-pub record TellEmpty (block : ℕ) (numbers sums : List ℕ) : Type 0 where
-  pub whole : length numbers ≡ length sums * block
-  pub none : (k : ℕ) → k < length sums → slice_index sums k ≡ 0 → AreEmpty numbers (k * block) ((k + 1) * block)

@@ -6,7 +6,6 @@ mod bins;
 pub mod laws;
 pub mod linear;
 pub mod log;
-mod passing;
 mod picking;
 pub mod quantile;
 pub mod recorded;

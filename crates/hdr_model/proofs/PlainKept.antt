@@ -1,10 +1,10 @@
 -- What is true of every histogram is kept.
-use Rattle.std.proofs.Common.{◌≡◌, ℕ, zero, suc, ◌+◌, ◌-◌, ◌*◌, ◌^◌, ◌<◌, ◌≤◌, Bool, true, false, cond, Option, min, List, [], ◌∷◌, ◌++◌, length, get_or, set, replicate, map, leb, refl, sym, ap, ◌∙◌, subst, arith, inl, inr, None, Some, IfSome, sum, eqb, eqb-true, ◌≢◌}
+use Rattle.std.proofs.Common.{◌≡◌, ℕ, zero, suc, ◌+◌, ◌-◌, ◌*◌, ◌^◌, ◌<◌, ◌≤◌, Bool, true, false, cond, Option, min, List, [], ◌∷◌, ◌++◌, length, get_or, set, replicate, map, leb, refl, sym, ap, ◌∙◌, arith, inl, inr, None, Some, IfSome, sum, eqb, eqb-true, ◌≢◌}
 use Rattle.std.proofs.lemmas.Bool.Decides.{nat_tests}
 use Rattle.std.proofs.lemmas.Bool.{cases_lt}
 use Rattle.std.proofs.lemmas.List.{length-set, length-replicate, length-append, get_or-set_other, get_or-set_same, get_or-replicate, get_or_past}
 use Rattle.std.proofs.lemmas.List.Elements.{All-set, All-append, All-replicate}
-use Rattle.hdr_base.specs.Classes.{Grain, section_digits, bucket, bin_of, reach_of, HasScale, grain_of, bins_to}
+use Rattle.hdr_base.specs.Classes.{Grain, bucket, bin_of, reach_of, HasScale, grain_of, bins_to}
 use Rattle.std.proofs.lemmas.List.Sums.{sum_by-set, get_or-le-sum_by, sum_by-append}
 use Rattle.std.proofs.lemmas.List.Folds.{sum_by-replicate}
 use Rattle.hdr_base.proofs.ClassesLaws.{bin-mono}
@@ -241,17 +241,11 @@ empty-by : (low high sigfig blocks block : ℕ) (auto_resize : Bool) (numbers : 
 unfolding empty_plain
 empty-by low high sigfig blocks block auto_resize numbers e n = rw (e, n) refl
 
--- the parts of blocks up to a value's bucket are its bins
-pub sections-are : (scale g : Grain) (x parts part : ℕ) → scale ≡ g → parts * 2 ^ section_digits scale.digits ≡ (bucket scale x + 2) * 2 ^ (scale.digits - 1) → part ≡ 2 ^ section_digits g.digits → 0 < g.digits
-    → parts * part ≡ bins_to g x
-sections-are scale g x parts part same e f m =
-    ap (λ k. parts * k) f ∙ subst (λ (s : Grain). parts * 2 ^ section_digits s.digits ≡ (bucket s x + 2) * 2 ^ (s.digits - 1)) same e
-    ∙ ap (λ n. n * 2 ^ (g.digits - 1)) (let two : bucket g x + 2 ≡ bucket g x + 1 + 1 = omega arith in two) ∙ sym (bins-blocks g x m)
-
--- and so many are a block
-pub sections-in-block : (scale g : Grain) (n part : ℕ) → scale ≡ g → n * 2 ^ section_digits scale.digits ≡ 2 ^ (scale.digits - 1) → part ≡ 2 ^ section_digits g.digits → n * part ≡ 2 ^ (g.digits - 1)
-sections-in-block scale g n part same e f =
-    ap (λ k. n * k) f ∙ subst (λ (s : Grain). n * 2 ^ section_digits s.digits ≡ 2 ^ (s.digits - 1)) same e
+-- the blocks up to a value's bucket are its bins
+pub blocks-are : (scale g : Grain) (x blocks block : ℕ) → scale ≡ g → blocks ≡ bucket scale x + 2 → block ≡ 2 ^ (g.digits - 1) → 0 < g.digits → blocks * block ≡ bins_to g x
+blocks-are scale g x blocks block same n width m =
+    let two : bucket g x + 2 ≡ bucket g x + 1 + 1 = omega arith in
+    ap (λ k. blocks * k) width ∙ ap (λ k. k * 2 ^ (g.digits - 1)) (n ∙ ap (λ (s : Grain). bucket s x + 2) same ∙ two) ∙ sym (bins-blocks g x m)
 
 pub grown-parts : (h : Plain) (x n : ℕ) (counts : List ℕ) → n ≡ bins_to (grain h) x → counts ≡ h.counts ++ replicate (n - length h.counts) 0
     → record h { high = x; counts = counts } ≡ with_bins_to h x
@@ -264,19 +258,19 @@ digits-pos-of low sigfig = digits-pos sigfig
 
 -- the bins that are made for the bounds of a histogram
 pub record AreMade (low high sigfig : ℕ) (auto_resize : Bool) (counts : Blocks) : Type 0 where
-  pub block : counts.block ≡ 2 ^ section_digits (grain_of low sigfig).digits
+  pub block : counts.block ≡ 2 ^ ((grain_of low sigfig).digits - 1)
   pub bins : length counts.numbers ≡ bins_to (grain_of low sigfig) high
   pub empty : record { low = low; high = high; sigfig = sigfig; auto_resize = auto_resize; counts = counts.numbers; total = 0; top_mark = None; lower_mark = None } ≡ empty_plain low high sigfig auto_resize
 
-pub made : (scale : Grain) (low high sigfig sections section : ℕ) (auto_resize : Bool) (counts : Blocks) → scale ≡ grain_of low sigfig → section ≡ 2 ^ section_digits scale.digits
-    → sections * 2 ^ section_digits scale.digits ≡ (bucket scale high + 2) * 2 ^ (scale.digits - 1) → counts ≡ record { block = section; numbers = replicate (sections * section) 0 } → AreMade low high sigfig auto_resize counts
-made scale low high sigfig sections section auto_resize counts same width number is =
-    let block : section ≡ 2 ^ section_digits (grain_of low sigfig).digits = width ∙ ap (λ (s : Grain). 2 ^ section_digits s.digits) same in
-    let whole = sections-are scale (grain_of low sigfig) high sections section same number block (digits-pos-of low sigfig) in
+pub made : (scale : Grain) (low high sigfig blocks block : ℕ) (auto_resize : Bool) (counts : Blocks) → scale ≡ grain_of low sigfig → block ≡ 2 ^ (scale.digits - 1)
+    → blocks ≡ bucket scale high + 2 → counts ≡ record { block = block; numbers = replicate (blocks * block) 0 } → AreMade low high sigfig auto_resize counts
+made scale low high sigfig blocks block auto_resize counts same width number is =
+    let wide : block ≡ 2 ^ ((grain_of low sigfig).digits - 1) = width ∙ ap (λ (s : Grain). 2 ^ (s.digits - 1)) same in
+    let whole = blocks-are scale (grain_of low sigfig) high blocks block same number wide (digits-pos-of low sigfig) in
     record {
-      block = ap (λ (b : Blocks). b.block) is ∙ block;
-      bins = ap (λ (b : Blocks). length b.numbers) is ∙ length-replicate (sections * section) 0 ∙ whole;
-      empty = empty-by low high sigfig sections section auto_resize counts.numbers (ap (λ (b : Blocks). b.numbers) is) whole;
+      block = ap (λ (b : Blocks). b.block) is ∙ wide;
+      bins = ap (λ (b : Blocks). length b.numbers) is ∙ length-replicate (blocks * block) 0 ∙ whole;
+      empty = empty-by low high sigfig blocks block auto_resize counts.numbers (ap (λ (b : Blocks). b.numbers) is) whole;
     }
 
 -- each bin has a lowest value

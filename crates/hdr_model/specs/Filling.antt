@@ -1,7 +1,7 @@
 -- A histogram whose bins are being set, and what it is when that is done. (No item of the Rust crate: its deserializer sets
 -- counters and keeps total and marks beside them.)
 use Rattle.std.specs.Prelude.{◌≡◌, ℕ, ◌-◌, ◌*◌, ◌^◌, ◌<◌, ◌≤◌, Bool, min, List, length, sum}
-use Rattle.hdr_base.specs.Classes.{Grain, grain_of, section_digits, bins_to, HasScale}
+use Rattle.hdr_base.specs.Classes.{Grain, grain_of, bins_to, HasScale}
 use Rattle.hdr_counts.specs.Blocks.{Blocks}
 use Rattle.hdr_model.specs.Plain.{Plain}
 use Rattle.hdr_model.specs.Marks.{IsTopMark, IsLowerMark}
@@ -25,11 +25,11 @@ pub record IsClosed (f : Open) (h : Plain) : Type 0 where
   pub top : IsTopMark h.counts h.top_mark
   pub lower : IsLowerMark h.counts h.lower_mark
 
--- what is true of the bounds and the bins: the scale is that of the bounds, a sum is kept of each part of a block, and there
--- is a bin for each class
+-- what is true of the bounds and the bins: the scale is that of the bounds, a block is half of the first bucket, and there is a
+-- bin for each class
 pub record AreBinsFor (low high sigfig : ℕ) (scale : Grain) (bins : Blocks) : Type 0 where
   pub same_scale : scale ≡ grain_of low sigfig
-  pub block : bins.block ≡ 2 ^ section_digits (grain_of low sigfig).digits
+  pub block : bins.block ≡ 2 ^ ((grain_of low sigfig).digits - 1)
   pub has_scale : HasScale low sigfig
   pub high_fits : high < 2 ^ 64
   pub wide : 2 * low ≤ high

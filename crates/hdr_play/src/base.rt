@@ -45,9 +45,8 @@ fn of_scale(scale: Scale, name: &str, value: u64) -> Option<Answer> {
         "reach" => Some(Answer::Number(scale.reach(value))),
         "bucket_start" => Some(Answer::Number(scale.bucket_start(value))),
         "buckets" => Some(Answer::Number(scale.buckets(value) as u64)),
-        "section" => Some(Answer::Number(scale.section() as u64)),
-        "sections_in_block" => Some(Answer::Number(scale.sections_in_block() as u64)),
-        "sections" => Some(Answer::Number(scale.sections(value) as u64)),
+        "block" => Some(Answer::Number(scale.block() as u64)),
+        "blocks" => Some(Answer::Number(scale.blocks(value) as u64)),
         _ => None,
     }
 }

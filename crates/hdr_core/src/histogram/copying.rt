@@ -24,7 +24,7 @@ impl<T: Counter> Histogram<T> {
         ensures source { IsPlain F.greatest source.now }
     {
         let scale = source.scale;
-        let Ok(counts) = Counts::new(alloc, scale.sections(source.high), scale.section()) else {
+        let Ok(counts) = Counts::new(alloc, scale.blocks(source.high), scale.block()) else {
             return Err(CreationError::OutOfMemory);
         };
         Ok(Histogram {

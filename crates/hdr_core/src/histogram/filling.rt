@@ -51,7 +51,7 @@ impl<T: Counter> Filling<T> {
             × IsBounds low high sigfig) (RefusesBounds low high sigfig) }
     {
         let scale = scale_for(low, high, sigfig)?;
-        let Ok(counts) = OpenCounts::new(alloc, scale.sections(high), scale.section()) else {
+        let Ok(counts) = OpenCounts::new(alloc, scale.blocks(high), scale.block()) else {
             return Err(CreationError::OutOfMemory);
         };
         Ok(Filling {

@@ -67,7 +67,7 @@ impl<T: Counter> Histogram<T> {
         ensures { MatchResult result (λ _. self.new ≡ with_bins_to self.old high)
             (λ _. self.new ≡ self.old) }
     {
-        self.counts.grow(self.scale.sections(high))?;
+        self.counts.grow(self.scale.blocks(high))?;
         self.high = high;
         Ok(())
     }

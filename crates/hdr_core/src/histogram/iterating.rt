@@ -16,13 +16,7 @@ impl<T: Counter> Binned<T> for Histogram<T> {
 
     fn binned(&self) -> Bins<'_, T> {
         let last = self.marks.top().unwrap_or(0);
-        Bins::new(
-            self.scale,
-            self.counts.as_slice(),
-            self.counts.sums(),
-            self.total,
-            last,
-        )
+        Bins::new(self.scale, &self.counts, self.total, last)
     }
 }
 
@@ -35,7 +29,7 @@ impl<T: Counter> Histogram<T> {
         ensures empty { (i : ℕ) → from ≤ i → i < result → slice_index self.now.counts i ≡ 0 }
         ensures filled { result < length self.now.counts → 0 < slice_index self.now.counts result }
     {
-        self.binned().next_filled(from)
+        self.counts.next_filled(from)
     }
 
     /// Every bin once, in ascending order, each at the greatest value of its class.

@@ -26,7 +26,7 @@ impl<T: Counter> Histogram<T> {
 
     /// The answer of `value_at_quantile`, and what it costs: `ticks` grows by one for each look at a block's sum or at a counter.
     /// There are at most as many looks as there are blocks and counters in a block together. A block holds half as many bins as
-    /// the first bucket. Its sum is added up from those of its sections, up to 32 of them, which is one look.
+    /// the first bucket. Its sum is added up from those of its sections, which is one look.
     pub fn value_at_quantile_counted(&self, quantile: Quantile, ticks: &mut Ticks) -> u64
         requires { ticks.old ≤ 2 ^ 63 }
         ensures value { result ≡ quantile_of self.now quantile }
@@ -75,8 +75,7 @@ impl<T: Counter> Histogram<T> {
         ensures looks { ticks.new ≡ ticks.old + looks (block_of self.now)
             (length self.now.counts) result }
     {
-        let sections = self.scale.sections_in_block();
-        self.counts.find(rank, sections, ticks)
+        self.counts.find(rank, ticks)
     }
 
     /// What the first class that reaches a rank answers to a quantile of that numerator.

@@ -1,6 +1,7 @@
-use Rattle.std.proofs.Common.{◌≡◌, ◌+◌, ◌-◌, ◌<◌, ◌≤◌, length, get_or, map, ap, ◌∙◌, arith}
+use Rattle.std.proofs.Common.{◌≡◌, ◌+◌, ◌-◌, ◌<◌, ◌≤◌, length, get_or, map, ap, sym, subst, ◌∙◌, arith}
 use Rattle.std.proofs.lemmas.List.Elements.{All-set}
-use Rattle.std.proofs.lemmas.List.{map-set}
+use Rattle.std.proofs.lemmas.List.{map-set, length-set}
+use Rattle.hdr_counts.specs.Blocks.{AreSections}
 use Rattle.hdr_counts.proofs.BlocksBounds.{lt_as}
 use Rattle.hdr_counts.proofs.BlocksSums.{AreSums-set}
 use Rattle.hdr_counts.proofs.BlocksWritten.{number-read, are-read}
@@ -20,7 +21,7 @@ pub exchanged-requires : goal.exchanged-requires
 exchanged-requires g c =
     let s = c.self.inside in
     let after = (goal.at.exchanged-requires g c).After-as_u64-old in
-    let pair = are-read s.block c.args.i c.quotient-k.result c.as_u64-old.result c.index-2.result.now (map g.T.Counter.number s.counters.items) s.sums.items c.self.invariant.sums_are (inside g after) (old g after) c.quotient-k.ensures c.index-2.ensures in
+    let pair = are-read s.section c.args.i c.quotient-k.result c.as_u64-old.result c.index-2.result.now (map g.T.Counter.number s.counters.items) s.sums.items c.self.invariant.sums_are (inside g after) (old g after) c.quotient-k.ensures c.index-2.ensures in
     record { within = pair.within; fits = omega (arith, pair.small, c.as_u64-new.type_inv) }
 
 pub invariant_of-self : goal.invariant_of-self
@@ -30,10 +31,10 @@ invariant_of-self g c =
     let i = c.args.i in
     let ns = map n s.counters.items in
     let after = (goal.at.invariant_of-self g c).After-as_u64-old in
-    let put = AreSums-set s.block ns s.sums.items i (n c.args.value) c.self.invariant.sums_are (inside g after) (omega (arith, c.as_u64-new.ensures.value, c.as_u64-new.type_inv)) in
-    let pair = are-read s.block c.args.i c.quotient-k.result c.as_u64-old.result c.index-2.result.now (map g.T.Counter.number s.counters.items) s.sums.items c.self.invariant.sums_are (inside g after) (old g after) c.quotient-k.ensures c.index-2.ensures in
+    let put = AreSums-set s.section ns s.sums.items i (n c.args.value) c.self.invariant.sums_are (inside g after) (omega (arith, c.as_u64-new.ensures.value, c.as_u64-new.type_inv)) in
+    let pair = are-read s.section c.args.i c.quotient-k.result c.as_u64-old.result c.index-2.result.now (map g.T.Counter.number s.counters.items) s.sums.items c.self.invariant.sums_are (inside g after) (old g after) c.quotient-k.ensures c.index-2.ensures in
     let is = pair.next (n c.args.value) c.exchanged.result (c.exchanged.ensures ∙ ap (λ v. c.index-2.result.now - c.as_u64-old.result + v) c.as_u64-new.ensures.value) in
-    rw (map-set n s.counters.items i c.args.value, ← is, c.quotient-k.ensures) (record { sums_are = put; shift_is = c.self.invariant.shift_is; fit = All-set (λ n. n ≤ g.T.Counter.greatest) ns i (n c.args.value) c.as_u64-new.ensures.bound c.self.invariant.fit })
+    rw (map-set n s.counters.items i c.args.value, ← is, c.quotient-k.ensures) (record { sections = subst (λ m. AreSections s.block s.section m) (sym (length-set ns i (n c.args.value))) c.self.invariant.sections; sums_are = put; shift_is = c.self.invariant.shift_is; fit = All-set (λ n. n ≤ g.T.Counter.greatest) ns i (n c.args.value) c.as_u64-new.ensures.bound c.self.invariant.fit })
 
 pub returns : goal.returns
 returns g c = rw (← c.self.view_is) (ap (λ l. record { block = c.self.inside.block; numbers = l }) (map-set g.T.Counter.number c.self.inside.counters.items c.args.i c.args.value))

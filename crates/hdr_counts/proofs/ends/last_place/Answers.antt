@@ -8,12 +8,12 @@ use Rattle.hdr_counts.proofs.ends.last_place.Goals as goal
 pub last_of-requires : goal.last_of-requires
 last_of-requires g c =
     let k = length c.args.sums.now - 1 - c.loop-passed.passed in
-    let a = k * c.args.block in
-    part-at-most g.T.Counter.number c.args.counters.now c.args.sums.now c.args.block k a (a + c.args.block - a) c.requires (omega arith) (omega arith) (omega arith)
+    let a = k * c.args.section in
+    part-at-most g.T.Counter.number c.args.counters.now c.args.sums.now c.args.section k a (a + c.args.section - a) c.requires (omega arith) (omega arith) (omega arith)
 
 pub returns-in-Some-clause-place : goal.returns-in-Some-clause-place
 returns-in-Some-clause-place g c =
-    let b = c.args.block in
+    let b = c.args.section in
     let k = length c.args.sums.now - 1 - c.loop-passed.passed in
     let a = k * b in
     let w = a + b - a in
@@ -24,7 +24,7 @@ returns-in-Some-clause-place g c =
 
 pub loop-passed-preserved : goal.loop-passed-preserved
 loop-passed-preserved g c = λ j ge.
-    let b = c.args.block in
+    let b = c.args.section in
     let k = length c.args.sums.now - 1 - c.loop-passed.passed in
     let a = k * b in
     let w = a + b - a in
@@ -40,34 +40,34 @@ pub overflow_sub-k-in-loop-passed : goal.overflow_sub-k-in-loop-passed
 overflow_sub-k-in-loop-passed g c = back-le (length c.args.sums.now) c.loop-passed.passed c.loop-passed-test.true
 
 pub overflow_mul-from : goal.overflow_mul-from
-overflow_mul-from g c = record { fits = block-begin-fits g.T.Counter.number c.args.counters.now c.args.block (length c.args.sums.now - 1 - c.loop-passed.passed) c.args.sums.now c.requires (back-lt (length c.args.sums.now) c.loop-passed.passed c.loop-passed-test.true) }
+overflow_mul-from g c = record { fits = block-begin-fits g.T.Counter.number c.args.counters.now c.args.section (length c.args.sums.now - 1 - c.loop-passed.passed) c.args.sums.now c.requires (back-lt (length c.args.sums.now) c.loop-passed.passed c.loop-passed-test.true) }
 
 pub overflow_add-from : goal.overflow_add-from
-overflow_add-from g c = record { fits = block-end-fits g.T.Counter.number c.args.counters.now c.args.block (length c.args.sums.now - 1 - c.loop-passed.passed) c.args.sums.now c.requires (back-lt (length c.args.sums.now) c.loop-passed.passed c.loop-passed-test.true) }
+overflow_add-from g c = record { fits = block-end-fits g.T.Counter.number c.args.counters.now c.args.section (length c.args.sums.now - 1 - c.loop-passed.passed) c.args.sums.now c.requires (back-lt (length c.args.sums.now) c.loop-passed.passed c.loop-passed-test.true) }
 
 pub offset_bounds-counters-from : goal.offset_bounds-counters-from
-offset_bounds-counters-from g c = block-begins g.T.Counter.number c.args.counters.now c.args.block (length c.args.sums.now - 1 - c.loop-passed.passed) c.args.sums.now c.requires (back-lt (length c.args.sums.now) c.loop-passed.passed c.loop-passed-test.true)
+offset_bounds-counters-from g c = block-begins g.T.Counter.number c.args.counters.now c.args.section (length c.args.sums.now - 1 - c.loop-passed.passed) c.args.sums.now c.requires (back-lt (length c.args.sums.now) c.loop-passed.passed c.loop-passed-test.true)
 
 pub slice_bounds-last_of-count : goal.slice_bounds-last_of-count
-slice_bounds-last_of-count g c = le_more ((length c.args.sums.now - 1 - c.loop-passed.passed) * c.args.block) c.args.block
+slice_bounds-last_of-count g c = le_more ((length c.args.sums.now - 1 - c.loop-passed.passed) * c.args.section) c.args.section
 
 pub slice_bounds-last_of-start : goal.slice_bounds-last_of-start
-slice_bounds-last_of-start g c = le_more ((length c.args.sums.now - 1 - c.loop-passed.passed) * c.args.block) c.args.block
+slice_bounds-last_of-start g c = le_more ((length c.args.sums.now - 1 - c.loop-passed.passed) * c.args.section) c.args.section
 
 pub slice_bounds-last_of-end : goal.slice_bounds-last_of-end
-slice_bounds-last_of-end g c = block-within g.T.Counter.number c.args.counters.now c.args.block (length c.args.sums.now - 1 - c.loop-passed.passed) c.args.sums.now c.requires (back-lt (length c.args.sums.now) c.loop-passed.passed c.loop-passed-test.true)
+slice_bounds-last_of-end g c = block-within g.T.Counter.number c.args.counters.now c.args.section (length c.args.sums.now - 1 - c.loop-passed.passed) c.args.sums.now c.requires (back-lt (length c.args.sums.now) c.loop-passed.passed c.loop-passed-test.true)
 
 pub offset_bounds-sums-k : goal.offset_bounds-sums-k
-offset_bounds-sums-k g c = record { fits = sum-offset-fits c.args.block (length c.args.sums.now - 1 - c.loop-passed.passed) (map g.T.Counter.number c.args.counters.now) c.args.sums.now c.requires (back-lt (length c.args.sums.now) c.loop-passed.passed c.loop-passed-test.true) }
+offset_bounds-sums-k g c = record { fits = sum-offset-fits c.args.section (length c.args.sums.now - 1 - c.loop-passed.passed) (map g.T.Counter.number c.args.counters.now) c.args.sums.now c.requires (back-lt (length c.args.sums.now) c.loop-passed.passed c.loop-passed-test.true) }
 
 pub bounds-sums-k : goal.bounds-sums-k
 bounds-sums-k g c = back-lt (length c.args.sums.now) c.loop-passed.passed c.loop-passed-test.true
 
 pub overflow_add-result : goal.overflow_add-result
-overflow_add-result g c = record { fits = below-64 _ (block-place-few g.T.Counter.number c.args.counters.now c.args.block (length c.args.sums.now - 1 - c.loop-passed.passed) ((length c.args.sums.now - 1 - c.loop-passed.passed) * c.args.block) _ c.in-Some.i c.args.sums.now c.requires (back-lt (length c.args.sums.now) c.loop-passed.passed c.loop-passed-test.true) (part-end _ _ (le_more ((length c.args.sums.now - 1 - c.loop-passed.passed) * c.args.block) c.args.block)) c.in-Some.ensures.within) }
+overflow_add-result g c = record { fits = below-64 _ (block-place-few g.T.Counter.number c.args.counters.now c.args.section (length c.args.sums.now - 1 - c.loop-passed.passed) ((length c.args.sums.now - 1 - c.loop-passed.passed) * c.args.section) _ c.in-Some.i c.args.sums.now c.requires (back-lt (length c.args.sums.now) c.loop-passed.passed c.loop-passed-test.true) (part-end _ _ (le_more ((length c.args.sums.now - 1 - c.loop-passed.passed) * c.args.section) c.args.section)) c.in-Some.ensures.within) }
 
 pub returns-in-Some-clause-within : goal.returns-in-Some-clause-within
-returns-in-Some-clause-within g c = block-place-few g.T.Counter.number c.args.counters.now c.args.block (length c.args.sums.now - 1 - c.loop-passed.passed) ((length c.args.sums.now - 1 - c.loop-passed.passed) * c.args.block) _ c.in-Some.i c.args.sums.now c.requires (back-lt (length c.args.sums.now) c.loop-passed.passed c.loop-passed-test.true) (part-end _ _ (le_more ((length c.args.sums.now - 1 - c.loop-passed.passed) * c.args.block) c.args.block)) c.in-Some.ensures.within
+returns-in-Some-clause-within g c = block-place-few g.T.Counter.number c.args.counters.now c.args.section (length c.args.sums.now - 1 - c.loop-passed.passed) ((length c.args.sums.now - 1 - c.loop-passed.passed) * c.args.section) _ c.in-Some.i c.args.sums.now c.requires (back-lt (length c.args.sums.now) c.loop-passed.passed c.loop-passed-test.true) (part-end _ _ (le_more ((length c.args.sums.now - 1 - c.loop-passed.passed) * c.args.section) c.args.section)) c.in-Some.ensures.within
 
 pub loop-passed-smaller : goal.loop-passed-smaller
 loop-passed-smaller g c = falls (length c.args.sums.now) c.loop-passed.passed c.loop-passed-test.true

@@ -3,4 +3,4 @@ use Rattle.hdr_counts.proofs.BlocksNonzero.{ZerosBehind}
 use Rattle.hdr_counts.proofs.ends.last_place.Given as goal
 
 abbrev pub invariant-loop-passed : goal.invariant-loop-passed
-invariant-loop-passed g l = ZerosBehind (map g.T.Counter.number l.counters) ((length l.sums - l.passed) * l.block)
+invariant-loop-passed g l = ZerosBehind (map g.T.Counter.number l.counters) ((length l.sums - l.passed) * l.section)

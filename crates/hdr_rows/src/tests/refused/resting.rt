@@ -95,7 +95,7 @@ const RESTING: [&str; 75] = [
     "scale top 1 1 900",
     "scale reach 1 1 900",
     "scale buckets 1 1 900",
-    "scale section 1 1",
+    "scale block 1 1",
     "fraction num 1 2",
     "fraction den 1 2",
     "fraction work",

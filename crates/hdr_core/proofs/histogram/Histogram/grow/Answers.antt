@@ -1,30 +1,30 @@
-use Rattle.std.proofs.Common.{◌≡◌, ◌∙◌, ◌*◌, ◌^◌, ap, sym, arith}
-use Rattle.hdr_base.specs.Classes.{section_digits, Grain}
+use Rattle.std.proofs.Common.{◌≡◌, ◌∙◌, ◌-◌, ◌*◌, ◌^◌, ap, sym, arith}
+use Rattle.hdr_base.specs.Classes.{Grain}
 use Rattle.hdr_counts.specs.Blocks.{Blocks}
 use Rattle.hdr_core.specs.Shown.{plain_of}
 use Rattle.hdr_model.specs.Plain.{Plain, grain}
 use Rattle.hdr_model.specs.Recording.{with_bins_to}
-use Rattle.hdr_model.proofs.PlainKept.{IsPlain-grown, grown-parts, sections-are, grows, grain-digits}
+use Rattle.hdr_model.proofs.PlainKept.{IsPlain-grown, grown-parts, blocks-are, grows, grain-digits}
 use Rattle.hdr_core.proofs.histogram.Histogram.grow.Goals as goal
 
 pub grow-requires-clause-more : goal.grow-requires-clause-more
 grow-requires-clause-more g c =
     let h = plain_of c.self.inside in
     let past = rw (← c.self.view_is) at c.requires in
-    let n = sections-are c.self.inside.scale (grain h) c.args.high c.sections.result c.self.inside.counts.block c.self.invariant.scale c.sections.ensures.value c.self.invariant.block (grain-digits g.T.Counter.greatest h c.self.invariant.plain) in
+    let n = blocks-are c.self.inside.scale (grain h) c.args.high c.blocks-2.result c.self.inside.counts.block c.self.invariant.scale c.blocks-2.ensures.value c.self.invariant.block (grain-digits g.T.Counter.greatest h c.self.invariant.plain) in
     omega (arith, n, grows g.T.Counter.greatest h c.args.high c.self.invariant.plain past)
 
 pub grow-requires-clause-few : goal.grow-requires-clause-few
 grow-requires-clause-few g c =
-    let block : c.self.inside.counts.block ≡ 2 ^ section_digits c.self.inside.scale.digits = c.self.invariant.block ∙ ap (λ (s : Grain). 2 ^ section_digits s.digits) (sym c.self.invariant.scale) in
-    rw block c.sections.ensures.few
+    let block : c.self.inside.counts.block ≡ 2 ^ (c.self.inside.scale.digits - 1) = c.self.invariant.block ∙ ap (λ (s : Grain). 2 ^ (s.digits - 1)) (sym c.self.invariant.scale) in
+    rw block c.blocks-2.ensures.few
 
 pub invariant_of-self-2 : goal.invariant_of-self-2
 invariant_of-self-2 g c =
     let h = plain_of c.self.inside in
     let past = rw (← c.self.view_is) at c.requires in
-    let n = sections-are c.self.inside.scale (grain h) c.args.high c.sections.result c.self.inside.counts.block c.self.invariant.scale c.sections.ensures.value c.self.invariant.block (grain-digits g.T.Counter.greatest h c.self.invariant.plain) in
-    let new = grown-parts h c.args.high (c.sections.result * c.self.inside.counts.block) c.grow.new.self.numbers n (ap (λ (b : Blocks). b.numbers) c.in_ok-grow.ensures) in
+    let n = blocks-are c.self.inside.scale (grain h) c.args.high c.blocks-2.result c.self.inside.counts.block c.self.invariant.scale c.blocks-2.ensures.value c.self.invariant.block (grain-digits g.T.Counter.greatest h c.self.invariant.plain) in
+    let new = grown-parts h c.args.high (c.blocks-2.result * c.self.inside.counts.block) c.grow.new.self.numbers n (ap (λ (b : Blocks). b.numbers) c.in_ok-grow.ensures) in
     record {
       scale = c.self.invariant.scale;
       block = ap (λ (b : Blocks). b.block) c.in_ok-grow.ensures ∙ c.self.invariant.block;
@@ -34,6 +34,6 @@ invariant_of-self-2 g c =
 pub returns : goal.returns
 returns g c =
     let h = plain_of c.self.inside in
-    let n = sections-are c.self.inside.scale (grain h) c.args.high c.sections.result c.self.inside.counts.block c.self.invariant.scale c.sections.ensures.value c.self.invariant.block (grain-digits g.T.Counter.greatest h c.self.invariant.plain) in
-    let new = grown-parts h c.args.high (c.sections.result * c.self.inside.counts.block) c.grow.new.self.numbers n (ap (λ (b : Blocks). b.numbers) c.in_ok-grow.ensures) in
+    let n = blocks-are c.self.inside.scale (grain h) c.args.high c.blocks-2.result c.self.inside.counts.block c.self.invariant.scale c.blocks-2.ensures.value c.self.invariant.block (grain-digits g.T.Counter.greatest h c.self.invariant.plain) in
+    let new = grown-parts h c.args.high (c.blocks-2.result * c.self.inside.counts.block) c.grow.new.self.numbers n (ap (λ (b : Blocks). b.numbers) c.in_ok-grow.ensures) in
     new ∙ ap (λ (h : Plain). with_bins_to h c.args.high) c.self.view_is

@@ -1,5 +1,4 @@
-use Rattle.std.proofs.Common.{◌*◌, ◌≤◌, arith}
-use Rattle.hdr_model.specs.Plain.{IsPlain}
+use Rattle.std.proofs.Common.{arith}
 use Rattle.hdr_model.proofs.MergingCopies.{high-in, own-bounds}
 use Rattle.hdr_core.proofs.histogram.Histogram.high.Goals as goal
 

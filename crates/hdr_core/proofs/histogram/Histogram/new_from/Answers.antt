@@ -4,12 +4,12 @@ use Rattle.hdr_model.proofs.PlainKept.{IsPlain-empty, made}
 use Rattle.hdr_core.proofs.histogram.Histogram.new_from.Goals as goal
 
 pub new-requires-clause-few : goal.new-requires-clause-few
-new-requires-clause-few g c = rw (c.section.ensures.value) c.sections.ensures.few
+new-requires-clause-few g c = rw (c.block.ensures.value) c.blocks-2.ensures.few
 
 pub invariant_of-result : goal.invariant_of-result
 invariant_of-result g c =
     let s = c.source.inside in
-    let bins = made s.scale s.low s.high s.sigfig c.sections.result c.section.result s.auto_resize c.in-Ok.counts c.source.invariant.scale c.section.ensures.value c.sections.ensures.value c.in-Ok.ensures in
+    let bins = made s.scale s.low s.high s.sigfig c.blocks-2.result c.block.result s.auto_resize c.in-Ok.counts c.source.invariant.scale c.block.ensures.value c.blocks-2.ensures.value c.in-Ok.ensures in
     record {
       scale = c.source.invariant.scale;
       block = bins.block;
@@ -19,5 +19,5 @@ invariant_of-result g c =
 pub returns-clause-made : goal.returns-clause-made
 returns-clause-made g c =
     let s = c.source.inside in
-    let bins = made s.scale s.low s.high s.sigfig c.sections.result c.section.result s.auto_resize c.in-Ok.counts c.source.invariant.scale c.section.ensures.value c.sections.ensures.value c.in-Ok.ensures in
+    let bins = made s.scale s.low s.high s.sigfig c.blocks-2.result c.block.result s.auto_resize c.in-Ok.counts c.source.invariant.scale c.block.ensures.value c.blocks-2.ensures.value c.in-Ok.ensures in
     rw c.none.ensures bins.empty ∙ ap (λ (p : Plain). empty_plain p.low p.high p.sigfig p.auto_resize) c.source.view_is

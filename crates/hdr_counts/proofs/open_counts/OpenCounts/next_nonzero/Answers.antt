@@ -8,7 +8,7 @@ pub first_of-requires : goal.first_of-requires
 first_of-requires g c =
     let s = c.self.inside in
     let from = c.min-from.result in
-    let small = part-small g.T.Counter.number s.counters.items c.deref.result.now g.T.Counter.greatest s.block s.len _ from (s.next - from) (set s.sums.items s.current s.sum) s.shift c.self.invariant.0 c.deref.ensures.value in
+    let small = part-small g.T.Counter.number s.counters.items c.deref.result.now g.T.Counter.greatest s.section s.len _ from (s.next - from) (set s.sums.items s.current s.sum) s.shift c.self.invariant.0 c.deref.ensures.value in
     omega (arith, small)
 
 pub returns-in-Some-clause-place : goal.returns-in-Some-clause-place
@@ -18,11 +18,11 @@ returns-in-Some-clause-place g c =
     let from = c.min-from.result in
     let p = c.in-Some.place in
     let inside : p < s.next - from = omega (arith, c.in-Some.ensures.within, length-take (s.next - from) (drop from c.deref.result.now)) in
-    rw (← c.self.view_is) (open-first n s.counters.items s.block s.current s.next s.end s.first s.len from p c.self.invariant.1 c.min-from.ensures inside (subst (λ l. IsFirstNonzero (map n (take (s.next - from) (drop from l))) p) c.deref.ensures.value c.in-Some.ensures.place))
+    rw (← c.self.view_is) (open-first n s.counters.items s.section s.current s.next s.end s.first s.len from p c.self.invariant.1 c.min-from.ensures inside (subst (λ l. IsFirstNonzero (map n (take (s.next - from) (drop from l))) p) c.deref.ensures.value c.in-Some.ensures.place))
 
 pub returns-in-None-clause-place : goal.returns-in-None-clause-place
 returns-in-None-clause-place g c =
     let n = g.T.Counter.number in
     let s = c.self.inside in
     let from = c.min-from.result in
-    rw (← c.self.view_is) (open-none-after n s.counters.items s.block s.current s.next s.end s.first s.len from c.self.invariant.1 c.min-from.ensures (subst (λ l. AreZeros (map n (take (s.next - from) (drop from l)))) c.deref.ensures.value c.in-None.ensures.place))
+    rw (← c.self.view_is) (open-none-after n s.counters.items s.section s.current s.next s.end s.first s.len from c.self.invariant.1 c.min-from.ensures (subst (λ l. AreZeros (map n (take (s.next - from) (drop from l)))) c.deref.ensures.value c.in-None.ensures.place))

@@ -5,12 +5,12 @@ use Rattle.hdr_model.proofs.PlainKept.{made}
 use Rattle.hdr_core.proofs.histogram.filling.Filling.new_with_bounds.Goals as goal
 
 pub new-requires-clause-few : goal.new-requires-clause-few
-new-requires-clause-few g c = rw (c.section.ensures.value) c.sections.ensures.few
+new-requires-clause-few g c = rw (c.block.ensures.value) c.blocks-2.ensures.few
 
 pub invariant_of-result : goal.invariant_of-result
 invariant_of-result g c =
     let a = c.args in
-    let bins = made c.in_ok-scale.scale a.low a.high a.sigfig c.sections.result c.section.result false c.in-Ok.counts c.in_ok-scale.ensures.made.0 c.section.ensures.value c.sections.ensures.value c.in-Ok.ensures in
+    let bins = made c.in_ok-scale.scale a.low a.high a.sigfig c.blocks-2.result c.block.result false c.in-Ok.counts c.in_ok-scale.ensures.made.0 c.block.ensures.value c.blocks-2.ensures.value c.in-Ok.ensures in
     record {
       same_scale = c.in_ok-scale.ensures.made.0;
       block = bins.block;
@@ -23,5 +23,5 @@ invariant_of-result g c =
 pub returns : goal.returns
 returns g c =
     let a = c.args in
-    let bins = made c.in_ok-scale.scale a.low a.high a.sigfig c.sections.result c.section.result false c.in-Ok.counts c.in_ok-scale.ensures.made.0 c.section.ensures.value c.sections.ensures.value c.in-Ok.ensures in
+    let bins = made c.in_ok-scale.scale a.low a.high a.sigfig c.blocks-2.result c.block.result false c.in-Ok.counts c.in_ok-scale.ensures.made.0 c.block.ensures.value c.blocks-2.ensures.value c.in-Ok.ensures in
     (ap (λ (h : Plain). open_of h) bins.empty, c.in_ok-scale.ensures.made.1)

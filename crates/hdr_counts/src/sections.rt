@@ -1,0 +1,39 @@
+//! The sum of a part of a section.
+
+ghost use Rattle.std.specs.Prelude.{◌≡◌, ◌+◌, ◌*◌, ◌<◌, ◌≤◌, length, map, sum};
+ghost use Rattle.hdr_base.specs.Classes.{most_bins};
+ghost use Rattle.hdr_counts.specs.Blocks.{section_of, sum_below};
+
+use crate::Counts;
+use crate::adding::{short_sum, sum_of};
+use hdr_base::Counter;
+
+impl<T: Counter> Counts<T> {
+    /// The exact sum of section `k` up to and including place `i`, by the counters of the nearer end.
+    pub(crate) fn sum_in_section(&self, k: usize, i: usize) -> u128
+        requires from { k * section_of self.now.block ≤ i }
+        requires before { i < (k + 1) * section_of self.now.block }
+        requires within { (k + 1) * section_of self.now.block ≤ length self.now.numbers }
+        ensures { sum_below self.now.numbers (k * section_of self.now.block) + result
+            ≡ sum_below self.now.numbers (i + 1) }
+    {
+        let whole = self.sums[k];
+        let from = k * self.section;
+        if i - from < self.section / 2 {
+            return part_sum(&self.counters[from..=i], whole);
+        }
+        whole - part_sum(&self.counters[i + 1..from + self.section], whole)
+    }
+}
+
+/// The sum of a part of a section, in 64 bits where the sum of the whole section fits them.
+pub(crate) fn part_sum<T: Counter>(part: &[T], whole: u128) -> u128
+    requires few { length part.now ≤ most_bins }
+    requires within { sum (map T.number part.now) ≤ whole }
+    ensures { result ≡ sum (map T.number part.now) }
+{
+    if whole > u128::from(u64::MAX) {
+        return sum_of(part);
+    }
+    u128::from(short_sum(part))
+}
