@@ -7,9 +7,9 @@ use Rattle.hdr_log.specs.Pieces.{said_by, is_read}
 use Rattle.hdrhistogram.specs.LogLeaving.{interval_piece, IsIntervalText}
 
 -- the interval is read, and its field decodes to bytes that the serializer may write
-abbrev pub OwnBytesAreRead : Type 0
-OwnBytesAreRead =
-    (writes : Plain → List ℕ → Type 0) (h : Plain) (tag : Option (List ℕ)) (start duration divisor : ℕ) (text : List ℕ)
+abbrev pub OwnBytesAreRead : (Plain → List ℕ → Type 0) → Type 0
+OwnBytesAreRead writes =
+    (h : Plain) (tag : Option (List ℕ)) (start duration divisor : ℕ) (text : List ℕ)
     → IsIntervalText writes h tag start duration divisor text
     → (bytes : List ℕ) × writes h bytes × (reading text ≡ map is_read (said_by (interval_piece h tag start duration divisor bytes)))
     × (base64_bytes (base64_of bytes) ≡ Some bytes)

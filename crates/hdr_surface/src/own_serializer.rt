@@ -72,8 +72,8 @@ impl Serializer for Handing {
 }
 
 /// An interval that any serializer wrote is read, and its field decodes to bytes that the serializer may write.
-pub fn own_bytes_are_read()
-    ensures { OwnBytesAreRead }
+pub fn own_bytes_are_read<S: Serializer>()
+    ensures { OwnBytesAreRead S.writes }
 {
     written_is_read();
     base64_is_read();

@@ -1,6 +1,6 @@
 //! Inputs, whole and in pieces, and whole outputs. The program tries interrupted reads and writes again, whatever the command.
 
-ghost use Rattle.std.specs.Prelude.{◌≡◌, ◌<◌, ◌≤◌, length, take, OnOk, IfOk, IfErr, IfSome, MatchResult, ◌⊎◌};
+ghost use Rattle.std.specs.Prelude.{◌≡◌, ◌<◌, ◌≤◌, [], length, take, OnOk, IfOk, IfErr, IfSome, MatchResult, ◌⊎◌};
 ghost use Rattle.std.specs.Io.KnownBytes.{Appends, Consumes, IsAtEnd};
 ghost use Rattle.hdrhistogram.specs.Streams.{AppendsFront};
 ghost use Rattle.hdr_tool.specs.Outcomes.{Shortage, Input, cause_of, ReadsTo};
@@ -10,18 +10,38 @@ use std::alloc::Global;
 use std::io::{self, ErrorKind, Read, Write};
 
 /// The whole input. An interrupted read is tried again.
+///
+/// # Errors
+/// `CannotRead` where the reader fails, whatever the kind of its error, and `NoMemory` where the input can't be held.
 pub(crate) fn read_whole<R: Read>(alloc: Global, reader: &mut R) -> Result<Vec<u8>, Fault>
     ensures ok { IfOk result (λ input. IfSome (R.remaining reader.old)
         (λ bytes. input.items ≡ bytes)) }
     ensures end { OnOk result (IsAtEnd (R.remaining reader.new)) }
     ensures err { IfErr result (λ f. cause_of f ≡ Shortage) }
 {
+    let mut piece = vec![in alloc; 0u8; PIECE]?;
     let mut input = Vec::new(alloc);
-    match reader.read_to_end(&mut input) {
-        Ok(_) => Ok(input),
-        Err(e) if e.kind() == ErrorKind::OutOfMemory => Err(Fault::NoMemory),
-        Err(_) => Err(Fault::CannotRead),
+    read_pieces(reader, &mut piece, &mut input)?;
+    Ok(input)
+}
+
+/// Appends the input to a text that is empty, piece by piece.
+fn read_pieces<R: Read>(reader: &mut R, piece: &mut [u8], input: &mut Vec<u8>) -> Result<(), Fault>
+    requires room { 0 < length piece.old }
+    requires empty { input.old.items ≡ [] }
+    ensures ok { OnOk result
+        (Consumes (R.remaining reader.old) (R.remaining reader.new) input.new.items) }
+    ensures end { OnOk result (IsAtEnd (R.remaining reader.new)) }
+    ensures err { IfErr result (λ f. cause_of f ≡ Shortage) }
+{
+    for _ in 0..u64::MAX {
+        let count = read_piece(reader, piece)?;
+        if count == 0 {
+            return Ok(());
+        }
+        input.extend_from_slice(&piece[..count])?;
     }
+    Err(Fault::CannotRead)
 }
 
 /// How much of the input is read at a time.
@@ -35,16 +55,13 @@ pub(crate) fn read_piece<R: Read>(reader: &mut R, piece: &mut [u8]) -> Result<us
         (take count piece.new)) }
     ensures end { IfOk result (λ count. count ≡ 0 → 0 < length piece.old → IsAtEnd
         (R.remaining reader.new)) }
-    ensures err { IfErr result (λ f. cause_of f ≡ Shortage) }
+    ensures err { IfErr result (λ f. f ≡ Fault.CannotRead) }
 {
     for _ in 0..u64::MAX {
         match reader.read(piece) {
             Ok(count) => return Ok(count),
-            Err(e) => match e.kind() {
-                ErrorKind::Interrupted => {}
-                ErrorKind::OutOfMemory => return Err(Fault::NoMemory),
-                _ => return Err(Fault::CannotRead),
-            },
+            Err(e) if e.kind() == ErrorKind::Interrupted => {}
+            Err(_) => return Err(Fault::CannotRead),
         }
     }
     Err(Fault::CannotRead)

@@ -5,7 +5,7 @@ use Rattle.hdrhistogram.specs.LogLeaving.{interval_piece}
 use Rattle.hdr_surface.proofs.own_serializer.own_bytes_are_read.Goals as goal
 
 pub returns : goal.returns
-returns c = λ writes h tag start duration divisor text i.
+returns g c = λ h tag start duration divisor text i.
     let piece = interval_piece h tag start duration divisor i.0 in
     let whole = append-nil (piece_text piece) ∙ sym i.3 in
     let read = subst (λ t. reading t ≡ map is_read (said_by piece)) whole (c.written_is_read.ensures (piece ∷ []) (i.2, tt)) in

@@ -1,6 +1,7 @@
-use Rattle.std.proofs.Common.{[], take, ◌++◌, ◌∙◌, arith, refl}
+use Rattle.std.proofs.Common.{[], take, ◌++◌, ◌∙◌, ap, arith, refl}
 use Rattle.std.proofs.KnownBytes.{Consumes-nil, Consumes-trans}
 use Rattle.hdrhistogram.specs.LogWriters.{sink}
+use Rattle.hdr_tool.specs.Outcomes.{cause_of}
 use Rattle.hdr_tool.specs.declared.fault.Fault.TheVariants.{NoMemory, CannotRead}
 use Rattle.hdr_tool.proofs.OutcomesSinks.{appends_nothing, appends_both, handed_on}
 use Rattle.hdr_tool.proofs.ProgramStreaming.{nothing_read, same_carry, carried, further, none_read, read_to, read_all, answers_now, answers_last, answers_end, answers_unread}
@@ -17,11 +18,11 @@ pub returns-in_err-count-clause-answers : goal.returns-in_err-count-clause-answe
 returns-in_err-count-clause-answers g c =
     let s = c.loop.invariant.streamed in
     rw (handed_on c.from_residual.result c.in_err-count.field-0.0 c.from_residual.ensures.1)
-    (answers_unread c.args.is_log c.args.histogram.now (g.R.Read.remaining c.args.reader.now) (g.R.Read.remaining c.loop.reader) s.0 c.loop.number c.loop.carry.items s.2.0 c.loop.histogram (g.W.Write.contents (sink c.args.log.now).now) (g.W.Write.contents (sink c.loop.log).now) c.in_err-count.field-0.0 s.1 s.2.1 s.2.2 c.in_err-count.ensures.err)
+    (answers_unread c.args.is_log c.args.histogram.now (g.R.Read.remaining c.args.reader.now) (g.R.Read.remaining c.loop.reader) s.0 c.loop.number c.loop.carry.items s.2.0 c.loop.histogram (g.W.Write.contents (sink c.args.log.now).now) (g.W.Write.contents (sink c.loop.log).now) c.in_err-count.field-0.0 s.1 s.2.1 s.2.2 (ap cause_of c.in_err-count.ensures.err))
 
 pub returns-in_err-count-clause-read : goal.returns-in_err-count-clause-read
 returns-in_err-count-clause-read g c =
-    rw (handed_on c.from_residual.result c.in_err-count.field-0.0 c.from_residual.ensures.1) (read_to (g.R.Read.remaining c.read_piece.new.reader) c.in_err-count.field-0.0 c.in_err-count.ensures.err)
+    rw (handed_on c.from_residual.result c.in_err-count.field-0.0 c.from_residual.ensures.1) (read_to (g.R.Read.remaining c.read_piece.new.reader) c.in_err-count.field-0.0 (ap cause_of c.in_err-count.ensures.err))
 
 pub returns-in_err-run_lines-clause-answers : goal.returns-in_err-run_lines-clause-answers
 returns-in_err-run_lines-clause-answers g c =

@@ -1,0 +1,13 @@
+use Rattle.std.proofs.Common.{take, ◌++◌, ap, arith, subst, sym}
+use Rattle.std.proofs.KnownBytes.{Consumes-nil, Consumes-trans}
+use Rattle.std.specs.Io.KnownBytes.{Consumes}
+use Rattle.hdr_tool.specs.Outcomes.{cause_of}
+use Rattle.hdr_tool.proofs.ProgramStreaming.{none_read}
+use Rattle.hdr_tool.proofs.OutcomesSinks.{handed_on}
+use Rattle.hdr_tool.proofs.stream.read_pieces.Goals as goal
+
+pub loop-init : goal.loop-init
+loop-init g c = record {
+  room = c.requires.room;
+  taken = subst (λ t. Consumes (g.R.Read.remaining c.args.reader.now) (g.R.Read.remaining c.args.reader.now) t) (sym c.requires.empty) (Consumes-nil (g.R.Read.remaining c.args.reader.now));
+}
