@@ -5,8 +5,7 @@ use Rattle.hdr_model.specs.Plain.{Plain}
 use Rattle.hdr_model.specs.Samples.{StandsFor}
 use Rattle.hdr_log.specs.Texts.{lines_text}
 use Rattle.hdr_tool.specs.declared.fault.Fault.{Fault}
-use Rattle.hdr_tool.specs.Options.{no_options}
-use Rattle.hdr_tool.specs.Words.{Log, Merge, task_of}
+use Rattle.hdr_tool.specs.Arguments.{no_options, Log, Merge, task_of}
 use Rattle.hdr_tool.specs.Report.{IsReport}
 use Rattle.hdr_tool.specs.Program.{Program}
 

@@ -13,7 +13,7 @@ use Rattle.hdr_tool.specs.Lines.{first_number}
 use Rattle.hdr_tool.specs.Commands.{Command, Apply, End, alone, count_of, record_of, correct_of, end_tag_of, end_of, command_of_name, command_of_fields, command_of}
 
 -- one of two answers, and one after another
-one_of : {A : Type 0} (P : A → Type 0) (b : Bool) (x y : Option A) → IfSome x P → IfSome y P → IfSome (cond b x y) P
+pub one_of : {A : Type 0} (P : A → Type 0) (b : Bool) (x y : Option A) → IfSome x P → IfSome y P → IfSome (cond b x y) P
 one_of P true x y p q = p
 one_of P false x y p q = q
 

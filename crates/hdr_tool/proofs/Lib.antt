@@ -1,5 +1,4 @@
 pub mod LinesParts
-pub mod WordsEach
 pub mod OutcomesSinks
 pub mod OutcomesAnswers
 pub mod OutcomesRuns

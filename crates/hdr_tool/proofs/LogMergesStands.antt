@@ -1,6 +1,9 @@
 -- What a log's lines recorded is what a merge of the written log reports.
 use Rattle.std.proofs.Common.{◌≡◌, ℕ, zero, suc, ◌+◌, ◌-◌, ◌*◌, ◌^◌, ◌<◌, ◌≤◌, Bool, true, false, cond, leb, ◌&&◌, List, [], ◌∷◌, ◌++◌, Option, Some, None, IfSome, refl, sym, ap₂, ◌∙◌, subst, arith, lit<, lit≤}
 use Rattle.std.specs.Option.{option_map}
+use Rattle.std.specs.Prelude.{codes}
+use Rattle.std.specs.List.{filter_map}
+use Rattle.std.specs.Str.{bytes_eq}
 use Rattle.std.specs.List.{AllByRecursion, enumerate_from}
 use Rattle.std.proofs.lemmas.Bool.{leb-true}
 use Rattle.hdr_base.specs.Classes.{least_from, Grain, unit_of, digits_of, grain_of, IsFiner}
@@ -14,18 +17,15 @@ use Rattle.hdrhistogram.specs.Chosen.{Filter, is_chosen}
 use Rattle.hdrhistogram.specs.V2Read.{IsReadBack}
 use Rattle.hdrhistogram.proofs.ChosenAdded.{added_digits}
 use Rattle.hdr_tool.specs.declared.fault.Fault.{Fault}
-use Rattle.hdr_tool.specs.declared.words.Command.{Command}
-use Rattle.hdr_tool.specs.declared.words.Command.TheVariants as command
 use Rattle.hdr_log.specs.Parts.{◌>>=◌, parts}
-use Rattle.hdr_tool.specs.Words.{each, sigfig_of, quantile_of_word, Task, Report, Log, Merge, figures_of, log_of, merge_of, command_of_word, task_of_command, task_of}
-use Rattle.hdr_tool.specs.declared.options.CounterType.{CounterType}
-use Rattle.hdr_tool.specs.declared.options.CounterType.TheVariants as counter
-use Rattle.hdr_tool.specs.Options.{Options, no_options, options_of, greatest_into, filter_of}
+use Rattle.hdr_tool.specs.Arguments.{sigfig_of, fraction_of, are_fractions, Task, Report, Log, Merge, figures_of, log_of, merge_of, task_of, Options, no_options, options_of, greatest_into, filter_of}
+use Rattle.hdr_tool.specs.declared.arguments.CounterType.{CounterType}
+use Rattle.hdr_tool.specs.declared.arguments.CounterType.TheVariants as counter
 use Rattle.hdr_tool.specs.Report.{IsReport}
 use Rattle.hdr_tool.specs.Program.{Program}
 use Rattle.hdr_tool.specs.LogMerges.{EndOf, chosen_of, ends_of, AreReadBack, EndsWith, AreEnds}
 use Rattle.hdr_tool.proofs.LogMergesEnds.{CallsStand, ends_stand}
-use Rattle.hdr_tool.proofs.CommandsCalls.{tail, any}
+use Rattle.hdr_tool.proofs.CommandsCalls.{one_of, tail, any}
 use Rattle.hdr_tool.proofs.LogMergesWritten.{ReadsBack, log_then_merge}
 
 -- ---- digits are at most five
@@ -52,9 +52,10 @@ HasFew (Merge options n quantiles) = Few n
 figures_few : (words : List (List ℕ)) → IfSome (figures_of words) (λ f. Few f.0)
 figures_few [] = tt
 figures_few (digit ∷ []) = tt
-figures_few (digit ∷ word ∷ words) =
-    tail Few (λ (f : ℕ × List Ratio). Few f.0) (sigfig_of digit) (λ n. each quantile_of_word (word ∷ words) >>= λ quantiles. Some (n, quantiles)) (sigfig_few digit) (λ n few.
-    any (λ (f : ℕ × List Ratio). Few f.0) (each quantile_of_word (word ∷ words)) (λ quantiles. Some (n, quantiles)) (λ quantiles. few))
+figures_few (digit ∷ q ∷ qs) =
+    let P : ℕ × List Ratio → Type 0 = λ f. Few f.0 in
+    tail Few P (sigfig_of digit) (λ n. cond (are_fractions (q ∷ qs)) (Some (n, filter_map fraction_of (q ∷ qs))) None) (sigfig_few digit)
+    (λ n few. one_of P (are_fractions (q ∷ qs)) (Some (n, filter_map fraction_of (q ∷ qs))) None few tt)
 
 mapped : {A : Type 0} (P : A → Type 0) (f : A → Task) (o : Option A) → IfSome o P → ((x : A) → P x → HasFew (f x)) → IfSome (option_map f o) HasFew
 mapped P f None p h = tt
@@ -71,16 +72,12 @@ merge_few words =
     any HasFew (options_of no_options words) (λ given. figures_of given.1 >>= λ f. Some (Merge given.0 f.0 f.1)) (λ given.
     tail (λ (f : ℕ × List Ratio). Few f.0) HasFew (figures_of given.1) (λ f. Some (Merge given.0 f.0 f.1)) (figures_few given.1) (λ f few. few))
 
-named_few : (c : Option Command) (words : List (List ℕ)) → IfSome (task_of_command c words) HasFew
-named_few None words = tt
-named_few (Some command.Report) words = mapped (λ (f : ℕ × List Ratio). Few f.0) (λ f. Report f.0 f.1) (figures_of words) (figures_few words) (λ f few. few)
-named_few (Some command.Log) words = log_few words
-named_few (Some command.Merge) words = merge_few words
-
 task_few : (words : List (List ℕ)) → IfSome (task_of words) HasFew
 unfolding task_of
 task_few [] = tt
-task_few (name ∷ words) = named_few (command_of_word name) words
+task_few (name ∷ words) =
+    one_of HasFew (bytes_eq name (codes "report")) _ _ (mapped (λ (f : ℕ × List Ratio). Few f.0) (λ f. Report f.0 f.1) (figures_of words) (figures_few words) (λ f few. few))
+    (one_of HasFew (bytes_eq name (codes "log")) _ _ (log_few words) (one_of HasFew (bytes_eq name (codes "merge")) _ None (merge_few words) tt))
 
 -- ---- an empty histogram of these digits
 

@@ -22,10 +22,9 @@ use Rattle.hdr_tool.specs.declared.fault.Fault.{Fault}
 use Rattle.hdr_tool.specs.declared.fault.Fault.TheVariants.{WrongWords}
 use Rattle.hdr_log.specs.Parts.{parts}
 use Rattle.hdr_tool.specs.Commands.{Command, Apply, End, command_of}
-use Rattle.hdr_tool.specs.Words.{Task}
 use Rattle.hdr_tool.specs.Outcomes.{Outcome, Runs, GoesOn}
 use Rattle.hdr_tool.specs.Report.{IsReport}
-use Rattle.hdr_tool.specs.Options.{greatest_into, filter_of}
+use Rattle.hdr_tool.specs.Arguments.{Task, greatest_into, filter_of}
 use Rattle.hdr_tool.specs.Program.{CommandDone, LineDone, LinesDone, fault_in, Reported, merged_histogram, MergeReported, TaskDone, Program}
 use Rattle.hdr_tool.proofs.OutcomesSinks.{append_nothing}
 use Rattle.hdr_tool.specs.LogMerges.{EndOf, chosen_of, at_command, ends_of, AreReadBack, LogThenMerge}

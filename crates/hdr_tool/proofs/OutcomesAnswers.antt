@@ -5,11 +5,10 @@ use Rattle.hdr_base.specs.Fractions.{Ratio}
 use Rattle.hdr_model.specs.Plain.{Plain, empty_plain}
 use Rattle.hdrhistogram.specs.Streams.{AppendsFront}
 use Rattle.hdr_tool.specs.declared.fault.Fault.{Fault}
-use Rattle.hdr_tool.specs.declared.fault.Fault.TheVariants.{WrongWords}
 use Rattle.hdr_tool.specs.Outcomes.{Outcome, Runs, Begins, GoesOn, Cause, Shortage, Output, Input, cause_of, RunRefused, Answers, ReadsTo, ReadsAll}
 use Rattle.hdr_tool.specs.Lines.{number_lines}
 use Rattle.hdr_tool.specs.Commands.{Command, Apply, End, command_of}
-use Rattle.hdr_tool.specs.Words.{Task, Report, Log, Merge, RefusesWords}
+use Rattle.hdr_tool.specs.Arguments.{Task, Report, Log, Merge}
 use Rattle.hdr_tool.specs.Program.{CommandDone, LineDone, Reported, TaskDone, TaskStands, TaskWrites, TaskLeaves}
 use Rattle.hdr_tool.proofs.OutcomesRuns.{begins_nothing, front_behind}
 use Rattle.hdr_tool.proofs.OutcomesSinks.{appends_nothing, appends_both}
@@ -119,18 +118,3 @@ unread task i o f e =
     let x = some_input i in
     let nothing : (t : List ℕ) × TaskStands task x.0 t × Appends o o t = ([], stands_nothing task x.0, appends_nothing o) in
     (x.0, x.1, rw e nothing)
-
--- ---- the arguments
-
-pub wrong_words : (given : Option Task) (f : Fault) → RefusesWords given f → given ≡ None → f ≡ WrongWords
-wrong_words None f r e = r
-wrong_words (Some task) f r e = absurd (let q = e in cc)
-
-pub words_refused : (given : Option Task) (f : Fault) (i o : Option (List ℕ)) → RefusesWords given f
-    → IfSome given (λ task. (input : List ℕ) × IfSome i (λ bytes. input ≡ bytes) × Answers (TaskDone task input) (TaskStands task input) (TaskWrites task input) o o (Err f))
-words_refused None f i o r = tt
-words_refused (Some task) f i o r = unread task i o f (rw r refl)
-
-pub words_unread : (given : Option Task) (f : Fault) (i : Option (List ℕ)) → RefusesWords given f → IfSome given (λ task. ReadsAll (TaskLeaves task) i (Err f))
-words_unread None f i r = tt
-words_unread (Some task) f i r = rw r tt

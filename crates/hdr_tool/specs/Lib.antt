@@ -1,6 +1,5 @@
 pub mod Lines
-pub mod Options
-pub mod Words
+pub mod Arguments
 pub mod Commands
 pub mod Faults
 pub mod Report

@@ -14,8 +14,7 @@ use Rattle.hdrhistogram.specs.V2Read.{IsReadBack}
 use Rattle.hdr_tool.specs.declared.fault.Fault.{Fault}
 use Rattle.hdr_log.specs.Parts.{parts}
 use Rattle.hdr_tool.specs.Commands.{Command, Apply, End, command_of}
-use Rattle.hdr_tool.specs.Options.{Options, greatest_into, filter_of}
-use Rattle.hdr_tool.specs.Words.{Log, Merge, task_of}
+use Rattle.hdr_tool.specs.Arguments.{Options, greatest_into, filter_of, Log, Merge, task_of}
 use Rattle.hdr_tool.specs.Report.{IsReport}
 use Rattle.hdr_tool.specs.Program.{Program}
 

@@ -18,9 +18,8 @@ use Rattle.hdr_tool.specs.declared.fault.Fault.TheVariants.{WrongWords, NotAComm
 use Rattle.std.specs.List.{enumerate_from}
 use Rattle.hdr_log.specs.Parts.{parts}
 use Rattle.hdr_tool.specs.Commands.{Command, Apply, End, command_of}
-use Rattle.hdr_tool.specs.Words.{Task, Report, Log, Merge, task_of}
 use Rattle.hdr_tool.specs.Faults.{merge_fault}
-use Rattle.hdr_tool.specs.Options.{greatest_into, filter_of}
+use Rattle.hdr_tool.specs.Arguments.{Task, Report, Log, Merge, task_of, greatest_into, filter_of}
 use Rattle.hdr_tool.specs.Report.{IsReport}
 use Rattle.hdr_tool.specs.Outcomes.{Runs, Begins}
 

@@ -2,7 +2,6 @@
 
 ghost use Rattle.std.specs.Prelude.{◌≡◌};
 
-use hdrhistogram::CallError;
 use hdrhistogram::serialization::interval_log::IntervalLogWriterError;
 use hdrhistogram::serialization::{DeserializeError, V2SerializeError};
 use std::alloc::AllocError;
@@ -15,8 +14,6 @@ pub enum Fault {
     WrongWords,
     /// The line of this number, from 1, is not a command.
     NotACommand(u64),
-    /// What the line of this number asks for was refused.
-    Refused(u64, CallError),
     /// The interval that the line of this number ends was not written.
     NotWritten(u64, IntervalLogWriterError<V2SerializeError>),
     /// The line that begins at this byte is no line of a log.
@@ -70,7 +67,6 @@ impl fmt::Display for Fault {
                 "hdr: usage: hdr report SIGFIG Q.. | hdr log SIGFIG | hdr merge [--into COUNTER] [--tag T] [--from MS] [--to MS] SIGFIG Q.."
             ),
             Fault::NotACommand(line) => write!(f, "hdr: line {line}: not a command"),
-            Fault::Refused(line, cause) => write!(f, "hdr: line {line}: {cause}"),
             Fault::NotWritten(line, cause) => write!(f, "hdr: line {line}: {cause}"),
             Fault::NotALog(at) => write!(f, "hdr: log: parse error at byte {at}"),
             Fault::NotBase64(interval) => write!(f, "hdr: interval {interval}: not base64"),

@@ -2,18 +2,17 @@
 //! interval, and merges such logs.
 #![tactic(auto)]
 
+mod arguments;
 mod command;
 mod driver;
 mod fault;
 pub mod laws;
 mod lines;
 mod merge;
-mod options;
 mod parts;
 mod program;
 mod report;
 mod stream;
-mod words;
 
 pub use fault::Fault;
 pub use program::run;

@@ -2,14 +2,13 @@
 
 ghost use Rattle.std.specs.Prelude.{◌≡◌, [], Some, None};
 ghost use Rattle.hdrhistogram.specs.Chosen.{view_of_filter};
+ghost use Rattle.hdr_tool.specs.Arguments.{Merge, view_of_options};
 ghost use Rattle.hdr_tool.specs.Faults.{merge_fault};
-ghost use Rattle.hdr_tool.specs.Options.{view_of_options};
 ghost use Rattle.hdr_tool.specs.Outcomes.{Answers};
 ghost use Rattle.hdr_tool.specs.Program.{MergeReported, TaskDone, TaskStands, TaskWrites};
-ghost use Rattle.hdr_tool.specs.Words.{Merge};
 
+use crate::arguments::{CounterType, Options};
 use crate::fault::Fault;
-use crate::options::{CounterType, Options};
 use crate::report::write_report;
 use hdrhistogram::serialization::interval_log::{IntervalFilter, MergeError, merge_log};
 use hdrhistogram::{Counter, Quantile};

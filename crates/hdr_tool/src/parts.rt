@@ -1,7 +1,6 @@
-//! The whole lines of a piece, and words by name.
+//! The whole lines of a piece.
 
 ghost use Rattle.std.specs.Prelude.{◌≡◌, ◌≢◌, ◌<◌, ◌∷◌, ◌++◌, ℕ, List, length, slice_index, IfSome, IfNone, IfOk, OnOk, MatchOption};
-ghost use Rattle.std.specs.Str.{bytes_eq};
 
 use memchr::memrchr;
 use std::alloc::AllocError;
@@ -48,11 +47,4 @@ pub(crate) fn replace(text: &mut Vec<u8>, other: &[u8]) -> Result<(), AllocError
 {
     text.clear();
     text.extend_from_slice(other)
-}
-
-/// Whether a word is this one.
-pub(crate) fn is_word(word: &[u8], name: &[u8]) -> bool
-    ensures { result ≡ bytes_eq word.now name.now }
-{
-    word == name
 }

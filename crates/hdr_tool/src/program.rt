@@ -2,18 +2,16 @@
 
 ghost use Rattle.std.specs.Prelude.{◌≡◌, ℕ, List, map, Err, None, IfSome, string_bytes};
 ghost use Rattle.std.specs.Io.KnownBytes.{Keeps};
-ghost use Rattle.hdr_tool.specs.Words.{Report, Log, Merge, task_of, view_of_task};
-ghost use Rattle.hdr_tool.specs.Options.{view_of_options};
+ghost use Rattle.hdr_tool.specs.Arguments.{Report, Log, Merge, task_of, view_of_options, view_of_task};
 ghost use Rattle.hdr_tool.specs.Outcomes.{Answers, ReadsAll};
 ghost use Rattle.hdr_tool.specs.Program.{TaskDone, TaskStands, TaskWrites, TaskLeaves};
 
+use crate::arguments::{Options, Task, parse, quantiles};
 use crate::driver::run_task;
 use crate::fault::Fault;
 use crate::merge::report_log;
-use crate::options::Options;
 use crate::report::write_report;
 use crate::stream::read_whole;
-use crate::words::{Task, judge};
 use hdrhistogram::Quantile;
 use std::alloc::Global;
 use std::io::{Read, Write};
@@ -90,18 +88,15 @@ fn do_task<R: Read, W: Write>(
     ensures reads { ReadsAll (TaskLeaves (view_of_task task.now)) (R.remaining reader.new) result }
 {
     match task {
-        Task::Report(sigfig, quantiles) => {
-            report(alloc, *sigfig, quantiles.as_slice(), reader, writer)
+        Task::Report(sigfig, arguments) => {
+            let quantiles = quantiles(alloc, arguments)?;
+            report(alloc, *sigfig, &quantiles, reader, writer)
         }
         Task::Log(sigfig) => log(alloc, *sigfig, reader, writer),
-        Task::Merge(options, sigfig, quantiles) => merge(
-            alloc,
-            options,
-            *sigfig,
-            quantiles.as_slice(),
-            reader,
-            writer,
-        ),
+        Task::Merge(options, sigfig, arguments) => {
+            let quantiles = quantiles(alloc, arguments)?;
+            merge(alloc, options, *sigfig, &quantiles, reader, writer)
+        }
     }
 }
 
@@ -112,20 +107,22 @@ fn do_task<R: Read, W: Write>(
 /// before. Where the writer fails, `log` reads no further.
 pub fn run<R: Read, W: Write>(
     alloc: Global,
-    words: &[String],
+    arguments: &[String],
     reader: &mut R,
     writer: &mut W,
 ) -> Result<(), Fault>
-    ensures wrong_words { task_of (map string_bytes words.now) ≡ None → (result ≡ Err Fault.WrongWords)
+    ensures wrong_words { task_of (map string_bytes arguments.now) ≡ None → (result ≡ Err Fault.WrongWords)
         × Keeps (R.remaining reader.old) (R.remaining reader.new)
         × Keeps (W.contents writer.old) (W.contents writer.new) }
-    ensures answers { IfSome (task_of (map string_bytes words.now)) (λ task. (input : List ℕ)
+    ensures answers { IfSome (task_of (map string_bytes arguments.now)) (λ task. (input : List ℕ)
         × IfSome (R.remaining reader.old) (λ bytes. input ≡ bytes)
         × Answers (TaskDone task input) (TaskStands task input) (TaskWrites task input)
         (W.contents writer.old) (W.contents writer.new) result) }
-    ensures reads { IfSome (task_of (map string_bytes words.now))
+    ensures reads { IfSome (task_of (map string_bytes arguments.now))
         (λ task. ReadsAll (TaskLeaves task) (R.remaining reader.new) result) }
 {
-    let task = judge(alloc, words)?;
+    let Some(task) = parse(arguments) else {
+        return Err(Fault::WrongWords);
+    };
     do_task(alloc, &task, reader, writer)
 }

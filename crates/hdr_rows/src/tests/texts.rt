@@ -1,7 +1,6 @@
 //! The texts of errors that no row meets: those of memory and of streams, and those that a usize of 64 bits never brings.
 
 use hdr_core::{AdditionError, CallError, CreationError, RecordError, UsizeTypeTooSmall};
-use hdr_tool::Fault;
 use hdrhistogram::serialization::interval_log::{CommentError, IntervalLogWriterError, MergeError};
 use hdrhistogram::serialization::{DeserializeError, FieldDecodeError, V2SerializeError};
 use std::fmt::Display;
@@ -79,15 +78,4 @@ fn texts_of_streams(rt: HostRuntime) -> Result<(), Fail> {
     let text = format!(in rt.alloc(); "An i/o error occurred: {}", cause())?;
     let error: IntervalLogWriterError<CommentError> = IntervalLogWriterError::from(cause());
     says(&rt, &error, text.as_str())
-}
-
-/// Its line is told as it is, though no line above a log can be refused by name.
-#[test]
-fn text_of_a_refused_line(rt: HostRuntime) -> Result<(), Fail> {
-    let cause = CallError::Record(RecordError::ValueOutOfRangeResizeDisabled);
-    says(
-        &rt,
-        &Fault::Refused(7, cause),
-        "hdr: line 7: The value to record is not representable in this histogram and resizing is disabled",
-    )
 }

@@ -1,6 +1,5 @@
 use Rattle.std.proofs.Common.{ℕ, List, subst}
-use Rattle.hdr_tool.specs.Options.{view_of_options}
-use Rattle.hdr_tool.specs.Words.{Merge}
+use Rattle.hdr_tool.specs.Arguments.{Merge, view_of_options}
 use Rattle.hdr_tool.specs.Outcomes.{Answers}
 use Rattle.hdr_tool.specs.Program.{TaskDone, TaskStands, TaskWrites}
 use Rattle.hdr_tool.proofs.OutcomesAnswers.{unread, reads_none, reads_all}
