@@ -50,9 +50,9 @@ fn is_unread(
     matches!(ran, Err(Fault::CannotRead)) && sink.text() == stands
 }
 
-/// Whether a reader's failure of a kind is told as one: an interruption is tried again, and out of memory has a name of its own.
-fn is_told_as_read(kind: ErrorKind) -> bool {
-    kind != ErrorKind::Interrupted && kind != ErrorKind::OutOfMemory
+/// Whether a reader that fails with this kind ends the run: an interrupted read is tried again.
+fn ends_the_run(kind: ErrorKind) -> bool {
+    kind != ErrorKind::Interrupted
 }
 
 /// The first read to the one at the end of the input fail in turn, and nothing is written.
@@ -60,7 +60,7 @@ fn reads_fail(rt: &(impl Abort + AllocGlobal), words: &str, input: &[u8]) -> Res
     let words = words_of(rt.alloc(), words)?;
     let last = input.len().saturating_add(1);
     for kind in KINDS {
-        if is_told_as_read(kind) {
+        if ends_the_run(kind) {
             for at in 1..=last {
                 assert!(rt;
                     is_unread(rt.alloc(), words.as_slice(), input, kind, at, b""),
@@ -104,7 +104,7 @@ fn each_read_of_a_log_fails(rt: HostRuntime) -> Result<(), Fail> {
     let words = words_of(rt.alloc(), "log 3")?;
     let output = TWO_OUTPUT.as_bytes();
     for kind in KINDS {
-        if is_told_as_read(kind) {
+        if ends_the_run(kind) {
             for at in 1..=36usize {
                 let stands = output.get(..len_before(at)).unwrap_or(&[]);
                 assert!(rt;
