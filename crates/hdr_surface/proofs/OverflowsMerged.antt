@@ -1,8 +1,8 @@
 -- The samples of two logs, line by line.
-use Rattle.std.proofs.Common.{◌≡◌, ◌≤◌, ◌==◌, ◌-◌, ◌^◌, ℕ, [], ◌∷◌, List, Option, None, count_by, replicate, ◌++◌, refl, arith, lit<, lit≤}
+use Rattle.std.proofs.Common.{◌≡◌, ◌≤◌, ◌==◌, ◌-◌, ◌^◌, ◌++◌, ℕ, [], ◌∷◌, List, None, replicate, refl, arith, lit<, lit≤}
 use Rattle.std.specs.List.{enumerate_from}
 use Rattle.std.proofs.lemmas.List.Sums.{count_by-le-length}
-use Rattle.hdr_base.specs.Classes.{Grain, grain_of, bin_of, reach_of}
+use Rattle.hdr_base.specs.Classes.{Grain, bin_of, reach_of}
 use Rattle.hdr_log.specs.Parts.{parts}
 use Rattle.hdr_model.specs.Recording.{high_with}
 use Rattle.hdr_model.specs.Runs.{State}
@@ -20,9 +20,26 @@ one_fits greatest g one =
 abbrev pub the_end : EndOf (List ℕ)
 the_end = record { holds = 1 ∷ []; tag = None; start = 0 }
 
+-- a state after so many samples of a value
 recorded : Grain → State → ℕ → ℕ → State
 recorded g s n v = record { samples = s.samples ++ replicate n v; high = high_with g s.high v (reach_of g v) }
 
-pub past_ends : (g : Grain) → EndsWith g (record { samples = []; high = 2 }) (enumerate_from 1 (parts 10 past_the_end)) (the_end ∷ [])
-unfolding command_of_name
-past_ends g = ?
+begun : State
+begun = record { samples = []; high = 2 }
+
+pub past_ends : (g : Grain) → EndsWith g begun (enumerate_from 1 (parts 10 past_the_end)) (the_end ∷ [])
+unfolding recorded, begun, command_of_name
+past_ends g =
+    let one = recorded g begun 1 1 in
+    let rest : State = record { samples = []; high = one.high } in
+    let many = recorded g rest 18_446_744_073_709_551_615 5 in
+    (one, (refl, refl), ([], refl, one_fits (2 ^ 64 - 1) g (lit≤ tt), (many, (refl, refl), (recorded g many 1 5, (refl, refl), refl))))
+
+pub cleared_ends : (g : Grain) → EndsWith g begun (enumerate_from 1 (parts 10 before_a_clear)) (the_end ∷ [])
+unfolding recorded, begun, command_of_name
+cleared_ends g =
+    let many = recorded g begun 18_446_744_073_709_551_615 5 in
+    let more = recorded g many 1 5 in
+    let none : State = record { samples = []; high = more.high } in
+    let one = recorded g none 1 1 in
+    (many, (refl, refl), (more, (refl, refl), (none, (refl, refl), (one, (refl, refl), ([], refl, one_fits (2 ^ 64 - 1) g (lit≤ tt), refl)))))
