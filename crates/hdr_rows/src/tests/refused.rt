@@ -52,14 +52,14 @@ fn is_stop(cause: &CallError) -> bool {
     )
 }
 
-/// Whether memory was refused to a call.
+/// Whether memory was refused to a call; a log in memory that cannot grow fails as a writer.
 fn is_memory(refusal: &Refusal) -> bool {
     match refusal {
         Refusal::Creation(CreationError::OutOfMemory)
         | Refusal::Record(RecordError::OutOfMemory)
         | Refusal::Addition(AdditionError::OutOfMemory)
         | Refusal::Merge(MergeError::OutOfMemory)
-        | Refusal::Log(LogError::OutOfMemory)
+        | Refusal::Log(LogError::OutOfMemory | LogError::IoError(_))
         | Refusal::Log(LogError::SerializeError(V2SerializeError::OutOfMemory)) => true,
         Refusal::Call(cause) => is_stop(cause),
         Refusal::Run(error) => is_stop(&error.cause),
