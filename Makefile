@@ -1,6 +1,7 @@
 # make: proves and builds the program, target/hdr. make install: puts it and its manual page below PREFIX. make check: the gate.
+# make test: all rows and cases, in seconds; make test ROW=NAME or CASE=NAME: one of them. docs/TESTING.md says more.
 # make edits: the wrong bodies alone, which the prover has to refuse: those of crates/*/edits and of crates/*/further-edits.
-# make quick: what has changed since the last commit, over the work that earlier checks kept.
+# make quick: proves what has changed since the last commit, over the work that earlier checks kept, and plays the tests.
 # make bench: times beside the Rust crate hdrhistogram (compare/run says where that comes from).
 PREFIX ?= /usr/local
 
@@ -17,22 +18,28 @@ check:
 # What the gate does beside the edits and their controls.
 proofs-and-runs:
 	rt ci
+	tools/test --keep
 	tools/refused.sh
 	tools/refused_main.sh
-	tools/cases.sh
+	tools/test --proved
 	tools/documents crates/hdr/out/hdr
+
+# On the proved builds where they are fresh; else what is stale is built unproved.
+test:
+	tools/test $(if $(ROW),--row "$(ROW)") $(if $(CASE),--case "$(CASE)")
 
 # The edits alone, the further ones too.
 edits:
 	tools/edits --further
 
-# Both read crates/*/out: a crate that has not changed costs a few seconds, and the edits of changed crates alone are tried.
-# It proves no test, and is no gate.
+# The first two read crates/*/out: a crate that has not changed costs a few seconds, and the edits of changed crates alone are
+# tried. It proves no test, and is no gate.
 quick:
 	rt all check
 	tools/edits --further --changed
+	tools/test
 
 bench:
 	compare/run
 
-.PHONY: all install check proofs-and-runs edits quick bench
+.PHONY: all install check proofs-and-runs test edits quick bench

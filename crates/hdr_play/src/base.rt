@@ -1,76 +1,87 @@
-//! Counters and scales, by the names of their calls.
+//! Calls on counters, scales and fractions.
 
-use crate::answer::{Answer, number};
-use crate::single::Numbers;
+use crate::answer::Answer::{self, Number};
+use crate::answer::{Outcome, Refusal, number};
+use crate::asked::{counter, digits};
 use hdr_base::{Counter, Quantile, Scale, Ticks};
 
-fn counted<T: Counter>(counter: Option<T>) -> Answer {
-    match counter {
-        Some(counter) => Answer::Number(counter.as_u64()),
-        None => Answer::Nothing,
+fn counted<T: Counter>(counter: Option<T>) -> Option<u64> {
+    Some(counter?.as_u64())
+}
+
+/// A call on two counters.
+fn of_two<T: Counter>(name: &str, left: T, right: T) -> Outcome {
+    match name {
+        "saturating_add" => Ok(Number(left.saturating_add(right).as_u64())),
+        "checked_add" => Ok(number(counted(left.checked_add(right)))),
+        "checked_sub" => Ok(number(counted(left.checked_sub(right)))),
+        "less" => Ok(Answer::Truth(left < right)),
+        "equal" => Ok(Answer::Truth(left == right)),
+        _ => Err(Refusal::NoCall),
     }
 }
 
-/// A call on counters. None: the name is no such call's, or a number is no counter's.
-pub fn counter<T: Counter>(name: &str, numbers: Numbers) -> Option<Answer> {
-    let [first, second, _] = numbers;
-    match name {
-        "zero" => return Some(counted(Some(T::zero()))),
-        "one" => return Some(counted(Some(T::one()))),
-        "max_value" => return Some(counted(Some(T::max_value()))),
-        "from_u64" => return Some(counted::<T>(T::from_u64(first))),
-        _ => {}
-    }
-    let (left, right) = (T::from_u64(first)?, T::from_u64(second)?);
-    match name {
-        "saturating_add" => Some(counted(Some(left.saturating_add(right)))),
-        "checked_add" => Some(counted(left.checked_add(right))),
-        "checked_sub" => Some(counted(left.checked_sub(right))),
-        "less" => Some(Answer::Truth(left < right)),
-        "equal" => Some(Answer::Truth(left == right)),
-        _ => None,
+/// A call on counters.
+pub fn of_counters<T: Counter>(name: &str, numbers: &[u64]) -> Outcome {
+    match (name, numbers) {
+        ("zero", []) => Ok(Number(T::zero().as_u64())),
+        ("one", []) => Ok(Number(T::one().as_u64())),
+        ("max_value", []) => Ok(Number(T::max_value().as_u64())),
+        ("from_u64", [value]) => Ok(number(counted::<T>(T::from_u64(*value)))),
+        (_, [left, right]) => of_two::<T>(name, counter(*left)?, counter(*right)?),
+        _ => Err(Refusal::NoCall),
     }
 }
 
-/// What is asked of a scale and a value. None: the name is no such call's.
-fn of_scale(scale: Scale, name: &str, value: u64) -> Option<Answer> {
+/// What is asked of a scale and a value.
+fn of_value(scale: Scale, name: &str, value: u64) -> Outcome {
     match name {
-        "unit" => Some(Answer::Number(u64::from(scale.unit()))),
-        "digits" => Some(Answer::Number(u64::from(scale.digits()))),
-        "bin" => Some(Answer::Number(scale.bin(value) as u64)),
-        "bin_value" => Some(number(scale.bin_value(value as usize))),
-        "width" => Some(Answer::Number(scale.width(value))),
-        "lowest" => Some(Answer::Number(scale.lowest(value))),
-        "top" => Some(Answer::Number(scale.top(value))),
-        "reach" => Some(Answer::Number(scale.reach(value))),
-        "bucket_start" => Some(Answer::Number(scale.bucket_start(value))),
-        "buckets" => Some(Answer::Number(scale.buckets(value) as u64)),
-        "block" => Some(Answer::Number(scale.block() as u64)),
-        "blocks" => Some(Answer::Number(scale.blocks(value) as u64)),
-        _ => None,
+        "bin" => Ok(Number(scale.bin(value) as u64)),
+        "bin_value" => Ok(number(scale.bin_value(value as usize))),
+        "width" => Ok(Number(scale.width(value))),
+        "lowest" => Ok(Number(scale.lowest(value))),
+        "top" => Ok(Number(scale.top(value))),
+        "reach" => Ok(Number(scale.reach(value))),
+        "bucket_start" => Ok(Number(scale.bucket_start(value))),
+        "buckets" => Ok(Number(scale.buckets(value) as u64)),
+        "blocks" => Ok(Number(scale.blocks(value) as u64)),
+        _ => Err(Refusal::NoCall),
+    }
+}
+
+/// What is asked of a scale.
+fn of_scale(scale: Scale, name: &str) -> Outcome {
+    match name {
+        "unit" => Ok(Number(u64::from(scale.unit()))),
+        "digits" => Ok(Number(u64::from(scale.digits()))),
+        "block" => Ok(Number(scale.block() as u64)),
+        _ => Err(Refusal::NoCall),
     }
 }
 
 /// A call on the scale of a low and digits, which stand before the value.
-pub fn scale(name: &str, numbers: Numbers) -> Option<Answer> {
-    let [low, sigfig, value] = numbers;
-    match Scale::new(low, u8::try_from(sigfig).ok()?) {
-        Some(scale) => of_scale(scale, name, value),
-        None => Some(Answer::Nothing),
+pub fn of_scales(name: &str, numbers: &[u64]) -> Outcome {
+    let [low, sigfig, value @ ..] = numbers else {
+        return Err(Refusal::NoCall);
+    };
+    match (Scale::new(*low, digits(*sigfig)?), value) {
+        (Some(scale), []) => of_scale(scale, name),
+        (Some(scale), [value]) => of_value(scale, name, *value),
+        (None, []) => Ok(Answer::Nothing),
+        _ => Err(Refusal::NoCall),
     }
 }
 
-/// A call on fractions or counted work. None: the name is no such call's.
-pub fn fraction(name: &str, numbers: Numbers) -> Option<Answer> {
-    let [num, den, _] = numbers;
-    match name {
-        "num" => Some(number(Quantile::new(num, den).map(|quantile| quantile.num()))),
-        "den" => Some(number(Quantile::new(num, den).map(|quantile| quantile.den()))),
-        "work" => {
+/// A call on fractions or ticks.
+pub fn of_fractions(name: &str, numbers: &[u64]) -> Outcome {
+    match (name, numbers) {
+        ("num", [num, den]) => Ok(number(Quantile::new(*num, *den).map(|it| it.num()))),
+        ("den", [num, den]) => Ok(number(Quantile::new(*num, *den).map(|it| it.den()))),
+        ("ticks", []) => {
             let mut ticks = Ticks::new();
             ticks.tick();
-            Some(Answer::Number(ticks.count()))
+            Ok(Number(ticks.count()))
         }
-        _ => None,
+        _ => Err(Refusal::NoCall),
     }
 }

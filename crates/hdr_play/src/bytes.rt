@@ -1,32 +1,32 @@
 //! V2 bytes and their parts, in hexadecimal.
 
-use crate::answer::{Answer, deserialize_name, text};
-use crate::bare::Histogram;
-use crate::single::same;
+use crate::answer::{Answer, Outcome, Refusal, agree, number};
+use crate::asked::{given, parsed};
+use crate::single::{put, same};
 use hdr_base::Counter;
-use hdrhistogram::serialization::DeserializeError;
+use hdr_core::Histogram;
 use hdrhistogram::serialization::deserializer::{varint_read, varint_read_slice};
 use hdrhistogram::serialization::v2_serializer::{
     counts_array_max_encoded_size, encode_counts, varint_write, zig_zag_decode, zig_zag_encode,
 };
-use std::alloc::Global;
+use hdrhistogram::serialization::{DeserializeError, Deserializer, Serializer, V2Serializer};
+use std::alloc::{AllocError, Global};
 use std::io::{self, Read};
+use std::mem;
 
 /// What follows the bytes that are read, and is to be left.
 const REST: &[u8; 2] = b"xy";
 
 /// Gives at most one byte a call.
 #[derive(Drop)]
-struct Slow<'a> {
-    left: &'a [u8],
-}
+struct Slow<'a>(&'a [u8]);
 
 impl<'a> Read for Slow<'a> {
     fn read(&mut self, buf: &mut [u8]) -> io::Result<usize> {
-        match self.left {
+        match self.0 {
             [first, rest @ ..] if !buf.is_empty() => {
                 buf[0] = *first;
-                self.left = rest;
+                self.0 = rest;
                 Ok(1)
             }
             _ => Ok(0),
@@ -34,45 +34,35 @@ impl<'a> Read for Slow<'a> {
     }
 }
 
-/// Whether a serializer writes the bytes that it lent, and tells how many they are.
-fn writes<T: Counter>(alloc: Global, h: &Histogram<T>, lent: &[u8]) -> bool {
-    match h.serialize(alloc) {
-        Ok(written) => written.0.as_slice() == lent && written.1 == lent.len(),
-        Err(_) => false,
-    }
+/// Bytes as their digits.
+fn digits_of(alloc: Global, bytes: &[u8]) -> Outcome {
+    Ok(Answer::Text(hex::encode(alloc, Vec::from_slice(alloc, bytes)?)?))
+}
+
+/// The bytes of digits.
+fn bytes_of(alloc: Global, digits: &str) -> Result<Vec<u8>, Refusal> {
+    given(hex::decode(alloc, digits).ok())
 }
 
 /// The V2 bytes, lent and written alike.
-pub fn to_bytes<T: Counter>(alloc: Global, h: &Histogram<T>) -> Option<Answer> {
-    match h.to_bytes(alloc) {
-        Ok(lent) => {
-            if writes(alloc, h, lent.as_slice()) {
-                text(hex::encode(alloc, lent).ok())
-            } else {
-                Some(Answer::Differ)
-            }
-        }
-        Err(error) => {
-            if h.serialize(alloc).is_err() {
-                Some(Answer::Unserialized(error))
-            } else {
-                Some(Answer::Differ)
-            }
-        }
-    }
+fn to_bytes<T: Counter>(alloc: Global, h: &Histogram<T>) -> Outcome {
+    let mut written: Vec<u8> = Vec::new(alloc);
+    let count = V2Serializer::new(alloc).serialize(h, &mut written)?;
+    let mut serializer = V2Serializer::new(alloc);
+    let lent = serializer.to_bytes(h)?;
+    agree(written.as_slice() == lent && count == lent.len())?;
+    digits_of(alloc, lent)
 }
 
 /// The payload alone, in a buffer with room for every bin.
-pub fn payload<T: Counter>(alloc: Global, h: &Histogram<T>) -> Option<Answer> {
-    let room = counts_array_max_encoded_size(h.inner.distinct_values())?;
-    let mut buf = vec![in alloc; 0u8; room].ok()?;
-    match encode_counts(&h.inner, &mut buf) {
-        Ok(len) => {
-            buf.truncate(len);
-            text(hex::encode(alloc, buf).ok())
-        }
-        Err(error) => Some(Answer::Unserialized(error)),
-    }
+fn payload<T: Counter>(alloc: Global, h: &Histogram<T>) -> Outcome {
+    let Some(room) = counts_array_max_encoded_size(h.distinct_values()) else {
+        return Ok(Answer::Nothing);
+    };
+    let mut buf = vec![in alloc; 0u8; room]?;
+    let len = encode_counts(h, &mut buf)?;
+    buf.truncate(len);
+    digits_of(alloc, buf.as_slice())
 }
 
 /// What was read of bytes, and how many of them it took.
@@ -83,132 +73,111 @@ struct Taken<T: Counter> {
 }
 
 fn read_slice<T: Counter>(alloc: Global, bytes: &[u8]) -> Result<Taken<T>, DeserializeError> {
-    let (histogram, bytes) = Histogram::decode_slice(alloc, bytes)?;
+    let (histogram, bytes) = Deserializer::new(alloc).decode_slice(bytes)?;
     Ok(Taken { histogram, bytes })
 }
 
 /// Reads the bytes by a reader that gives one of them a call.
 fn read_slowly<T: Counter>(alloc: Global, bytes: &[u8]) -> Result<Taken<T>, DeserializeError> {
-    let mut slow = Slow { left: bytes };
-    let histogram = Histogram::deserialize(alloc, &mut slow)?;
-    Ok(Taken {
-        histogram,
-        bytes: bytes.len().saturating_sub(slow.left.len()),
-    })
+    let mut slow = Slow(bytes);
+    let histogram = Deserializer::new(alloc).deserialize(&mut slow)?;
+    let bytes = bytes.len().saturating_sub(slow.0.len());
+    Ok(Taken { histogram, bytes })
 }
 
-/// Whether two readings of the same bytes answer the same.
-fn agree<T: Counter>(one: &Taken<T>, other: &Taken<T>) -> bool {
+/// Whether two readings of the same bytes come to the same.
+fn are_alike<T: Counter>(one: &Taken<T>, other: &Taken<T>) -> bool {
     one.bytes == other.bytes
-        && one.histogram.is(&other.histogram)
+        && one.histogram == other.histogram
         && same(&one.histogram, &other.histogram)
 }
 
-/// Reads a histogram from bytes, with more of them after it unless they are read alone.
-pub fn decode<T: Counter>(
+/// Whether two errors say the same.
+fn say_alike(
     alloc: Global,
-    h: &mut Histogram<T>,
-    digits: &str,
-    alone: bool,
-) -> Option<Answer> {
-    let mut bytes = hex::decode(alloc, digits).ok()?;
-    if !alone {
-        bytes.extend_from_slice(REST.as_slice()).ok()?;
-    }
-    let slow = read_slowly(alloc, bytes.as_slice());
-    match read_slice(alloc, bytes.as_slice()) {
-        Ok(read) => match slow {
-            Ok(again) if agree(&read, &again) => {
-                *h = read.histogram;
-                Some(Answer::Number(read.bytes as u64))
-            }
-            _ => Some(Answer::Differ),
-        },
-        Err(error) => match slow {
-            Err(again) if deserialize_name(&again) == deserialize_name(&error) => Some(
-                Answer::Unread(error),
-            ),
-            _ => Some(Answer::Differ),
-        },
-    }
+    one: &DeserializeError,
+    other: &DeserializeError,
+) -> Result<bool, AllocError> {
+    Ok(one.to_string(alloc)?.as_str() == other.to_string(alloc)?.as_str())
 }
 
-/// Reads a histogram from an interval's field.
-pub fn decode_field<T: Counter>(
+/// Reads a histogram from bytes, by a slice and by a reader.
+fn decode<T: Counter>(alloc: Global, h: &mut Histogram<T>, bytes: &[u8]) -> Outcome {
+    let (read, again) = (read_slice(alloc, bytes), read_slowly(alloc, bytes));
+    let is_alike = match (&read, &again) {
+        (Ok(read), Ok(again)) => are_alike(read, again),
+        (Err(error), Err(again)) => say_alike(alloc, error, again)?,
+        _ => false,
+    };
+    agree(is_alike)?;
+    let Taken { histogram, bytes } = read?;
+    drop(mem::replace(h, histogram));
+    Ok(Answer::Number(bytes as u64))
+}
+
+/// Reads a histogram from bytes that have more of them after it.
+fn decode_front<T: Counter>(alloc: Global, h: &mut Histogram<T>, digits: &str) -> Outcome {
+    let mut bytes = bytes_of(alloc, digits)?;
+    bytes.extend_from_slice(REST.as_slice())?;
+    decode(alloc, h, bytes.as_slice())
+}
+
+/// A call on a histogram and bytes.
+pub fn of_histogram<T: Counter>(
     alloc: Global,
     h: &mut Histogram<T>,
-    field: &str,
-) -> Option<Answer> {
-    match Histogram::decode_field(alloc, field) {
-        Ok(read) => {
-            *h = read;
-            Some(Answer::Done)
-        }
-        Err(error) => Some(Answer::Undecoded(error)),
+    name: &str,
+    text: &str,
+) -> Outcome {
+    match (name, text) {
+        ("to_bytes", "") => to_bytes(alloc, h),
+        ("encode_counts", "") => payload(alloc, h),
+        ("decode", _) => decode_front(alloc, h, text),
+        ("decode_alone", _) => decode(alloc, h, bytes_of(alloc, text)?.as_slice()),
+        ("decode_field", _) => put(h, Deserializer::new(alloc).decode_field(text)?),
+        _ => Err(Refusal::NoCall),
     }
 }
 
 /// The spelling of a number.
-fn varint(alloc: Global, n: u64) -> Option<Answer> {
+fn varint(alloc: Global, n: u64) -> Outcome {
     let mut buf = [0xaa; 10];
     let len = varint_write(n, &mut buf);
-    if buf.get(len) != Some(&0xaa) {
-        return Some(Answer::Differ);
-    }
-    let spelling = Vec::from_slice(alloc, buf.get(..len)?).ok()?;
-    text(hex::encode(alloc, spelling).ok())
+    agree(buf.get(len) == Some(&0xaa))?;
+    digits_of(alloc, given(buf.get(..len))?)
 }
 
-/// The number that a text of bytes begins with: the same from a slice and from a reader, which leaves the rest and fails
-/// where the last byte is cut off.
-fn spelt(alloc: Global, digits: &str) -> Option<Answer> {
-    let spelling = hex::decode(alloc, digits).ok()?;
+/// The number that bytes begin with: the same from a slice and from a reader, which leaves the rest and fails where the last
+/// byte is cut off.
+fn spelt(spelling: &[u8]) -> Option<u64> {
     let mut buf = [0xaa; 12];
-    buf.get_mut(..spelling.len())?
-        .copy_from_slice(spelling.as_slice());
+    buf.get_mut(..spelling.len())?.copy_from_slice(spelling);
     let (n, len) = varint_read_slice(buf.as_slice());
-    let mut slow = Slow {
-        left: buf.as_slice(),
-    };
+    let mut slow = Slow(buf.as_slice());
     let read = varint_read(&mut slow).ok()?;
-    let mut cut = Slow {
-        left: spelling.get(..spelling.len().checked_sub(1)?)?,
-    };
+    let mut cut = Slow(spelling.get(..spelling.len().checked_sub(1)?)?);
     let is_cut = varint_read(&mut cut).is_err();
-    if read == n && len == spelling.len() && slow.left.len() == 12 - len && is_cut {
-        Some(Answer::Number(n))
-    } else {
-        Some(Answer::Differ)
-    }
+    let is_right = read == n && len == spelling.len() && slow.0.len() == 12 - len && is_cut;
+    if is_right { Some(n) } else { None }
 }
 
 /// The zig-zag of a whole number, which leads back to it.
-fn zig_zag(word: &str) -> Option<Answer> {
-    let n = word.parse::<i64>().ok()?;
+fn zig_zag(n: i64) -> Outcome {
     let encoded = zig_zag_encode(n);
-    if zig_zag_decode(encoded) == n {
-        Some(Answer::Number(encoded))
-    } else {
-        Some(Answer::Differ)
-    }
+    agree(zig_zag_decode(encoded) == n)?;
+    Ok(Answer::Number(encoded))
 }
 
-/// Room for a number of counts.
-fn room(word: &str) -> Option<Answer> {
-    match counts_array_max_encoded_size(word.parse::<usize>().ok()?) {
-        Some(bytes) => Some(Answer::Number(bytes as u64)),
-        None => Some(Answer::Nothing),
-    }
-}
-
-/// A call on bytes and numbers. None: the words are no such call's.
-pub fn call(alloc: Global, words: &str) -> Option<Answer> {
-    let (name, word) = words.split_once(' ')?;
+/// A call on bytes and numbers.
+pub fn call(alloc: Global, name: &str, text: &str) -> Outcome {
     match name {
-        "varint" => varint(alloc, word.parse::<u64>().ok()?),
-        "varint_read" => spelt(alloc, word),
-        "zig_zag" => zig_zag(word),
-        "room" => room(word),
-        _ => None,
+        "varint" => varint(alloc, parsed(text)?),
+        "varint_read" => Ok(number(spelt(bytes_of(alloc, text)?.as_slice()))),
+        "zig_zag" => zig_zag(given(text.parse::<i64>().ok())?),
+        "room" => match counts_array_max_encoded_size(parsed(text)? as usize) {
+            Some(bytes) => Ok(Answer::Number(bytes as u64)),
+            None => Ok(Answer::Nothing),
+        },
+        _ => Err(Refusal::NoCall),
     }
 }

@@ -1,36 +1,25 @@
 //! Statistics and items of iterators, as texts.
 
-use crate::answer::{Answer, text};
-use crate::bare::Histogram;
-use crate::single::Numbers;
+use crate::answer::{Answer, Outcome, Refusal, agree};
+use crate::asked::{given, parsed};
 use hdr_base::{Counter, Fraction, IterationValue, Quantile};
-use std::alloc::Global;
+use hdr_core::Histogram;
+use std::alloc::{AllocError, Global};
 
 /// How many items of a list a text shows.
 const SHOWN: u64 = 16;
 
-/// Writes numbers, each with what stands after it.
-pub fn push_numbers(told: &mut String, numbers: &[(u128, &str)]) -> Option<()> {
-    for (number, after) in numbers {
-        write!(told, "{number}{after}").ok()?;
-    }
-    Some(())
-}
-
 /// Writes the numbers of an item: its value, its counter, the samples since the item before, its quantile, and the
 /// quantile iterated to.
-fn push_item<T: Counter>(told: &mut String, item: &IterationValue<T>) -> Option<()> {
+fn push_item<T: Counter>(told: &mut String, item: &IterationValue<T>) -> Result<(), AllocError> {
+    let (value, since) = (item.value_iterated_to(), item.count_since_last_iteration());
     let (quantile, tick) = (item.quantile(), item.quantile_iterated_to());
-    let numbers = [
-        (u128::from(item.value_iterated_to()), " "),
-        (u128::from(item.count_at_value().as_u64()), " "),
-        (u128::from(item.count_since_last_iteration()), " "),
-        (quantile.num, "/"),
-        (quantile.den, " "),
-        (tick.num, "/"),
-        (tick.den, ""),
-    ];
-    push_numbers(told, &numbers)
+    write!(told, "{value} {} {since} ", item.count_at_value().as_u64())?;
+    write!(
+        told,
+        "{}/{} {}/{}",
+        quantile.num, quantile.den, tick.num, tick.den
+    )
 }
 
 /// Whether the percentile of an item is a hundred times its quantile, and its parts make the same item again.
@@ -82,17 +71,15 @@ fn digested<T: Counter>(digest: u128, item: &IterationValue<T>) -> u128 {
 }
 
 /// The items of an iterator, between commas; of a long list the first ones, how many there are, and what all come to.
-fn items<T: Counter>(alloc: Global, list: Option<Vec<IterationValue<T>>>) -> Option<Answer> {
+fn items<T: Counter>(alloc: Global, list: Vec<IterationValue<T>>) -> Outcome {
     let mut told = String::new(alloc);
     let mut number: u64 = 0;
     let mut digest: u128 = 0;
-    for item in list?.as_slice() {
-        if !is_whole(item) {
-            return Some(Answer::Differ);
-        }
+    for item in list.as_slice() {
+        agree(is_whole(item))?;
         if number < SHOWN {
             if number > 0 {
-                told.push_str(", ").ok()?;
+                told.push_str(", ")?;
             }
             push_item(&mut told, item)?;
         }
@@ -100,98 +87,59 @@ fn items<T: Counter>(alloc: Global, list: Option<Vec<IterationValue<T>>>) -> Opt
         number = number.saturating_add(1);
     }
     if number > SHOWN {
-        write!(told, " .. {number} {digest}").ok()?;
+        write!(told, " .. {number} {digest}")?;
     }
-    Some(listed(told))
+    Ok(listed(told))
 }
 
 /// A fraction as its two numbers.
-fn ratio(alloc: Global, fraction: Fraction) -> Option<Answer> {
-    text(format!(in alloc; "{}/{}", fraction.num, fraction.den).ok())
+fn ratio(alloc: Global, fraction: Fraction) -> Outcome {
+    Ok(Answer::Text(format!(in alloc; "{}/{}", fraction.num, fraction.den)?))
 }
 
-/// What is asked of a histogram and answered by a text. None: the name is no such call's, or its numbers are none.
-pub fn told<T: Counter>(
-    alloc: Global,
-    h: &Histogram<T>,
-    name: &str,
-    numbers: Numbers,
-) -> Option<Answer> {
-    let [first, second, _] = numbers;
-    let h = &h.inner;
-    match name {
-        "iter_all" => items(alloc, h.iter_all().collect(alloc).ok()),
-        "iter_recorded" => items(alloc, h.iter_recorded().collect(alloc).ok()),
-        "iter_linear" if first >= 1 => items(alloc, h.iter_linear(first).collect(alloc).ok()),
-        "iter_log" if first >= 1 && second >= 2 => items(
+/// What is asked of a histogram and answered by a text.
+pub fn told<T: Counter>(alloc: Global, h: &Histogram<T>, name: &str, numbers: &[u64]) -> Outcome {
+    match (name, numbers) {
+        ("iter_all", []) => items(alloc, h.iter_all().collect(alloc)?),
+        ("iter_recorded", []) => items(alloc, h.iter_recorded().collect(alloc)?),
+        ("iter_linear", [step]) if *step >= 1 => items(alloc, h.iter_linear(*step).collect(alloc)?),
+        ("iter_log", [start, base]) if *start >= 1 && *base >= 2 => items(
             alloc,
-            h.iter_log(first, second).collect(alloc).ok(),
+            h.iter_log(*start, *base).collect(alloc)?,
         ),
-        "iter_quantiles" => match u32::try_from(first) {
-            Ok(ticks) if ticks >= 1 => items(alloc, h.iter_quantiles(ticks).collect(alloc).ok()),
-            _ => None,
+        ("iter_quantiles", [ticks]) => match u32::try_from(*ticks) {
+            Ok(ticks) if ticks >= 1 => items(alloc, h.iter_quantiles(ticks).collect(alloc)?),
+            _ => Err(Refusal::NoArgument),
         },
-        "quantile_below" => ratio(alloc, h.quantile_below(first)),
-        "percentile_below" => ratio(alloc, h.percentile_below(first)),
-        "mean" => match h.mean() {
+        ("quantile_below", [value]) => ratio(alloc, h.quantile_below(*value)),
+        ("percentile_below", [value]) => ratio(alloc, h.percentile_below(*value)),
+        ("mean", []) => match h.mean() {
             Some(mean) => ratio(alloc, mean),
-            None => Some(Answer::Nothing),
+            None => Ok(Answer::Nothing),
         },
-        _ => None,
+        _ => Err(Refusal::NoCall),
     }
 }
 
 /// The fractions of a text, between spaces.
-fn fractions(alloc: Global, words: &str) -> Option<Vec<Quantile>> {
+pub fn fractions(alloc: Global, words: &str) -> Result<Vec<Quantile>, Refusal> {
     let mut list = Vec::new(alloc);
     for word in words.split(' ') {
-        let (num, den) = word.split_once('/')?;
-        let quantile = Quantile::new(num.parse::<u64>().ok()?, den.parse::<u64>().ok()?)?;
-        list.push(quantile).ok()?;
+        let (num, den) = given(word.split_once('/'))?;
+        list.push(given(Quantile::new(parsed(num)?, parsed(den)?))?)
+            .map_err(AllocError::from)?;
     }
-    Some(list)
+    Ok(list)
 }
 
 /// Numbers between spaces.
-fn values(alloc: Global, list: Option<Vec<u64>>) -> Option<Answer> {
+pub fn values(alloc: Global, list: Vec<u64>) -> Outcome {
     let mut told = String::new(alloc);
-    for value in list?.as_slice() {
+    for value in list.as_slice() {
         if !told.is_empty() {
-            told.push(' ').ok()?;
+            told.push(' ')?;
         }
-        write!(told, "{value}").ok()?;
+        write!(told, "{value}")?;
     }
-    Some(listed(told))
-}
-
-/// The answers to many quantiles.
-pub fn value_at_quantiles<T: Counter>(
-    alloc: Global,
-    h: &Histogram<T>,
-    words: &str,
-) -> Option<Answer> {
-    let list = fractions(alloc, words)?;
-    values(
-        alloc,
-        h.inner
-            .value_at_quantiles(list.as_slice())
-            .collect(alloc)
-            .ok(),
-    )
-}
-
-/// The answers to many percentiles.
-pub fn value_at_percentiles<T: Counter>(
-    alloc: Global,
-    h: &Histogram<T>,
-    words: &str,
-) -> Option<Answer> {
-    let list = fractions(alloc, words)?;
-    values(
-        alloc,
-        h.inner
-            .value_at_percentiles(list.as_slice())
-            .collect(alloc)
-            .ok(),
-    )
+    Ok(listed(told))
 }

@@ -1,50 +1,47 @@
 //! Merging the chosen intervals of a log.
 
-use crate::answer::Answer;
-use crate::bare::Histogram;
+use crate::answer::{Answer, Outcome, Refusal};
+use crate::asked::{digits, given, halves, parsed};
 use crate::logs::{time, unescaped};
 use hdr_base::Counter;
-use hdrhistogram::serialization::interval_log::{IntervalChoice, Tag, TagChoice};
+use hdr_core::Histogram;
+use hdrhistogram::serialization::interval_log::{IntervalChoice, Tag, TagChoice, merge_chosen};
 use std::alloc::Global;
+use std::mem;
 use std::time::Duration;
 
 /// A bound of times, where there is one.
-fn bound(word: &str) -> Option<Option<Duration>> {
-    if word == "-" {
-        return Some(None);
+fn bound(word: &str) -> Result<Option<Duration>, Refusal> {
+    match word {
+        "-" => Ok(None),
+        _ => Ok(Some(time(word)?)),
     }
-    Some(Some(time(word)?))
 }
 
-/// The choice of three words; a `-` stands for no such word, and a comma, which no tag has, for intervals without a tag.
-fn filter<'a>(tag: &'a str, from: &str, to: &str) -> Option<IntervalChoice<'a>> {
-    let tags = match tag {
-        "-" => TagChoice::Every,
-        "," => TagChoice::Untagged,
-        _ => TagChoice::Tagged(Tag::new(tag)?),
-    };
-    Some(IntervalChoice {
-        tags,
-        from: bound(from)?,
-        to: bound(to)?,
-    })
+/// The tags of a word; a `-` stands for every tag, and a comma, which no tag has, for intervals without one.
+fn tags(word: &str) -> Result<TagChoice<'_>, Refusal> {
+    match word {
+        "-" => Ok(TagChoice::Every),
+        "," => Ok(TagChoice::Untagged),
+        _ => Ok(TagChoice::Tagged(given(Tag::new(word))?)),
+    }
 }
 
 /// Merges a log in the histogram's place: `SIGFIG TAG FROM TO LOG`, times in seconds. It answers how many intervals were
 /// chosen.
-pub fn merge<T: Counter>(alloc: Global, h: &mut Histogram<T>, words: &str) -> Option<Answer> {
-    let (sigfig, words) = words.split_once(' ')?;
-    let (tag, words) = words.split_once(' ')?;
-    let (from, words) = words.split_once(' ')?;
-    let (to, log) = words.split_once(' ')?;
-    let filter = filter(tag, from, to)?;
+pub fn merge<T: Counter>(alloc: Global, h: &mut Histogram<T>, words: &str) -> Outcome {
+    let (sigfig, words) = halves(words);
+    let (tag, words) = halves(words);
+    let (from, words) = halves(words);
+    let (to, log) = halves(words);
+    let choice = IntervalChoice {
+        tags: tags(tag)?,
+        from: bound(from)?,
+        to: bound(to)?,
+    };
+    let sigfig = digits(parsed(sigfig)?)?;
     let log = unescaped(alloc, log)?;
-    let sigfig = sigfig.parse::<u8>().ok()?;
-    match Histogram::merge_chosen(alloc, log.as_slice(), &filter, sigfig) {
-        Ok((merged, chosen)) => {
-            *h = merged;
-            Some(Answer::Number(chosen))
-        }
-        Err(error) => Some(Answer::Unmerged(error)),
-    }
+    let merged = merge_chosen(alloc, log.as_slice(), &choice, sigfig)?;
+    drop(mem::replace(h, merged.histogram));
+    Ok(Answer::Number(merged.chosen))
 }

@@ -1,75 +1,199 @@
-//! Rows, line by line.
+//! Rows, file by file and line by line.
 
-use crate::answer::Answer;
+use crate::answer::{Outcome, Refusal};
+use crate::asked::halves;
 use crate::c12::C12;
 use crate::table::Table;
-use hdr_core::CreationError;
-use std::alloc::Global;
-use std::mem;
+use hdr_base::Counter;
+use std::alloc::{AllocError, Global};
 
-/// The row that is played, by its counter type.
+/// What came of rows: how many passed, how many failed, and what is told of these.
 #[derive(Drop)]
-pub enum Play {
-    U8(Table<u8>),
-    U16(Table<u16>),
-    U32(Table<u32>),
-    U64(Table<u64>),
-    C12(Table<C12>),
+pub struct Report {
+    pub passed: u64,
+    pub failed: u64,
+    pub told: String,
 }
 
-/// The row of a title. None: no counter type has the name that ends it, or memory was refused.
-fn begun(alloc: Global, title: &str) -> Option<Play> {
-    let (_, counter) = title.split_once(' ')?;
-    match counter {
-        "u8" => Some(Play::U8(Table::new(alloc).ok()?)),
-        "u16" => Some(Play::U16(Table::new(alloc).ok()?)),
-        "u32" => Some(Play::U32(Table::new(alloc).ok()?)),
-        "u64" => Some(Play::U64(Table::new(alloc).ok()?)),
-        "c12" => Some(Play::C12(Table::new(alloc).ok()?)),
-        _ => None,
+/// A row at one of its counter types, and where its title stands.
+#[derive(Clone, Copy)]
+struct Row<'a> {
+    file: &'a str,
+    number: u64,
+    name: &'a str,
+    counter: &'a str,
+    lines: &'a str,
+}
+
+/// Whether the name of an error is a wanted one, with its parts or without them.
+fn is_named(name: &str, wanted: &str) -> bool {
+    match name.strip_prefix(wanted.trim_end_matches(')')) {
+        Some(parts) => parts.is_empty()
+            || parts.starts_with('(')
+            || parts.starts_with(')')
+            || parts.starts_with(" {"),
+        None => false,
     }
 }
 
-impl Play {
-    /// A row of no lines.
-    pub fn new(alloc: Global) -> Result<Play, CreationError> {
-        Ok(Play::U64(Table::new(alloc)?))
+/// Whether what came is what a text wants: an answer, the name of an error, or between quotation marks what an error says.
+fn is_wanted(alloc: Global, outcome: &Outcome, wanted: &str) -> Result<bool, AllocError> {
+    match outcome {
+        Ok(answer) => Ok(answer.shown(alloc)?.as_str() == wanted),
+        Err(refusal) if wanted.starts_with('"') => Ok(refusal.says(alloc)?.as_str() == wanted),
+        Err(refusal) => Ok(is_named(refusal.name(alloc)?.as_str(), wanted)),
     }
+}
 
-    fn answer(&mut self, alloc: Global, line: &str) -> Option<Answer> {
-        match self {
-            Play::U8(table) => table.answer(alloc, line),
-            Play::U16(table) => table.answer(alloc, line),
-            Play::U32(table) => table.answer(alloc, line),
-            Play::U64(table) => table.answer(alloc, line),
-            Play::C12(table) => table.answer(alloc, line),
+/// What came, beside what is wanted; `None` where that is the same.
+fn difference(
+    alloc: Global,
+    outcome: &Outcome,
+    wanted: &str,
+) -> Result<Option<String>, AllocError> {
+    if is_wanted(alloc, outcome, wanted)? {
+        return Ok(None);
+    }
+    let mut told = format!(in alloc; "    wanted {wanted}\n    came   ")?;
+    match outcome {
+        Ok(answer) => writeln!(told, "{}", answer.shown(alloc)?)?,
+        Err(refusal) => writeln!(told, "{} {}", refusal.name(alloc)?, refusal.says(alloc)?)?,
+    }
+    Ok(Some(told))
+}
+
+/// What is wrong with a line that is wrong on purpose: it wants a first answer, which has to be refused, but a second came.
+fn not_refused(
+    alloc: Global,
+    outcome: &Outcome,
+    wanted: &str,
+) -> Result<Option<String>, AllocError> {
+    let Some((wrong, right)) = wanted.split_once(" but ") else {
+        return Ok(Some(format!(in alloc; "    fault: no ` but ` and what comes\n")?));
+    };
+    if is_wanted(alloc, outcome, wrong)? {
+        return Ok(Some(format!(in alloc; "    has to be refused, and passes: {wrong}\n")?));
+    }
+    difference(alloc, outcome, right)
+}
+
+/// What is wrong with a line; `None` where it passes.
+fn wrong<T: Counter>(
+    alloc: Global,
+    table: &mut Table<T>,
+    line: &str,
+) -> Result<Option<String>, AllocError> {
+    if line.is_empty() || line.starts_with('#') {
+        return Ok(None);
+    }
+    let (asked, wanted) = line.split_once(" = ").unwrap_or((line, "ok"));
+    let purpose = asked.strip_prefix("! ");
+    let outcome = table.answer(alloc, purpose.unwrap_or(asked));
+    match &outcome {
+        Err(refusal) if refusal.is_fault() => Ok(Some(format!(in alloc;
+            "    fault: {refusal}\n"
+        )?)),
+        _ if purpose.is_some() => not_refused(alloc, &outcome, wanted),
+        _ => difference(alloc, &outcome, wanted),
+    }
+}
+
+/// Plays a row at a counter type: tells of each line that is wrong. Whether the row passes.
+fn played<T: Counter>(alloc: Global, row: Row<'_>, told: &mut String) -> Result<bool, Refusal> {
+    let mut table: Table<T> = Table::new(alloc)?;
+    let mut passes = true;
+    let mut number = row.number;
+    for line in row.lines.lines() {
+        number = number.saturating_add(1);
+        if let Some(wrong) = wrong(alloc, &mut table, line)? {
+            writeln!(
+                told,
+                "{}:{number}: {} {}: {line}",
+                row.file, row.name, row.counter
+            )?;
+            told.push_str(wrong.as_str())?;
+            passes = false;
+        }
+    }
+    // (without this call the prover takes the parts of all tables apart here)
+    drop(table);
+    Ok(passes)
+}
+
+/// Plays a row at the counter type of its name.
+fn played_at(alloc: Global, row: Row<'_>, told: &mut String) -> Result<bool, Refusal> {
+    match row.counter {
+        "u8" => played::<u8>(alloc, row, told),
+        "u16" => played::<u16>(alloc, row, told),
+        "u32" => played::<u32>(alloc, row, told),
+        "u64" => played::<u64>(alloc, row, told),
+        "c12" => played::<C12>(alloc, row, told),
+        _ => {
+            writeln!(
+                told,
+                "{}:{}: {}: fault: no counter type `{}`",
+                row.file, row.number, row.name, row.counter
+            )?;
+            Ok(false)
+        }
+    }
+}
+
+impl Report {
+    /// A report of no rows.
+    pub fn new(alloc: Global) -> Report {
+        Report {
+            passed: 0,
+            failed: 0,
+            told: String::new(alloc),
         }
     }
 
-    /// Begins the row of a title, and says whether there is one.
-    fn begin(&mut self, alloc: Global, title: &str) -> bool {
-        match begun(alloc, title) {
-            Some(row) => {
-                // (an assignment through the reference would take the prover half a minute)
-                drop(mem::replace(self, row));
-                true
+    /// Looks at what stands before the first row, which is for the reader alone.
+    fn front(&mut self, file: &str, text: &str) -> Result<(), Refusal> {
+        for line in text.lines() {
+            if !line.is_empty() && !line.starts_with('#') {
+                writeln!(self.told, "{file}: fault: in no row: {line}")?;
+                self.failed = self.failed.saturating_add(1);
             }
-            None => false,
         }
+        Ok(())
     }
 
-    /// Whether what a line asks for answers as the line says. A line that asks for nothing known doesn't.
-    pub fn agrees(&mut self, alloc: Global, line: &str) -> bool {
-        if line.is_empty() || line.starts_with('#') {
-            return true;
+    /// Plays a row at each of its counter types.
+    fn row(&mut self, alloc: Global, file: &str, number: u64, text: &str) -> Result<(), Refusal> {
+        let (title, lines) = text.split_once('\n').unwrap_or((text, ""));
+        let (name, counters) = halves(title);
+        for counter in counters.split(' ') {
+            let row = Row {
+                file,
+                number,
+                name,
+                counter,
+                lines,
+            };
+            if played_at(alloc, row, &mut self.told)? {
+                self.passed = self.passed.saturating_add(1);
+            } else {
+                self.failed = self.failed.saturating_add(1);
+            }
         }
-        if let Some(title) = line.strip_prefix("row ") {
-            return self.begin(alloc, title);
+        Ok(())
+    }
+
+    /// Plays the rows of a file.
+    pub fn play(&mut self, alloc: Global, file: &str, text: &str) -> Result<(), Refusal> {
+        let mut number: u64 = 1;
+        for (place, piece) in text.split("\nrow ").enumerate() {
+            if place > 0 {
+                self.row(alloc, file, number, piece)?;
+            } else if let Some(first) = piece.strip_prefix("row ") {
+                self.row(alloc, file, number, first)?;
+            } else {
+                self.front(file, piece)?;
+            }
+            number = number.saturating_add(piece.split('\n').count() as u64);
         }
-        let (asked, told) = line.split_once(" = ").unwrap_or((line, "ok"));
-        match self.answer(alloc, asked) {
-            Some(answer) => answer.is(alloc, told),
-            None => false,
-        }
+        Ok(())
     }
 }

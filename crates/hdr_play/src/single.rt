@@ -1,163 +1,85 @@
-//! Calls on one histogram, by their names and numbers.
+//! Calls on one histogram: the name, the numbers, and the call.
 
-use crate::answer::{Answer, number, recorded};
-use crate::bare::Histogram;
-use crate::names::{
-    BINS, Bin, CHANGES, Change, MAKES, MANIES, Make, Many, PARTS, Part, RANKS, Rank, SINGLES,
-    Single, WHOLES, Whole, named,
-};
+use crate::answer::Answer::{self, Number};
+use crate::answer::{Outcome, Refusal, agree, number};
+use crate::asked::{counter, digits, ratio};
 use hdr_base::{Counter, Quantile, Ticks};
-use hdr_core::{CreationError, RecordError};
+use hdr_core::Histogram;
 use std::alloc::Global;
-
-/// The numbers after a call; one that isn't there is 0.
-pub type Numbers = [u64; 3];
-
-/// What a constructor makes. None: a number is no number of digits.
-fn made<T: Counter>(
-    alloc: Global,
-    make: Make,
-    numbers: Numbers,
-) -> Option<Result<Histogram<T>, CreationError>> {
-    let [first, second, third] = numbers;
-    match make {
-        Make::New => Some(Histogram::new(alloc, u8::try_from(first).ok()?)),
-        Make::NewWithMax => Some(Histogram::new_with_max(alloc, first, u8::try_from(second).ok()?)),
-        Make::NewWithBounds => Some(Histogram::new_with_bounds(
-            alloc,
-            first,
-            second,
-            u8::try_from(third).ok()?,
-        )),
-    }
-}
+use std::mem;
 
 /// Makes another histogram in place of one.
-fn remade<T: Counter>(
-    alloc: Global,
-    h: &mut Histogram<T>,
-    make: Make,
-    numbers: Numbers,
-) -> Option<Answer> {
-    match made(alloc, make, numbers)? {
-        Ok(new) => {
-            *h = new;
-            Some(Answer::Done)
+fn make<T: Counter>(alloc: Global, h: &mut Histogram<T>, name: &str, numbers: &[u64]) -> Outcome {
+    let made = match (name, numbers) {
+        ("new", [sigfig]) => Histogram::new(alloc, digits(*sigfig)?)?,
+        ("new_with_max", [high, sigfig]) => {
+            Histogram::new_with_max(alloc, *high, digits(*sigfig)?)?
         }
-        Err(e) => Some(Answer::Unmade(e)),
-    }
+        ("new_with_bounds", [low, high, sigfig]) => {
+            Histogram::new_with_bounds(alloc, *low, *high, digits(*sigfig)?)?
+        }
+        _ => return Err(Refusal::NoCall),
+    };
+    put(h, made)
 }
 
-/// Records a value once.
-fn record_once<T: Counter>(
-    h: &mut Histogram<T>,
-    call: Single,
-    value: u64,
-    interval: u64,
-) -> Result<(), RecordError> {
-    match call {
-        Single::Record => h.record(value),
-        Single::RecordCorrect => h.record_correct(value, interval),
-    }
+/// Puts a histogram in the place of another.
+pub fn put<T: Counter>(h: &mut Histogram<T>, made: Histogram<T>) -> Outcome {
+    drop(mem::replace(h, made));
+    Ok(Answer::Done)
 }
 
-/// Records a value as often as a count says.
-fn record_many<T: Counter>(
-    h: &mut Histogram<T>,
-    call: Many,
-    value: u64,
-    count: T,
-    interval: u64,
-) -> Result<(), RecordError> {
-    match call {
-        Many::RecordN => h.record_n(value, count),
-        Many::RecordNCorrect => h.record_n_correct(value, count, interval),
+/// Changes a histogram.
+fn change<T: Counter>(h: &mut Histogram<T>, name: &str, numbers: &[u64]) -> Outcome {
+    match (name, numbers) {
+        ("record", [value]) => h.record(*value)?,
+        ("record_n", [value, count]) => h.record_n(*value, counter(*count)?)?,
+        ("record_correct", [value, interval]) => h.record_correct(*value, *interval)?,
+        ("record_n_correct", [value, count, interval]) => {
+            h.record_n_correct(*value, counter(*count)?, *interval)?
+        }
+        ("saturating_record", [value]) => h.saturating_record(*value),
+        ("saturating_record_n", [value, count]) => h.saturating_record_n(*value, counter(*count)?),
+        ("clear", []) => h.clear(),
+        ("reset", []) => h.reset(),
+        ("auto", [0]) => h.auto(false),
+        ("auto", [1]) => h.auto(true),
+        _ => return Err(Refusal::NoCall),
     }
-}
-
-/// Corrects class by class, and answers how many counters were updated.
-fn work_of_correction<T: Counter>(
-    h: &mut Histogram<T>,
-    value: u64,
-    count: T,
-    interval: u64,
-) -> Answer {
-    let mut ticks = Ticks::new();
-    match h.record_n_correct_counted(value, count, interval, &mut ticks) {
-        Ok(()) => Answer::Number(ticks.count()),
-        Err(e) => Answer::Unrecorded(e),
-    }
-}
-
-/// Does a call that can't be refused.
-fn change<T: Counter>(h: &mut Histogram<T>, call: Change, value: u64) {
-    match call {
-        Change::SaturatingRecord => h.saturating_record(value),
-        Change::Clear => h.clear(),
-        Change::Reset => h.reset(),
-        Change::Auto => h.auto(value == 1),
-    }
-}
-
-/// Does a call that changes a histogram. None: the name is no such call's, or a number fits no counter.
-fn changed<T: Counter>(h: &mut Histogram<T>, name: &str, numbers: Numbers) -> Option<Answer> {
-    let [value, second, third] = numbers;
-    if let Some(call) = named(SINGLES.as_slice(), name) {
-        return Some(recorded(record_once(h, call, value, second)));
-    }
-    if let Some(call) = named(MANIES.as_slice(), name) {
-        return Some(recorded(record_many(h, call, value, T::from_u64(second)?, third)));
-    }
-    if let Some(call) = named(CHANGES.as_slice(), name) {
-        change(h, call, value);
-        return Some(Answer::Done);
-    }
-    if name == "saturating_record_n" {
-        h.saturating_record_n(value, T::from_u64(second)?);
-        return Some(Answer::Done);
-    }
-    if name == "record_n_correct_counted" {
-        return Some(work_of_correction(h, value, T::from_u64(second)?, third));
-    }
-    None
+    Ok(Answer::Done)
 }
 
 /// What is asked of the whole; 1 is true, and 0 is false.
-fn whole<T: Counter>(h: &Histogram<T>, ask: Whole) -> u64 {
-    match ask {
-        Whole::Len => h.len(),
-        Whole::Count => h.count(),
-        Whole::IsEmpty => u64::from(h.is_empty()),
-        Whole::Low => h.low(),
-        Whole::High => h.high(),
-        Whole::Sigfig => u64::from(h.sigfig()),
-        Whole::IsAutoResize => u64::from(h.is_auto_resize()),
-        Whole::Buckets => u64::from(h.buckets()),
-        Whole::DistinctValues => h.distinct_values() as u64,
-        Whole::Max => h.max(),
-        Whole::Min => h.min(),
-        Whole::MinNz => h.min_nz(),
+fn whole<T: Counter>(h: &Histogram<T>, name: &str) -> Option<u64> {
+    match name {
+        "len" => Some(h.len()),
+        "count" => Some(h.count()),
+        "is_empty" => Some(u64::from(h.is_empty())),
+        "low" => Some(h.low()),
+        "high" => Some(h.high()),
+        "sigfig" => Some(u64::from(h.sigfig())),
+        "is_auto_resize" => Some(u64::from(h.is_auto_resize())),
+        "buckets" => Some(u64::from(h.buckets())),
+        "distinct_values" => Some(h.distinct_values() as u64),
+        "max" => Some(h.max()),
+        "min" => Some(h.min()),
+        "min_nz" => Some(h.min_nz()),
+        _ => None,
     }
 }
 
-/// The looks of a quantile. None: counted and uncounted, it answers two values.
-fn looks<T: Counter>(h: &Histogram<T>, quantile: Quantile) -> Option<u64> {
-    let mut ticks = Ticks::new();
-    let value = h.value_at_quantile_counted(quantile, &mut ticks);
-    if value == h.value_at_quantile(quantile) {
-        Some(ticks.count())
-    } else {
-        None
-    }
-}
-
-/// What is asked of a quantile. None: the numbers are none.
-fn ranked<T: Counter>(h: &Histogram<T>, ask: Rank, num: u64, den: u64) -> Option<u64> {
-    let quantile = Quantile::new(num, den)?;
-    match ask {
-        Rank::ValueAtQuantile => Some(h.value_at_quantile(quantile)),
-        Rank::ValueAtPercentile => Some(h.value_at_percentile(quantile)),
-        Rank::Looks => looks(h, quantile),
+/// What is asked of a value's class, and of the counts of classes; 1 is true, and 0 is false.
+fn class<T: Counter>(h: &Histogram<T>, name: &str, numbers: &[u64]) -> Option<u64> {
+    match (name, numbers) {
+        ("count_at", [value]) => Some(h.count_at(*value).as_u64()),
+        ("count_between", [low, high]) => Some(h.count_between(*low, *high)),
+        ("lowest_equivalent", [value]) => Some(h.lowest_equivalent(*value)),
+        ("highest_equivalent", [value]) => Some(h.highest_equivalent(*value)),
+        ("next_non_equivalent", [value]) => Some(h.next_non_equivalent(*value)),
+        ("median_equivalent", [value]) => Some(h.median_equivalent(*value)),
+        ("equivalent_range", [value]) => Some(h.equivalent_range(*value)),
+        ("equivalent", [one, other]) => Some(u64::from(h.equivalent(*one, *other))),
+        _ => None,
     }
 }
 
@@ -167,80 +89,91 @@ fn bin_count<T: Counter>(h: &Histogram<T>, index: u64) -> Option<u64> {
 }
 
 /// The number of a counter in the list of all.
-fn counter<T: Counter>(h: &Histogram<T>, index: u64) -> Option<u64> {
+fn listed<T: Counter>(h: &Histogram<T>, index: u64) -> Option<u64> {
     Some(h.counters().get(index as usize)?.as_u64())
 }
 
-/// The bin of a value.
-fn bin_of<T: Counter>(h: &Histogram<T>, value: u64) -> Option<u64> {
-    Some(h.bin_of(value)? as u64)
-}
-
 /// What is asked of a bin.
-fn bin<T: Counter>(h: &Histogram<T>, ask: Bin, number: u64) -> Option<u64> {
-    match ask {
-        Bin::BinOf => bin_of(h, number),
-        Bin::BinValue => h.bin_value(number as usize),
-        Bin::BinCount => bin_count(h, number),
-        Bin::Counters => counter(h, number),
+fn bin<T: Counter>(h: &Histogram<T>, name: &str, numbers: &[u64]) -> Outcome {
+    match (name, numbers) {
+        ("bin_of", [value]) => match h.bin_of(*value) {
+            Some(index) => Ok(Number(index as u64)),
+            None => Ok(Answer::Nothing),
+        },
+        ("bin_value", [index]) => Ok(number(h.bin_value(*index as usize))),
+        ("bin_count", [index]) => Ok(number(bin_count(h, *index))),
+        ("counters", [index]) => Ok(number(listed(h, *index))),
+        _ => Err(Refusal::NoCall),
     }
 }
 
-/// What is asked of counts and classes; 1 is true, and 0 is false.
-fn part<T: Counter>(h: &Histogram<T>, ask: Part, first: u64, second: u64) -> u64 {
-    match ask {
-        Part::CountAt => h.count_at(first).as_u64(),
-        Part::CountBetween => h.count_between(first, second),
-        Part::LowestEquivalent => h.lowest_equivalent(first),
-        Part::HighestEquivalent => h.highest_equivalent(first),
-        Part::NextNonEquivalent => h.next_non_equivalent(first),
-        Part::MedianEquivalent => h.median_equivalent(first),
-        Part::EquivalentRange => h.equivalent_range(first),
-        Part::Equivalent => u64::from(h.equivalent(first, second)),
+/// The looks of a quantile, which has the same value counted and uncounted.
+fn looks<T: Counter>(h: &Histogram<T>, quantile: Quantile) -> Outcome {
+    let mut ticks = Ticks::new();
+    let value = h.value_at_quantile_counted(quantile, &mut ticks);
+    agree(value == h.value_at_quantile(quantile))?;
+    Ok(Number(ticks.count()))
+}
+
+/// Corrects class by class, and answers how many counters were updated.
+fn updates<T: Counter>(h: &mut Histogram<T>, value: u64, count: T, interval: u64) -> Outcome {
+    let mut ticks = Ticks::new();
+    h.record_n_correct_counted(value, count, interval, &mut ticks)?;
+    Ok(Number(ticks.count()))
+}
+
+/// What is asked of a quantile, and how much work a call does.
+fn ranked<T: Counter>(h: &mut Histogram<T>, name: &str, numbers: &[u64]) -> Outcome {
+    match (name, numbers) {
+        ("value_at_quantile", [num, den]) => Ok(Number(h.value_at_quantile(ratio(*num, *den)?))),
+        ("value_at_percentile", [num, den]) => Ok(Number(h.value_at_percentile(ratio(
+            *num, *den,
+        )?))),
+        ("looks", [num, den]) => looks(h, ratio(*num, *den)?),
+        ("record_n_correct_counted", [value, count, interval]) => {
+            updates(h, *value, counter(*count)?, *interval)
+        }
+        _ => bin(h, name, numbers),
     }
 }
 
-/// What is asked of a histogram. None: the name is no such call's.
-fn asked<T: Counter>(h: &Histogram<T>, name: &str, numbers: Numbers) -> Option<Answer> {
-    let [first, second, _] = numbers;
-    if let Some(ask) = named(WHOLES.as_slice(), name) {
-        return Some(Answer::Number(whole(h, ask)));
-    }
-    if let Some(ask) = named(PARTS.as_slice(), name) {
-        return Some(Answer::Number(part(h, ask, first, second)));
-    }
-    if let Some(ask) = named(BINS.as_slice(), name) {
-        return Some(number(bin(h, ask, first)));
-    }
-    let ask = named(RANKS.as_slice(), name)?;
-    Some(number(ranked(h, ask, first, second)))
-}
-
-/// Does a call on one histogram. None: the name is no call's, or its numbers are none.
+/// Does a call on one histogram that takes numbers alone, and is not answered by a text.
 pub fn call<T: Counter>(
     alloc: Global,
     h: &mut Histogram<T>,
     name: &str,
-    numbers: Numbers,
-) -> Option<Answer> {
-    if let Some(answer) = changed(h, name, numbers) {
-        return Some(answer);
+    numbers: &[u64],
+) -> Outcome {
+    let told = match numbers {
+        [] => whole(h, name),
+        _ => class(h, name, numbers),
+    };
+    if let Some(number) = told {
+        return Ok(Number(number));
     }
-    match named(MAKES.as_slice(), name) {
-        Some(make) => remade(alloc, h, make, numbers),
-        None => asked(h, name, numbers),
+    match change(h, name, numbers) {
+        Err(Refusal::NoCall) => {}
+        outcome => return outcome,
+    }
+    match make(alloc, h, name, numbers) {
+        Err(Refusal::NoCall) => ranked(h, name, numbers),
+        outcome => outcome,
     }
 }
 
+/// What two histograms have to tell alike to be the same.
+const WHOLE: &str =
+    "len is_empty low high sigfig is_auto_resize buckets distinct_values max min min_nz";
+
 /// Both tell the same of themselves, bin by bin.
 pub fn same<T: Counter, F: Counter>(one: &Histogram<T>, other: &Histogram<F>) -> bool {
-    for (_, ask) in WHOLES.as_slice() {
-        if whole(one, *ask) != whole(other, *ask) {
+    for name in WHOLE.split(' ') {
+        if whole(one, name) != whole(other, name) {
             return false;
         }
     }
-    for bin in 0..one.distinct_values() as u64 {
-        if bin_count(one, bin) != bin_count(other, bin) {
+    for index in 0..one.distinct_values() as u64 {
+        if bin_count(one, index) != bin_count(other, index) {
             return false;
         }
     }

@@ -1,16 +1,14 @@
 //! Three histograms, and the calls between them.
 
-use crate::answer::{Answer, added, applied, ran, recorded, subtracted};
-use crate::bare::Histogram;
-use crate::items::{told, value_at_percentiles, value_at_quantiles};
-use crate::names::{
-    COMPARES, COPIES, CORRECTS, Compare, Copied, Correct, JOINS, Join, RUNS, Run, named,
-};
-use crate::one_by_one::{agree, agree_below};
-use crate::single::{Numbers, call, same};
-use crate::{base, bytes, logs, merging};
+use crate::agreeing::{agree_below, agrees};
+use crate::answer::{Answer, Outcome, Refusal, agree};
+use crate::asked::{Numbers, counter, halves};
+use crate::items::{fractions, values};
+use crate::runs::{call_of, calls_from_of, calls_of};
+use crate::single::{call, put, same};
+use crate::{base, bytes, items, logs, merging};
 use hdr_base::Counter;
-use hdr_core::{AdditionError, Call, CallFrom, CreationError, RecordError};
+use hdr_core::{CreationError, Histogram};
 use std::alloc::Global;
 
 /// Two histograms of one counter type, and one of u64.
@@ -21,132 +19,51 @@ pub struct Table<T: Counter> {
     pub wide: Histogram<u64>,
 }
 
-/// The number that a text begins with, and the words after it; 0 where there is no text.
-fn front(words: Option<&str>) -> Option<(u64, Option<&str>)> {
-    let Some(words) = words else {
-        return Some((0, None));
-    };
-    match words.split_once(' ') {
-        Some((word, rest)) => Some((word.parse::<u64>().ok()?, Some(rest))),
-        None => Some((words.parse::<u64>().ok()?, None)),
-    }
-}
-
-/// The words of a text that are numbers, up to three.
-fn numbers_of(words: &str) -> Option<Numbers> {
-    if words.is_empty() {
-        return Some([0; 3]);
-    }
-    let (first, words) = front(Some(words))?;
-    let (second, words) = front(words)?;
-    let (third, words) = front(words)?;
-    match words {
-        Some(_) => None,
-        None => Some([first, second, third]),
-    }
-}
-
-/// A name and the numbers after it.
-fn split_name(words: &str) -> Option<(&str, Numbers)> {
-    match words.split_once(' ') {
-        Some((name, numbers)) => Some((name, numbers_of(numbers)?)),
-        None => Some((words, [0; 3])),
-    }
-}
-
-/// The call of a run that words ask for.
-fn call_of<'a, T: Counter>(words: &str, other: &'a Histogram<T>) -> Option<Call<'a, T>> {
-    let (name, [first, second, third]) = split_name(words)?;
-    match named(RUNS.as_slice(), name)? {
-        Run::Record => Some(Call::Record(first, T::from_u64(second)?)),
-        Run::Clamp => Some(Call::Clamp(first, T::from_u64(second)?)),
-        Run::Correct => Some(Call::Correct(first, T::from_u64(second)?, third)),
-        Run::Clear => Some(Call::Clear),
-        Run::Reset => Some(Call::Reset),
-        Run::Add => Some(Call::Add(&other.inner)),
-        Run::AddCorrect => Some(Call::AddCorrect(&other.inner, first)),
-    }
-}
-
-/// The calls of a run, between commas.
-fn calls_of<'a, T: Counter>(
-    alloc: Global,
-    words: &str,
-    other: &'a Histogram<T>,
-) -> Option<Vec<Call<'a, T>>> {
-    let mut calls = Vec::new(alloc);
-    for words in words.split(", ") {
-        calls.push(call_of(words, other)?).ok()?;
-    }
-    Some(calls)
-}
-
-/// The call of a run that words ask for, where `wide` is a source too.
-fn call_from_of<'a, T: Counter>(
-    words: &str,
-    other: &'a Histogram<T>,
-    wide: &'a Histogram<u64>,
-) -> Option<CallFrom<'a, T, u64>> {
-    let (name, [interval, _, _]) = split_name(words)?;
+/// Does a call on one histogram that takes a text.
+fn worded<T: Counter>(alloc: Global, h: &mut Histogram<T>, name: &str, text: &str) -> Outcome {
     match name {
-        "add_from" => Some(CallFrom::AddFrom(&wide.inner)),
-        "add_correct_from" => Some(CallFrom::AddCorrectFrom(&wide.inner, interval)),
-        _ => Some(CallFrom::Own(call_of(words, other)?)),
+        "log_line" => logs::line(alloc, h, text),
+        "merge" => merging::merge(alloc, h, text),
+        "value_at_quantiles" => {
+            let list = fractions(alloc, text)?;
+            values(alloc, h.value_at_quantiles(list.as_slice()).collect(alloc)?)
+        }
+        "value_at_percentiles" => {
+            let list = fractions(alloc, text)?;
+            let found = h.value_at_percentiles(list.as_slice()).collect(alloc)?;
+            values(alloc, found)
+        }
+        _ => bytes::of_histogram(alloc, h, name, text),
     }
 }
 
-/// The calls of such a run, between commas.
-fn calls_from_of<'a, T: Counter>(
-    alloc: Global,
-    words: &str,
-    other: &'a Histogram<T>,
-    wide: &'a Histogram<u64>,
-) -> Option<Vec<CallFrom<'a, T, u64>>> {
-    let mut calls = Vec::new(alloc);
-    for words in words.split(", ") {
-        calls.push(call_from_of(words, other, wide)?).ok()?;
+/// Does a call on one histogram.
+fn alone<T: Counter>(alloc: Global, h: &mut Histogram<T>, name: &str, text: &str) -> Outcome {
+    match worded(alloc, h, name, text) {
+        Err(Refusal::NoCall) => {}
+        outcome => return outcome,
     }
-    Some(calls)
-}
-
-/// Does a call on one histogram that has words beside numbers, or that a text answers. None: it is no such call.
-fn worded<T: Counter>(alloc: Global, h: &mut Histogram<T>, words: &str) -> Option<Answer> {
-    let (name, rest) = words.split_once(' ').unwrap_or((words, ""));
-    match name {
-        "to_bytes" => bytes::to_bytes(alloc, h),
-        "encode_counts" => bytes::payload(alloc, h),
-        "decode" => bytes::decode(alloc, h, rest, false),
-        "decode_alone" => bytes::decode(alloc, h, rest, true),
-        "decode_field" => bytes::decode_field(alloc, h, rest),
-        "log_line" => logs::line(alloc, h, rest),
-        "merge" => merging::merge(alloc, h, rest),
-        "value_at_quantiles" => value_at_quantiles(alloc, h, rest),
-        "value_at_percentiles" => value_at_percentiles(alloc, h, rest),
-        _ => None,
+    let numbers = Numbers::of(text)?;
+    match call(alloc, h, name, numbers.as_slice()) {
+        Err(Refusal::NoCall) => items::told(alloc, h, name, numbers.as_slice()),
+        outcome => outcome,
     }
 }
 
-/// Does a call on one histogram. None: the words are not one of its calls.
-fn alone<T: Counter>(alloc: Global, h: &mut Histogram<T>, words: &str) -> Option<Answer> {
-    if let Some(answer) = worded(alloc, h, words) {
-        return Some(answer);
-    }
-    let (name, numbers) = split_name(words)?;
-    match told(alloc, h, name, numbers) {
-        Some(answer) => Some(answer),
-        None => call(alloc, h, name, numbers),
-    }
-}
-
-/// Does a call that is on no histogram. None: the words are not one of these.
-fn on_none<T: Counter>(who: &str, words: &str) -> Option<Answer> {
-    let (name, numbers) = split_name(words)?;
+/// Does a call that is on no histogram, and takes numbers.
+fn on_none<T: Counter>(who: &str, name: &str, numbers: &[u64]) -> Outcome {
     match who {
-        "counter" => base::counter::<T>(name, numbers),
-        "scale" => base::scale(name, numbers),
-        "fraction" => base::fraction(name, numbers),
-        _ => None,
+        "counter" => base::of_counters::<T>(name, numbers),
+        "scale" => base::of_scales(name, numbers),
+        "fraction" => base::of_fractions(name, numbers),
+        _ => Err(Refusal::NoCall),
     }
+}
+
+/// What a comparison comes to one way and the other.
+fn compared(there: bool, back: bool) -> Outcome {
+    agree(there == back)?;
+    Ok(Answer::Truth(there))
 }
 
 impl<T: Counter> Table<T> {
@@ -158,146 +75,117 @@ impl<T: Counter> Table<T> {
         Ok(Table { one, other, wide })
     }
 
-    /// Puts what was made in the other's place.
-    fn put(&mut self, copy: Result<Histogram<T>, CreationError>) -> Answer {
-        match copy {
-            Ok(copy) => {
-                self.other = copy;
-                Answer::Done
-            }
-            Err(e) => Answer::Unmade(e),
+    /// Takes another histogram into the first, or out of it.
+    fn join(&mut self, name: &str, numbers: &[u64]) -> Outcome {
+        match (name, numbers) {
+            ("add", []) => self.one.add(&self.other)?,
+            ("set_to", []) => self.one.set_to(&self.other)?,
+            ("add_from", []) => self.one.add_from(&self.wide)?,
+            ("subtract", []) => self.one.subtract(&self.other)?,
+            ("add_correct", [interval]) => self.one.add_correct(&self.other, *interval)?,
+            ("set_to_corrected", [interval]) => self.one.set_to_corrected(&self.other, *interval)?,
+            ("add_correct_from", [interval]) => self.one.add_correct_from(&self.wide, *interval)?,
+            _ => return Err(Refusal::NoCall),
         }
+        Ok(Answer::Done)
     }
 
-    /// Takes another histogram into the first as it is.
-    fn joined(&mut self, join: Join) -> Result<(), AdditionError> {
-        match join {
-            Join::Add => self.one.add(&self.other),
-            Join::SetTo => self.one.set_to(&self.other),
-            Join::AddFrom => self.one.add_from(&self.wide),
-        }
+    /// Makes the other histogram.
+    fn copy(&mut self, alloc: Global, name: &str, numbers: &[u64]) -> Outcome {
+        let made = match (name, numbers) {
+            ("clone_to_other", []) => self.one.clone()?,
+            ("clone_correct_to_other", [interval]) => self.one.clone_correct(*interval)?,
+            ("new_from_wide_to_other", []) => Histogram::new_from(alloc, &self.wide)?,
+            _ => return Err(Refusal::NoCall),
+        };
+        put(&mut self.other, made)
     }
 
-    /// Takes another histogram into the first, corrected.
-    fn corrected(&mut self, correct: Correct, interval: u64) -> Result<(), RecordError> {
-        match correct {
-            Correct::AddCorrect => self.one.add_correct(&self.other, interval),
-            Correct::SetToCorrected => self.one.set_to_corrected(&self.other, interval),
-            Correct::AddCorrectFrom => self.one.add_correct_from(&self.wide, interval),
+    /// Corrects by the plain body too.
+    fn agree(&mut self, name: &str, numbers: &[u64]) -> Outcome {
+        let [value, count, third] = numbers else {
+            return Err(Refusal::NoCall);
+        };
+        let (count, one, other) = (counter(*count)?, &mut self.one, &mut self.other);
+        match name {
+            "agree" => Ok(Answer::Truth(agrees(one, other, *value, count, *third))),
+            "agree_below" => Ok(agree_below(one, other, *value, count, *third == 1)),
+            _ => Err(Refusal::NoCall),
         }
     }
 
     /// Compares the first with another.
-    fn compared(&self, compare: Compare) -> bool {
-        match compare {
-            Compare::Same => same(&self.one, &self.other),
-            Compare::SameWide => same(&self.one, &self.wide),
-            Compare::IsOther => self.one.is(&self.other),
-            Compare::EqualsOther => self.one.equals(&self.other),
-            Compare::EqualsWide => self.one.equals(&self.wide),
-        }
-    }
-
-    /// Compares another with the first.
-    fn compared_back(&self, compare: Compare) -> bool {
-        match compare {
-            Compare::Same => same(&self.other, &self.one),
-            Compare::SameWide => same(&self.wide, &self.one),
-            Compare::IsOther => self.other.is(&self.one),
-            Compare::EqualsOther => self.other.equals(&self.one),
-            Compare::EqualsWide => self.wide.equals(&self.one),
-        }
-    }
-
-    /// Makes another histogram.
-    fn copied(
-        &self,
-        alloc: Global,
-        copied: Copied,
-        interval: u64,
-    ) -> Result<Histogram<T>, CreationError> {
-        match copied {
-            Copied::CloneToOther => self.one.clone(),
-            Copied::CloneCorrectToOther => self.one.clone_correct(interval),
-            Copied::NewFromWideToOther => Histogram::new_from(alloc, &self.wide),
-        }
-    }
-
-    /// Does the calls between commas, one after the other.
-    fn run(&mut self, alloc: Global, words: &str) -> Option<Answer> {
-        let calls = calls_of(alloc, words, &self.other)?;
-        Some(ran(self.one.apply_all(calls.as_slice())))
-    }
-
-    /// The same, where `wide` is a source too.
-    fn run_from(&mut self, alloc: Global, words: &str) -> Option<Answer> {
-        let calls = calls_from_of(alloc, words, &self.other, &self.wide)?;
-        Some(ran(self.one.apply_all_from(calls.as_slice())))
-    }
-
-    /// Does one call.
-    fn apply(&mut self, words: &str) -> Option<Answer> {
-        let call = call_of(words, &self.other)?;
-        Some(applied(self.one.apply(&call)))
-    }
-
-    /// Does a call on the first histogram. None: the words are not one of its calls.
-    fn first(&mut self, alloc: Global, words: &str) -> Option<Answer> {
-        if let Some(calls) = words.strip_prefix("run ") {
-            return self.run(alloc, calls);
-        }
-        if let Some(calls) = words.strip_prefix("run_from ") {
-            return self.run_from(alloc, calls);
-        }
-        if let Some(call) = words.strip_prefix("apply ") {
-            return self.apply(call);
-        }
-        if let Some(answer) = alone(alloc, &mut self.one, words) {
-            return Some(answer);
-        }
-        let (name, numbers) = split_name(words)?;
+    fn compare(&self, name: &str) -> Outcome {
+        let (one, other, wide) = (&self.one, &self.other, &self.wide);
         match name {
-            "subtract" => Some(subtracted(self.one.subtract(&self.other))),
-            "refines_other" => Some(Answer::Truth(self.one.refines(&self.other))),
-            "refines_wide" => Some(Answer::Truth(self.one.refines(&self.wide))),
-            "agree" => agree(&mut self.one, &mut self.other, numbers),
-            "agree_below" => agree_below(&mut self.one, &mut self.other, numbers),
-            _ => self.between(alloc, name, numbers[0]),
+            "same" => compared(same(one, other), same(other, one)),
+            "same_wide" => compared(same(one, wide), same(wide, one)),
+            "is_other" => compared(*one == *other, *other == *one),
+            "equals_other" => compared(one.equals(other), other.equals(one)),
+            "equals_wide" => compared(one.equals(wide), wide.equals(one)),
+            "refines_other" => Ok(Answer::Truth(one.refines(other))),
+            "refines_wide" => Ok(Answer::Truth(one.refines(wide))),
+            _ => Err(Refusal::NoCall),
         }
     }
 
-    /// Does a call between the histograms. None: the name is no such call's, or a comparison the other way round answers
-    /// otherwise.
-    fn between(&mut self, alloc: Global, name: &str, interval: u64) -> Option<Answer> {
-        if let Some(join) = named(JOINS.as_slice(), name) {
-            return Some(added(self.joined(join)));
+    /// Does calls as values.
+    fn run(&mut self, alloc: Global, name: &str, words: &str) -> Outcome {
+        match name {
+            "apply" => self.one.apply(&call_of(words, &self.other)?)?,
+            "run" => self
+                .one
+                .apply_all(calls_of(alloc, words, &self.other)?.as_slice())?,
+            "run_from" => self.one.apply_all_from(calls_from_of(
+                alloc,
+                words,
+                &self.other,
+                &self.wide,
+            )?.as_slice())?,
+            _ => return Err(Refusal::NoCall),
         }
-        if let Some(correct) = named(CORRECTS.as_slice(), name) {
-            return Some(recorded(self.corrected(correct, interval)));
+        Ok(Answer::Done)
+    }
+
+    /// Does a call between the histograms.
+    fn between(&mut self, alloc: Global, name: &str, numbers: &[u64]) -> Outcome {
+        match self.join(name, numbers) {
+            Err(Refusal::NoCall) => {}
+            outcome => return outcome,
         }
-        if let Some(copied) = named(COPIES.as_slice(), name) {
-            let copy = self.copied(alloc, copied, interval);
-            return Some(self.put(copy));
+        match self.copy(alloc, name, numbers) {
+            Err(Refusal::NoCall) => {}
+            outcome => return outcome,
         }
-        let compare = named(COMPARES.as_slice(), name)?;
-        let equal = self.compared(compare);
-        if equal == self.compared_back(compare) {
-            Some(Answer::Truth(equal))
-        } else {
-            None
+        match numbers {
+            [] => self.compare(name),
+            _ => self.agree(name, numbers),
         }
     }
 
-    /// Does what a line asks for. None: the line is not one of these.
-    pub fn answer(&mut self, alloc: Global, line: &str) -> Option<Answer> {
-        let (who, words) = line.split_once(' ')?;
+    /// Does a call on the first histogram.
+    fn first(&mut self, alloc: Global, name: &str, text: &str) -> Outcome {
+        match self.run(alloc, name, text) {
+            Err(Refusal::NoCall) => {}
+            outcome => return outcome,
+        }
+        match alone(alloc, &mut self.one, name, text) {
+            Err(Refusal::NoCall) => self.between(alloc, name, Numbers::of(text)?.as_slice()),
+            outcome => outcome,
+        }
+    }
+
+    /// Does what a line asks for.
+    pub fn answer(&mut self, alloc: Global, line: &str) -> Outcome {
+        let (who, words) = halves(line);
+        let (name, text) = halves(words);
         match who {
-            "one" => self.first(alloc, words),
-            "other" => alone(alloc, &mut self.other, words),
-            "wide" => alone(alloc, &mut self.wide, words),
-            "bytes" => bytes::call(alloc, words),
-            "log" => logs::call(alloc, words),
-            _ => on_none::<T>(who, words),
+            "one" => self.first(alloc, name, text),
+            "other" => alone(alloc, &mut self.other, name, text),
+            "wide" => alone(alloc, &mut self.wide, name, text),
+            "bytes" => bytes::call(alloc, name, text),
+            "log" => logs::call(alloc, name, text),
+            _ => on_none::<T>(who, name, Numbers::of(text)?.as_slice()),
         }
     }
 }

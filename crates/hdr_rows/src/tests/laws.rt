@@ -2,60 +2,24 @@
 
 use std::test::Fail;
 
+/// Calls the laws of a crate.
+macro_rules! call_laws {
+    ($name:ident: $($law:ident)*) => { $($name::laws::$law();)* };
+}
+
 #[test]
 fn laws_hold(_rt: HostRuntime) -> Result<(), Fail> {
-    call_laws_of_histograms();
-    call_laws_of_bytes();
-    call_laws_of_the_program();
-    Ok(())
-}
-
-fn call_laws_of_histograms() {
-    hdr_base::laws::equivalence();
-    hdr_base::laws::intervals();
-    hdr_base::laws::widths();
-    hdr_base::laws::finer_classes();
+    call_laws! { hdr_base: equivalence intervals widths finer_classes }
     hdr_core::iterators::laws::bins_once();
-    hdr_core::laws::missing_values();
-    hdr_core::laws::first_class();
-    hdr_core::laws::quantile_is_ranked();
-    hdr_core::laws::ascending_quantiles();
-    hdr_core::laws::quantile_and_share();
-    hdr_core::laws::recording_stands();
-    hdr_core::laws::samples_are_counted();
-    hdr_core::laws::new_is_plain();
-    hdr_core::laws::clearing_stands();
-    hdr_core::laws::adding_stands();
-    hdr_core::laws::adding_keeps();
+    call_laws! { hdr_core: missing_values first_class quantile_is_ranked ascending_quantiles
+        quantile_and_share recording_stands samples_are_counted new_is_plain clearing_stands
+        adding_stands adding_keeps adding_commutes adding_associates joined_stands
+        subtracting_undoes_adding equality }
     hdr_core::laws::calls_stand::<u64>();
-    hdr_core::laws::adding_commutes();
-    hdr_core::laws::adding_associates();
-    hdr_core::laws::joined_stands();
-    hdr_core::laws::subtracting_undoes_adding();
-    hdr_core::laws::equality();
-}
-
-fn call_laws_of_bytes() {
-    hdr_log::laws::time_is_read();
-    hdr_log::laws::interval_is_read();
-    hdr_log::laws::base64_is_read();
-    hdr_log::laws::written_is_read();
-    hdrhistogram::laws::one_canonical_spelling();
-    hdrhistogram::laws::spellings_end();
-    hdrhistogram::laws::zig_zag_inverse();
-    hdrhistogram::laws::one_payload();
-    hdrhistogram::laws::payload_tells_counts();
-    hdrhistogram::laws::bytes_agree();
-    hdrhistogram::laws::one_parting();
-    hdrhistogram::laws::reading_takes_a_front();
-    hdrhistogram::laws::bytes_read_back();
-    hdrhistogram::laws::read_back_stands();
-    hdrhistogram::laws::merging_adds_the_chosen();
-    hdrhistogram::laws::merged_log_stands();
-}
-
-fn call_laws_of_the_program() {
-    hdr_tool::laws::ends_stand();
-    hdr_tool::laws::log_then_merge();
-    hdr_tool::laws::log_merge_stands();
+    call_laws! { hdr_log: time_is_read interval_is_read base64_is_read written_is_read }
+    call_laws! { hdrhistogram: one_canonical_spelling spellings_end zig_zag_inverse one_payload
+        payload_tells_counts bytes_agree one_parting reading_takes_a_front bytes_read_back
+        read_back_stands merging_adds_the_chosen merged_log_stands }
+    call_laws! { hdr_tool: ends_stand log_then_merge log_merge_stands }
+    Ok(())
 }

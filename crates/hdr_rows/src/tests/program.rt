@@ -62,10 +62,8 @@ fn reads_fail(rt: &(impl Abort + AllocGlobal), words: &str, input: &[u8]) -> Res
     for kind in KINDS {
         if ends_the_run(kind) {
             for at in 1..=last {
-                assert!(rt;
-                    is_unread(rt.alloc(), words.as_slice(), input, kind, at, b""),
-                    "{kind:?} at {at}"
-                );
+                let is_right = is_unread(rt.alloc(), words.as_slice(), input, kind, at, b"");
+                assert!(rt; is_right, "{kind:?} at {at}");
             }
         }
     }
@@ -89,12 +87,10 @@ const TWO_OUTPUT: &str =
 
 /// How long the intervals are that end before a read of that log.
 fn len_before(at: usize) -> usize {
-    if at <= 23 {
-        0
-    } else if at <= 35 {
-        85
-    } else {
-        TWO_OUTPUT.len()
+    match at {
+        0..=23 => 0,
+        24..=35 => 85,
+        _ => TWO_OUTPUT.len(),
     }
 }
 
@@ -107,10 +103,8 @@ fn each_read_of_a_log_fails(rt: HostRuntime) -> Result<(), Fail> {
         if ends_the_run(kind) {
             for at in 1..=36usize {
                 let stands = output.get(..len_before(at)).unwrap_or(&[]);
-                assert!(rt;
-                    is_unread(rt.alloc(), words.as_slice(), TWO_INPUT, kind, at, stands),
-                    "{kind:?} at {at}"
-                );
+                let is_right = is_unread(rt.alloc(), words.as_slice(), TWO_INPUT, kind, at, stands);
+                assert!(rt; is_right, "{kind:?} at {at}");
             }
         }
     }
@@ -150,16 +144,10 @@ fn writes_fail(
     let words = words_of(rt.alloc(), words)?;
     let words = words.as_slice();
     for at in 1..=last {
-        assert!(rt;
-            is_told(rt.alloc(), words, input, output, None, at),
-            "at {at}"
-        );
+        assert!(rt; is_told(rt.alloc(), words, input, output, None, at), "{at}");
         for kind in KINDS {
-            let kind = Some(kind);
-            assert!(rt;
-                is_told(rt.alloc(), words, input, output, kind, at),
-                "{kind:?} at {at}"
-            );
+            let is_right = is_told(rt.alloc(), words, input, output, Some(kind), at);
+            assert!(rt; is_right, "{kind:?} at {at}");
         }
     }
     let after = last.saturating_add(1);
@@ -176,24 +164,28 @@ fn each_write_fails(rt: HostRuntime) -> Result<(), Fail> {
 
 /// Runs words with an interrupted read and an interrupted write, on an output that tries again, and tells whether all of
 /// the output was written.
-fn passes(alloc: Global, words: &[String], input: &[u8], output: &str) -> bool {
+fn passes(alloc: Global, line: &str, input: &[u8], output: &str) -> Result<bool, AllocError> {
+    let words = words_of(alloc, line)?;
     let mut source = Source::new(input, 7, 2, ErrorKind::Interrupted);
     let mut patient = Patient {
         writer: Sink::new(10, 2, Some(ErrorKind::Interrupted)),
     };
-    let ran = run(alloc, words, &mut source, &mut patient);
-    ran.is_ok() && patient.writer.text() == output.as_bytes()
+    let ran = run(alloc, words.as_slice(), &mut source, &mut patient);
+    Ok(ran.is_ok() && patient.writer.text() == output.as_bytes())
 }
 
 /// An output that does not try again ends each command alike: `writes_fail` has that.
 #[test]
 fn interruptions_pass(rt: HostRuntime) -> Result<(), Fail> {
-    let report = words_of(rt.alloc(), SMALL)?;
-    let log = words_of(rt.alloc(), "log 3")?;
-    let merge = words_of(rt.alloc(), "merge 3 3/10")?;
-    let merged = LOG_OUTPUT.as_bytes();
-    assert!(rt; passes(rt.alloc(), report.as_slice(), SMALL_INPUT, SMALL_OUTPUT));
-    assert!(rt; passes(rt.alloc(), log.as_slice(), LOG_INPUT, LOG_OUTPUT));
-    assert!(rt; passes(rt.alloc(), merge.as_slice(), merged, SMALL_OUTPUT));
+    assert!(rt; passes(rt.alloc(), SMALL, SMALL_INPUT, SMALL_OUTPUT)?);
+    assert!(rt; passes(rt.alloc(), "log 3", LOG_INPUT, LOG_OUTPUT)?);
+    assert!(rt;
+        passes(
+            rt.alloc(),
+            "merge 3 3/10",
+            LOG_OUTPUT.as_bytes(),
+            SMALL_OUTPUT
+        )?
+    );
     Ok(())
 }

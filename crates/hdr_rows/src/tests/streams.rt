@@ -21,6 +21,11 @@ fn assert_right(rt: &impl Abort, is_right: bool, kind: Option<ErrorKind>, fails_
     assert!(rt; is_right, "{kind:?} at {fails_at}");
 }
 
+/// A writer that takes seven bytes a call.
+fn sevens(fails_at: usize, kind: Option<ErrorKind>) -> Sink {
+    Sink::new(7, fails_at, kind)
+}
+
 /// Whether bytes are written whole by seven calls, or the failure of one of them is told; what was taken before it stands.
 fn serializes(h: &Histogram<u64>, serializer: &mut V2Serializer, mut sink: Sink) -> bool {
     let is_told = match serializer.serialize(h, &mut sink) {
@@ -37,8 +42,8 @@ fn serializes_each(rt: &(impl Abort + AllocGlobal), kind: Option<ErrorKind>) -> 
     let h = first_run(rt.alloc())?;
     let mut serializer = V2Serializer::new(rt.alloc());
     for fails_at in 1..9usize {
-        let sink = Sink::new(7, fails_at, kind);
-        assert_right(rt, serializes(&h, &mut serializer, sink), kind, fails_at);
+        let is_right = serializes(&h, &mut serializer, sevens(fails_at, kind));
+        assert_right(rt, is_right, kind, fails_at);
     }
     Ok(())
 }
@@ -68,14 +73,9 @@ fn readers_of_bytes(rt: HostRuntime) {
     for kind in KINDS {
         for fails_at in 1..45usize {
             let mut source = Source::new(FIRST_RUN.as_slice(), 1, fails_at, kind);
-            let is_right = reads(&mut deserializer, &mut source);
             let left = FIRST_RUN.len().saturating_sub(fails_at.saturating_sub(1));
-            assert_right(
-                &rt,
-                is_right && source.left.len() == left,
-                Some(kind),
-                fails_at,
-            );
+            let is_right = reads(&mut deserializer, &mut source) && source.left.len() == left;
+            assert_right(&rt, is_right, Some(kind), fails_at);
         }
     }
 }
@@ -111,11 +111,9 @@ fn refused_bytes(rt: HostRuntime) {
             *there = byte;
         }
         let mut source = Source::new(text.as_slice(), 1, 0, ErrorKind::Other);
-        assert!(rt; refuses(&mut deserializer, &mut source), "byte {place}");
-        assert!(rt;
-            source.left.len() == FIRST_RUN.len().saturating_sub(taken),
-            "byte {place}"
-        );
+        let left = FIRST_RUN.len().saturating_sub(taken);
+        let is_right = refuses(&mut deserializer, &mut source) && source.left.len() == left;
+        assert!(rt; is_right, "byte {place}");
     }
 }
 
@@ -135,14 +133,9 @@ fn readers_of_varints(rt: HostRuntime) {
     for kind in KINDS {
         for fails_at in 1..11usize {
             let mut source = Source::new(GREATEST.as_slice(), 1, fails_at, kind);
-            let is_right = reads_greatest(&mut source);
             let left = 11usize.saturating_sub(fails_at);
-            assert_right(
-                &rt,
-                is_right && source.left.len() == left,
-                Some(kind),
-                fails_at,
-            );
+            let is_right = reads_greatest(&mut source) && source.left.len() == left;
+            assert_right(&rt, is_right, Some(kind), fails_at);
         }
     }
 }
@@ -202,22 +195,10 @@ fn logs_each(rt: &(impl Abort + AllocGlobal), kind: Option<ErrorKind>) -> Result
     let mut builder = IntervalLogWriterBuilder::new(rt.alloc());
     builder.add_comment("a comment")?;
     for fails_at in 1..15usize {
-        let sink = Sink::new(7, fails_at, kind);
-        assert_right(
-            rt,
-            logs(rt.alloc(), &h, &mut serializer, sink),
-            kind,
-            fails_at,
-        );
-        let sink = Sink::new(7, fails_at, kind);
-        assert_right(rt, begins(&builder, &mut serializer, sink), kind, fails_at);
-        let sink = Sink::new(7, fails_at, kind);
-        assert_right(
-            rt,
-            comments(rt.alloc(), &mut serializer, sink),
-            kind,
-            fails_at,
-        );
+        let is_right = logs(rt.alloc(), &h, &mut serializer, sevens(fails_at, kind))
+            && begins(&builder, &mut serializer, sevens(fails_at, kind))
+            && comments(rt.alloc(), &mut serializer, sevens(fails_at, kind));
+        assert_right(rt, is_right, kind, fails_at);
     }
     Ok(())
 }

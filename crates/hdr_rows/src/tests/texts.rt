@@ -12,24 +12,31 @@ const OUT_OF_MEMORY: &str = "Out of memory";
 
 const USIZE: &str = "The `usize` type is too small to represent the desired configuration";
 
+const UNGROWN: &str =
+    "Auto resizing is enabled and must be used to represent the provided value, but the histogram cannot be resized because `usize` cannot represent sufficient length";
+
+const UNADDED: &str =
+    "The other histogram includes values that would map to indexes in this histogram that are not expressible for `usize`";
+
+const UNREPRESENTABLE: &str =
+    "hdr: line 7: The value to record is not representable in this histogram and resizing is disabled";
+
 fn says<E: Display>(rt: &(impl Abort + AllocGlobal), error: &E, text: &str) -> Result<(), Fail> {
     assert_eq!(rt; error.to_string(rt.alloc())?.as_str(), text);
     Ok(())
 }
 
+/// The variant `OutOfMemory` of each enum.
+macro_rules! out_of_memory {
+    ($rt:ident: $($errors:ident)*) => { $(says(&$rt, &$errors::OutOfMemory, OUT_OF_MEMORY)?;)* };
+}
+
 #[test]
 fn texts_of_memory(rt: HostRuntime) -> Result<(), Fail> {
-    says(&rt, &CreationError::OutOfMemory, OUT_OF_MEMORY)?;
-    says(&rt, &RecordError::OutOfMemory, OUT_OF_MEMORY)?;
-    says(&rt, &AdditionError::OutOfMemory, OUT_OF_MEMORY)?;
-    says(
-        &rt,
-        &CallError::Addition(AdditionError::OutOfMemory),
-        OUT_OF_MEMORY,
-    )?;
-    says(&rt, &V2SerializeError::OutOfMemory, OUT_OF_MEMORY)?;
-    says(&rt, &DeserializeError::OutOfMemory, OUT_OF_MEMORY)?;
-    says(&rt, &CommentError::OutOfMemory, OUT_OF_MEMORY)?;
+    out_of_memory! { rt: CreationError RecordError AdditionError V2SerializeError DeserializeError
+        CommentError FieldDecodeError MergeError }
+    let error = CallError::Addition(AdditionError::OutOfMemory);
+    says(&rt, &error, OUT_OF_MEMORY)?;
     let error: IntervalLogWriterError<CommentError> = IntervalLogWriterError::OutOfMemory;
     says(&rt, &error, OUT_OF_MEMORY)
 }
@@ -38,21 +45,10 @@ fn texts_of_memory(rt: HostRuntime) -> Result<(), Fail> {
 fn texts_of_usize(rt: HostRuntime) -> Result<(), Fail> {
     says(&rt, &CreationError::UsizeTypeTooSmall, USIZE)?;
     says(&rt, &UsizeTypeTooSmall, USIZE)?;
-    says(
-        &rt,
-        &RecordError::ResizeFailedUsizeTypeTooSmall,
-        "Auto resizing is enabled and must be used to represent the provided value, but the histogram cannot be resized because `usize` cannot represent sufficient length",
-    )?;
-    says(
-        &rt,
-        &AdditionError::ResizeFailedUsizeTypeTooSmall,
-        "The other histogram includes values that would map to indexes in this histogram that are not expressible for `usize`",
-    )?;
-    says(
-        &rt,
-        &V2SerializeError::UsizeTypeTooSmall,
-        "Internal calculations cannot be represented in `usize`",
-    )
+    says(&rt, &RecordError::ResizeFailedUsizeTypeTooSmall, UNGROWN)?;
+    says(&rt, &AdditionError::ResizeFailedUsizeTypeTooSmall, UNADDED)?;
+    let text = "Internal calculations cannot be represented in `usize`";
+    says(&rt, &V2SerializeError::UsizeTypeTooSmall, text)
 }
 
 fn cause() -> Error {
@@ -61,13 +57,9 @@ fn cause() -> Error {
 
 #[test]
 fn texts_of_merges(rt: HostRuntime) -> Result<(), Fail> {
-    says(
-        &rt,
-        &MergeError::Creation(CreationError::SigFigExceedsMax),
-        "Number of significant digits must be in the range `[0, 5]`",
-    )?;
-    says(&rt, &FieldDecodeError::OutOfMemory, OUT_OF_MEMORY)?;
-    says(&rt, &MergeError::OutOfMemory, OUT_OF_MEMORY)
+    let error = MergeError::Creation(CreationError::SigFigExceedsMax);
+    let text = "Number of significant digits must be in the range `[0, 5]`";
+    says(&rt, &error, text)
 }
 
 #[test]

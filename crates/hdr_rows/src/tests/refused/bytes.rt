@@ -1,11 +1,8 @@
 //! Bytes and logs.
 
 use crate::tests::FIRST_RUN;
-use hdr_log::field::{FieldError, decoded};
 use hdrhistogram::Histogram;
-use hdrhistogram::serialization::interval_log::{
-    CommentError, IntervalLogWriter, IntervalLogWriterBuilder, IntervalLogWriterError,
-};
+use hdrhistogram::serialization::interval_log::{IntervalLogWriter, IntervalLogWriterError};
 use hdrhistogram::serialization::{
     DeserializeError, Deserializer, Serializer, V2SerializeError, V2Serializer,
 };
@@ -155,12 +152,17 @@ fn decode_slice(rt: HostRuntime) -> Result<(), Fail> {
     Ok(())
 }
 
-/// Whether a reading by a reader is done, and leaves nothing; else memory was refused to it.
-fn reads_a_reader(rt: &impl Abort, deserializer: &mut Deserializer) -> bool {
-    let mut reader = FIRST_RUN.as_slice();
+/// Whether a reading by a reader gives so many samples, and leaves nothing; else memory was refused to it.
+fn reads_a_reader(
+    rt: &impl Abort,
+    deserializer: &mut Deserializer,
+    text: &[u8],
+    samples: u64,
+) -> bool {
+    let mut reader = text;
     match deserializer.deserialize::<u64, &[u8]>(&mut reader) {
         Ok(h) => {
-            assert!(rt; h.len() == 5 && reader.is_empty());
+            assert!(rt; h.len() == samples && reader.is_empty());
             true
         }
         Err(error) => {
@@ -173,9 +175,9 @@ fn reads_a_reader(rt: &impl Abort, deserializer: &mut Deserializer) -> bool {
 #[test]
 fn deserialize(rt: HostRuntime) -> Result<(), Fail> {
     let mut deserializer = Deserializer::new(rt.alloc());
-    if !reads_a_reader(&rt, &mut deserializer) {
+    if !reads_a_reader(&rt, &mut deserializer, &FIRST_RUN, 5) {
         println!(rt; "no memory")?;
-        assert!(rt; reads_a_reader(&rt, &mut deserializer));
+        assert!(rt; reads_a_reader(&rt, &mut deserializer, &FIRST_RUN, 5));
     }
     Ok(())
 }
@@ -196,42 +198,15 @@ fn long_text(alloc: Global) -> Option<Vec<u8>> {
     Some(text)
 }
 
-/// Whether a reading of such bytes is done, and leaves nothing; else memory was refused to it.
-fn reads_pieces(rt: &impl Abort, deserializer: &mut Deserializer, text: &[u8]) -> bool {
-    let mut reader = text;
-    match deserializer.deserialize::<u64, &[u8]>(&mut reader) {
-        Ok(h) => {
-            assert!(rt; h.len() == 1 && reader.is_empty());
-            true
-        }
-        Err(error) => {
-            assert!(rt; matches!(error, DeserializeError::OutOfMemory));
-            false
-        }
-    }
-}
-
 #[test]
 fn deserialize_pieces(rt: HostRuntime) -> Result<(), Fail> {
     let Some(text) = long_text(rt.alloc()) else {
         return Ok(println!(rt; "no memory")?);
     };
     let mut deserializer = Deserializer::new(rt.alloc());
-    if !reads_pieces(&rt, &mut deserializer, text.as_slice()) {
+    if !reads_a_reader(&rt, &mut deserializer, text.as_slice(), 1) {
         println!(rt; "no memory")?;
-        assert!(rt; reads_a_reader(&rt, &mut deserializer));
-    }
-    Ok(())
-}
-
-#[test]
-fn field(rt: HostRuntime) -> Result<(), Fail> {
-    match decoded(rt.alloc(), "AQI=") {
-        Ok(bytes) => assert_eq!(rt; bytes.as_slice(), [1u8, 2].as_slice()),
-        Err(error) => {
-            assert!(rt; error == FieldError::OutOfMemory);
-            println!(rt; "no memory")?;
-        }
+        assert!(rt; reads_a_reader(&rt, &mut deserializer, &FIRST_RUN, 5));
     }
     Ok(())
 }
@@ -241,48 +216,6 @@ fn empty_and_log(alloc: Global) -> Option<(Histogram<u64>, Vec<u8>)> {
     let h = Histogram::new(alloc, 0).ok()?;
     let log = Vec::with_capacity(alloc, 200).ok()?;
     Some((h, log))
-}
-
-/// Writes a log that begins as a builder says, and an interval.
-fn write(
-    builder: &IntervalLogWriterBuilder,
-    serializer: &mut V2Serializer,
-    h: &Histogram<u64>,
-    log: &mut Vec<u8>,
-) -> Result<(), IntervalLogWriterError<V2SerializeError>> {
-    let mut writer = builder.begin_log_with(log, serializer)?;
-    writer.write_histogram(h, Duration::new(0, 0), Duration::new(0, 0), None)
-}
-
-/// Whether comments and an interval are written whole, or memory is refused and nothing is written.
-fn is_written(alloc: Global, h: &Histogram<u64>, log: &mut Vec<u8>) -> Option<bool> {
-    let mut serializer = V2Serializer::new(alloc);
-    let mut builder = IntervalLogWriterBuilder::new(alloc);
-    let answer = match builder.add_comment("a") {
-        Err(CommentError::OutOfMemory) => Some(false),
-        _ => is_done(write(&builder, &mut serializer, h, log)),
-    };
-    drop(serializer);
-    drop(builder);
-    answer
-}
-
-#[test]
-fn log(rt: HostRuntime) -> Result<(), Fail> {
-    let Some((h, mut log)) = empty_and_log(rt.alloc()) else {
-        return Ok(println!(rt; "no memory")?);
-    };
-    let answer = is_written(rt.alloc(), &h, &mut log);
-    drop(h);
-    match answer {
-        Some(true) => assert!(rt; log.as_slice().starts_with(b"#a\n0.000,0.000,0.000,HIST")),
-        Some(false) => {
-            assert!(rt; log.is_empty() || log.as_slice() == b"#a\n".as_slice());
-            println!(rt; "no memory")?;
-        }
-        None => return Err(Fail::from("another error")),
-    }
-    Ok(())
 }
 
 /// A log of a comment of two lines, which ends at 6, and of two intervals of an empty histogram, of 75 bytes each.

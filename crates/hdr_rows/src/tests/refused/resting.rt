@@ -16,98 +16,34 @@ use std::test::Fail;
 use std::time::Duration;
 
 /// Histograms up to 1023, of which two hold a value.
-const SMALL: [&str; 5] = [
-    "one new_with_max 1000 1",
-    "other new_with_max 1000 1",
-    "wide new_with_max 1000 1",
-    "other saturating_record 7",
-    "wide saturating_record 900",
-];
+const SMALL: &str = "one new_with_max 1000 1; other new_with_max 1000 1; wide new_with_max 1000 1; \
+    other saturating_record 7; wide saturating_record 900";
 
 /// Calls that take no memory on `SMALL`.
-const RESTING: [&str; 75] = [
-    "one record 900",
-    "one record_n 5 255",
-    "one record_correct 90 10",
-    "one record_n_correct 90 200 7",
-    "one record_n_correct_counted 900 1 1",
-    "one saturating_record 5000",
-    "one saturating_record_n 5000 3",
-    "one record 5000",
-    "one apply record 9 1",
-    "one apply clamp 9 1",
-    "one apply correct 9 1 2",
-    "one apply add",
-    "one apply add_correct 3",
-    "one add",
-    "one add_from",
-    "one add_correct 10",
-    "one add_correct_from 10",
-    "one subtract",
-    "one set_to",
-    "one set_to_corrected 10",
-    "one value_at_quantile 1 2",
-    "one value_at_percentile 50 1",
-    "one looks 1 2",
-    "one len",
-    "one count",
-    "one is_empty",
-    "one low",
-    "one high",
-    "one sigfig",
-    "one is_auto_resize",
-    "one buckets",
-    "one distinct_values",
-    "one max",
-    "one min",
-    "one min_nz",
-    "one count_at 9",
-    "one count_between 1 9",
-    "one bin_of 9",
-    "one bin_value 9",
-    "one bin_count 9",
-    "one lowest_equivalent 900",
-    "one highest_equivalent 900",
-    "one next_non_equivalent 900",
-    "one median_equivalent 900",
-    "one equivalent_range 900",
-    "one equivalent 900 901",
-    "one is_other",
-    "one equals_wide",
-    "one apply clear",
-    "one apply reset",
-    "one clear",
-    "one reset",
-    "one auto 0",
-    "counter zero",
-    "counter max_value",
-    "counter from_u64 5",
-    "counter saturating_add 1 2",
-    "counter checked_add 1 2",
-    "counter checked_sub 2 1",
-    "counter less 1 2",
-    "scale unit 1 1",
-    "scale digits 1 1",
-    "scale bin 1 1 900",
-    "scale bin_value 1 1 9",
-    "scale width 1 1 900",
-    "scale lowest 1 1 900",
-    "scale top 1 1 900",
-    "scale reach 1 1 900",
-    "scale buckets 1 1 900",
-    "scale block 1 1",
-    "fraction num 1 2",
-    "fraction den 1 2",
-    "fraction work",
-    "bytes zig_zag -5",
-    "log tag a",
-];
+const RESTING: &str = "one record 900; one record_n 5 255; one record_correct 90 10; \
+    one record_n_correct 90 200 7; one record_n_correct_counted 900 1 1; \
+    one saturating_record 5000; one saturating_record_n 5000 3; one record 5000; \
+    one apply record 9 1; one apply clamp 9 1; one apply correct 9 1 2; one apply add; \
+    one apply add_correct 3; one add; one add_from; one add_correct 10; \
+    one add_correct_from 10; one subtract; one set_to; one set_to_corrected 10; \
+    one value_at_quantile 1 2; one value_at_percentile 50 1; one looks 1 2; one len; one count; \
+    one is_empty; one low; one high; one sigfig; one is_auto_resize; one buckets; \
+    one distinct_values; one max; one min; one min_nz; one count_at 9; one count_between 1 9; \
+    one bin_of 9; one bin_value 9; one bin_count 9; one lowest_equivalent 900; \
+    one highest_equivalent 900; one next_non_equivalent 900; one median_equivalent 900; \
+    one equivalent_range 900; one equivalent 900 901; one is_other; one equals_wide; \
+    one apply clear; one apply reset; one clear; one reset; one auto 0; counter zero; \
+    counter max_value; counter from_u64 5; counter saturating_add 1 2; counter checked_add 1 2; \
+    counter checked_sub 2 1; counter less 1 2; scale unit 1 1; scale digits 1 1; \
+    scale bin 1 1 900; scale bin_value 1 1 9; scale width 1 1 900; scale lowest 1 1 900; \
+    scale top 1 1 900; scale reach 1 1 900; scale buckets 1 1 900; scale block 1 1; \
+    fraction num 1 2; fraction den 1 2; fraction ticks; bytes zig_zag -5; log tag a";
 
 /// Whether a run is done that takes no memory.
 fn run_is_done(table: &mut Table<u64>) -> bool {
     let calls = [
         Call::Record(9, 1),
-        Call::Add(&table.other.inner),
+        Call::Add(&table.other),
         Call::Correct(9, 1, 2),
     ];
     table.one.apply_all(&calls).is_ok()
@@ -117,8 +53,8 @@ fn run_is_done(table: &mut Table<u64>) -> bool {
 fn run_from_is_done(table: &mut Table<u64>) -> bool {
     let calls = [
         CallFrom::Own(Call::Record(9, 1)),
-        CallFrom::AddFrom(&table.wide.inner),
-        CallFrom::AddCorrectFrom(&table.wide.inner, 2),
+        CallFrom::AddFrom(&table.wide),
+        CallFrom::AddCorrectFrom(&table.wide, 2),
     ];
     table.one.apply_all_from(&calls).is_ok()
 }
@@ -126,11 +62,11 @@ fn run_from_is_done(table: &mut Table<u64>) -> bool {
 /// Whether calls that take no memory are done. None: memory was refused to what is made before them.
 fn rests(alloc: Global) -> Option<bool> {
     let mut table: Table<u64> = Table::new(alloc).ok()?;
-    if is_refused(alloc, &mut table, SMALL.as_slice()) {
+    if is_refused(alloc, &mut table, SMALL) {
         return None;
     }
     Some(
-        !is_refused(alloc, &mut table, RESTING.as_slice())
+        !is_refused(alloc, &mut table, RESTING)
             && run_is_done(&mut table)
             && run_from_is_done(&mut table),
     )
@@ -155,24 +91,16 @@ fn numbers_are_right() -> bool {
         && zig_zag_decode(zig_zag_encode(-5)) == -5
 }
 
+/// Counts the items of iterators.
+macro_rules! count_each {
+    ($n:ident: $($items:expr),*) => { $(for _item in $items { $n = $n.saturating_add(1); })* };
+}
+
 /// How many items all iterators give.
 fn iterated(h: &Histogram<u64>) -> u64 {
     let mut items: u64 = 0;
-    for _item in h.iter_all() {
-        items = items.saturating_add(1);
-    }
-    for _item in h.iter_recorded() {
-        items = items.saturating_add(1);
-    }
-    for _item in h.iter_linear(100) {
-        items = items.saturating_add(1);
-    }
-    for _item in h.iter_log(1, 10) {
-        items = items.saturating_add(1);
-    }
-    for _item in h.iter_quantiles(2) {
-        items = items.saturating_add(1);
-    }
+    count_each!(items: h.iter_all(), h.iter_recorded(), h.iter_linear(100), h.iter_log(1, 10));
+    count_each!(items: h.iter_quantiles(2));
     items
 }
 

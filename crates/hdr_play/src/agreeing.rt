@@ -1,10 +1,9 @@
-//! Correction by the plain body, which records each missing value by itself.
+//! Correction class by class beside the plain body, which records each missing value by itself.
 
 use crate::answer::Answer;
-use crate::bare::Histogram;
-use crate::single::{Numbers, same};
+use crate::single::same;
 use hdr_base::Counter;
-use hdr_core::RecordError;
+use hdr_core::{Histogram, RecordError};
 
 /// Records a value, and then each missing value, one after the other.
 fn record_each<T: Counter>(
@@ -27,7 +26,7 @@ fn record_each<T: Counter>(
 }
 
 /// Corrects by both bodies in histograms that hold the same before, and compares what both leave.
-fn agrees<T: Counter>(
+pub fn agrees<T: Counter>(
     one: &mut Histogram<T>,
     other: &mut Histogram<T>,
     value: u64,
@@ -38,35 +37,25 @@ fn agrees<T: Counter>(
     answer == record_each(other, value, count, interval) && same(one, other)
 }
 
-/// Each value below the first number, as often as the second, by each interval up to the next value: in empty histograms
-/// where the third number is 0, else in ones that keep what was recorded.
+/// Each value below a number by each interval up to the next value, in histograms that keep what was recorded, or in empty
+/// ones. The answer is the first value at which the bodies do not agree.
 pub fn agree_below<T: Counter>(
     one: &mut Histogram<T>,
     other: &mut Histogram<T>,
-    numbers: Numbers,
-) -> Option<Answer> {
-    let [values, count, keep] = numbers;
-    let count = T::from_u64(count)?;
+    values: u64,
+    count: T,
+    keeps: bool,
+) -> Answer {
     for value in 0..values {
         for interval in 0..=value.saturating_add(1) {
-            if keep == 0 {
+            if !keeps {
                 one.reset();
                 other.reset();
             }
             if !agrees(one, other, value, count, interval) {
-                return Some(Answer::Number(value));
+                return Answer::Number(value);
             }
         }
     }
-    Some(Answer::Done)
-}
-
-/// A correction by both bodies: the value, the count and the interval.
-pub fn agree<T: Counter>(
-    one: &mut Histogram<T>,
-    other: &mut Histogram<T>,
-    numbers: Numbers,
-) -> Option<Answer> {
-    let [value, count, interval] = numbers;
-    Some(Answer::Truth(agrees(one, other, value, T::from_u64(count)?, interval)))
+    Answer::Done
 }
