@@ -2,3 +2,4 @@ pub mod CallsFacts
 pub mod IteratingFacts
 pub mod UsedBins
 pub mod EqualityParts
+pub mod RestatedMarks

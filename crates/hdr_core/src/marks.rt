@@ -114,6 +114,19 @@ impl Marks {
         }
     }
 
+    /// Widens both marks by a class, if there is one.
+    pub(crate) fn widen_if(&mut self, class: Option<usize>)
+        requires { IfSome class (λ i. i < 2 ^ 32) }
+        ensures { self.new ≡ record {
+          top = later_of self.old.top class;
+          lower = earlier_of self.old.lower class;
+        } }
+    {
+        if let Some(class) = class {
+            self.widen(class);
+        }
+    }
+
     /// Widens both marks by those of another histogram.
     pub(crate) fn widen_by(&mut self, other: &Marks)
         ensures { self.new ≡ record {

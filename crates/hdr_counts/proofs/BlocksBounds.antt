@@ -35,17 +35,13 @@ sum-offset-fits b k ns ss h lt =
     let some : length ss * 1 ≤ length ss * b = mul-le-mul_left (length ss) h.some in
     omega (arith, some, h.whole, h.few)
 
--- lists of one length have as many blocks
-pub same-blocks : {X Y : Type 0} (f : X → ℕ) (h : Y → ℕ) (xs : List X) (ys : List Y) (b k : ℕ) (ss ts : List ℕ) → AreSums b (map f xs) ss → AreSums b (map h ys) ts → length xs ≡ length ys → k < length ss → k < length ts
-same-blocks f h xs ys b k ss ts of_xs of_ys same lt =
-    omega (arith, blocks_more b (length ss) (length ts) of_xs.some (omega (arith, of_xs.whole, of_ys.whole, same, length-map xs f, length-map ys h)))
-
 -- a part has no more elements than the list
 pub part-few : {X : Type 0} (f : X → ℕ) (xs l : List X) (b a w : ℕ) (ss : List ℕ) → AreSums b (map f xs) ss → length l ≡ length xs → length (take w (drop a l)) ≤ most_bins
 part-few f xs l b a w ss h same = rw (length-take, length-drop) (omega (arith, h.few, length-map xs f))
 
-pub parts-same : {X Y : Type 0} (xs : List X) (ys : List Y) (a w : ℕ) → length xs ≡ length ys → length (take w (drop a xs)) ≡ length (take w (drop a ys))
-parts-same xs ys a w same = rw (length-take, length-drop) (rw (length-take, length-drop) (ap (λ n. min w (n - a)) same))
+-- parts that both lists have are as long
+pub parts-same : {X Y : Type 0} (xs : List X) (ys : List Y) (a w : ℕ) → a + w ≤ length xs → a + w ≤ length ys → length (take w (drop a xs)) ≡ length (take w (drop a ys))
+parts-same xs ys a w first second = omega (arith, length-take w (drop a xs), length-take w (drop a ys), length-drop a xs, length-drop a ys, first, second)
 
 -- a place in a block is one of the few
 pub block-place-few : {X : Type 0} (f : X → ℕ) (xs : List X) (b k a w i : ℕ) (ss : List ℕ) → AreSums b (map f xs) ss → k < length ss → a + w ≡ k * b + b → i < length (take w (drop a xs)) → a + i < most_bins

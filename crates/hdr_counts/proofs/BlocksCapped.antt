@@ -73,7 +73,7 @@ capped-front greatest (suc b) (m ∷ ms) [] = ap (λ xs. m ∷ xs) (front b ms)
 capped-front greatest (suc b) (m ∷ ms) (n ∷ ns) = ap (λ xs. min (m + n) greatest ∷ xs) (capped-front greatest b ms ns)
 
 -- one block more
-pub capped-block : (greatest : ℕ) (a b e : ℕ) (ms ns : List ℕ) → e ≡ a + b → a ≤ length ms → length ms ≡ length ns
+pub capped-block : (greatest : ℕ) (a b e : ℕ) (ms ns : List ℕ) → e ≡ a + b → a ≤ length ms → a ≤ length ns
     → let xs = capped_sums greatest ms (take a ns) in
     take a xs ++ (capped_sums greatest (take b (drop a xs)) (take b (drop a ns)) ++ drop e xs) ≡ capped_sums greatest ms (take e ns)
 capped-block greatest zero b e ms ns is le same =
@@ -84,6 +84,13 @@ capped-block greatest (suc a) b e (m ∷ ms) [] is le same = absurd (omega arith
 capped-block greatest (suc a) b zero (m ∷ ms) (n ∷ ns) is le same = absurd (omega arith)
 capped-block greatest (suc a) b (suc e) (m ∷ ms) (n ∷ ns) is le same =
     ap (λ xs. min (m + n) greatest ∷ xs) (capped-block greatest a b e ms ns (omega arith) (omega arith) (omega arith))
+
+-- numbers past the end of the first list add nothing
+pub capped-cut : (greatest : ℕ) (a : ℕ) (ms ns : List ℕ) → length ms ≤ a → capped_sums greatest ms (take a ns) ≡ capped_sums greatest ms ns
+capped-cut greatest a [] ns le = refl
+capped-cut greatest zero (m ∷ ms) ns le = absurd (omega arith)
+capped-cut greatest (suc a) (m ∷ ms) [] le = refl
+capped-cut greatest (suc a) (m ∷ ms) (n ∷ ns) le = ap (λ xs. min (m + n) greatest ∷ xs) (capped-cut greatest a ms ns (omega arith))
 
 -- where both lists together are at most the greatest, no sum is cut
 pub capped-free : (greatest : ℕ) (ms ns : List ℕ) → length ms ≡ length ns → sum ms + sum ns ≤ greatest → sum (capped_sums greatest ms ns) ≡ sum ms + sum ns
@@ -140,7 +147,7 @@ map-middle f xs a w = sym (take-map f w (drop a xs)) ∙ ap (take w) (sym (drop-
 
 -- one block more was added
 pub capped-step : {X Y : Type 0} (f : X → ℕ) (h : Y → ℕ) (xs part : List X) (ys : List Y) (greatest a w b e : ℕ) (ms : List ℕ)
-    → w ≡ b → e ≡ a + b → a ≤ length ms → length ms ≡ length ys → map f xs ≡ capped_sums greatest ms (take a (map h ys))
+    → w ≡ b → e ≡ a + b → a ≤ length ms → a ≤ length ys → map f xs ≡ capped_sums greatest ms (take a (map h ys))
     → map f part ≡ capped_sums greatest (map f (take w (drop a xs))) (map h (take w (drop a ys)))
     → map f (take a xs ++ (part ++ drop w (drop a xs))) ≡ capped_sums greatest ms (take e (map h ys))
 capped-step f h xs part ys greatest a w b e ms wide end room same before added =
@@ -151,4 +158,4 @@ capped-step f h xs part ys greatest a w b e ms wide end room same before added =
     let at : a + w ≡ e = omega arith in
     ap (λ l. map f (take a xs ++ (part ++ l))) (drop-drop w a xs) ∙ map-part f xs part a (a + w) ∙ ap (λ n. take a (map f xs) ++ (map f part ++ drop n (map f xs))) at
     ∙ ap (λ l. take a l ++ (map f part ++ drop e l)) before ∙ ap (λ l. take a now ++ (l ++ drop e now)) new
-    ∙ capped-block greatest a b e ms (map h ys) end room (same ∙ sym (length-map ys h))
+    ∙ capped-block greatest a b e ms (map h ys) end room (omega (arith, same, length-map ys h))

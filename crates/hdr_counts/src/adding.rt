@@ -30,7 +30,7 @@ pub(crate) fn short_sum<T: Counter>(counters: &[T]) -> u64
     total
 }
 
-/// Adds the sections of `source` to those of `counters`, each sum of two up to the greatest counter. `sums` and `more`
+/// Adds the sections of `source` to those of `counters`, as far as both have them, each sum of two up to the greatest counter. `sums` and `more`
 /// are the sums of their sections.
 pub(crate) fn add_sections<T: Counter, F: Counter>(
     counters: &mut [T],
@@ -41,14 +41,13 @@ pub(crate) fn add_sections<T: Counter, F: Counter>(
 )
     requires sums { AreSums section (map T.number counters.old) sums.old }
     requires more { AreSums section (map F.number source.now) more.now }
-    requires len { length counters.old ≡ length source.now }
     requires fit { All (λ n. n ≤ T.greatest) (map T.number counters.old) }
     ensures numbers { map T.number counters.new ≡ capped_sums T.greatest (map T.number counters.old)
         (map F.number source.now) }
     ensures sums { AreSums section (map T.number counters.new) sums.new }
     ensures fit { All (λ n. n ≤ T.greatest) (map T.number counters.new) }
 {
-    for k in 0..sums.len() {
+    for k in 0..sums.len().min(more.len()) {
         let from = k * section;
         let to = from + section;
         sums[k] = add_section(&mut counters[from..to], &source[from..to], sums[k], more[k]);

@@ -272,11 +272,10 @@ impl<T: Counter> Counts<T> {
         }
     }
 
-    /// Adds the counters of a list of the same shape place by place, each sum up to the greatest counter. A section
-    /// that adds nothing is passed over.
+    /// Adds the counters of a list of the same blocks place by place, as far as both have them, each sum up to the greatest
+    /// counter. A section that adds nothing is passed over.
     pub fn add_capped<F: Counter>(&mut self, source: &Counts<F>)
-        requires block { self.old.block ≡ source.now.block }
-        requires len { length self.old.numbers ≡ length source.now.numbers }
+        requires { self.old.block ≡ source.now.block }
         ensures { self.new ≡ record {
           block = self.old.block;
           numbers = capped_sums T.greatest self.old.numbers source.now.numbers;

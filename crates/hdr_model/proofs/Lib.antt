@@ -10,6 +10,7 @@ pub mod MergingKeeps
 pub mod MergingStands
 pub mod MergingHolds
 pub mod MergingOrder
+pub mod MergingFronts
 pub mod MergingCopies
 pub mod MergingCorrects
 pub mod JoiningFacts

@@ -63,7 +63,7 @@ own-class g j ns m =
 
 -- ---- numbers after values were recorded
 
-number-fits : (greatest : ℕ) (h : Plain) (i : ℕ) → IsPlain greatest h → get_or h.counts i 0 ≤ greatest
+pub number-fits : (greatest : ℕ) (h : Plain) (i : ℕ) → IsPlain greatest h → get_or h.counts i 0 ≤ greatest
 number-fits greatest h i p = elim (cases_lt i (length h.counts)) [
   | inl lt ↦ p.numbers_fit i 0 lt
   | inr ge ↦ omega (arith, get_or_past h.counts i 0 ge)

@@ -1,6 +1,6 @@
 //! Adding one histogram to another, of the same or of another counter type.
 
-ghost use Rattle.std.specs.Prelude.{◌==◌, if◌then◌else◌, ◌≡◌, ℕ, ◌+◌, ◌-◌, ◌^◌, ◌<◌, ◌≤◌, ◌⊎◌, ◌++◌, List, OnOk, IfErr, true, min, length, slice_index, sum};
+ghost use Rattle.std.specs.Prelude.{◌==◌, ◌&&◌, if◌then◌else◌, ◌≡◌, ℕ, ◌+◌, ◌-◌, ◌^◌, ◌<◌, ◌≤◌, ◌⊎◌, ◌++◌, List, OnOk, IfErr, true, min, length, slice_index, sum};
 ghost use Rattle.hdr_base.specs.Classes.{value_of, IsFiner};
 ghost use Rattle.hdr_model.specs.Plain.{IsPlain, grain, reach, max_of};
 ghost use Rattle.hdr_model.specs.Recording.{after_record, after_records, after_reset, high_with};
@@ -92,20 +92,27 @@ impl<T: Counter> Histogram<T> {
     {
         if self.same_bins(source) {
             self.join(source);
+        } else if self.same_classes(source) {
+            self.join_front(source);
         } else {
             self.record_classes(source);
         }
     }
 
+    fn same_classes<F: Counter>(&self, other: &Histogram<F>) -> bool
+        ensures { result ≡ (((grain self.now).unit == (grain other.now).unit)
+            && ((grain self.now).digits == (grain other.now).digits)) }
+    {
+        self.scale.unit() == other.scale.unit() && self.scale.digits() == other.scale.digits()
+    }
+
     fn same_bins<F: Counter>(&self, other: &Histogram<F>) -> bool
         ensures { result ≡ same_bins self.now other.now }
     {
-        self.scale.unit() == other.scale.unit()
-            && self.scale.digits() == other.scale.digits()
-            && self.counts.len() == other.counts.len()
+        self.same_classes(other) && self.counts.len() == other.counts.len()
     }
 
-    /// Adds a source of the same bins, block by block.
+    /// Adds a source of the same bins, section by section.
     pub(super) fn join<F: Counter>(&mut self, source: &Histogram<F>)
         requires { same_bins self.old source.now ≡ true }
         ensures { self.new ≡ after_add_same_bins T.greatest self.old source.now }
@@ -118,6 +125,21 @@ impl<T: Counter> Histogram<T> {
             self.total = self.total.saturating_add(capped_sum(&source.counts));
             self.marks.widen_by(&source.marks);
         }
+    }
+
+    /// Adds a source of the same classes in another number of bins, section by section.
+    fn join_front<F: Counter>(&mut self, source: &Histogram<F>)
+        requires same { grain source.now ≡ grain self.old }
+        requires room { max_of source.now ≤ reach self.old }
+        ensures { self.new ≡ after_records T.greatest self.old
+            (classes_from (grain source.now) 0 source.now.counts ++ top_class
+            (grain source.now) source.now.top_mark) }
+    {
+        let counts = &source.counts;
+        self.counts.add_capped(counts);
+        self.total = self.total.saturating_add(capped_sum(counts));
+        self.marks.widen_if(counts.next_nonzero());
+        self.marks.widen_if(source.marks.top());
     }
 
     /// How many of the first bins hold all samples: those up to the top mark's.
