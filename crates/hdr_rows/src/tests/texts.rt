@@ -18,9 +18,6 @@ const UNGROWN: &str =
 const UNADDED: &str =
     "The other histogram includes values that would map to indexes in this histogram that are not expressible for `usize`";
 
-const UNREPRESENTABLE: &str =
-    "hdr: line 7: The value to record is not representable in this histogram and resizing is disabled";
-
 fn says<E: Display>(rt: &(impl Abort + AllocGlobal), error: &E, text: &str) -> Result<(), Fail> {
     assert_eq!(rt; error.to_string(rt.alloc())?.as_str(), text);
     Ok(())
