@@ -3,7 +3,7 @@ use Rattle.std.proofs.Common.{◌≡◌, ◌≤◌, ◌==◌, ◌-◌, ◌^◌, 
 use Rattle.std.specs.List.{enumerate_from}
 use Rattle.std.proofs.lemmas.List.Sums.{count_by-le-length}
 use Rattle.hdr_base.specs.Classes.{Grain, bin_of, reach_of}
-use Rattle.hdr_log.specs.Parts.{parts}
+use Rattle.hdr_log.specs.Parts.{parts, number_of}
 use Rattle.hdr_model.specs.Recording.{high_with}
 use Rattle.hdr_model.specs.Runs.{State}
 use Rattle.hdr_model.specs.Samples.{Fits, in_class}
@@ -21,14 +21,14 @@ abbrev pub the_end : EndOf (List ℕ)
 the_end = record { holds = 1 ∷ []; tag = None; start = 0 }
 
 -- a state after so many samples of a value
-recorded : Grain → State → ℕ → ℕ → State
+abbrev pub recorded : Grain → State → ℕ → ℕ → State
 recorded g s n v = record { samples = s.samples ++ replicate n v; high = high_with g s.high v (reach_of g v) }
 
-begun : State
+abbrev pub begun : State
 begun = record { samples = []; high = 2 }
 
 pub past_ends : (g : Grain) → EndsWith g begun (enumerate_from 1 (parts 10 past_the_end)) (the_end ∷ [])
-unfolding recorded, begun, command_of_name
+unfolding command_of_name number_of
 past_ends g =
     let one = recorded g begun 1 1 in
     let rest : State = record { samples = []; high = one.high } in
@@ -36,7 +36,7 @@ past_ends g =
     (one, (refl, refl), ([], refl, one_fits (2 ^ 64 - 1) g (lit≤ tt), (many, (refl, refl), (recorded g many 1 5, (refl, refl), refl))))
 
 pub cleared_ends : (g : Grain) → EndsWith g begun (enumerate_from 1 (parts 10 before_a_clear)) (the_end ∷ [])
-unfolding recorded, begun, command_of_name
+unfolding command_of_name number_of
 cleared_ends g =
     let many = recorded g begun 18_446_744_073_709_551_615 5 in
     let more = recorded g many 1 5 in
