@@ -80,6 +80,37 @@ impl<T: Counter> OpenCounts<T> {
         })
     }
 
+    /// The counters of a list, each made 0. It looks at the sum of each section, and at the counters of those that hold something.
+    pub fn cleared(mut counts: Counts<T>) -> OpenCounts<T>
+        ensures { result ≡ record {
+          block = counts.block;
+          numbers = replicate (length counts.numbers) 0;
+        } }
+    {
+        counts.clear();
+        let Counts {
+            counters,
+            sums,
+            block,
+            section,
+            shift,
+        } = counts;
+        let len = counters.len();
+        OpenCounts {
+            counters,
+            sums,
+            sum: 0,
+            block,
+            section,
+            shift,
+            len,
+            current: 0,
+            next: 0,
+            end: 0,
+            first: usize::MAX,
+        }
+    }
+
     /// How many counters there are.
     #[inline(always)]
     pub fn len(&self) -> usize

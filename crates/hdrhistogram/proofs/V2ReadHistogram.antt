@@ -102,6 +102,11 @@ made low high sigfig =
 pub is-made : (f : Open) (low high sigfig : ℕ) → f ≡ open_of (empty_plain low high sigfig false) → IsMade f low high sigfig
 is-made f low high sigfig e = subst (λ g. IsMade g low high sigfig) (sym e) (made low high sigfig)
 
+-- the same of the bins of a histogram of those bounds
+pub is-spare : (f : Open) (a b d low high sigfig : ℕ) → f ≡ open_of (empty_plain a b d false) → a ≡ low → b ≡ high → d ≡ sigfig → IsMade f low high sigfig
+is-spare f a b d low high sigfig e x y z =
+    is-made f low high sigfig (e ∙ ap (λ l. open_of (empty_plain l b d false)) x ∙ ap (λ h. open_of (empty_plain low h d false)) y ∙ ap (λ n. open_of (empty_plain low high n false)) z)
+
 -- ---- the steps
 
 abbrev pub from_counts : ℕ → Header → List ℕ → List ℕ → Result (Contents × List ℕ) Defect

@@ -64,6 +64,33 @@ impl<T: Counter> Filling<T> {
         })
     }
 
+    /// The bins of a histogram, made empty, as those of `new_with_bounds` for its bounds. It costs by what the histogram holds, and
+    /// takes no memory.
+    pub fn emptied(histogram: Histogram<T>) -> Filling<T>
+        ensures { (result ≡ open_of
+            (empty_plain histogram.low histogram.high histogram.sigfig false))
+            × IsBounds histogram.low histogram.high histogram.sigfig }
+    {
+        let Histogram {
+            scale,
+            low,
+            high,
+            sigfig,
+            auto_resize: _,
+            counts,
+            total: _,
+            marks: _,
+        } = histogram;
+        Filling {
+            scale,
+            low,
+            high,
+            sigfig,
+            auto_resize: false,
+            counts: OpenCounts::cleared(counts),
+        }
+    }
+
     /// How many bins there are.
     #[inline(always)]
     pub fn distinct_values(&self) -> usize

@@ -1,6 +1,6 @@
 //! Reading V2 bytes.
 
-ghost use Rattle.std.specs.Prelude.{◌≡◌, ℕ, List, [], length, replicate, false, None, IfOk, IfErr, MatchResult};
+ghost use Rattle.std.specs.Prelude.{◌≡◌, ℕ, List, [], length, replicate, true, false, None, IfOk, IfErr, MatchResult};
 ghost use Rattle.std.specs.Io.KnownBytes.{Consumes};
 ghost use Rattle.hdrhistogram.specs.Defects.{Gives, TakesAs, Checks, FailsBy, TakesNoMore, RunsOutOnly, defect_of_error};
 ghost use Rattle.hdrhistogram.specs.V2Read.{HasBounds, creation_defect, bounds_defect, bins_for, bytes_at, v2_at, told_by, told_of, IsRestated, IsReadAs};
@@ -64,8 +64,7 @@ impl Deserializer {
         ensures memory { IfErr result (RunsOutOnly (HasBounds text.now)) }
         ensures kept { self.new ≡ self.old }
     {
-        let (h, rest) = decode(*self.payload.allocator(), text)?;
-        Ok((h, text.len() - rest.len()))
+        decode_front(*self.payload.allocator(), text, None)
     }
 
     /// Reads a histogram from a reader by single calls of `read`, and takes no byte after it. The
@@ -111,7 +110,20 @@ impl Deserializer {
             (RefusesDecoding T.greatest field.now) }
         ensures as_new { self.new ≡ [] }
     {
-        let read = read_field(field, &mut self.payload);
+        self.decode_field_into(field, None)
+    }
+
+    /// `decode_field`, in the memory of a histogram that is no longer wanted, where that has the same bounds.
+    pub(crate) fn decode_field_into<T: Counter>(
+        &mut self,
+        field: &str,
+        spare: Option<Histogram<T>>,
+    ) -> Result<Histogram<T>, FieldDecodeError>
+        ensures read { MatchResult result (IsHeldIn T.greatest field.now)
+            (RefusesDecoding T.greatest field.now) }
+        ensures as_new { self.new ≡ [] }
+    {
+        let read = read_field(field, &mut self.payload, spare);
         self.payload.clear();
         read
     }
@@ -121,6 +133,7 @@ impl Deserializer {
 fn read_field<T: Counter>(
     field: &str,
     buffer: &mut Vec<u8>,
+    spare: Option<Histogram<T>>,
 ) -> Result<Histogram<T>, FieldDecodeError>
     ensures { MatchResult result (IsHeldIn T.greatest field.now)
         (RefusesDecoding T.greatest field.now) }
@@ -130,15 +143,19 @@ fn read_field<T: Counter>(
         Err(FieldError::NotBase64) => return Err(FieldDecodeError::NotBase64),
         Err(FieldError::OutOfMemory) => return Err(FieldDecodeError::OutOfMemory),
     }
-    match Deserializer::new(*buffer.allocator()).decode_slice(buffer) {
+    match decode_front(*buffer.allocator(), buffer, spare) {
         Ok((h, _)) => Ok(h),
         Err(DeserializeError::OutOfMemory) => Err(FieldDecodeError::OutOfMemory),
         Err(cause) => Err(FieldDecodeError::Decode(cause)),
     }
 }
 
-/// Empty bins of a header's bounds.
-fn empty_for<T: Counter>(alloc: Global, header: Header) -> Result<Filling<T>, DeserializeError>
+/// Empty bins of a header's bounds: those of a histogram that is no longer wanted, where it has these bounds, or new ones.
+fn empty_for<T: Counter>(
+    alloc: Global,
+    header: Header,
+    spare: Option<Histogram<T>>,
+) -> Result<Filling<T>, DeserializeError>
     ensures bounds { Checks result (bounds_defect (header_of header)) }
     ensures memory { IfErr result (RunsOutOnly (bounds_defect (header_of header) ≡ None)) }
     ensures empty { IfOk result (λ f. f.counts ≡ replicate (length f.counts) 0) }
@@ -152,10 +169,26 @@ fn empty_for<T: Counter>(alloc: Global, header: Header) -> Result<Filling<T>, De
         }) }
     ensures bins { IfOk result (λ f. length f.counts ≡ bins_for (header_of header)) }
 {
+    if let Some(histogram) = spare {
+        if has_bounds(&histogram, header) {
+            return Ok(Filling::emptied(histogram));
+        }
+    }
     match Filling::new_with_bounds(alloc, header.low, header.high, header.sigfig) {
         Ok(filling) => Ok(filling),
         Err(error) => Err(refused(error)),
     }
+}
+
+/// Whether a histogram has the bounds of a header.
+fn has_bounds<T: Counter>(histogram: &Histogram<T>, header: Header) -> bool
+    ensures low { result ≡ true → histogram.now.low ≡ header.low }
+    ensures high { result ≡ true → histogram.now.high ≡ header.high }
+    ensures sigfig { result ≡ true → histogram.now.sigfig ≡ header.sigfig }
+{
+    histogram.low() == header.low
+        && histogram.high() == header.high
+        && histogram.sigfig() == header.sigfig
 }
 
 /// What it is for bytes that their bounds are refused.
@@ -179,16 +212,34 @@ fn bytes_at(text: &[u8], len: usize) -> Result<(&[u8], &[u8]), DeserializeError>
     Ok((&text[..len], &text[len..]))
 }
 
+/// The histogram at the front of a text, and how many bytes it takes.
+fn decode_front<T: Counter>(
+    alloc: Global,
+    text: &[u8],
+    spare: Option<Histogram<T>>,
+) -> Result<(Histogram<T>, usize), DeserializeError>
+    ensures read { IfOk result (λ found. IsReadAs T.greatest text.now found.0 found.1) }
+    ensures refused { IfErr result (λ e. FailsBy (defect_of_error e) (v2_at T.greatest text.now)) }
+    ensures memory { IfErr result (RunsOutOnly (HasBounds text.now)) }
+{
+    let (h, rest) = decode(alloc, text, spare)?;
+    Ok((h, text.len() - rest.len()))
+}
+
 /// The histogram at the front of a text, and the text after it.
 #[tactic(auto, unfolding(crate::specs::V2Read::v2_at))]
-fn decode<T: Counter>(alloc: Global, text: &[u8]) -> Result<(Histogram<T>, &[u8]), DeserializeError>
+fn decode<T: Counter>(
+    alloc: Global,
+    text: &[u8],
+    spare: Option<Histogram<T>>,
+) -> Result<(Histogram<T>, &[u8]), DeserializeError>
     ensures read { Gives (λ x. (told_of x.0, x.1.now)) result (v2_at T.greatest text.now) }
     ensures memory { IfErr result (RunsOutOnly (HasBounds text.now)) }
     ensures fixed { IfOk result (λ x. x.0.auto_resize ≡ false) }
     ensures restated { IfOk result (λ x. IsRestated x.0) }
 {
     let (header, rest) = header_at(text)?;
-    let empty = empty_for(alloc, header)?;
+    let empty = empty_for(alloc, header, spare)?;
     let (payload, rest) = bytes_at(rest, header.payload_len as usize)?;
     let h = filled(empty, payload)?;
     Ok((h, rest))
@@ -209,7 +260,7 @@ fn read_v2<T: Counter, R: Read>(
     ensures restated { IfOk result (λ h. IsRestated h) }
 {
     let header = read_header(reader)?;
-    let empty = empty_for(*buffer.allocator(), header)?;
+    let empty = empty_for(*buffer.allocator(), header, None)?;
     read_payload(reader, buffer, header.payload_len as usize)?;
     let h = filled(empty, buffer)?;
     Ok(h)

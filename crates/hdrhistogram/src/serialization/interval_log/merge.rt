@@ -154,6 +154,7 @@ pub fn merge_chosen<T: Counter>(
     let mut merging = Merging {
         histogram,
         deserializer: Deserializer::new(alloc),
+        spare: None,
         base: Duration::ZERO,
         intervals: 0,
         chosen: 0,
@@ -177,6 +178,8 @@ struct Merging<T: Counter> {
     histogram: Histogram<T>,
     /// It reads all fields, by one buffer.
     deserializer: Deserializer,
+    /// The histogram that was added last: the next one is read into its memory.
+    spare: Option<Histogram<u64>>,
     /// The log's base time.
     base: Duration,
     /// The intervals that were read, those of them that were chosen, and those of these that are coarser than the histogram.
@@ -246,7 +249,8 @@ fn merge_field<T: Counter>(merging: &mut Merging<T>, field: &str) -> Result<(), 
         (base64_bytes field.now) (Err e))) }
 {
     let interval = merging.intervals + 1;
-    let source: Histogram<u64> = match merging.deserializer.decode_field(field) {
+    let spare = merging.spare.take();
+    let source = match merging.deserializer.decode_field_into(field, spare) {
         Ok(source) => source,
         Err(cause) => return Err(not_decoded(interval, cause)),
     };
@@ -256,6 +260,7 @@ fn merge_field<T: Counter>(merging: &mut Merging<T>, field: &str) -> Result<(), 
         Ok(()) => {}
         Err(_) => return Err(MergeError::OutOfMemory),
     }
+    merging.spare = Some(source);
     merging.intervals = interval;
     merging.chosen += 1;
     merging.coarser += coarser;

@@ -1,6 +1,6 @@
 use Rattle.hdrhistogram.specs.HeaderView.{header_of}
 use Rattle.hdrhistogram.specs.Defects.{defect_of_error}
-use Rattle.hdrhistogram.proofs.V2ReadHistogram.{bounds-yes, bounds-refused, bounds-memory, defect-none, is-made}
+use Rattle.hdrhistogram.proofs.V2ReadHistogram.{bounds-yes, bounds-refused, bounds-memory, defect-none, is-made, is-spare}
 use Rattle.hdrhistogram.proofs.serialization.deserializer.empty_for.Goals as goal
 
 pub returns-in-Ok-clause-bounds : goal.returns-in-Ok-clause-bounds
@@ -23,3 +23,22 @@ returns-in-Err-clause-bounds g c = bounds-refused (header_of c.args.header) c.in
 
 pub returns-in-Err-clause-memory : goal.returns-in-Err-clause-memory
 returns-in-Err-clause-memory g c = bounds-memory (header_of c.args.header) c.in-Err.error c.refused.result c.in-Err.ensures c.refused.ensures
+
+pub returns-then-has_bounds-clause-bounds : goal.returns-then-has_bounds-clause-bounds
+returns-then-has_bounds-clause-bounds g c = defect-none (header_of c.args.header) (bounds-yes c.args.header.low c.args.header.high c.args.header.sigfig (rw (← c.has_bounds.ensures.low c.if-has_bounds.true, ← c.has_bounds.ensures.high c.if-has_bounds.true, ← c.has_bounds.ensures.sigfig c.if-has_bounds.true) c.emptied.ensures.1))
+
+pub returns-then-has_bounds-clause-empty : goal.returns-then-has_bounds-clause-empty
+returns-then-has_bounds-clause-empty g c =
+    (is-spare c.emptied.result _ _ _ c.args.header.low c.args.header.high c.args.header.sigfig c.emptied.ensures.0 (c.has_bounds.ensures.low c.if-has_bounds.true) (c.has_bounds.ensures.high c.if-has_bounds.true) (c.has_bounds.ensures.sigfig c.if-has_bounds.true)).empty
+
+pub returns-then-has_bounds-clause-fixed : goal.returns-then-has_bounds-clause-fixed
+returns-then-has_bounds-clause-fixed g c =
+    (is-spare c.emptied.result _ _ _ c.args.header.low c.args.header.high c.args.header.sigfig c.emptied.ensures.0 (c.has_bounds.ensures.low c.if-has_bounds.true) (c.has_bounds.ensures.high c.if-has_bounds.true) (c.has_bounds.ensures.sigfig c.if-has_bounds.true)).fixed
+
+pub returns-then-has_bounds-clause-told : goal.returns-then-has_bounds-clause-told
+returns-then-has_bounds-clause-told g c =
+    (is-spare c.emptied.result _ _ _ c.args.header.low c.args.header.high c.args.header.sigfig c.emptied.ensures.0 (c.has_bounds.ensures.low c.if-has_bounds.true) (c.has_bounds.ensures.high c.if-has_bounds.true) (c.has_bounds.ensures.sigfig c.if-has_bounds.true)).told
+
+pub returns-then-has_bounds-clause-bins : goal.returns-then-has_bounds-clause-bins
+returns-then-has_bounds-clause-bins g c =
+    (is-spare c.emptied.result _ _ _ c.args.header.low c.args.header.high c.args.header.sigfig c.emptied.ensures.0 (c.has_bounds.ensures.low c.if-has_bounds.true) (c.has_bounds.ensures.high c.if-has_bounds.true) (c.has_bounds.ensures.sigfig c.if-has_bounds.true)).bins

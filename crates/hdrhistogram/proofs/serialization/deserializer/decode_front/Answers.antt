@@ -1,7 +1,7 @@
 use Rattle.std.proofs.Common.{refl}
 use Rattle.hdrhistogram.specs.V2Read.{told_of}
 use Rattle.hdrhistogram.proofs.V2ReadHistogram.{is-read, no_longer}
-use Rattle.hdrhistogram.proofs.serialization.deserializer.Deserializer.decode_slice.Goals as goal
+use Rattle.hdrhistogram.proofs.serialization.deserializer.decode_front.Goals as goal
 
 pub overflow_sub-result : goal.overflow_sub-result
 overflow_sub-result g c = no_longer g.T.Counter.greatest c.args.text.now c.in_ok-h.rest.now (told_of c.in_ok-h.h) c.in_ok-h.ensures.read
