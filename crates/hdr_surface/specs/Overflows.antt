@@ -7,7 +7,7 @@ use Rattle.hdr_log.specs.Texts.{lines_text}
 use Rattle.hdr_tool.specs.declared.fault.Fault.{Fault}
 use Rattle.hdr_tool.specs.Arguments.{no_options, Log, Merge, task_of}
 use Rattle.hdr_tool.specs.Report.{IsReport}
-use Rattle.hdr_tool.specs.Program.{Program}
+use Rattle.hdr_tool.specs.Program.{Outcome}
 
 -- after the last `end` come more samples than 64 bits count
 abbrev pub past_the_end : List ℕ
@@ -22,5 +22,5 @@ abbrev pub MergesToOne : List ℕ → Type 0
 MergesToOne input =
     (log merge : List (List ℕ)) (sigfig fewer : ℕ) (quantiles : List Ratio) (written text : List ℕ) (fault : Option Fault)
     → task_of log ≡ Some (Log sigfig) → task_of merge ≡ Some (Merge no_options fewer quantiles) → fewer ≤ sigfig
-    → Program log input written None → Program merge written text fault
+    → Outcome log input written None → Outcome merge written text fault
     → (fault ≡ None) × ((h : Plain) × IsReport h quantiles text × StandsFor h (1 ∷ []))

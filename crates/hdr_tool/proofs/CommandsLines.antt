@@ -1,20 +1,17 @@
 -- Value lines of few digits.
-use Rattle.std.proofs.Common.{◌≡◌, ℕ, zero, suc, ◌+◌, ◌-◌, ◌*◌, ◌^◌, ◌<◌, ◌≤◌, ◌==◌, ◌&&◌, Bool, true, false, nat_lt, List, [], ◌∷◌, ◌++◌, length, take, drop, get_or, Option, Some, None, unwrap_or, Ok, refl, sym, ap, ◌∙◌, arith, lit<}
+use Rattle.std.proofs.Common.{◌≡◌, ℕ, zero, suc, ◌+◌, ◌-◌, ◌*◌, ◌^◌, ◌<◌, ◌≤◌, ◌==◌, ◌&&◌, Bool, true, false, nat_lt, List, [], ◌∷◌, ◌++◌, length, take, drop, get_or, Option, Some, None, unwrap_or, refl, sym, ap, ◌∙◌, arith, lit<}
 use Rattle.std.specs.List.{list_all, onto_first}
 use Rattle.std.specs.Char.{is_ascii_digit, digit_value}
 use Rattle.std.specs.Str.Parse.{digits_value}
 use Rattle.std.proofs.Math.Nat.{pow-suc, pow-le-pow_right}
 use Rattle.std.proofs.lemmas.Bool.{lt-ltb, ne_eqb}
 use Rattle.std.proofs.lemmas.List.{length-drop}
-use Rattle.hdr_model.specs.Plain.{Plain}
-use Rattle.hdr_core.specs.Calls.{after_call}
 use Rattle.hdr_core.specs.declared.call.Call.{Call}
 use Rattle.hdr_core.specs.declared.call.Call.TheVariants.{Record, Clamp, Correct}
 use Rattle.hdr_log.specs.Parts.{parts, number_of}
 use Rattle.hdr_log.proofs.PartsNumbers.{Reads}
-use Rattle.hdr_tool.specs.Commands.{Apply, record_of, correct_of, command_of_name, command_of, BeginsWith, AreNumbers, HasNumbers, IsCallLine}
-use Rattle.hdr_tool.specs.Program.{LineDone}
-use Rattle.hdr_tool.proofs.OutcomesSinks.{append_nothing}
+use Rattle.hdr_tool.specs.Commands.{Apply, record_of, correct_of, command_of_name, BeginsWith, AreNumbers, HasNumbers, IsCallLine}
+use Rattle.std.proofs.lemmas.List.{append-nil}
 
 not_end : (b : ℕ) → is_ascii_digit b ≡ true → (b == 10) ≡ false
 not_end b h = grind arith
@@ -68,7 +65,7 @@ one_line xs ds after n d e t s = record {
   line = xs ++ [];
   lines = ap (parts 10) t ∙ digits_then 10 not_end xs (10 ∷ after) [] (parts 10 after) d refl;
   shorter = s;
-  numbers = rw (digits_then 32 not_space xs [] [] [] d refl) (ap number_of (append_nothing xs) ∙ e);
+  numbers = rw (digits_then 32 not_space xs [] [] [] d refl) (ap number_of (append-nil xs) ∙ e);
 }
 
 two_lines : (fields : List (List ℕ)) (f : List ℕ) (n m : ℕ) → number_of f ≡ Some n → AreNumbers fields m None → AreNumbers (f ∷ fields) n (Some m)
@@ -82,7 +79,7 @@ two_line xs ds rest after n m d e t h s = record {
   line = xs ++ 32 ∷ h.line;
   lines = ap (parts 10) t ∙ digits_then 10 not_end xs (32 ∷ rest) (32 ∷ h.line) (parts 10 after) d (ap (onto_first 32) h.lines);
   shorter = omega (arith, s, h.shorter);
-  numbers = rw (digits_then 32 not_space xs (32 ∷ h.line) [] (parts 32 h.line) d refl) (two_lines (parts 32 h.line) (xs ++ []) n m (ap number_of (append_nothing xs) ∙ e) h.numbers);
+  numbers = rw (digits_then 32 not_space xs (32 ∷ h.line) [] (parts 32 h.line) d refl) (two_lines (parts 32 h.line) (xs ++ []) n m (ap number_of (append-nil xs) ∙ e) h.numbers);
 }
 
 behind : (text rest : List ℕ) (at b : ℕ) → at < length text → get_or text at 0 ≡ b → rest ≡ drop (at + 1) text → (text ≡ take at text ++ b ∷ rest) × (length rest < length text)
@@ -133,9 +130,3 @@ few_more at value digit l v d =
     let within : at + 1 ≤ 19 = omega arith in
     let most : 10 ^ (at + 1) ≤ 10 ^ 19 = pow-le-pow_right (lit< tt) within in
     (omega (arith, more), omega (arith, more, most))
-
--- the line of a call is done
-pub call_done : (is_log : Bool) (h new : Plain) (k : ℕ) (line : List ℕ) (call : Call ℕ) → command_of line ≡ Some (Apply call) → new ≡ after_call (2 ^ 64 - 1) (λ n. n) call h → LineDone is_log h (k, line) (Ok ([], new))
-unfolding command_of_name
-call_done is_log h new k [] call e d = absurd (let f : None ≡ Some (Apply call) = e in cc)
-call_done is_log h new k (b ∷ line) call e d = rw e (ap (λ (g : Plain). Ok ([], g)) d)

@@ -2,7 +2,9 @@ pub mod LinesParts
 pub mod OutcomesSinks
 pub mod OutcomesAnswers
 pub mod OutcomesRuns
-pub mod OutcomesLists
+pub mod OutcomesEnds
+pub mod OutcomesCounts
+pub mod OutcomesOnce
 pub mod ProgramStreaming
 pub mod ProgramIntervals
 pub mod LogMergesWritten

@@ -1,6 +1,6 @@
 -- The parts of a text.
-use Rattle.std.proofs.Common.{◌≡◌, ℕ, ◌+◌, ◌-◌, ◌<◌, ◌==◌, not, Bool, true, false, cond, List, [], ◌∷◌, length, take, drop, Option, Some, None, IfSome, is_some, refl, sym, ap, ◌∙◌, arith}
-use Rattle.std.specs.List.{slice_split, onto_first, position_or_len}
+use Rattle.std.proofs.Common.{◌≡◌, ℕ, suc, ◌+◌, ◌-◌, ◌<◌, ◌==◌, not, Bool, true, false, cond, List, [], ◌∷◌, ◌++◌, length, take, drop, Option, Some, None, IfSome, is_some, refl, sym, ap, ◌∙◌, arith}
+use Rattle.std.specs.List.{slice_split, onto_first, position_or_len, enumerate_from}
 use Rattle.std.proofs.lemmas.List.{take_all, length-drop, get_or_default}
 use Rattle.std.proofs.lemmas.List.Splits.{slice_split_first, slice_split_none}
 use Rattle.std.proofs.lemmas.List.Sums.{position_or_len_is}
@@ -8,7 +8,8 @@ use Rattle.memchr.specs.Find.{IsFirstByte, is_byte}
 use Rattle.std.proofs.lemmas.Bool.{ne_eqb}
 use Rattle.std.specs.Option.{option_map}
 use Rattle.hdr_log.specs.Parts.{parts}
-use Rattle.hdr_tool.specs.Lines.{parts_of_rest}
+use Rattle.std.proofs.lemmas.List.FromFn.{length-enumerate_from}
+use Rattle.hdr_tool.specs.Lines.{parts_of_rest, number_lines}
 
 -- there is a first part
 pub parts_some : (b : ℕ) (text : List ℕ) (P : List (List ℕ) → Type 0) → ((first : List ℕ) (rest : List (List ℕ)) → P (first ∷ rest)) → P (parts b text)
@@ -50,3 +51,32 @@ nothing_left text_of b None true e = refl
 nothing_left text_of b None false e = absurd (let f : false ≡ true = e in cc)
 nothing_left text_of b (Some x) true e = absurd (let f : true ≡ false = e in cc)
 nothing_left text_of b (Some x) false e = parts_some b (text_of x) (λ ps. false ≡ (length ps == 0)) (λ first rest. sym (ne_eqb (length (first ∷ rest)) 0 (λ e. absurd (omega (arith, e)))))
+
+-- ---- lines in two parts
+
+front_kept : (x : ℕ) (front : List ℕ) (ps : List (List ℕ)) → onto_first x (parts 10 front ++ ps) ≡ onto_first x (parts 10 front) ++ ps
+front_kept x front ps = parts_some 10 front (λ first. onto_first x (first ++ ps) ≡ onto_first x first ++ ps) (λ first rest. refl)
+
+choose : (t : Bool) (x : ℕ) (ps qs : List (List ℕ)) → onto_first x (ps ++ qs) ≡ onto_first x ps ++ qs → cond t ([] ∷ (ps ++ qs)) (onto_first x (ps ++ qs)) ≡ cond t ([] ∷ ps) (onto_first x ps) ++ qs
+choose true x ps qs h = refl
+choose false x ps qs h = h
+
+-- the lines before a line's end, and those after it
+lines_end : (front tail : List ℕ) → parts 10 (front ++ 10 ∷ tail) ≡ parts 10 front ++ parts 10 tail
+lines_end [] tail = refl
+lines_end (x ∷ front) tail =
+    let f : List (List ℕ) → List (List ℕ) = λ ps. cond (x == 10) ([] ∷ ps) (onto_first x ps) in
+    ap f (lines_end front tail) ∙ choose (x == 10) x (parts 10 front) (parts 10 tail) (front_kept x front (parts 10 tail))
+
+enumerate_both : (n : ℕ) (xs ys : List (List ℕ)) → enumerate_from n (xs ++ ys) ≡ enumerate_from n xs ++ enumerate_from (n + length xs) ys
+enumerate_both n [] ys = let e : n ≡ n + 0 = omega arith in ap (λ k. enumerate_from k ys) e
+enumerate_both n (x ∷ xs) ys =
+    let e : n + 1 + length xs ≡ n + suc (length xs) = omega arith in
+    let f : List (ℕ × List ℕ) → List (ℕ × List ℕ) = λ l. (n, x) ∷ l in
+    ap f (enumerate_both (n + 1) xs ys ∙ ap (λ k. enumerate_from (n + 1) xs ++ enumerate_from k ys) e)
+
+-- the same with their numbers
+pub numbered_end : (n : ℕ) (front tail : List ℕ) → number_lines n (Some (front ++ 10 ∷ tail)) ≡ number_lines n (Some front) ++ number_lines (n + length (number_lines n (Some front))) (Some tail)
+numbered_end n front tail =
+    let e : length (parts 10 front) ≡ length (number_lines n (Some front)) = sym (length-enumerate_from n (parts 10 front)) in
+    ap (enumerate_from n) (lines_end front tail) ∙ enumerate_both n (parts 10 front) (parts 10 tail) ∙ ap (λ k. enumerate_from n (parts 10 front) ++ enumerate_from (n + k) (parts 10 tail)) e

@@ -22,7 +22,7 @@ use Rattle.hdr_tool.specs.Arguments.{sigfig_of, fraction_of, are_fractions, Task
 use Rattle.hdr_tool.specs.declared.arguments.CounterType.{CounterType}
 use Rattle.hdr_tool.specs.declared.arguments.CounterType.TheVariants as counter
 use Rattle.hdr_tool.specs.Report.{IsReport}
-use Rattle.hdr_tool.specs.Program.{Program}
+use Rattle.hdr_tool.specs.Program.{Outcome}
 use Rattle.hdr_tool.specs.LogMerges.{EndOf, chosen_of, ends_of, AreReadBack, EndsWith, AreEnds}
 use Rattle.hdr_tool.proofs.LogMergesEnds.{CallsStand, ends_stand}
 use Rattle.hdr_tool.proofs.CommandsCalls.{one_of, tail, any}
@@ -194,7 +194,7 @@ pub whole_way : (log merge : List (List ℕ)) (sigfig fewer : ℕ) (options : Op
     → NewIsPlain → CallsStand → JoinedStand → ReadsBack → ReadsStand → ((n : ℕ) → StandsFor (empty_plain 1 2 n true) []) → IsFiner (grain_of 1 sigfig) (grain_of 1 fewer)
     → task_of log ≡ Some (Log sigfig) → task_of merge ≡ Some (Merge options fewer quantiles)
     → EndsWith (grain_of 1 sigfig) (record { samples = []; high = 2 }) (enumerate_from 1 (parts 10 input)) Ls → Fits (greatest_into options.into) (grain_of 1 fewer) (joined_samples (chosen_of (filter_of options) Ls))
-    → Program log input written None → Program merge written text fault → (fault ≡ None) × IsMerged fewer quantiles text (joined_samples (chosen_of (filter_of options) Ls))
+    → Outcome log input written None → Outcome merge written text fault → (fault ≡ None) × IsMerged fewer quantiles text (joined_samples (chosen_of (filter_of options) Ls))
 whole_way log merge sigfig fewer options quantiles input written text fault Ls new calls joined back stand made fine tl tm ends fits wrote merged =
     let h = empty_plain 1 2 sigfig true in
     let k = empty_plain 1 2 fewer true in

@@ -4,7 +4,6 @@ use Rattle.std.specs.List.{AllByRecursion, enumerate_from, flat_map}
 use Rattle.hdr_base.specs.Fractions.{Ratio}
 use Rattle.hdr_model.specs.Plain.{Plain, IsPlain, empty_plain, max_of}
 use Rattle.hdr_model.specs.Joining.{after_adds}
-use Rattle.hdr_core.specs.Calls.{after_call}
 use Rattle.hdr_log.specs.Grammar.{Entry, Span, Interval, reading}
 use Rattle.hdr_log.specs.Texts.{thousandths, to_thousandths, max_thousandths, base64_of, base64_bytes}
 use Rattle.hdr_log.specs.Pieces.{Piece, IsPiece, piece_text, text_of, said_by, is_read}
@@ -22,11 +21,13 @@ use Rattle.hdr_tool.specs.declared.fault.Fault.{Fault}
 use Rattle.hdr_tool.specs.declared.fault.Fault.TheVariants.{WrongWords}
 use Rattle.hdr_log.specs.Parts.{parts}
 use Rattle.hdr_tool.specs.Commands.{Command, Apply, End, command_of}
-use Rattle.hdr_tool.specs.Outcomes.{Outcome, Runs, GoesOn}
-use Rattle.hdr_tool.specs.Report.{IsReport}
+use Rattle.hdr_model.specs.Recording.{after_reset}
+use Rattle.hdr_tool.specs.Outcomes as run
+use Rattle.hdr_tool.specs.Outcomes.{Run, ended_by, prepend, run_command, run_lines, IsLogText}
+use Rattle.hdr_tool.specs.Report.{has_too_great_count, IsReport}
 use Rattle.hdr_tool.specs.Arguments.{Task, greatest_into, filter_of}
-use Rattle.hdr_tool.specs.Program.{CommandDone, LineDone, LinesDone, fault_in, Reported, merged_histogram, MergeReported, TaskDone, Program}
-use Rattle.hdr_tool.proofs.OutcomesSinks.{append_nothing}
+use Rattle.hdr_tool.specs.Program.{fault_in, Reported, merged_histogram, MergeReported, TaskDone, Outcome}
+use Rattle.std.proofs.lemmas.List.{append-nil}
 use Rattle.hdr_tool.specs.LogMerges.{EndOf, chosen_of, at_command, ends_of, AreReadBack, LogThenMerge}
 
 -- an interval of a log, with the histogram that it was written from; its times are in milliseconds
@@ -65,37 +66,34 @@ one_more h tag start duration es line text i l =
       ends = ap (λ xs. end_of first ∷ xs) l.ends;
     }
 
-same_Ok : {A E : Type 0} (x y : A) → (λ (r : Result A E). r) (Ok x) ≡ Ok y → x ≡ y
-same_Ok x y e = cc
+abbrev ends_at : run.Interval → EndOf Plain
+ends_at i = record { holds = i.histogram; tag = i.tag; start = i.start }
 
-command_logs : (k : ℕ) (h : Plain) (c : Option Command) (step : List ℕ × Plain) (tail : Plain → List (EndOf Plain)) (text : List ℕ) → CommandDone true k h c (Ok step) → Logs (tail step.1) text → Logs (at_command h c tail) (step.0 ++ text)
-command_logs k h None step tail text d l = absurd (let e = d in cc)
-command_logs k h (Some (Apply call)) step tail text d l =
-    let S : List ℕ × Plain → Type 0 = λ s. Logs (tail s.1) text → Logs (at_command h (Some (Apply call)) tail) (s.0 ++ text) in
-    subst S (sym (same_Ok {E = Fault} step ([], after_call (2 ^ 64 - 1) (λ n. n) call h) d)) (λ m. m) l
-command_logs k h (Some (End start duration tag)) step tail text d l =
-    let S : Plain → Type 0 = λ g. Logs (tail g) text in
-    one_more h tag start duration _ step.0 text d.0 (subst S d.1 l)
+logs_of : (is : List run.Interval) (text : List ℕ) → IsLogText is text → Logs (map ends_at is) text
+logs_of [] text t = record { intervals = []; each = tt; text_is = t; ends = refl }
+logs_of (i ∷ is) text (line, rest, t, p, e) =
+    let T : List ℕ → Type 0 = λ x. Logs (map ends_at (i ∷ is)) x in
+    subst T (sym e) (one_more i.histogram i.tag i.start i.duration (map ends_at is) line rest t (logs_of is rest p))
 
-line_logs : (x : ℕ × List ℕ) (h : Plain) (step : List ℕ × Plain) (lines : List (ℕ × List ℕ)) (text : List ℕ) → LineDone true h x (Ok step) → Logs (ends_of step.1 lines) text → Logs (ends_of h (x ∷ lines)) (step.0 ++ text)
-line_logs (k, []) h step lines text d l =
-    let e : step ≡ ([], h) = same_Ok {E = Fault} step ([], h) d in
-    let S : List ℕ × Plain → Type 0 = λ s. Logs (ends_of s.1 lines) text → Logs (ends_of h lines) (s.0 ++ text) in
-    subst S (sym e) (λ m. m) l
-line_logs (k, b ∷ line) h step lines text d l = command_logs k h (command_of (b ∷ line)) step (λ g. ends_of g lines) text d l
+-- what lines end without a fault
+no_error : {A B C : Type 0} (e : B) (x : A) → (λ (r : Result A B). r) (Err e) ≡ Ok x → C
+no_error e x h = absurd (let f = h in cc)
 
--- one line, and what comes after it
-step_log : (x : ℕ × List ℕ) (lines : List (ℕ × List ℕ)) (h last : Plain) (out : Outcome Plain) (r : Result (List ℕ × Plain) Fault) → LineDone true h x r → GoesOn (λ b. Runs (LineDone true) b lines) r out → out.ended ≡ Ok last
-    → ((b : Plain) (o : Outcome Plain) → Runs (LineDone true) b lines o → o.ended ≡ Ok last → Logs (ends_of b lines) o.written) → Logs (ends_of h (x ∷ lines)) out.written
-step_log x lines h last out (Err f) s g e tail = absurd (let f : out.ended ≡ Err f = ap (λ (o : Outcome Plain). o.ended) g in cc)
-step_log x lines h last out (Ok step) s g e tail =
-    let T : List ℕ → Type 0 = λ t. Logs (ends_of h (x ∷ lines)) t in
-    subst T (sym (ap (λ (o : Outcome Plain). o.written) g.2)) (line_logs x h step lines g.0.written s (tail step.1 g.0 g.1 (sym (ap (λ (o : Outcome Plain). o.ended) g.2) ∙ e)))
+end_ends : (great : Bool) (i : run.Interval) (f : Fault) (r : Run) (es : List (EndOf Plain)) (last : Plain) → (cond great (ended_by (Err f)) (prepend (i ∷ []) r)).ended ≡ Ok last → (r.ended ≡ Ok last → map ends_at r.intervals ≡ es)
+    → map ends_at (cond great (ended_by (Err f)) (prepend (i ∷ []) r)).intervals ≡ ends_at i ∷ es
+end_ends true i f r es last e h = no_error f last e
+end_ends false i f r es last e h = ap (λ x. ends_at i ∷ x) (h e)
 
--- what is written without a fault is a log
-lines_log : (lines : List (ℕ × List ℕ)) (h last : Plain) (out : Outcome Plain) → Runs (LineDone true) h lines out → out.ended ≡ Ok last → Logs (ends_of h lines) out.written
-lines_log [] h last out r e = record { intervals = []; each = tt; text_is = ap (λ (o : Outcome Plain). o.written) r; ends = refl }
-lines_log (x ∷ lines) h last out r e = step_log x lines h last out r.0 r.1 r.2 e (λ b o q f. lines_log lines b last o q f)
+command_ends : (k : ℕ) (h : Plain) (c : Option Command) (onward : Plain → Run) (tail : Plain → List (EndOf Plain)) (last : Plain) → (run_command true k h c onward).ended ≡ Ok last → ((g : Plain) → (onward g).ended ≡ Ok last → map ends_at (onward g).intervals ≡ tail g)
+    → map ends_at (run_command true k h c onward).intervals ≡ at_command h c tail
+command_ends k h None onward tail last e t = no_error _ last e
+command_ends k h (Some (Apply call)) onward tail last e t = t _ e
+command_ends k h (Some (End start duration tag)) onward tail last e t = end_ends (has_too_great_count h) (record { histogram = h; tag = tag; start = start; duration = duration }) _ (onward (after_reset h)) (tail (after_reset h)) last e (t (after_reset h))
+
+ends_are : (lines : List (ℕ × List ℕ)) (h last : Plain) → (run_lines true h lines).ended ≡ Ok last → map ends_at (run_lines true h lines).intervals ≡ ends_of h lines
+ends_are [] h last e = refl
+ends_are ((k, []) ∷ lines) h last e = ends_are lines h last e
+ends_are ((k, b ∷ line) ∷ lines) h last e = command_ends k h (command_of (b ∷ line)) (λ g. run_lines true g lines) (λ g. ends_of g lines) last e (λ g f. ends_are lines g last f)
 
 -- what is read of an interval
 abbrev interval_of : Logged → Interval
@@ -130,9 +128,9 @@ read_again : (h : Plain) (text : List ℕ) (r : Result (Plain × ℕ) Deserializ
     → (k : Plain) × (n : ℕ) × (r ≡ Ok (k, n)) × IsReadBack h k
 read_again h text (Ok (k, n)) back p v r =
     let R : List ℕ → Type 0 = λ t. IsReadAs (2 ^ 64 - 1) t k n in
-    (k, n, refl, (back.histogram (2 ^ 64 - 1) n h k text [] p v (subst R (sym (append_nothing text)) r)).1)
+    (k, n, refl, (back.histogram (2 ^ 64 - 1) n h k text [] p v (subst R (sym (append-nil text)) r)).1)
 read_again h text (Err e) back p v r =
-    absurd (not_refused (told_of h, []) r.0 (v2_at (2 ^ 64 - 1) text) (ap (v2_at (2 ^ 64 - 1)) (sym (append_nothing text)) ∙ back.contents (2 ^ 64 - 1) h text [] p v) r.2)
+    absurd (not_refused (told_of h, []) r.0 (v2_at (2 ^ 64 - 1) text) (ap (v2_at (2 ^ 64 - 1)) (sym (append-nil text)) ∙ back.contents (2 ^ 64 - 1) h text [] p v) r.2)
 
 -- a chosen interval is read back and added
 field_added : (greatest : ℕ) (i : Logged) (m : Merging) (r : Result Merging MergeError) → ReadsBack → IsPlain (2 ^ 64 - 1) i.histogram → IsV2 i.histogram i.bytes → FieldMerges greatest m (base64_bytes (interval_of i).field) r
@@ -181,11 +179,12 @@ no_fault (Err f) e = absurd (let g = e in cc)
 
 -- the parts joined
 merged_log : (h : Plain) (lines : List (ℕ × List ℕ)) (fewer greatest : ℕ) (filter : Filter) (quantiles : List Ratio) (written text : List ℕ) (fault : Option Fault) → ReadsBack → AllByRecursion (λ (e : EndOf Plain). IsPlain (2 ^ 64 - 1) e.holds) (ends_of h lines)
-    → LinesDone true h lines written None → MergeReported greatest filter fewer quantiles written text fault
+    → IsLogText (run_lines true h lines).intervals written × (None ≡ fault_in (run_lines true h lines).ended) → MergeReported greatest filter fewer quantiles written text fault
     → (fault ≡ None) × ((ks : List Plain) × AreReadBack (chosen_of filter (ends_of h lines)) ks × IsReport (after_adds greatest (empty_plain 1 2 fewer true) ks) quantiles text)
 merged_log h lines fewer greatest filter quantiles written text fault back plain d t =
-    let ok = no_fault d.0 d.2 in
-    let l = lines_log lines h ok.0 (record { written = written; ended = d.0 }) d.1 ok.1 in
+    let ok = no_fault (run_lines true h lines).ended d.1 in
+    let L : List (EndOf Plain) → Type 0 = λ es. Logs es written in
+    let l : Logs (ends_of h lines) written = subst L (ends_are lines h ok.0 ok.1) (logs_of (run_lines true h lines).intervals written d.0) in
     let P : List (EndOf Plain) → Type 0 = λ es. AllByRecursion (λ (e : EndOf Plain). IsPlain (2 ^ 64 - 1) e.holds) es in
     let R : List (Result Entry ℕ) → Type 0 = λ xs. EntriesMerge greatest filter xs (new_merging fewer) t.0 in
     let read : reading written ≡ map is_read (map span_of l.intervals) = ap reading l.text_is ∙ log_read l.intervals l.each in
@@ -197,7 +196,7 @@ merged_log h lines fewer greatest filter quantiles written text fault back plain
     (reported.1, (m.0, subst B l.ends m.1, subst I m.2.2 reported.0))
 
 pub log_then_merge : ReadsBack → LogThenMerge
-unfolding Program
+unfolding Outcome
 log_then_merge back log merge sigfig fewer options quantiles input written text fault tl tm plain p q =
     let L : Option Task → Type 0 = λ o. MatchOption o ((written ≡ []) × (None ≡ Some WrongWords)) (λ task. TaskDone task input written None) in
     let M : Option Task → Type 0 = λ o. MatchOption o ((text ≡ []) × (fault ≡ Some WrongWords)) (λ task. TaskDone task written text fault) in

@@ -1,95 +1,108 @@
--- What a task answers, by what its parts do.
-use Rattle.std.proofs.Common.{◌≡◌, ℕ, List, [], ◌∷◌, ◌++◌, length, true, false, Option, Some, None, IfSome, Result, Ok, Err, refl, ap, ◌∙◌, inl, inr, subst, arith}
+-- What a task returns, by what its lines come to.
+use Rattle.std.proofs.Common.{◌≡◌, ℕ, List, [], ◌∷◌, ◌++◌, length, true, false, Option, Some, None, IfSome, Result, Ok, Err, refl, sym, ap, ◌∙◌, subst, arith}
 use Rattle.std.specs.Io.KnownBytes.{Appends, IsAtEnd}
+use Rattle.std.proofs.lemmas.List.{append-nil}
 use Rattle.hdr_base.specs.Fractions.{Ratio}
 use Rattle.hdr_model.specs.Plain.{Plain, empty_plain}
 use Rattle.hdrhistogram.specs.Streams.{AppendsFront}
 use Rattle.hdr_tool.specs.declared.fault.Fault.{Fault}
-use Rattle.hdr_tool.specs.Outcomes.{Outcome, Runs, Begins, GoesOn, Cause, Shortage, Output, Input, cause_of, RunRefused, Answers, ReadsTo, ReadsAll}
-use Rattle.hdr_tool.specs.Lines.{number_lines}
+use Rattle.hdr_tool.specs.Outcomes.{Interval, Run, ended_by, run_command, run_lines, IsLogText, Cause, Shortage, Output, Input, Usage, cause_of, Stops, Goes, RunRefused, Answers, ReadsTo, ReadsAll}
 use Rattle.hdr_tool.specs.Commands.{Command, Apply, End, command_of}
+use Rattle.hdr_tool.specs.Lines.{number_lines}
 use Rattle.hdr_tool.specs.Arguments.{Task, Report, Log, Merge}
-use Rattle.hdr_tool.specs.Program.{CommandDone, LineDone, Reported, TaskDone, TaskStands, TaskWrites, TaskLeaves}
-use Rattle.hdr_tool.proofs.OutcomesRuns.{begins_nothing, front_behind}
+use Rattle.hdr_tool.specs.Program.{run_input, fault_in, Reported, TaskDone, TaskStands, TaskWrites}
+use Rattle.hdr_tool.proofs.OutcomesRuns.{front_behind}
 use Rattle.hdr_tool.proofs.OutcomesSinks.{appends_nothing, appends_both}
-use Rattle.hdr_tool.proofs.ProgramStreaming.{LinesRefused, some_input}
+use Rattle.hdr_tool.proofs.ProgramStreaming.{some_input}
 
--- ---- the lines of a report write nothing
+-- ---- the lines of a report end no interval
 
-command_quiet : (k : ℕ) (h : Plain) (c : Option Command) (step : List ℕ × Plain) → CommandDone false k h c (Ok step) → step.0 ≡ []
-command_quiet k h None step d = absurd (let e = d in cc)
-command_quiet k h (Some (Apply call)) step d = let e = d in cc
-command_quiet k h (Some (End start duration tag)) step d = absurd (let e = d in cc)
+command_quiet : (k : ℕ) (h : Plain) (c : Option Command) (onward : Plain → Run) → ((g : Plain) → (onward g).intervals ≡ []) → (run_command false k h c onward).intervals ≡ []
+command_quiet k h None onward q = refl
+command_quiet k h (Some (Apply call)) onward q = q _
+command_quiet k h (Some (End start duration tag)) onward q = refl
 
-line_quiet : (h : Plain) (x : ℕ × List ℕ) (step : List ℕ × Plain) → LineDone false h x (Ok step) → step.0 ≡ []
-line_quiet h (k, []) step d = let e = d in cc
-line_quiet h (k, b ∷ line) step d = command_quiet k h (command_of (b ∷ line)) step d
+quiet : (lines : List (ℕ × List ℕ)) (h : Plain) → (run_lines false h lines).intervals ≡ []
+quiet [] h = refl
+quiet ((k, []) ∷ lines) h = quiet lines h
+quiet ((k, b ∷ line) ∷ lines) h = command_quiet k h (command_of (b ∷ line)) (λ g. run_lines false g lines) (λ g. quiet lines g)
 
-begins_on : (h : Plain) (x : ℕ × List ℕ) (xs : List (ℕ × List ℕ)) (t : List ℕ) → ((b : Plain) (u : List ℕ) → Begins (LineDone false) b xs u → u ≡ []) → Begins (LineDone false) h (x ∷ xs) t → t ≡ []
-begins_on h x xs t j (inl e) = e
-begins_on h x xs t j (inr s) = s.2.2 ∙ ap (λ u. u ++ s.2.0) (line_quiet h x s.0 s.1) ∙ j s.0.1 s.2.0 s.2.1
+front_none : (is js : List Interval) → is ++ js ≡ [] → is ≡ []
+front_none [] js e = refl
+front_none (i ∷ is) js e = absurd (let f = e in cc)
 
-begins_quiet : (h : Plain) (xs : List (ℕ × List ℕ)) (t : List ℕ) → Begins (LineDone false) h xs t → t ≡ []
-begins_quiet h [] t e = e
-begins_quiet h (x ∷ xs) t b = begins_on h x xs t (λ c u d. begins_quiet c xs u d) b
-
-runs_on : (h : Plain) (x : ℕ × List ℕ) (xs : List (ℕ × List ℕ)) (out : Outcome Plain) (r : Result (List ℕ × Plain) Fault) → ((b : Plain) (o : Outcome Plain) → Runs (LineDone false) b xs o → o.written ≡ []) → LineDone false h x r → GoesOn (λ b. Runs (LineDone false) b xs) r out → out.written ≡ []
-runs_on h x xs out (Err f) j d g = ap (λ (o : Outcome Plain). o.written) g
-runs_on h x xs out (Ok step) j d g = ap (λ (o : Outcome Plain). o.written) g.2 ∙ ap (λ u. u ++ g.0.written) (line_quiet h x step d) ∙ j step.1 g.0 g.1
-
-runs_quiet : (h : Plain) (xs : List (ℕ × List ℕ)) (out : Outcome Plain) → Runs (LineDone false) h xs out → out.written ≡ []
-runs_quiet h [] out r = ap (λ (o : Outcome Plain). o.written) r
-runs_quiet h (x ∷ xs) out r = runs_on h x xs out r.0 (λ b o s. runs_quiet b xs o s) r.1 r.2
+no_text : (is : List Interval) (text : List ℕ) → is ≡ [] → IsLogText is text → text ≡ []
+no_text [] text e t = t
+no_text (i ∷ is) text e t = absurd (let f = e in cc)
 
 no_front : (o n : Option (List ℕ)) (t : List ℕ) → t ≡ [] → AppendsFront o n t → ⊥
-no_front o n t e f = let l : length t ≡ 0 = ap length e in absurd (omega (arith, f.1, l))
+no_front o n t e a = omega (arith, a.1, ap length e)
 
--- ---- a report
-
--- what a task answers of a fault
 abbrev pub TaskRefused : Task → List ℕ → Option (List ℕ) → Option (List ℕ) → Cause → Fault → Type 0
 TaskRefused task input o n c f = RunRefused (TaskDone task input) (TaskStands task input) (TaskWrites task input) o n c f
 
 module _ (sigfig : ℕ) (quantiles : List Ratio) (input : List ℕ) (o n : Option (List ℕ)) where
-  report_by : (f : Fault) (c : Cause) → LinesRefused false (empty_plain 1 2 sigfig true) (number_lines 1 (Some input)) o n c f → TaskRefused (Report sigfig quantiles) input o n c f
-  report_by f Shortage a = (a.0, begins_quiet (empty_plain 1 2 sigfig true) (number_lines 1 (Some input)) a.0 a.1, a.2)
-  report_by f Output a = absurd (no_front o n a.0 (begins_quiet (empty_plain 1 2 sigfig true) (number_lines 1 (Some input)) a.0 a.1) a.2)
-  report_by f Input (text, (Ok h, r, q), a) = absurd (let e = q in cc)
-  report_by f Input (text, (Err g, r, q), a) =
-      let e : text ≡ [] = runs_quiet (empty_plain 1 2 sigfig true) (number_lines 1 (Some input)) (record { written = text; ended = Err g }) r in
-      let F : List ℕ → Type 0 = λ t. Runs (LineDone false) (empty_plain 1 2 sigfig true) (number_lines 1 (Some input)) (record { written = t; ended = Err g }) in
-      (text, (Err g, subst F e r, (e, q)), a)
+  -- what a report's lines wrote is nothing
+  nothing : (is : List Interval) (text : List ℕ) (rest : Run) → IsLogText is text → run_input false sigfig input ≡ record { intervals = is ++ rest.intervals; ended = rest.ended } → text ≡ []
+  nothing is text rest t e = no_text is text (front_none is rest.intervals (sym (ap (λ (r : Run). r.intervals) e) ∙ quiet (number_lines 1 (Some input)) (empty_plain 1 2 sigfig true))) t
 
-  pub report_refused : (f : Fault) → LinesRefused false (empty_plain 1 2 sigfig true) (number_lines 1 (Some input)) o n (cause_of f) f → TaskRefused (Report sigfig quantiles) input o n (cause_of f) f
+  report_by : (f : Fault) (c : Cause) → Stops {M = Unit {0}} (λ _. run_input false sigfig input) o n c f → TaskRefused (Report sigfig quantiles) input o n c f
+  report_by f Shortage a = let r = a.2 tt in (a.1.0, nothing a.0 a.1.0 r.0 a.1.1 r.1, a.1.2)
+  report_by f Output a = let r = a.2 tt in absurd (no_front o n a.1.0 (nothing a.0 a.1.0 r.0 a.1.1 r.1) a.1.2)
+  report_by f Input a =
+      let e = a.2 tt in
+      let R : Result Plain Fault → Type 0 = λ r. Reported quantiles r a.1.0 (Some f) in
+      (a.1.0, subst R (sym (ap (λ (r : Run). r.ended) e)) (no_text a.0 a.1.0 (sym (ap (λ (r : Run). r.intervals) e) ∙ quiet (number_lines 1 (Some input)) (empty_plain 1 2 sigfig true)) a.1.1, refl), a.1.2)
+  report_by f Usage a = a
+
+  pub report_refused : (f : Fault) → Stops {M = Unit {0}} (λ _. run_input false sigfig input) o n (cause_of f) f → TaskRefused (Report sigfig quantiles) input o n (cause_of f) f
   report_refused f a = report_by f (cause_of f) a
 
-  reads_by : (f : Fault) (m : Option (List ℕ)) (c : Cause) → LinesRefused false (empty_plain 1 2 sigfig true) (number_lines 1 (Some input)) o n c f → ReadsTo (λ _. Unit {0}) m c → ReadsTo IsAtEnd m c
+  reads_by : (f : Fault) (m : Option (List ℕ)) (c : Cause) → Stops {M = Unit {0}} (λ _. run_input false sigfig input) o n c f → ReadsTo (λ _. Unit {0}) m c → ReadsTo IsAtEnd m c
   reads_by f m Shortage a e = tt
-  reads_by f m Output a e = absurd (no_front o n a.0 (begins_quiet (empty_plain 1 2 sigfig true) (number_lines 1 (Some input)) a.0 a.1) a.2)
+  reads_by f m Output a e = let r = a.2 tt in absurd (no_front o n a.1.0 (nothing a.0 a.1.0 r.0 a.1.1 r.1) a.1.2)
   reads_by f m Input a e = e
+  reads_by f m Usage a e = tt
 
-  pub report_reads : (f : Fault) (m : Option (List ℕ)) → LinesRefused false (empty_plain 1 2 sigfig true) (number_lines 1 (Some input)) o n (cause_of f) f → ReadsTo (λ _. Unit {0}) m (cause_of f) → ReadsTo IsAtEnd m (cause_of f)
+  pub report_reads : (f : Fault) (m : Option (List ℕ)) → Stops {M = Unit {0}} (λ _. run_input false sigfig input) o n (cause_of f) f → ReadsTo (λ _. Unit {0}) m (cause_of f) → ReadsTo IsAtEnd m (cause_of f)
   report_reads f m a e = reads_by f m (cause_of f) a e
 
-  module _ (h : Plain) (d : (done : List ℕ) × Runs (LineDone false) (empty_plain 1 2 sigfig true) (number_lines 1 (Some input)) (record { written = done; ended = Ok h }) × Appends o n done) (m : Option (List ℕ)) where
-    quiet : d.0 ≡ []
-    quiet = runs_quiet (empty_plain 1 2 sigfig true) (number_lines 1 (Some input)) (record { written = d.0; ended = Ok h }) d.1
-
-    ran : Runs (LineDone false) (empty_plain 1 2 sigfig true) (number_lines 1 (Some input)) (record { written = []; ended = Ok h })
-    ran = let F : List ℕ → Type 0 = λ t. Runs (LineDone false) (empty_plain 1 2 sigfig true) (number_lines 1 (Some input)) (record { written = t; ended = Ok h }) in subst F quiet d.1
-
+  module _ (h : Plain) (d : Goes {M = Unit {0}} {A = Unit {0}} (λ _. run_input false sigfig input) (λ _. ended_by (Ok h)) o n (Ok tt)) (m : Option (List ℕ)) where
     before : Appends o n []
-    before = subst (λ t. Appends o n t) quiet d.2
+    before = subst (λ t. Appends o n t) (nothing d.0 d.1.0 (ended_by (Ok h)) d.1.1 (d.2 tt)) d.1.2
+
+    reported : (text : List ℕ) (fault : Option Fault) → Reported quantiles (Ok h) text fault → TaskDone (Report sigfig quantiles) input text fault
+    reported text fault r = let R : Result Plain Fault → Type 0 = λ x. Reported quantiles x text fault in subst R (sym (ap (λ (x : Run). x.ended) (d.2 tt))) r
 
     written_by : (f : Fault) (c : Cause) → RunRefused (Reported quantiles (Ok h)) (λ text. text ≡ []) (λ text. Reported quantiles (Ok h) text None) n m c f → TaskRefused (Report sigfig quantiles) input o m c f
     written_by f Shortage a = (a.0, a.1, appends_both o n m [] a.0 before a.2)
-    written_by f Output a = (a.0, (Ok h, ran, a.1), front_behind o n m [] a.0 before a.2)
-    written_by f Input a = (a.0, (Ok h, ran, a.1), appends_both o n m [] a.0 before a.2)
+    written_by f Output a = (a.0, reported a.0 None a.1, front_behind o n m [] a.0 before a.2)
+    written_by f Input a = (a.0, reported a.0 (Some f) a.1, appends_both o n m [] a.0 before a.2)
+    written_by f Usage a = a
 
     pub report_written : (r : Result (Unit {0}) Fault) → Answers (Reported quantiles (Ok h)) (λ text. text ≡ []) (λ text. Reported quantiles (Ok h) text None) n m r
         → Answers (TaskDone (Report sigfig quantiles) input) (TaskStands (Report sigfig quantiles) input) (TaskWrites (Report sigfig quantiles) input) o m r
-    report_written (Ok u) a = (a.0, (Ok h, ran, a.1), appends_both o n m [] a.0 before a.2)
+    report_written (Ok u) a = (a.0, reported a.0 None a.1, appends_both o n m [] a.0 before a.2)
     report_written (Err f) a = written_by f (cause_of f) a
+
+-- ---- a log
+
+module _ (sigfig : ℕ) (input : List ℕ) (o n : Option (List ℕ)) where
+  logged : (is : List Interval) (text : List ℕ) (ended : Result Plain Fault) → IsLogText is text → run_input true sigfig input ≡ record { intervals = is; ended = ended } → TaskDone (Log sigfig) input text (fault_in ended)
+  logged is text ended t e =
+      let R : Run → Type 0 = λ r. IsLogText r.intervals text × (fault_in ended ≡ fault_in r.ended) in subst R (sym e) (t, refl)
+
+  log_by : (f : Fault) (c : Cause) → Stops {M = Unit {0}} (λ _. run_input true sigfig input) o n c f → TaskRefused (Log sigfig) input o n c f
+  log_by f Shortage a = let r = a.2 tt in (a.1.0, (a.0, r.0.intervals, ap (λ (x : Run). x.intervals) r.1, a.1.1), a.1.2)
+  log_by f Output a = let r = a.2 tt in (a.1.0, (a.0, r.0.intervals, ap (λ (x : Run). x.intervals) r.1, a.1.1), a.1.2)
+  log_by f Input a = (a.1.0, logged a.0 a.1.0 (Err f) a.1.1 (a.2 tt), a.1.2)
+  log_by f Usage a = a
+
+  pub log_refused : (f : Fault) → Stops {M = Unit {0}} (λ _. run_input true sigfig input) o n (cause_of f) f → TaskRefused (Log sigfig) input o n (cause_of f) f
+  log_refused f a = log_by f (cause_of f) a
+
+  pub log_done : (h : Plain) → Goes {M = Unit {0}} {A = Unit {0}} (λ _. run_input true sigfig input) (λ _. ended_by (Ok h)) o n (Ok tt) → (text : List ℕ) × TaskDone (Log sigfig) input text None × Appends o n text
+  log_done h a = (a.1.0, logged a.0 a.1.0 (Ok h) a.1.1 (a.2 tt ∙ ap (λ is. record { intervals = is; ended = Ok h }) (append-nil a.0)), a.1.2)
 
 -- ---- what is read
 
@@ -97,6 +110,7 @@ all_by : (m : Option (List ℕ)) (c : Cause) → IsAtEnd m → ReadsTo IsAtEnd m
 all_by m Shortage e = tt
 all_by m Output e = e
 all_by m Input e = e
+all_by m Usage e = tt
 
 pub reads_all : (m : Option (List ℕ)) (r : Result (Unit {0}) Fault) → IsAtEnd m → ReadsAll IsAtEnd m r
 reads_all m (Ok u) e = e
@@ -110,11 +124,11 @@ reads_none m f e = rw e tt
 -- nothing may stand, whatever the task
 stands_nothing : (task : Task) (input : List ℕ) → TaskStands task input []
 stands_nothing (Report sigfig quantiles) input = refl
-stands_nothing (Log sigfig) input = begins_nothing (LineDone true) (empty_plain 1 2 sigfig true) (number_lines 1 (Some input))
+stands_nothing (Log sigfig) input = ([], (run_input true sigfig input).intervals, refl, refl)
 stands_nothing (Merge options sigfig quantiles) input = refl
 
 pub unread : (task : Task) (i o : Option (List ℕ)) (f : Fault) → cause_of f ≡ Shortage → (input : List ℕ) × IfSome i (λ bytes. input ≡ bytes) × TaskRefused task input o o (cause_of f) f
 unread task i o f e =
     let x = some_input i in
-    let nothing : (t : List ℕ) × TaskStands task x.0 t × Appends o o t = ([], stands_nothing task x.0, appends_nothing o) in
-    (x.0, x.1, rw e nothing)
+    let none : (t : List ℕ) × TaskStands task x.0 t × Appends o o t = ([], stands_nothing task x.0, appends_nothing o) in
+    (x.0, x.1, rw e none)

@@ -1,55 +1,14 @@
--- Runs, one step further.
-use Rattle.std.proofs.Common.{◌≡◌, ℕ, suc, ◌+◌, List, [], ◌∷◌, ◌++◌, length, take, Option, Some, Result, Ok, Err, refl, sym, ap, ◌∙◌, subst, inl, inr, append_assoc, length-append, zero-add, arith}
+-- What running lines leaves, one part after another.
+use Rattle.std.proofs.Common.{◌≡◌, ℕ, suc, ◌+◌, ◌-◌, ◌^◌, Bool, List, [], ◌∷◌, ◌++◌, length, take, Option, Some, None, Result, Ok, Err, refl, sym, ap, ◌∙◌, subst, append_assoc, length-append, zero-add, arith}
 use Rattle.std.specs.Io.KnownBytes.{Appends}
+use Rattle.hdr_model.specs.Plain.{Plain}
+use Rattle.hdr_core.specs.Calls.{after_call}
+use Rattle.hdr_core.specs.declared.call.Call.{Call}
 use Rattle.hdrhistogram.specs.Streams.{AppendsFront}
 use Rattle.hdr_tool.specs.declared.fault.Fault.{Fault}
-use Rattle.hdr_tool.specs.Outcomes.{Outcome, Runs, Begins, after, Cause, Shortage, Output, Input, cause_of, StepRefused, RunRefused}
-use Rattle.hdr_tool.proofs.OutcomesSinks.{appends_both, appends_kept, append_nothing}
-
-pub after_after : {A : Type 0} (done text : List ℕ) (out : Outcome A) → after done (after text out) ≡ after (done ++ text) out
-after_after done text out = ap (λ t. record { written = t; ended = out.ended }) (sym (append_assoc done text out.written))
-
--- a step that goes on
-pub goes_on : {A B : Type 0} (Step : A → B → Result (List ℕ × A) Fault → Type 0) (a b : A) (it rest : List B) (x : B) (text : List ℕ) (out : Outcome A) → it ≡ x ∷ rest → Step a x (Ok (text, b)) → Runs Step b rest out → Runs Step a it (after text out)
-goes_on Step a b it rest x text out e s r = rw e (Ok (text, b), s, (out, r, refl))
-
--- a step that ends the run
-pub ends : {A B : Type 0} (Step : A → B → Result (List ℕ × A) Fault → Type 0) (a : A) (it rest : List B) (x : B) (f : Fault) → it ≡ x ∷ rest → Step a x (Err f) → Runs Step a it (record { written = []; ended = Err f })
-ends Step a it rest x f e s = rw e (Err f, s, refl)
-
-pub begins_nothing : {A B : Type 0} (Step : A → B → Result (List ℕ × A) Fault → Type 0) (a : A) (it : List B) → Begins Step a it []
-begins_nothing Step a [] = refl
-begins_nothing Step a (x ∷ it) = inl refl
-
-begins_step : {A B : Type 0} (Step : A → B → Result (List ℕ × A) Fault → Type 0) (a : A) (it rest : List B) (x : B) (step : List ℕ × A) (t : List ℕ) → it ≡ x ∷ rest → Step a x (Ok step) → Begins Step step.1 rest t → Begins Step a it (step.0 ++ t)
-begins_step Step a it rest x step t e s r = rw e (inr (step, s, (t, r, refl)))
-
--- what was written stands in the writer; how what is left ends is how all ends after it, and what stands of what is left
--- stands of all after it
-pub record Goes {A B : Type 0} (Step : A → B → Result (List ℕ × A) Fault → Type 0) (All : Outcome A → Type 0) (Stands : List ℕ → Type 0) (o m : Option (List ℕ)) (a : A) (it : List B) : Type 0 where
-  pub done : List ℕ
-  pub written : Appends o m done
-  pub ending : (out : Outcome A) → Runs Step a it out → All (after done out)
-  pub standing : (t : List ℕ) → Begins Step a it t → Stands (done ++ t)
-
--- nothing was done yet
-pub begin : {A B : Type 0} (Step : A → B → Result (List ℕ × A) Fault → Type 0) (o : Option (List ℕ)) (a : A) (it all : List B) → it ≡ all → Appends o o [] → Goes Step (λ out. Runs Step a all out) (Begins Step a all) o o a it
-begin {B = B} Step o a it all e n = record {
-  done = [];
-  written = n;
-  ending = λ out r. let R : List B → Type 0 = λ xs. Runs Step a xs out in subst R e r;
-  standing = λ t b. let R : List B → Type 0 = λ xs. Begins Step a xs t in subst R e b;
-}
-
--- a step that wrote a text
-pub wrote : {A B : Type 0} (Step : A → B → Result (List ℕ × A) Fault → Type 0) (All : Outcome A → Type 0) (Stands : List ℕ → Type 0) (a b : A) (it rest : List B) (x : B) (o m n : Option (List ℕ)) → Goes Step All Stands o m a it → it ≡ x ∷ rest
-    → (text : List ℕ) × Step a x (Ok (text, b)) × Appends m n text → Goes Step All Stands o n b rest
-wrote Step All Stands a b it rest x o m n i e s = record {
-  done = i.done ++ s.0;
-  written = appends_both o m n i.done s.0 i.written s.2;
-  ending = λ out r. subst All (after_after i.done s.0 out) (i.ending (after s.0 out) (goes_on Step a b it rest x s.0 out e s.1 r));
-  standing = λ t r. subst Stands (sym (append_assoc i.done s.0 t)) (i.standing (s.0 ++ t) (begins_step Step a it rest x (s.0, b) t e s.1 r));
-}
+use Rattle.hdr_tool.specs.Commands.{Command, Apply, command_of_name, command_of}
+use Rattle.hdr_tool.specs.Outcomes.{Interval, Run, prepend, run_command, run_lines, IsLogText, Cause, Shortage, Output, Input, Usage, cause_of, Wrote, Stops, Goes}
+use Rattle.hdr_tool.proofs.OutcomesSinks.{appends_both, appends_nothing}
 
 take_both : (xs ys : List ℕ) (k : ℕ) → take (length xs + k) (xs ++ ys) ≡ xs ++ take k ys
 take_both [] ys k = ap (λ n. take n ys) (zero-add k)
@@ -61,26 +20,52 @@ front_behind o m n done text a f =
     let A : List ℕ → Type 0 = λ t. Appends o n t in
     (length done + f.0, omega (arith, length-append done text, f.1), subst A (sym (take_both done text f.0)) (appends_both o m n done (take f.0 text) a f.2))
 
--- a step that ended the run, by what ended it
-ended_by : {A B : Type 0} (Step : A → B → Result (List ℕ × A) Fault → Type 0) (All : Outcome A → Type 0) (Stands : List ℕ → Type 0) (Ends : List ℕ → Option Fault → Type 0) (a : A) (it rest : List B) (x : B) (o m n : Option (List ℕ)) (f : Fault) (c : Cause)
-    → ((text : List ℕ) → All (record { written = text; ended = Err f }) → Ends text (Some f)) → Goes Step All Stands o m a it → it ≡ x ∷ rest → StepRefused (Step a x) m n c f → RunRefused Ends Stands Stands o n c f
-ended_by Step All Stands Ends a it rest x o m n f Shortage k i e s = (i.done, subst Stands (append_nothing i.done) (i.standing [] (begins_nothing Step a it)), appends_kept o m n i.done i.written s)
-ended_by Step All Stands Ends a it rest x o m n f Output k i e s =
-    (i.done ++ s.0.0, subst Stands (ap (λ t. i.done ++ t) (append_nothing s.0.0)) (i.standing (s.0.0 ++ []) (begins_step Step a it rest x s.0 [] e s.1 (begins_nothing Step s.0.1 rest))), front_behind o m n i.done s.0.0 i.written s.2)
-ended_by Step All Stands Ends a it rest x o m n f Input k i e s =
-    let E : List ℕ → Type 0 = λ t. Ends t (Some f) in
-    (i.done, subst E (append_nothing i.done) (k (i.done ++ []) (i.ending (record { written = []; ended = Err f }) (ends Step a it rest x f e s.0))), appends_kept o m n i.done i.written s.1)
+-- the text of some intervals and of others
+pub text_both : (is js : List Interval) (a b : List ℕ) → IsLogText is a → IsLogText js b → IsLogText (is ++ js) (a ++ b)
+text_both [] js a b p q = rw p q
+text_both (i ∷ is) js a b (line, rest, t, p, e) q = (line, rest ++ b, t, text_both is js rest b p q, ap (λ x. x ++ b) e ∙ append_assoc line rest b)
 
-pub ended : {A B : Type 0} (Step : A → B → Result (List ℕ × A) Fault → Type 0) (All : Outcome A → Type 0) (Stands : List ℕ → Type 0) (Ends : List ℕ → Option Fault → Type 0) (a : A) (it rest : List B) (x : B) (o m n : Option (List ℕ)) (f : Fault)
-    → ((text : List ℕ) → All (record { written = text; ended = Err f }) → Ends text (Some f)) → Goes Step All Stands o m a it → it ≡ x ∷ rest → StepRefused (Step a x) m n (cause_of f) f → RunRefused Ends Stands Stands o n (cause_of f) f
-ended Step All Stands Ends a it rest x o m n f k i e s = ended_by Step All Stands Ends a it rest x o m n f (cause_of f) k i e s
+wrote_both : (is js : List Interval) (o m n : Option (List ℕ)) → Wrote is o m → Wrote js m n → Wrote (is ++ js) o n
+wrote_both is js o m n p q = (p.0 ++ q.0, text_both is js p.0 q.0 p.1 q.1, appends_both o m n p.0 q.0 p.2 q.2)
 
--- what was written so far
-pub stands : {A B : Type 0} (Step : A → B → Result (List ℕ × A) Fault → Type 0) (All : Outcome A → Type 0) (Stands : List ℕ → Type 0) (a : A) (it : List B) (o m : Option (List ℕ)) → Goes Step All Stands o m a it → (text : List ℕ) × Stands text × Appends o m text
-stands Step All Stands a it o m i = (i.done, subst Stands (append_nothing i.done) (i.standing [] (begins_nothing Step a it)), i.written)
+prepend_both : (is js : List Interval) (r : Run) → prepend is (prepend js r) ≡ prepend (is ++ js) r
+prepend_both is js r = ap (λ x. record { intervals = x; ended = r.ended }) (sym (append_assoc is js r.intervals))
 
--- nothing is left
-pub all_done : {A B : Type 0} (Step : A → B → Result (List ℕ × A) Fault → Type 0) (All : Outcome A → Type 0) (Stands : List ℕ → Type 0) (a : A) (it : List B) (o m : Option (List ℕ)) → Goes Step All Stands o m a it → it ≡ [] → (text : List ℕ) × All (record { written = text; ended = Ok a }) × Appends o m text
-all_done Step All Stands a it o m i e =
-    let E : List ℕ → Type 0 = λ t. All (record { written = t; ended = Ok a }) in
-    (i.done, subst E (append_nothing i.done) (i.ending (record { written = []; ended = Ok a }) (rw e refl)), i.written)
+-- nothing is run yet
+pub begin : {M : Type 0} (whole : M → Run) (o : Option (List ℕ)) → Goes {A = Unit {0}} whole whole o o (Ok tt)
+begin whole o = ([], ([], refl, appends_nothing o), λ x. refl)
+
+-- one part, and then another: `pre` is what follows of the second where `x` follows of both
+module _ {M N : Type 0} (whole : M → Run) (middle onward : N → Run) (pre : M → N) (o m n : Option (List ℕ)) (p : Goes {A = Unit {0}} whole (λ x. middle (pre x)) o m (Ok tt)) where
+  stops : (f : Fault) (c : Cause) → Stops middle m n c f → Stops whole o n c f
+  stops f Shortage q = (p.0 ++ q.0, wrote_both p.0 q.0 o m n p.1 q.1, λ x. let s = q.2 (pre x) in (s.0, p.2 x ∙ ap (prepend p.0) s.1 ∙ prepend_both p.0 q.0 s.0))
+  stops f Output q =
+      (p.0 ++ q.0, (p.1.0 ++ q.1.0, text_both p.0 q.0 p.1.0 q.1.0 p.1.1 q.1.1, front_behind o m n p.1.0 q.1.0 p.1.2 q.1.2), λ x. let s = q.2 (pre x) in (s.0, p.2 x ∙ ap (prepend p.0) s.1 ∙ prepend_both p.0 q.0 s.0))
+  stops f Input q = (p.0 ++ q.0, wrote_both p.0 q.0 o m n p.1 q.1, λ x. p.2 x ∙ ap (prepend p.0) (q.2 (pre x)))
+  stops f Usage q = q
+
+  pub and_then : {A : Type 0} (r : Result A Fault) → Goes middle onward m n r → Goes whole (λ x. onward (pre x)) o n r
+  and_then (Ok a) q = (p.0 ++ q.0, wrote_both p.0 q.0 o m n p.1 q.1, λ x. p.2 x ∙ ap (prepend p.0) (q.2 (pre x)) ∙ prepend_both p.0 q.0 (onward (pre x)))
+  and_then (Err f) q = stops f (cause_of f) q
+
+-- what goes on stops where memory runs out or the reader fails
+pub cut_short : {M : Type 0} (whole onward : M → Run) (o m : Option (List ℕ)) (f : Fault) → cause_of f ≡ Shortage → Goes {A = Unit {0}} whole onward o m (Ok tt) → Stops whole o m (cause_of f) f
+cut_short whole onward o m f e p = let s : Stops whole o m Shortage f = (p.0, p.1, λ x. (onward x, p.2 x)) in rw e s
+
+-- one line more
+pub one_line : {A : Type 0} (log : Bool) (whole : List (ℕ × List ℕ) → Run) (h new : Plain) (it rest : List (ℕ × List ℕ)) (x : ℕ × List ℕ) (o m n : Option (List ℕ)) (r : Result A Fault) → Goes {A = Unit {0}} whole (λ more. run_lines log h (it ++ more)) o m (Ok tt)
+    → it ≡ x ∷ rest → Goes (λ more. run_lines log h (x ∷ more)) (run_lines log new) m n r → Goes whole (λ more. run_lines log new (rest ++ more)) o n r
+one_line log whole h new it rest x o m n r p e q =
+    let F : List (ℕ × List ℕ) → Type 0 = λ l. Goes {A = Unit {0}} whole (λ more. run_lines log h (l ++ more)) o m (Ok tt) in
+    and_then whole (λ more. run_lines log h (x ∷ more)) (run_lines log new) (λ more. rest ++ more) o m n (subst F e p) r q
+
+-- a line by its command
+pub command_line : (is_log : Bool) (h : Plain) (k : ℕ) (line : List ℕ) (more : List (ℕ × List ℕ)) (c : Command) → command_of line ≡ Some c → run_lines is_log h ((k, line) ∷ more) ≡ run_command is_log k h (Some c) (λ g. run_lines is_log g more)
+unfolding command_of_name
+command_line is_log h k [] more c e = absurd (let f : None ≡ Some c = e in cc)
+command_line is_log h k (b ∷ line) more c e = rw e refl
+
+-- the line of a call
+pub call_line : (is_log : Bool) (h new : Plain) (k : ℕ) (line : List ℕ) (more : List (ℕ × List ℕ)) (call : Call ℕ) → command_of line ≡ Some (Apply call) → new ≡ after_call (2 ^ 64 - 1) (λ n. n) call h
+    → run_lines is_log h ((k, line) ∷ more) ≡ run_lines is_log new more
+call_line is_log h new k line more call e d = command_line is_log h k line more (Apply call) e ∙ ap (λ g. run_lines is_log g more) (sym d)

@@ -1,9 +1,10 @@
 -- What a writer holds after several writes.
-use Rattle.std.proofs.Common.{◌≡◌, ℕ, ◌+◌, ◌-◌, List, [], ◌∷◌, ◌++◌, length, take, drop, Option, Some, None, Result, Ok, Err, IsErrAnd, refl, sym, ap, ◌∙◌, append_assoc}
+use Rattle.std.proofs.Common.{◌≡◌, ℕ, ◌+◌, ◌-◌, List, [], ◌++◌, length, take, drop, Option, Some, None, Result, Ok, Err, IsErrAnd, refl, sym, ap, ◌∙◌, append_assoc}
 use Rattle.hdr_tool.specs.declared.fault.Fault.{Fault}
 use Rattle.std.specs.Io.KnownBytes.{Appends, Keeps}
 use Rattle.std.proofs.lemmas.List.{take_rest}
 use Rattle.std.proofs.Math.Seq.{take-add}
+use Rattle.std.proofs.lemmas.List.{append-nil}
 
 pub appends_both : (o m n : Option (List ℕ)) (xs ys : List ℕ) → Appends o m xs → Appends m n ys → Appends o n (xs ++ ys)
 appends_both None m n xs ys p q = tt
@@ -22,13 +23,9 @@ appends_kept (Some o) None n xs p k = absurd p
 appends_kept (Some o) (Some m) None xs p k = absurd k
 appends_kept (Some o) (Some m) (Some n) xs p k = k ∙ p
 
-pub append_nothing : (xs : List ℕ) → xs ++ [] ≡ xs
-append_nothing [] = refl
-append_nothing (x ∷ xs) = ap (λ t. x ∷ t) (append_nothing xs)
-
 pub appends_nothing : (o : Option (List ℕ)) → Appends o o []
 appends_nothing None = tt
-appends_nothing (Some xs) = sym (append_nothing xs)
+appends_nothing (Some xs) = sym (append-nil xs)
 
 pub keeps : (o : Option (List ℕ)) → Keeps o o
 keeps None = tt

@@ -1,5 +1,5 @@
 -- What the arguments ask for.
-use Rattle.std.specs.Prelude.{ℕ, ◌-◌, ◌*◌, ◌^◌, ◌==◌, Bool, true, false, ◌&&◌, nat_le, List, [], ◌∷◌, Option, Some, None, is_some, is_none, if◌then◌else◌, codes, map, string_bytes}
+use Rattle.std.specs.Prelude.{ℕ, ◌-◌, ◌*◌, ◌^◌, ◌==◌, Bool, ◌&&◌, nat_le, List, [], ◌∷◌, Option, Some, None, is_some, is_none, if◌then◌else◌, codes, map, string_bytes}
 use Rattle.std.specs.Option.{option_map}
 use Rattle.std.specs.List.{list_all, filter_map}
 use Rattle.std.specs.Str.{bytes_eq}

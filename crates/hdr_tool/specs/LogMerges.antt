@@ -16,7 +16,7 @@ use Rattle.hdr_log.specs.Parts.{parts}
 use Rattle.hdr_tool.specs.Commands.{Command, Apply, End, command_of}
 use Rattle.hdr_tool.specs.Arguments.{Options, greatest_into, filter_of, Log, Merge, task_of}
 use Rattle.hdr_tool.specs.Report.{IsReport}
-use Rattle.hdr_tool.specs.Program.{Program}
+use Rattle.hdr_tool.specs.Program.{Outcome}
 
 -- an interval that an `end` line closes: what it holds, its tag, and its start in milliseconds
 pub record EndOf (A : Type 0) : Type 0 where
@@ -55,7 +55,7 @@ LogThenMerge =
     (log merge : List (List ℕ)) (sigfig fewer : ℕ) (options : Options) (quantiles : List Ratio) (input written text : List ℕ) (fault : Option Fault)
     → task_of log ≡ Some (Log sigfig) → task_of merge ≡ Some (Merge options fewer quantiles)
     → AllByRecursion (λ (e : EndOf Plain). IsPlain (2 ^ 64 - 1) e.holds) (ends_of (empty_plain 1 2 sigfig true) (enumerate_from 1 (parts 10 input)))
-    → Program log input written None → Program merge written text fault
+    → Outcome log input written None → Outcome merge written text fault
     → (fault ≡ None) × ((ks : List Plain) × AreReadBack (chosen_of (filter_of options) (ends_of (empty_plain 1 2 sigfig true) (enumerate_from 1 (parts 10 input)))) ks
     × IsReport (after_adds (greatest_into options.into) (empty_plain 1 2 fewer true) ks) quantiles text)
 
@@ -101,6 +101,6 @@ LogMergeStands =
     → task_of log ≡ Some (Log sigfig) → task_of merge ≡ Some (Merge options fewer quantiles) → fewer ≤ sigfig
     → EndsWith (grain_of 1 sigfig) (record { samples = []; high = 2 }) (enumerate_from 1 (parts 10 input)) Ls
     → Fits (greatest_into options.into) (grain_of 1 fewer) (joined_samples (chosen_of (filter_of options) Ls))
-    → Program log input written None → Program merge written text fault
+    → Outcome log input written None → Outcome merge written text fault
     → (fault ≡ None) × ((h : Plain) × (h.low ≡ 1) × (h.sigfig ≡ fewer) × IsReport h quantiles text × StandsFor h (joined_samples (chosen_of (filter_of options) Ls))
     × AnswersRanked h (joined_samples (chosen_of (filter_of options) Ls)))

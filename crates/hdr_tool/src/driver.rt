@@ -1,14 +1,15 @@
 //! The lines of an input, one after another. A report is a log without `end`: the same driver does both.
 
-ghost use Rattle.std.specs.Prelude.{◌≡◌, ◌+◌, ◌<◌, ℕ, List, length, MatchResult, IfSome, Ok, Err, Some, true};
+ghost use Rattle.std.specs.Prelude.{◌≡◌, ◌+◌, ◌-◌, ◌^◌, ◌<◌, ◌∷◌, ◌++◌, ℕ, List, length, MatchResult, IfOk, IfSome, Ok, Err, Some, true};
 ghost use Rattle.std.specs.Option.{option_map};
-ghost use Rattle.std.specs.Io.KnownBytes.{Appends, IsAtEnd};
-ghost use Rattle.hdr_model.specs.Plain.{empty_plain};
+ghost use Rattle.std.specs.Io.KnownBytes.{IsAtEnd};
+ghost use Rattle.hdr_model.specs.Plain.{Plain, IsPlain};
 ghost use Rattle.hdr_log.specs.Tags.{tag_text};
 ghost use Rattle.hdrhistogram.specs.LogWriters.{sink, divisor_of, IsSameLog};
+ghost use Rattle.hdr_tool.specs.Commands.{End};
 ghost use Rattle.hdr_tool.specs.Lines.{number_lines};
-ghost use Rattle.hdr_tool.specs.Outcomes.{Begins, Runs, Answers, StepAnswers, ReadsTo, cause_of};
-ghost use Rattle.hdr_tool.specs.Program.{EndDone, LineDone, LinesDone};
+ghost use Rattle.hdr_tool.specs.Outcomes.{Run, ended_by, run_command, run_lines, Goes, ReadsTo, cause_of};
+ghost use Rattle.hdr_tool.specs.Program.{run_input};
 
 use crate::command::{Command, parse, value_line};
 use crate::fault::Fault;
@@ -22,6 +23,13 @@ use std::alloc::Global;
 use std::io::{Read, Write};
 use std::time::Duration;
 
+/// What is true of every histogram. It does nothing.
+fn is_plain(histogram: &Histogram<u64>)
+    ensures { IsPlain (2 ^ 64 - 1) histogram.now }
+{
+    let _bins = histogram.distinct_values();
+}
+
 /// Writes the histogram's interval, and begins the next one.
 fn end<W: Write>(
     histogram: &mut Histogram<u64>,
@@ -33,10 +41,12 @@ fn end<W: Write>(
 ) -> Result<(), Fault>
     requires { divisor_of log.old ≡ 1 }
     ensures same { IsSameLog log.old log.new }
-    ensures answers { StepAnswers (EndDone line histogram.old start duration
-        (option_map tag_text tag.entry)) histogram.new
+    ensures goes { Goes (run_command true line histogram.old
+        (Some (End start duration (option_map tag_text tag.entry))))
+        (λ (onward : Plain → Run). onward histogram.new)
         (W.contents (sink log.old).now) (W.contents (sink log.new).now) result }
 {
+    is_plain(histogram);
     let start = Duration::from_millis(start);
     let duration = Duration::from_millis(duration);
     match log.write_histogram(histogram, start, duration, tag) {
@@ -51,7 +61,9 @@ fn end<W: Write>(
                 IntervalLogWriterError::SerializeError(V2SerializeError::CountNotSerializable),
             ),
         ),
-        Err(_) => Err(Fault::NoMemory),
+        Err(IntervalLogWriterError::SerializeError(_)) => Err(Fault::NoMemory),
+        Err(IntervalLogWriterError::TimeOutOfRange) => Err(Fault::NoMemory),
+        Err(IntervalLogWriterError::OutOfMemory) => Err(Fault::NoMemory),
     }
 }
 
@@ -66,7 +78,8 @@ fn run_line<W: Write>(
 ) -> Result<(), Fault>
     requires { divisor_of log.old ≡ 1 }
     ensures same { IsSameLog log.old log.new }
-    ensures answers { StepAnswers (LineDone is_log histogram.old (number, line.now)) histogram.new
+    ensures goes { Goes (λ more. run_lines is_log histogram.old ((number, line.now) ∷ more))
+        (run_lines is_log histogram.new)
         (W.contents (sink log.old).now) (W.contents (sink log.new).now) result }
 {
     if line.is_empty() {
@@ -95,13 +108,11 @@ fn run_lines<W: Write>(
 ) -> Result<u64, Fault>
     requires { divisor_of log.old ≡ 1 }
     ensures same { IsSameLog log.old log.new }
-    ensures answers { let lines = number_lines number (Some text.now) in MatchResult result
-        (λ next. (next ≡ number + length lines) × ((done : List ℕ)
-        × Runs (LineDone is_log) histogram.old lines (record { written = done; ended = Ok histogram.new })
-        × Appends (W.contents (sink log.old).now) (W.contents (sink log.new).now) done))
-        (λ f. Answers (LinesDone is_log histogram.old lines) (Begins (LineDone is_log) histogram.old lines)
-        (Begins (LineDone is_log) histogram.old lines)
-        (W.contents (sink log.old).now) (W.contents (sink log.new).now) (Err f)) }
+    ensures goes { Goes (λ more. run_lines is_log histogram.old
+        (number_lines number (Some text.now) ++ more)) (run_lines is_log histogram.new)
+        (W.contents (sink log.old).now) (W.contents (sink log.new).now) result }
+    ensures next { IfOk result (λ next. next
+        ≡ number + length (number_lines number (Some text.now))) }
 {
     let mut next = number;
     let mut left = Some(text);
@@ -137,14 +148,10 @@ fn run_input<R: Read, W: Write>(
     requires divisor { divisor_of log.old ≡ 1 }
     requires room { 0 < length piece.old }
     ensures same { IsSameLog log.old log.new }
-    ensures answers { (input : List ℕ) × IfSome (R.remaining reader.old) (λ bytes. input ≡ bytes)
-        × (let lines = number_lines 1 (Some input) in MatchResult result
-        (λ _. (done : List ℕ)
-        × Runs (LineDone is_log) histogram.old lines (record { written = done; ended = Ok histogram.new })
-        × Appends (W.contents (sink log.old).now) (W.contents (sink log.new).now) done)
-        (λ f. Answers (LinesDone is_log histogram.old lines) (Begins (LineDone is_log) histogram.old lines)
-        (Begins (LineDone is_log) histogram.old lines)
-        (W.contents (sink log.old).now) (W.contents (sink log.new).now) (Err f))) }
+    ensures goes { (input : List ℕ) × IfSome (R.remaining reader.old) (λ bytes. input ≡ bytes)
+        × Goes {M = Unit {0}} (λ _. run_lines is_log histogram.old (number_lines 1 (Some input)))
+        (λ _. ended_by (Ok histogram.new))
+        (W.contents (sink log.old).now) (W.contents (sink log.new).now) result }
     ensures read { MatchResult result (λ _. IsAtEnd (R.remaining reader.new))
         (λ f. ReadsTo (λ _. Unit {0}) (R.remaining reader.new) (cause_of f)) }
 {
@@ -177,15 +184,10 @@ pub(crate) fn run_task<R: Read, W: Write>(
     reader: &mut R,
     writer: &mut W,
 ) -> Result<Histogram<u64>, Fault>
-    ensures answers { (input : List ℕ) × IfSome (R.remaining reader.old) (λ bytes. input ≡ bytes)
-        × (let lines = number_lines 1 (Some input) in MatchResult result
-        (λ h. (done : List ℕ)
-        × Runs (LineDone is_log) (empty_plain 1 2 sigfig true) lines (record { written = done; ended = Ok h })
-        × Appends (W.contents writer.old) (W.contents writer.new) done)
-        (λ f. Answers (LinesDone is_log (empty_plain 1 2 sigfig true) lines)
-        (Begins (LineDone is_log) (empty_plain 1 2 sigfig true) lines)
-        (Begins (LineDone is_log) (empty_plain 1 2 sigfig true) lines)
-        (W.contents writer.old) (W.contents writer.new) (Err f))) }
+    ensures goes { (input : List ℕ) × IfSome (R.remaining reader.old) (λ bytes. input ≡ bytes)
+        × Goes {M = Unit {0}} (λ _. run_input is_log sigfig input)
+        (λ _. ended_by result)
+        (W.contents writer.old) (W.contents writer.new) result }
     ensures read { MatchResult result (λ _. IsAtEnd (R.remaining reader.new))
         (λ f. ReadsTo (λ _. Unit {0}) (R.remaining reader.new) (cause_of f)) }
 {

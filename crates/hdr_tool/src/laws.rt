@@ -1,10 +1,20 @@
 //! Laws of the definitions: each function's contract is the law. A body that calls other laws takes what they say.
 
+ghost use Rattle.hdr_tool.specs.Program.{OneOutcome};
 ghost use Rattle.hdr_tool.specs.LogMerges.{EndsStand, LogThenMerge, LogMergeStands};
 
 use hdr_base::laws::finer_classes;
 use hdr_core::laws::{calls_stand, clearing_stands, joined_stands, new_is_plain};
-use hdrhistogram::laws::{bytes_read_back, read_back_stands};
+use hdrhistogram::laws::{bytes_agree, bytes_read_back, merging_adds_the_chosen, read_back_stands};
+
+/// Arguments and an input have one outcome: one text and one fault, where of bytes that are no histogram the defect counts. So
+/// two runs that met no failed allocation, reader or writer wrote the same text and returned the same fault.
+pub fn one_outcome()
+    ensures { OneOutcome }
+{
+    bytes_agree();
+    merging_adds_the_chosen();
+}
 
 /// The histograms of a log's intervals stand for the samples before the ends.
 pub fn ends_stand()

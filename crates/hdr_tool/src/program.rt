@@ -114,6 +114,7 @@ pub fn run<R: Read, W: Write>(
     ensures wrong_words { task_of (map string_bytes arguments.now) ≡ None → (result ≡ Err Fault.WrongWords)
         × Keeps (R.remaining reader.old) (R.remaining reader.new)
         × Keeps (W.contents writer.old) (W.contents writer.new) }
+    ensures usage { result ≡ Err Fault.WrongWords → task_of (map string_bytes arguments.now) ≡ None }
     ensures answers { IfSome (task_of (map string_bytes arguments.now)) (λ task. (input : List ℕ)
         × IfSome (R.remaining reader.old) (λ bytes. input ≡ bytes)
         × Answers (TaskDone task input) (TaskStands task input) (TaskWrites task input)

@@ -76,7 +76,7 @@ pub(crate) fn told_at_end<R: Read>(reader: &mut R, piece: &mut [u8], fault: Faul
 {
     if matches!(
         fault,
-        Fault::NoMemory | Fault::CannotRead | Fault::CannotWrite
+        Fault::NoMemory | Fault::CannotRead | Fault::CannotWrite | Fault::WrongWords
     ) {
         return fault;
     }

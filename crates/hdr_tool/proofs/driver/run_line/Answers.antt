@@ -1,0 +1,39 @@
+use Rattle.std.proofs.Common.{ℕ, List, ◌∷◌, Some, refl, sym, ap, ◌∙◌, true}
+use Rattle.std.specs.Option.{option_map}
+use Rattle.hdr_model.specs.Plain.{Plain}
+use Rattle.hdr_log.specs.Tags.{tag_text}
+use Rattle.hdrhistogram.specs.LogWriters.{sink}
+use Rattle.hdr_tool.specs.declared.fault.Fault.TheVariants.{NoMemory}
+use Rattle.hdr_tool.specs.Commands.{End}
+use Rattle.hdr_tool.specs.Outcomes.{Run, run_command, run_lines}
+use Rattle.hdr_tool.proofs.OutcomesRuns.{and_then, command_line, call_line}
+use Rattle.hdr_tool.proofs.OutcomesEnds.{short, next_line, no_command}
+use Rattle.hdr_tool.proofs.OutcomesSinks.{keeps}
+use Rattle.hdr_tool.proofs.driver.run_line.Goals as goal
+
+pub returns-in-Ok-clause-goes : goal.returns-in-Ok-clause-goes
+returns-in-Ok-clause-goes g c =
+    next_line {A = Unit {0}} (λ more. run_lines c.args.is_log c.args.histogram.now ((c.args.number, c.args.line.now) ∷ more)) (run_lines c.args.is_log c.apply.new.self) (g.W.Write.contents (sink c.args.log.now).now) tt
+    (λ more. call_line c.args.is_log c.args.histogram.now c.apply.new.self c.args.number c.args.line.now more c.in-Some-Apply.call (sym (rw c.in-Some-Apply.field-0-is at c.in-Some-Apply.ensures)) c.in-Ok.ensures.ok)
+
+pub returns-in-Err-clause-goes : goal.returns-in-Err-clause-goes
+returns-in-Err-clause-goes g c =
+    short (λ more. run_lines c.args.is_log c.args.histogram.now ((c.args.number, c.args.line.now) ∷ more)) (g.W.Write.contents (sink c.args.log.now).now) (g.W.Write.contents (sink c.args.log.now).now) NoMemory refl (keeps (g.W.Write.contents (sink c.args.log.now).now))
+
+pub returns-in-Some-End-clause-goes : goal.returns-in-Some-End-clause-goes
+returns-in-Some-End-clause-goes g c =
+    let whole : List (ℕ × List ℕ) → Run = λ more. run_lines c.args.is_log c.args.histogram.now ((c.args.number, c.args.line.now) ∷ more) in
+    let command = End c.in-Some-End.start c.in-Some-End.duration (option_map tag_text c.in-Some-End.tag) in
+    let o = g.W.Write.contents (sink c.args.log.now).now in
+    and_then whole (run_command true c.args.number c.args.histogram.now (Some command)) (λ (onward : Plain → Run). onward c.end.new.histogram) (λ more k. run_lines c.args.is_log k more) o o (g.W.Write.contents (sink c.end.new.log).now)
+    (next_line {A = Unit {0}} whole (λ more. run_command true c.args.number c.args.histogram.now (Some command) (λ k. run_lines c.args.is_log k more)) o tt
+    (λ more. command_line c.args.is_log c.args.histogram.now c.args.number c.args.line.now more command (sym (rw c.in-Some-End.field-0-is at c.in-Some-End.ensures))
+    ∙ ap (λ b. run_command b c.args.number c.args.histogram.now (Some command) (λ k. run_lines c.args.is_log k more)) c.if-is_log.true))
+    c.end.result c.end.ensures.goes
+
+pub returns-in_default-clause-goes : goal.returns-in_default-clause-goes
+returns-in_default-clause-goes g c =
+    let command = End c.in-Some-End.start c.in-Some-End.duration (option_map tag_text c.in-Some-End.tag) in
+    no_command (λ more. run_lines c.args.is_log c.args.histogram.now ((c.args.number, c.args.line.now) ∷ more)) c.args.number (g.W.Write.contents (sink c.args.log.now).now)
+    (λ more. command_line c.args.is_log c.args.histogram.now c.args.number c.args.line.now more command (sym (rw c.in-Some-End.field-0-is at c.in-Some-End.ensures))
+    ∙ ap (λ b. run_command b c.args.number c.args.histogram.now (Some command) (λ k. run_lines c.args.is_log k more)) c.if-is_log.false)
