@@ -1,17 +1,16 @@
 //! A serializer of the caller's own, through the writer of logs and back.
 
+use crate::tests::first_run;
 use hdr_log::field::decoded;
 use hdrhistogram::serialization::Serializer;
-use hdrhistogram::serialization::interval_log::{
-    IntervalLogIterator, IntervalLogWriterBuilder, LogEntry, Tag,
-};
+use hdrhistogram::serialization::interval_log::{IntervalLogIterator, IntervalLogWriter, LogEntry};
 use hdrhistogram::{Counter, Histogram};
 use std::io::{self, Write};
 use std::process::Abort;
 use std::test::Fail;
 use std::time::Duration;
 
-/// Writes the number of samples alone, in eight bytes.
+/// Writes four bytes, two of which stand in no text, and the last of which is the number of digits.
 #[derive(Drop)]
 struct Lengths;
 
@@ -25,29 +24,24 @@ impl Serializer for Lengths {
         h: &Histogram<T>,
         writer: &mut W,
     ) -> Result<usize, io::Error> {
-        let bytes = h.len().to_be_bytes();
-        writer.write_all(&bytes)?;
-        Ok(bytes.len())
+        writer.write_all(&[0xfa, 0xff, 0, h.sigfig()])?;
+        Ok(4)
     }
 }
 
 #[test]
 fn own_bytes_are_read_back(rt: HostRuntime) -> Result<(), Fail> {
-    let mut h: Histogram<u64> = Histogram::new(rt.alloc(), 3)?;
-    h.record_n(1, 0xff00_0180_7fff_fe0a)?;
     let mut text = Vec::new(rt.alloc());
-    let mut serializer = Lengths;
-    {
-        let builder = IntervalLogWriterBuilder::new(rt.alloc());
-        let mut log = builder.begin_log_with(&mut text, &mut serializer)?;
-        log.write_histogram(&h, Duration::ZERO, Duration::from_secs(1), Tag::new("a"))?;
-    }
-    let mut entries = IntervalLogIterator::new(&text);
-    let Some(Ok(LogEntry::Interval(interval))) = entries.next() else {
-        panic!(rt; "no interval");
+    IntervalLogWriter::new(rt.alloc(), &mut text, &mut Lengths, 1).write_histogram(
+        &first_run(rt.alloc())?,
+        Duration::ZERO,
+        Duration::ZERO,
+        None,
+    )?;
+    let Some(Ok(LogEntry::Interval(interval))) = IntervalLogIterator::new(&text).next() else {
+        return Err(Fail::from("no interval"));
     };
     let bytes = decoded(rt.alloc(), interval.encoded_histogram())?;
-    assert_eq!(rt; bytes.as_slice(), [0xff, 0, 1, 0x80, 0x7f, 0xff, 0xfe, 0x0a].as_slice());
-    assert!(rt; entries.next().is_none());
+    assert_eq!(rt; bytes.as_slice(), [0xfa, 0xff, 0, 3].as_slice());
     Ok(())
 }

@@ -97,14 +97,6 @@ fn serializes(
     }
 }
 
-/// Whether the bytes of the first run are lent.
-fn lends_first_run(serializer: &mut V2Serializer, h: &Histogram<u64>) -> bool {
-    match serializer.to_bytes(h) {
-        Ok(bytes) => bytes == FIRST_RUN.as_slice(),
-        Err(_) => false,
-    }
-}
-
 /// A serializer that memory was refused to makes the right bytes then, written and lent.
 #[test]
 fn serialize(rt: HostRuntime) -> Result<(), Fail> {
@@ -119,7 +111,8 @@ fn serialize(rt: HostRuntime) -> Result<(), Fail> {
     if !at_once {
         assert!(rt; serializes(&rt, &mut serializer, &h, &mut written));
     }
-    assert!(rt; lends_first_run(&mut serializer, &h));
+    let lent = serializer.to_bytes(&h);
+    assert!(rt; matches!(lent, Ok(bytes) if bytes == FIRST_RUN.as_slice()));
     drop(serializer);
     drop(h);
     if !at_once {
@@ -265,12 +258,7 @@ fn log_part_by_part(rt: HostRuntime) -> Result<(), Fail> {
     let Some(parts) = parts else {
         return Err(Fail::from("another error"));
     };
-    let end = match parts {
-        0 => 0,
-        1 => 6,
-        2 => 81,
-        _ => 156,
-    };
+    let end = [0, 6, 81, 156].get(parts).copied().unwrap_or(0);
     assert!(rt; log.as_slice() == LOG.as_slice().get(..end).unwrap_or(&[]));
     if parts < 3 {
         println!(rt; "no memory")?;
