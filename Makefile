@@ -2,6 +2,7 @@
 # make edits: the wrong bodies alone, which the prover has to refuse: those of crates/*/edits and of crates/*/further-edits.
 # make quick: what has changed since the last commit, over the work that earlier checks kept.
 # make bench: times beside the Rust crate hdrhistogram (compare/run says where that comes from).
+# make bench-shapes: instructions and times of each operation on the data that users have, beside the same.
 PREFIX ?= /usr/local
 
 all:
@@ -35,4 +36,7 @@ quick:
 bench:
 	compare/run
 
-.PHONY: all install check proofs-and-runs edits quick bench
+bench-shapes:
+	compare/run shapes
+
+.PHONY: all install check proofs-and-runs edits quick bench bench-shapes
