@@ -3,6 +3,7 @@
 # make edits: the wrong bodies alone, which the prover has to refuse: those of crates/*/edits and of crates/*/further-edits.
 # make quick: proves what has changed since the last commit, over the work that earlier checks kept, and plays the tests.
 # make bench: times beside the Rust crate hdrhistogram (compare/run says where that comes from).
+# make bench-shapes: instructions and times of each operation on the data that users have, beside the same.
 PREFIX ?= /usr/local
 
 all:
@@ -42,4 +43,7 @@ quick:
 bench:
 	compare/run
 
-.PHONY: all install check proofs-and-runs test edits quick bench
+bench-shapes:
+	compare/run shapes
+
+.PHONY: all install check proofs-and-runs test edits quick bench bench-shapes

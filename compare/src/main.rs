@@ -1,11 +1,13 @@
 //! Times the same workloads over the Rust crate hdrhistogram and over this repository's crates, in one process and in turns.
 //! A line for each: `name upstream_ns ours_ns ratio`. The exit status is 1 where a checksum differs. With the words `bytes
-//! SEED COUNT`, or `bytes` alone and texts on standard input, it compares how V2 texts are read (`bytes.rs`).
+//! SEED COUNT`, or `bytes` alone and texts on standard input, it compares how V2 texts are read (`bytes.rs`). With `shapes [NAME]`
+//! it counts instructions and times operations on the data that users have (`shapes.rs`).
 //!
 //! A call of a workload makes its histograms first, so an operation's time is what many operations take above a few.
 
 mod bytes;
 mod ours;
+mod shapes;
 mod upstream;
 
 use std::hint::black_box;
@@ -120,7 +122,13 @@ fn compared(word: &str) -> Option<bool> {
 }
 
 fn main() -> ExitCode {
-    let filter = std::env::args().nth(1).unwrap_or_default();
+    let words: Vec<String> = std::env::args().skip(1).collect();
+    match words.first().map(String::as_str) {
+        Some("shape") => return shapes::one(&words[1..]),
+        Some("shapes") => return shapes::all(words.get(1).map_or("", String::as_str)),
+        _ => {}
+    }
+    let filter = words.into_iter().next().unwrap_or_default();
     if let Some(same) = compared(&filter) {
         return if same { ExitCode::SUCCESS } else { ExitCode::FAILURE };
     }

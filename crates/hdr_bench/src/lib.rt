@@ -7,6 +7,7 @@ ghost use Rattle.std.specs.Prelude.{◌<◌, ◌^◌, ◌≤◌};
 mod bytes;
 mod histograms;
 mod log;
+mod shapes;
 
 use hdrhistogram::serialization::{Deserializer, V2Serializer};
 use hdrhistogram::{Histogram, Quantile};

@@ -1,7 +1,9 @@
 -- Numbers that are zeros from a place on.
-use Rattle.std.proofs.Common.{◌≡◌, ℕ, zero, suc, ◌<◌, ◌≤◌, max, true, Option, Some, None, List, [], ◌∷◌, ◌++◌, length, get_or, take, refl, sym, ap, ◌∙◌, arith, inl, inr}
+use Rattle.std.proofs.Common.{◌≡◌, ℕ, zero, suc, ◌+◌, ◌*◌, ◌<◌, ◌≤◌, max, true, sum, Option, Some, None, List, [], ◌∷◌, ◌++◌, length, get_or, take, refl, sym, ap, ◌∙◌, arith, inl, inr}
 use Rattle.std.proofs.lemmas.Bool.{cases_lt}
 use Rattle.hdr_base.specs.Classes.{Grain, value_of, top_of}
+use Rattle.std.proofs.lemmas.List.Sums.{sum_by-cons}
+use Rattle.hdr_model.specs.Statistics.{median_of, weight_from}
 use Rattle.hdr_model.specs.Equality.{same_numbers}
 use Rattle.hdr_model.specs.Correction.{missing, each_times}
 use Rattle.hdr_model.specs.Merging.{classes_from, corrections_from, top_class}
@@ -34,3 +36,30 @@ corrections-used g t i zero (zero ∷ ns) none = corrections-used g t (suc i) ze
 corrections-used g t i zero (suc n ∷ ns) none = absurd (omega (arith, none zero (omega arith)))
 corrections-used g t i (suc k) (zero ∷ ns) none = corrections-used g t (suc i) k ns (λ j le. none (suc j) (omega arith))
 corrections-used g t i (suc k) (suc n ∷ ns) none = ap (λ ts. each_times (suc n) (top_of g (value_of g i) ∷ missing (top_of g (value_of g i)) t) ++ ts) (corrections-used g t (suc i) k ns (λ j le. none (suc j) (omega arith)))
+
+-- numbers that are zeros weigh nothing
+pub weight-zeros : (g : Grain) (k a b : ℕ) (ns : List ℕ) → a ≤ b → ((i : ℕ) → a ≤ i → i < b → get_or ns i 0 ≡ 0) → weight_from g k (take b ns) ≡ weight_from g k (take a ns)
+weight-zeros g k zero zero [] le none = refl
+weight-zeros g k zero (suc b) [] le none = refl
+weight-zeros g k (suc a) zero [] le none = absurd (omega arith)
+weight-zeros g k (suc a) (suc b) [] le none = refl
+weight-zeros g k zero zero (n ∷ ns) le none = refl
+weight-zeros g k zero (suc b) (n ∷ ns) le none =
+    let here : n ≡ 0 = none 0 (omega arith) (omega arith) in
+    let rest : weight_from g (suc k) (take b ns) ≡ 0 = weight-zeros g (suc k) zero b ns (omega arith) (λ i from to. none (suc i) (omega arith) (omega arith)) in
+    omega (arith, ap (λ m. median_of g (value_of g k) * m) here, rest)
+weight-zeros g k (suc a) zero (n ∷ ns) le none = absurd (omega arith)
+weight-zeros g k (suc a) (suc b) (n ∷ ns) le none = ap (λ w. median_of g (value_of g k) * n + w) (weight-zeros g (suc k) a b ns (omega arith) (λ i from to. none (suc i) (omega arith) (omega arith)))
+
+-- nor are they anything in a sum
+pub sum-zeros : (a b : ℕ) (ns : List ℕ) → a ≤ b → ((i : ℕ) → a ≤ i → i < b → get_or ns i 0 ≡ 0) → sum (take b ns) ≡ sum (take a ns)
+sum-zeros zero zero [] le none = refl
+sum-zeros zero (suc b) [] le none = refl
+sum-zeros (suc a) zero [] le none = absurd (omega arith)
+sum-zeros (suc a) (suc b) [] le none = refl
+sum-zeros zero zero (n ∷ ns) le none = refl
+sum-zeros zero (suc b) (n ∷ ns) le none =
+    omega (arith, sum_by-cons (λ x. x) n (take b ns), none 0 (omega arith) (omega arith), sum-zeros zero b ns (omega arith) (λ i from to. none (suc i) (omega arith) (omega arith)))
+sum-zeros (suc a) zero (n ∷ ns) le none = absurd (omega arith)
+sum-zeros (suc a) (suc b) (n ∷ ns) le none =
+    omega (arith, sum_by-cons (λ x. x) n (take b ns), sum_by-cons (λ x. x) n (take a ns), sum-zeros a b ns (omega arith) (λ i from to. none (suc i) (omega arith) (omega arith)))

@@ -101,8 +101,10 @@ impl<T: Counter> Histogram<T> {
         ensures { result ≡ weight_from (grain self.now) 0 self.now.counts }
     {
         let mut sum: u128 = 0;
-        for (bin, counter) in self.counts.as_slice().iter().enumerate() {
-            sum += weight(self.scale, bin, counter.as_u64());
+        let mut bin = self.counts.next_filled(0);
+        while bin < self.counts.len() {
+            sum += weight(self.scale, bin, self.counts.get(bin).as_u64());
+            bin = self.counts.next_filled(bin + 1);
         }
         sum
     }

@@ -1,11 +1,11 @@
-use Rattle.std.proofs.Common.{◌≡◌, ◌+◌, ◌*◌, ◌<◌, length, get_or, ap, ◌∙◌, arith}
-use Rattle.std.proofs.lemmas.List.{length-map}
+use Rattle.std.proofs.Common.{◌≡◌, ◌+◌, ◌*◌, ◌<◌, length, get_or, ap, ◌∙◌, sym, arith}
 use Rattle.hdr_base.specs.Classes.{Grain, value_of}
-use Rattle.hdr_counts.proofs.BlocksSums.{number-at, sum_below_more, sum_below-le-sum}
+use Rattle.hdr_counts.proofs.BlocksSums.{sum_below_more, sum_below-le-sum}
 use Rattle.hdr_model.specs.Plain.{Plain, grain}
 use Rattle.hdr_core.specs.Shown.{plain_of}
 use Rattle.hdr_model.specs.Statistics.{median_of}
 use Rattle.hdr_core.proofs.IteratingFacts.{AreBins-binned}
+use Rattle.hdr_core.proofs.UsedBins.{sum-zeros, weight-zeros}
 use Rattle.hdr_model.proofs.StatisticsMeans.{weighed-more}
 use Rattle.hdr_core.proofs.histogram.Histogram.weighed.Given as given
 use Rattle.hdr_core.proofs.histogram.Histogram.weighed.Goals as goal
@@ -13,10 +13,10 @@ use Rattle.hdr_core.proofs.histogram.Histogram.weighed.Goals.{In-loop-bin, After
 
 -- the bin that is looked at, and its number
 at : (g : given.Over) (c : In-loop-bin g) → c.loop-bin.bin < length c.self.inside.counts.numbers
-at g c = omega (arith, c.loop-bin-test.true, length-map c.as_slice-counter-items.result.now g.T.Counter.number, ap length c.as_slice-counter-items.ensures)
+at g c = omega (arith, c.loop-bin-test.true, c.len.ensures.value)
 
 number : (g : given.Over) (c : After-as_u64 g) → c.as_u64.result ≡ get_or c.self.inside.counts.numbers c.loop-bin.bin 0
-number g c = c.as_u64.ensures.value ∙ number-at g.T.Counter.number c.as_slice-counter-items.result.now c.loop-bin.bin c.counter-item.result c.loop-bin-test.true c.counter-item.is ∙ ap (λ l. get_or l c.loop-bin.bin 0) c.as_slice-counter-items.ensures
+number g c = c.as_u64.ensures.value ∙ c.get.ensures
 
 pub weight-sum-requires : goal.weight-sum-requires
 weight-sum-requires g c =
@@ -27,7 +27,7 @@ overflow_add-sum g c =
     let h = plain_of c.self.inside in
     let i = c.loop-bin.bin in
     let total_is : h.total ≡ c.args.self.now.total = ap (λ (q : Plain). q.total) c.self.view_is in
-    omega (arith, number g (goal.at.overflow_add-sum g c).After-as_u64, c.weight-sum.ensures.bound, c.loop-bin.invariant.1, sum_below_more h.counts i (at g (goal.at.overflow_add-sum g c).In-loop-bin), sum_below-le-sum h.counts (i + 1), c.self.invariant.plain.total_covers, total_is, c.requires)
+    omega (arith, number g (goal.at.overflow_add-sum g c).After-as_u64, c.weight-sum.ensures.bound, c.loop-bin.invariant.2, sum_below_more h.counts i (at g (goal.at.overflow_add-sum g c).In-loop-bin), sum_below-le-sum h.counts (i + 1), c.self.invariant.plain.total_covers, total_is, c.requires)
 
 pub loop-bin-preserved : goal.loop-bin-preserved
 loop-bin-preserved g c =
@@ -36,9 +36,17 @@ loop-bin-preserved g c =
     let inside = at g (goal.at.loop-bin-preserved g c).In-loop-bin in
     let held = number g (goal.at.loop-bin-preserved g c).After-as_u64 in
     let place : i ≡ 0 + i = omega arith in
+    let on = c.next_filled-bin-in-loop-bin.ensures in
     let weight_is : c.weight-sum.result ≡ median_of (grain h) (value_of (grain h) (0 + i)) * get_or h.counts i 0 =
     c.weight-sum.ensures.value ∙ ap (λ (s : Grain). median_of s (value_of s i) * c.as_u64.result) c.self.invariant.scale
     ∙ ap (λ k. median_of (grain h) (value_of (grain h) i) * k) held ∙ ap (λ j. median_of (grain h) (value_of (grain h) j) * get_or h.counts i 0) place in (
-      omega (arith, c.loop-bin.invariant.0, weighed-more (grain h) 0 h.counts i inside, weight_is),
-      omega (arith, c.loop-bin.invariant.1, c.weight-sum.ensures.bound, held, sum_below_more h.counts i inside),
+      on.within,
+      omega (arith, c.loop-bin.invariant.1, weighed-more (grain h) 0 h.counts i inside, weight_is, weight-zeros (grain h) 0 (i + 1) c.next_filled-bin-in-loop-bin.result h.counts on.onward on.empty),
+      omega (arith, c.loop-bin.invariant.2, c.weight-sum.ensures.bound, held, sum_below_more h.counts i inside, sum-zeros (i + 1) c.next_filled-bin-in-loop-bin.result h.counts on.onward on.empty),
     )
+
+pub loop-bin-init : goal.loop-bin-init
+loop-bin-init g c =
+    let h = plain_of c.self.inside in
+    let on = c.next_filled-bin.ensures in
+    (on.within, sym (weight-zeros (grain h) 0 0 c.next_filled-bin.result h.counts on.onward on.empty), omega arith)
