@@ -54,21 +54,21 @@ pub call-wherever : {T : Type 0} (greatest most : ℕ) (number : T → ℕ) (h :
     → StandsWhereFits greatest h s → CallTo number (grain h) call s t → StandsWhereFits greatest (after_call greatest number call h) t
 call-wherever greatest most number h (Record v n) s t one small p stands to = (
   (λ fits.
-    let f = fits-before greatest (grain h) _ t.samples _ (grain-recorded greatest h v (number n)) to.0 fits in
-    same-samples _ t.samples _ to.0 (StandsFor-recorded greatest h v (number n) s.samples small p (stands.0 (Fits-front greatest (grain h) s.samples _ f)) f)),
+      let f = fits-before greatest (grain h) _ t.samples _ (grain-recorded greatest h v (number n)) to.0 fits in
+      same-samples _ t.samples _ to.0 (StandsFor-recorded greatest h v (number n) s.samples small p (stands.0 (Fits-front greatest (grain h) s.samples _ f)) f)),
   recorded-high_with greatest h v (number n) ∙ ap (λ x. high_with (grain h) x v (reach_of (grain h) v)) stands.1 ∙ sym to.1,
 )
 call-wherever greatest most number h (Clamp v n) s t one small p stands to =
     let list = to.0 ∙ ap (λ k. s.samples ++ replicate (number n) (clamp (grain h) k v)) (sym stands.1) ∙ ap (λ x. s.samples ++ replicate (number n) x) (sym (clamped-is h v)) in (
       (λ fits.
-        let f = fits-before greatest (grain h) _ t.samples _ (grain-recorded greatest h (clamp_to_bins h v) (number n)) list fits in
-        same-samples _ t.samples _ list (StandsFor-recorded greatest h (clamp_to_bins h v) (number n) s.samples (clamped-small greatest h v small p) p (stands.0 (Fits-front greatest (grain h) s.samples _ f)) f)),
+          let f = fits-before greatest (grain h) _ t.samples _ (grain-recorded greatest h (clamp_to_bins h v) (number n)) list fits in
+          same-samples _ t.samples _ list (StandsFor-recorded greatest h (clamp_to_bins h v) (number n) s.samples (clamped-small greatest h v small p) p (stands.0 (Fits-front greatest (grain h) s.samples _ f)) f)),
       high-clamped greatest h v (number n) ∙ stands.1 ∙ sym to.1,
     )
 call-wherever greatest most number h (Correct v n i) s t one small p stands to = (
   (λ fits.
-    let f = fits-before greatest (grain h) _ t.samples _ (grain-corrected greatest h v (number n) i) to.0 fits in
-    same-samples _ t.samples _ to.0 (StandsFor-one-corrected greatest h v (number n) i s.samples small one p (stands.0 (Fits-front greatest (grain h) s.samples _ f)) f)),
+      let f = fits-before greatest (grain h) _ t.samples _ (grain-corrected greatest h v (number n) i) to.0 fits in
+      same-samples _ t.samples _ to.0 (StandsFor-one-corrected greatest h v (number n) i s.samples small one p (stands.0 (Fits-front greatest (grain h) s.samples _ f)) f)),
   high-corrected greatest h v (number n) i ∙ ap (λ x. high_with (grain h) x v (reach_of (grain h) v)) stands.1 ∙ sym to.1,
 )
 call-wherever greatest most number h Clear s t one small p stands to =
@@ -78,15 +78,15 @@ call-wherever greatest most number h Reset s t one small p stands to =
 call-wherever greatest most number h (Add source) s t one q p stands to =
     let m = max_of source.now in (
       (λ fits.
-        let f = fits-before greatest (grain h) _ t.samples _ (grain-merged greatest most h source.now q) to.3 fits in
-        same-samples _ t.samples _ to.3 (StandsFor-merged greatest most h source.now s.samples to.0 one p q (max-small most source.now q) (stands.0 (Fits-front greatest (grain h) s.samples to.0 f)) to.1 to.2 f)),
+          let f = fits-before greatest (grain h) _ t.samples _ (grain-merged greatest most h source.now q) to.3 fits in
+          same-samples _ t.samples _ to.3 (StandsFor-merged greatest most h source.now s.samples to.0 one p q (max-small most source.now q) (stands.0 (Fits-front greatest (grain h) s.samples to.0 f)) to.1 to.2 f)),
       merged-high greatest most h source.now q ∙ ap (λ n. cond (eqb n 0) h.high (high_with (grain h) h.high m m)) to.1.total ∙ ap (λ x. cond (eqb (length to.0) 0) x (high_with (grain h) x m m)) stands.1 ∙ sym to.4,
     )
 call-wherever greatest most number h (AddCorrect source i) s t one q p stands to =
     let m = highest_top source.now in (
       (λ fits.
-        let f = fits-before greatest (grain h) _ t.samples _ (grain-merged_corrected greatest h source.now i) to.2 fits in
-        same-samples _ t.samples _ to.2 (StandsFor-merged_corrected greatest most h source.now i s.samples to.0 one p q (highest-small most source.now q) (stands.0 (Fits-front greatest (grain h) s.samples _ f)) to.1 f)),
+          let f = fits-before greatest (grain h) _ t.samples _ (grain-merged_corrected greatest h source.now i) to.2 fits in
+          same-samples _ t.samples _ to.2 (StandsFor-merged_corrected greatest most h source.now i s.samples to.0 one p q (highest-small most source.now q) (stands.0 (Fits-front greatest (grain h) s.samples _ f)) to.1 f)),
       merged_corrected-high greatest h source.now i ∙ ap (λ x. high_with (grain h) x m (reach_of (grain h) m)) stands.1 ∙ sym to.3,
     )
 

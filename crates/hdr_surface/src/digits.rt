@@ -30,10 +30,12 @@ pub fn merge<T: Counter>(
         Err(MergeError::Creation(_)) => unreachable!(),
         Err(MergeError::Parse { offset: _ }) => None,
         Err(MergeError::Base64 { interval: _ }) => None,
-        Err(MergeError::Decode {
-            interval: _,
-            cause: _,
-        }) => None,
+        Err(
+            MergeError::Decode {
+                interval: _,
+                cause: _,
+            },
+        ) => None,
         Err(MergeError::OutOfMemory) => None,
     }
 }

@@ -1,7 +1,9 @@
 //! Which intervals of a log are chosen, and what is merged of them.
 
+use hdrhistogram::serialization::interval_log::{
+    IntervalFilter, MergeError, Merged, Tag, merge_log,
+};
 use hdrhistogram::{Counter, Histogram};
-use hdrhistogram::serialization::interval_log::{IntervalFilter, MergeError, Merged, Tag, merge_log};
 use std::alloc::Global;
 use std::time::Duration;
 

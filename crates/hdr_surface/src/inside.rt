@@ -28,12 +28,7 @@ pub fn add_correct<T: Counter>(target: &mut Histogram<T>, source: &Histogram<T>,
 
 /// The bounds of a histogram are allowed, so memory alone can fail.
 pub fn same_bounds<T: Counter>(alloc: Global, histogram: &Histogram<T>) -> Option<Histogram<T>> {
-    match Histogram::new_with_bounds(
-        alloc,
-        histogram.low(),
-        histogram.high(),
-        histogram.sigfig(),
-    ) {
+    match Histogram::new_with_bounds(alloc, histogram.low(), histogram.high(), histogram.sigfig()) {
         Ok(made) => Some(made),
         Err(CreationError::OutOfMemory) => None,
         Err(CreationError::LowIsZero) => unreachable!(),

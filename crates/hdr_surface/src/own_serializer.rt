@@ -3,8 +3,8 @@
 ghost use Rattle.hdr_surface.specs.OwnBytes.{OwnBytesAreRead};
 
 use hdr_log::laws::{base64_is_read, written_is_read};
-use hdrhistogram::{Counter, Histogram};
 use hdrhistogram::serialization::{Serializer, V2SerializeError, V2Serializer};
+use hdrhistogram::{Counter, Histogram};
 use std::alloc::Global;
 use std::io::Write;
 

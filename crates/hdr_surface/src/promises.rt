@@ -5,7 +5,8 @@ use hdrhistogram::serialization::interval_log::{
 };
 use hdrhistogram::serialization::{V2SerializeError, V2Serializer};
 use hdrhistogram::{
-    AdditionError, Call, CallError, Counter, CreationError, Histogram, RecordError, SubtractionError,
+    AdditionError, Call, CallError, Counter, CreationError, Histogram, RecordError,
+    SubtractionError,
 };
 use std::alloc::Global;
 use std::io::Write;
