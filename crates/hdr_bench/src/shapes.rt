@@ -168,8 +168,11 @@ fn added(shape: &Shape<'_>, n: u64) -> Option<u64> {
 /// To a histogram of more bins.
 fn added_to_wider(shape: &Shape<'_>, n: u64) -> Option<u64> {
     let source = shape.filled()?;
-    let mut histogram: Histogram<u64> =
-        Histogram::new_with_max(shape.alloc, u64::MAX, shape.sigfig).ok()?;
+    let mut histogram: Histogram<u64> = Histogram::new_with_max(
+        shape.alloc,
+        u64::MAX,
+        shape.sigfig,
+    ).ok()?;
     for _ in 0..n {
         histogram.add(&source).ok()?;
     }
@@ -179,8 +182,11 @@ fn added_to_wider(shape: &Shape<'_>, n: u64) -> Option<u64> {
 /// To a histogram of fewer digits.
 fn added_to_coarser(shape: &Shape<'_>, n: u64) -> Option<u64> {
     let source = shape.filled()?;
-    let mut histogram: Histogram<u64> =
-        Histogram::new_with_max(shape.alloc, u64::MAX, shape.sigfig.saturating_sub(1)).ok()?;
+    let mut histogram: Histogram<u64> = Histogram::new_with_max(
+        shape.alloc,
+        u64::MAX,
+        shape.sigfig.saturating_sub(1),
+    ).ok()?;
     for _ in 0..n {
         histogram.add(&source).ok()?;
     }

@@ -81,9 +81,9 @@ small-set : (greatest : ℕ) (ms : List ℕ) (i x : ℕ) → Small greatest ms �
 unfolding Small
 small-set greatest ms i x small le = λ j. elim (cases_eq j i) [
   | inl e ↦ elim (cases_lt i (length ms)) [
-      | inl inside ↦ omega (arith, ap (λ k. get_or (set ms i x) k 0) e, get_or-set_same ms i x 0 inside)
-      | inr past ↦ omega (arith, get_or_past (set ms i x) j 0 (omega (arith, e, length-set ms i x)))
-    ]
+    | inl inside ↦ omega (arith, ap (λ k. get_or (set ms i x) k 0) e, get_or-set_same ms i x 0 inside)
+    | inr past ↦ omega (arith, get_or_past (set ms i x) j 0 (omega (arith, e, length-set ms i x)))
+  ]
   | inr n ↦ omega (arith, get_or-set_other ms i j x 0 n, small j)
 ]
 
@@ -120,10 +120,10 @@ added-counts : (greatest : ℕ) (h : Plain) (ns : List ℕ) → Small greatest h
 added-counts greatest h ns small each =
     ext_get_or 0 (added_from greatest h 0 ns).counts (capped_sums greatest h.counts ns) (added-length greatest h 0 ns ∙ sym (capped-length greatest h.counts ns))
     (λ j lt.
-      let at = added-at greatest h 0 ns j small each in
-      let here : 0 + j ≡ j = omega arith in
-      let own : get_or (added_from greatest h 0 ns).counts j 0 ≡ min (get_or h.counts j 0 + get_or ns j 0) greatest = subst (λ k. get_or (added_from greatest h 0 ns).counts k 0 ≡ min (get_or h.counts k 0 + get_or ns j 0) greatest) here at in
-      own ∙ sym (capped-at greatest h.counts ns j small (omega (arith, lt, added-length greatest h 0 ns))))
+    let at = added-at greatest h 0 ns j small each in
+    let here : 0 + j ≡ j = omega arith in
+    let own : get_or (added_from greatest h 0 ns).counts j 0 ≡ min (get_or h.counts j 0 + get_or ns j 0) greatest = subst (λ k. get_or (added_from greatest h 0 ns).counts k 0 ≡ min (get_or h.counts k 0 + get_or ns j 0) greatest) here at in
+    own ∙ sym (capped-at greatest h.counts ns j small (omega (arith, lt, added-length greatest h 0 ns))))
 
 added-total : (greatest : ℕ) (h : Plain) (i : ℕ) (ns : List ℕ) → h.total ≤ 2 ^ 64 - 1 → (added_from greatest h i ns).total ≡ min (h.total + sum ns) (2 ^ 64 - 1)
 unfolding added_from after_add_to_bin
@@ -200,13 +200,13 @@ added-lower greatest h i (suc n ∷ ns) f own_some some le pos none =
           added-stays greatest w (suc i) y ns (ap (λ k. earlier_mark h.lower_mark k) e ∙ is) own (omega (arith, below, e)) ∙ sym is
           )
       | inr other ↦ elim (cases_eq i 0) [
-          | inl zero_is ↦ (
-              let here : f - i ≡ suc (f - suc i) = omega (arith, le, other) in
-              added-lower greatest w (suc i) ns f (subst (λ mark. IfSome mark (λ m. 0 < m)) (sym (ap (λ k. earlier_mark h.lower_mark k) zero_is ∙ earlier-first h.lower_mark)) own_some) some (omega (arith, le, other)) (subst (λ k. 0 < get_or (suc n ∷ ns) k 0) here pos) (λ j a b. none (suc j) (omega arith) (omega (arith, b)))
-              ∙ ap (λ mark. earlier_mark mark f) (ap (λ k. earlier_mark h.lower_mark k) zero_is ∙ earlier-first h.lower_mark)
-              )
-          | inr past ↦ absurd (omega (arith, none 0 (omega (arith, past)) (omega (arith, le, other))))
-        ]
+        | inl zero_is ↦ (
+            let here : f - i ≡ suc (f - suc i) = omega (arith, le, other) in
+            added-lower greatest w (suc i) ns f (subst (λ mark. IfSome mark (λ m. 0 < m)) (sym (ap (λ k. earlier_mark h.lower_mark k) zero_is ∙ earlier-first h.lower_mark)) own_some) some (omega (arith, le, other)) (subst (λ k. 0 < get_or (suc n ∷ ns) k 0) here pos) (λ j a b. none (suc j) (omega arith) (omega (arith, b)))
+            ∙ ap (λ mark. earlier_mark mark f) (ap (λ k. earlier_mark h.lower_mark k) zero_is ∙ earlier-first h.lower_mark)
+            )
+        | inr past ↦ absurd (omega (arith, none 0 (omega (arith, past)) (omega (arith, le, other))))
+      ]
     ]
 
 -- nothing added

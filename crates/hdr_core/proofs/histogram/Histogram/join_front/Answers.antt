@@ -30,8 +30,8 @@ made g c =
     let m = c.widen_if-2.new.self in
     let total : c.saturating_add-self-inside.result ≡ min (h.total + min (sum s.counts) (2 ^ 64 - 1)) (2 ^ 64 - 1) = c.saturating_add-self-inside.ensures ∙ ap (λ k. min (h.total + k) (2 ^ 64 - 1)) c.capped_sum.ensures in
     let marks : m ≡ record { top = later_of (later_of h.top_mark first) s.top_mark; lower = earlier_of (earlier_of h.lower_mark first) s.top_mark } =
-        c.widen_if-2.ensures ∙ ap (λ (v : MarkPair). record { top = later_of v.top c.top.result; lower = earlier_of v.lower c.top.result }) c.widen_if.ensures
-        ∙ ap (λ t. record { top = later_of (later_of h.top_mark first) t; lower = earlier_of (earlier_of h.lower_mark first) t }) c.top.ensures in
+    c.widen_if-2.ensures ∙ ap (λ (v : MarkPair). record { top = later_of v.top c.top.result; lower = earlier_of v.lower c.top.result }) c.widen_if.ensures
+    ∙ ap (λ t. record { top = later_of (later_of h.top_mark first) t; lower = earlier_of (earlier_of h.lower_mark first) t }) c.top.ensures in
     ap (λ ns. record h { counts = ns; total = c.saturating_add-self-inside.result; top_mark = m.top; lower_mark = m.lower }) (ap (λ (b : Blocks). b.numbers) c.add_capped.ensures)
     ∙ ap (λ t. record h { counts = capped_sums greatest h.counts s.counts; total = t; top_mark = m.top; lower_mark = m.lower }) total
     ∙ ap (λ (v : MarkPair). record h { counts = capped_sums greatest h.counts s.counts; total = min (h.total + min (sum s.counts) (2 ^ 64 - 1)) (2 ^ 64 - 1); top_mark = v.top; lower_mark = v.lower }) marks

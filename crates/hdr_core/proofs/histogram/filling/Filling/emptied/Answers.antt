@@ -11,8 +11,7 @@ unfolding empty_plain
 returns g c =
     let h = c.histogram.inside in
     let p = c.histogram.invariant.plain in
-    let numbers : c.cleared.result.numbers ≡ replicate (bins_to (grain_of h.low h.sigfig) h.high) 0 = ap (λ (b : Blocks). b.numbers) c.cleared.ensures ∙ ap (λ n. replicate n 0) p.bins in
-    (
+    let numbers : c.cleared.result.numbers ≡ replicate (bins_to (grain_of h.low h.sigfig) h.high) 0 = ap (λ (b : Blocks). b.numbers) c.cleared.ensures ∙ ap (λ n. replicate n 0) p.bins in (
       ap (λ ns. record { low = h.low; high = h.high; sigfig = h.sigfig; auto_resize = false; counts = ns }) numbers ∙ ap (λ (q : Plain). open_of (empty_plain q.low q.high q.sigfig false)) c.histogram.view_is,
       subst (λ (q : Plain). IsBounds q.low q.high q.sigfig) c.histogram.view_is (record { low_fits = omega (arith, p.wide, p.high_fits); wide = p.wide; scale = p.scale }),
     )
