@@ -1,6 +1,8 @@
-use Rattle.hdr_tool.proofs.ProgramStreaming.{all_of}
+use Rattle.std.proofs.Common.{◌≡◌, refl}
+use Rattle.std.proofs.KnownBytes.{Consumes-whole}
 use Rattle.hdr_tool.proofs.stream.read_whole.Goals as goal
 
 pub returns-clause-ok : goal.returns-clause-ok
 returns-clause-ok g c =
-    all_of (g.R.Read.remaining c.args.reader.now) (g.R.Read.remaining c.read_pieces.new.reader) c.read_pieces.new.input.items c.in_ok-read_pieces.ensures.ok c.in_ok-read_pieces.ensures.end
+    let input = c.read_pieces.new.input.items in
+    Consumes-whole (g.R.Read.remaining c.args.reader.now) (g.R.Read.remaining c.read_pieces.new.reader) input (λ all. input ≡ all) c.in_ok-read_pieces.ensures.ok c.in_ok-read_pieces.ensures.end refl
