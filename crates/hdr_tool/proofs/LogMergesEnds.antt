@@ -3,7 +3,6 @@ use Rattle.std.proofs.Common.{◌≡◌, ℕ, ◌-◌, ◌^◌, List, [], ◌∷
 use Rattle.hdr_base.specs.Classes.{Grain}
 use Rattle.hdr_model.specs.Plain.{Plain, IsPlain, grain}
 use Rattle.hdr_model.specs.Recording.{after_reset}
-use Rattle.hdr_model.specs.Samples.{Fits}
 use Rattle.hdr_core.specs.Calls.{after_call, CallTo, IsCallOf}
 use Rattle.hdr_model.specs.Runs.{StandsWhereFits, State}
 use Rattle.hdr_core.specs.declared.call.Call.{Call}

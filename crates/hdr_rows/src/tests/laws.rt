@@ -20,6 +20,6 @@ fn laws_hold(_rt: HostRuntime) -> Result<(), Fail> {
     call_laws! { hdrhistogram: one_canonical_spelling spellings_end zig_zag_inverse one_payload
         payload_tells_counts bytes_agree one_parting reading_takes_a_front bytes_read_back
         read_back_stands merging_adds_the_chosen merged_log_stands }
-    call_laws! { hdr_tool: ends_stand log_then_merge log_merge_stands }
+    call_laws! { hdr_tool: one_outcome ends_stand log_then_merge log_merge_stands }
     Ok(())
 }

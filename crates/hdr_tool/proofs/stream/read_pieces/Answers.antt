@@ -1,9 +1,6 @@
-use Rattle.std.proofs.Common.{take, ◌++◌, ap, arith, subst, sym}
-use Rattle.std.proofs.KnownBytes.{Consumes-nil, Consumes-trans}
+use Rattle.std.proofs.Common.{subst, sym}
+use Rattle.std.proofs.KnownBytes.{Consumes-nil}
 use Rattle.std.specs.Io.KnownBytes.{Consumes}
-use Rattle.hdr_tool.specs.Outcomes.{cause_of}
-use Rattle.hdr_tool.proofs.ProgramStreaming.{none_read}
-use Rattle.hdr_tool.proofs.OutcomesSinks.{handed_on}
 use Rattle.hdr_tool.proofs.stream.read_pieces.Goals as goal
 
 pub loop-init : goal.loop-init
