@@ -14,7 +14,7 @@ install: all
 	install -Dm644 man/hdr.1 $(DESTDIR)$(PREFIX)/share/man/man1/hdr.1
 
 check:
-	tools/edits --half --beside $(MAKE) --no-print-directory proofs-and-runs
+	tools/edits --beside $(MAKE) --no-print-directory proofs-and-runs
 
 # What the gate does beside the edits and their controls.
 proofs-and-runs:
