@@ -23,6 +23,7 @@ proofs-and-runs:
 	tools/refused.sh
 	tools/refused_main.sh
 	tools/test --proved
+	tools/language
 	tools/documents crates/hdr/out/hdr
 
 # On the proved builds where they are fresh; else what is stale is built unproved.

@@ -6,7 +6,7 @@ use std::env;
 use std::io::ErrorKind;
 use std::process::ExitCode;
 
-/// The words of the command line, without the program's name.
+/// Returns the arguments of the command line, without the program's name.
 fn words_given(rt: &HostRuntime) -> Result<Vec<String>, Fault> {
     let mut words = match env::args(rt) {
         Ok(words) => words,

@@ -8,7 +8,7 @@ use Rattle.hdr_base.specs.Classes.{IsLeast, IsFiner, digits_of, grain_of, unit_o
 use Rattle.hdr_base.proofs.ClassesLeast.{least_from-passes, least_from-le}
 use Rattle.hdr_base.proofs.ClassesLaws.{below_own_power}
 
--- twice the power of ten is at most the power of two that the digits give
+-- twice the power of ten is at most the power of two of the digits
 pub digits-enough : (s : ℕ) → 2 * 10 ^ s ≤ 2 ^ digits_of s
 unfolding digits_of
 digits-enough s =

@@ -54,7 +54,7 @@ equivalent-bin g a b m e =
 pub bin-equivalent : (g : Grain) (a b : ℕ) → 0 < g.digits → bin_of g a ≡ bin_of g b → AreEquivalent g a b
 bin-equivalent g a b m e = record { lowest = bin-lowest g a b m e; top = bin-top g a b m e }
 
--- the first class begins at 0
+-- the first class starts at 0
 pub lowest-first : (g : Grain) → lowest_of g 0 ≡ 0
 lowest-first g = omega (arith, lowest-le g 0)
 
@@ -72,7 +72,7 @@ pub inside-class : (g : Grain) (v x : ℕ) → 0 < g.digits → lowest_of g v �
 unfolding top_of
 inside-class g v x m from to = bin-equivalent g x v m (same-bin g v x m from (omega (arith, width-pos g v)))
 
--- the next class begins after the top of one, and has the next number
+-- the next class starts after the top of one, and has the next number
 module _ (g : Grain) (v : ℕ) (m : 0 < g.digits) where
   next-begins : (k q : ℕ) → top_of g v + 1 ≡ q * 2 ^ (g.unit + k) → q < 2 ^ g.digits → (0 < k → 2 ^ (g.digits - 1) ≤ q)
       → (lowest_of g (top_of g v + 1) ≡ top_of g v + 1) × (bin_of g (top_of g v + 1) ≡ k * 2 ^ (g.digits - 1) + q)
@@ -104,7 +104,7 @@ module _ (g : Grain) (v : ℕ) (m : 0 < g.digits) where
             )
       ]
 
--- a bucket begins at 0 or at a power of two, and its values lie between that and any of them
+-- a bucket starts at 0 or at a power of two, and its values lie between that and any of them
 bucket-mono : (g : Grain) (x v : ℕ) → x ≤ v → bucket g x ≤ bucket g v
 bucket-mono g x v le = bucket-least g x (bucket g v) (omega (arith, bucket-end g v))
 
@@ -121,7 +121,7 @@ start-IsLeast g v s same power first = record {
 pub one-bucket : (g : Grain) (v s x : ℕ) → bucket g s ≡ bucket g v → s ≤ x → x ≤ v → bucket g x ≡ bucket g v
 one-bucket g v s x same from to = omega (arith, bucket-mono g s x from, bucket-mono g x v to, same)
 
--- where a bucket above the first begins, its values have that bucket
+-- the values from the start of a bucket above the first on have that bucket
 pub start-bucket : (g : Grain) (v : ℕ) → 0 < bucket g v → bucket g (2 ^ (g.unit + g.digits + (bucket g v - 1))) ≡ bucket g v
 start-bucket g v some =
     let k = bucket g v in
@@ -139,7 +139,7 @@ unfolding bin_of
 one-bucket-bin g x v e =
     omega (arith, ap (λ k. k * 2 ^ (g.digits - 1)) e, ap (λ w. x / w) (one-bucket-width g x v e))
 
--- a power of two that is shifted into place
+-- a power of two, shifted
 pub start-code : (e : ℕ) → e < 64 → 1 * 2 ^ e % 2 ^ 64 ≡ 2 ^ e
 start-code e h = one_shl e 64 h
 

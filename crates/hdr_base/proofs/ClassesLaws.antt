@@ -37,7 +37,7 @@ pub bucket-least : (g : Grain) (v j : ℕ) → v < 2 ^ (g.unit + g.digits + j) �
 unfolding bucket
 bucket-least g v j h = least_from-le (λ k. ltb v (2 ^ (g.unit + g.digits + k))) v 0 j (omega arith) (ltb-from _ _ h)
 
--- the bucket before begins at or below the value
+-- the bucket before starts at or below the value
 pub bucket-begin : (g : Grain) (v : ℕ) → 0 < bucket g v → 2 ^ (g.unit + g.digits + (bucket g v - 1)) ≤ v
 bucket-begin g v h =
     elim (cases_lt v (2 ^ (g.unit + g.digits + (bucket g v - 1)))) [
@@ -70,7 +70,7 @@ module _ (g : Grain) (v : ℕ) where
       let e : g.unit + g.digits + k ≡ g.digits + (g.unit + k) = omega arith in
       ap (λ (x : ℕ). 2 ^ x) e ∙ pow-add 2 g.digits (g.unit + k)
 
-  -- the place of a value in its bucket is below 2 ^ digits
+  -- the index of a value's class within its bucket is below 2 ^ digits
   pub place-below : v / width_of g v < 2 ^ g.digits
   unfolding width_of
   place-below = div_below v (2 ^ (g.unit + bucket g v)) (2 ^ g.digits) (pow_pos _) (rw (end-as-product (bucket g v)) at (bucket-end g v))

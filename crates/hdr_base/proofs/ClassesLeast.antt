@@ -2,7 +2,7 @@
 use Rattle.std.proofs.Common.{◌≡◌, ◌≢◌, ℕ, zero, suc, ◌+◌, ◌≤◌, Bool, true, false, refl, sym, ap, ◌∙◌, arith}
 use Rattle.hdr_base.specs.Classes.{least_from}
 
--- what a search gives passes, where some number that it reaches passes
+-- what a search returns passes, if some number that it reaches passes
 pub least_from-passes : (p : ℕ → Bool) (n k j : ℕ) → k ≤ j → j ≤ k + n → p j ≡ true → p (least_from p k n) ≡ true
 unfolding least_from
 least_from-passes p zero k j a b e = let same : j ≡ k = omega arith in rw same at e

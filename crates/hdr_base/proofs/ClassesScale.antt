@@ -66,7 +66,7 @@ module _ (g : Grain) (v : ℕ) (small : v < 2 ^ 64) (fits : g.unit + g.digits �
   unfolding width_of
   lowest-from-shifts = mod-eq_of_lt (omega (arith, lowest-as-product g v, lowest-le g v)) ∙ sym (lowest-as-product g v)
 
--- the value at a place of a bucket
+-- the value of a class, by its index within the bucket
 module _ (g : Grain) (k q : ℕ) (m : 0 < g.digits) (below : q < 2 ^ g.digits) (above : 0 < k → 2 ^ (g.digits - 1) ≤ q) where
   value-bucket : bucket g (q * 2 ^ (g.unit + k)) ≡ k
   value-bucket =

@@ -6,7 +6,7 @@ use Rattle.hdr_base.proofs.ClassesLaws.{width-pos}
 use Rattle.hdr_base.proofs.ClassesScale.{index-few, class-end}
 use Rattle.hdr_base.proofs.ClassesFiner.{width-value_of, lowest-value_of}
 
--- the parts of a class's top: the amount shifted by, the width, and where the class ends
+-- the parts of a class's top: the amount shifted by, the width, and the end of the class
 pub record TopParts (g : Grain) (i v k : ℕ) : Type 0 where
   pub few : g.unit + k < 64
   pub width : 1 * 2 ^ (g.unit + k) % 2 ^ 64 ≡ width_of g v

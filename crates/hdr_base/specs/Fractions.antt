@@ -1,7 +1,7 @@
--- Fractions, as their two numbers. (The Rust crate has `f64`: a quantile asked for, and shares that are told.)
+-- Fractions, as numerator and denominator. (The Rust crate takes and returns quantiles as `f64`.)
 use Rattle.std.specs.Prelude.{ℕ}
 
--- the share num / den of the samples
+-- the fraction num / den
 pub record Ratio : Type 0 where
   pub num : ℕ
   pub den : ℕ

@@ -1,10 +1,10 @@
--- What an iterator over a histogram tells at each step. (`IterationValue`, its readers.)
+-- The items of the iterators over a histogram. (`IterationValue`, its getters.)
 use Rattle.std.specs.Prelude.{ℕ, Bool, ◌==◌}
 use Rattle.std.specs.Ordering.{on, eq_of_both}
 use Rattle.hdr_base.specs.Fractions.{Ratio}
 
--- the value, the share of the samples up to its bin, the share that was asked for, the bin's number, and how many samples
--- came since the item before
+-- the value, the quantile of its bin, the quantile iterated to, the bin's count, and the number of samples since the item
+-- before
 pub record Item : Type 0 where
   pub value : ℕ
   pub quantile : Ratio
@@ -12,7 +12,7 @@ pub record Item : Type 0 where
   pub count : ℕ
   pub since : ℕ
 
--- two fractions of the same two numbers
+-- two fractions have the same numerator and the same denominator
 abbrev pub same_ratio : Ratio → Ratio → Bool
 same_ratio = eq_of_both (on (λ r. r.num) ◌==◌) (on (λ r. r.den) ◌==◌)
 

@@ -1,10 +1,10 @@
-//! The types that a histogram may count in.
+//! The counter types of histograms.
 
 ghost use Rattle.std.specs.Prelude.{◌≡◌, ℕ, ◌+◌, ◌-◌, ◌^◌, ◌<◌, ◌≤◌, min, MatchOption, nat_eq, refl};
 ghost use Rattle.std.specs.Ordering.{nat_cmp};
 
-/// A counter of samples, spoken of by the number that it stands for. Own types may implement it: all that a histogram
-/// uses of a counter is said here.
+/// A counter of samples, which stands for a number. Callers may implement it for types of their own: a histogram uses nothing
+/// of a counter but the items here.
 pub trait Counter: Copy + Ord {
     /// The number that a counter stands for.
     ghost number: { Self → ℕ };
@@ -29,20 +29,20 @@ pub trait Counter: Copy + Ord {
         ensures value { result ≡ number self }
         ensures bound { number self ≤ greatest };
 
-    /// The counter of a number; `None` exactly where the number is above the greatest.
+    /// Returns the counter of a number, or `None` if the number is above the greatest.
     fn from_u64(n: u64) -> Option<Self>
         ensures { MatchOption result (greatest < n) (λ c. (n ≤ greatest) × (number c ≡ n)) };
 
-    /// The counter of the sum, or the greatest where the sum is above it.
+    /// Returns the counter of the sum, saturating at the greatest number.
     fn saturating_add(self, other: Self) -> Self
         ensures { number result ≡ min (number self + number other) greatest };
 
-    /// The counter of the sum; `None` exactly where the sum is above the greatest.
+    /// Returns the counter of the sum, or `None` if the sum is above the greatest number.
     fn checked_add(self, other: Self) -> Option<Self>
         ensures { MatchOption result (greatest < number self + number other)
             (λ c. number c ≡ number self + number other) };
 
-    /// The counter of the difference; `None` exactly where `other` is the greater.
+    /// Returns the counter of the difference, or `None` if `other` is greater.
     fn checked_sub(self, other: Self) -> Option<Self>
         ensures { MatchOption result (number self < number other)
             (λ c. number c + number other ≡ number self) };
@@ -56,7 +56,7 @@ pub trait Counter: Copy + Ord {
     /// Counters are ordered as their numbers are.
     ghost ordered: { (a b : Self) → Self.cmp a b ≡ nat_cmp (number a) (number b) };
 
-    /// Counters are equal where their numbers are.
+    /// Counters are equal if and only if their numbers are.
     ghost compared: { (a b : Self) → Self.eq a b ≡ nat_eq (number a) (number b) };
 }
 

@@ -1,11 +1,11 @@
-//! Fractions of whole numbers: exact quantiles, and what is read from a histogram.
+//! Exact fractions of integers: quantiles, and the results of statistics.
 
 ghost use Rattle.std.specs.Prelude.{◌≡◌, ◌<◌, ℕ, SomeIff};
 
 use std::fmt;
 use std::marker::Model;
 
-/// A share of the samples: the fraction `num / den`, with `den` at least 1.
+/// A quantile as the exact fraction `num / den`, with `den` at least 1.
 #[derive(Debug, PartialEq, Clone, Copy)]
 pub struct Quantile {
     num: u64,
@@ -26,7 +26,7 @@ impl Model for Quantile {
 }
 
 impl Quantile {
-    /// The quantile `num / den`; `None` where `den` is 0. A quantile above 1 counts as 1 wherever one is asked for.
+    /// Returns the quantile `num / den`, or `None` if `den` is 0. Calls treat a quantile above 1 as 1.
     pub fn new(num: u64, den: u64) -> Option<Quantile>
         ensures { SomeIff result (0 < den) (record { num = num; den = den }) }
     {
@@ -36,14 +36,14 @@ impl Quantile {
         Some(Quantile { num, den })
     }
 
-    /// The number above the line.
+    /// The numerator.
     pub fn num(self) -> u64
         ensures { result ≡ self.num }
     {
         self.num
     }
 
-    /// The number below the line, at least 1.
+    /// The denominator, at least 1.
     pub fn den(self) -> u64
         ensures value { result ≡ self.den }
         ensures not_zero { 0 < self.den }
@@ -52,7 +52,7 @@ impl Quantile {
     }
 }
 
-/// The fraction `num / den`, as it was computed: not reduced, and compared as a pair.
+/// The fraction `num / den` as computed. It is not reduced, and it is compared as a pair.
 #[derive(Debug, PartialEq, Clone, Copy)]
 pub struct Fraction {
     pub num: u128,
@@ -69,7 +69,7 @@ impl Model for Fraction {
     ghost inverse = { λ r. record { num = r.num; den = r.den } };
 }
 
-/// `num/den`.
+/// Writes `num/den`.
 impl fmt::Display for Fraction {
     fn fmt<W: fmt::Write>(&self, f: &mut fmt::Formatter<W>) -> fmt::Result {
         write!(f, "{}/{}", self.num, self.den)

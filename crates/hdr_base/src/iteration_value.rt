@@ -1,4 +1,4 @@
-//! What an iterator over a histogram tells at each step.
+//! The items of the iterators over a histogram.
 
 ghost use Rattle.std.specs.Prelude.{◌≡◌, ◌*◌, ◌^◌, ◌<◌};
 ghost use Rattle.std.proofs.Common.{rules};
@@ -9,7 +9,7 @@ use crate::counter::Counter;
 use crate::fraction::Fraction;
 use std::marker::Model;
 
-/// A step of an iterator over a histogram: where it stands, and what was counted up to there.
+/// One step of an iterator over a histogram: the value iterated to, and the samples counted up to its bin.
 #[derive(Debug, Drop)]
 pub struct IterationValue<T: Counter> {
     value: u64,
@@ -31,8 +31,8 @@ impl<T: Counter> Model for IterationValue<T> {
 }
 
 impl<T: Counter> IterationValue<T> {
-    /// A step at a value: the share of the samples up to its bin, the share that was asked for, the bin's counter, and how
-    /// many samples came since the step before. The number above the line of the share is one that fits a `u64`.
+    /// Returns a step at `value`. `quantile` is the quantile of the value's bin, and its numerator is below 2^64; `tick` is the
+    /// quantile iterated to, `count_at` the bin's counter, and `count_since` the number of samples since the previous step.
     pub fn new(
         value: u64,
         quantile: Fraction,
@@ -58,14 +58,14 @@ impl<T: Counter> IterationValue<T> {
         }
     }
 
-    /// The value that was reached: a level, or the greatest value of a class.
+    /// The value iterated to: a level, or the greatest value of a class.
     pub fn value_iterated_to(&self) -> u64
         ensures { result ≡ self.now.value }
     {
         self.value
     }
 
-    /// The share of the samples that lie at this bin or before it: 0 of 0 where there are none.
+    /// The quantile of this bin: the fraction of all samples that lie in bins up to this one. 0/0 in an empty histogram.
     pub fn quantile(&self) -> Fraction
         ensures value { result ≡ self.now.quantile }
         ensures fits { result.num < 2 ^ 64 }
@@ -73,7 +73,7 @@ impl<T: Counter> IterationValue<T> {
         self.quantile
     }
 
-    /// The same share in hundredths.
+    /// 100 times `quantile`.
     pub fn percentile(&self) -> Fraction
         ensures { result
             ≡ record { num = self.now.quantile.num * 100; den = self.now.quantile.den } }
@@ -84,7 +84,7 @@ impl<T: Counter> IterationValue<T> {
         }
     }
 
-    /// The share that was asked for, where steps are made by shares; else the share that was reached.
+    /// The quantile iterated to, if the iterator steps by quantiles; otherwise the same as `quantile`.
     pub fn quantile_iterated_to(&self) -> Fraction
         ensures { result ≡ self.now.tick }
     {
@@ -98,7 +98,7 @@ impl<T: Counter> IterationValue<T> {
         self.count_at
     }
 
-    /// How many samples came since the step before, up to `u64::MAX`.
+    /// The number of samples since the previous step, at most `u64::MAX`.
     pub fn count_since_last_iteration(&self) -> u64
         ensures { result ≡ self.now.since }
     {
@@ -120,7 +120,7 @@ impl<T: Counter> PartialEq for IterationValue<T> {
     }
 }
 
-/// Whether two fractions have the same two numbers.
+/// Whether two fractions have the same numerator and the same denominator.
 fn are_same(left: Fraction, right: Fraction) -> bool
     ensures { result ≡ same_ratio left right }
 {

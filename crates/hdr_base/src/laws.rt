@@ -1,9 +1,9 @@
-//! The laws of classes, each the contract of a function with nothing to do.
+//! The laws of classes, each the contract of an empty function.
 
 ghost use Rattle.std.specs.Prelude.{◌≡◌, ◌↔◌, ℕ, ◌+◌, ◌-◌, ◌*◌, ◌^◌, ◌<◌, ◌≤◌};
 ghost use Rattle.hdr_base.specs.Classes.{Grain, grain_of, width_of, lowest_of, top_of, bin_of, value_of, AreEquivalent, HasScale, IsFiner};
 
-/// To have one class is an equivalence relation, and values have one class exactly where their classes have one number.
+/// Having the same class is an equivalence relation, and values have the same class if and only if their bins are the same.
 pub fn equivalence()
     ensures reflexive { (g : Grain) (a : ℕ) → AreEquivalent g a a }
     ensures symmetric { (g : Grain) (a b : ℕ) → AreEquivalent g a b → AreEquivalent g b a }
@@ -14,8 +14,8 @@ pub fn equivalence()
         ↔ (bin_of (grain_of low sigfig) a ≡ bin_of (grain_of low sigfig) b) }
 {}
 
-/// Classes are intervals that cover 0 to `u64::MAX`, in the order of their numbers: the first begins at 0, each
-/// other begins after the one before, none overlaps another.
+/// Classes are intervals that cover 0 to `u64::MAX`, in the order of their bins: the first starts at 0, each other starts
+/// after the end of the one before, and none overlaps another.
 pub fn intervals()
     ensures first { (g : Grain) → (lowest_of g 0 ≡ 0) × (bin_of g 0 ≡ 0) }
     ensures member { (g : Grain) (v : ℕ) → (lowest_of g v ≤ v) × (v ≤ top_of g v) }
@@ -37,7 +37,7 @@ pub fn intervals()
         (grain_of low sigfig) i) }
 {}
 
-/// A class is one unit wide below `2 ^ (unit + digits)`, and from there on so narrow that `sigfig` digits are kept.
+/// A class is one unit wide below `2 ^ (unit + digits)`, and above it narrow enough to keep `sigfig` significant digits.
 pub fn widths()
     ensures unit { (g : Grain) (v : ℕ) → v < 2 ^ (g.unit + g.digits) → width_of g v ≡ 2 ^ g.unit }
     ensures digits { (low sigfig : ℕ) → HasScale low sigfig → (v : ℕ)
@@ -45,8 +45,8 @@ pub fn widths()
         → width_of (grain_of low sigfig) v * 10 ^ sigfig ≤ lowest_of (grain_of low sigfig) v }
 {}
 
-/// Where one scale has a unit no greater and no fewer digits than another, each of its classes lies in one of the other;
-/// and a `sigfig` no smaller gives no fewer digits.
+/// If the unit of one scale is at most that of another, and its digits are at least those of the other, then each of its
+/// classes lies in a class of the other. A greater `sigfig` never has fewer digits.
 pub fn finer_classes()
     ensures finer { (low sigfig base kept : ℕ)
         → (grain_of low sigfig).unit ≤ (grain_of base kept).unit → kept ≤ sigfig

@@ -1,4 +1,4 @@
-//! Counters, fractions, steps, and the classes of values that a histogram counts together.
+//! Counter types, fractions, step counts, and the classes of values that a histogram counts together.
 #![tactic(auto)]
 
 pub mod counter;

@@ -5,10 +5,10 @@ ghost use Rattle.hdr_base.specs.Classes.{most_bins, IsLeast, grain_of, digits_of
 
 use std::marker::Model;
 
-/// The arithmetic of classes: the exponent of the unit, and the exponent of how many classes of one unit there are.
+/// The arithmetic of classes: the exponent of the unit, and the exponent of the number of classes that are one unit wide.
 ///
-/// Values lie in buckets, each of which reaches twice as far as the one before, and whose classes are twice as wide.
-/// All of it is whole numbers and shifts, exact for every `u64`.
+/// Values lie in buckets. Each bucket ends at twice the end of the one before, and its classes are twice as wide. The
+/// arithmetic is on integers, and exact for every `u64`.
 #[derive(Clone, Copy, Debug)]
 pub struct Scale {
     unit: u8,
@@ -29,8 +29,8 @@ impl Model for Scale {
 }
 
 impl Scale {
-    /// The scale whose classes keep `sigfig` digits of values that are at least `low`. `None` where `low` is 0, where
-    /// `sigfig` is above 5, and where unit and digits together would pass 63 bits. A `low` below 2^46 fits with all digits.
+    /// Returns the scale whose classes keep `sigfig` significant digits of values from `low` on. Returns `None` if `low` is 0,
+    /// if `sigfig` is above 5, or if unit and digits together exceed 63 bits, which they never do for a `low` below 2^46.
     pub fn new(low: u64, sigfig: u8) -> Option<Scale>
         ensures scale { SomeIff result (HasScale low sigfig) (grain_of low sigfig) }
         ensures unit { IfSome result (λ s. IsLeast (λ u. low < 2 ^ (u + 1)) s.unit) }
@@ -65,7 +65,7 @@ impl Scale {
         self.digits
     }
 
-    /// The bucket of a value.
+    /// The index of the bucket of a value.
     fn bucket(self, value: u64) -> u32
         ensures value { result ≡ bucket self value }
         ensures least { IsLeast (λ k. value < 2 ^ (self.unit + self.digits + k)) result }
@@ -76,7 +76,7 @@ impl Scale {
         64 - (value >> shift).leading_zeros()
     }
 
-    /// The number of the class of a value, from 0.
+    /// Returns the index of the bin of a value's class, from 0.
     pub fn bin(self, value: u64) -> usize
         ensures value { result ≡ bin_of self value }
         ensures bound { result < 2 ^ 24 }
@@ -86,7 +86,7 @@ impl Scale {
         first + (value >> (self.unit as u32 + bucket)) as usize
     }
 
-    /// The width of the class of a value: the least power of two from the unit on that keeps the digits.
+    /// Returns the width of a value's class: the least power of two, not below the unit, that keeps the digits.
     pub fn width(self, value: u64) -> u64
         ensures value { result ≡ width_of self value }
         ensures least { IsLeast (λ w. (k : ℕ) × (w ≡ 2 ^ (self.unit + k))
@@ -96,7 +96,7 @@ impl Scale {
         1 << (self.unit as u32 + self.bucket(value))
     }
 
-    /// The lowest value of the class of a value.
+    /// Returns the lowest value of a value's class.
     pub fn lowest(self, value: u64) -> u64
         ensures value { result ≡ lowest_of self value }
         ensures class_fits { lowest_of self value + width_of self value ≤ 2 ^ 64 }
@@ -105,14 +105,14 @@ impl Scale {
         value >> shift << shift
     }
 
-    /// The greatest value of the class of a value.
+    /// Returns the greatest value of a value's class.
     pub fn top(self, value: u64) -> u64
         ensures { result ≡ top_of self value }
     {
         self.lowest(value) + (self.width(value) - 1)
     }
 
-    /// The greatest value of the bucket of a value: the last one that bins made for it hold.
+    /// Returns the greatest value of a value's bucket: the greatest that has a bin in a histogram made to hold `value`.
     pub fn reach(self, value: u64) -> u64
         ensures value { result ≡ reach_of self value }
         ensures least { IsLeast (λ r. (k : ℕ) × (r ≡ 2 ^ (self.unit + self.digits + k) - 1)
@@ -123,7 +123,7 @@ impl Scale {
         u64::MAX >> (64 - exponent)
     }
 
-    /// The lowest value of the bucket of a value.
+    /// Returns the lowest value of a value's bucket.
     pub fn bucket_start(self, value: u64) -> u64
         ensures least { IsLeast (λ x. bucket self x ≡ bucket self value) result }
         ensures one_bucket { (x : ℕ) → result ≤ x → x ≤ value → bucket self x ≡ bucket self value }
@@ -136,7 +136,7 @@ impl Scale {
         }
     }
 
-    /// How many buckets there are up to that of a value.
+    /// Returns the number of buckets up to and including a value's bucket.
     pub fn buckets(self, value: u64) -> usize
         ensures value { result ≡ bucket self value + 1 }
         ensures bound { result ≤ 64 }
@@ -145,7 +145,7 @@ impl Scale {
         self.bucket(value) as usize + 1
     }
 
-    /// The number of classes in a block: half of those in the first bucket, and all that each further bucket adds.
+    /// Returns the number of classes in a block: half of those in the first bucket, and all that each further bucket adds.
     pub fn block(self) -> usize
         ensures value { result ≡ 2 ^ (self.digits - 1) }
         ensures at_least_one { 1 ≤ result }
@@ -153,7 +153,7 @@ impl Scale {
         1 << (self.digits - 1)
     }
 
-    /// How many blocks hold the classes up to the bucket of a value.
+    /// Returns the number of blocks that hold the classes up to the end of a value's bucket.
     pub fn blocks(self, value: u64) -> usize
         ensures value { result ≡ bucket self value + 2 }
         ensures few { result * 2 ^ (self.digits - 1) ≤ most_bins }
@@ -161,7 +161,7 @@ impl Scale {
         self.buckets(value) + 1
     }
 
-    /// The lowest value of the class of a number; `None` past the class of `u64::MAX`.
+    /// Returns the lowest value of the class of bin `index`, or `None` if `index` is above the bin of `u64::MAX`.
     pub fn bin_value(self, index: usize) -> Option<u64>
         ensures value { MatchOption result (bin_of self (2 ^ 64 - 1) < index)
             (λ v. (bin_of self v ≡ index) × (lowest_of self v ≡ v)) }
@@ -176,7 +176,7 @@ impl Scale {
         Some((place as u64) << (self.unit + bucket as u8))
     }
 
-    /// The greatest value of the class of a number; `None` past the class of `u64::MAX`.
+    /// Returns the greatest value of the class of bin `index`, or `None` if `index` is above the bin of `u64::MAX`.
     pub fn bin_top(self, index: usize) -> Option<u64>
         ensures { MatchOption result (bin_of self (2 ^ 64 - 1) < index)
             (λ t. t ≡ top_of self (value_of self index)) }
@@ -188,7 +188,7 @@ impl Scale {
     }
 }
 
-/// The exponent of the least power of two at or above twice that power of ten.
+/// Returns the exponent of the least power of two that is at least `2 * 10^sigfig`, or `None` if `sigfig` is above 5.
 fn digits_for(sigfig: u8) -> Option<u8>
     ensures value { SomeIff result (sigfig ≤ 5) (digits_of sigfig) }
     ensures bounds { IfSome result (λ m. (0 < m) × (m ≤ 18)) }

@@ -1,10 +1,10 @@
-//! What a counted call costs.
+//! Counting the steps that a call takes.
 
 ghost use Rattle.std.specs.Prelude.{◌≡◌, ◌+◌, ◌-◌, ◌<◌, ◌^◌};
 
 use std::marker::Model;
 
-/// How many steps were done, of the kind that the counting call names: counters updated, or counters and sums looked at.
+/// A number of steps. The call that counts them says of which kind: counters updated, or counters and sums read.
 #[derive(Drop)]
 pub struct Ticks {
     count: u64,
@@ -19,21 +19,21 @@ impl Model for Ticks {
 }
 
 impl Ticks {
-    /// No step yet.
+    /// Returns a count of 0.
     pub fn new() -> Ticks
         ensures { result ≡ 0 }
     {
         Ticks { count: 0 }
     }
 
-    /// The steps so far.
+    /// The number of steps so far.
     pub fn count(&self) -> u64
         ensures { result ≡ self.now }
     {
         self.count
     }
 
-    /// One step more. The caller sees to it that the count is below `u64::MAX`.
+    /// Adds one step. The count must be below `u64::MAX`.
     pub fn tick(&mut self)
         requires { self.old < 2 ^ 64 - 1 }
         ensures { self.new ≡ self.old + 1 }

@@ -1,11 +1,12 @@
-//! V2 bytes that are read, and written again, for a program that compares this with what others read.
+//! V2 bytes that are decoded, and encoded again, for a program that compares the results with those
+//! of other decoders.
 
 use hdrhistogram::serialization::{DeserializeError, Deserializer, V2Serializer};
 use hdrhistogram::{Counter, Histogram};
 use std::alloc::Global;
 use std::io::{self, Read};
 
-/// What was read of a text.
+/// What was decoded of the bytes.
 #[repr(C)]
 pub struct Reading {
     pub low: u64,
@@ -17,11 +18,11 @@ pub struct Reading {
     pub bins: u64,
     /// A checksum of the counters in their order.
     pub counts: u64,
-    /// How many bytes were taken.
+    /// The number of bytes consumed.
     pub taken: u64,
 }
 
-/// Gives a text by at most `most` bytes a call.
+/// A reader that yields at most `most` bytes a call.
 #[derive(Drop)]
 struct Pieces<'a> {
     left: &'a [u8],
@@ -57,7 +58,7 @@ fn tell<T: Counter>(histogram: &Histogram<T>, taken: usize, reading: &mut Readin
     reading.taken = taken as u64;
 }
 
-/// The number of an error, from 1 on.
+/// Returns the number of an error, from 1 on.
 fn fault(error: &DeserializeError) -> u64 {
     match error {
         DeserializeError::IoError(_) => 1,
@@ -109,8 +110,9 @@ fn written_again(alloc: Global, text: &[u8], out: &mut [u8]) -> Option<usize> {
     Some(bytes.len())
 }
 
-/// Reads a text into counters of 8, 16, 32 or 64 bits: whole for a `most` of 0, else by so many bytes a call. It answers
-/// 0, with what was read, or the number of the error.
+/// Decodes `text` into counters of 8, 16, 32 or 64 bits: from a slice if `most` is 0, otherwise
+/// from a reader of at most `most` bytes a call. Returns 0 and sets `reading`, or returns the
+/// number of the error.
 #[unsafe(no_mangle)]
 pub extern "C" fn hdrb_read(
     alloc: Global,
@@ -127,7 +129,8 @@ pub extern "C" fn hdrb_read(
     }
 }
 
-/// Reads a text and writes what was read. It answers the length, 0 where the text is refused or there is no room.
+/// Decodes `text` and encodes the result to `out`. Returns the length, or 0 if decoding or encoding
+/// fails or `out` is too short.
 #[unsafe(no_mangle)]
 pub extern "C" fn hdrb_rewrite(alloc: Global, text: &[u8], out: &mut [u8]) -> usize {
     written_again(alloc, text, out).unwrap_or(0)

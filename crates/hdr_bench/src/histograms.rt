@@ -1,4 +1,4 @@
-//! The values and the histograms that the workloads begin with.
+//! The values and the histograms that the workloads start with.
 
 use hdrhistogram::Histogram;
 use std::alloc::Global;
@@ -6,17 +6,17 @@ use std::alloc::Global;
 /// The highest value of each histogram: an hour in microseconds.
 pub(crate) const HIGH: u64 = 3_600_000_000;
 
-/// The first of each so many classes is filled where few are, 100 of them.
+/// For histograms with 100 nonempty classes: the first of each `FEW` classes is filled.
 pub(crate) const FEW: usize = 233;
 
-/// The next number of the generator, in 64 bits.
+/// Returns the next number of the generator, in 64 bits.
 pub(crate) fn step(x: u64) -> u64 {
     let x = x ^ (x << 13);
     let x = x ^ (x >> 7);
     x ^ (x << 17)
 }
 
-/// A value from 1 to the highest, by a number of the generator.
+/// Returns a value from 1 to `HIGH`, by a number of the generator.
 pub(crate) fn value(x: u64) -> u64 {
     let part = (x >> 32) as u32;
     1 + ((u64::from(part) * HIGH) >> 32)
@@ -26,12 +26,13 @@ pub(crate) fn empty(alloc: Global) -> Option<Histogram<u64>> {
     Histogram::new_with_max(alloc, HIGH, 3).ok()
 }
 
-/// A histogram in which each class up to the highest value holds 1 to 1024.
+/// Returns a histogram in which each class up to the highest value holds 1 to 1024.
 pub(crate) fn filled(alloc: Global, seed: u64) -> Option<Histogram<u64>> {
     filled_at_each(alloc, seed, 1)
 }
 
-/// A histogram in which the first of each `every` classes up to the highest value holds 1 to 1024.
+/// Returns a histogram in which the first of each `every` classes up to the highest value holds 1
+/// to 1024.
 pub(crate) fn filled_at_each(alloc: Global, seed: u64, every: usize) -> Option<Histogram<u64>> {
     let mut histogram = empty(alloc)?;
     let mut x = seed;
@@ -52,7 +53,8 @@ pub(crate) fn filled_at_each(alloc: Global, seed: u64, every: usize) -> Option<H
     Some(histogram)
 }
 
-/// A histogram in which 100 classes hold 1 to 1024: 99 in a row from 1 ms on, and that of the highest value.
+/// Returns a histogram in which 100 classes hold 1 to 1024: 99 in a row from 1 ms on, and that of
+/// the highest value.
 pub(crate) fn sparse(alloc: Global, seed: u64) -> Option<Histogram<u64>> {
     let mut histogram = empty(alloc)?;
     let mut x = seed;

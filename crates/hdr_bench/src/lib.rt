@@ -1,5 +1,5 @@
-//! Workloads on numbers alone, which a benchmark times beside another program. Each call makes its histograms, does an
-//! operation `n` times and answers a checksum, and 0 where memory was refused.
+//! Workloads on numbers alone, which a benchmark times beside another program. Each call makes its
+//! histograms, runs an operation `n` times and returns a checksum, or 0 if an allocation fails.
 #![tactic(auto)]
 
 ghost use Rattle.std.specs.Prelude.{◌<◌, ◌^◌, ◌≤◌};
@@ -24,7 +24,7 @@ fn recorded(alloc: Global, seed: u64, n: u64) -> Option<u64> {
     Some(histogram.len().wrapping_add(histogram.max()))
 }
 
-/// Out of line, as `serialized` is, so that its loop stands where the code of other workloads does not move it.
+/// Out of line, as `serialized` is, so that the code of other workloads does not move its loop.
 #[inline(never)]
 fn corrected(alloc: Global, seed: u64, n: u64, interval: u64) -> Option<u64> {
     let mut histogram = empty(alloc)?;
@@ -236,7 +236,7 @@ pub extern "C" fn hdrb_correct(alloc: Global, seed: u64, n: u64, interval: u64) 
     corrected(alloc, seed, n, interval).unwrap_or(0)
 }
 
-/// `value_at_quantile` of num/den: the sum of the answers.
+/// `value_at_quantile` of num/den: the sum of the results.
 #[unsafe(no_mangle)]
 pub extern "C" fn hdrb_quantile(alloc: Global, seed: u64, n: u64, num: u64, den: u64) -> u64 {
     ranked(alloc, seed, n, num, den).unwrap_or(0)
@@ -248,7 +248,7 @@ pub extern "C" fn hdrb_add(alloc: Global, seed: u64, n: u64) -> u64 {
     added(alloc, seed, n).unwrap_or(0)
 }
 
-/// `to_bytes`: the sum of each text's length and last byte.
+/// `to_bytes`: the sum of each output's length and last byte.
 #[unsafe(no_mangle)]
 pub extern "C" fn hdrb_serialize(alloc: Global, seed: u64, n: u64) -> u64 {
     serialized(alloc, seed, n).unwrap_or(0)
@@ -296,7 +296,7 @@ pub extern "C" fn hdrb_iter_quantiles(alloc: Global, seed: u64, n: u64) -> u64 {
     iterated_quantiles(alloc, seed, n).unwrap_or(0)
 }
 
-/// `value_at_quantiles` of twenty quantiles: the sum of the answers.
+/// `value_at_quantiles` of twenty quantiles: the sum of the results.
 #[unsafe(no_mangle)]
 pub extern "C" fn hdrb_values(alloc: Global, seed: u64, n: u64) -> u64 {
     ranked_in_one_pass(alloc, seed, n).unwrap_or(0)
@@ -314,13 +314,13 @@ pub extern "C" fn hdrb_quantile_below_median(alloc: Global, seed: u64, n: u64) -
     counted_below_median(alloc, seed, n).unwrap_or(0)
 }
 
-/// `decode_slice` of the text of a histogram with each class filled: the sum of the lengths.
+/// `decode_slice` of the bytes of a histogram with each class filled: the sum of the lengths.
 #[unsafe(no_mangle)]
 pub extern "C" fn hdrb_decode(alloc: Global, seed: u64, n: u64) -> u64 {
     decoded(alloc, seed, n, 1).unwrap_or(0)
 }
 
-/// `decode_slice` of the text of a histogram with 100 filled classes, likewise.
+/// `decode_slice` of the bytes of a histogram with 100 filled classes, likewise.
 #[unsafe(no_mangle)]
 pub extern "C" fn hdrb_decode_few(alloc: Global, seed: u64, n: u64) -> u64 {
     decoded(alloc, seed, n, FEW).unwrap_or(0)

@@ -22,7 +22,7 @@ fn interval(alloc: Global, seed: u64) -> Option<Histogram<u64>> {
     Some(histogram)
 }
 
-/// Adds the line of an interval that began so many milliseconds after the epoch to a text.
+/// Appends the line of an interval to `text`; `start` is in milliseconds after the epoch.
 fn push_line(
     alloc: Global,
     text: &mut Vec<u8>,
@@ -61,7 +61,8 @@ fn log_text(alloc: Global, seed: u64) -> Option<Vec<u8>> {
     Some(text)
 }
 
-/// What is read of a log: the lengths of the fields and the milliseconds of the starts, added up.
+/// Returns the sum of what is read of a log: the lengths of the fields and the milliseconds of the
+/// starts.
 fn told(log: &[u8]) -> u64 {
     let mut sum: u64 = 0;
     for entry in IntervalLogIterator::new(log) {
@@ -84,7 +85,7 @@ fn log_read(alloc: Global, seed: u64, n: u64) -> Option<u64> {
     Some(sum)
 }
 
-/// Which of the two passes over a line are made.
+/// Which of the two passes are run on a line.
 #[derive(Clone, Copy)]
 struct Passes {
     /// The search of the line's end.
@@ -93,7 +94,8 @@ struct Passes {
     texts: bool,
 }
 
-/// The sum of `told` from these passes alone: where a field begins, and how long a line is, is known.
+/// Returns the sum of `told` from these passes alone: where a field starts, and how long a line is,
+/// is known.
 fn passed(log: &[u8], front: usize, length: usize, passes: &Passes) -> Option<u64> {
     let mut sum: u64 = 0;
     let mut rest = log;

@@ -1,4 +1,4 @@
-//! The library's operations on histograms of samples that are handed in.
+//! The library's operations on histograms of the caller's samples.
 
 use hdrhistogram::serialization::{Deserializer, V2Serializer};
 use hdrhistogram::{Histogram, Quantile};
@@ -7,7 +7,8 @@ use std::alloc::Global;
 /// The interval of a correction, the step of linear levels and a value in the middle, in microseconds.
 const MIDDLE: u64 = 1000;
 
-/// The samples, and the histogram that counts them: of values up to `high`, or one that grows where that is 0.
+/// The samples, and the histogram that counts them: of values up to `high`, or one that grows if
+/// `high` is 0.
 #[derive(Drop)]
 struct Shape<'a> {
     alloc: Global,
@@ -321,7 +322,8 @@ fn worked(shape: &Shape<'_>, operation: u64, n: u64) -> Option<u64> {
     }
 }
 
-/// Does an operation `n` times on a histogram of the samples, and answers a checksum; 0 where memory was refused.
+/// Runs an operation `n` times on a histogram of the samples. Returns a checksum, or 0 if an
+/// operation or an allocation fails.
 #[unsafe(no_mangle)]
 pub extern "C" fn hdrb_shape(
     alloc: Global,

@@ -46,7 +46,7 @@ call-classes greatest most number h (AddCorrect source i) fine = grain-merged_co
 same-samples : (k : Plain) (S R : List ℕ) → S ≡ R → StandsFor k R → StandsFor k S
 same-samples k S R e s = subst (λ l. StandsFor k l) (sym e) s
 
--- a call's samples where its classes are those of before
+-- a call's samples if its classes are those of before
 fits-before : (greatest : ℕ) (g k : Grain) (S R : List ℕ) → k ≡ g → S ≡ R → Fits greatest k S → Fits greatest g R
 fits-before greatest g k S R same e fits = subst (λ l. Fits greatest g l) e (subst (λ x. Fits greatest x S) same fits)
 

@@ -11,7 +11,7 @@ part-at f xs a w j lt =
 pub front-at : {X : Type 0} (f : X → ℕ) (xs : List X) (w j : ℕ) → j < w → get_or (map f (take w xs)) j 0 ≡ get_or (map f xs) j 0
 front-at f xs w j lt = ap (λ l. get_or l j 0) (sym (take-map f w xs)) ∙ get_or-take w (map f xs) j 0 lt
 
--- one place more
+-- one index more
 pub same-next : (ns ms : List ℕ) (i : ℕ) → ((k : ℕ) → k < i → get_or ns k 0 ≡ get_or ms k 0) → get_or ns i 0 ≡ get_or ms i 0 → (k : ℕ) → k < i + 1 → get_or ns k 0 ≡ get_or ms k 0
 same-next ns ms i before here k lt =
     ⊎_elim
@@ -35,7 +35,7 @@ part-same f h xs ys a w before room begins part k lt =
     sym (ap (λ j. get_or (map f xs) j 0) is) ∙ sym (part-at f xs a w (k - a) few) ∙ part (k - a) inside ∙ part-at h ys a w (k - a) few ∙ ap (λ j. get_or (map h ys) j 0) is)
     (cases_lt k a)
 
--- a place of a part where the numbers differ
+-- an index of a part where the numbers differ
 pub part-other : {X Y : Type 0} (f : X → ℕ) (h : Y → ℕ) (xs : List X) (ys : List Y) (a w : ℕ)
     → ((j : ℕ) × (j < length (take w (drop a xs))) × (get_or (map f (take w (drop a xs))) j 0 ≢ get_or (map h (take w (drop a ys))) j 0))
     → (i : ℕ) × (i < length xs) × (get_or (map f xs) i 0 ≢ get_or (map h ys) i 0)

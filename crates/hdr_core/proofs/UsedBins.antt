@@ -1,4 +1,4 @@
--- Numbers that are zeros from a place on.
+-- Numbers that are zeros from an index on.
 use Rattle.std.proofs.Common.{◌≡◌, ℕ, zero, suc, ◌+◌, ◌*◌, ◌<◌, ◌≤◌, max, true, sum, Option, Some, None, List, [], ◌∷◌, ◌++◌, length, get_or, take, refl, sym, ap, ◌∙◌, arith, inl, inr}
 use Rattle.std.proofs.lemmas.Bool.{cases_lt}
 use Rattle.hdr_base.specs.Classes.{Grain, value_of, top_of}
@@ -7,6 +7,9 @@ use Rattle.hdr_model.specs.Statistics.{median_of, weight_from}
 use Rattle.hdr_model.specs.Equality.{same_numbers}
 use Rattle.hdr_model.specs.Correction.{missing, each_times}
 use Rattle.hdr_model.specs.Merging.{classes_from, corrections_from, top_class}
+use Rattle.hdr_model.specs.Recording.{samples_of}
+use Rattle.hdr_model.specs.Samples.{in_class}
+use Rattle.hdr_model.proofs.MergingHolds.{held, held-all, held-same}
 use Rattle.hdr_model.proofs.EqualityZeros.{numbers-same}
 
 pub classes-used : (g : Grain) (i k : ℕ) (ns : List ℕ) → ((j : ℕ) → k ≤ j → get_or ns j 0 ≡ 0) → classes_from g i (take k ns) ≡ classes_from g i ns
@@ -16,6 +19,16 @@ classes-used g i zero (zero ∷ ns) none = classes-used g (suc i) zero ns (λ j 
 classes-used g i zero (suc n ∷ ns) none = absurd (omega (arith, none zero (omega arith)))
 classes-used g i (suc k) (zero ∷ ns) none = classes-used g (suc i) k ns (λ j le. none (suc j) (omega arith))
 classes-used g i (suc k) (suc n ∷ ns) none = ap (λ ts. record { value = value_of g i; times = suc n } ∷ ts) (classes-used g (suc i) k ns (λ j le. none (suc j) (omega arith)))
+
+held-by : (g f : Grain) (ns : List ℕ) (d i j : ℕ) → length ns ≤ d + i → ((k : ℕ) → i ≤ k → get_or ns k 0 ≡ 0) → held g f ns i j ≡ in_class g j (samples_of (classes_from f 0 ns))
+held-by g f ns zero i j le none = held-all g f ns i j (omega (arith, le))
+held-by g f ns (suc d) i j le none = elim (cases_lt i (length ns)) [
+  | inl lt ↦ sym (held-same g f ns i j lt (none i (omega arith))) ∙ held-by g f ns d (i + 1) j (omega (arith, le)) (λ k ge. none k (omega (arith, ge)))
+  | inr ge ↦ held-all g f ns i j (omega (arith, ge))
+]
+
+pub held-used : (g f : Grain) (ns : List ℕ) (i j : ℕ) → ((k : ℕ) → i ≤ k → get_or ns k 0 ≡ 0) → held g f ns i j ≡ in_class g j (samples_of (classes_from f 0 ns))
+held-used g f ns i j none = held-by g f ns (length ns) i j (omega arith) none
 
 pub used-same : (xs ys : List ℕ) (n : ℕ) → ((k : ℕ) → n ≤ k → get_or xs k 0 ≡ 0) → ((k : ℕ) → n ≤ k → get_or ys k 0 ≡ 0)
     → ((k : ℕ) → k < n → get_or xs k 0 ≡ get_or ys k 0) → true ≡ same_numbers xs ys

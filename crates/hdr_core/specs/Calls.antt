@@ -38,7 +38,7 @@ IsCallOf most Reset = Unit {0}
 IsCallOf most (Add source) = IsPlain most source.now
 IsCallOf most (AddCorrect source i) = IsPlain most source.now
 
--- when a call is refused, and why
+-- when a call returns an error, and which
 abbrev pub RefusesCall : {T : Type 0} → Plain → Call T → CallError → Type 0
 RefusesCall h (Record v n) (err.Record e) = RefusesRecord h v e
 RefusesCall h (Correct v n i) (err.Record e) = RefusesRecord h v e
@@ -46,7 +46,7 @@ RefusesCall h (Add source) (err.Addition e) = RefusesAddition h source.now e
 RefusesCall h (AddCorrect source i) (err.Record e) = RefusesCorrected h source.now e
 RefusesCall h _ _ = ⊥
 
--- nothing but memory can refuse the call
+-- the call fails only if an allocation does
 abbrev pub IsTaken : {T : Type 0} → Plain → Call T → Type 0
 IsTaken h (Record v n) = HasRoom h v
 IsTaken h (Clamp v n) = Unit {0}
@@ -56,7 +56,7 @@ IsTaken h Reset = Unit {0}
 IsTaken h (Add source) = (source.now.total ≡ 0) ⊎ HasRoom h (max_of source.now)
 IsTaken h (AddCorrect source i) = HasRoom h (highest_top source.now)
 
--- nothing but memory can refuse any of the calls, each in its turn
+-- each of the calls, in order, fails only if an allocation does
 abbrev pub AreTaken : {T : Type 0} → ℕ → (T → ℕ) → List (Call T) → Plain → Type 0
 AreTaken greatest number = EachIsTaken (after_call greatest number) IsTaken
 
@@ -77,7 +77,7 @@ CallTo number g (AddCorrect source i) s t = AddCorrectedTo g source.now i s t
 abbrev pub CallsTo : {T : Type 0} → (T → ℕ) → Grain → (List ℕ → Type 0) → List (Call T) → State → State → Type 0
 CallsTo number g fits = EachTo (CallTo number g) fits
 
--- how many of n calls were done
+-- the number of n calls that were done
 abbrev pub calls_done : Result (Unit {0}) RunError → ℕ → ℕ
 calls_done (Ok u) n = n
 calls_done (Err e) n = e.at

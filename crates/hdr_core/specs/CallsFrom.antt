@@ -22,20 +22,20 @@ after_call_from greatest number (AddCorrectFrom source i) h = after_add_correct 
 abbrev pub after_calls_from : {T F : Type 0} → ℕ → (T → ℕ) → List (CallFrom T F) → Plain → Plain
 after_calls_from greatest number = after_each (after_call_from greatest number)
 
--- when a call is refused, and why
+-- when a call returns an error, and which
 abbrev pub RefusesCallFrom : {T F : Type 0} → Plain → CallFrom T F → CallError → Type 0
 RefusesCallFrom h (Own call) e = RefusesCall h call e
 RefusesCallFrom h (AddFrom source) (err.Addition e) = RefusesAddition h source.now e
 RefusesCallFrom h (AddCorrectFrom source i) (err.Record e) = RefusesCorrected h source.now e
 RefusesCallFrom h _ _ = ⊥
 
--- nothing but memory can refuse the call
+-- the call fails only if an allocation does
 abbrev pub IsTakenFrom : {T F : Type 0} → Plain → CallFrom T F → Type 0
 IsTakenFrom h (Own call) = IsTaken h call
 IsTakenFrom h (AddFrom source) = (source.now.total ≡ 0) ⊎ HasRoom h (max_of source.now)
 IsTakenFrom h (AddCorrectFrom source i) = HasRoom h (highest_top source.now)
 
--- nothing but memory can refuse any of the calls, each in its turn
+-- each of the calls, in order, fails only if an allocation does
 abbrev pub AreTakenFrom : {T F : Type 0} → ℕ → (T → ℕ) → List (CallFrom T F) → Plain → Type 0
 AreTakenFrom greatest number = EachIsTaken (after_call_from greatest number) IsTakenFrom
 

@@ -30,7 +30,7 @@ pub enum Call<'a, T: Counter> {
     AddCorrect(&'a Histogram<T>, u64),
 }
 
-/// Why a call was refused.
+/// The error of a call.
 #[derive(Debug, PartialEq, Eq, Drop, Error)]
 pub enum CallError {
     #[error("{0}")]
@@ -39,7 +39,8 @@ pub enum CallError {
     Addition(AdditionError),
 }
 
-/// The first call of a run that was refused: its index in the slice, from 0, and why.
+/// The error of a run: the index in the slice, from 0, of the first call that failed, and its
+/// error.
 #[derive(Debug, PartialEq, Eq, Drop, Error)]
 #[error("Call {at} was refused: {cause}")]
 pub struct RunError {
@@ -48,7 +49,7 @@ pub struct RunError {
 }
 
 impl<T: Counter> Histogram<T> {
-    /// Does one call, and refuses just what that call refuses. A refusal changes nothing.
+    /// Applies `call`. Returns the error of that call if it fails; `self` is then unchanged.
     #[inline(always)]
     pub fn apply(&mut self, call: &Call<'_, T>) -> Result<(), CallError>
         ensures ok { OnOk result (self.new ≡ after_call T.greatest T.number call.now self.old) }
@@ -56,7 +57,8 @@ impl<T: Counter> Histogram<T> {
         ensures samples { OnOk result ((s t : State) → StandsAt self.old s → CallTo T.number
             (grain self.old) call.now s t
             → Fits T.greatest (grain self.old) t.samples → StandsAt self.new t) }
-        ensures same_bounds { (self.new.low ≡ self.old.low) × (self.new.sigfig ≡ self.old.sigfig) }
+        ensures same_bounds { (self.new.low ≡ self.old.low) × (self.new.sigfig ≡ self.old.sigfig)
+            × (self.new.auto_resize ≡ self.old.auto_resize) }
         ensures can { OnOk result (IsTaken self.old call.now) }
         ensures refused { IfErr result (λ e. RefusesCall self.old call.now e
             × (self.new ≡ self.old)) }
@@ -95,14 +97,16 @@ impl<T: Counter> Histogram<T> {
         }
     }
 
-    /// Does calls in their order, up to the first that is refused: that call changed nothing, and those before it stand.
+    /// Applies `calls` in order, up to the first that fails. Returns its index and its error. That
+    /// call changes nothing, and the effects of those before it remain.
     pub fn apply_all(&mut self, calls: &[Call<'_, T>]) -> Result<(), RunError>
         ensures done { self.new ≡ after_calls T.greatest T.number
             (take (calls_done result (length calls.now)) calls.now) self.old }
         ensures samples { (s t : State) → StandsAt self.old s
             → CallsTo T.number (grain self.old) (Fits T.greatest (grain self.old))
             (take (calls_done result (length calls.now)) calls.now) s t → StandsAt self.new t }
-        ensures same_bounds { (self.new.low ≡ self.old.low) × (self.new.sigfig ≡ self.old.sigfig) }
+        ensures same_bounds { (self.new.low ≡ self.old.low) × (self.new.sigfig ≡ self.old.sigfig)
+            × (self.new.auto_resize ≡ self.old.auto_resize) }
         ensures can { AreTaken T.greatest T.number
             (take (calls_done result (length calls.now)) calls.now) self.old }
         ensures refused { IfErr result (λ e. IfSome (slice_get calls.now e.at)

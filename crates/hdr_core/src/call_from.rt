@@ -23,7 +23,7 @@ pub enum CallFrom<'a, T: Counter, F: Counter> {
 }
 
 impl<T: Counter> Histogram<T> {
-    /// Does one call, and refuses just what that call refuses. A refusal changes nothing.
+    /// Applies `call`. Returns the error of that call if it fails; `self` is then unchanged.
     fn apply_from<F: Counter>(&mut self, call: &CallFrom<'_, T, F>) -> Result<(), CallError>
         ensures ok { OnOk result (self.new
             ≡ after_call_from T.greatest T.number call.now self.old) }
@@ -31,7 +31,8 @@ impl<T: Counter> Histogram<T> {
         ensures samples { OnOk result ((s t : State) → StandsAt self.old s → CallFromTo T.number
             (grain self.old) call.now s t
             → Fits T.greatest (grain self.old) t.samples → StandsAt self.new t) }
-        ensures same_bounds { (self.new.low ≡ self.old.low) × (self.new.sigfig ≡ self.old.sigfig) }
+        ensures same_bounds { (self.new.low ≡ self.old.low) × (self.new.sigfig ≡ self.old.sigfig)
+            × (self.new.auto_resize ≡ self.old.auto_resize) }
         ensures can { OnOk result (IsTakenFrom self.old call.now) }
         ensures refused { IfErr result (λ e. RefusesCallFrom self.old call.now e
             × (self.new ≡ self.old)) }
@@ -51,8 +52,9 @@ impl<T: Counter> Histogram<T> {
         }
     }
 
-    /// `apply_all` of calls whose sources may count in another type: does them in their order, up to the first that is
-    /// refused. That call changed nothing, and those before it stand.
+    /// As `apply_all`, for calls whose sources may count in another type: applies `calls` in order,
+    /// up to the first that fails. Returns its index and its error. That call changes nothing, and
+    /// the effects of those before it remain.
     pub fn apply_all_from<F: Counter>(
         &mut self,
         calls: &[CallFrom<'_, T, F>],
@@ -62,7 +64,8 @@ impl<T: Counter> Histogram<T> {
         ensures samples { (s t : State) → StandsAt self.old s
             → CallsFromTo T.number (grain self.old) (Fits T.greatest (grain self.old))
             (take (calls_done result (length calls.now)) calls.now) s t → StandsAt self.new t }
-        ensures same_bounds { (self.new.low ≡ self.old.low) × (self.new.sigfig ≡ self.old.sigfig) }
+        ensures same_bounds { (self.new.low ≡ self.old.low) × (self.new.sigfig ≡ self.old.sigfig)
+            × (self.new.auto_resize ≡ self.old.auto_resize) }
         ensures can { AreTakenFrom T.greatest T.number
             (take (calls_done result (length calls.now)) calls.now) self.old }
         ensures refused { IfErr result (λ e. IfSome (slice_get calls.now e.at)

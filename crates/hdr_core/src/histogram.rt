@@ -1,4 +1,4 @@
-//! The histogram: how it is made, and what it tells of itself.
+//! The histogram: constructors and properties.
 
 ghost use Rattle.std.specs.Prelude.{◌≡◌, ◌↔◌, MatchResult, MatchOption, IsTrue, false, true, ◌+◌, ◌*◌, ◌<◌, ◌≤◌, IfSome, SomeIff, IfErr, length, map, slice_index, unwrap_or};
 ghost use Rattle.hdr_base.specs.Classes.{most_bins, bin_of, bucket, grain_of, value_of, top_of};
@@ -59,12 +59,14 @@ impl<T: Counter> Model for Histogram<T> {
 }
 
 impl<T: Counter> Histogram<T> {
-    /// A histogram of values from 0 to at least `high` that does not grow. It keeps `sigfig` significant digits of values
-    /// from `low` on, which is rounded down to a power of two, the unit.
+    /// Returns an empty histogram for values from 0 to at least `high` that does not grow. It keeps
+    /// `sigfig` significant digits of values from `low` on. `low` is rounded down to a power of
+    /// two, the unit.
     ///
-    /// `low` is 1 to `u64::MAX / 2`, `high` at least twice `low`, `sigfig` 0 to 5, and unit and digits fit 63 bits. The first
-    /// of these that does not hold is the error: `LowIsZero` or `LowExceedsMax`, `HighLessThanTwiceLow`, `SigFigExceedsMax`, or
-    /// `CannotRepresentSigFigBeyondLow`. Where all hold, only memory can run out.
+    /// `low` is 1 to `u64::MAX / 2`, `high` at least twice `low`, `sigfig` 0 to 5, and unit and
+    /// digits fit 63 bits. Returns an error for the first of these that does not hold: `LowIsZero`
+    /// or `LowExceedsMax`, `HighLessThanTwiceLow`, `SigFigExceedsMax`, or
+    /// `CannotRepresentSigFigBeyondLow`. Returns `OutOfMemory` if all hold and an allocation fails.
     pub fn new_with_bounds(
         alloc: Global,
         low: u64,
@@ -91,7 +93,7 @@ impl<T: Counter> Histogram<T> {
         })
     }
 
-    /// `new_with_bounds` with `low` 1: `high` is at least 2, and `sigfig` 0 to 5.
+    /// As `new_with_bounds` with `low` 1: `high` is at least 2, and `sigfig` 0 to 5.
     pub fn new_with_max(alloc: Global, high: u64, sigfig: u8) -> Result<Histogram<T>, CreationError>
         ensures made { MatchResult result (λ h. (h ≡ empty_plain 1 high sigfig false)
             × IsBounds 1 high sigfig) (RefusesBounds 1 high sigfig) }
@@ -100,8 +102,9 @@ impl<T: Counter> Histogram<T> {
         Histogram::new_with_bounds(alloc, 1, high, sigfig)
     }
 
-    /// A histogram of units of 1 that grows as values are recorded, and begins with `high` 2. `sigfig` is 0 to 5;
-    /// above that it is refused as `SigFigExceedsMax`. Else only memory can run out.
+    /// Returns an empty histogram with unit 1 that grows as values are recorded; `high` is 2 at
+    /// first. `sigfig` is 0 to 5. Returns `SigFigExceedsMax` if it is above 5, and otherwise
+    /// `OutOfMemory` if an allocation fails.
     #[tactic(auto, unfolding(hdr_model::specs::Plain::empty_plain))]
     pub fn new(alloc: Global, sigfig: u8) -> Result<Histogram<T>, CreationError>
         ensures made { MatchResult result (λ h. (h ≡ empty_plain 1 2 sigfig true)
@@ -113,14 +116,14 @@ impl<T: Counter> Histogram<T> {
         Ok(histogram)
     }
 
-    /// Lets the bins grow to values past them, or not.
+    /// Sets whether the bins grow to values past them.
     pub fn auto(&mut self, enabled: bool)
         ensures { self.new ≡ record self.old { auto_resize = enabled } }
     {
         self.auto_resize = enabled;
     }
 
-    /// How many bins there are, one for each class from 0 to the reach.
+    /// The number of bins, one for each class from 0 to the reach.
     pub fn distinct_values(&self) -> usize
         ensures value { result ≡ length self.now.counts }
         ensures blocks { result ≡ (bucket (grain self.now) self.now.high + 2) * block_of self.now }
@@ -130,16 +133,16 @@ impl<T: Counter> Histogram<T> {
         self.counts.len()
     }
 
-    /// The lowest value of which the digits are kept.
+    /// The lowest value whose significant digits are kept.
     pub fn low(&self) -> u64
         ensures { result ≡ self.now.low }
     {
         self.low
     }
 
-    /// The highest value that the bins were made for. It moves where the bins grow: to the reach of a value that is recorded
-    /// past them, and to the `max` of a histogram that is added. It has a bin, and it is no lower than `low`: the bounds of a
-    /// histogram are allowed for another.
+    /// The highest value that the bins were made for. If the bins grow, it becomes the reach of the
+    /// value recorded past them, or the `max` of the histogram added. It has a bin, and it is no
+    /// lower than `low`: the bounds of a histogram are valid for another.
     pub fn high(&self) -> u64
         ensures value { result ≡ self.now.high }
         ensures in_bins { self.now.high ≤ reach self.now }
@@ -149,7 +152,7 @@ impl<T: Counter> Histogram<T> {
         self.high
     }
 
-    /// How many significant digits are kept, 0 to 5.
+    /// The number of significant digits kept, 0 to 5.
     pub fn sigfig(&self) -> u8
         ensures value { result ≡ self.now.sigfig }
         ensures bound { self.now.sigfig ≤ 5 }
@@ -157,7 +160,7 @@ impl<T: Counter> Histogram<T> {
         self.sigfig
     }
 
-    /// How many samples are counted, up to `u64::MAX`.
+    /// The number of samples counted; it saturates at `u64::MAX`.
     pub fn len(&self) -> u64
         ensures { result ≡ self.now.total }
     {
@@ -178,7 +181,7 @@ impl<T: Counter> Histogram<T> {
         self.total == 0
     }
 
-    /// How many buckets there are up to that of `high`, 1 to 64.
+    /// The number of buckets up to that of `high`, 1 to 64.
     pub fn buckets(&self) -> u8
         ensures value { result ≡ bucket (grain self.now) self.now.high + 1 }
         ensures bound { result ≤ 64 }
@@ -200,7 +203,7 @@ impl<T: Counter> Histogram<T> {
         self.scale.reach(self.high)
     }
 
-    /// The number of the bin of a value, `None` past the bins.
+    /// Returns the index of the bin of `value`, or `None` if `value` is past the bins.
     pub fn bin_of(&self, value: u64) -> Option<usize>
         ensures value { SomeIff result (value ≤ reach self.now) (bin_of (grain self.now) value) }
         ensures within { IfSome result (λ bin. bin < length self.now.counts) }
@@ -214,7 +217,7 @@ impl<T: Counter> Histogram<T> {
         }
     }
 
-    /// The lowest value of a bin's class, `None` past the bins.
+    /// Returns the lowest value of the class of bin `index`, or `None` if `index` is past the bins.
     pub fn bin_value(&self, index: usize) -> Option<u64>
         ensures value { SomeIff result (index < length self.now.counts)
             (value_of (grain self.now) index) }
@@ -228,7 +231,7 @@ impl<T: Counter> Histogram<T> {
         }
     }
 
-    /// The counter of a bin, `None` past the bins.
+    /// Returns the counter of bin `index`, or `None` if `index` is past the bins.
     pub fn bin_count(&self, index: usize) -> Option<T>
         ensures { MatchOption result (length self.now.counts ≤ index)
             (λ c. (index < length self.now.counts)
@@ -248,7 +251,7 @@ impl<T: Counter> Histogram<T> {
         self.counts.as_slice()
     }
 
-    /// The lowest value of the class of a bin.
+    /// Returns the lowest value of the class of `bin`.
     fn class_value(&self, bin: usize) -> u64
         requires { bin < length self.now.counts }
         ensures { result ≡ value_of (grain self.now) bin }
@@ -259,7 +262,7 @@ impl<T: Counter> Histogram<T> {
         }
     }
 
-    /// The greatest value of the class of a bin.
+    /// Returns the greatest value of the class of `bin`.
     fn class_top(&self, bin: usize) -> u64
         requires { bin < length self.now.counts }
         ensures { result ≡ top_of (grain self.now) (value_of (grain self.now) bin) }
@@ -267,7 +270,8 @@ impl<T: Counter> Histogram<T> {
         self.scale.top(self.class_value(bin))
     }
 
-    /// The greatest value of the last class that counts as recorded, 0 where none does. No class after it holds samples.
+    /// Returns the greatest value of the last class that counts as recorded, or 0 if none does. No
+    /// class after it holds samples.
     pub fn max(&self) -> u64
         ensures value { result ≡ max_of self.now }
         ensures bin { bin_of (grain self.now) result ≡ unwrap_or self.now.top_mark 0 }
@@ -280,7 +284,8 @@ impl<T: Counter> Histogram<T> {
         }
     }
 
-    /// The lowest value of the first class other than class 0 that counts as recorded, `u64::MAX` where none does.
+    /// Returns the lowest value of the first class other than class 0 that counts as recorded, or
+    /// `u64::MAX` if none does.
     pub fn min_nz(&self) -> u64
         ensures { result ≡ min_nz_of self.now }
     {
@@ -290,8 +295,8 @@ impl<T: Counter> Histogram<T> {
         }
     }
 
-    /// The lowest value of the first class that counts as recorded: 0 where nothing was recorded or the first bin is not
-    /// empty, else `min_nz`.
+    /// Returns 0 if `len` is 0 or the first bin is not empty. Otherwise returns `min_nz`, the
+    /// lowest value of the first class that counts as recorded.
     pub fn min(&self) -> u64
         ensures { result ≡ min_of self.now }
     {
@@ -303,7 +308,7 @@ impl<T: Counter> Histogram<T> {
     }
 }
 
-/// The scale of a histogram's bounds; the first that does not hold is the error.
+/// Returns the scale of a histogram's bounds, or an error for the first bound that does not hold.
 fn scale_for(low: u64, high: u64, sigfig: u8) -> Result<Scale, CreationError>
     ensures made { MatchResult result (λ s. (s ≡ grain_of low sigfig) × IsBounds low high sigfig)
         (RefusesBounds low high sigfig) }

@@ -1,5 +1,5 @@
-//! Laws over the definitions, each the contract of a function with nothing to do. Those that speak of no call stand in
-//! `hdr_model`.
+//! Laws over the definitions, each the contract of a function with nothing to do. Those that speak
+//! of no call are in `hdr_model`.
 
 ghost use Rattle.std.specs.Prelude.{◌≡◌, ℕ};
 ghost use Rattle.hdr_model.specs.Plain.{Plain, IsPlain, grain};
@@ -16,8 +16,9 @@ pub use hdr_model::laws::{
     subtracting_undoes_adding,
 };
 
-/// What a call makes of a histogram is one again, with its classes, and stands for what the call makes of the samples. Samples
-/// that don't fit are asked for nothing: after them it stands again for those that fit, as after a `clear`.
+/// What a call makes of a histogram is a histogram with the same classes, and stands for what the
+/// call makes of the samples. Nothing is ensured while samples don't fit; the same holds again once
+/// they fit, as after a `clear`.
 pub fn calls_stand<T: Counter>()
     ensures plain { (most : ℕ) (h : Plain) (call : Call T) → IsCallOf most call
         → IsPlain T.greatest h → IsPlain T.greatest (after_call T.greatest T.number call h) }

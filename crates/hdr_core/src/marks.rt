@@ -5,8 +5,8 @@ ghost use Rattle.hdr_model.specs.Marks.{later_mark, earlier_mark, later_of, earl
 
 use std::marker::Model;
 
-/// A top mark and a lower mark, each a class or none. A mark is one number with a value for none, so that one comparison
-/// tells whether it has to be widened.
+/// A top mark and a lower mark, each a class or none. A mark is one number with a value for none,
+/// so that one comparison decides whether it has to be widened.
 #[derive(Debug, Drop)]
 pub(crate) struct Marks {
     /// The number of classes up to the top mark, 0 for none.
@@ -27,7 +27,7 @@ impl Model for Marks {
 }
 
 impl Marks {
-    /// No marks.
+    /// Returns no marks.
     #[tactic(auto, unfolding(hdr_model::specs::Marks::top_by, hdr_model::specs::Marks::lower_by))]
     pub(crate) fn none() -> Marks
         ensures { result ≡ record { top = None; lower = None } }
@@ -38,7 +38,7 @@ impl Marks {
         }
     }
 
-    /// The marks of these classes; a lower mark is not the first class.
+    /// Returns the marks of these classes; `lower` is not the first class.
     pub(crate) fn new(top: Option<usize>, lower: Option<usize>) -> Marks
         requires top { IfSome top (λ i. i < 2 ^ 32) }
         requires lower { IfSome lower (λ i. (0 < i) × (i < 2 ^ 32)) }
@@ -50,7 +50,7 @@ impl Marks {
         }
     }
 
-    /// The same marks.
+    /// Returns a copy of the marks.
     pub(crate) fn same(&self) -> Marks
         ensures { result ≡ self.now }
     {
@@ -139,7 +139,7 @@ impl Marks {
     }
 }
 
-/// The number of classes up to a top mark.
+/// Returns the number of classes up to a top mark, or 0 for none.
 fn classes_to(top: Option<usize>) -> usize
     requires { IfSome top (λ i. i < 2 ^ 32) }
     ensures { top_by result ≡ top }
@@ -150,7 +150,7 @@ fn classes_to(top: Option<usize>) -> usize
     }
 }
 
-/// The number of the class before a lower mark.
+/// Returns the number of the class before a lower mark, or `usize::MAX` for none.
 fn before(lower: Option<usize>) -> usize
     requires { IfSome lower (λ i. (0 < i) × (i < 2 ^ 32)) }
     ensures { lower_by result ≡ lower }

@@ -1,4 +1,5 @@
--- Where a block stands in a list, over plain variables: answers of goals about bounds, in place of a search.
+-- Where a block lies in a list, over plain variables: proofs of goals about bounds, in place of a
+-- search.
 use Rattle.std.proofs.Common.{◌≡◌, ℕ, ◌+◌, ◌-◌, ◌*◌, ◌^◌, ◌<◌, ◌≤◌, List, length, take, drop, map, min, max, replicate, sym, ap, ◌∙◌, arith}
 use Rattle.std.proofs.lemmas.List.{length-map, length-take, length-drop}
 use Rattle.std.proofs.Math.Nat.{mul-le-mul_left}
@@ -22,14 +23,14 @@ block-within f xs b k ss h lt = omega (arith, block_past b k (length ss) lt, h.w
 pub block-begins : {X : Type 0} (f : X → ℕ) (xs : List X) (b k : ℕ) (ss : List ℕ) → AreSums b (map f xs) ss → k < length ss → k * b ≤ length xs
 block-begins f xs b k ss h lt = omega (arith, block-within f xs b k ss h lt)
 
--- so its places fit 64 bits
+-- so its indices fit 64 bits
 pub block-begin-fits : {X : Type 0} (f : X → ℕ) (xs : List X) (b k : ℕ) (ss : List ℕ) → AreSums b (map f xs) ss → k < length ss → k * b < 2 ^ 64
 block-begin-fits f xs b k ss h lt = omega (arith, block-within f xs b k ss h lt, h.few, length-map xs f)
 
 pub block-end-fits : {X : Type 0} (f : X → ℕ) (xs : List X) (b k : ℕ) (ss : List ℕ) → AreSums b (map f xs) ss → k < length ss → k * b + b < 2 ^ 64
 block-end-fits f xs b k ss h lt = omega (arith, block-within f xs b k ss h lt, h.few, length-map xs f)
 
--- so do the places of its sum
+-- so do the indices of its sum
 pub sum-offset-fits : (b k : ℕ) (ns ss : List ℕ) → AreSums b ns ss → k < length ss → k * 16 < 2 ^ 64
 sum-offset-fits b k ns ss h lt =
     let some : length ss * 1 ≤ length ss * b = mul-le-mul_left (length ss) h.some in
@@ -43,7 +44,7 @@ part-few f xs l b a w ss h same = rw (length-take, length-drop) (omega (arith, h
 pub parts-same : {X Y : Type 0} (xs : List X) (ys : List Y) (a w : ℕ) → a + w ≤ length xs → a + w ≤ length ys → length (take w (drop a xs)) ≡ length (take w (drop a ys))
 parts-same xs ys a w first second = omega (arith, length-take w (drop a xs), length-take w (drop a ys), length-drop a xs, length-drop a ys, first, second)
 
--- a place in a block is one of the few
+-- an index in a block is one of the few
 pub block-place-few : {X : Type 0} (f : X → ℕ) (xs : List X) (b k a w i : ℕ) (ss : List ℕ) → AreSums b (map f xs) ss → k < length ss → a + w ≡ k * b + b → i < length (take w (drop a xs)) → a + i < most_bins
 block-place-few f xs b k a w i ss h lt end inside =
     omega (arith, block-within f xs b k ss h lt, h.few, length-map xs f, length-take w (drop a xs))
@@ -55,7 +56,7 @@ below-64 n few = omega arith
 pub part-end : (a e : ℕ) → a ≤ e → a + (e - a) ≡ e
 part-end a e le = omega arith
 
--- the places are counted from the last block on
+-- the indices are counted from the last block on
 pub back-lt : (n p : ℕ) → p < n → n - 1 - p < n
 back-lt n p lt = omega arith
 
@@ -65,7 +66,7 @@ back-some n p lt = omega arith
 pub back-le : (n p : ℕ) → p < n → p ≤ n - 1
 back-le n p lt = omega arith
 
--- a block without place 0
+-- a block without index 0
 pub max-within : (a b m : ℕ) → 1 ≤ b → m ≡ max a 1 → m ≤ a + b
 max-within a b m some is = omega arith
 
@@ -81,7 +82,7 @@ zeros-begin b ns =
     let none : 0 * b ≡ 0 = omega arith in
     ap (λ n. take n ns) none ∙ sym (ap (λ n. replicate n 0) none)
 
--- there is room for the looks at a sum and then at a block
+-- the ticks of a sum and then of a block fit
 pub look-room : (b k t u : ℕ) (ns ss : List ℕ) → AreSums b ns ss → k < length ss → u ≡ t + k → t ≤ 2 ^ 63 → u < 2 ^ 64 - 1
 look-room b k t u ns ss h lt is room =
     let some : length ss * 1 ≤ length ss * b = mul-le-mul_left (length ss) h.some in

@@ -1,4 +1,4 @@
--- Two lists added place by place, each sum at most the greatest.
+-- Two lists added element by element, each sum at most the greatest.
 use Rattle.std.proofs.Common.{add-one, ◌≡◌, ℕ, zero, suc, ◌+◌, ◌*◌, ◌<◌, ◌≤◌, min, List, [], ◌∷◌, ◌++◌, length, get_or, set, take, drop, map, sum, refl, sym, ap, ◌∙◌, arith}
 use Rattle.std.proofs.lemmas.List.{map-append, take-map, drop-map, drop-drop, length-map}
 use Rattle.std.specs.List.{All}
@@ -60,7 +60,7 @@ pub capped-next : (greatest : ℕ) (ms ns : List ℕ) (i : ℕ) → i < length m
     → set (capped_sums greatest ms (take i ns)) i (min (get_or (capped_sums greatest ms (take i ns)) i 0 + get_or ns i 0) greatest) ≡ capped_sums greatest ms (take (i + 1) ns)
 capped-next greatest ms ns i a b = rw add-one (sym (capped-more greatest ms ns i a b))
 
--- a front of both lists, and what follows it
+-- a prefix of both lists, and what follows it
 capped-front : (greatest : ℕ) (b : ℕ) (ms ns : List ℕ) → capped_sums greatest (take b ms) (take b ns) ++ drop b ms ≡ capped_sums greatest ms (take b ns)
 capped-front greatest zero ms ns = sym (capped-none greatest ms)
 capped-front greatest (suc b) [] ns = refl
@@ -92,7 +92,7 @@ capped-cut greatest zero (m ∷ ms) ns le = absurd (omega arith)
 capped-cut greatest (suc a) (m ∷ ms) [] le = refl
 capped-cut greatest (suc a) (m ∷ ms) (n ∷ ns) le = ap (λ xs. min (m + n) greatest ∷ xs) (capped-cut greatest a ms ns (omega arith))
 
--- where both lists together are at most the greatest, no sum is cut
+-- if both lists together are at most the greatest, no sum saturates
 pub capped-free : (greatest : ℕ) (ms ns : List ℕ) → length ms ≡ length ns → sum ms + sum ns ≤ greatest → sum (capped_sums greatest ms ns) ≡ sum ms + sum ns
 capped-free greatest [] [] same le = refl
 capped-free greatest [] (n ∷ ns) same le = absurd (omega arith)
@@ -103,20 +103,20 @@ capped-free greatest (m ∷ ms) (n ∷ ns) same le =
     let c = sum_by-cons (λ x. x) (min (m + n) greatest) (capped_sums greatest ms ns) in
     omega (arith, a, b, c, capped-free greatest ms ns (omega arith) (omega arith))
 
--- one place more, in a list that was added up to there
+-- one index more, in a list that was added up to there
 pub capped-write : (greatest : ℕ) (ms ns was : List ℕ) (i x : ℕ) → was ≡ capped_sums greatest ms (take i ns) → i < length ms → i < length ns → x ≡ min (get_or was i 0 + get_or ns i 0) greatest
     → set was i x ≡ capped_sums greatest ms (take (i + 1) ns)
 capped-write greatest ms ns was i x before a b is =
     ap (λ y. set was i y) is ∙ ap (λ ws. set ws i (min (get_or ws i 0 + get_or ns i 0) greatest)) before ∙ capped-next greatest ms ns i a b
 
--- a place that was not added to yet
+-- an index that was not added to yet
 pub capped-rest : (greatest : ℕ) (ms ns : List ℕ) (i : ℕ) → get_or (capped_sums greatest ms (take i ns)) i 0 ≡ get_or ms i 0
 capped-rest greatest [] ns i = refl
 capped-rest greatest (m ∷ ms) ns zero = refl
 capped-rest greatest (m ∷ ms) [] (suc i) = refl
 capped-rest greatest (m ∷ ms) (n ∷ ns) (suc i) = capped-rest greatest ms ns i
 
--- where the second list is zeros nothing is added
+-- if the second list is zeros, nothing is added
 pub capped-zeros : (greatest : ℕ) (ms ns : List ℕ) → All (λ n. n ≤ greatest) ms → sum ns ≡ 0 → capped_sums greatest ms ns ≡ ms
 capped-zeros greatest [] ns fit none = refl
 capped-zeros greatest (m ∷ ms) [] fit none = refl

@@ -80,7 +80,7 @@ whole-groups b g w ns ss h some wide whole =
     let number : length ss / g ≡ q = ap (λ m. m / g) same ∙ mul-div_cancel q {n = g} some in
     (same ∙ ap (λ m. m * g) (sym number), sym number)
 
--- group k: the sums of all groups, its own, and its place
+-- group k: the sums of all groups, its own, and its index
 pub record IsGroup {X : Type 0} (f : X → ℕ) (xs : List X) (g w k : ℕ) (ss : List ℕ) : Type 0 where
   pub sums : AreSums w (map f xs) (groups g (length ss / g) ss)
   pub inside : k < length (groups g (length ss / g) ss)
@@ -116,7 +116,7 @@ group-of f xs b g w k len ss h some wide whole size lt =
 pub group-sum-read : (g k w : ℕ) (ss r : List ℕ) → r ≡ ss → w ≡ g → sum (take w (drop (k * g) r)) ≡ sum (take g (drop (k * g) ss))
 group-sum-read g k w ss r same wide = ap (λ v. sum (take v (drop (k * g) r))) wide ∙ ap (λ q. sum (take g (drop (k * g) q))) same
 
--- where a group's sum reaches what is left of a rank, its counters do
+-- if a group's sum reaches what is left of a rank, its counters do
 pub none-found : {X : Type 0} (f : X → ℕ) (xs l : List X) (ss : List ℕ) (g w k r s rest : ℕ) → IsGroup f xs g w k ss → l ≡ xs → r ≡ sum (take g (drop (k * g) ss)) → s ≡ r → rest ≤ s
     → sum (map f (take (k * w + w - k * w) (drop (k * w) l))) < rest → ⊥
 none-found f xs l ss g w k r s rest p read r_is s_is le lt =

@@ -10,7 +10,7 @@ use Rattle.hdr_counts.specs.Blocks.{AreSums, AreOpen, AreZeros, IsAt, IsFirstNon
 use Rattle.hdr_counts.proofs.BlocksSums.{AreSums-set, AreSums-grow, block_of, grown, part_whole, sum-fits, sum_below-le-sum, sum_below-zeros}
 use Rattle.hdr_counts.proofs.BlocksWritten.{AreRead, number-read, are-read}
 
--- the sum that a place of the sums holds, once put there
+-- the sum at an index of the sums, once stored there
 pub set-twice : (l : List ℕ) (i a b : ℕ) → set (set l i a) i b ≡ set l i b
 set-twice [] i a b = refl
 set-twice (x ∷ l) zero a b = refl
@@ -25,7 +25,7 @@ pub set-first-zero : (ss : List ℕ) (n : ℕ) → ss ≡ replicate n 0 → set 
 set-first-zero ss zero e = rw e refl
 set-first-zero ss (suc n) e = rw e refl
 
--- a number that is at hand
+-- a number that is in the list
 pub get-with-zeros : (ns : List ℕ) (len i : ℕ) → i < length ns → get_or (with_zeros ns len) i 0 ≡ get_or ns i 0
 get-with-zeros ns len i lt = get_or_append_left ns (replicate (len - length ns) 0) 0 i lt
 
@@ -33,7 +33,7 @@ pub set-with-zeros : (ns : List ℕ) (len i v : ℕ) → i < length ns → with_
 set-with-zeros ns len i v lt =
     ap (λ n. set ns i v ++ replicate (len - n) 0) (length-set ns i v) ∙ sym (set-append_left ns (replicate (len - length ns) 0) i v lt)
 
--- zeros that come to hand change nothing
+-- zero-filling changes nothing
 pub more-zeros : (ns ms : List ℕ) (len more : ℕ) → ms ≡ ns ++ replicate more 0 → length ms ≤ len → with_zeros ms len ≡ with_zeros ns len
 more-zeros ns ms len more e le =
     let size : length ms ≡ length ns + more = ap (length {A = ℕ}) e ∙ length-append ns (replicate more 0) ∙ ap (λ n. length ns + n) (length-replicate {A = ℕ} more 0) in
@@ -64,7 +64,7 @@ zeros-made b blocks some few =
     let every : blocks * b - 0 ≡ blocks * b = omega arith in
     subst (λ n. AreSums b (replicate n 0) (replicate blocks 0)) every (subst (λ k. AreSums b (with_zeros [] (blocks * b)) (replicate k 0)) all (AreSums-grow b [] [] blocks none (omega arith) few))
 
--- counters of 0, none of which is at hand
+-- counters of 0, none of which is in the list
 pub open-none : (greatest b n len capacity : ℕ) (ss : List ℕ) (shift : Option ℕ) → 1 ≤ b → n * b ≡ len → len ≤ most_bins → len ≤ capacity → ss ≡ replicate n 0 → IsShift b shift
     → AreOpen greatest b len capacity [] ss shift
 open-none greatest b n len capacity ss shift some is few room e is_shift =
@@ -85,7 +85,7 @@ open-none greatest b n len capacity ss shift some is few room e is_shift =
 pub at-none : (b : ℕ) → IsAt b 0 0 0 18446744073709551615 []
 at-none b = record { rest = λ j le. refl; from = omega arith; to = omega arith; at_hand = omega arith; within = omega arith; some = omega arith; low = λ j some lt. refl; order = λ lt. absurd (omega (arith, lt)) }
 
--- zeros came to hand
+-- the list was zero-filled
 pub open-cover : (greatest b len capacity room more : ℕ) (ns ms ss : List ℕ) (shift : Option ℕ) → AreOpen greatest b len capacity ns ss shift
     → ms ≡ ns ++ replicate more 0 → length ms ≤ len → len ≤ room → AreOpen greatest b len room ms ss shift
 open-cover greatest b len capacity room more ns ms ss shift h e within enough = record {
@@ -104,7 +104,7 @@ zero-at zero j = refl
 zero-at (suc m) zero = refl
 zero-at (suc m) (suc j) = zero-at m j
 
--- zeros that come to hand change no number
+-- zero-filling changes no number
 zeros-at : (more : ℕ) (ns ms : List ℕ) (j : ℕ) → ms ≡ ns ++ replicate more 0 → get_or ms j 0 ≡ get_or ns j 0
 zeros-at more ns ms j e =
     ap (λ l. get_or l j 0) e
@@ -127,7 +127,7 @@ at-cover b k next end first more ns ms h e =
       order = h.order;
     }
 
--- a place that is set
+-- an index that is set
 pub open-set : (greatest b len capacity : ℕ) (ns ss : List ℕ) (shift : Option ℕ) (i v : ℕ) → AreOpen greatest b len capacity ns ss shift → i < length ns → v ≤ greatest → greatest ≤ 18446744073709551615
     → AreOpen greatest b len capacity (set ns i v) (set ss (i / b) (get_or ss (i / b) 0 - get_or ns i 0 + v)) shift
 open-set greatest b len capacity ns ss shift i v h lt fits most =
@@ -147,7 +147,7 @@ open-set greatest b len capacity ns ss shift i v h lt fits most =
       fit = All-set (λ n. n ≤ greatest) ns i v fits h.fit;
     }
 
--- a number at hand and the sum of its block, as they were read
+-- a number of the list and the sum of its block, as they were read
 pub open-read : {X : Type 0} (f : X → ℕ) (xs : List X) (greatest b len capacity i k x s : ℕ) (counter : X) (ss : List ℕ) (shift : Option ℕ) → AreOpen greatest b len capacity (map f xs) ss shift → i < length (map f xs)
     → counter ≡ get_or xs i counter → x ≡ f counter → k ≡ i / b → s ≡ get_or ss k s → AreRead b i x s (with_zeros (map f xs) len) ss
 open-read f xs greatest b len capacity i k x s counter ss shift h lt is x_is k_is s_is =
@@ -156,7 +156,7 @@ open-read f xs greatest b len capacity i k x s counter ss shift h lt is x_is k_i
     let old = number-read f xs i x counter lt is x_is in
     are-read b i k x s all ss h.kept inside (old ∙ sym (get-with-zeros (map f xs) len i lt)) k_is s_is
 
--- a place after those that were set, of the block at hand
+-- an index after those that were set, in the current block
 pub block-at : (b k i next end first : ℕ) (ns : List ℕ) → 1 ≤ b → IsAt b k next end first ns → next ≤ i → i < end → k ≡ i / b
 block-at b k i next end first ns some h le lt =
     let q = block_of b i some in
@@ -165,7 +165,7 @@ block-at b k i next end first ns some h le lt =
     let high : i / b < k + 1 = ⊎_elim (λ (x : i / b < k + 1). x) (λ (x : k + 1 ≤ i / b). absurd (omega (arith, mul-le-mul_right b x, h.to, q.0))) (cases_lt (i / b) (k + 1)) in
     omega arith
 
--- such a place was 0, so the sum of its block grows by what is put there
+-- that number was 0, so the sum of its block grows by what is stored there
 pub open-next : (greatest b len capacity k next end first s : ℕ) (ns ss : List ℕ) (shift : Option ℕ) (i v : ℕ) → AreOpen greatest b len capacity ns ss shift → IsAt b k next end first ns → next ≤ i → i < end → v ≤ greatest → greatest ≤ 18446744073709551615
     → s ≡ get_or ss k s → AreOpen greatest b len capacity (set ns i v) (set ss k (s + v)) shift
 open-next greatest b len capacity k next end first s ns ss shift i v h at le lt fits most s_is =
@@ -191,13 +191,13 @@ sum-small greatest b len capacity k next end first s ns ss shift i h at le lt s_
     let pair = are-read b i k 0 s all ss h.kept inside (sym (at.rest i le) ∙ sym (get-with-zeros ns len i here)) (block-at b k i next end first ns h.some at le lt) s_is in
     pair.small
 
--- the numbers after a place that was set
+-- the numbers after an index that was set
 rest-set : (next i v : ℕ) (ns : List ℕ) → ((j : ℕ) → next ≤ j → get_or ns j 0 ≡ 0) → next ≤ i → (j : ℕ) → i + 1 ≤ j → get_or (set ns i v) j 0 ≡ 0
 rest-set next i v ns rest le j after =
     let other : j ≢ i = omega arith in
     get_or-set_other ns i j v 0 other ∙ rest j (omega arith)
 
--- the next place of the block was set
+-- the next index of the block was set
 pub at-next : (b k next end first i v : ℕ) (ns : List ℕ) → IsAt b k next end first ns → next ≤ i → i < end → IsAt b k (i + 1) end first (set ns i v)
 at-next b k next end first i v ns h le lt =
     let before : first ≤ next = h.order (omega arith) in
@@ -212,13 +212,13 @@ at-next b k next end first i v ns h le lt =
       order = λ _. omega (arith, before, le);
     }
 
--- the numbers before the lower of two places
+-- the numbers before the lower of two indices
 low-set : (first low i v : ℕ) (ns : List ℕ) → ((j : ℕ) → 0 < j → j < first → get_or ns j 0 ≡ 0) → low ≤ first → (0 < i → low ≤ i) → (j : ℕ) → 0 < j → j < low → get_or (set ns i v) j 0 ≡ 0
 low-set first low i v ns before within own j some under =
     let other : j ≢ i = λ same. absurd (omega (arith, own (omega (arith, same, some)), same, under)) in
     get_or-set_other ns i j v 0 other ∙ before j some (omega (arith, under, within))
 
--- a place of another block, after all that were set
+-- an index of another block, after all that were set
 pub at-block : (b k next end first i v q stop low last : ℕ) (ns : List ℕ) → 1 ≤ b → IsAt b k next end first ns → next ≤ i → q ≡ i / b → stop ≡ (q + 1) * b → stop ≤ length ns → i < length ns
     → 0 < low → low ≤ first → (0 < i → low ≤ i) → last ≤ stop → (0 < last → 0 < i) → IsAt b q (i + 1) last low (set ns i v)
 at-block b k next end first i v q stop low last ns some h le q_is stop_is inside here low_some low_in own last_in last_some = record {
@@ -232,7 +232,7 @@ at-block b k next end first i v q stop low last ns some h le q_is stop_is inside
   order = λ lt. omega (arith, own (last_some (omega (arith, lt))));
 }
 
--- a place before one that was set
+-- an index before one that was set
 pub at-before : (b k next end first i v low : ℕ) (ns : List ℕ) → IsAt b k next end first ns → i < next → 0 < low → low ≤ first → (0 < i → low ≤ i) → IsAt b k next end low (set ns i v)
 at-before b k next end first i v low ns h lt low_some low_in own = record {
   rest = λ j le. let other : j ≢ i = omega (arith, le, lt) in get_or-set_other ns i j v 0 other ∙ h.rest j le;
@@ -253,11 +253,11 @@ part-small f xs ys greatest b len capacity a w ss shift h same =
     let part = ap (λ l. sum (map f (take w (drop a l)))) same in
     omega (arith, part_whole f xs a w, zeros, sum_below-le-sum all (a + w), sum-fits all h.kept.few h.kept.fits, part)
 
--- the numbers at hand are those of all
+-- the numbers of the list are those of all
 at-open : (ns : List ℕ) (len i : ℕ) → get_or (with_zeros ns len) i 0 ≡ get_or ns i 0
 at-open ns len i = zeros-at (len - length ns) ns (with_zeros ns len) i refl
 
--- a number of a front, by the numbers of all
+-- a number of a prefix, by the numbers of all
 front-is : {X : Type 0} (f : X → ℕ) (xs : List X) (k len i : ℕ) → i < k → get_or (map f (take k xs)) i 0 ≡ get_or (with_zeros (map f xs) len) i 0
 front-is f xs k len i lt = ap (λ l. get_or l i 0) (sym (take-map f k xs)) ∙ get_or-take k (map f xs) i 0 lt ∙ sym (at-open (map f xs) len i)
 
@@ -266,7 +266,7 @@ part-is : {X : Type 0} (f : X → ℕ) (xs : List X) (a w len i : ℕ) → i < w
 part-is f xs a w len i lt =
     ap (λ l. get_or l i 0) (sym (take-map f w (drop a xs)) ∙ ap (take w) (sym (drop-map f a xs))) ∙ get_or-take w (drop a (map f xs)) i 0 lt ∙ get_or-drop a (map f xs) i 0 ∙ sym (at-open (map f xs) len (a + i))
 
--- where a front before `next` is zeros, all are
+-- if a prefix before `next` is zeros, all are
 pub open-none-set : {X : Type 0} (f : X → ℕ) (xs : List X) (b k next end first len : ℕ) → IsAt b k next end first (map f xs) → AreZeros (map f (take next xs)) → AreZeros (with_zeros (map f xs) len)
 open-none-set f xs b k next end first len h zeros = λ i.
     ⊎_elim
@@ -284,7 +284,7 @@ open-last f xs b k next end first len m h inside (some, above) = (
       (cases_lt i next),
 )
 
--- a place after place 0 that is not in the part from the lower of `first` and `next` up to `next` holds 0
+-- after index 0, a number outside the part from the lower of `first` and `next` up to `next` is 0
 outside : {X : Type 0} (f : X → ℕ) (xs : List X) (b k next end first len from i : ℕ) → IsAt b k next end first (map f xs) → from ≡ min first next → 0 < i → i < from → get_or (with_zeros (map f xs) len) i 0 ≡ 0
 outside f xs b k next end first len from i h from_is some lt = at-open (map f xs) len i ∙ h.low i some (omega (arith, lt, from_is))
 
@@ -314,7 +314,7 @@ open-first f xs b k next end first len from p h from_is inside (full, before) = 
       (cases_lt i from),
 )
 
--- numbers that are zeros from a place on
+-- numbers that are zeros from an index on
 pub front-zeros : (ns : List ℕ) (k : ℕ) → ((i : ℕ) → k ≤ i → get_or ns i 0 ≡ 0) → with_zeros (take k ns) (length ns) ≡ ns
 front-zeros ns k rest =
     let front = length-take k ns in
@@ -325,7 +325,7 @@ front-zeros ns k rest =
     (λ (x : length (take k ns) ≤ i). get_or-append_right (take k ns) (replicate (length ns - length (take k ns)) 0) (length (take k ns)) i 0 refl x ∙ zero-at (length ns - length (take k ns)) (i - length (take k ns)) ∙ sym (rest i (omega arith)))
     (cases_lt i (length (take k ns))))
 
--- so the front and zeros are all of them
+-- so the prefix and zeros are all of them
 pub copied-numbers : {X : Type 0} (f : X → ℕ) (xs ys zs part : List X) (z : X) (n l used : ℕ) → part ≡ xs → zs ≡ take used part → l ≡ length zs → n ≡ length xs → f z ≡ 0
     → ys ≡ take n zs ++ replicate (n - l) z → ((i : ℕ) → used ≤ i → get_or (map f xs) i 0 ≡ 0) → map f ys ≡ map f xs
 copied-numbers f xs ys zs part z n l used part_is zs_is l_is n_is zero_is ys_is rest =

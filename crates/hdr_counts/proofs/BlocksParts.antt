@@ -1,4 +1,4 @@
--- The sums of the two parts of a block, up to a place and after it.
+-- The sums of the two parts of a block, up to an index and after it.
 use Rattle.std.proofs.Common.{◌≡◌, ℕ, ◌+◌, ◌-◌, ◌*◌, ◌<◌, ◌≤◌, List, length, get_or, take, drop, map, sum, refl, ap, arith}
 use Rattle.std.proofs.lemmas.List.{get_or_read}
 use Rattle.hdr_counts.specs.Blocks.{Blocks, section_of, sum_below, AreSums}
@@ -33,7 +33,7 @@ module _ {X : Type 0} (f : X → ℕ) (xs l : List X) (ss : List ℕ) (b k i : �
   pub back-le : sum (map f (take (k * b + b - (i + 1)) (drop (i + 1) l))) ≤ get_or ss k 0
   back-le = omega (arith, back-sum, sum_below-le (map f xs) (k * b) (i + 1) (omega (arith, from)))
 
--- the same of blocks as they are seen, where the sum of a section was read
+-- the same of blocks as they are seen, if the sum of a section was read
 module _ {X : Type 0} (f : X → ℕ) (v : Blocks) (xs l : List X) (ss : List ℕ) (b k i whole : ℕ) (b_is : b ≡ section_of v.block) (ns_is : map f xs ≡ v.numbers) (sums : AreSums b (map f xs) ss) (same : l ≡ xs) (read : whole ≡ get_or ss k whole)
     (from : k * section_of v.block ≤ i) (before : i < (k + 1) * section_of v.block) (within : (k + 1) * section_of v.block ≤ length v.numbers) where
   its-from : k * b ≤ i

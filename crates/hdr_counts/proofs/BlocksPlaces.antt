@@ -1,10 +1,10 @@
--- The first place that reaches a rank, step by step and part by part.
+-- The first index that reaches a rank, step by step and part by part.
 use Rattle.std.proofs.Common.{◌≡◌, ℕ, ◌+◌, ◌-◌, ◌<◌, ◌≤◌, List, length, get_or, take, drop, map, min, sum, ap, ◌∙◌, arith}
 use Rattle.std.proofs.lemmas.List.{length-map, length-take, length-drop}
 use Rattle.hdr_counts.specs.Blocks.{sum_below, IsFirstToReach}
 use Rattle.hdr_counts.proofs.BlocksSums.{sum_below_map_more, sum_below_all, part_sum}
 
--- a number that is at least what is left of a rank is at its first place
+-- a number that is at least what is left of a rank is at its first index
 pub first-here : {X : Type 0} (f : X → ℕ) (xs : List X) (i : ℕ) (x : X) (rank rest : ℕ) → i < length xs → x ≡ get_or xs i x
     → rest + sum_below (map f xs) i ≡ rank → 0 < rest → rest ≤ f x → IsFirstToReach (map f xs) rank i
 first-here f xs i x rank rest at is left some enough =
@@ -18,14 +18,15 @@ less-left f xs i x rank rest at is left few =
     let more = sum_below_map_more f xs i x at is in
     omega (arith, more)
 
--- where something is left after the last place, the rank is not reached
+-- if something is left after the last index, the rank is not reached
 pub none-left : {X : Type 0} (f : X → ℕ) (xs : List X) (i rank rest : ℕ) → length xs ≤ i → rest + sum_below (map f xs) i ≡ rank → 0 < rest → sum (map f xs) < rank
 none-left f xs i rank rest end left some =
     let len : length (map f xs) ≡ length xs = length-map xs f in
     let whole = sum_below_all (map f xs) i (omega (arith, len)) in
     omega (arith, whole)
 
--- the first place of a part that reaches what is left is the first place of all that reaches the rank
+-- the first index of a part that reaches what is left is the first index of all that reaches the
+-- rank
 pub first-in-part : {X : Type 0} (f : X → ℕ) (xs : List X) (a w i rank rest : ℕ) → rest + sum_below (map f xs) a ≡ rank
     → IsFirstToReach (map f (take w (drop a xs))) rest i → IsFirstToReach (map f xs) rank (a + i)
 first-in-part f xs a w i rank rest left first =

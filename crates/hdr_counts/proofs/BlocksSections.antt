@@ -24,7 +24,7 @@ divides b some =
     let own : Divides b b = record { some = some; whole = omega (arith, div-add-mod' b b, mod_self b) } in
     parted-divides b 131072 4096 _ (omega arith) (parted-divides b 16384 1024 _ (omega arith) (parted-divides b 1024 256 b (omega arith) own))
 
--- so many sections are n blocks
+-- that number of sections is n blocks
 pub record AreParted (b s n : ℕ) : Type 0 where
   pub some : 1 ≤ s
   pub in_block : 1 ≤ b / s

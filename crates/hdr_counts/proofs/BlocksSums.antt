@@ -9,11 +9,11 @@ use Rattle.std.proofs.Math.Nat.{mul-le-mul_right, div-lt_iff_lt-mul}
 use Rattle.hdr_base.specs.Classes.{most_bins}
 use Rattle.hdr_counts.specs.Blocks.{sum_below, AreSums}
 
--- a write past the places summed
+-- a write past the numbers summed
 pub sum_below-set_past : (ns : List ℕ) (i j n : ℕ) → j ≤ i → sum_below (set ns i n) j ≡ sum_below ns j
 sum_below-set_past ns i j n h = ap sum (take-set-le j ns i n h)
 
--- a write at one of the places summed
+-- a write at one of the numbers summed
 pub sum_below-set_in : (ns : List ℕ) (i j n : ℕ) → i < j → i < length ns → sum_below (set ns i n) j + get_or ns i 0 ≡ sum_below ns j + n
 sum_below-set_in ns i j n h l =
     let e : sum_below (set ns i n) j ≡ sum (set (take j ns) i n) = ap sum (take-set-lt j ns i n h) in
@@ -22,7 +22,7 @@ sum_below-set_in ns i j n h l =
     let g : get_or (take j ns) i 0 ≡ get_or ns i 0 = get_or-take j ns i 0 h in
     omega (arith, e, f, g)
 
--- a sum of more places, by the sum of those after
+-- a sum of more numbers, by the sum of those after
 pub sum_below-add : (ns : List ℕ) (a j : ℕ) → sum_below ns (a + j) ≡ sum_below ns a + sum_below (drop a ns) j
 sum_below-add ns a j =
     let e : sum (take a (take (a + j) ns)) + sum (drop a (take (a + j) ns)) ≡ sum (take (a + j) ns) = sum_by-take-drop (λ x. x) (take (a + j) ns) a in
@@ -74,14 +74,14 @@ sum_below-zeros ns m j =
 pub All-le-sum : (ns : List ℕ) → All (λ n. n ≤ 18446744073709551615) ns → sum ns ≤ length ns * 18446744073709551615
 All-le-sum ns h = sum_by-le (λ x. x) 18446744073709551615 ns h
 
--- the place i stands in block i / b
+-- index i lies in block i / b
 pub block_of : (b i : ℕ) → 1 ≤ b → (i / b * b ≤ i) × (i < (i / b + 1) * b)
 block_of b i h = (omega arith, omega arith)
 
 pub block_in : (b i n : ℕ) → 1 ≤ b → i < n * b → i / b < n
 block_in b i n h l = (div-lt_iff_lt-mul h).1 l
 
--- a block's places are within those of the blocks up to it
+-- a block's indices are within those of the blocks up to it
 pub block_past : (b k q : ℕ) → k < q → (k + 1) * b ≤ q * b
 block_past b k q h =
     let p : k + 1 ≤ q = omega arith in
@@ -246,7 +246,7 @@ sums_grown b ns ss zs blocks l h m k e =
     let t : take blocks ss ≡ ss = take_all blocks ss more in
     e ∙ rw (t, k) refl
 
--- a number of a list at a place
+-- a number of a list at an index
 pub number-at : {X : Type 0} (f : X → ℕ) (xs : List X) (i : ℕ) (x : X) → i < length xs → x ≡ get_or xs i x → f x ≡ get_or (map f xs) i 0
 number-at f xs i x at is = ap f is ∙ sym (get_or-map f xs i x 0 at)
 
@@ -256,7 +256,7 @@ block-sum f xs b k ss h lt =
     let e : k * b + b ≡ (k + 1) * b = omega arith in
     omega (arith, h.each k lt, part_whole f xs (k * b) b, ap (sum_below (map f xs)) e)
 
--- a block of a list written anew, and the sums up to a place before it and after it
+-- a block of a list written anew, and the sums up to an index before it and after it
 module _ (ns part : List ℕ) (a b : ℕ) (len : length part ≡ b) (room : a + b ≤ length ns) where
   written : List ℕ
   written = take a ns ++ (part ++ drop (a + b) ns)

@@ -6,7 +6,7 @@ ghost use Rattle.hdr_counts.specs.Blocks.{capped_sums, AreSums};
 
 use hdr_base::Counter;
 
-/// The exact sum of the counters.
+/// Returns the exact sum of the counters.
 pub(crate) fn sum_of<T: Counter>(counters: &[T]) -> u128
     requires { length counters.now ≤ most_bins }
     ensures { result ≡ sum (map T.number counters.now) }
@@ -18,7 +18,7 @@ pub(crate) fn sum_of<T: Counter>(counters: &[T]) -> u128
     total
 }
 
-/// The same where the sum fits a `u64`.
+/// As `sum_of`, for a sum that fits a `u64`.
 pub(crate) fn short_sum<T: Counter>(counters: &[T]) -> u64
     requires { sum (map T.number counters.now) < 2 ^ 64 }
     ensures { result ≡ sum (map T.number counters.now) }
@@ -30,8 +30,9 @@ pub(crate) fn short_sum<T: Counter>(counters: &[T]) -> u64
     total
 }
 
-/// Adds the sections of `source` to those of `counters`, as far as both have them, each sum of two up to the greatest counter. `sums` and `more`
-/// are the sums of their sections.
+/// Adds the sections of `source` to those of `counters`, as far as both have them. Each counter
+/// saturates at `T::max_value()`. `sums` and `more` are the sums of their sections; `sums` is
+/// updated.
 pub(crate) fn add_sections<T: Counter, F: Counter>(
     counters: &mut [T],
     sums: &mut [u128],
@@ -54,8 +55,9 @@ pub(crate) fn add_sections<T: Counter, F: Counter>(
     }
 }
 
-/// Adds one section to another and gives the new sum; `had` and `more` are their sums, which tell whether there is
-/// anything to add, and whether any place can pass the greatest.
+/// Adds a section of `source` to one of `counters`, and returns the new sum. `had` and `more` are
+/// their sums before. Nothing is added if `more` is 0, and no counter saturates if `had + more` is
+/// at most `T::max_value()`.
 fn add_section<T: Counter, F: Counter>(
     counters: &mut [T],
     source: &[F],
@@ -83,7 +85,8 @@ fn add_section<T: Counter, F: Counter>(
     sum_of(counters)
 }
 
-/// Adds counters place by place, where all of them together are at most the greatest.
+/// Adds element by element. All numbers together are at most `T::max_value()`, so that no counter
+/// saturates.
 fn add_plain<T: Counter, F: Counter>(counters: &mut [T], source: &[F])
     requires len { length counters.old ≡ length source.now }
     requires fits { sum (map T.number counters.old) + sum (map F.number source.now) ≤ T.greatest }
@@ -95,7 +98,7 @@ fn add_plain<T: Counter, F: Counter>(counters: &mut [T], source: &[F])
     }
 }
 
-/// Adds counters place by place, each sum up to the greatest.
+/// Adds element by element. Each counter saturates at `T::max_value()`.
 fn add_each<T: Counter, F: Counter>(counters: &mut [T], source: &[F])
     requires { length counters.old ≡ length source.now }
     ensures { map T.number counters.new ≡ capped_sums T.greatest (map T.number counters.old)
@@ -106,7 +109,7 @@ fn add_each<T: Counter, F: Counter>(counters: &mut [T], source: &[F])
     }
 }
 
-/// The counter of a number, or the greatest where the number is above it.
+/// Returns the counter of `number`, or `T::max_value()` if `number` is above it.
 fn capped<T: Counter>(number: u64) -> T
     ensures { T.number result ≡ min number T.greatest }
 {

@@ -1,11 +1,12 @@
-//! Sections made 0.
+//! Clearing of sections.
 
 ghost use Rattle.std.specs.Prelude.{◌≡◌, length, map, sum, replicate};
 ghost use Rattle.hdr_counts.specs.Blocks.{AreSums};
 
 use hdr_base::Counter;
 
-/// Makes each counter 0, section by section. `sums` are the sums of the sections: one whose sum is 0 costs a look at it.
+/// Sets each counter to 0, section by section, and the sums too. `sums` are the sums of the
+/// sections; a section whose sum is 0 is skipped.
 pub(crate) fn clear_sections<T: Counter>(counters: &mut [T], sums: &mut [u128], section: usize)
     requires { AreSums section (map T.number counters.old) sums.old }
     ensures numbers { map T.number counters.new ≡ replicate (length counters.old) 0 }
@@ -18,7 +19,7 @@ pub(crate) fn clear_sections<T: Counter>(counters: &mut [T], sums: &mut [u128], 
     }
 }
 
-/// Makes the counters of a section 0; `had` is their sum.
+/// Sets the counters of a section to 0; `had` is their sum.
 fn clear_section<T: Counter>(counters: &mut [T], had: u128)
     requires { had ≡ sum (map T.number counters.old) }
     ensures { map T.number counters.new ≡ replicate (length counters.old) 0 }

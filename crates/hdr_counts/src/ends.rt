@@ -1,4 +1,4 @@
-//! The first and the last of the counters that hold something.
+//! The first and the last nonzero counter.
 
 ghost use Rattle.std.specs.Prelude.{◌≡◌, ℕ, ◌<◌, ◌≤◌, IfSome, MatchOption, length, map, slice_index, sum};
 ghost use Rattle.hdr_base.specs.Classes.{most_bins};
@@ -7,8 +7,11 @@ ghost use Rattle.hdr_counts.specs.Blocks.{AreSums, AreZeros, IsLastNonzero, IsFi
 use crate::{Counts, quotient};
 use hdr_base::Counter;
 
+/// The number of counters that are read before the sums of sections are.
+const NEAR: usize = 16;
+
 impl<T: Counter> Counts<T> {
-    /// The last place of a counter above 0. A section whose sum is 0 costs a look at it.
+    /// Returns the index of the last nonzero counter. A section whose sum is 0 is skipped.
     pub fn last_nonzero(&self) -> Option<usize>
         ensures within { IfSome result (λ m. m < most_bins) }
         ensures place { MatchOption result ((i : ℕ) → slice_index self.now.numbers i ≡ 0)
@@ -18,7 +21,7 @@ impl<T: Counter> Counts<T> {
         last_place(&self.counters, &self.sums, self.section)
     }
 
-    /// The first place after place 0 of a counter above 0.
+    /// Returns the index of the first nonzero counter after counter 0.
     pub fn next_nonzero(&self) -> Option<usize>
         ensures within { IfSome result (λ m. (0 < m) × (m < most_bins)) }
         ensures place { MatchOption result ((i : ℕ) → 0 < i → slice_index self.now.numbers i ≡ 0)
@@ -33,7 +36,7 @@ impl<T: Counter> Counts<T> {
         }
     }
 
-    /// The first place from one on of a counter above 0, or how many counters there are.
+    /// Returns the index of the first nonzero counter from `from` on, or `len()` if there is none.
     #[inline(always)]
     pub fn next_filled(&self, from: usize) -> usize
         requires { from ≤ length self.now.numbers }
@@ -47,10 +50,26 @@ impl<T: Counter> Counts<T> {
                 return from;
             }
         }
-        self.filled_by_section(from)
+        self.filled_near(from)
     }
 
-    /// The same. A section whose sum is 0 costs a look at it.
+    /// As `next_filled`. The next `NEAR` counters are read before the sums of sections are.
+    #[inline(never)]
+    fn filled_near(&self, from: usize) -> usize
+        requires { from ≤ length self.now.numbers }
+        ensures onward { from ≤ result }
+        ensures within { result ≤ length self.now.numbers }
+        ensures empty { (i : ℕ) → from ≤ i → i < result → slice_index self.now.numbers i ≡ 0 }
+        ensures filled { result < length self.now.numbers → 0 < slice_index self.now.numbers result }
+    {
+        let near = self.counters.len().min(from + NEAR);
+        match first_nonzero(&self.counters[from..near]) {
+            Some(i) => from + i,
+            None => self.filled_by_section(near),
+        }
+    }
+
+    /// As `next_filled`. A section whose sum is 0 is skipped.
     #[inline(never)]
     fn filled_by_section(&self, from: usize) -> usize
         requires { from ≤ length self.now.numbers }
@@ -72,7 +91,7 @@ impl<T: Counter> Counts<T> {
     }
 }
 
-/// The last place of a counter above 0; `sums` are the sums of the sections.
+/// Returns the index of the last nonzero counter; `sums` are the sums of the sections.
 fn last_place<T: Counter>(counters: &[T], sums: &[u128], section: usize) -> Option<usize>
     requires { AreSums section (map T.number counters.now) sums.now }
     ensures within { IfSome result (λ m. m < most_bins) }
@@ -89,7 +108,7 @@ fn last_place<T: Counter>(counters: &[T], sums: &[u128], section: usize) -> Opti
     None
 }
 
-/// The last place of a counter above 0; `most` is no less than their sum.
+/// Returns the index of the last nonzero counter; `most` is at least the sum of `counters`.
 pub(crate) fn last_of<T: Counter>(counters: &[T], most: u128) -> Option<usize>
     requires { sum (map T.number counters.now) ≤ most }
     ensures within { IfSome result (λ m. m < length counters.now) }
@@ -108,8 +127,8 @@ pub(crate) fn last_of<T: Counter>(counters: &[T], most: u128) -> Option<usize>
     None
 }
 
-/// The first place of a counter above 0; `most` is no less than their sum.
-pub(crate) fn first_of<T: Counter>(counters: &[T], most: u128) -> Option<usize>
+/// Returns the index of the first nonzero counter; `most` is at least the sum of `counters`.
+fn first_of<T: Counter>(counters: &[T], most: u128) -> Option<usize>
     requires { sum (map T.number counters.now) ≤ most }
     ensures within { IfSome result (λ m. m < length counters.now) }
     ensures place { MatchOption result (AreZeros (map T.number counters.now))
@@ -118,6 +137,16 @@ pub(crate) fn first_of<T: Counter>(counters: &[T], most: u128) -> Option<usize>
     if most == 0 {
         return None;
     }
+    first_nonzero(counters)
+}
+
+/// Returns the index of the first nonzero counter.
+#[inline]
+pub(crate) fn first_nonzero<T: Counter>(counters: &[T]) -> Option<usize>
+    ensures within { IfSome result (λ m. m < length counters.now) }
+    ensures place { MatchOption result (AreZeros (map T.number counters.now))
+        (IsFirstNonzero (map T.number counters.now)) }
+{
     for (i, counter) in counters.iter().enumerate() {
         if counter.as_u64() > 0 {
             return Some(i);

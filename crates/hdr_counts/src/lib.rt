@@ -1,4 +1,4 @@
-//! A list of counters in blocks of one length, with exact sums beside it.
+//! A list of counters in blocks of one length, with their exact sums.
 #![tactic(auto)]
 
 mod adding;
@@ -23,15 +23,16 @@ use std::marker::Model;
 
 /// Counters in blocks of one length, seen as that length and the list of their numbers.
 ///
-/// A sum is kept of each section of a block: of the whole block, or of equal parts of a long one. It takes the room of its
-/// counters, and 16 bytes a section. At most 6,291,456 counters are held, as many as the largest histogram has bins.
+/// The sum of each section is kept. A short block is one section, and a long one has several of one
+/// length. Each counter takes the memory of a `T`, and each section 16 bytes. There are at most
+/// 6,291,456 counters, as many as the largest histogram has bins.
 #[derive(Debug, Drop)]
 pub struct Counts<T: Counter> {
     counters: Vec<T>,
     /// The sum of each section.
     sums: Vec<u128>,
     block: usize,
-    /// The length of a section, and its exponent where it is a power of two.
+    /// The length of a section, and its binary exponent if it is a power of two.
     section: usize,
     shift: Option<u32>,
 }
@@ -48,7 +49,7 @@ impl<T: Counter> Model for Counts<T> {
 }
 
 impl<T: Counter> Counts<T> {
-    /// Counters of 0, `blocks` times `block` of them. Refused only when memory runs out.
+    /// Returns `blocks * block` counters of 0. Returns an error only if an allocation fails.
     pub fn new(alloc: Global, blocks: usize, block: usize) -> Result<Counts<T>, AllocError>
         requires some { 1 ≤ block }
         requires few { blocks * block ≤ most_bins }
@@ -71,7 +72,8 @@ impl<T: Counter> Counts<T> {
         })
     }
 
-    /// As many blocks as `blocks`, the new ones all zero. Refused only when memory runs out, and then unchanged.
+    /// Grows to `blocks` blocks; the new counters are 0. Returns an error only if an allocation
+    /// fails; `self` is then unchanged.
     pub fn grow(&mut self, blocks: usize) -> Result<(), AllocError>
         requires more { length self.old.numbers ≤ blocks * self.old.block }
         requires few { blocks * self.old.block ≤ most_bins }
@@ -89,8 +91,8 @@ impl<T: Counter> Counts<T> {
         self.counters.resize(len, T::zero())
     }
 
-    /// The same counters in memory of their own. Those from place `used` on are 0, and are not read. Refused only when
-    /// memory runs out.
+    /// Returns a copy of the counters. Those from index `used` on must be 0, and are not read.
+    /// Returns an error only if an allocation fails.
     pub fn copied(&self, used: usize) -> Result<Counts<T>, AllocError>
         requires within { used ≤ length self.now.numbers }
         requires rest { (i : ℕ) → used ≤ i → slice_index self.now.numbers i ≡ 0 }
@@ -116,7 +118,7 @@ impl<T: Counter> Counts<T> {
         *self.counters.allocator()
     }
 
-    /// How many counters there are.
+    /// The number of counters.
     pub fn len(&self) -> usize
         ensures value { result ≡ length self.now.numbers }
         ensures few { length self.now.numbers ≤ most_bins }
@@ -132,7 +134,7 @@ impl<T: Counter> Counts<T> {
         self.counters.as_slice()
     }
 
-    /// The counter at place `i`.
+    /// Returns the counter at index `i`.
     pub fn get(&self, i: usize) -> T
         requires { i < length self.now.numbers }
         ensures { T.number result ≡ slice_index self.now.numbers i }
@@ -140,7 +142,7 @@ impl<T: Counter> Counts<T> {
         self.counters[i]
     }
 
-    /// Puts `value` at place `i`.
+    /// Sets the counter at index `i` to `value`.
     pub fn set(&mut self, i: usize, value: T)
         requires { i < length self.old.numbers }
         ensures { self.new ≡ record {
@@ -156,8 +158,8 @@ impl<T: Counter> Counts<T> {
         self.counters[i] = value;
     }
 
-    /// Adds a number to the counter at place `i`. `None` exactly where the sum is above the greatest counter, and then
-    /// nothing is changed.
+    /// Adds `number` to the counter at index `i`. Returns `None` exactly if the sum is above
+    /// `T::max_value()`; `self` is then unchanged.
     pub fn try_add(&mut self, i: usize, number: u64) -> Option<()>
         requires { i < length self.old.numbers }
         ensures { MatchOption result ((T.greatest < slice_index self.old.numbers i + number)
@@ -177,7 +179,7 @@ impl<T: Counter> Counts<T> {
         Some(())
     }
 
-    /// Makes each counter 0. It looks at the sum of each section, and at the counters of those that hold something.
+    /// Sets each counter to 0. A section whose sum is 0 is skipped.
     pub fn clear(&mut self)
         ensures { self.new ≡ record {
           block = self.old.block;
@@ -188,7 +190,8 @@ impl<T: Counter> Counts<T> {
         clear_sections(&mut self.counters, &mut self.sums, self.section);
     }
 
-    /// The exact sum of the counters up to and including place `i`, by the sums of the sections before its own.
+    /// Returns the exact sum of the counters up to and including index `i`, by the sums of the
+    /// sections before its own.
     pub fn sum_to(&self, i: usize) -> u128
         requires { i < length self.now.numbers }
         ensures { result ≡ sum_below self.now.numbers (i + 1) }
@@ -201,9 +204,10 @@ impl<T: Counter> Counts<T> {
         total + self.sum_in_section(k, i)
     }
 
-    /// The first place where the running sum reaches `rank`. Ticks is counted for each block's sum up to that of the place's
-    /// block, and then for each counter of that block up to the place. Where no place reaches the rank, each block's sum was
-    /// looked at. A block's sum is added up from those of its sections, which is one look.
+    /// Returns the first index at which the running sum reaches `rank`, or `None` if there is none.
+    /// `ticks` grows by one for each block's sum that is read, up to that of the index's block. It
+    /// then grows by one for each counter of that block up to the index. For `None`, each block's
+    /// sum was read. A block's sum is added up from those of its sections, and costs one tick.
     pub fn find(&self, rank: u64, ticks: &mut Ticks) -> Option<usize>
         requires some { 1 ≤ rank }
         requires room { ticks.old ≤ 2 ^ 63 }
@@ -228,7 +232,7 @@ impl<T: Counter> Counts<T> {
         None
     }
 
-    /// The first place where the sum up to and including it reaches `rank`: the answer of `find`, without counting looks.
+    /// As `find`, without ticks: returns the first index at which the running sum reaches `rank`.
     pub fn first_reaching(&self, rank: u64) -> Option<usize>
         requires { 1 ≤ rank }
         ensures { MatchOption result (sum self.now.numbers < rank)
@@ -237,7 +241,7 @@ impl<T: Counter> Counts<T> {
         Search::new(self).first_reaching(rank)
     }
 
-    /// The sum of a section; `None` past the sections.
+    /// Returns the sum of section `k`, or `None` past the sections.
     fn section_sum(&self, k: usize) -> Option<u128>
         ensures sum { MatchOption result (length self.now.numbers ≤ k * section_of self.now.block)
             (λ s. (sum_below self.now.numbers (k * section_of self.now.block) + s ≡ sum_below self.now.numbers
@@ -252,7 +256,8 @@ impl<T: Counter> Counts<T> {
         }
     }
 
-    /// The place where the sum up to and including it reaches `rest` more than the sum before a section, in a section that does.
+    /// Returns the first index at which the running sum reaches `rest` more than the sum before
+    /// section `k`. It lies in that section.
     fn first_in_section(&self, k: usize, rest: u64) -> usize
         requires some { 1 ≤ rest }
         requires within { (k + 1) * section_of self.now.block ≤ length self.now.numbers }
@@ -272,8 +277,9 @@ impl<T: Counter> Counts<T> {
         }
     }
 
-    /// Adds the counters of a list of the same blocks place by place, as far as both have them, each sum up to the greatest
-    /// counter. A section that adds nothing is passed over.
+    /// Adds the counters of `source`, in blocks of the same length, element by element, as far as
+    /// both have them. Each counter saturates at `T::max_value()`. A section of `source` whose sum
+    /// is 0 is skipped.
     pub fn add_capped<F: Counter>(&mut self, source: &Counts<F>)
         requires { self.old.block ≡ source.now.block }
         ensures { self.new ≡ record {
@@ -291,7 +297,7 @@ impl<T: Counter> Counts<T> {
     }
 }
 
-/// The length of a block's sections.
+/// Returns the length of a block's sections.
 #[tactic(auto, unfolding(crate::specs::Blocks::section_of))]
 fn section_len(block: usize) -> usize
     requires { 1 ≤ block }
@@ -303,7 +309,7 @@ fn section_len(block: usize) -> usize
     part_len(block, 131_072, 4096, medium)
 }
 
-/// The length of a section, where a block is at least that long and can be parted so; else another length.
+/// Returns `section` if `block` is at least `least` and a multiple of it, or `otherwise` if not.
 #[tactic(auto, unfolding(crate::specs::Blocks::parted))]
 fn part_len(block: usize, least: usize, section: usize, otherwise: usize) -> usize
     requires { 1 ≤ section }
@@ -316,7 +322,7 @@ fn part_len(block: usize, least: usize, section: usize, otherwise: usize) -> usi
     }
 }
 
-/// How many sections so many blocks have.
+/// Returns the number of sections of `blocks` blocks.
 fn sections_in(blocks: usize, block: usize, section: usize) -> usize
     requires some { 1 ≤ block }
     requires section { section ≡ section_of block }
@@ -326,7 +332,7 @@ fn sections_in(blocks: usize, block: usize, section: usize) -> usize
     blocks * (block / section)
 }
 
-/// The exponent of a power of two, `None` for other numbers.
+/// Returns the exponent of a power of two, or `None` for any other number.
 fn exponent(n: usize) -> Option<u32>
     requires { 1 ≤ n }
     ensures { IsShift n result }
@@ -339,7 +345,7 @@ fn exponent(n: usize) -> Option<u32>
     }
 }
 
-/// A sum in which one number is exchanged for another.
+/// Returns `sum` with its number `old` replaced by `new`.
 fn exchanged(sum: u128, old: u64, new: u64) -> u128
     requires within { old ≤ sum }
     requires fits { sum + new < 2 ^ 128 }
@@ -352,7 +358,7 @@ fn exchanged(sum: u128, old: u64, new: u64) -> u128
     }
 }
 
-/// The quotient of a place and a section, by a shift where the section is a power of two.
+/// Returns `place / section`, by a shift if `section` is a power of two.
 fn quotient(place: usize, section: usize, shift: Option<u32>) -> usize
     requires some { 1 ≤ section }
     requires shift { IsShift section shift }
@@ -364,7 +370,7 @@ fn quotient(place: usize, section: usize, shift: Option<u32>) -> usize
     }
 }
 
-/// The quotient of a place and a section that is no power of two.
+/// Returns `place / section` by a division, if `section` isn't a power of two.
 #[cold]
 #[inline(never)]
 fn divided(place: usize, section: usize) -> usize

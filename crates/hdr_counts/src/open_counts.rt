@@ -1,41 +1,44 @@
 //! Counters that are being set.
 
-ghost use Rattle.std.specs.Prelude.{◌≡◌, ℕ, ◌+◌, ◌*◌, ◌<◌, ◌≤◌, ◌++◌, length, map, replicate, slice_index, slice_set, vec_capacity, All, IfOk, IfSome, MatchOption};
+ghost use Rattle.std.specs.Prelude.{◌≡◌, ℕ, ◌+◌, ◌*◌, ◌<◌, ◌≤◌, ◌++◌, length, map, replicate, slice_index, slice_set, vec_capacity, All, IfOk, IfSome, MatchOption, true, false};
 ghost use Rattle.hdr_base.specs.Classes.{most_bins};
 ghost use Rattle.hdr_counts.specs.Blocks.{with_zeros};
 
-use crate::ends::{first_of, last_of};
+use crate::ends::{first_nonzero, last_of};
 use crate::{Counts, exchanged, exponent, quotient, section_len, sections_in};
 use hdr_base::Counter;
 use std::alloc::{AllocError, Global};
 use std::marker::Model;
 
-/// How many counters are made 0 at once, beyond the section that comes to hand.
+/// The number of counters that are zero-filled at once, past the section that needs it.
 const PIECE: usize = 128;
 
 /// Counters that are being set, seen as `Counts` are.
 ///
-/// They have their room from the start, and are made 0 piece by piece as the places that are set come to them. Places
-/// that are set in order cost a store and an addition each: the section is found once.
+/// Their capacity is allocated at the start. They are zero-filled piece by piece, as counters at
+/// higher indices are set. Counters that are set in order cost a store and an addition each: the
+/// section is found once.
 #[derive(Debug, Drop)]
 pub struct OpenCounts<T: Counter> {
     /// The first counters; those after them are 0.
     counters: Vec<T>,
     sums: Vec<u128>,
-    /// The sum of the current section. The one in `sums` is from when it became current.
+    /// The sum of the current section. The one in `sums` is from when that section became current.
     sum: u128,
     block: usize,
     section: usize,
     shift: Option<u32>,
-    /// How many counters there are.
+    /// The number of counters.
     len: usize,
-    /// The section of the last of the places that were set.
+    /// The section of the highest index that was set, or 0.
     current: usize,
-    /// From here on all counters are 0.
+    /// All counters from this index on are 0.
     next: usize,
-    /// The end of the counters at hand that lie in the current section from `next` on, or no such place.
+    /// The indices from `next` to `end` lie in the current section and in `counters`. There are
+    /// none if `end` is at most `next`.
     end: usize,
-    /// Before here no counter but the first is above 0. It lies before the places from `next` to `end`.
+    /// All counters before this index but counter 0 are 0. It is at most `next` if `next` is below
+    /// `end`.
     first: usize,
 }
 
@@ -53,7 +56,7 @@ impl<T: Counter> Model for OpenCounts<T> {
 }
 
 impl<T: Counter> OpenCounts<T> {
-    /// Counters of 0, `blocks` times `block` of them. Refused only when memory runs out.
+    /// Returns `blocks * block` counters of 0. Returns an error only if an allocation fails.
     pub fn new(alloc: Global, blocks: usize, block: usize) -> Result<OpenCounts<T>, AllocError>
         requires some { 1 ≤ block }
         requires few { blocks * block ≤ most_bins }
@@ -80,7 +83,7 @@ impl<T: Counter> OpenCounts<T> {
         })
     }
 
-    /// The counters of a list, each made 0. It looks at the sum of each section, and at the counters of those that hold something.
+    /// Returns the counters of `counts`, each set to 0. A section whose sum is 0 is skipped.
     pub fn cleared(mut counts: Counts<T>) -> OpenCounts<T>
         ensures { result ≡ record {
           block = counts.block;
@@ -111,7 +114,7 @@ impl<T: Counter> OpenCounts<T> {
         }
     }
 
-    /// How many counters there are.
+    /// The number of counters.
     #[inline(always)]
     pub fn len(&self) -> usize
         ensures value { result ≡ length self.now.numbers }
@@ -120,7 +123,7 @@ impl<T: Counter> OpenCounts<T> {
         self.len
     }
 
-    /// Puts `value` at place `i`.
+    /// Sets the counter at index `i` to `value`.
     #[inline(always)]
     pub fn set(&mut self, i: usize, value: T)
         requires { i < length self.old.numbers }
@@ -139,23 +142,32 @@ impl<T: Counter> OpenCounts<T> {
         self.set_further(i, value);
     }
 
-    /// Puts a value at place `i` and another at the place after it.
+    /// Fast path: sets the counters at indices `i` and `i + 1`, if it can. Both must follow the
+    /// indices that were set, in the section of the last of them, which isn't index 0. Returns
+    /// whether it did; `self` is unchanged if not.
     #[inline(always)]
-    pub fn set_two(&mut self, i: usize, first: T, second: T)
-        requires { i + 1 < length self.old.numbers }
-        ensures { self.new ≡ record {
-          block = self.old.block;
-          numbers = slice_set
-              (slice_set self.old.numbers i (T.number first)) (i + 1) (T.number second);
-        } }
+    pub fn set_pair(&mut self, i: usize, first: T, second: T) -> bool
+        ensures set { result ≡ true → (i + 1 < length self.old.numbers)
+            × (self.new ≡ record {
+              block = self.old.block;
+              numbers = slice_set
+                  (slice_set self.old.numbers i (T.number first)) (i + 1) (T.number second);
+            }) }
+        ensures kept { result ≡ false → self.new ≡ self.old }
+        ensures few { length self.old.numbers ≤ most_bins }
     {
-        // Shows that the place after it fits a `usize`.
-        let _ = self.len();
+        if i < self.next || i >= self.end {
+            return false;
+        }
+        if i + 1 >= self.end {
+            return false;
+        }
         self.set(i, first);
         self.set(i + 1, second);
+        true
     }
 
-    /// Puts a value at a place of another section, or before one that was set.
+    /// Sets a counter outside the fast path: in another section, or at an index below `next`.
     #[inline(never)]
     fn set_further(&mut self, i: usize, value: T)
         requires { i < length self.old.numbers }
@@ -185,7 +197,7 @@ impl<T: Counter> OpenCounts<T> {
         self.end = end_after(i, end);
     }
 
-    /// The last place of a counter above 0.
+    /// Returns the index of the last nonzero counter.
     pub fn last_nonzero(&self) -> Option<usize>
         ensures within { IfSome result (λ m. m < most_bins) }
         ensures place { MatchOption result ((i : ℕ) → slice_index self.now.numbers i ≡ 0)
@@ -198,7 +210,7 @@ impl<T: Counter> OpenCounts<T> {
         }
     }
 
-    /// The first place after place 0 of a counter above 0.
+    /// Returns the index of the first nonzero counter after counter 0.
     pub fn next_nonzero(&self) -> Option<usize>
         ensures within { IfSome result (λ m. (0 < m) × (m < most_bins)) }
         ensures place { MatchOption result ((i : ℕ) → 0 < i → slice_index self.now.numbers i ≡ 0)
@@ -206,13 +218,13 @@ impl<T: Counter> OpenCounts<T> {
             × ((i : ℕ) → 0 < i → i < m → slice_index self.now.numbers i ≡ 0)) }
     {
         let from = self.first.min(self.next);
-        match first_of(&self.counters[from..self.next], u128::MAX) {
+        match first_nonzero(&self.counters[from..self.next]) {
             Some(place) => Some(from + place),
             None => None,
         }
     }
 
-    /// The counters with the sums of their sections.
+    /// Returns the counters with the sums of their sections.
     pub fn into_counts(self) -> Counts<T>
         ensures value { result ≡ self }
         ensures fit { All (λ n. n ≤ T.greatest) self.numbers }
@@ -242,7 +254,7 @@ impl<T: Counter> OpenCounts<T> {
     }
 }
 
-/// Puts the sum of a section in its place, where there is such a section.
+/// Stores the sum of section `k`, if there is such a section.
 fn keep_sum(sums: &mut Vec<u128>, k: usize, sum: u128)
     ensures { sums.new.items ≡ slice_set sums.old.items k sum }
 {
@@ -251,7 +263,7 @@ fn keep_sum(sums: &mut Vec<u128>, k: usize, sum: u128)
     }
 }
 
-/// The sum of a section, 0 where there is no such section.
+/// Returns the sum of section `k`, or 0 past the sections.
 fn sum_at(sums: &[u128], k: usize) -> u128
     ensures { result ≡ slice_index sums.now k }
 {
@@ -261,7 +273,7 @@ fn sum_at(sums: &[u128], k: usize) -> u128
     0
 }
 
-/// The lower of two places, but never the first of all.
+/// Returns the lower of `first` and `i`, or `first` if `i` is 0.
 fn lower(first: usize, i: usize) -> usize
     requires { 0 < first }
     ensures some { 0 < result }
@@ -274,7 +286,7 @@ fn lower(first: usize, i: usize) -> usize
     first.min(i)
 }
 
-/// The end of a section in which places follow place `i`; no such end where that is the first of all.
+/// Returns `end`, up to which the fast path is open after index `i` was set, or 0 if `i` is 0.
 fn end_after(i: usize, end: usize) -> usize
     ensures within { result ≤ end }
     ensures some { 0 < result → 0 < i }
@@ -285,7 +297,8 @@ fn end_after(i: usize, end: usize) -> usize
     end
 }
 
-/// Has the counters before a place at hand, with zeros after those that were, and some more.
+/// Zero-fills `counters` up to index `end`, and up to `PIECE` further, within `len`. Does nothing
+/// if they are that long.
 fn cover<T: Counter>(counters: &mut Vec<T>, end: usize, len: usize)
     requires inside { end ≤ len }
     requires few { len ≤ most_bins }
@@ -302,7 +315,7 @@ fn cover<T: Counter>(counters: &mut Vec<T>, end: usize, len: usize)
     }
 }
 
-/// Adds zeros up to a length that there is room for.
+/// Zero-fills `counters` to the length `len`, which is within the capacity.
 fn fill_up<T: Counter>(counters: &mut Vec<T>, len: usize)
     requires within { length counters.old.items ≤ len }
     requires room { len ≤ vec_capacity counters.old }

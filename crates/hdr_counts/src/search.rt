@@ -1,4 +1,4 @@
-//! The first place where counters reach a rank.
+//! The first index at which a running sum reaches a rank.
 
 ghost use Rattle.std.specs.Prelude.{◌≡◌, ℕ, ◌+◌, ◌-◌, ◌*◌, ◌^◌, ◌<◌, ◌≤◌, length, take, drop, map, sum, MatchOption};
 ghost use Rattle.hdr_base.specs.Classes.{most_bins};
@@ -9,11 +9,12 @@ use crate::adding::short_sum;
 use hdr_base::{Counter, Ticks};
 use std::marker::Model;
 
-/// A search for ranks that do not fall: each goes on from the section where the one before was found.
+/// A search for ranks in ascending order. Each rank is searched from the section where the one
+/// before was found.
 #[derive(Debug, Drop)]
 pub struct Search<'a, T: Counter> {
     counts: &'a Counts<T>,
-    /// The section that is looked at next, and the sum of those before it.
+    /// The section that is read next, and the sum of those before it.
     section: usize,
     before: u64,
 }
@@ -31,7 +32,7 @@ impl<'a, T: Counter> Model for Search<'a, T> {
 }
 
 impl<'a, T: Counter> Search<'a, T> {
-    /// A search from the first counter on.
+    /// Returns a search from the first counter on.
     pub fn new(counts: &'a Counts<T>) -> Search<'a, T>
         ensures { result ≡ record { numbers = counts.now.numbers; passed = 0 } }
     {
@@ -42,7 +43,8 @@ impl<'a, T: Counter> Search<'a, T> {
         }
     }
 
-    /// The first place where the sum up to and including it reaches `rank`, which is above the sum that was passed over.
+    /// Returns the first index at which the running sum reaches `rank`, or `None` if there is none.
+    /// `rank` is above the sum of the sections that were skipped.
     pub fn first_reaching(&mut self, rank: u64) -> Option<usize>
         requires { self.old.passed < rank }
         ensures numbers { self.new.numbers ≡ self.old.numbers }
@@ -51,22 +53,27 @@ impl<'a, T: Counter> Search<'a, T> {
             (IsFirstToReach self.old.numbers rank) }
     {
         let counts = self.counts;
-        while let Some(sum) = counts.section_sum(self.section) {
-            let rest = rank - self.before;
+        let mut section = self.section;
+        let mut rest = rank - self.before;
+        while let Some(sum) = counts.section_sum(section) {
             if sum >= u128::from(rest) {
-                return Some(counts.first_in_section(self.section, rest));
+                self.section = section;
+                self.before = rank - rest;
+                return Some(counts.first_in_section(section, rest));
             }
-            self.before += sum as u64;
-            self.section += 1;
+            rest -= sum as u64;
+            section += 1;
         }
+        self.section = section;
+        self.before = rank - rest;
         None
     }
 }
 
-/// How many counters are added up at once.
+/// The number of counters that are added up at once.
 const FEW: usize = 64;
 
-/// Reads the sum of a block, which is that of the sums of its sections, and counts that as a look.
+/// Returns the sum of a block, which is that of the sums of its sections, and counts one tick.
 pub(crate) fn look_block(sums: &[u128], ticks: &mut Ticks) -> u128
     requires fits { sum sums.now < 2 ^ 128 }
     requires room { ticks.old < 2 ^ 64 - 1 }
@@ -77,7 +84,7 @@ pub(crate) fn look_block(sums: &[u128], ticks: &mut Ticks) -> u128
     sum_of_sums(sums)
 }
 
-/// Reads the number of a counter, and counts that as a look.
+/// Returns the number of a counter, and counts one tick.
 fn look_counter<T: Counter>(counter: &T, ticks: &mut Ticks) -> u64
     requires { ticks.old < 2 ^ 64 - 1 }
     ensures value { result ≡ T.number counter.now }
@@ -87,7 +94,7 @@ fn look_counter<T: Counter>(counter: &T, ticks: &mut Ticks) -> u64
     counter.as_u64()
 }
 
-/// The sum of the sums of several sections.
+/// Returns the sum of the sums of several sections.
 fn sum_of_sums(sums: &[u128]) -> u128
     requires { sum sums.now < 2 ^ 128 }
     ensures { result ≡ sum sums.now }
@@ -99,7 +106,8 @@ fn sum_of_sums(sums: &[u128]) -> u128
     total
 }
 
-/// The first place where the sum up to and including it reaches `rest`, with a look at each counter on the way.
+/// Returns the first index at which the running sum reaches `rest`, or `None` if there is none.
+/// Counts one tick for each counter that is read.
 pub(crate) fn first_reaching_looked<T: Counter>(
     counters: &[T],
     mut rest: u64,
@@ -122,8 +130,8 @@ pub(crate) fn first_reaching_looked<T: Counter>(
     None
 }
 
-/// The first place where the sum up to and including it reaches `rest`; `whole` is the sum of all. Where that fits a `u64`,
-/// a few counters are added up at once.
+/// Returns the first index at which the running sum reaches `rest`, or `None` if there is none.
+/// `whole` is the sum of all counters. If it fits a `u64`, `FEW` counters are added up at once.
 pub(crate) fn first_reaching<T: Counter>(counters: &[T], rest: u64, whole: u128) -> Option<usize>
     requires some { 1 ≤ rest }
     requires few { length counters.now ≤ most_bins }

@@ -9,7 +9,8 @@ use crate::adding::{short_sum, sum_of};
 use hdr_base::Counter;
 
 impl<T: Counter> Counts<T> {
-    /// The exact sum of section `k` up to and including place `i`, by the counters of the nearer end.
+    /// Returns the exact sum of the counters of section `k` up to and including index `i`. It reads
+    /// those at the nearer end of the section.
     pub(crate) fn sum_in_section(&self, k: usize, i: usize) -> u128
         requires from { k * section_of self.now.block ≤ i }
         requires before { i < (k + 1) * section_of self.now.block }
@@ -26,7 +27,7 @@ impl<T: Counter> Counts<T> {
     }
 }
 
-/// The sum of a part of a section, in 64 bits where the sum of the whole section fits them.
+/// Returns the sum of `part`, in 64 bits if `whole` fits them. `whole` is at least that sum.
 pub(crate) fn part_sum<T: Counter>(part: &[T], whole: u128) -> u128
     requires few { length part.now ≤ most_bins }
     requires within { sum (map T.number part.now) ≤ whole }

@@ -8,7 +8,7 @@ use Rattle.hdr_model.specs.Joining.{joined_samples}
 use Rattle.hdrhistogram.specs.FieldRead.{IsHeldIn}
 use Rattle.hdr_gather.specs.Sums.{IsJoined, IsGrowing, IsSumOf}
 
--- growing is no matter of samples
+-- growing does not change the samples
 pub stands_growing : (h : Plain) (S : List ℕ) → StandsFor h S → StandsFor (record h { auto_resize = true }) S
 unfolding reach
 stands_growing h S s = record { numbers = s.numbers; within = s.within; total = s.total }

@@ -81,7 +81,7 @@ fn gathered(alloc: Global, input: &[u8]) -> Result<Vec<u8>> {
     Ok(output)
 }
 
-/// Whether the command line has words after the program's name.
+/// Whether the command line has arguments after the program's name.
 fn has_words(rt: &HostRuntime) -> Result<bool> {
     match env::args(rt) {
         Ok(words) => Ok(words.len() > 1),

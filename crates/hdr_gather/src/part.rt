@@ -20,7 +20,7 @@ pub(crate) struct Part<'a> {
     pub duration: Duration,
     /// The bytes of its histogram, in Base64.
     pub field: &'a str,
-    /// Its place among the intervals of the input, from 1.
+    /// Its number among the intervals of the input, from 1.
     pub place: u64,
 }
 
@@ -31,7 +31,7 @@ impl<'a> Part<'a> {
     }
 }
 
-/// A time after a base time, to the nearest millisecond; `None` where that does not fit 64 bits.
+/// Returns a time after a base time, to the nearest millisecond, or `None` if that does not fit 64 bits.
 fn milliseconds(base: Duration, start: Duration) -> Option<u64>
     ensures { IfSome result (λ ms. ms ≡ nearest_millisecond (as_nanos base + as_nanos start)) }
 {
@@ -39,7 +39,7 @@ fn milliseconds(base: Duration, start: Duration) -> Option<u64>
     u64::try_from((nanos + 500_000) / 1_000_000).ok()
 }
 
-/// An interval with this base time and place.
+/// Returns an interval with this base time and number.
 fn part_of<'a>(
     base: Duration,
     place: u64,
@@ -78,7 +78,7 @@ pub(crate) fn parts_of(alloc: Global, log: &[u8]) -> Result<Vec<Part<'_>>> {
     Ok(parts)
 }
 
-/// Puts intervals in ascending order of time, and then of tag. Those of one key stay in their order.
+/// Sorts intervals by time and then by tag, ascending. The sort is stable.
 pub(crate) fn in_order(parts: &mut Vec<Part<'_>>) -> Result<(), AllocError> {
     parts.sort_by_key(|part| part.key())
 }

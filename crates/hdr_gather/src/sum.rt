@@ -26,8 +26,8 @@ fn histogram_of(deserializer: &mut Deserializer, part: &Part<'_>) -> Result<Hist
     }
 }
 
-/// The histogram of the samples of both, by the coarser classes. Two are refused where the classes of neither lie in those of
-/// the other: `place` is that of the interval that the other was read from.
+/// Returns the histogram of the samples of both, by the coarser classes. It is an error if the classes of neither lie in those of
+/// the other; `place` is the number of the interval that `other` was read from.
 fn joined(mut one: Histogram<u64>, mut other: Histogram<u64>, place: u64) -> Result<Histogram<u64>>
     ensures { IfOk result (IsJoined one other) }
 {

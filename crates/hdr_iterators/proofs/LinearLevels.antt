@@ -92,7 +92,7 @@ count_below h s e = ap (λ b. max (first_end h s + 1) (cond b ((2 ^ 64 - 1) / s 
 ne-eqb : (a b : ℕ) → a ≢ b → eqb a b ≡ false
 ne-eqb a b n = ⊎_elim (λ (y : (eqb a b ≡ true) × (a ≡ b)). absurd (n y.1)) (λ (y : (eqb a b ≡ false) × (a ≢ b)). y.0) (eqb_tells a b)
 
--- at the end, a level is the last one exactly where the count says so
+-- at the end, a level is the last one if and only if the count says so
 pub verdict : (h : Seen) (s j v next : ℕ) → AreBins h → 1 ≤ s → first_end h s ≤ j → v ≡ linear_level s j → next ≡ min (v + s) (2 ^ 64 - 1)
     → ((is_last_level v next (Some (linear_end h s)) ≡ true) × (linear_count h s ≤ j + 1)) ⊎ ((is_last_level v next (Some (linear_end h s)) ≡ false) × (j + 1 < linear_count h s))
 verdict h s j v next p q b e n =
@@ -144,7 +144,7 @@ verdict h s j v next p q b e n =
 level_fits : (s v : ℕ) → v ≡ linear_level s (v / s) → v ≤ (2 ^ 64 - 1)
 level_fits s v e = omega (arith, e)
 
--- what the next level is, also where the (2 ^ 64 - 1) number was reached
+-- the next level, also if the (2 ^ 64 - 1) number was reached
 next_level_is : (s v next : ℕ) → 1 ≤ s → v ≡ linear_level s (v / s) → next ≡ min (v + s) (2 ^ 64 - 1) → next ≡ linear_level s (next / s)
 next_level_is s v next p e n =
     ⊎_elim
@@ -240,7 +240,7 @@ levels_behind h s v i end false w l =
     let e = ap (place_of h) w.level_is in
     levels_ahead h s (v / s) (linear_count h s - v / s) (i + 1) w.plain (omega (arith, e, l))
 
--- the next level is at the bin that is asked
+-- the next level is at the current bin
 pub next_here : (h : Seen) (s v i : ℕ) (end : Option ℕ) → LinearStep h s v end false → place_of h v ≤ i → NoneBefore i (levels_from h s (v / s)) → (i ≡ place_of h v) × (levels_from h s (v / s) ≡ level_pick h v ∷ levels_from h s (v / s + 1))
 next_here h s v i end w l a =
     let more = levels_more h s (v / s) (w.going refl).0 in

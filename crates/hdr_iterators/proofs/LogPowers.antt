@@ -151,7 +151,7 @@ LogStep-next h p b next w e =
     let m : p * 2 ≤ p * b = mul-le-mul_left p w.wide in
     record { plain = w.plain; some = omega (arith, m, e, w.some); fits = omega (arith, e); wide = w.wide }
 
--- the next level is at the bin that is asked, and the rest comes of the next power
+-- the next level is at the current bin, and the rest comes of the next power
 pub log_step : (h : Seen) (p b i next : ℕ) (done : Bool) → LogStep h p b → place_of h (p - 1) ≤ i → NoneBefore i (log_picks h p b) → next ≡ min (p * b) (2 ^ 64 - 1)
     → ((done ≡ true) × (h.last ≤ i)) ⊎ ((done ≡ false) × (i < h.last))
     → (i ≡ place_of h (p - 1)) × (log_picks h p b ≡ level_pick h (p - 1) ∷ cond done [] (log_picks h next b))

@@ -60,7 +60,7 @@ NoneBefore-passed h i j (p ∷ ps) f e a = (
   NoneBefore-passed h i j ps f.1 e a.1,
 )
 
--- no pick came, and a later bin is asked, with none but empty ones in between
+-- no pick came, and a later bin follows, with none but empty ones in between
 pub InStep-passed : (h : Seen) (ps : List Pick) (i j total since old count total' since' : ℕ) (last : Option ℕ) → InStep h ps i total since old last → i < j → j < bins_in h → AreEmpty h.numbers (i + 1) j → NoneBefore j ps → count ≡ get_or h.numbers j 0
     → total' ≡ min (total + count) (2 ^ 64 - 1) → since' ≡ min (since + count) (2 ^ 64 - 1) → InStep h ps j total' since' count last
 InStep-passed h ps i j total since old count total' since' last s m l e a c t u =

@@ -15,7 +15,7 @@ range_ahead : (a n m : ℕ) → m ≤ a → NoneBefore m (map bin_pick (range_wi
 range_ahead a zero m l = tt
 range_ahead a (suc n) m l = (l, range_ahead (a + 1) n m (omega (arith, l)))
 
--- a range that begins at i and isn't empty
+-- a range that starts at i and isn't empty
 range_more : (a n : ℕ) → 0 < n → range_with_len a n ≡ a ∷ range_with_len (a + 1) (n - 1)
 range_more a zero l = absurd (omega (arith, l))
 range_more a (suc n) l = ap (λ k. a ∷ range_with_len (a + 1) k) (omega arith)
@@ -42,7 +42,7 @@ not_first p a n i lt h =
     (λ (no : p a ≡ false). no)
     (cases_Bool (p a))
 
--- where no bin from a up to i is kept, the range may begin at i
+-- if no bin from a up to i is kept, the range may start at i
 kept_skip : (p : ℕ → Bool) (a n i : ℕ) → a ≤ i → i ≤ a + n → NoneBefore i (map bin_pick (filter p (range_with_len a n))) → filter p (range_with_len a n) ≡ filter p (range_with_len i (a + n - i))
 kept_skip p a zero i l m h =
     let e : 0 ≡ a + 0 - i = omega arith in
@@ -90,7 +90,7 @@ all_past h v i e = range_ahead (bin_after v) (bins_in h - bin_after v) (i + 1) (
 pub recorded_past : (h : Seen) (v : Option ℕ) (i : ℕ) → option_eq eqb v (Some i) ≡ true → NoneBefore (i + 1) (map bin_pick (filter (is_nonempty h) (bins_from h (bin_after v))))
 recorded_past h v i e = kept_ahead (is_nonempty h) (bin_after v) (bins_in h - bin_after v) (i + 1) (omega (arith, same_place v i e))
 
--- the picks of a range that begins at k are at k first
+-- the picks of a range that starts at k are at k first
 begins : (k n i : ℕ) → k ≤ i → 0 < n → NoneBefore i (map bin_pick (range_with_len k n)) → k ≡ i
 begins k n i l m h =
     let q : NoneBefore i (map bin_pick (k ∷ range_with_len (k + 1) (n - 1))) = subst (λ z. NoneBefore i (map bin_pick z)) (range_more k n m) h in
@@ -103,7 +103,7 @@ all_next h v i l m e a =
     let n_is : bins_in h - i - 1 ≡ bins_in h - (i + 1) = omega arith in
     ap (λ k. map bin_pick (bins_from h k)) at ∙ (ap (map bin_pick) (range_more i (bins_in h - i) (omega arith)) ∙ ap (λ k. bin_pick i ∷ map bin_pick (range_with_len (i + 1) k)) n_is)
 
--- the kept bins from k on, by those from i on, where none before i is kept
+-- the kept bins from k on, by those from i on, if none before i is kept
 from_there : (h : Seen) (k i : ℕ) → k ≤ i → i < bins_in h → NoneBefore i (map bin_pick (filter (is_nonempty h) (bins_from h k))) → filter (is_nonempty h) (bins_from h k) ≡ filter (is_nonempty h) (i ∷ bins_from h (i + 1))
 from_there h k i l m a =
     let skip = kept_skip (is_nonempty h) k (bins_in h - k) i l (omega arith) a in

@@ -10,7 +10,7 @@ use Rattle.hdr_iterators.proofs.LinearLevels.{div_is}
 use Rattle.hdr_iterators.proofs.TicksTests.{tick_test, few_halvings, cross}
 use Rattle.hdr_iterators.proofs.TicksFronts.{IsFront, count_past, count_upto, count_le}
 
--- how many ticks of its half the whole has
+-- the number of ticks in all, if each half had as many as this one
 pub whole_of : (t q : ℕ) → t * 2 ^ (q + 1) ≡ t * (2 * 2 ^ q)
 whole_of t q =
     let u : q + 1 ≡ suc q = omega arith in
@@ -107,7 +107,7 @@ within_test t r n k d w l m e f =
     (cases_Bool (leb ((w - d) * n) (r * w))))
     (cases_Bool (leb (n - r) (d * n / w)))
 
--- what is left after a tick is within the whole
+-- the distance from a tick to 1 is at most 1
 pub left_within : (w d n : ℕ) → 1 ≤ w → d ≤ w → d * n / w ≤ n
 left_within w d n l m =
     let a : d * n ≤ w * n = mul-le-mul_right n m in
@@ -153,7 +153,7 @@ within_few t r n k l m fit e =
     let top : (k / t + 1) * t ≤ 64 * t = mul-le-mul_right t (omega (arith, half)) in
     omega (arith, top, at, fits)
 
--- so the count of these tells which they are
+-- so the count of these determines them
 pub within_counted : (t r n k : ℕ) → 1 ≤ t → r < n → n < 2 ^ 64 → is_within t r n k ≡ true → k < ticks_within t r n
 within_counted t r n k l m fit e =
     let c : k < 0 + ticks_within t r n = count_past (is_within t r n) (within_front t r n l) (64 * t) 0 k (omega arith) (omega (arith, within_few t r n k l m fit e)) e in
@@ -172,7 +172,7 @@ ticks-le t r s n l = count_le (is_within t r n) (is_within t s n)
     le-leb ((tick_of t k).num * n) (s * (tick_of t k).den) (omega (arith, a, b)))
     (64 * t) 0
 
--- the parts of a whole fit 128 bits
+-- the denominator of a tick fits 128 bits
 pub whole_fits : (t h : ℕ) → t < 2 ^ 32 → h ≤ 64 → t * 2 ^ (h + 1) < 2 ^ 128
 whole_fits t h l m =
     let n : h + 1 ≤ 65 = omega (arith, m) in

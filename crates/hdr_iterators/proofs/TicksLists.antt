@@ -157,7 +157,7 @@ drop_past (p ∷ ps) qs (suc k) l =
     let e : k - length ps ≡ suc k - suc (length ps) = omega arith in
     drop_past ps qs k (omega (arith, l)) ∙ ap (λ n. drop n qs) e
 
--- where none is before i, all that are were given
+-- if none is before i, all of them were given
 reached : (i k : ℕ) (ps qs : List Pick) → AllBefore i ps → NoneBefore i (drop k (ps ++ qs)) → length ps ≤ k
 reached i k [] qs a b = omega arith
 reached i zero (p ∷ ps) qs a b = absurd (omega (arith, a.0, b.0))
@@ -226,7 +226,7 @@ own_end h t b l m n =
     ap (λ c. cond c (ticks_at h t b) []) (ticked_yes h b l m)
     ∙ ap (λ c. cond c (map (λ k. tick_pick b (tick_of t k)) (range_with_len (ticks_before h t b) (ticks_within t (running h b) h.total - ticks_before h t b))) (tick_pick b (tick_of t (ticks_before h t b)) ∷ tick_pick b all_of_them ∷ [])) (le-ltb (running h b) h.total n)
 
--- so many were given before a bin
+-- the number of ticks given before a bin
 pub given_before : (h : Seen) (t i : ℕ) → i ≤ bins_in h → (i ≡ 0) ⊎ (capped (below h i) < h.total) → length (ticked_in h t 0 i) ≡ ticks_before h t i
 given_before h t zero l o = refl
 given_before h t (suc i) l o =
@@ -263,7 +263,7 @@ all_given h t i k l m =
     subst (NoneBefore (i + 1)) (sym (ap (drop k) (picks_split h t (i + 1) on) ∙ drop_past (ticked_in h t 0 (i + 1)) (ticked_in h t (i + 1) (bins_in h - (i + 1))) k m))
     (drop_ahead (i + 1) (k - length (ticked_in h t 0 (i + 1))) (ticked_in h t (i + 1) (bins_in h - (i + 1))) (ticked_ahead h t (i + 1) (bins_in h - (i + 1)) (i + 1) (omega arith)))
 
--- what was given, where no pick to come is before a bin
+-- what was given, if no pick to come is before a bin
 pub given_there : (h : Seen) (t i k : ℕ) → i < bins_in h → NoneBefore i (drop k (quantile_picks h t)) → length (ticked_in h t 0 i) ≤ k
 given_there h t i k l a =
     reached i k (ticked_in h t 0 i) (ticked_in h t i (bins_in h - i)) (ticked_within h t 0 i i (omega arith)) (subst (λ ps. NoneBefore i (drop k ps)) (picks_split h t i (omega (arith, l))) a)

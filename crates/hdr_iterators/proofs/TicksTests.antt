@@ -18,7 +18,7 @@ cross a r d e h = omega (arith, h)
 cross_back : (a r d e : ℕ) → a * (d + e) ≤ d * (a + r) → e * (a + r) ≤ r * (d + e)
 cross_back a r d e h = omega (arith, h)
 
--- the tick (whole - d) / whole is at most r / n exactly where n - r is at most floor(d * n / whole)
+-- the tick `(whole - d) / whole` is at most r / n if and only if n - r is at most `floor(d * n / whole)`
 pub tick_test : (whole d n r : ℕ) → 1 ≤ whole → d ≤ whole → r ≤ n → ((whole - d) * n ≤ r * whole) ↔ (n - r ≤ d * n / whole)
 tick_test whole d n r p l m =
     let n_is : n - r + r ≡ n = omega arith in

@@ -1,4 +1,4 @@
--- Where the picker of levels at equal steps stands. (The fields of the Rust crate's `linear::Iter`, as an invariant.)
+-- The state of the picker of levels at equal steps. (The fields of the Rust crate's `linear::Iter`, as an invariant.)
 use Rattle.std.specs.Prelude.{◌≡◌, ℕ, ◌-◌, ◌/◌, ◌^◌, ◌<◌, ◌≤◌, ◌==◌, List, map, Option, Some, None, Bool, false, ◌||◌, nat_lt, if◌then◌else◌, MatchOption}
 use Rattle.std.specs.List.{range_with_len}
 use Rattle.hdr_iterators.specs.Seen.{Seen, AreBins, top_in, lowest_in}

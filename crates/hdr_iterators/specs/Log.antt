@@ -1,4 +1,4 @@
--- Where the picker of levels at powers stands. (The fields of the Rust crate's `log::Iter`, as an invariant.)
+-- The state of the picker of levels at powers. (The fields of the Rust crate's `log::Iter`, as an invariant.)
 use Rattle.std.specs.Prelude.{ℕ, ◌-◌, ◌^◌, ◌≤◌}
 use Rattle.hdr_iterators.specs.Seen.{Seen, AreBins}
 

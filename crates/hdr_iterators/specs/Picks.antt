@@ -1,5 +1,5 @@
--- What an iterator over a histogram gives: picks of bins, and the items that they make. (`PickMetadata` and
--- `IterationValue`; the Rust crate's `HistogramIterator` tells of them step by step, here they are lists.)
+-- What an iterator over a histogram yields: picks of bins, and the items that are made of them. (`PickMetadata` and
+-- `IterationValue`. The Rust crate's `HistogramIterator` yields them step by step; here they are lists.)
 use Rattle.std.specs.Prelude.{◌≡◌, ℕ, ◌+◌, ◌-◌, ◌<◌, ◌≤◌, List, [], ◌∷◌, slice_index, Option, Some, None, unwrap_or}
 use Rattle.hdr_base.specs.Fractions.{Ratio}
 use Rattle.hdr_base.specs.Items.{Item}
@@ -11,12 +11,12 @@ pub record Pick : Type 0 where
   pub tick : Option Ratio
   pub level : Option ℕ
 
--- what a picker tells of its pick beside the bin (`PickMetadata`)
+-- what a picker returns with the bin that it picks (`PickMetadata`)
 pub record Told : Type 0 where
   pub tick : Option Ratio
   pub level : Option ℕ
 
--- the share of the samples up to a bin
+-- the quantile of a bin: the fraction of all samples that lie in bins up to it
 abbrev pub share_at : Seen → ℕ → Ratio
 share_at h i = record { num = running h i; den = h.total }
 
@@ -72,14 +72,14 @@ bin_after (Some i) = i + 1
 abbrev pub IsAtEnd : Seen → Option ℕ → Type 0
 IsAtEnd h last = h.last < bin_after last
 
--- what is asked at a bin is its number and the capped sum up to it, and no bin after it was picked
+-- what the picker gets at a bin is its number and the capped sum up to it, and no bin after it was picked
 pub record IsAsked (h : Seen) (last : Option ℕ) (index total count : ℕ) : Type 0 where
   pub in_order : bin_after last ≤ index + 1
   pub inside : index < bins_in h
   pub total_is : total ≡ running h index
   pub count_is : count ≡ slice_index h.numbers index
 
--- where an iterator stands: the picks to come, the bin that it asks, and the capped sums up to it
+-- the state of an iterator: the picks to come, the current bin, and the capped sums up to it
 pub record InStep (h : Seen) (picks : List Pick) (index total since count : ℕ) (last : Option ℕ) : Type 0 where
   pub ahead : NoneBefore index picks
   pub within : AllBefore (bins_in h) picks

@@ -27,7 +27,7 @@ recorded_picks h = map bin_pick (filter (is_nonempty h) (bins_from h 0))
 abbrev pub level_pick : Seen → ℕ → Pick
 level_pick h v = record { place = place_of h v; tick = None; level = Some v }
 
--- level number j of a step: the last value of the step, or `u64::MAX` where that is above it
+-- level number j of a step: the last value of the step, or `u64::MAX` if that is above it
 abbrev pub linear_level : ℕ → ℕ → ℕ
 linear_level step j = capped ((j + 1) * step - 1)
 
@@ -49,7 +49,7 @@ linear_count h step =
 abbrev pub linear_picks : Seen → ℕ → List Pick
 linear_picks h step = map (λ j. level_pick h (linear_level step j)) (range_with_len 0 (linear_count h step))
 
--- level number j of a power: the start times the base so often, or `u64::MAX` where that is above it, less 1
+-- level number j of a power: start * base ^ j, or `u64::MAX` if that is above it, less 1
 abbrev pub log_level : ℕ → ℕ → ℕ → ℕ
 log_level start base j = capped (start * base ^ j) - 1
 
@@ -60,7 +60,7 @@ log_count h start base = count_by (λ j. nat_lt (log_level start base j) (lowest
 abbrev pub log_picks : Seen → ℕ → ℕ → List Pick
 log_picks h start base = map (λ j. level_pick h (log_level start base j)) (range_with_len 0 (log_count h start base))
 
--- tick number k, of t to each half of the distance to the whole
+-- tick number k, of t to each half of the distance to 1
 abbrev pub tick_of : ℕ → ℕ → Ratio
 tick_of t k =
     let whole : ℕ = t * 2 ^ (k / t + 1) in
@@ -74,7 +74,7 @@ is_within t r n k = nat_le ((tick_of t k).num * n) (r * (tick_of t k).den)
 abbrev pub ticks_within : ℕ → ℕ → ℕ → ℕ
 ticks_within t r n = count_by (is_within t r n) (range_with_len 0 (64 * t))
 
--- the ticks given before bin b: those at most the running count before it, and none where that is 0
+-- the ticks given before bin b: those at most the running count before it, and none if that is 0
 abbrev pub ticks_before : Seen → ℕ → ℕ → ℕ
 ticks_before h t b = if below h b == 0 then 0 else ticks_within t (capped (below h b)) h.total
 
@@ -85,7 +85,7 @@ tick_pick b q = record { place = b; tick = Some q; level = None }
 abbrev pub all_of_them : Ratio
 all_of_them = record { num = 1; den = 1 }
 
--- the ticks at bin b: those not yet given and at most the running count; where that is the total, the next one and then 1
+-- the ticks at bin b: those not yet given and at most the running count; if that is the total, the next one and then 1
 abbrev pub ticks_at : Seen → ℕ → ℕ → List Pick
 ticks_at h t b =
     if nat_lt (running h b) h.total

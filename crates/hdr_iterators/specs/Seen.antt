@@ -1,16 +1,16 @@
--- A histogram as its iterators see it. (The Rust crate's iterators hold the histogram itself; these stand below it.)
+-- A histogram as its iterators see it. (The Rust crate's iterators hold the histogram itself; this crate is below it.)
 use Rattle.std.specs.Prelude.{◌≡◌, ℕ, ◌+◌, ◌-◌, ◌^◌, ◌<◌, ◌≤◌, min, List, length, take, sum, slice_index}
 use Rattle.hdr_base.specs.Classes.{most_bins, Grain, bin_of, value_of, top_of}
 
 -- the classes, the number of each bin, how many samples there are, and the bin of the greatest value that counts as
--- recorded: the first where there is none
+-- recorded: the first if there is none
 pub record Seen : Type 0 where
   pub grain : Grain
   pub numbers : List ℕ
   pub total : ℕ
   pub last : ℕ
 
--- a number, or `u64::MAX` where it is above that
+-- a number, saturating at `u64::MAX`
 abbrev pub capped : ℕ → ℕ
 capped n = min n (2 ^ 64 - 1)
 
@@ -24,7 +24,7 @@ lowest_in h i = value_of h.grain i
 abbrev pub top_in : Seen → ℕ → ℕ
 top_in h i = top_of h.grain (value_of h.grain i)
 
--- the bin of a value, or the last bin where the value lies past the bins
+-- the bin of a value, or the last bin if the value lies past the bins
 abbrev pub place_of : Seen → ℕ → ℕ
 place_of h v = min (bin_of h.grain v) (bins_in h - 1)
 

@@ -1,10 +1,10 @@
--- Where the picker of ticks stands. (The fields of the Rust crate's `quantile::Iter`, there in floating point.)
+-- The state of the picker of ticks. (The fields of the Rust crate's `quantile::Iter`, there in floating point.)
 use Rattle.std.specs.Prelude.{◌≡◌, ℕ, ◌+◌, ◌<◌, ◌≤◌, [], ◌∷◌, drop, slice_index, Option, MatchOption, Bool, true, false, nat_le, if◌then◌else◌, ◌⊎◌}
 use Rattle.hdr_iterators.specs.Seen.{Seen, AreBins, capped, below}
 use Rattle.hdr_iterators.specs.Picks.{bin_after}
 use Rattle.hdr_iterators.specs.Places.{quantile_picks, ticks_before, is_within, tick_pick, all_of_them}
 
--- the tick of a number, of so many to each half of the distance
+-- a tick by its index, and the number of ticks in each half of the distance to 1
 pub record Ticked : Type 0 where
   pub per_half : ℕ
   pub number : ℕ

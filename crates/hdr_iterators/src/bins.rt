@@ -7,7 +7,7 @@ use hdr_base::{Counter, Scale};
 use hdr_counts::Counts;
 use std::marker::Model;
 
-/// What has bins: a histogram.
+/// A type with bins: a histogram.
 pub trait Binned<T: Counter> {
     /// The bins, as numbers.
     ghost seen: { Self → Seen };
@@ -18,7 +18,7 @@ pub trait Binned<T: Counter> {
         ensures plain { AreBins result };
 }
 
-/// The classes of values, a counter for each, how many samples there are, and the last bin that counts as recorded.
+/// The classes of values, a counter for each, the number of samples, and the last bin that counts as recorded.
 #[derive(Debug, Drop)]
 pub struct Bins<'a, T: Counter> {
     scale: Scale,
@@ -62,7 +62,7 @@ impl<'a, T: Counter> Bins<'a, T> {
         }
     }
 
-    /// The same bins, for a second reader.
+    /// Returns the same bins once more.
     pub(crate) fn same(&self) -> Bins<'a, T>
         ensures { result ≡ self.now }
     {
@@ -74,14 +74,14 @@ impl<'a, T: Counter> Bins<'a, T> {
         }
     }
 
-    /// How many bins there are.
+    /// The number of bins.
     pub(crate) fn len(&self) -> usize
         ensures { result ≡ bins_in self.now }
     {
         self.counts.len()
     }
 
-    /// How many samples there are.
+    /// The number of samples.
     pub(crate) fn total(&self) -> u64
         ensures { result ≡ self.now.total }
     {
@@ -111,7 +111,7 @@ impl<'a, T: Counter> Bins<'a, T> {
         self.counts.get(bin)
     }
 
-    /// The first bin from one on that holds samples, or how many bins there are.
+    /// Returns the first nonempty bin at or after `from`, or the number of bins if there is none.
     #[inline(always)]
     pub(crate) fn next_filled(&self, from: usize) -> usize
         requires { from ≤ bins_in self.now }
@@ -134,7 +134,7 @@ impl<'a, T: Counter> Bins<'a, T> {
         }
     }
 
-    /// The bin of a value, or the last bin where the value lies past the bins.
+    /// Returns the bin of a value, or the last bin if the value is beyond the bins.
     pub(crate) fn place_of(&self, value: u64) -> usize
         ensures value { result ≡ place_of self.now value }
         ensures within { result < bins_in self.now }

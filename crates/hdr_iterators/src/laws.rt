@@ -1,4 +1,4 @@
-//! Laws over the lists of picks, each the contract of a function with nothing to do.
+//! Laws over the lists of picks, each the contract of an empty function.
 
 ghost use Rattle.std.specs.Prelude.{◌↔◌, ℕ, ◌<◌, Contains, slice_index};
 ghost use Rattle.hdr_iterators.specs.Seen.{Seen, bins_in};

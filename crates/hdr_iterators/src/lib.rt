@@ -1,4 +1,4 @@
-//! Iterators over the bins of a histogram: one engine, and five pickers that tell it which bins to stop at.
+//! Iterators over the bins of a histogram: one engine, and five pickers that choose the bins it stops at.
 #![tactic(auto)]
 
 pub mod all;

@@ -10,7 +10,7 @@ use crate::bins::Bins;
 use hdr_base::{Counter, Fraction, IterationValue};
 use std::marker::Model;
 
-/// What a picker tells of a bin that it picks: the share that the bin is picked for, or the level.
+/// What a picker returns with a bin that it picks: the quantile or the level that the bin is picked for.
 #[derive(Debug, Drop)]
 pub struct PickMetadata {
     tick: Option<Fraction>,
@@ -33,16 +33,16 @@ impl PickMetadata {
     }
 }
 
-/// A picker: asked at each bin in turn, it gives a finite list of picks.
+/// A picker: called at each bin in turn, it makes a finite list of picks.
 pub trait PickyIterator<T: Counter>: Drop {
     /// The picks still to come over bins.
     ghost picks: { Self → Seen → List Pick };
 
-    /// The picker was made for these bins, and the bin given is the one that it picked last.
+    /// The picker was made for these bins, and the bin is the one that it picked last.
     ghost goes_with: { Self → Seen → Option ℕ → Type 0 };
 
-    /// Whether to stop at a bin, which is asked again until the picker declines. `total_count_to_index` is the sum of
-    /// the counters up to the bin, up to `u64::MAX`, and `count_at_index` the bin's counter.
+    /// Whether to stop at a bin. The engine calls it again at the same bin until it returns `None`. `total_count_to_index` is
+    /// the sum of the counters up to the bin, at most `u64::MAX`, and `count_at_index` the bin's counter.
     fn pick(
         &mut self,
         index: usize,
@@ -58,7 +58,7 @@ pub trait PickyIterator<T: Counter>: Drop {
             × (picks self.old h
             ≡ record { place = index; tick = m.tick; level = m.level } ∷ picks self.new h)) };
 
-    /// Whether more may come, once a bin was picked that is the last recorded one or comes after it.
+    /// Whether more picks may follow after a pick at the last recorded bin or a later one.
     fn more(&mut self, index_to_pick: usize) -> bool
         ensures kept { (h : Seen) (last : Option ℕ) → goes_with self.old h last
             → goes_with self.new h last × (picks self.new h ≡ picks self.old h) }
@@ -70,15 +70,15 @@ pub trait PickyIterator<T: Counter>: Drop {
 #[derive(Drop)]
 pub struct HistogramIterator<'a, T: Counter, P: PickyIterator<T>> {
     bins: Bins<'a, T>,
-    /// The sum of the counters up to the current bin, up to `u64::MAX`.
+    /// The sum of the counters up to the current bin, at most `u64::MAX`.
     total_count_to_index: u64,
-    /// The sum of those after the bin that was picked last, likewise.
+    /// The sum of the counters after the last bin picked, at most `u64::MAX`.
     count_since_last_iteration: u64,
     count_at_index: T,
     current_index: usize,
     last_picked_index: Option<usize>,
     ended: bool,
-    /// Each bin that is still picked holds samples, so that no other is asked.
+    /// The picker picks nonempty bins alone, so that empty ones are skipped.
     skips_empty: bool,
     picker: P,
 }
@@ -99,7 +99,7 @@ impl<'a, T: Counter, P: PickyIterator<T>> Model for HistogramIterator<'a, T, P> 
 }
 
 impl<'a, T: Counter, P: PickyIterator<T>> HistogramIterator<'a, T, P> {
-    /// An iterator that asks a picker at each bin.
+    /// Returns an iterator that calls the picker at each bin.
     pub(crate) fn new(bins: Bins<'a, T>, picker: P) -> HistogramIterator<'a, T, P>
         requires made { P.goes_with picker bins None }
         requires within { AllBefore (bins_in bins) (P.picks picker bins) }
@@ -108,7 +108,7 @@ impl<'a, T: Counter, P: PickyIterator<T>> HistogramIterator<'a, T, P> {
         HistogramIterator::made(bins, picker, false)
     }
 
-    /// An iterator that asks a picker at the bins that hold samples alone, since it picks no other.
+    /// Returns an iterator that calls the picker at the nonempty bins alone. The picker must pick no other.
     pub(crate) fn of_filled(bins: Bins<'a, T>, picker: P) -> HistogramIterator<'a, T, P>
         requires made { P.goes_with picker bins None }
         requires within { AllBefore (bins_in bins) (P.picks picker bins) }
@@ -198,8 +198,8 @@ fn has_ended<T: Counter, P: PickyIterator<T>>(
     picked >= last && !picker.more(index)
 }
 
-/// The bin to ask a picker at once it has declined one: the next that holds samples, where it picks no other. How many
-/// bins there are, where none is left.
+/// Returns the bin to call the picker at after it has declined one: the next bin, or the next nonempty one if it picks no
+/// other. Returns the number of bins if none is left.
 fn next_asked<T: Counter>(bins: &Bins<'_, T>, skips_empty: bool, index: usize) -> usize
     requires inside { index < bins_in bins.now }
     requires room { index + 1 < 2 ^ 64 }
@@ -248,7 +248,7 @@ fn value_at<T: Counter>(
     IterationValue::new(value, quantile, tick, count_at_index, since)
 }
 
-/// Whether the bin of a level is the bin that is asked or lies before it.
+/// Whether the bin of a level is the current bin or a lower one.
 pub(crate) fn is_due<T: Counter>(bins: &Bins<'_, T>, place: usize, index: usize) -> bool
     ensures { IsTrue result ↔ (index < bins_in bins.now) × (place ≤ index) }
 {

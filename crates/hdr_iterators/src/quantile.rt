@@ -1,4 +1,4 @@
-//! The iterator over shares of the samples that halve the distance to the whole.
+//! The iterator over quantiles whose steps halve with the distance to 1.
 
 ghost use Rattle.std.specs.Prelude.{◌≡◌, ◌+◌, ◌*◌, ◌^◌, ◌<◌, ◌≤◌, IsTrue};
 ghost use Rattle.hdr_iterators.specs.Picks.{items_of};
@@ -10,7 +10,7 @@ use crate::picking::{HistogramIterator, PickMetadata, PickyIterator};
 use hdr_base::{Counter, Fraction};
 use std::marker::Model;
 
-/// A tick, seen as how many there are to each half of the distance, and its number.
+/// A tick, seen as its index and the number of ticks in each half of the distance to 1.
 #[derive(Debug, Drop)]
 struct Tick {
     per_half: u32,
@@ -41,7 +41,7 @@ impl Tick {
         }
     }
 
-    /// How many parts the whole has.
+    /// The denominator of the tick.
     fn whole(&self) -> u128
         ensures value { result ≡ (tick_of self.now.per_half self.now.number).den }
         ensures some { 1 ≤ result }
@@ -49,7 +49,7 @@ impl Tick {
         u128::from(self.per_half) << (self.half + 1)
     }
 
-    /// How many of them are after the tick.
+    /// The numerator of the distance from the tick to 1.
     fn left_after(&self) -> u128
         ensures value { (tick_of self.now.per_half self.now.number).num + result
             ≡ (tick_of self.now.per_half self.now.number).den }
@@ -68,7 +68,8 @@ impl Tick {
         }
     }
 
-    /// The least count of `total` that the tick is at most, by what is left after both, so that 128 bits hold each product.
+    /// The least count whose fraction of `total` is at least the tick. It is computed from the distances to 1 and to `total`,
+    /// so that each product fits 128 bits.
     fn reached_at(&self, total: u64) -> u64
         ensures { IsReachedAt self.now.per_half self.now.number total result }
     {
@@ -88,7 +89,7 @@ impl Tick {
     }
 }
 
-/// The tick that comes next of a total, with the least count that it is at most.
+/// The next tick of a total, with the least count whose fraction of the total is at least the tick.
 #[derive(Debug, Drop)]
 struct NextTick {
     tick: Tick,
@@ -133,7 +134,7 @@ impl NextTick {
         self.tick.fraction()
     }
 
-    /// Whether the tick is at most `count` of the total.
+    /// Whether the tick is at most `count / total`.
     fn is_within(&self, count: u64) -> bool
         requires { count < self.now.total }
         ensures value { result ≡ is_within self.now.per_half count self.now.total self.now.number }
@@ -155,19 +156,19 @@ impl NextTick {
     }
 }
 
-/// The picker of ticks that halve the distance to the whole.
+/// The picker of ticks whose steps halve with the distance to 1.
 #[derive(Debug, Drop)]
 pub struct Iter<'a, T: Counter> {
     bins: Bins<'a, T>,
     next: NextTick,
-    /// The total was reached, and the whole is to come.
+    /// The total was reached, and 1 is still to come.
     closing: bool,
     done: bool,
 }
 
 impl<'a, T: Counter> Iter<'a, T> {
-    /// At each nonempty bin the ticks that are reached there. Each half of the distance to the whole has
-    /// `ticks_per_half_distance` of them, at least 1. Where all samples are reached, the next tick follows, and then the whole.
+    /// Returns a picker that picks each nonempty bin once for each tick that it reaches. Each half of the distance to 1 has
+    /// `ticks_per_half_distance` ticks, at least 1. At the bin that reaches the total, the next tick follows, and then 1.
     pub fn new<H: Binned<T>>(
         histogram: &'a H,
         ticks_per_half_distance: u32,

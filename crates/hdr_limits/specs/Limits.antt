@@ -1,4 +1,4 @@
--- Which limits a histogram breaks, and what is told of the limits of a log.
+-- Which limits a histogram breaks, and what is printed of a log.
 use Rattle.std.specs.Prelude.{◌≡◌, ℕ, ◌-◌, ◌^◌, Bool, nat_lt, if◌then◌else◌, List, [], ◌∷◌, ◌++◌, None, codes}
 use Rattle.std.specs.List.{flat_map}
 use Rattle.std.specs.Fmt.{decimal}
@@ -21,12 +21,12 @@ abbrev pub broken_line : Plain → Limit → List ℕ
 broken_line h l =
     decimal l.quantile.num ++ codes "/" ++ decimal l.quantile.den ++ codes ": " ++ decimal (quantile_of h l.quantile) ++ codes " above " ++ decimal l.most ++ 10 ∷ []
 
--- a limit that is broken is told, and another is not
+-- the line of a limit that is broken, and nothing for any other limit
 abbrev pub told : Plain → Limit → List ℕ
 told h l = if is_broken h l then broken_line h l else []
 
--- all intervals of the log are merged, with 3 digits, and a text tells the limits that the sum breaks, in order; how many
--- intervals there are, and how many of them are coarser than the sum
+-- `text` has a line for each limit that the sum of all intervals breaks, in order, where the sum has 3 digits; there are
+-- `intervals` of them, and `coarser` of these are coarser than the sum
 abbrev pub IsVerdict : List ℕ → List Limit → List ℕ → ℕ → ℕ → Type 0
 IsVerdict log limits text intervals coarser =
     (h : Plain) × IsMergedBy (λ r. Merges (2 ^ 64 - 1) every 3 log r) h intervals coarser × (text ≡ flat_map (told h) limits)

@@ -1,4 +1,4 @@
-//! Limits, and the words that spell them.
+//! Limits, and the arguments that they are parsed from.
 
 ghost use Rattle.std.specs.Prelude.{◌≡◌, ◌≤◌, ◌<◌, ℕ, List, length, false};
 ghost use Rattle.hdr_model.specs.Quantiles.{quantile_of, ranked_sample};
@@ -8,7 +8,7 @@ ghost use Rattle.hdr_limits.specs.Limits.{is_broken};
 use hdrhistogram::{Histogram, Quantile};
 use std::alloc::{AllocError, Global};
 
-/// What a service owes: at a quantile, at most this value, in the unit of the log's values.
+/// The greatest value that a quantile may have, in the unit of the log's values.
 #[derive(Clone, Copy)]
 pub(crate) struct Limit {
     pub quantile: Quantile,
@@ -16,7 +16,7 @@ pub(crate) struct Limit {
 }
 
 impl Limit {
-    /// Whether the quantile of what was recorded is above the limit. One that is not broken holds for the sample of that rank.
+    /// Whether the quantile of `histogram` is above the limit. If not, the sample of the quantile's rank is at or below it.
     pub(crate) fn is_broken(&self, histogram: &Histogram<u64>) -> bool
         ensures value { result ≡ is_broken histogram.now self.now }
         ensures kept { result ≡ false → (S : List ℕ) → StandsFor histogram.now S → 0 < length S
@@ -26,7 +26,7 @@ impl Limit {
     }
 }
 
-/// The number that decimal digits spell, where it fits.
+/// Parses decimal digits. Returns `None` without digits, for any other byte, and on overflow.
 fn number(text: &str) -> Option<u64> {
     if text.bytes().all(|b| b.is_ascii_digit()) {
         text.parse().ok()
@@ -35,7 +35,7 @@ fn number(text: &str) -> Option<u64> {
     }
 }
 
-/// The limit of a word `NUM/DEN=LIMIT`, with DEN at least 1.
+/// Parses an argument `NUM/DEN=LIMIT`, with DEN at least 1.
 fn limit_of_word(word: &str) -> Option<Limit> {
     let (quantile, most) = word.split_once('=')?;
     let (num, den) = quantile.split_once('/')?;
@@ -45,7 +45,7 @@ fn limit_of_word(word: &str) -> Option<Limit> {
     })
 }
 
-/// The limits of the words; `None` where there is none, or a word is no limit.
+/// Parses all arguments. Returns `None` if there are none, or if one of them is not a limit.
 pub(crate) fn limits(alloc: Global, words: &[String]) -> Result<Option<Vec<Limit>>, AllocError> {
     if words.is_empty() {
         return Ok(None);

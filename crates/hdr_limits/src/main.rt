@@ -1,9 +1,9 @@
-//! Whether quantiles of a log keep their limits.
+//! Checks quantiles of a log against limits.
 //!
-//! A job calls `hdr_limits NUM/DEN=LIMIT.. <log` after a load test or at the end of a day, and acts on the status. Status 0: each
-//! limit is kept. 3: one is broken. 2: wrong words. 1: the log is damaged, the input or the output failed, or memory ran out. Each
-//! broken limit is told on a line `NUM/DEN: VALUE above LIMIT`. Intervals that are coarser than their sum are counted on standard
-//! error: there a value may be further from its samples than the digits of the sum promise.
+//! A job runs `hdr_limits NUM/DEN=LIMIT.. <log` after a load test or at the end of a day, and acts on the exit status:
+//! 0 if no limit is broken, 3 if one is, 2 on a usage error, and 1 if the log is invalid, the input or the output fails, or an
+//! allocation fails. Each broken limit is printed on a line `NUM/DEN: VALUE above LIMIT`. Intervals that are coarser than their
+//! sum are counted on standard error: their quantiles may be further from the samples than the digits of the sum promise.
 #![tactic(auto)]
 
 mod limit;
@@ -18,7 +18,7 @@ use std::io::{ErrorKind, Read};
 use std::process::ExitCode;
 use verdict::{DIGITS, Verdict, broken_limits};
 
-/// The words of the command line after the program's name; `None` where one is no text.
+/// Returns the arguments after the program's name, or `None` if one of them is not UTF-8.
 fn words_given(rt: &HostRuntime) -> Result<Option<Vec<String>>> {
     match env::args(rt) {
         Ok(words) => Ok(Some(words.skip(1).collect(rt.alloc())?)),
@@ -27,7 +27,7 @@ fn words_given(rt: &HostRuntime) -> Result<Option<Vec<String>>> {
     }
 }
 
-/// What standard input holds.
+/// Reads standard input to its end.
 fn input(rt: &HostRuntime) -> Result<Vec<u8>> {
     let mut input = Vec::new(rt.alloc());
     rt.stdin()
@@ -36,7 +36,7 @@ fn input(rt: &HostRuntime) -> Result<Vec<u8>> {
     Ok(input)
 }
 
-/// What is told of the limits of a log, or its fault.
+/// Checks the limits of a log, and reports a parse error with its offset.
 fn told(alloc: Global, log: &[u8], limits: &[Limit]) -> Result<Verdict> {
     match broken_limits(alloc, log, limits) {
         Ok(verdict) => Ok(verdict),
@@ -45,7 +45,7 @@ fn told(alloc: Global, log: &[u8], limits: &[Limit]) -> Result<Verdict> {
     }
 }
 
-/// Says on standard error how many intervals are coarser than their sum, where some are.
+/// Prints on standard error how many intervals are coarser than their sum, if there are any.
 fn warn(rt: &HostRuntime, verdict: &Verdict) -> Result<()> {
     let intervals = verdict.intervals;
     let coarser = verdict.coarser;
@@ -57,7 +57,7 @@ fn warn(rt: &HostRuntime, verdict: &Verdict) -> Result<()> {
     Ok(())
 }
 
-/// Judges standard input by the limits of the words, and answers the status.
+/// Checks standard input against the limits of the arguments, and returns the exit status.
 fn hdr_limits(rt: &HostRuntime) -> Result<ExitCode> {
     let alloc = rt.alloc();
     let words = words_given(rt)?;

@@ -1,4 +1,4 @@
-//! What is told of the limits of a log.
+//! Which limits a log breaks.
 
 ghost use Rattle.std.specs.Prelude.{◌≡◌, ◌++◌, ◌-◌, ◌^◌, IfOk, OnOk, MatchResult, string_bytes};
 ghost use Rattle.std.specs.List.{flat_map};
@@ -15,17 +15,17 @@ use std::alloc::{AllocError, Global};
 /// The significant digits that the sum of a log keeps.
 pub(crate) const DIGITS: u8 = 3;
 
-/// What is told of the limits of a log.
+/// Which limits the sum of a log's intervals breaks.
 #[derive(Drop)]
 pub(crate) struct Verdict {
-    /// A line for each limit that the sum of its intervals breaks.
+    /// A line for each limit that is broken.
     pub text: String,
     pub intervals: u64,
-    /// How many intervals are coarser than the sum, so that quantiles may be further from their samples than its digits promise.
+    /// The number of intervals that are coarser than the sum.
     pub coarser: u64,
 }
 
-/// Merges all intervals of a log, and tells in order which limits the sum breaks. The first fault of the log decides.
+/// Merges all intervals of a log, and reports in order which limits the sum breaks. Returns the first error in the log.
 pub(crate) fn broken_limits(
     alloc: Global,
     log: &[u8],
@@ -54,7 +54,7 @@ pub(crate) fn broken_limits(
     }
 }
 
-/// A line for each limit that a histogram breaks, in order.
+/// Returns a line for each limit that `histogram` breaks, in order.
 fn broken(alloc: Global, histogram: &Histogram<u64>, limits: &[Limit]) -> Result<String, AllocError>
     ensures { IfOk result (λ text. string_bytes text ≡ flat_map (told histogram.now) limits.now) }
 {
@@ -65,7 +65,7 @@ fn broken(alloc: Global, histogram: &Histogram<u64>, limits: &[Limit]) -> Result
     Ok(text)
 }
 
-/// Adds the line of a limit, where it is broken.
+/// Appends the line of a limit if it is broken.
 fn push_broken(
     text: &mut String,
     histogram: &Histogram<u64>,

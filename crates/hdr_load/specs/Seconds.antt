@@ -1,4 +1,4 @@
--- What is recorded in each second of a run, and what is written of it.
+-- What is recorded in each second of a run, and what is written for it.
 use Rattle.std.specs.Prelude.{◌≡◌, ◌==◌, ℕ, ◌-◌, ◌*◌, ◌^◌, if◌then◌else◌, List, [], None, true}
 use Rattle.std.specs.Bool.{MatchBool}
 use Rattle.hdr_model.specs.Plain.{Plain, empty_plain}
@@ -12,11 +12,11 @@ use Rattle.hdr_load.specs.declared.second.Second.{Second}
 abbrev pub new_second : ℕ → Second
 new_second sigfig = record { number = 0; histogram = empty_plain 1 2 sigfig true }
 
--- the second is done, and the next one begins with the same bins
+-- `s` without its samples, and with the same bins
 abbrev pub after_second : Second → Second
 after_second s = record { number = s.number; histogram = after_reset s.histogram }
 
--- what is recorded of the second of that number so far: nothing, where another second is at hand
+-- what is recorded so far in the second of index `number`: nothing, if that is not the current second `s`
 abbrev pub recorded_in : Second → ℕ → Plain
 recorded_in s number = if s.number == number then s.histogram else after_reset s.histogram
 
@@ -25,11 +25,11 @@ abbrev pub after_answer : Second → ℕ → ℕ → ℕ → Second
 after_answer s number response interval =
     record { number = number; histogram = after_correct (2 ^ 64 - 1) (recorded_in s number) response 1 interval }
 
--- a second in which something was recorded is written as an interval of one second, with values divided by 1,000
+-- a second with samples is written as an interval of one second, with the greatest value divided by 1,000
 abbrev pub IsIntervalOf : Second → List ℕ → Type 0
 IsIntervalOf s text =
     MatchBool (s.histogram.total == 0) (text ≡ []) (IsIntervalText IsV2 s.histogram None (s.number * 1_000_000_000) 1_000_000_000 1_000 text)
 
--- the second at hand is written before a response of another second is recorded
+-- the current second `s` is written before a response of another second is recorded
 abbrev pub IsWrittenBefore : Second → ℕ → List ℕ → Type 0
 IsWrittenBefore s number text = MatchBool (s.number == number) (text ≡ []) (IsIntervalOf s text)

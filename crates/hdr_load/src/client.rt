@@ -2,8 +2,8 @@
 
 ghost use Rattle.std.specs.Prelude.{◌≡◌, ◌≤◌, ◌^◌, ◌⊎◌, IfSome, IfNone};
 
-/// A client that sends a request at each multiple of an interval, one at a time: where the one before has not ended, a request
-/// waits for it. Times are in microseconds since its start.
+/// A client that sends a request at each multiple of `interval`, one at a time: a request waits until the one before it has
+/// ended. Times are in microseconds since the client's start.
 #[derive(Clone, Copy)]
 pub(crate) struct Client {
     interval: u64,
@@ -16,7 +16,7 @@ pub(crate) struct Client {
 impl Client {
     ghost use Rattle.hdr_load.specs.Clients.{new_client, after_request};
 
-    /// A client whose first request is due at 0.
+    /// Returns a client whose first request is due at 0.
     pub(crate) fn new(interval: u64) -> Client
         ensures { result ≡ new_client interval }
     {
@@ -34,8 +34,7 @@ impl Client {
         self.interval
     }
 
-    /// Sends the next request, for which the service takes so long, and answers when it ended; `None` where a time passes 64
-    /// bits.
+    /// Sends the next request, which takes the time `service`, and returns when it ended. Returns `None` if a time overflows.
     pub(crate) fn send(&mut self, service: u64) -> Option<u64>
         ensures ended { IfSome result (λ end. (self.new ≡ after_request self.old service)
             × (end ≡ self.new.free)) }

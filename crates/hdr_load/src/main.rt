@@ -1,12 +1,12 @@
-//! What a load generator with a fixed schedule measures.
+//! Simulates a load generator with a fixed schedule, and writes what it measures.
 //!
-//! `hdr_load INTERVAL SIGFIG <services` is run by whoever plans a load test, or wants its numbers from recorded service times.
-//! Each line of standard input is the time that the service takes for one request, in microseconds. Requests are due at 0,
-//! INTERVAL, 2 * INTERVAL, .. microseconds. One starts when it is due, or when the one before it has ended where that is later.
-//! The time from its actual start to its end is recorded with correction for coordinated omission, by SIGFIG significant digits.
+//! `hdr_load INTERVAL SIGFIG <services` is for whoever plans a load test, or wants its figures from recorded service times.
+//! Each line of standard input is the service time of one request in microseconds. Requests are due at 0, INTERVAL,
+//! 2 * INTERVAL, .. microseconds. Each starts when it is due or when the one before it has ended, whichever is later.
+//! The time from its actual start to its end is recorded with correction for coordinated omission, with SIGFIG digits.
 //!
-//! Standard output is an interval log with an interval for each second of this run in which a request ended. Values are in
-//! microseconds, and the greatest values of the log's lines in milliseconds.
+//! Standard output is an interval log with an interval for each second in which a request ended. Values are in microseconds,
+//! and the greatest values of the log's lines in milliseconds.
 #![tactic(auto)]
 
 ghost use Rattle.std.specs.Prelude.{◌≡◌, IfOk};
@@ -25,7 +25,7 @@ use std::env;
 use std::io::{BufRead, BufReader, ErrorKind, Write};
 use std::process::ExitCode;
 
-/// What the words ask for.
+/// The parsed arguments.
 #[derive(Clone, Copy)]
 struct Plan {
     /// The time between two requests in microseconds, 1 or more.
@@ -34,7 +34,7 @@ struct Plan {
     sigfig: u8,
 }
 
-/// The words of the command line after the program's name; `None` where one is no text.
+/// Returns the arguments after the program's name, or `None` if one of them is not UTF-8.
 fn words_given(rt: &HostRuntime) -> Result<Option<Vec<String>>> {
     match env::args(rt) {
         Ok(words) => Ok(Some(words.skip(1).collect(rt.alloc())?)),
@@ -43,7 +43,7 @@ fn words_given(rt: &HostRuntime) -> Result<Option<Vec<String>>> {
     }
 }
 
-/// The number that decimal digits spell, where it fits.
+/// Parses decimal digits. Returns `None` without digits, for any other byte, and on overflow.
 fn number(text: &str) -> Option<u64> {
     if text.bytes().all(|b| b.is_ascii_digit()) {
         text.parse().ok()
@@ -52,7 +52,7 @@ fn number(text: &str) -> Option<u64> {
     }
 }
 
-/// The plan of the words `INTERVAL SIGFIG`.
+/// Parses the arguments `INTERVAL SIGFIG`.
 fn plan_of(words: &[String]) -> Option<Plan> {
     let [interval, sigfig] = words else {
         return None;
@@ -68,7 +68,7 @@ fn plan_of(words: &[String]) -> Option<Plan> {
     })
 }
 
-/// Begins the log of a run.
+/// Writes the start of the log: a comment and the divisor of greatest values.
 fn begin<'a, 'b, W: Write>(
     alloc: Global,
     output: &'a mut W,
@@ -82,7 +82,7 @@ fn begin<'a, 'b, W: Write>(
     Ok(builder.begin_log_with(output, serializer)?)
 }
 
-/// Sends the request whose service time a line tells, and records it.
+/// Sends the request whose service time is on `line`, and records it.
 fn do_line<W: Write>(
     line: &str,
     client: &mut Client,
@@ -101,7 +101,7 @@ fn do_line<W: Write>(
     answered(second, log, end, service, client.interval())
 }
 
-/// Sends the requests of standard input, and writes the log of the run.
+/// Sends the requests of standard input, and writes the log.
 fn load(rt: &HostRuntime, plan: Plan) -> Result<()> {
     let alloc = rt.alloc();
     let mut output = rt.stdout();
@@ -120,7 +120,7 @@ fn load(rt: &HostRuntime, plan: Plan) -> Result<()> {
     write_second(&mut second, &mut log)
 }
 
-/// Does what the words ask for, and answers the status.
+/// Runs the program on its arguments, and returns the exit status.
 fn hdr_load(rt: &HostRuntime) -> Result<ExitCode> {
     let words = words_given(rt)?;
     let plan = match &words {

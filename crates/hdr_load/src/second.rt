@@ -1,4 +1,4 @@
-//! The seconds of a run, and the intervals that tell of them.
+//! The seconds of a run, and the intervals that are written for them.
 
 ghost use Rattle.std.specs.Prelude.{◌≡◌, ◌/◌, ℕ, List, OnOk, IfOk};
 ghost use Rattle.std.specs.Io.KnownBytes.{Appends};
@@ -18,16 +18,16 @@ const PER_SECOND: u64 = 1_000_000;
 
 pub(crate) const PER_MILLISECOND: u64 = 1_000;
 
-/// What was recorded in one second of a run.
+/// The samples of one second of a run.
 #[derive(Drop)]
 pub(crate) struct Second {
-    /// How many seconds of the run come before it.
+    /// The number of seconds before this one.
     number: u64,
     histogram: Histogram<u64>,
 }
 
 impl Second {
-    /// The first second of a run.
+    /// Returns the first second of a run, with no samples.
     pub(crate) fn new(alloc: Global, sigfig: u8) -> Result<Second, CreationError>
         ensures { IfOk result (λ second. second ≡ new_second sigfig) }
     {
@@ -38,7 +38,7 @@ impl Second {
     }
 }
 
-/// Records the response to a request that ended at this time, in the second of that time. What an earlier second recorded is
+/// Records the response time of a request that ended at `end`, in the second of `end`. The samples of an earlier second are
 /// written first. Times are in microseconds.
 pub(crate) fn answered<W: Write>(
     second: &mut Second,
@@ -64,7 +64,7 @@ pub(crate) fn answered<W: Write>(
     Ok(())
 }
 
-/// Writes what a second recorded, if it recorded anything, and begins to record anew.
+/// Writes the samples of `second` as an interval, if there are any, and clears them.
 pub(crate) fn write_second<W: Write>(
     second: &mut Second,
     log: &mut IntervalLogWriter<'_, '_, W, V2Serializer>,

@@ -24,7 +24,7 @@ digits_begin : (xs ys : List ℕ) → 0 < length xs → list_all is_ascii_digit 
 digits_begin [] ys n h = absurd (omega arith)
 digits_begin (x ∷ xs) ys n h = (x, xs ++ ys, refl, grind arith)
 
--- a printed number begins with a digit
+-- a printed number starts with a digit
 pub begins : (t : ℕ) → t / 1000 < 2 ^ 64 → (x : ℕ) × (more : List ℕ) × (thousandths t ≡ x ∷ more) × (is_ascii_digit x ≡ true)
 unfolding thousandths
 begins t h = digits_begin (decimal (t / 1000)) (46 ∷ three_digits (t % 1000)) (decimal_nonempty (t / 1000) h) (digits_decimal own (t / 1000) h)

@@ -1,4 +1,4 @@
--- A whole log is read again.
+-- All that is written to a log is read back.
 use Rattle.std.proofs.Common.{◌≡◌, ℕ, ◌+◌, ◌*◌, ◌/◌, ◌^◌, ◌<◌, ◌==◌, Bool, true, false, not, List, [], ◌∷◌, ◌++◌, length, Option, Some, None, codes, refl, sym, ap, ◌∙◌, arith, append_assoc}
 use Rattle.std.specs.Prelude.{map}
 use Rattle.std.proofs.lemmas.Bool.{eq-eqb, false≢true}
@@ -37,7 +37,7 @@ lines_read (line ∷ lines) at h =
     let rest : readings (at + length line + 1) (parts 10 (lines_text lines)) ≡ map is_read (entries_of lines) = lines_read lines (at + length line + 1) h.1 in
     readings_step at (with_line_feed line ++ lines_text lines) line (lines_text lines) p ∙ ap (and_then (entry_of line) (is_skipped line) at) rest ∙ chosen (entry_of line) (is_skipped line) at (entries_of lines) h.0.known
 
--- a line that doesn't begin with # has no header
+-- a line that doesn't start with # has no header
 no_header : (x : ℕ) (line name : List ℕ) → (35 == x) ≡ false → header_of (35 ∷ name) (x ∷ line) ≡ None
 unfolding header_of
 no_header x line name h = let b : after_front (35 ∷ name) (x ∷ line) ≡ None = after_front-other 35 x name line h in rw b refl
@@ -69,7 +69,7 @@ before_none_by b line (Some p) n e =
     let t : time_of p.0 ≡ None = ap time_of k.1 ∙ time_none_by k.0 (split_at_byte 46 (35 ∷ k.0)) refl in
     rw e (rw t refl)
 
--- a line that begins with # is no interval
+-- a line that starts with # is not an interval
 no_interval : (line : List ℕ) → interval_of (35 ∷ line) ≡ None
 unfolding interval_of
 no_interval line = let t : time_before 44 (35 ∷ line) ≡ None = before_none_by 44 line (split_at_byte 44 (35 ∷ line)) refl refl in rw t refl

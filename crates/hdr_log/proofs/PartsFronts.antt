@@ -40,7 +40,7 @@ not_empty (x ∷ text) b = grind arith
 and_false : (x : ℕ) (text : List ℕ) → cond ((x == 13) && false) [] (x ∷ text) ≡ x ∷ text
 and_false x text = grind arith
 
--- where the last byte is no CR, all of the text stays
+-- if the last byte is not a CR, all of the bytes stay
 pub without_crs_none : (text : List ℕ) (b : ℕ) → (b ≡ 13 → ⊥) → without_crs (text ++ b ∷ []) ≡ text ++ b ∷ []
 without_crs_none [] b h = grind arith
 without_crs_none (x ∷ text) b h = let some : (length (text ++ b ∷ []) == 0) ≡ false = not_empty text b in

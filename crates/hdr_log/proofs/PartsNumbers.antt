@@ -1,4 +1,4 @@
--- The number that digits spell, digit by digit.
+-- The number of a list of digits, digit by digit.
 use Rattle.std.proofs.Common.{◌≡◌, ℕ, ◌+◌, ◌*◌, ◌^◌, ◌<◌, ◌≤◌, ◌&&◌, ◌==◌, true, false, nat_lt, List, length, take, get_or, Some, None, refl, sym, ap, ◌∙◌, arith}
 use Rattle.std.specs.Char.{is_ascii_digit, digit_value}
 use Rattle.std.specs.List.{list_all}
@@ -12,7 +12,7 @@ use Rattle.hdr_log.specs.Parts.{number_of}
 lt_test : (a b : ℕ) → a < b → nat_lt a b ≡ true
 lt_test a b h = grind arith
 
--- a text whose first digits pass 64 bits spells none
+-- digits that start with a number above 64 bits have no number
 pub number_of-too_great : (text : List ℕ) (i value : ℕ) → i < length text → value ≡ digits_value 10 (take i text) → 2 ^ 64 ≤ value * 10 + digit_value (get_or text i 0) → None ≡ number_of text
 unfolding number_of
 number_of-too_great text i value l e h =

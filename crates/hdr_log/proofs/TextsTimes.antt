@@ -13,7 +13,7 @@ use Rattle.hdr_log.specs.Texts.{three_digits, thousandths}
 use Rattle.hdr_log.proofs.PartsDigits.{own, are_digits, number_of_digits}
 use Rattle.hdr_log.proofs.PartsFronts.{parted_front}
 
--- a byte that is no digit isn't among digits
+-- a byte other than a digit is not among digits
 pub not_among : (b : ℕ) (text : List ℕ) → is_ascii_digit b ≡ false → list_all is_ascii_digit text ≡ true → list_all (λ x. not (x == b)) text ≡ true
 not_among b [] n h = refl
 not_among b (x ∷ text) n h = grind (arith, not_among b text n)

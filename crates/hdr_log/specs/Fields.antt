@@ -1,4 +1,4 @@
--- Why a field gives no bytes.
+-- Why a field is not decoded.
 use Rattle.std.specs.Prelude.{◌≡◌, ℕ, List, None}
 use Rattle.hdr_log.specs.Texts.{base64_bytes}
 use Rattle.hdr_log.specs.declared.field.FieldError.{FieldError}

@@ -8,7 +8,7 @@ use Rattle.std.specs.Char.{is_ascii_digit}
 use Rattle.std.specs.Str.Parse.{digits_value, without_leading_plus}
 use Rattle.hdr_log.specs.Parts.{◌>>=◌, parts, split_at_byte, is_digits, number_of}
 
--- the nanoseconds that digits after the point spell: the first nine count, and as many zeros as lack follow
+-- the digits after the point as nanoseconds: the first nine are read, and zeros follow if there are fewer
 unfoldable pub nanos_of : List ℕ → Option ℕ
 nanos_of text = if is_digits text then Some (digits_value 10 (take 9 text) * 10 ^ (9 - length (take 9 text))) else None
 
@@ -27,13 +27,13 @@ time_before b text = do
   time ← time_of sides.0
   Some (time, sides.1)
 
--- what follows a front
+-- what follows a prefix
 abbrev pub after_front : List ℕ → List ℕ → Option (List ℕ)
 after_front [] text = Some text
 after_front (c ∷ front) [] = None
 after_front (c ∷ front) (x ∷ text) = if c == x then after_front front text else None
 
--- a byte of a tag is no comma, CR, LF or space
+-- a byte of a tag is not a comma, CR, LF or space
 abbrev pub is_tag_byte : ℕ → Bool
 is_tag_byte b = not (b == 44 || b == 13 || b == 10 || b == 32)
 
@@ -41,7 +41,7 @@ is_tag_byte b = not (b == 44 || b == 13 || b == 10 || b == 32)
 abbrev pub is_tag : List ℕ → Bool
 is_tag text = is_utf8 text && list_all is_tag_byte text
 
--- a decimal, by its sides where it has a point: one digit or more, and at most one point before, among or after them
+-- a decimal, by its sides if it has a point: one digit or more, and at most one point before, among or after them
 abbrev pub digits_around : Option (List ℕ × List ℕ) → List ℕ → Bool
 digits_around None text = is_digits text
 digits_around (Some p) text = list_all is_ascii_digit p.0 && list_all is_ascii_digit p.1 && not (length p.0 == 0 && length p.1 == 0)
@@ -73,7 +73,7 @@ pub data Entry : Type 0 where
 abbrev pub only_if : Bool → List ℕ → Option (List ℕ)
 only_if b text = if b then Some text else None
 
--- the tag in front of an interval, by what follows `Tag=`, and what follows the tag
+-- the tag of an interval, from what follows `Tag=`, and what follows the tag
 abbrev pub tag_of : Option (List ℕ) → List ℕ → Option (Option (List ℕ) × List ℕ)
 tag_of None line = Some (None, line)
 tag_of (Some rest) line = do
@@ -92,7 +92,7 @@ interval_of line = do
   field ← only_if (is_utf8 (without_crs max.1)) (without_crs max.1)
   Some (record { tag = tag.0; start = start.0; duration = duration.0; max = number; field = field })
 
--- the time of a header of this name: after it stand a space and any text
+-- the time of a header of this name: a space and any bytes follow it
 unfoldable pub header_of : List ℕ → List ℕ → Option ℕ
 header_of name line = do
   rest ← after_front name line
@@ -110,14 +110,13 @@ entry_of line =
 unfoldable pub is_skipped : List ℕ → Bool
 is_skipped line = is_some (after_front (codes "#") line) || is_some (after_front (codes "\"StartTimestamp\"") line)
 
--- the line at this place says an entry, or nothing, or it ends the reading with its place
+-- the line at this offset has an entry, or is skipped, or is invalid and ends the reading with its offset
 abbrev pub and_then : Option Entry → Bool → ℕ → List (Result Entry ℕ) → List (Result Entry ℕ)
 and_then (Some entry) skipped at rest = Ok entry ∷ rest
 and_then None true at rest = rest
 and_then None false at rest = Err at ∷ []
 
--- the lines from this place on. Behind each but the last stood an LF; the last is no line, and ends the reading where it
--- is not empty.
+-- what is read from this offset on, of the parts between LFs. The last part has no LF, so it is invalid unless it is empty
 unfoldable pub readings : ℕ → List (List ℕ) → List (Result Entry ℕ)
 readings at [] = []
 readings at ([] ∷ []) = []
@@ -128,6 +127,6 @@ readings at (line ∷ next ∷ lines) = and_then (entry_of line) (is_skipped lin
 abbrev pub reading : List ℕ → List (Result Entry ℕ)
 reading text = readings 0 (parts 10 text)
 
--- the place of a line that is not one lies among so many bytes
+-- the offset of an invalid line is less than the number of bytes
 abbrev pub LiesIn : ℕ → Result Entry ℕ → Type 0
 LiesIn bytes item = IfErr item (λ at. at < bytes)

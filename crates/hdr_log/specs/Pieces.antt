@@ -1,4 +1,4 @@
--- A whole log as the pieces that it is written by, call by call, and what is read of each.
+-- A log as the pieces that calls write, one for each call, and what is read of each.
 use Rattle.std.specs.Prelude.{◌≡◌, ℕ, ◌*◌, ◌/◌, ◌<◌, ◌^◌, ◌==◌, not, true, List, [], ◌∷◌, Option, Some, None, Result, Ok, map, codes}
 use Rattle.std.specs.List.{flat_map, list_all}
 use Rattle.std.specs.Option.{option_map, option_or}
@@ -31,7 +31,7 @@ piece_text piece = lines_text (lines_of piece)
 abbrev pub text_of : List Piece → List ℕ
 text_of pieces = flat_map piece_text pieces
 
--- the header that a comment's part spells, where it does
+-- the header that a line of a comment contains, if it does
 abbrev pub header_said : List ℕ → Option Entry
 header_said part = option_or (option_map Start (header_of (codes "#[StartTime: ") (comment_line part))) (option_map Base (header_of (codes "#[BaseTime: ") (comment_line part)))
 
@@ -43,7 +43,7 @@ abbrev pub headers_said : List (List ℕ) → List Entry
 headers_said [] = []
 headers_said (part ∷ parts) = and_entry (header_said part) (headers_said parts)
 
--- what is read of a piece: of a comment the headers that its parts spell, and of a divisor nothing
+-- what is read of a piece: of a comment the headers that its lines contain, and of a divisor nothing
 abbrev pub said_by : Piece → List Entry
 said_by (Comment text) = headers_said (parts 10 text)
 said_by (StartsAt t) = Start (t * 1_000_000) ∷ []
@@ -57,7 +57,7 @@ pub record IsField (field : List ℕ) : Type 0 where
   pub whole : without_crs field ≡ field
   pub line : list_all (λ b. not (b == 10)) field ≡ true
 
--- what may be written: the seconds of a time and the whole part of a greatest value fit 64 bits
+-- what may be written: the seconds of a time and the integer part of a greatest value fit 64 bits
 abbrev pub IsPiece : Piece → Type 0
 IsPiece (Comment text) = Unit {0}
 IsPiece (StartsAt t) = t / 1000 < 2 ^ 64
@@ -65,6 +65,6 @@ IsPiece (BasedAt t) = t / 1000 < 2 ^ 64
 IsPiece (Divided d) = d < 2 ^ 64
 IsPiece (Measured tag start duration max field) = AreTags tag × (start / 1000 < 2 ^ 64) × (duration / 1000 < 2 ^ 64) × (max / 1000 < 2 ^ 64) × IsField field
 
--- an entry as the reading gives it
+-- an entry as the reader returns it
 abbrev pub is_read : Entry → Result Entry ℕ
 is_read entry = Ok entry

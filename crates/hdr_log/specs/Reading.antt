@@ -1,4 +1,4 @@
--- What the entries that the reader gives say.
+-- The entries of a log as the reader returns them.
 use Rattle.std.specs.Prelude.{ℕ, Result, Ok, Err}
 use Rattle.std.specs.Option.{option_map}
 use Rattle.std.specs.Duration.{as_nanos}
@@ -18,7 +18,7 @@ view_of_entry (StartTime time) = grammar.Start (as_nanos time)
 view_of_entry (BaseTime time) = grammar.Base (as_nanos time)
 view_of_entry (Interval h) = grammar.Span (view_of_interval h)
 
--- an entry, or the place of a line that is not one
+-- an entry, or the offset of an invalid line
 abbrev pub view_of_item : Result LogEntry LogIteratorError → Result grammar.Entry ℕ
 view_of_item (Ok entry) = Ok (view_of_entry entry)
 view_of_item (Err (ParseError offset)) = Err offset

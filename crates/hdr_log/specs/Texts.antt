@@ -10,7 +10,7 @@ use Rattle.hdr_log.specs.Grammar.{is_tag}
 abbrev pub three_digits : ℕ → List ℕ
 three_digits n = (48 + n / 100) ∷ (48 + n / 10 % 10) ∷ (48 + n % 10) ∷ []
 
--- a number of thousandths: the whole ones, a point, and three digits
+-- a number of thousandths: its integer part, a point, and three digits
 unfoldable pub thousandths : ℕ → List ℕ
 thousandths t = decimal (t / 1000) ++ 46 ∷ three_digits (t % 1000)
 
@@ -34,7 +34,7 @@ with_line_feed line = line ++ 10 ∷ []
 abbrev pub lines_text : List (List ℕ) → List ℕ
 lines_text lines = flat_map with_line_feed lines
 
--- each part of a comment stands on a line of its own, also an empty one
+-- each part of a comment is on a line of its own, also an empty one
 abbrev pub comment_line : List ℕ → List ℕ
 comment_line part = 35 ∷ part
 
@@ -56,7 +56,7 @@ abbrev pub interval_line : Option (List ℕ) → ℕ → ℕ → ℕ → List �
 interval_line tag start duration max field =
     tag_front tag ++ (thousandths start ++ 44 ∷ (thousandths duration ++ 44 ∷ (thousandths max ++ 44 ∷ field)))
 
--- what may stand as a tag
+-- what is allowed as a tag
 abbrev pub AreTags : Option (List ℕ) → Type 0
 AreTags None = Unit {0}
 AreTags (Some tag) = is_tag tag ≡ true
@@ -69,6 +69,6 @@ AreBytes bytes = (i : ℕ) → slice_index bytes i < 256
 unfoldable pub base64_of : List ℕ → List ℕ
 base64_of bytes = encode_of standard bytes
 
--- the bytes of a field in Base64, where it is such
+-- the bytes of a field in Base64, if it is Base64
 unfoldable pub base64_bytes : List ℕ → Option (List ℕ)
 base64_bytes field = result_ok (decode_of standard field)

@@ -1,4 +1,4 @@
-//! What the lines of a log say.
+//! The entries of a log.
 
 ghost use Rattle.std.specs.Prelude.{◌≡◌};
 ghost use Rattle.std.specs.Option.{option_map};
@@ -8,7 +8,7 @@ ghost use Rattle.hdr_log.specs.Tags.{tag_text};
 use crate::tag::Tag;
 use std::time::Duration;
 
-/// An interval of a log. Its texts are slices of the log.
+/// An interval of a log. It borrows from the log's bytes.
 #[derive(Debug, PartialEq, Drop)]
 pub struct IntervalLogHistogram<'a> {
     pub(crate) tag: Option<Tag<'a>>,
@@ -28,28 +28,28 @@ impl<'a> IntervalLogHistogram<'a> {
         self.tag
     }
 
-    /// When the interval began: since the log's base time where it has one, else since the epoch.
+    /// The start of the interval, since the log's base time if it has one, and otherwise since the epoch.
     pub fn start_timestamp(&self) -> Duration
         ensures { as_nanos result ≡ (view_of_interval self.now).start }
     {
         self.start_timestamp
     }
 
-    /// How long the interval was.
+    /// The duration of the interval.
     pub fn duration(&self) -> Duration
         ensures { as_nanos result ≡ (view_of_interval self.now).duration }
     {
         self.duration
     }
 
-    /// The greatest value, in the decimal of the line: it may have been divided before it was written.
+    /// The greatest value as the line has it, in decimal. The log's writer may have divided it.
     pub fn max(&self) -> &'a str
         ensures { result.now ≡ (view_of_interval self.now).max }
     {
         self.max
     }
 
-    /// The histogram's bytes in Base64, as they stand in the line. Nothing has decoded them yet.
+    /// The histogram's bytes in Base64, as the line has them. They are not decoded yet.
     pub fn encoded_histogram(&self) -> &'a str
         ensures { result.now ≡ (view_of_interval self.now).field }
     {
@@ -57,10 +57,10 @@ impl<'a> IntervalLogHistogram<'a> {
     }
 }
 
-/// A line of a log that says something.
+/// An entry of a log: a header that is read, or an interval.
 #[derive(Debug, PartialEq, Drop)]
 pub enum LogEntry<'a> {
-    /// The start time of a header, since the epoch. It bears on no interval's time.
+    /// The start time of a header, since the epoch. The times of intervals do not depend on it.
     StartTime(Duration),
     /// The base time of a header, since the epoch: intervals after it count from there.
     BaseTime(Duration),
@@ -68,9 +68,9 @@ pub enum LogEntry<'a> {
     Interval(IntervalLogHistogram<'a>),
 }
 
-/// Why the reading of a log stops before its end.
+/// Why reading a log stops before its end.
 #[derive(Debug, PartialEq, Drop)]
 pub enum LogIteratorError {
-    /// The line that begins at this byte is no line of a log.
+    /// The line that starts at the byte `offset` is invalid.
     ParseError { offset: usize },
 }

@@ -1,4 +1,4 @@
-//! The field of a histogram in an interval's line.
+//! The Base64 field of an interval, which holds its histogram.
 
 ghost use Rattle.std.specs.Prelude.{◌≡◌, Some, None, MatchResult};
 ghost use Rattle.hdr_log.specs.Texts.{base64_bytes};
@@ -8,16 +8,16 @@ use base64::DecodeAllocError;
 use base64::engine::general_purpose::STANDARD;
 use std::alloc::Global;
 
-/// Why a field gives no bytes.
+/// Why a field is not decoded.
 #[derive(Debug, PartialEq, Eq, Drop)]
 pub enum FieldError {
-    /// It is no Base64.
+    /// It is not valid Base64.
     NotBase64,
-    /// The bytes found no room.
+    /// An allocation failed.
     OutOfMemory,
 }
 
-/// The bytes of a field in Base64.
+/// Decodes a field in Base64, and returns its bytes.
 pub fn decoded(alloc: Global, field: &str) -> Result<Vec<u8>, FieldError>
     ensures { MatchResult result (λ bytes. base64_bytes field.now ≡ Some bytes.items)
         (RefusesField field.now) }
@@ -27,7 +27,7 @@ pub fn decoded(alloc: Global, field: &str) -> Result<Vec<u8>, FieldError>
     Ok(bytes)
 }
 
-/// Puts the bytes of a field in Base64 in place of what a buffer holds, so that one buffer serves for many fields.
+/// Decodes a field in Base64 into `buffer`, and replaces what it held, so that one buffer serves for many fields.
 #[tactic(auto, unfolding(crate::specs::Texts::base64_bytes))]
 pub fn decode_into(field: &str, buffer: &mut Vec<u8>) -> Result<(), FieldError>
     ensures { MatchResult result (λ _. base64_bytes field.now ≡ Some buffer.new.items)

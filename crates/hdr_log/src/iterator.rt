@@ -10,9 +10,9 @@ use crate::line::{entry, is_skipped};
 use crate::parts::split_line;
 use std::marker::Model;
 
-/// The entries of a log in order, up to its end, or up to the first line that is no line of a log: that line's place is
-/// the last item. Comments and the like are passed over. It borrows the log and takes no memory. It is seen as the list
-/// of the items that are left.
+/// An iterator over the entries of a log in order. It ends at the end of the log, or after the first invalid line, whose offset
+/// is the last item. It skips comments and other headers, borrows the log, and allocates nothing. Contracts see it as the list
+/// of its remaining items.
 #[derive(Drop)]
 pub struct IntervalLogIterator<'a> {
     input: &'a [u8],
@@ -32,7 +32,7 @@ impl<'a> Model for IntervalLogIterator<'a> {
 }
 
 impl<'a> IntervalLogIterator<'a> {
-    /// The entries of a log's bytes. The place of a fault lies in them.
+    /// Returns an iterator over the entries of `input`. The offset of a parse error is an offset into it.
     pub fn new(input: &'a [u8]) -> IntervalLogIterator<'a>
         ensures items { result ≡ reading input.now }
         ensures few { length result ≤ length input.now + 1 }

@@ -1,4 +1,4 @@
-//! Laws of the texts. Each function does nothing: its contract is the law.
+//! The laws of logs, each the contract of an empty function.
 
 ghost use Rattle.std.specs.Prelude.{◌≡◌, ℕ, ◌*◌, ◌/◌, ◌<◌, ◌^◌, ◌++◌, Some, Option, List, map};
 ghost use Rattle.std.specs.List.{AllByRecursion, flat_map};
@@ -7,12 +7,12 @@ ghost use Rattle.hdr_log.specs.Grammar.{Interval, reading, time_of, interval_of}
 ghost use Rattle.hdr_log.specs.Texts.{thousandths, interval_line, AreTags, base64_of, base64_bytes};
 ghost use Rattle.hdr_log.specs.Pieces.{Piece, IsField, IsPiece, text_of, said_by, is_read};
 
-/// A time that is printed is read to the thousandth.
+/// A time that is printed is read back to the thousandth of a second.
 pub fn time_is_read()
     ensures { (t : ℕ) → t / 1000 < 2 ^ 64 → time_of (thousandths t) ≡ Some (t * 1_000_000) }
 {}
 
-/// An interval's line is read to its tag, its times, its greatest value and its field.
+/// Reading the line of an interval returns its tag, its times, its greatest value and its field.
 pub fn interval_is_read()
     ensures { (tag : Option (List ℕ)) (start duration max : ℕ) (field : List ℕ) → AreTags tag
         → start / 1000 < 2 ^ 64 → duration / 1000 < 2 ^ 64 → max / 1000 < 2 ^ 64 → IsField field
@@ -25,15 +25,15 @@ pub fn interval_is_read()
         }) }
 {}
 
-/// Bytes in Base64 are a field that may be written, and they are decoded to themselves.
+/// The Base64 encoding of bytes is a valid field, and decodes to the same bytes.
 pub fn base64_is_read()
     ensures field { (bytes : List ℕ) → IsField (base64_of bytes) }
     ensures decoded { (bytes : List ℕ) → IsBytes bytes
         → base64_bytes (base64_of bytes) ≡ Some bytes }
 {}
 
-/// All that is written to a log is read again, in order: headers and intervals, each time and greatest value to the
-/// thousandth, and the headers that comments spell. Nothing else is read, and no line ends the reading.
+/// Everything written to a log is read back, in order: headers and intervals, each time and greatest value to the
+/// thousandth, and the headers that comments contain. Nothing else is read, and no line is invalid.
 pub fn written_is_read()
     ensures { (pieces : List Piece) → AllByRecursion IsPiece pieces
         → reading (text_of pieces) ≡ map is_read (flat_map said_by pieces) }

@@ -1,5 +1,4 @@
-//! The texts of interval logs: their lines, read in place, and the lines that are written. It knows nothing of
-//! histograms.
+//! The lines of interval logs: parsing, without copies, and formatting. It does not depend on histograms.
 #![tactic(auto)]
 
 mod entry;

@@ -13,14 +13,14 @@ use crate::parts::{has_only_digits, is_digits, split_once, text, time};
 use crate::tag::Tag;
 use std::time::Duration;
 
-/// What follows a front.
+/// Returns `text` without the prefix `front`, or `None` if it does not start with it.
 fn strip<'a>(text: &'a [u8], front: &[u8]) -> Option<&'a [u8]>
     ensures { option_map (λ x. x.now) result ≡ after_front front.now text.now }
 {
     text.strip_prefix(front)
 }
 
-/// A field without the CRs at its end.
+/// Returns a field without the CRs at its end.
 #[tactic(auto, using(crate::proofs::PartsFronts::without_crs_more, crate::proofs::PartsFronts::without_crs_none))]
 fn trimmed(field: &[u8]) -> &[u8]
     ensures { result.now ≡ without_crs field.now }
@@ -35,7 +35,7 @@ fn trimmed(field: &[u8]) -> &[u8]
     field
 }
 
-/// The tag in front of an interval, if it has one, and what follows it.
+/// Parses the tag of an interval, if it has one, and returns it with the rest of the line.
 fn tag(line: &[u8]) -> Option<(Option<Tag<'_>>, &[u8])>
     ensures { option_map (λ p. (option_map tag_text p.0, p.1.now)) result ≡ tag_of
         (after_front (codes "Tag=") line.now) line.now }
@@ -48,7 +48,7 @@ fn tag(line: &[u8]) -> Option<(Option<Tag<'_>>, &[u8])>
     Some((Some(tag), rest))
 }
 
-/// A time that ends at the first such byte, and what follows it.
+/// Parses the time before the first `byte`, and returns it with the rest after that byte.
 #[tactic(auto, unfolding(crate::specs::Grammar::time_before))]
 fn time_before(text: &[u8], byte: u8) -> Option<(Duration, &[u8])>
     ensures { option_map (λ p. (as_nanos p.0, p.1.now)) result ≡ time_before byte text.now }
@@ -58,7 +58,7 @@ fn time_before(text: &[u8], byte: u8) -> Option<(Duration, &[u8])>
     Some((time, rest))
 }
 
-/// The time of a header of this name.
+/// Parses a header of this name, and returns its time.
 #[tactic(auto, unfolding(crate::specs::Grammar::header_of))]
 fn header(line: &[u8], name: &[u8]) -> Option<Duration>
     ensures { option_map as_nanos result ≡ header_of name.now line.now }
@@ -82,14 +82,14 @@ fn is_decimal(text: &[u8]) -> bool
     }
 }
 
-/// A decimal, as it stands.
+/// Returns a decimal as a `str`, or `None` if the bytes are not a decimal.
 fn decimal(bytes: &[u8]) -> Option<&str>
     ensures { option_map (λ x. x.now) result ≡ only_if (is_decimal bytes.now) bytes.now }
 {
     if is_decimal(bytes) { text(bytes) } else { None }
 }
 
-/// The interval that a line says.
+/// Parses the line of an interval.
 #[tactic(auto, unfolding(crate::specs::Grammar::interval_of))]
 fn interval(line: &[u8]) -> Option<IntervalLogHistogram<'_>>
     ensures { option_map view_of_interval result ≡ interval_of line.now }
@@ -109,7 +109,7 @@ fn interval(line: &[u8]) -> Option<IntervalLogHistogram<'_>>
     })
 }
 
-/// What a line says.
+/// Parses a line with an entry.
 #[tactic(auto, unfolding(crate::specs::Grammar::entry_of))]
 pub(crate) fn entry(line: &[u8]) -> Option<LogEntry<'_>>
     ensures { option_map view_of_entry result ≡ entry_of line.now }
@@ -126,7 +126,7 @@ pub(crate) fn entry(line: &[u8]) -> Option<LogEntry<'_>>
     }
 }
 
-/// Whether a line is one that says nothing.
+/// Whether a line is a comment or another line without an entry, which is skipped.
 #[tactic(auto, unfolding(crate::specs::Grammar::is_skipped))]
 pub(crate) fn is_skipped(line: &[u8]) -> bool
     ensures { result ≡ is_skipped line.now }

@@ -1,4 +1,4 @@
-//! Parts of texts, and the numbers and times that they spell.
+//! Splitting bytes, and parsing numbers and times.
 
 ghost use Rattle.std.specs.Prelude.{◌≡◌, ◌==◌, ◌+◌, ◌*◌, ◌^◌, ◌<◌, ◌≤◌, ◌-◌, length, take, IfSome, SomeIff, MatchOption, true};
 ghost use Rattle.std.specs.Option.{option_map};
@@ -13,28 +13,28 @@ use memchr::memchr;
 use simdutf8::basic::from_utf8;
 use std::time::Duration;
 
-/// The bytes as a text, where they are UTF-8.
+/// Returns the bytes as a `str`, if they are UTF-8.
 pub fn text(bytes: &[u8]) -> Option<&str>
     ensures { option_map (λ x. x.now) result ≡ only_if (is_utf8 bytes.now) bytes.now }
 {
     from_utf8(bytes).ok()
 }
 
-/// Where the first such byte stands. It is looked for byte by byte, since parts are short.
+/// Returns the index of the first `byte`. The search is byte by byte, since parts are short.
 fn position(text: &[u8], byte: u8) -> Option<usize>
     ensures { result ≡ position (λ x. x == byte) text.now }
 {
     text.iter().position(|b| *b == byte)
 }
 
-/// Where the first line ends. `memchr` looks for it, since lines of a log are long.
+/// Returns the index of the first LF. The search is by `memchr`, since lines of a log are long.
 fn line_end(text: &[u8]) -> Option<usize>
     ensures { result ≡ position (λ x. x == 10) text.now }
 {
     memchr(b'\n', text)
 }
 
-/// The first line of a text without its LF, and what follows it; `None` where no line ends.
+/// Returns the first line without its LF, and the rest after it, or `None` if no LF follows.
 #[tactic(auto, unfolding(crate::specs::Parts::split_at_byte))]
 pub(crate) fn split_line(text: &[u8]) -> Option<(&[u8], &[u8])>
     ensures parts { option_map (λ p. (p.0.now, p.1.now)) result ≡ split_at_byte 10 text.now }
@@ -46,7 +46,7 @@ pub(crate) fn split_line(text: &[u8]) -> Option<(&[u8], &[u8])>
     Some((line, rest))
 }
 
-/// What stands before the first such byte, and what follows it; `None` where there is none.
+/// Splits at the first `byte`, and returns what comes before it and after it, or `None` if there is none.
 #[tactic(auto, unfolding(crate::specs::Parts::split_at_byte))]
 pub fn split_once(text: &[u8], byte: u8) -> Option<(&[u8], &[u8])>
     ensures parts { option_map (λ p. (p.0.now, p.1.now)) result ≡ split_at_byte byte text.now }
@@ -70,7 +70,7 @@ pub(crate) fn is_digits(text: &[u8]) -> bool
     !text.is_empty() && has_only_digits(text)
 }
 
-/// The value of a digit; `None` for any other byte.
+/// Returns the value of a decimal digit, or `None` for any other byte.
 fn digit(byte: u8) -> Option<u64>
     ensures value { SomeIff result (is_ascii_digit byte ≡ true) (digit_value byte) }
     ensures bound { IfSome result (λ d. d < 10) }
@@ -81,7 +81,7 @@ fn digit(byte: u8) -> Option<u64>
     }
 }
 
-/// The number that a text of decimal digits spells, where it fits; leading zeros are fine.
+/// Parses decimal digits. Leading zeros are allowed. Returns `None` for any other byte, for no digits, and on overflow.
 #[tactic(auto, unfolding(crate::specs::Parts::number_of))]
 pub fn number(text: &[u8]) -> Option<u64>
     ensures { result ≡ number_of text.now }
@@ -97,7 +97,7 @@ pub fn number(text: &[u8]) -> Option<u64>
     Some(value)
 }
 
-/// A number with one more decimal digit after it, where that fits.
+/// Returns the number with one more decimal digit at its end, or `None` on overflow.
 #[inline]
 pub fn append_digit(value: u64, digit: u64) -> Option<u64>
     requires { digit < 10 }
@@ -110,14 +110,14 @@ pub fn append_digit(value: u64, digit: u64) -> Option<u64>
     }
 }
 
-/// The digits after a point that count.
+/// Returns the digits after a point that are read: the first nine.
 fn kept(text: &[u8]) -> &[u8]
     ensures { result.now ≡ take 9 text.now }
 {
     &text[..text.len().min(9)]
 }
 
-/// The nanoseconds that the digits after a point spell.
+/// Parses the digits after a point as nanoseconds.
 #[tactic(auto, unfolding(crate::specs::Grammar::nanos_of))]
 fn nanos(text: &[u8]) -> Option<u32>
     ensures value { result ≡ nanos_of text.now }
@@ -131,7 +131,7 @@ fn nanos(text: &[u8]) -> Option<u32>
     Some((number * 10u64.pow(9 - kept.len() as u32)) as u32)
 }
 
-/// The time that a text spells in seconds.
+/// Parses a time in seconds.
 #[tactic(auto, unfolding(crate::specs::Grammar::time_of))]
 pub(crate) fn time(text: &[u8]) -> Option<Duration>
     ensures { option_map as_nanos result ≡ time_of text.now }

@@ -5,14 +5,14 @@ ghost use Rattle.std.specs.Option.{option_map};
 ghost use Rattle.std.specs.List.{list_all};
 ghost use Rattle.hdr_log.specs.Grammar.{is_tag, is_tag_byte, only_if};
 
-/// A tag of an interval: a text without comma, CR, LF and space. Tags are in the order of their texts' bytes.
+/// A tag of an interval: text without comma, CR, LF and space. Tags are ordered by their bytes.
 #[derive(Debug, PartialEq, Eq, PartialOrd, Ord, Clone, Copy)]
 pub struct Tag<'a> {
     text: &'a str,
     ghost allowed: { is_tag text.now ≡ true },
 }
 
-/// Whether no byte of the text is one that a tag may not have.
+/// Whether the text has only bytes that a tag may have.
 fn has_only_tag_bytes(text: &str) -> bool
     ensures { result ≡ list_all is_tag_byte text.now }
 {
@@ -23,7 +23,7 @@ fn has_only_tag_bytes(text: &str) -> bool
 impl<'a> Tag<'a> {
     ghost use Rattle.hdr_log.specs.Tags.{tag_text};
 
-    /// The tag of a text; `None` where it has a comma, a CR, an LF or a space. The empty text is a tag.
+    /// Returns the tag of a text, or `None` if the text has a comma, a CR, an LF or a space. The empty text is a tag.
     pub fn new(text: &'a str) -> Option<Tag<'a>>
         ensures value { option_map tag_text result ≡ only_if (is_tag text.now) text.now }
         ensures allowed { list_all is_tag_byte text.now ≡ true → IsSome result }

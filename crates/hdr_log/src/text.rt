@@ -1,5 +1,5 @@
-//! The texts that a log is written by. Each call adds to a text, so that what is written can be built whole first. A
-//! refusal when memory runs out may leave a part of what it was to add.
+//! Formatting the lines of a log. Each call appends to a buffer, so that a line is complete before it is written. On error a
+//! part of what was to be appended may remain in the buffer.
 
 ghost use Rattle.std.specs.Prelude.{◌≡◌, ◌+◌, ◌*◌, ◌/◌, ◌<◌, ◌^◌, ◌++◌, ◌∷◌, [], OnOk, IfSome, SomeIff};
 ghost use Rattle.std.specs.Fmt.{decimal};
@@ -17,7 +17,7 @@ use std::alloc::AllocError;
 use std::io::Write;
 use std::time::Duration;
 
-/// A time to the nearest thousandth of a second; `None` where its seconds do not fit 64 bits.
+/// Returns a time to the nearest thousandth of a second, or `None` if its seconds do not fit 64 bits.
 pub fn thousandths(time: Duration) -> Option<u128>
     ensures value { SomeIff result (IsTimeInRange (as_nanos time))
         (to_thousandths (as_nanos time)) }
@@ -31,7 +31,7 @@ pub fn thousandths(time: Duration) -> Option<u128>
     }
 }
 
-/// A greatest value in units of the divisor, to the nearest thousandth.
+/// Returns a greatest value in units of the divisor, to the nearest thousandth.
 pub fn scaled(max: u64, divisor: u64) -> u128
     requires { 0 < divisor }
     ensures value { result ≡ max_thousandths max divisor }
@@ -46,7 +46,7 @@ fn push_decimal(text: &mut Vec<u8>, number: u64) -> Result<(), AllocError>
     write!(text, "{number}").map_err(|_| AllocError)
 }
 
-/// Adds a number of thousandths.
+/// Appends a number of thousandths.
 #[tactic(auto, unfolding(crate::specs::Texts::thousandths))]
 fn push_thousandths(text: &mut Vec<u8>, number: u128) -> Result<(), AllocError>
     requires { number / 1000 < 2 ^ 64 }
@@ -74,7 +74,7 @@ fn push_comment_line(text: &mut Vec<u8>, part: &[u8]) -> Result<(), AllocError>
     Ok(())
 }
 
-/// Adds a comment, each part of it between line feeds on a line of its own.
+/// Appends a comment, with each of its lines on a line of its own.
 pub fn push_comment(text: &mut Vec<u8>, comment: &str) -> Result<(), AllocError>
     ensures { OnOk result (text.new.items ≡ text.old.items ++ piece_text (Comment comment.now)) }
 {
@@ -86,7 +86,7 @@ pub fn push_comment(text: &mut Vec<u8>, comment: &str) -> Result<(), AllocError>
     push_comment_line(text, rest)
 }
 
-/// Adds a number of thousandths between two texts, and a line feed.
+/// Appends `front`, a number of thousandths, `end`, and an LF.
 fn push_line(text: &mut Vec<u8>, front: &[u8], number: u128, end: &[u8]) -> Result<(), AllocError>
     requires { number / 1000 < 2 ^ 64 }
     ensures { OnOk result (text.new.items ≡ text.old.items ++ with_line_feed
@@ -99,7 +99,7 @@ fn push_line(text: &mut Vec<u8>, front: &[u8], number: u128, end: &[u8]) -> Resu
     Ok(())
 }
 
-/// Adds the header of a start time in thousandths of a second.
+/// Appends the header of a start time in thousandths of a second.
 pub fn push_start_time(text: &mut Vec<u8>, time: u128) -> Result<(), AllocError>
     requires { time / 1000 < 2 ^ 64 }
     ensures { OnOk result (text.new.items ≡ text.old.items ++ piece_text (StartsAt time)) }
@@ -107,7 +107,7 @@ pub fn push_start_time(text: &mut Vec<u8>, time: u128) -> Result<(), AllocError>
     push_line(text, b"#[StartTime: ", time, b" (seconds since epoch)]")
 }
 
-/// Adds the header of a base time in thousandths of a second.
+/// Appends the header of a base time in thousandths of a second.
 pub fn push_base_time(text: &mut Vec<u8>, time: u128) -> Result<(), AllocError>
     requires { time / 1000 < 2 ^ 64 }
     ensures { OnOk result (text.new.items ≡ text.old.items ++ piece_text (BasedAt time)) }
@@ -115,7 +115,7 @@ pub fn push_base_time(text: &mut Vec<u8>, time: u128) -> Result<(), AllocError>
     push_line(text, b"#[BaseTime: ", time, b" (seconds since epoch)]")
 }
 
-/// Adds the header of a divisor of greatest values.
+/// Appends the header of a divisor of greatest values.
 pub fn push_divisor(text: &mut Vec<u8>, divisor: u64) -> Result<(), AllocError>
     ensures { OnOk result (text.new.items ≡ text.old.items ++ piece_text (Divided divisor)) }
 {
@@ -144,7 +144,7 @@ fn push_tag(text: &mut Vec<u8>, tag: Option<Tag<'_>>) -> Result<(), AllocError>
     Ok(())
 }
 
-/// Adds bytes as Base64, in the place that it makes for them.
+/// Appends bytes as Base64.
 #[tactic(auto, unfolding(crate::specs::Texts::base64_of))]
 fn push_base64(text: &mut Vec<u8>, bytes: &[u8]) -> Result<(), AllocError>
     ensures { OnOk result (text.new.items ≡ text.old.items ++ base64_of bytes.now) }
@@ -163,7 +163,7 @@ fn push_base64(text: &mut Vec<u8>, bytes: &[u8]) -> Result<(), AllocError>
     }
 }
 
-/// Adds an interval: its tag, its times and its greatest value in thousandths, and the bytes of its histogram.
+/// Appends an interval: its tag, its times and its greatest value in thousandths, and the bytes of its histogram.
 pub fn push_interval(
     text: &mut Vec<u8>,
     tag: Option<Tag<'_>>,

@@ -109,7 +109,7 @@ recorded-holds greatest h v n = elim (cases_lt (reach h) v) [
   | inr le ↦ rw (leb-yes v (reach_of (grain h) h.high) le) le
 ]
 
--- a value that has a bin, and those that it hides, are recorded without growing
+-- a value that has a bin, and its missing values, are recorded without growing
 pub high-corrected : (greatest : ℕ) (h : Plain) (v n i : ℕ) → (after_correct greatest h v n i).high ≡ high_with (grain h) h.high v (reach_of (grain h) v)
 unfolding after_correct
 high-corrected greatest h v n i =

@@ -114,7 +114,7 @@ are-missing v i x m =
     let room : j - 1 < n = omega arith in
     (j - 1, omega (arith, length-map-range_with_len (λ j. v - j * i) 1 n), get_or-map-range_with_len (λ j. v - j * i) 1 n (j - 1) j x room (omega arith) ∙ sym e)
 
--- the missing values lie at or below the one that hides them
+-- the missing values lie at or below the value that was recorded
 pub missing-within : (v i r : ℕ) → v ≤ r → All (λ x. x ≤ r) (missing v i)
 missing-within v zero r le = rw (missing-none v) (All-nil (λ x. x ≤ r))
 missing-within v (suc i) r le =

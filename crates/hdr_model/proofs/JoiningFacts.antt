@@ -7,7 +7,7 @@ use Rattle.hdr_model.specs.Merging.{after_add}
 use Rattle.hdr_model.specs.Samples.{StandsFor, Fits, in_class}
 use Rattle.hdr_model.specs.Joining.{AreParts, joined_samples, after_adds}
 
--- a front of what fits
+-- a prefix of what fits
 front_fits : (m : ℕ) (g : Grain) (A B : List ℕ) → Fits m g (A ++ B) → Fits m g A
 front_fits m g A B f = record {
   in_all = omega (arith, f.in_all, length-append A B);

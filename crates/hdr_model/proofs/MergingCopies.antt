@@ -49,7 +49,7 @@ highest-in greatest h p =
     let at : bin_of (grain h) (top_of (grain h) (value_of (grain h) (0 + i))) ≡ 0 + i = bin-of-top (grain h) (value_of (grain h) (0 + i)) m ∙ bin-value_of (grain h) (0 + i) m in
     room-of greatest h (top_of (grain h) (value_of (grain h) (0 + i))) p (omega (arith, at, inside)))
 
--- the last nonempty class is no later than the top mark's
+-- the last nonempty class is at or below the top mark's
 pub highest-max : (greatest : ℕ) (h : Plain) → IsPlain greatest h → highest_top h ≤ max_of h
 unfolding highest_top
 highest-max greatest h p = last-le (grain h) (max_of h) 0 h.counts (λ i pos. below i pos h.top_mark refl)

@@ -144,7 +144,7 @@ module _ (g : Grain) where
       All-append (λ y. y ≤ r) (top ∷ missing top i) (corrected_samples g i L) (All-cons (λ y. y ≤ r) top (missing top i) le (missing-within top i r le))
       (samples-within r i L m (λ j pos. f j (omega (arith, pos, sum_by-cons (λ y. cond (eqb (bin_of g y) j) 1 0) x L))))
 
-  -- the last place of a number above 0 has the greatest top
+  -- the class of the last number above 0 has the greatest top
   pub last-at : (i : ℕ) (ns : List ℕ) → 0 < g.digits → 0 < get_or ns i 0 → ((j : ℕ) → i < j → get_or ns j 0 ≡ 0) → last_top g 0 ns ≡ top_of g (value_of g i)
   last-at i ns m pos none =
       let low : top_of g (value_of g i) ≤ last_top g 0 ns = subst (λ j. top_of g (value_of g j) ≤ last_top g 0 ns) (let e : 0 + i ≡ i = omega arith in e) (class-le-last 0 i ns pos) in
@@ -239,7 +239,7 @@ restarted-widened h x = elim (cases_lt (reach h) x) [
   | inr le ↦ ap (λ (w : Plain). after_reset w) (widened-same h x le) ∙ sym (widened-same (after_reset h) x (omega (arith, le, reach-restarted h)))
 ]
 
--- ---- a whole source
+-- ---- all classes of a source
 
 pub corrected-inside : (s : Plain) (i r : ℕ) → highest_top s ≤ r → All (λ (t : Times). t.value ≤ r) (corrections_from (grain s) i 0 s.counts)
 unfolding highest_top

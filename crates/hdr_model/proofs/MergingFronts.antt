@@ -166,7 +166,7 @@ added-stays greatest h i y (zero ∷ ns) is some le = added-stays greatest h (su
 added-stays greatest h i y (suc n ∷ ns) is some le =
     added-stays greatest (after_add_to_bin greatest h i (suc n)) (suc i) y ns (ap (λ mark. earlier_mark mark i) is ∙ earlier-stays y i some le) some (omega arith)
 
--- where none but the first holds anything, the lower mark stays
+-- if none but the first holds anything, the lower mark stays
 added-none : (greatest : ℕ) (h : Plain) (i : ℕ) (ns : List ℕ) → AtEach (λ k. k ≡ 0) i ns → (added_from greatest h i ns).lower_mark ≡ h.lower_mark
 unfolding added_from after_add_to_bin
 added-none greatest h i [] each = refl

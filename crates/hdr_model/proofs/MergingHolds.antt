@@ -71,7 +71,7 @@ held-le g f ns i j =
     ∙ ap (λ l. in_class g j l) (spread-append a b) ∙ in_class-append g j (samples_of a) (samples_of b) in
     omega (arith, parts)
 
--- later classes begin at greater values
+-- later classes start at greater values
 pub value_of-mono : (f : Grain) (i k : ℕ) → 0 < f.digits → i ≤ k → value_of f i ≤ value_of f k
 value_of-mono f i k m le = elim (cases_lt (value_of f k) (value_of f i)) [
   | inl lt ↦ (
@@ -130,7 +130,7 @@ module _ (g f : Grain) (counts ns : List ℕ) (i at sum before target : ℕ) (mf
         order = λ k le. omega (arith, bin-mono g (value_of f i) (value_of f k) mg (value_of-mono f i k mf (omega arith)));
       }
 
--- a place of a number above 0 is a place
+-- the index of a number above 0 is an index of the list
 pub place-in : (counts : List ℕ) (i : ℕ) → 0 < get_or counts i 0 → i < length counts
 place-in counts i pos = elim (cases_lt i (length counts)) [ inl lt ↦ lt | inr ge ↦ absurd (omega (arith, get_or_past counts i 0 ge)) ]
 

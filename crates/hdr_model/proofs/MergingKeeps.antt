@@ -55,7 +55,7 @@ max-none h unmarked = go h.top_mark unmarked
 pub mark-in : (greatest : ℕ) (h : Plain) (i : ℕ) → IsPlain greatest h → h.top_mark ≡ Some i → i < length h.counts
 mark-in greatest h i p e = subst (λ o. IfSome o (λ i. i < length h.counts)) e p.top_in_bins
 
--- the top mark's class begins at or below the greatest value
+-- the top mark's class starts at or below the greatest value
 pub value-le-max : (h : Plain) (i : ℕ) → h.top_mark ≡ Some i → value_of (grain h) i ≤ max_of h
 unfolding max_of
 value-le-max h i e = subst (λ o. value_of (grain h) i ≤ top_of_mark (grain h) o) (sym e) (top-of-value (grain h) (value_of (grain h) i))
@@ -215,7 +215,7 @@ pub recorded-inside : (greatest : ℕ) (h : Plain) (v n : ℕ) → v ≤ reach h
 unfolding after_record
 recorded-inside greatest h v n le = ap (λ (w : Plain). after_add_to_bin greatest w (bin_of (grain h) v) n) (sym (widened-same h v le))
 
--- ---- room for a source
+-- ---- bins for a source
 
 pub with_room-same : (h : Plain) (x : ℕ) → x ≤ reach h → with_room h x ≡ h
 unfolding with_room

@@ -41,7 +41,7 @@ spread-weigh f g k (suc n ∷ ns) =
     ∙ ap (λ x. x + sum_by f (samples_of (classes_from g (suc k) ns))) (sum_by-replicate f (suc n) (value_of g k))
     ∙ ap (λ x. suc n * f (value_of g k) + x) (spread-weigh f g (suc k) ns)
 
--- a sample's weight where its class is k or later
+-- a sample's weight if its class is k or later
 from-class : (ℕ → ℕ) → Grain → ℕ → ℕ → ℕ
 from-class w g k x = cond (leb k (bin_of g x)) (w (bin_of g x)) 0
 
@@ -250,7 +250,7 @@ module _ (greatest most : ℕ) (h s : Plain) (S L : List ℕ) (one : 1 ≤ great
       (subst (λ r. All (λ x. x ≤ r) (S ++ L)) (sym (reach-each greatest h (classes ++ top) values)) inside)
       each
 
-  -- place by place
+  -- element by element
   pub StandsFor-joined : (grain h ≡ grain s) → length h.counts ≡ length s.counts → StandsFor (after_add_same_bins greatest h s) (S ++ L)
   unfolding reach
   StandsFor-joined same_grain same =

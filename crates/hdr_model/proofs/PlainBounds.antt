@@ -1,4 +1,4 @@
--- No call changes the bounds that classes are made of.
+-- No call changes the bounds that classes are made of, or whether the bins may grow.
 use Rattle.std.proofs.Common.{◌≡◌, ◌∙◌, ℕ, List, [], ◌∷◌, ◌++◌, Bool, true, false, cond, eqb, refl, ap, inl, inr}
 use Rattle.std.proofs.lemmas.Bool.{cases_lt}
 use Rattle.hdr_model.specs.Plain.{Plain, grain, reach, max_of}
@@ -11,13 +11,14 @@ use Rattle.hdr_model.proofs.MergingKeeps.{with_room-more, with_room-same}
 pub record Bounds : Type 0 where
   pub low : ℕ
   pub sigfig : ℕ
+  pub grows : Bool
 
 pub bounds : Plain → Bounds
-bounds h = record { low = h.low; sigfig = h.sigfig }
+bounds h = record { low = h.low; sigfig = h.sigfig; grows = h.auto_resize }
 
-pub low-and-sigfig : (h k : Plain) → bounds h ≡ bounds k → (h.low ≡ k.low) × (h.sigfig ≡ k.sigfig)
+pub same-bounds : (h k : Plain) → bounds h ≡ bounds k → (h.low ≡ k.low) × (h.sigfig ≡ k.sigfig) × (h.auto_resize ≡ k.auto_resize)
 unfolding bounds
-low-and-sigfig h k e = (ap (λ (b : Bounds). b.low) e, ap (λ (b : Bounds). b.sigfig) e)
+same-bounds h k e = (ap (λ (b : Bounds). b.low) e, ap (λ (b : Bounds). b.sigfig) e, ap (λ (b : Bounds). b.grows) e)
 
 bounds-widened : (h : Plain) (v : ℕ) → bounds (with_bins_for h v) ≡ bounds h
 unfolding bounds with_bins_to

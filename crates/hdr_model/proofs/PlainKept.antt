@@ -183,7 +183,7 @@ IsPlain-grown greatest h x p small lt =
       none_below = λ i below. zeros-behind h.counts (bins_to (grain h) x - length h.counts) i ∙ p.none_below i below;
     }
 
--- a value is within the reach exactly where its class has a bin
+-- a value is within the reach if and only if its class has a bin
 pub room-in : (greatest : ℕ) (h : Plain) (v : ℕ) → IsPlain greatest h → v ≤ reach h → bin_of (grain h) v < length h.counts
 unfolding reach
 room-in greatest h v p le = omega (arith, p.bins, within-bins (grain h) h.high v (grain-digits greatest h p) le)

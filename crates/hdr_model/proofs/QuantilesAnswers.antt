@@ -1,4 +1,4 @@
--- The answer to a quantile.
+-- The value at a quantile.
 use Rattle.std.proofs.Common.{◌≡◌, ℕ, zero, suc, ◌+◌, ◌-◌, ◌*◌, ◌/◌, ◌^◌, ◌<◌, ◌≤◌, min, List, length, get_or, take, sum, sym, ap, subst, ◌∙◌, arith, inl, inr, Option, Some, None, IfSome}
 use Rattle.std.specs.Int.{div_ceil}
 use Rattle.std.proofs.lemmas.Bool.{cases_lt}
@@ -18,7 +18,7 @@ use Rattle.hdr_base.proofs.ClassesDigits.{digits-enough}
 use Rattle.hdr_model.proofs.PlainKept.{grain-digits, room-in}
 use Rattle.hdr_model.proofs.QuantilesOrder.{FirstReaching, class-of-rank, in_first-all, running}
 
--- a rank is a place among the samples
+-- a rank is between 1 and the number of samples
 pub ceil-le : (a d n : ℕ) → 0 < d → a ≤ n * d → div_ceil a d ≤ n
 ceil-le a d n pos le =
     let split = div-add-mod' a d in

@@ -1,4 +1,4 @@
--- Quantiles that rise, and the answers to them.
+-- Ascending quantiles, and their values.
 use Rattle.std.proofs.Common.{◌≡◌, ℕ, ◌+◌, ◌*◌, ◌<◌, ◌≤◌, suc, min, true, false, cond, ltb, eqb, List, [], ◌∷◌, length, get_or, map, sym, refl, ap, ap₂, ◌∙◌, subst, arith, inl, inr, eq-eqb}
 use Rattle.std.specs.Int.{div_ceil}
 use Rattle.std.proofs.lemmas.Bool.{cases_lt, lt-ltb, le-ltb, ltb-false}
@@ -19,7 +19,7 @@ cancel x y d some le =
       | inr ge ↦ ge
     ]
 
--- shares that count as 1 above 1 rise where the shares do
+-- quantiles that are capped at 1 ascend if the quantiles do
 capped-rise : (a b c d : ℕ) → a * d ≤ c * b → min a b * d ≤ min c d * b
 capped-rise a b c d le =
     let u : min a b * d ≤ a * d = mul-le-mul_right d (let z : min a b ≤ a = omega arith in z) in
@@ -29,7 +29,7 @@ capped-rise a b c d le =
       | inr ge ↦ (let e : min c d * b ≡ d * b = ap (λ n. n * b) {x = min c d} {y = d} (omega arith) in omega arith)
     ]
 
--- ranks rise with the shares
+-- ranks ascend with the quantiles
 pub rank-rises : (p q : Ratio) (n : ℕ) → 0 < p.den → 0 < q.den → is_below q p ≡ false → rank p n ≤ rank q n
 unfolding rank
 rank-rises p q n l m f =
@@ -58,7 +58,7 @@ per-some n q l m =
     let v : 1 * n ≤ q.den * n = mul-le-mul_right n (let u : 1 ≤ q.den = omega arith in u) in
     omega (arith, v, l)
 
--- shares of the same whole are compared as they are
+-- fractions of the same denominator are compared by their numerators
 per-below : (n : ℕ) (q p : Ratio) → 0 < n → is_below (per n q) (per n p) ≡ is_below q p
 per-below n q p l =
     let a : q.num * (p.den * n) ≡ q.num * p.den * n = omega arith in
@@ -76,7 +76,7 @@ per-below n q p l =
           )
     ]
 
--- the rank of a share that is not below the one before is no less, and where there are no samples all are 1
+-- the rank of a quantile that is not below the one before is at least that one's rank; without samples all ranks are 1
 pub rank-per-rises : (h : Plain) (n : ℕ) (p q : Ratio) → 0 < n → 0 < p.den → 0 < q.den → (0 < h.total → is_below q p ≡ false) → rank (per n p) h.total ≤ rank (per n q) h.total
 rank-per-rises h n p q l a b f =
     elim (cases_lt 0 h.total) [
@@ -88,7 +88,7 @@ rank-per-rises h n p q l a b f =
           )
     ]
 
--- the next answer comes
+-- the next value follows
 pub answers-more : (h : Plain) (n : ℕ) (p q : Ratio) (qs : List Ratio) → 0 < n → (0 < h.total → is_below q p ≡ false)
     → quantiles_from h (per n p) (per n q ∷ qs) ≡ quantile_of h (per n q) ∷ quantiles_from h (per n q) qs
 answers-more h n p q qs l f =
@@ -100,7 +100,7 @@ answers-more h n p q qs l f =
       | inr none ↦ (let yes : eqb h.total 0 ≡ true = eq-eqb h.total 0 (omega arith) in rw yes refl)
     ]
 
--- a share that is below the one before ends them
+-- a quantile below the one before ends the list
 pub answers-end : (h : Plain) (n : ℕ) (p q : Ratio) (qs : List Ratio) → 0 < n → 0 < h.total → is_below q p ≡ true → quantiles_from h (per n p) (per n q ∷ qs) ≡ []
 answers-end h n p q qs l some t =
     let no : eqb h.total 0 ≡ false = eqb-other h.total 0 (λ z. omega (arith, z)) in
@@ -109,7 +109,7 @@ answers-end h n p q qs l some t =
 pub answers-none : (h : Plain) (p : Ratio) → quantiles_from h p [] ≡ []
 answers-none h p = elim (eqb h.total 0) as (λ b. map (quantile_of h) (cond b [] []) ≡ []) [ true ↦ refl | false ↦ refl ]
 
--- no share is below nothing
+-- no quantile is below the start
 rising-first : (n : ℕ) (qs : List Ratio) → rising_from (per n nothing_of_it) qs ≡ rising_from nothing_of_it qs
 rising-first n [] = refl
 rising-first n (q ∷ qs) =
@@ -126,7 +126,7 @@ per-one (q ∷ qs) =
     let r : List Ratio → ℕ → List Ratio = λ rs d. record { num = q.num; den = d } ∷ rs in
     ap₂ r (per-one qs) e
 
--- each answer is near its ranked sample
+-- each value is near its ranked sample
 tops : (greatest : ℕ) (h : Plain) (S : List ℕ) (qs : List Ratio) → IsPlain greatest h → StandsFor h S → 0 < length S → AreTopsNear h S qs (map (quantile_of h) qs)
 tops greatest h S [] p s some = tt
 tops greatest h S (q ∷ qs) p s some = (λ den num. quantile-ranked greatest h q S p den s some num, tops greatest h S qs p s some)
@@ -134,7 +134,7 @@ tops greatest h S (q ∷ qs) p s some = (λ den num. quantile-ranked greatest h 
 pub answers-near : (greatest : ℕ) (h : Plain) (S : List ℕ) (qs : List Ratio) → IsPlain greatest h → StandsFor h S → 0 < length S → AreTopsNear h S (asked_from h nothing_of_it qs) (quantiles_of h qs)
 answers-near greatest h S qs = tops greatest h S (asked_from h nothing_of_it qs)
 
--- an ascending list is answered one by one
+-- an ascending list has the value at each of its quantiles
 abbrev IsRisingFrom : Ratio → List Ratio → Type 0
 IsRisingFrom p [] = Unit {0}
 IsRisingFrom p (q ∷ qs) = (is_below q p ≡ false) × IsRisingFrom q qs

@@ -108,7 +108,7 @@ found-by-blocks counts r place pos found = both place (first_reaching counts r) 
     both (Some i) None f g = absurd (whole-below i g (first-by counts r i f))
     both (Some i) (Some j) f g = ap Some (first-one counts r i j (first-by counts r i f) g)
 
--- the answer for what stands for samples is near the ranked sample
+-- the value at a quantile of a histogram that stands for samples is near the ranked sample
 pub quantile-ranked : (greatest : ℕ) (h : Plain) (q : Ratio) (S : List ℕ) → IsPlain greatest h → 0 < q.den → StandsFor h S → 0 < length S → 0 < q.num → IsTopNear h (ranked_sample q S) (quantile_of h q)
 unfolding quantile_of
 quantile-ranked greatest h q S p pos stands some share = go (first_reaching h.counts (rank q h.total)) (first_reaching-found h.counts (rank q h.total) (rank-pos q h.total))

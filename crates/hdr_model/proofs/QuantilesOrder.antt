@@ -112,7 +112,7 @@ count-imp p q xs f =
     ] in
     step (p x) (q x) (f x))
 
--- the number at a place of an ascending list has more at or below it than come before, and no more below it
+-- more numbers of an ascending list are at or below one of them than come before it, and no more are below it
 pub at-or-below : (xs : List ℕ) (k : ℕ) → Ascends xs → k < length xs → k < count_by (λ x. leb x (get_or xs k 0)) xs
 at-or-below [] k a h = absurd (omega arith)
 at-or-below (x ∷ xs) zero a h =

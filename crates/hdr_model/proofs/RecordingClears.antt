@@ -45,7 +45,7 @@ zeros-all (n ∷ ns) e =
     let first : n ≡ 0 = omega (arith, s) in
     ap (λ m. m ∷ ns) first ∙ ap (λ l. 0 ∷ l) (zeros-all ns (omega (arith, s)))
 
--- where nothing is counted there is nothing to clear
+-- if nothing is counted there is nothing to clear
 pub cleared-none : (greatest : ℕ) (h : Plain) → IsPlain greatest h → h.total ≡ 0 → h ≡ after_clear h
 cleared-none greatest h p none =
     let same : h ≡ record h { counts = h.counts; total = 0 } = ap (λ t. record h { counts = h.counts; total = t }) none in
@@ -73,7 +73,7 @@ pub restarted-parts : (h k : Plain) → k ≡ after_clear h → record k { top_m
 unfolding after_clear after_reset
 restarted-parts h k e = rw e refl
 
--- the value that is recorded where the bins may not grow is within the reach
+-- the value that is recorded if the bins may not grow is within the reach
 pub clamped-same : (h : Plain) (v : ℕ) → v ≤ reach h → clamp_to_bins h v ≡ v
 unfolding clamp_to_bins
 clamped-same h v le = rw (leb-yes v (reach h) le) refl
@@ -183,7 +183,7 @@ min-later h some none =
 pub ltb-none : (n : ℕ) → ltb 0 n ≡ false → n ≡ 0
 ltb-none n e = grind (arith, nat_tests)
 
--- making room and forgetting come to the same in either order
+-- growing and clearing commute
 two-runs : (a b : ℕ) → replicate {A = ℕ} a 0 ++ replicate {A = ℕ} b 0 ≡ replicate {A = ℕ} (a + b) 0
 two-runs zero b = ap (λ n. replicate {A = ℕ} n 0) (let e : b ≡ 0 + b = omega arith in e)
 two-runs (suc a) b =

@@ -43,6 +43,6 @@ WasRun-push after Taken To fits calls call h k new run taken made stands = recor
       stands last.0 t (run.samples s last.0 at last.1) last.2 last.3;
 }
 
--- what holds of the call at a place holds of what is found there
+-- what holds of the call at an index holds of the call that is found there
 pub at_place : {C : Type 0} (P : C → Type 0) (calls : List C) (at : ℕ) (call : C) → at < length calls → call ≡ get_or calls at call → P call → IfSome (slice_get calls at) P
 at_place P calls at call within is p = subst (λ o. IfSome o P) (sym (slice_get_read calls (length calls) at call refl within is)) p

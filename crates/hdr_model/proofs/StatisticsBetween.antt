@@ -34,7 +34,7 @@ module _ (g : Grain) (m : 0 < g.digits) where
   unfolding top_of
   bin-of-top v = same-bin g v (lowest_of g v + width_of g v - 1) m (omega (arith, width-pos g v)) (omega (arith, width-pos g v))
 
-  -- a value is below the lowest of a class exactly where its class is an earlier one
+  -- a value is below the lowest of a class if and only if its class is an earlier one
   earlier : (v s : ℕ) → s < lowest_of g v → bin_of g s < bin_of g v
   earlier v s lt =
       elim (cases_lt (bin_of g s) (bin_of g v)) [

@@ -1,4 +1,4 @@
--- The share of the samples up to a class, and the quantiles that lie there.
+-- The quantile of a class, and the quantiles whose values lie up to it.
 use Rattle.std.proofs.Common.{◌≡◌, ◌↔◌, ℕ, ◌+◌, ◌-◌, ◌*◌, ◌^◌, ◌<◌, ◌≤◌, leb, min, List, length, take, sum, Option, Some, None, MatchOption, refl, sym, ap, ◌∙◌, arith, inl, inr, eq-eqb}
 use Rattle.std.specs.Prelude.{◌&&◌}
 use Rattle.std.specs.Int.{div_ceil}
@@ -38,7 +38,7 @@ share-of-some h v some = rw (eqb-other h.total 0 (λ z. omega (arith, z))) refl
 pub part-covered : (greatest : ℕ) (h : Plain) (k : ℕ) → IsPlain greatest h → min (sum (take k h.counts)) (2 ^ 64 - 1) ≤ h.total
 part-covered greatest h k p = omega (arith, p.total_covers, sum_below-le-sum h.counts k)
 
--- a share is at most the whole, and no share of nothing
+-- a fraction of the samples is at most 1, and 1 without samples
 pub share-at-most : (greatest : ℕ) (h : Plain) (v : ℕ) → IsPlain greatest h → ((share_below h v).num ≤ (share_below h v).den) × (0 < (share_below h v).den)
 share-at-most greatest h v p = elim (cases_lt 0 h.total) [
   | inl some ↦ rw (share-of-some h v some) (part-covered greatest h (held_bin h v + 1) p, some)
@@ -91,7 +91,7 @@ share-of-samples greatest h v S p stands some =
     let capped : min (sum (take (held_bin h v + 1) h.counts)) (2 ^ 64 - 1) ≡ samples_between 0 (top_of (grain h) v) S = omega (arith, fits, p.total_fits, up-to-samples greatest h v S p stands) in
     share-of-some h v (omega (arith, stands.total, some)) ∙ rw (capped, stands.total) refl
 
--- a rank is at most a number of samples exactly where the share is
+-- a rank is at most a number of samples if and only if its quantile is at most their fraction
 rank-within : (q : Ratio) (n c : ℕ) → 0 < q.num → q.num ≤ q.den → 0 < n → (rank q n ≤ c) ↔ (q.num * n ≤ c * q.den)
 unfolding rank
 rank-within q n c pos one some =
@@ -114,7 +114,7 @@ rank-within q n c pos one some =
           ),
     )
 
--- the top of a class is at most that of a value's exactly where its number is
+-- the top of a class is at most that of a value's if and only if its number is
 pub top-order : (g : Grain) (i v : ℕ) → 0 < g.digits → (top_of g (value_of g i) ≤ top_of g v) ↔ (i ≤ bin_of g v)
 top-order g i v m =
     let here : bin_of g (top_of g (value_of g i)) ≡ i = bin-of-top g (value_of g i) m ∙ bin-value_of g i m in
@@ -130,7 +130,7 @@ top-order g i v m =
       ],
     )
 
--- the first class that reaches a rank is at most a class exactly where the sum up to that class reaches it
+-- the first class that reaches a rank is at most a class if and only if the sum up to that class reaches it
 first-order : (counts : List ℕ) (r i b : ℕ) → FirstReaching counts r i → (i ≤ b) ↔ (r ≤ sum (take (b + 1) counts))
 first-order counts r i b first = (
   λ le. omega (arith, first.reached, sum_below-le counts (i + 1) (b + 1) (omega arith)),
@@ -140,7 +140,7 @@ first-order counts r i b first = (
   ],
 )
 
--- the quantile of a share lies in the classes up to a value's exactly where the share is at most that of the samples there
+-- the value at a quantile lies in the classes up to a value's if and only if the quantile is at most that of the class
 pub quantile-below : (greatest : ℕ) (h : Plain) (q : Ratio) (v : ℕ) (S : List ℕ) → IsPlain greatest h → StandsFor h S → 0 < length S → 0 < q.num → q.num ≤ q.den
     → (quantile_of h q ≤ top_of (grain h) v) ↔ IsAtMost q (share_below h v)
 unfolding quantile_of held_bin

@@ -24,7 +24,7 @@ abbrev pub each_times : ℕ → List ℕ → List Times
 each_times n [] = []
 each_times n (v ∷ vs) = record { value = v; times = n } ∷ each_times n vs
 
--- the histogram after v and each value that it hides were recorded n times, one by one
+-- the histogram after v and each of its missing values were recorded n times, one by one
 unfoldable pub after_correct : ℕ → Plain → ℕ → ℕ → ℕ → Plain
 after_correct greatest h v n i = after_records greatest h (each_times n (v ∷ missing v i))
 

@@ -1,5 +1,5 @@
 -- When two histograms count as equal. (`eq`: the same bounds' low and digits, the same total, greatest and least value, and
--- the same number of every class; the Rust crate's is not symmetric where one array is shorter.)
+-- the same number of every class; the Rust crate's is not symmetric if one array is shorter.)
 use Rattle.std.specs.Prelude.{◌≡◌, slice_index, ℕ, Bool, ◌==◌, List, [], ◌∷◌}
 use Rattle.std.proofs.Common.{zero, suc}
 use Rattle.std.specs.Ordering.{on, eq_of_both}

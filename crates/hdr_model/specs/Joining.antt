@@ -28,6 +28,6 @@ AreParts most g _ _ = ⊥
 abbrev pub joined_samples : List (List ℕ) → List ℕ
 joined_samples Ls = flat_map (λ L. L) Ls
 
--- the answer to each quantile above 0 is the top of the class of the ranked sample, and near it
+-- the value at each quantile above 0 is the top of the class of the ranked sample, and near that sample
 abbrev pub AnswersRanked : Plain → List ℕ → Type 0
 AnswersRanked h S = (q : Ratio) → 0 < q.den → 0 < length S → 0 < q.num → IsTopNear h (ranked_sample q S) (quantile_of h q)

@@ -24,12 +24,12 @@ abbrev pub IsBelow : Option ℕ → ℕ → Type 0
 IsBelow None i = 0 < i
 IsBelow (Some m) i = (0 < i) × (i < m)
 
--- the last place of a number above 0
+-- the index of the last number above 0
 abbrev pub IsTopMark : List ℕ → Option ℕ → Type 0
 IsTopMark counts None = (i : ℕ) → slice_index counts i ≡ 0
 IsTopMark counts (Some m) = (0 < slice_index counts m) × ((i : ℕ) → m < i → slice_index counts i ≡ 0)
 
--- the first place after the first of a number above 0
+-- the index of the first number above 0, the number at index 0 left out
 abbrev pub IsLowerMark : List ℕ → Option ℕ → Type 0
 IsLowerMark counts None = (i : ℕ) → 0 < i → slice_index counts i ≡ 0
 IsLowerMark counts (Some m) = (0 < m) × (0 < slice_index counts m) × ((i : ℕ) → 0 < i → i < m → slice_index counts i ≡ 0)

@@ -1,4 +1,4 @@
--- What adding one histogram to another makes of it. The source may count in another type: its numbers are added whole.
+-- The histogram after another was added to it. The source may have another counter type: its numbers are added in full.
 -- (`add`; the code has two loops over bins.)
 use Rattle.std.specs.Prelude.{◌==◌, ◌&&◌, ℕ, zero, suc, ◌+◌, ◌-◌, ◌^◌, Bool, if◌then◌else◌, nat_le, min, Option, Some, None, List, [], ◌∷◌, ◌++◌, length, sum, max}
 use Rattle.hdr_base.specs.Classes.{Grain, value_of, top_of}
@@ -8,7 +8,7 @@ use Rattle.hdr_model.specs.Recording.{with_bins_to, Times, after_records, sample
 use Rattle.hdr_model.specs.Marks.{earlier_of, later_of}
 use Rattle.hdr_model.specs.Correction.{each_times, missing}
 
--- the nonempty classes of numbers that begin at class i: the lowest value of each, as often as its number says
+-- the nonempty classes of numbers that start at class i: the lowest value of each, as often as its number says
 abbrev pub classes_from : Grain → ℕ → List ℕ → List Times
 classes_from g i [] = []
 classes_from g i (zero ∷ ns) = classes_from g (suc i) ns
@@ -38,7 +38,7 @@ after_add_within greatest h s =
     if same_bins h s then after_add_same_bins greatest h s
     else after_records greatest h (classes_from (grain s) 0 s.counts ++ top_class (grain s) s.top_mark)
 
--- the histogram with bins up to a value, which is its `high` where they had to grow
+-- the histogram with bins up to a value, which is its `high` if they had to grow
 unfoldable pub with_room : Plain → ℕ → Plain
 with_room h x = if nat_le x (reach h) then h else with_bins_to h x
 
@@ -50,13 +50,13 @@ after_add greatest h s = if s.total == 0 then h else after_add_within greatest (
 abbrev pub lowest_values : Plain → List ℕ
 lowest_values h = samples_of (classes_from (grain h) 0 h.counts)
 
--- the nonempty classes of numbers that begin at class k, each at its top, and what that hides (`add_correct`)
+-- the nonempty classes of numbers that start at class k, each at its top, and the missing values of that (`add_correct`)
 abbrev pub corrections_from : Grain → ℕ → ℕ → List ℕ → List Times
 corrections_from g i k [] = []
 corrections_from g i k (zero ∷ ns) = corrections_from g i (suc k) ns
 corrections_from g i k (suc n ∷ ns) = each_times (suc n) (top_of g (value_of g k) ∷ missing (top_of g (value_of g k)) i) ++ corrections_from g i (suc k) ns
 
--- the top of the last nonempty class of numbers that begin at class k, 0 for none
+-- the top of the last nonempty class of numbers that start at class k, 0 for none
 abbrev pub last_top : Grain → ℕ → List ℕ → ℕ
 last_top g k [] = 0
 last_top g k (zero ∷ ns) = last_top g (suc k) ns
@@ -70,7 +70,7 @@ highest_top h = last_top (grain h) 0 h.counts
 unfoldable pub after_add_correct : ℕ → Plain → Plain → ℕ → Plain
 after_add_correct greatest h s i = after_records greatest (with_bins_for h (highest_top s)) (corrections_from (grain s) i 0 s.counts)
 
--- for each sample the top of its class, and what that hides
+-- for each sample the top of its class, and the missing values of that
 abbrev pub corrected_samples : Grain → ℕ → List ℕ → List ℕ
 corrected_samples g i [] = []
 corrected_samples g i (s ∷ S) = (top_of g s ∷ missing (top_of g s) i) ++ corrected_samples g i S

@@ -1,5 +1,5 @@
 -- A histogram as numbers alone. (Fields and read-outs of the Rust crate's `Histogram`: a vector of counters, a total and two
--- marks; here there are no counters, only their numbers.)
+-- marks; here are only the numbers of the counters.)
 use Rattle.std.specs.Prelude.{◌≡◌, ◌==◌, ℕ, ◌-◌, ◌*◌, ◌^◌, ◌<◌, ◌≤◌, Bool, ◌||◌, nat_lt, if◌then◌else◌, min, Option, None, IfSome, List, length, replicate, slice_index, All, sum}
 use Rattle.hdr_base.specs.Classes.{Grain, grain_of, reach_of, bins_to, HasScale}
 use Rattle.hdr_model.specs.Marks.{IsAbove, IsBelow, top_of_mark, value_of_mark}

@@ -7,7 +7,7 @@ use Rattle.hdr_base.specs.Fractions.{Ratio}
 use Rattle.hdr_base.specs.Classes.{Grain, top_of, value_of}
 use Rattle.hdr_model.specs.Plain.{Plain, grain}
 
--- a number put before the first that is not below it
+-- a number inserted before the first that is not below it
 abbrev pub put_in_order : ℕ → List ℕ → List ℕ
 put_in_order x [] = x ∷ []
 put_in_order x (y ∷ ys) = if nat_le x y then x ∷ y ∷ ys else y ∷ put_in_order x ys
@@ -17,16 +17,16 @@ abbrev pub sorted : List ℕ → List ℕ
 sorted [] = []
 sorted (x ∷ xs) = put_in_order x (sorted xs)
 
--- the place of a quantile among n samples in ascending order: ceil(min(q, 1) * n), and at least 1; places count from 1
+-- the rank of a quantile among n samples in ascending order: ceil(min(q, 1) * n), and at least 1; ranks count from 1
 unfoldable pub rank : Ratio → ℕ → ℕ
 rank q n = max 1 (div_ceil (min q.num q.den * n) q.den)
 
--- the sample at that place
+-- the sample of that rank
 unfoldable pub ranked_sample : Ratio → List ℕ → ℕ
 ranked_sample q S = slice_index (sorted S) (rank q (length S) - 1)
 
--- an answer is the top of the sample's class: at least the sample, and above it by less than one unit, or by less than one part
--- in 10^sigfig of the sample
+-- a value is the top of the sample's class: at least the sample, and above it by less than one unit, or by less than one
+-- part in 10^sigfig of the sample
 pub record IsTopNear (h : Plain) (s answer : ℕ) : Type 0 where
   pub is_top : answer ≡ top_of (grain h) s
   pub at_least : s ≤ answer
@@ -36,16 +36,16 @@ pub record IsTopNear (h : Plain) (s answer : ℕ) : Type 0 where
 unfoldable pub first_reaching : List ℕ → ℕ → Option ℕ
 first_reaching counts r = find (λ i. nat_le r (sum (take (i + 1) counts))) (range_with_len 0 (length counts))
 
--- what a class answers to a quantile of that numerator: its top, its lowest value for 0; 0 where there is no class
+-- the value of a class for a quantile of this numerator: its top, or its lowest value for the numerator 0; 0 without a class
 abbrev pub answer_at : Grain → ℕ → Option ℕ → ℕ
 answer_at g num None = 0
 answer_at g num (Some i) = if num == 0 then value_of g i else top_of g (value_of g i)
 
--- the answer to a quantile (`value_at_quantile`)
+-- the value at a quantile (`value_at_quantile`)
 unfoldable pub quantile_of : Plain → Ratio → ℕ
 quantile_of h q = answer_at (grain h) q.num (first_reaching h.counts (rank q h.total))
 
--- a share of n, as a share of 1
+-- a fraction of n, as a fraction of 1
 abbrev pub per : ℕ → Ratio → Ratio
 per n p = record { num = p.num; den = p.den * n }
 
@@ -57,21 +57,21 @@ hundredth p = per 100 p
 abbrev pub is_below : Ratio → Ratio → Bool
 is_below p q = nat_lt (p.num * q.den) (q.num * p.den)
 
--- the longest front in which none is below the one before, where p comes before the first
+-- the longest prefix in which none is below the one before, where p comes before the first
 abbrev pub rising_from : Ratio → List Ratio → List Ratio
 rising_from p [] = []
 rising_from p (q ∷ qs) = if is_below q p then [] else q ∷ rising_from q qs
 
--- no share is below it
+-- no quantile is below it
 abbrev pub nothing_of_it : Ratio
 nothing_of_it = record { num = 0; den = 1 }
 
--- the quantiles that are answered after p: the longest front that rises, and all where there are no samples
+-- the quantiles whose values are returned after p: the longest ascending prefix, or all of them in an empty histogram
 abbrev pub asked_from : Plain → Ratio → List Ratio → List Ratio
 asked_from h p qs = if h.total == 0 then qs else rising_from p qs
 
--- the answers to quantiles, up to the first that is below the one before (`value_at_quantiles`; the Rust crate takes any
--- iterator, and may go on after such a one)
+-- the values at quantiles, up to the first that is below the one before (`value_at_quantiles`; the Rust crate takes any
+-- iterator, and may continue after such a quantile)
 abbrev pub quantiles_from : Plain → Ratio → List Ratio → List ℕ
 quantiles_from h p qs = map (quantile_of h) (asked_from h p qs)
 
@@ -82,7 +82,7 @@ quantiles_of h qs = quantiles_from h nothing_of_it qs
 abbrev pub IsAscending : List Ratio → Type 0
 IsAscending qs = (k : ℕ) → k + 1 < length qs → is_below (slice_index_or qs (k + 1) nothing_of_it) (slice_index_or qs k nothing_of_it) ≡ false
 
--- each answer to a quantile above 0 is the top of the class of its ranked sample
+-- each value at a quantile above 0 is the top of the class of its ranked sample
 abbrev pub AreTopsNear : Plain → List ℕ → List Ratio → List ℕ → Type 0
 AreTopsNear h S [] [] = Unit {0}
 AreTopsNear h S (q ∷ qs) (a ∷ answers) = (0 < q.den → 0 < q.num → IsTopNear h (ranked_sample q S) a) × AreTopsNear h S qs answers

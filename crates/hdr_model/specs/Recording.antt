@@ -8,7 +8,7 @@ use Rattle.hdr_model.specs.Marks.{earlier_mark, later_mark}
 unfoldable pub with_bins_to : Plain → ℕ → Plain
 with_bins_to h x = record h { high = x; counts = h.counts ++ replicate (bins_to (grain h) x - length h.counts) 0 }
 
--- the histogram with bins up to a value, where it has none for it
+-- the histogram with bins up to a value, if it has none for it
 unfoldable pub with_bins_for : Plain → ℕ → Plain
 with_bins_for h v = if nat_le v (reach h) then h else with_bins_to h (reach_of (grain h) v)
 
@@ -36,12 +36,12 @@ abbrev pub after_records : ℕ → Plain → List Times → Plain
 after_records greatest h [] = h
 after_records greatest h (t ∷ ts) = after_records greatest (after_record greatest h t.value t.times) ts
 
--- the samples of a list of values recorded so many times each
+-- the samples of a list of values and how many times each is recorded
 abbrev pub samples_of : List Times → List ℕ
 samples_of [] = []
 samples_of (t ∷ ts) = replicate t.times t.value ++ samples_of ts
 
--- the value that is recorded for v where the bins may not grow: v within the reach, and else `high`
+-- the value that is recorded for v if the bins may not grow: v within the reach, and otherwise `high`
 unfoldable pub clamp_to_bins : Plain → ℕ → ℕ
 clamp_to_bins h v = if nat_le v (reach h) then v else h.high
 
@@ -53,7 +53,7 @@ after_clear h = record h { counts = replicate (length h.counts) 0; total = 0 }
 unfoldable pub after_reset : Plain → Plain
 after_reset h = record h { counts = replicate (length h.counts) 0; total = 0; top_mark = None; lower_mark = None }
 
--- `high` once there is a bin for x: `new` where the bins had to grow
+-- `high` once there is a bin for x: `new` if the bins had to grow
 unfoldable pub high_with : Grain → ℕ → ℕ → ℕ → ℕ
 high_with g high x new = if nat_le x (reach_of g high) then high else new
 

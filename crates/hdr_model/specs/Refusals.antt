@@ -1,5 +1,5 @@
--- When a call is refused. (The documentation of the Rust crate's errors; out of memory is our own, which there ends
--- the process.)
+-- When a call returns an error. (The documentation of the Rust crate's errors. `OutOfMemory` is our own: there a failed
+-- allocation ends the process.)
 use Rattle.std.specs.Prelude.{◌≡◌, ◌⊎◌, ◌+◌, ◌*◌, ◌^◌, ◌<◌, ◌≤◌, ℕ, true, false, slice_index}
 use Rattle.hdr_model.specs.Plain.{Plain, reach, max_of, grain}
 use Rattle.hdr_model.specs.Merging.{highest_top, lowest_values}
@@ -19,7 +19,7 @@ use Rattle.hdr_model.specs.declared.errors.SubtractionError.TheVariants.{Subtrah
 abbrev pub HasRoom : Plain → ℕ → Type 0
 HasRoom h x = (x ≤ reach h) ⊎ (h.auto_resize ≡ true)
 
--- a value past the reach is refused where the bins may not grow, and otherwise only when memory runs out
+-- a value past the reach is an error if the bins may not grow, and otherwise only if the allocation fails
 abbrev pub RefusesRecord : Plain → ℕ → RecordError → Type 0
 RefusesRecord h v ValueOutOfRangeResizeDisabled = (reach h < v) × (h.auto_resize ≡ false)
 RefusesRecord h v ResizeFailedUsizeTypeTooSmall = ⊥
@@ -31,7 +31,7 @@ pub record IsBounds (low high sigfig : ℕ) : Type 0 where
   pub wide : 2 * low ≤ high
   pub scale : HasScale low sigfig
 
--- the first bound that does not hold refuses a histogram, and where all hold, it is refused only when memory runs out
+-- the error is that of the first bound that does not hold; if all hold, it is only a failed allocation
 abbrev pub RefusesBounds : ℕ → ℕ → ℕ → CreationError → Type 0
 RefusesBounds low high sigfig make.LowIsZero = low < 1
 RefusesBounds low high sigfig make.LowExceedsMax = 2 ^ 63 ≤ low
@@ -41,38 +41,38 @@ RefusesBounds low high sigfig make.CannotRepresentSigFigBeyondLow = (0 < low) ×
 RefusesBounds low high sigfig make.UsizeTypeTooSmall = ⊥
 RefusesBounds low high sigfig make.OutOfMemory = IsBounds low high sigfig
 
--- all digits fit beyond a low below 2 ^ 46, so that they refuse none
+-- all digits fit beyond a low below 2 ^ 46, so that no such low is an error
 abbrev pub IsBeyondLow : ℕ → CreationError → Type 0
 IsBeyondLow low make.CannotRepresentSigFigBeyondLow = 2 ^ 46 ≤ low
 IsBeyondLow low _ = Unit {0}
 
--- room for a value past the reach is refused where the bins may not grow, and otherwise only when memory runs out
+-- growing to a value past the reach is an error if the bins may not grow, and otherwise only if the allocation fails
 abbrev pub RefusesRoom : Plain → ℕ → AdditionError → Type 0
 RefusesRoom h x addition.OtherAddendValueExceedsRange = (reach h < x) × (h.auto_resize ≡ false)
 RefusesRoom h x addition.ResizeFailedUsizeTypeTooSmall = ⊥
 RefusesRoom h x addition.OutOfMemory = (reach h < x) × (h.auto_resize ≡ true)
 
--- a source that isn't empty is refused where there is no room for its greatest value
+-- a nonempty source is an error if its greatest value has no bin, and none can be made
 abbrev pub RefusesAddition : Plain → Plain → AdditionError → Type 0
 RefusesAddition h s e = (0 < s.total) × RefusesRoom h (max_of s) e
 
--- a source to be corrected is refused where the top of its last nonempty class would be
+-- a source to be corrected is an error if recording the top of its last nonempty class is one
 abbrev pub RefusesCorrected : Plain → Plain → RecordError → Type 0
 RefusesCorrected h s e = RefusesRecord h (highest_top s) e
 
--- what `set_to` leaves where it is refused: for memory the target as it was, for range the target reset
+-- the target after an error of `set_to`: unchanged if the allocation failed, and reset if a value is out of range
 abbrev pub LeavesSet : Plain → Plain → AdditionError → Type 0
 LeavesSet old new addition.OutOfMemory = new ≡ old
 LeavesSet old new addition.OtherAddendValueExceedsRange = new ≡ after_reset old
 LeavesSet old new addition.ResizeFailedUsizeTypeTooSmall = ⊥
 
--- what `set_to_corrected` leaves where it is refused: for memory the target as it was, for range the target reset
+-- the target after an error of `set_to_corrected`: unchanged if the allocation failed, and reset if a value is out of range
 abbrev pub LeavesCorrected : Plain → Plain → RecordError → Type 0
 LeavesCorrected old new OutOfMemory = new ≡ old
 LeavesCorrected old new ValueOutOfRangeResizeDisabled = new ≡ after_reset old
 LeavesCorrected old new ResizeFailedUsizeTypeTooSmall = ⊥
 
--- a source that isn't empty is refused where its greatest value is past the reach, or a class holds less than it takes there
+-- a nonempty source is an error if its greatest value is past the reach, or if a class holds less than is subtracted
 abbrev pub RefusesSubtraction : Plain → Plain → SubtractionError → Type 0
 RefusesSubtraction h s SubtrahendValueExceedsMinuendRange = (0 < s.total) × (reach h < max_of s)
 RefusesSubtraction h s SubtrahendCountExceedsMinuendCount =

@@ -1,4 +1,4 @@
--- Runs of calls of any kind, one after another. (No item of the Rust crate: its documentation tells of single calls, and
+-- Runs of calls of any kind, one after another. (No item of the Rust crate: its documentation describes single calls, and
 -- a caller has a history of them.)
 use Rattle.std.specs.Prelude.{◌≡◌, ℕ, List, [], ◌∷◌, ◌==◌, if◌then◌else◌, ◌++◌, length}
 use Rattle.hdr_model.specs.Plain.{Plain, grain, max_of}

@@ -19,6 +19,6 @@ pub record Fits (greatest : ℕ) (g : Grain) (S : List ℕ) : Type 0 where
   pub in_all : length S < 2 ^ 64
   pub in_classes : (i : ℕ) → in_class g i S ≤ greatest
 
--- of a histogram k that was made of h: where these samples fit beside those that h stands for, k stands for all of them
+-- of a histogram k that was made of h: if these samples fit beside those that h stands for, k stands for all of them
 abbrev pub GainsSamples : ℕ → Plain → Plain → List ℕ → Type 0
 GainsSamples greatest h k L = (S : List ℕ) → StandsFor h S → Fits greatest (grain h) (S ++ L) → StandsFor k (S ++ L)

@@ -6,7 +6,7 @@ use Rattle.hdr_base.specs.Fractions.{Ratio}
 use Rattle.hdr_base.specs.Classes.{Grain, bin_of, lowest_of, width_of, value_of}
 use Rattle.hdr_model.specs.Plain.{Plain, grain}
 
--- the class that holds a value, the last one where the value lies past the bins
+-- the class that holds a value, or the last one if the value lies past the bins
 unfoldable pub held_bin : Plain → ℕ → ℕ
 held_bin h v = min (bin_of (grain h) v) (length h.counts - 1)
 
@@ -18,17 +18,17 @@ sum_between h a b = sum (slice_range h.counts (held_bin h a) (held_bin h b + 1))
 abbrev pub samples_between : ℕ → ℕ → List ℕ → ℕ
 samples_between a b S = count_by (λ s. nat_le a s && nat_le s b) S
 
--- the share of the samples that lie in a value's class or before it, and all where there are none (`quantile_below`)
+-- the fraction of the samples that lie in a value's class or below it, and 1 in an empty histogram (`quantile_below`)
 unfoldable pub share_below : Plain → ℕ → Ratio
 share_below h v =
     if h.total == 0 then record { num = 1; den = 1 }
     else record { num = min (sum (take (held_bin h v + 1) h.counts)) (2 ^ 64 - 1); den = h.total }
 
--- a share in hundredths
+-- a fraction times 100
 abbrev pub in_hundredths : Ratio → Ratio
 in_hundredths q = record { num = q.num * 100; den = q.den }
 
--- a share is no more than another
+-- a fraction is at most another
 abbrev pub IsAtMost : Ratio → Ratio → Type 0
 IsAtMost p q = p.num * q.den ≤ q.num * p.den
 
@@ -36,12 +36,12 @@ IsAtMost p q = p.num * q.den ≤ q.num * p.den
 abbrev pub median_of : Grain → ℕ → ℕ
 median_of g v = lowest_of g v + width_of g v / 2
 
--- the sum of numbers that begin at class k, each times the median value of its class
+-- the sum of numbers that start at class k, each times the median value of its class
 abbrev pub weight_from : Grain → ℕ → List ℕ → ℕ
 weight_from g k [] = 0
 weight_from g k (n ∷ ns) = median_of g (value_of g k) * n + weight_from g (suc k) ns
 
--- the mean of the samples, each taken as the median of its class: 0 where there are none, and none where the total is full
+-- the mean of the samples, each taken as the median of its class: 0 without samples, and none if the total is `u64::MAX`
 unfoldable pub mean_of : Plain → Option Ratio
 mean_of h =
     if h.total == 2 ^ 64 - 1 then None

@@ -1,8 +1,8 @@
-//! What a call answers where it is refused.
+//! The errors of the calls on a histogram.
 
 use thiserror::Error;
 
-/// Why a histogram was not made. The first reason in this order is answered, and `OutOfMemory` last.
+/// Why a histogram is not made. If several of these hold, the first is returned; `OutOfMemory` is last.
 #[derive(Debug, PartialEq, Eq, Drop, Error)]
 pub enum CreationError {
     #[error("Lowest discernible value must be >= 1")]

@@ -23,27 +23,27 @@ pub fn missing_values()
     ensures count { (v i : ℕ) → length (missing v i) ≡ v / i - 1 }
 {}
 
-/// The class that answers is the first where the sum of the numbers up to it reaches the rank; none where no class does.
+/// The class of a quantile is the first where the sum of the numbers up to it reaches the rank, if there is one.
 pub fn first_class()
     ensures { (counts : List ℕ) (r : ℕ) → 0 < r
         → MatchOption (first_reaching counts r) (sum counts < r) (IsFirstToReach counts r) }
 {}
 
-/// The answer to a quantile above 0 is the top of the class of the ranked sample, and near it.
+/// The value at a quantile above 0 is the top of the class of the ranked sample, and near that sample.
 pub fn quantile_is_ranked()
     ensures { (greatest : ℕ) (h : Plain) (q : Ratio) (S : List ℕ) → IsPlain greatest h → 0 < q.den
         → StandsFor h S → 0 < length S → 0 < q.num
         → IsTopNear h (ranked_sample q S) (quantile_of h q) }
 {}
 
-/// Quantiles in ascending order are answered each by its own answer, in empty and in full histograms too.
+/// For quantiles in ascending order, the list of their values is the value at each, in empty and in full histograms too.
 pub fn ascending_quantiles()
     ensures { (h : Plain) (qs : List Ratio) → IsAscending qs
         → quantiles_of h qs ≡ map (quantile_of h) qs }
 {}
 
-/// For at least one sample and a quantile from above 0 to 1: the quantile lies in the classes up to that of a value exactly
-/// where it is at most the share of the samples there.
+/// With at least one sample, and for a quantile above 0 and at most 1: its value lies in the classes up to that of `v` if
+/// and only if the quantile is at most the fraction of the samples in those classes.
 pub fn quantile_and_share()
     ensures { (greatest : ℕ) (h : Plain) (q : Ratio) (v : ℕ) (S : List ℕ) → IsPlain greatest h
         → StandsFor h S → 0 < length S → 0 < q.num → q.num ≤ q.den
@@ -89,8 +89,7 @@ pub fn clearing_stands()
     ensures restarted { (h : Plain) → StandsFor (after_reset h) [] }
 {}
 
-/// What adding a histogram does to the samples: they are joined, where the source's classes are no coarser; corrected,
-/// they may be of any width.
+/// Adding a histogram whose classes are no coarser joins the samples. With correction its classes may have any width.
 pub fn adding_stands()
     ensures merged { (greatest most : ℕ) (h s : Plain) (S L : List ℕ) → 1 ≤ greatest
         → IsPlain greatest h → IsPlain most s → StandsFor h S → StandsFor s L
@@ -115,8 +114,8 @@ pub fn adding_keeps()
         → grain (after_add_correct greatest h s i) ≡ grain h }
 {}
 
-/// Histograms that are added in order stand for their samples joined, where those fit; whatever counter type each counts
-/// in. The answer to each quantile is then that of the joined samples.
+/// Histograms that are added in order stand for all of their samples, if those fit, for any counter types. The value at each
+/// quantile is then that of all samples.
 pub fn joined_stands()
     ensures sum { (greatest most : ℕ) (h : Plain) (ks : List Plain) (S : List ℕ)
         (Ls : List (List ℕ)) → 1 ≤ greatest → IsPlain greatest h → StandsFor h S
@@ -149,8 +148,8 @@ pub fn adding_associates()
         ≡ slice_index (after_add greatest h (after_add greatest s t)).counts i }
 {}
 
-/// Subtracting one of two histograms from their sum gives the numbers of the other, where no counter was full, and its
-/// total, where that is the sum of its numbers.
+/// Subtracting one of two histograms from their sum gives the numbers of the other, if no counter was saturated, and its
+/// total, if that is the sum of its numbers.
 pub fn subtracting_undoes_adding()
     ensures numbers { (greatest : ℕ) (h s d : Plain) → 1 ≤ greatest → IsPlain greatest h
         → IsPlain greatest s → grain h ≡ grain s

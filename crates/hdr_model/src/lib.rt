@@ -1,4 +1,4 @@
-//! The histogram as numbers alone: its definitions, what is true of them, and why calls are refused. No counter stands here.
+//! The histogram as numbers alone: its definitions, what is true of them, and the errors of calls. It has no counters.
 #![tactic(auto)]
 
 pub mod errors;

@@ -1,14 +1,14 @@
-//! The curve of quantiles, on a scale of the inverted distance from the whole: 1/(1 - q).
+//! The curve of quantiles, on a scale of the inverted distance to 1: 1/(1 - q).
 
 use crate::interval::Sum;
 use crate::svg::{HEIGHT, Point, WIDTH, along, push_begin, push_end, push_line, push_mark};
 use hdrhistogram::{Fraction, Histogram};
 use std::alloc::{AllocError, Global};
 
-/// How many points there are for each half of the distance to the whole.
+/// The number of points for each half of the distance to 1.
 const TICKS: u32 = 5;
 
-/// Shares that are marked, by how many samples stand for one beyond them.
+/// Quantiles that are marked, by 1/(1 - q).
 const MARKS: [(u64, &str); 8] = [
     (1, "0%"),
     (10, "90%"),
@@ -33,8 +33,8 @@ fn squared(number: u128) -> (u128, u64) {
     }
 }
 
-/// The binary logarithm of a number with 32 bits after the point, in 65,536ths, rounded down; 0 for numbers below 1. Squaring a
-/// number doubles its logarithm, so that each square tells one binary digit more.
+/// Returns the binary logarithm of a number with 32 bits after the point, in 65,536ths, rounded down; 0 for numbers below 1.
+/// Squaring a number doubles its logarithm, so each square yields one binary digit more.
 fn logarithm(number: u128) -> u64 {
     if number < ONE {
         return 0;
@@ -50,19 +50,19 @@ fn logarithm(number: u128) -> u64 {
     result
 }
 
-/// The logarithm of a share's inverted distance from the whole; `None` for the whole.
+/// Returns the logarithm of a quantile's inverted distance to 1, or `None` for the quantile 1.
 fn place(share: Fraction) -> Option<u64> {
     let distance = share.den.checked_sub(share.num)?;
     let inverted = share.den.checked_mul(ONE)?.checked_div(distance)?;
     Some(logarithm(inverted))
 }
 
-/// The place of the right side: that of a share of which one sample is left.
+/// Returns the position of the right side: that of the last quantile below 1.
 fn right(count: u64) -> u64 {
     logarithm(u128::from(count.max(10)) * ONE)
 }
 
-/// The points of a histogram's curve. The whole stands at the right side.
+/// Returns the points of a histogram's curve. The quantile 1 is at the right side.
 fn points(
     alloc: Global,
     histogram: &Histogram<u64>,
@@ -81,7 +81,7 @@ fn points(
     Ok(points)
 }
 
-/// Adds the marks of shares that stand in the field, but for those whose labels would touch.
+/// Appends the marks of quantiles within the field, except those whose labels would touch.
 fn push_marks(text: &mut String, right: u64) -> Result<(), AllocError> {
     let mut next = 0;
     for (one_in, label) in &MARKS {

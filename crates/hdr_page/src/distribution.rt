@@ -6,13 +6,13 @@ use anyhow::Result;
 use hdrhistogram::{Histogram, IterationValue};
 use std::alloc::{AllocError, Global};
 
-/// How many rows there are for each half of the distance to the whole.
+/// The number of rows for each half of the distance to 1.
 const TICKS: u32 = 5;
 
 const HEAD: &str = "       Value     Percentile TotalCount 1/(1-Percentile)\n\n";
 
-/// The distribution of all values of a log, in the text form of HdrHistogram. Each share of the samples that is asked for has a
-/// row: a value, the share, how many samples there are up to that value, and the share's distance from the whole, inverted.
+/// Returns the distribution of all values of a log, in the text form of HdrHistogram. Each quantile iterated to has a row: a
+/// value, the quantile, the number of samples up to that value, and 1/(1 - q).
 pub(crate) fn distribution(alloc: Global, log: &[u8]) -> Result<String> {
     let histogram = merged(alloc, log)?;
     let mut text = String::from_str(alloc, HEAD)?;
@@ -25,7 +25,7 @@ pub(crate) fn distribution(alloc: Global, log: &[u8]) -> Result<String> {
     Ok(text)
 }
 
-/// Adds the row of a step. The last has no distance from the whole.
+/// Appends the row of a step. The last has no 1/(1 - q).
 fn push_row(
     alloc: Global,
     text: &mut String,
@@ -42,7 +42,7 @@ fn push_row(
     writeln!(text, "{value:>8}.000 {share} {count:>10} {inverted:>14}")
 }
 
-/// Adds the lines that tell of all values together. A mean that more than 128 bits would need is left out.
+/// Appends the lines about all values. A mean that needs more than 128 bits is left out.
 fn push_footer(
     alloc: Global,
     text: &mut String,

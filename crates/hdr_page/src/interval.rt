@@ -13,7 +13,7 @@ use std::time::Duration;
 /// The significant digits of sums.
 pub(crate) const DIGITS: u8 = 3;
 
-/// Values that shares of the samples do not exceed.
+/// Values at quantiles.
 #[derive(Clone, Copy)]
 pub(crate) struct Answers {
     pub half: u64,
@@ -88,7 +88,7 @@ pub(crate) fn seen_in(alloc: Global, log: &[u8]) -> Result<Seen<'_>> {
     Ok(seen)
 }
 
-/// Takes in an interval of this place, after this base time.
+/// Adds an interval of this number, after this base time.
 fn see<'a>(
     alloc: Global,
     seen: &mut Seen<'a>,
@@ -117,7 +117,7 @@ fn decoded(alloc: Global, place: u64, field: &str) -> Result<Histogram<u64>> {
     }
 }
 
-/// Why the field of the interval of this place is not decoded.
+/// Why the field of the interval of this number is not decoded.
 fn undecoded(place: u64, cause: FieldDecodeError) -> Error {
     if matches!(cause, FieldDecodeError::OutOfMemory) {
         return anyhow!("Out of memory");
@@ -147,7 +147,7 @@ fn add_to_sum<'a>(
     Ok(())
 }
 
-/// The value that a share of the samples does not exceed.
+/// Returns the value at a quantile.
 fn answer(histogram: &Histogram<u64>, num: u64, den: u64) -> u64 {
     match Quantile::new(num, den) {
         Some(quantile) => histogram.value_at_quantile(quantile),
@@ -155,7 +155,7 @@ fn answer(histogram: &Histogram<u64>, num: u64, den: u64) -> u64 {
     }
 }
 
-/// The values that are told of a histogram.
+/// Returns the values at the quantiles of `Answers`.
 pub(crate) fn answers_of(histogram: &Histogram<u64>) -> Answers {
     Answers {
         half: answer(histogram, 1, 2),

@@ -29,7 +29,7 @@ enum Form {
     Intervals,
 }
 
-/// The words of the command line after the program's name; `None` where one is no text.
+/// Returns the arguments after the program's name, or `None` if one of them is not UTF-8.
 fn words_given(rt: &HostRuntime) -> Result<Option<Vec<String>>> {
     match env::args(rt) {
         Ok(words) => Ok(Some(words.skip(1).collect(rt.alloc())?)),
@@ -38,7 +38,7 @@ fn words_given(rt: &HostRuntime) -> Result<Option<Vec<String>>> {
     }
 }
 
-/// The form that the words ask for.
+/// Parses the arguments: the form of the output.
 fn form_of(words: &[String]) -> Option<Form> {
     let [word] = words else {
         return if words.is_empty() {
@@ -63,7 +63,7 @@ fn made(alloc: Global, form: Form, log: &[u8]) -> Result<String> {
     }
 }
 
-/// Shows standard input as the words ask for, and answers the status.
+/// Prints standard input in the form of the arguments, and returns the exit status.
 fn hdr_page(rt: &HostRuntime) -> Result<ExitCode> {
     let words = words_given(rt)?;
     let form = match &words {

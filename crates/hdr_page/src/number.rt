@@ -5,7 +5,7 @@ ghost use Rattle.hdr_page.specs.Numbers.{nearest};
 
 use std::alloc::{AllocError, Global};
 
-/// A fraction in so many parts of one, to the nearest, halves up; `None` where the divisor is 0 or a product passes 128 bits.
+/// Returns `num * parts / den` to the nearest integer, halves up, or `None` if `den` is 0 or the product overflows.
 pub(crate) fn in_parts(num: u128, den: u128, parts: u128) -> Option<u128>
     ensures { IfSome result (λ n. n ≡ nearest num den parts) }
 {
@@ -14,7 +14,7 @@ pub(crate) fn in_parts(num: u128, den: u128, parts: u128) -> Option<u128>
         .checked_div(den)
 }
 
-/// A fraction with two digits after the point, or `-` where it has none.
+/// Returns a fraction with two digits after the point, or `-` if it is not computed.
 pub(crate) fn hundredths(alloc: Global, num: u128, den: u128) -> Result<String, AllocError> {
     let Some(number) = in_parts(num, den, 100) else {
         return String::from_str(alloc, "-");
@@ -24,7 +24,7 @@ pub(crate) fn hundredths(alloc: Global, num: u128, den: u128) -> Result<String, 
     format!(in alloc; "{whole}.{part:02}")
 }
 
-/// A fraction with three digits after the point, or `-` where it has none.
+/// Returns a fraction with three digits after the point, or `-` if it is not computed.
 pub(crate) fn thousandths(alloc: Global, num: u128, den: u128) -> Result<String, AllocError> {
     let Some(number) = in_parts(num, den, 1_000) else {
         return String::from_str(alloc, "-");
@@ -34,7 +34,7 @@ pub(crate) fn thousandths(alloc: Global, num: u128, den: u128) -> Result<String,
     format!(in alloc; "{whole}.{part:03}")
 }
 
-/// A fraction with twelve digits after the point, or `-` where it has none.
+/// Returns a fraction with twelve digits after the point, or `-` if it is not computed.
 pub(crate) fn trillionths(alloc: Global, num: u128, den: u128) -> Result<String, AllocError> {
     let Some(number) = in_parts(num, den, 1_000_000_000_000) else {
         return String::from_str(alloc, "-");

@@ -6,10 +6,10 @@ use crate::svg::{HEIGHT, Point, WIDTH, along, push_begin, push_end, push_line, p
 use hdrhistogram::serialization::interval_log::Tag;
 use std::alloc::{AllocError, Global};
 
-/// The names of the quantiles that are drawn; `drawn` has the answer at each index.
+/// The names of the quantiles that are drawn; `drawn` has the value of each.
 pub(crate) const DRAWN: [&str; 4] = ["50%", "90%", "99%", "100%"];
 
-/// The answer to the quantile that is drawn at this place.
+/// Returns the value of the quantile at this index of `DRAWN`.
 fn drawn(answers: &Answers, place: usize) -> u64 {
     match place {
         0 => answers.half,
@@ -27,7 +27,7 @@ struct Span {
     most: u64,
 }
 
-/// The span of the intervals of a tag; `None` where there is none.
+/// Returns the span of the intervals of a tag, or `None` if it has none.
 fn span_of(intervals: &[Interval<'_>], tag: Option<Tag<'_>>) -> Option<Span> {
     let mut span: Option<Span> = None;
     for interval in intervals {

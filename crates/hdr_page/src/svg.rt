@@ -4,7 +4,7 @@ ghost use Rattle.std.specs.Prelude.{◌≤◌};
 
 use std::alloc::AllocError;
 
-/// The field of a drawing in which lines are drawn, and what stands round it, in pixels.
+/// The field of a drawing in which lines are drawn, and its margins, in pixels.
 pub(crate) const WIDTH: u64 = 720;
 
 pub(crate) const HEIGHT: u64 = 280;
@@ -30,7 +30,7 @@ pub(crate) struct Point {
     pub y: u64,
 }
 
-/// Begins a drawing with its field, where the greatest value stands above its left side, and 0 beside it.
+/// Appends the start of a drawing: its field, the greatest value above its left side, and 0 beside it.
 pub(crate) fn push_begin(text: &mut String, most: u64) -> Result<(), AllocError> {
     let bottom = TOP + HEIGHT;
     write!(
@@ -78,7 +78,7 @@ pub(crate) fn push_line(
     writeln!(text, "\"/>")
 }
 
-/// Adds a text, with the letters that HTML reads otherwise spelt out.
+/// Appends a text, with the characters escaped that HTML reserves.
 pub(crate) fn push_text(text: &mut String, plain: &str) -> Result<(), AllocError> {
     for letter in plain.chars() {
         push_letter(text, letter)?;

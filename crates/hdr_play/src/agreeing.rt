@@ -38,7 +38,7 @@ pub fn agrees<T: Counter>(
 }
 
 /// Each value below a number by each interval up to the next value, in histograms that keep what was recorded, or in empty
-/// ones. The answer is the first value at which the bodies do not agree.
+/// ones. Returns the first value at which the bodies do not agree.
 pub fn agree_below<T: Counter>(
     one: &mut Histogram<T>,
     other: &mut Histogram<T>,

@@ -1,4 +1,4 @@
-//! What a call answers, and why it has no answer.
+//! The result of a line: what a call returned, or why it returned nothing.
 
 use hdr_core::{AdditionError, CallError, CreationError, RecordError, RunError, SubtractionError};
 use hdrhistogram::serialization::interval_log::{IntervalLogWriterError, MergeError};
@@ -6,7 +6,7 @@ use hdrhistogram::serialization::{DeserializeError, FieldDecodeError, V2Serializ
 use std::alloc::{AllocError, Global};
 use thiserror::Error;
 
-/// What a call answers that is not refused.
+/// The result of a call that returned no error.
 #[derive(Drop)]
 pub enum Answer {
     Done,
@@ -17,7 +17,7 @@ pub enum Answer {
     Text(String),
 }
 
-/// Why a call has no answer: the error that it returned, or a fault of the line that asks for it.
+/// The error that a call returned, or what is wrong with its line.
 #[derive(Debug, Drop, Error)]
 pub enum Refusal {
     #[error("{0}")]
@@ -52,11 +52,11 @@ pub enum Refusal {
     NoMemory(#[from] AllocError),
 }
 
-/// What comes of a call.
+/// The result of a call, or its error.
 pub type Outcome = Result<Answer, Refusal>;
 
 impl Refusal {
-    /// Whether the line that asks is at fault, or memory ran out to the player itself.
+    /// Whether the line is wrong, or an allocation of the player itself failed.
     pub fn is_fault(&self) -> bool {
         matches!(
             self,
@@ -74,14 +74,14 @@ impl Refusal {
         String::from_str(alloc, error.strip_suffix(")").unwrap_or(error))
     }
 
-    /// What the error says, between quotation marks.
+    /// Returns the error's message between quotation marks.
     pub fn says(&self, alloc: Global) -> Result<String, AllocError> {
         format!(in alloc; "\"{self}\"")
     }
 }
 
 impl Answer {
-    /// The answer as rows write it.
+    /// Returns the result as rows write it.
     pub fn shown(&self, alloc: Global) -> Result<String, AllocError> {
         match self {
             Answer::Done => String::from_str(alloc, "ok"),
@@ -102,7 +102,7 @@ pub fn agree(is_alike: bool) -> Result<(), Refusal> {
     }
 }
 
-/// The answer of a call that may answer nothing.
+/// Returns the result of a call that may return `None`.
 pub fn number(answer: Option<u64>) -> Answer {
     match answer {
         Some(number) => Answer::Number(number),

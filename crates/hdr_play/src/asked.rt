@@ -1,9 +1,9 @@
-//! What a line asks for.
+//! Parsing the arguments of a line.
 
 use crate::answer::Refusal;
 use hdr_base::{Counter, Quantile};
 
-/// A text up to its first space, and what stands behind that.
+/// Splits a text at its first space.
 pub fn halves(text: &str) -> (&str, &str) {
     text.split_once(' ').unwrap_or((text, ""))
 }
@@ -36,12 +36,12 @@ impl Numbers {
     }
 }
 
-/// The number that a word is.
+/// Parses an argument as a number.
 pub fn parsed(word: &str) -> Result<u64, Refusal> {
     given(word.parse::<u64>().ok())
 }
 
-/// What there is to be had of an argument.
+/// Returns the value of an argument, or an error if it has none.
 pub fn given<V: Drop>(value: Option<V>) -> Result<V, Refusal> {
     match value {
         Some(value) => Ok(value),

@@ -33,7 +33,7 @@ pub fn of_counters<T: Counter>(name: &str, numbers: &[u64]) -> Outcome {
     }
 }
 
-/// What is asked of a scale and a value.
+/// Makes a call on a scale that takes a value.
 fn of_value(scale: Scale, name: &str, value: u64) -> Outcome {
     match name {
         "bin" => Ok(Number(scale.bin(value) as u64)),
@@ -49,7 +49,7 @@ fn of_value(scale: Scale, name: &str, value: u64) -> Outcome {
     }
 }
 
-/// What is asked of a scale.
+/// Makes a call on a scale.
 fn of_scale(scale: Scale, name: &str) -> Outcome {
     match name {
         "unit" => Ok(Number(u64::from(scale.unit()))),
@@ -59,7 +59,7 @@ fn of_scale(scale: Scale, name: &str) -> Outcome {
     }
 }
 
-/// A call on the scale of a low and digits, which stand before the value.
+/// A call on the scale of a low and digits, which come before the value.
 pub fn of_scales(name: &str, numbers: &[u64]) -> Outcome {
     let [low, sigfig, value @ ..] = numbers else {
         return Err(Refusal::NoCall);

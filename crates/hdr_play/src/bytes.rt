@@ -17,7 +17,7 @@ use std::mem;
 /// What follows the bytes that are read, and is to be left.
 const REST: &[u8; 2] = b"xy";
 
-/// Gives at most one byte a call.
+/// A reader that returns at most one byte a call.
 #[derive(Drop)]
 struct Slow<'a>(&'a [u8]);
 
@@ -44,7 +44,7 @@ fn bytes_of(alloc: Global, digits: &str) -> Result<Vec<u8>, Refusal> {
     given(hex::decode(alloc, digits).ok())
 }
 
-/// The V2 bytes, lent and written alike.
+/// Returns the V2 bytes, which `to_bytes` and `serialize` have to make alike.
 fn to_bytes<T: Counter>(alloc: Global, h: &Histogram<T>) -> Outcome {
     let mut written: Vec<u8> = Vec::new(alloc);
     let count = V2Serializer::new(alloc).serialize(h, &mut written)?;
@@ -54,7 +54,7 @@ fn to_bytes<T: Counter>(alloc: Global, h: &Histogram<T>) -> Outcome {
     digits_of(alloc, lent)
 }
 
-/// The payload alone, in a buffer with room for every bin.
+/// Returns the payload alone, from a buffer that is long enough for all bins.
 fn payload<T: Counter>(alloc: Global, h: &Histogram<T>) -> Outcome {
     let Some(room) = counts_array_max_encoded_size(h.distinct_values()) else {
         return Ok(Answer::Nothing);
@@ -85,7 +85,7 @@ fn read_slowly<T: Counter>(alloc: Global, bytes: &[u8]) -> Result<Taken<T>, Dese
     Ok(Taken { histogram, bytes })
 }
 
-/// Whether two readings of the same bytes come to the same.
+/// Whether the same bytes were decoded to the same, twice.
 fn are_alike<T: Counter>(one: &Taken<T>, other: &Taken<T>) -> bool {
     one.bytes == other.bytes
         && one.histogram == other.histogram
@@ -139,7 +139,7 @@ pub fn of_histogram<T: Counter>(
     }
 }
 
-/// The spelling of a number.
+/// Returns the varint of a number.
 fn varint(alloc: Global, n: u64) -> Outcome {
     let mut buf = [0xaa; 10];
     let len = varint_write(n, &mut buf);
@@ -147,8 +147,8 @@ fn varint(alloc: Global, n: u64) -> Outcome {
     digits_of(alloc, given(buf.get(..len))?)
 }
 
-/// The number that bytes begin with: the same from a slice and from a reader, which leaves the rest and fails where the last
-/// byte is cut off.
+/// Decodes the varint at the start of bytes, from a slice and from a reader alike. The reader consumes no more, and fails if
+/// the last byte is missing.
 fn spelt(spelling: &[u8]) -> Option<u64> {
     let mut buf = [0xaa; 12];
     buf.get_mut(..spelling.len())?.copy_from_slice(spelling);

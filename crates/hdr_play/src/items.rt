@@ -53,7 +53,7 @@ fn listed(told: String) -> Answer {
     }
 }
 
-/// What all items so far come to, and one more: each of its numbers is added to 31 times those before, in 128 bits.
+/// Returns the digest of all items so far and one more: each of its numbers is added to 31 times the digest, in 128 bits.
 fn digested<T: Counter>(digest: u128, item: &IterationValue<T>) -> u128 {
     let (quantile, tick) = (item.quantile(), item.quantile_iterated_to());
     let mut digest = digest;
@@ -70,7 +70,7 @@ fn digested<T: Counter>(digest: u128, item: &IterationValue<T>) -> u128 {
     digest
 }
 
-/// The items of an iterator, between commas; of a long list the first ones, how many there are, and what all come to.
+/// Returns the items of an iterator, between commas; of a long list the first ones, their number, and the digest of all.
 fn items<T: Counter>(alloc: Global, list: Vec<IterationValue<T>>) -> Outcome {
     let mut told = String::new(alloc);
     let mut number: u64 = 0;
@@ -97,7 +97,7 @@ fn ratio(alloc: Global, fraction: Fraction) -> Outcome {
     Ok(Answer::Text(format!(in alloc; "{}/{}", fraction.num, fraction.den)?))
 }
 
-/// What is asked of a histogram and answered by a text.
+/// Makes a call on a histogram whose result is a text.
 pub fn told<T: Counter>(alloc: Global, h: &Histogram<T>, name: &str, numbers: &[u64]) -> Outcome {
     match (name, numbers) {
         ("iter_all", []) => items(alloc, h.iter_all().collect(alloc)?),

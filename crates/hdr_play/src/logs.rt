@@ -140,7 +140,7 @@ fn set_divisor(builder: &mut IntervalLogWriterBuilder, word: &str) -> Result<(),
     Ok(())
 }
 
-/// Sets one thing of a log that is to begin.
+/// Sets one option of a log that is to be started.
 fn set(alloc: Global, builder: &mut IntervalLogWriterBuilder, words: &str) -> Result<(), Refusal> {
     let (name, rest) = halves(words);
     match name {
@@ -172,7 +172,7 @@ fn begin(alloc: Global, words: &str) -> Outcome {
     escaped_text(alloc, log.as_slice())
 }
 
-/// The text of a log of one interval: its start, its duration and the divisor, and then its tag where it has one.
+/// Returns a log of one interval, from its start, its duration, the divisor, and its tag if it has one.
 pub fn line<T: Counter>(alloc: Global, h: &Histogram<T>, words: &str) -> Outcome {
     let (start, words) = halves(words);
     let (duration, words) = halves(words);

@@ -10,7 +10,7 @@ use std::alloc::Global;
 use std::mem;
 use std::time::Duration;
 
-/// A bound of times, where there is one.
+/// Parses a bound of times, if there is one.
 fn bound(word: &str) -> Result<Option<Duration>, Refusal> {
     match word {
         "-" => Ok(None),
@@ -18,7 +18,7 @@ fn bound(word: &str) -> Result<Option<Duration>, Refusal> {
     }
 }
 
-/// The tags of a word; a `-` stands for every tag, and a comma, which no tag has, for intervals without one.
+/// Parses the choice of tags; a `-` stands for every tag, and a comma, which no tag has, for intervals without one.
 fn tags(word: &str) -> Result<TagChoice<'_>, Refusal> {
     match word {
         "-" => Ok(TagChoice::Every),
@@ -27,7 +27,7 @@ fn tags(word: &str) -> Result<TagChoice<'_>, Refusal> {
     }
 }
 
-/// Merges a log in the histogram's place: `SIGFIG TAG FROM TO LOG`, times in seconds. It answers how many intervals were
+/// Replaces the histogram by the merge of a log: `SIGFIG TAG FROM TO LOG`, times in seconds. Returns how many intervals were
 /// chosen.
 pub fn merge<T: Counter>(alloc: Global, h: &mut Histogram<T>, words: &str) -> Outcome {
     let (sigfig, words) = halves(words);

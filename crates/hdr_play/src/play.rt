@@ -7,7 +7,7 @@ use crate::table::Table;
 use hdr_base::Counter;
 use std::alloc::{AllocError, Global};
 
-/// What came of rows: how many passed, how many failed, and what is told of these.
+/// The result of rows: how many passed, how many failed, and the lines to print for those that failed.
 #[derive(Drop)]
 pub struct Report {
     pub passed: u64,
@@ -15,7 +15,7 @@ pub struct Report {
     pub told: String,
 }
 
-/// A row at one of its counter types, and where its title stands.
+/// A row at one of its counter types, and the line of its title.
 #[derive(Clone, Copy)]
 struct Row<'a> {
     file: &'a str,
@@ -36,7 +36,7 @@ fn is_named(name: &str, wanted: &str) -> bool {
     }
 }
 
-/// Whether what came is what a text wants: an answer, the name of an error, or between quotation marks what an error says.
+/// Whether what came is what a text wants: a result, the name of an error, or an error's message between quotation marks.
 fn is_wanted(alloc: Global, outcome: &Outcome, wanted: &str) -> Result<bool, AllocError> {
     match outcome {
         Ok(answer) => Ok(answer.shown(alloc)?.as_str() == wanted),
@@ -45,7 +45,7 @@ fn is_wanted(alloc: Global, outcome: &Outcome, wanted: &str) -> Result<bool, All
     }
 }
 
-/// What came, beside what is wanted; `None` where that is the same.
+/// Returns what came, beside what is wanted, or `None` if that is the same.
 fn difference(
     alloc: Global,
     outcome: &Outcome,
@@ -62,7 +62,7 @@ fn difference(
     Ok(Some(told))
 }
 
-/// What is wrong with a line that is wrong on purpose: it wants a first answer, which has to be refused, but a second came.
+/// Returns what is wrong with a line that is wrong on purpose, whose first result has to differ and whose second has to come.
 fn not_refused(
     alloc: Global,
     outcome: &Outcome,
@@ -77,7 +77,7 @@ fn not_refused(
     difference(alloc, outcome, right)
 }
 
-/// What is wrong with a line; `None` where it passes.
+/// Returns what is wrong with a line, or `None` if it passes.
 fn wrong<T: Counter>(
     alloc: Global,
     table: &mut Table<T>,
@@ -98,7 +98,7 @@ fn wrong<T: Counter>(
     }
 }
 
-/// Plays a row at a counter type: tells of each line that is wrong. Whether the row passes.
+/// Plays a row at a counter type, and appends each line that fails to `told`. Returns whether the row passes.
 fn played<T: Counter>(alloc: Global, row: Row<'_>, told: &mut String) -> Result<bool, Refusal> {
     let mut table: Table<T> = Table::new(alloc)?;
     let mut passes = true;
@@ -149,7 +149,7 @@ impl Report {
         }
     }
 
-    /// Looks at what stands before the first row, which is for the reader alone.
+    /// Checks the lines before the first row, which are for the reader alone.
     fn front(&mut self, file: &str, text: &str) -> Result<(), Refusal> {
         for line in text.lines() {
             if !line.is_empty() && !line.starts_with('#') {

@@ -6,7 +6,7 @@ use hdr_base::Counter;
 use hdr_core::{Call, CallFrom, Histogram};
 use std::alloc::{AllocError, Global};
 
-/// The call that words ask for, where `other` is a source.
+/// Parses a call in which `other` is a source.
 pub fn call_of<'a, T: Counter>(
     words: &str,
     other: &'a Histogram<T>,
@@ -44,7 +44,7 @@ pub fn calls_of<'a, T: Counter>(
     Ok(calls)
 }
 
-/// The call that words ask for, where `wide` is a source too.
+/// Parses a call in which `wide` is a source too.
 fn call_from_of<'a, T: Counter>(
     words: &str,
     other: &'a Histogram<T>,

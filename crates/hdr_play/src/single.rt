@@ -23,7 +23,7 @@ fn make<T: Counter>(alloc: Global, h: &mut Histogram<T>, name: &str, numbers: &[
     put(h, made)
 }
 
-/// Puts a histogram in the place of another.
+/// Replaces a histogram by another.
 pub fn put<T: Counter>(h: &mut Histogram<T>, made: Histogram<T>) -> Outcome {
     drop(mem::replace(h, made));
     Ok(Answer::Done)
@@ -49,7 +49,7 @@ fn change<T: Counter>(h: &mut Histogram<T>, name: &str, numbers: &[u64]) -> Outc
     Ok(Answer::Done)
 }
 
-/// What is asked of the whole; 1 is true, and 0 is false.
+/// Makes a call on the histogram that takes no argument; 1 is true, and 0 is false.
 fn whole<T: Counter>(h: &Histogram<T>, name: &str) -> Option<u64> {
     match name {
         "len" => Some(h.len()),
@@ -68,7 +68,7 @@ fn whole<T: Counter>(h: &Histogram<T>, name: &str) -> Option<u64> {
     }
 }
 
-/// What is asked of a value's class, and of the counts of classes; 1 is true, and 0 is false.
+/// Makes a call on a value's class, or on the counts of classes; 1 is true, and 0 is false.
 fn class<T: Counter>(h: &Histogram<T>, name: &str, numbers: &[u64]) -> Option<u64> {
     match (name, numbers) {
         ("count_at", [value]) => Some(h.count_at(*value).as_u64()),
@@ -93,7 +93,7 @@ fn listed<T: Counter>(h: &Histogram<T>, index: u64) -> Option<u64> {
     Some(h.counters().get(index as usize)?.as_u64())
 }
 
-/// What is asked of a bin.
+/// Makes a call on a bin.
 fn bin<T: Counter>(h: &Histogram<T>, name: &str, numbers: &[u64]) -> Outcome {
     match (name, numbers) {
         ("bin_of", [value]) => match h.bin_of(*value) {
@@ -115,14 +115,14 @@ fn looks<T: Counter>(h: &Histogram<T>, quantile: Quantile) -> Outcome {
     Ok(Number(ticks.count()))
 }
 
-/// Corrects class by class, and answers how many counters were updated.
+/// Corrects class by class, and returns how many counters were updated.
 fn updates<T: Counter>(h: &mut Histogram<T>, value: u64, count: T, interval: u64) -> Outcome {
     let mut ticks = Ticks::new();
     h.record_n_correct_counted(value, count, interval, &mut ticks)?;
     Ok(Number(ticks.count()))
 }
 
-/// What is asked of a quantile, and how much work a call does.
+/// Makes a call on a quantile, or a call that counts its steps.
 fn ranked<T: Counter>(h: &mut Histogram<T>, name: &str, numbers: &[u64]) -> Outcome {
     match (name, numbers) {
         ("value_at_quantile", [num, den]) => Ok(Number(h.value_at_quantile(ratio(*num, *den)?))),
@@ -137,7 +137,7 @@ fn ranked<T: Counter>(h: &mut Histogram<T>, name: &str, numbers: &[u64]) -> Outc
     }
 }
 
-/// Does a call on one histogram that takes numbers alone, and is not answered by a text.
+/// Makes a call on one histogram that takes numbers alone and does not return a text.
 pub fn call<T: Counter>(
     alloc: Global,
     h: &mut Histogram<T>,
@@ -161,11 +161,11 @@ pub fn call<T: Counter>(
     }
 }
 
-/// What two histograms have to tell alike to be the same.
+/// The calls that have to return the same on two histograms if they are the same.
 const WHOLE: &str =
     "len is_empty low high sigfig is_auto_resize buckets distinct_values max min min_nz";
 
-/// Both tell the same of themselves, bin by bin.
+/// Whether these calls return the same on both, and all bins have the same counts.
 pub fn same<T: Counter, F: Counter>(one: &Histogram<T>, other: &Histogram<F>) -> bool {
     for name in WHOLE.split(' ') {
         if whole(one, name) != whole(other, name) {

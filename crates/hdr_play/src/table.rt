@@ -19,7 +19,7 @@ pub struct Table<T: Counter> {
     pub wide: Histogram<u64>,
 }
 
-/// Does a call on one histogram that takes a text.
+/// Makes a call on one histogram that takes a text.
 fn worded<T: Counter>(alloc: Global, h: &mut Histogram<T>, name: &str, text: &str) -> Outcome {
     match name {
         "log_line" => logs::line(alloc, h, text),
@@ -37,7 +37,7 @@ fn worded<T: Counter>(alloc: Global, h: &mut Histogram<T>, name: &str, text: &st
     }
 }
 
-/// Does a call on one histogram.
+/// Makes a call on one histogram.
 fn alone<T: Counter>(alloc: Global, h: &mut Histogram<T>, name: &str, text: &str) -> Outcome {
     match worded(alloc, h, name, text) {
         Err(Refusal::NoCall) => {}
@@ -50,7 +50,7 @@ fn alone<T: Counter>(alloc: Global, h: &mut Histogram<T>, name: &str, text: &str
     }
 }
 
-/// Does a call that is on no histogram, and takes numbers.
+/// Makes a call without a histogram, which takes numbers.
 fn on_none<T: Counter>(who: &str, name: &str, numbers: &[u64]) -> Outcome {
     match who {
         "counter" => base::of_counters::<T>(name, numbers),
@@ -60,7 +60,7 @@ fn on_none<T: Counter>(who: &str, name: &str, numbers: &[u64]) -> Outcome {
     }
 }
 
-/// What a comparison comes to one way and the other.
+/// Returns the result of a comparison, which has to be the same both ways.
 fn compared(there: bool, back: bool) -> Outcome {
     agree(there == back)?;
     Ok(Answer::Truth(there))
@@ -129,7 +129,7 @@ impl<T: Counter> Table<T> {
         }
     }
 
-    /// Does calls as values.
+    /// Applies calls as values.
     fn run(&mut self, alloc: Global, name: &str, words: &str) -> Outcome {
         match name {
             "apply" => self.one.apply(&call_of(words, &self.other)?)?,
@@ -147,7 +147,7 @@ impl<T: Counter> Table<T> {
         Ok(Answer::Done)
     }
 
-    /// Does a call between the histograms.
+    /// Makes a call between the histograms.
     fn between(&mut self, alloc: Global, name: &str, numbers: &[u64]) -> Outcome {
         match self.join(name, numbers) {
             Err(Refusal::NoCall) => {}
@@ -163,7 +163,7 @@ impl<T: Counter> Table<T> {
         }
     }
 
-    /// Does a call on the first histogram.
+    /// Makes a call on the first histogram.
     fn first(&mut self, alloc: Global, name: &str, text: &str) -> Outcome {
         match self.run(alloc, name, text) {
             Err(Refusal::NoCall) => {}
@@ -175,7 +175,7 @@ impl<T: Counter> Table<T> {
         }
     }
 
-    /// Does what a line asks for.
+    /// Makes the call of a line.
     pub fn answer(&mut self, alloc: Global, line: &str) -> Outcome {
         let (who, words) = halves(line);
         let (name, text) = halves(words);

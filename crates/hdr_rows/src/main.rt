@@ -1,4 +1,4 @@
-//! Plays files of rows, `hdr_rows FILE..`: text in the language that `hdr_play` describes. It tells of each line that fails, with
+//! Plays files of rows, `hdr_rows FILE..`: text in the language that `hdr_play` describes. It prints each line that fails, with
 //! what was wanted and what came, and at the end how many rows passed and failed.
 #![tactic(auto)]
 

@@ -1,5 +1,5 @@
-//! What rows can't show: memory refused, in turn or where much is asked for, readers and writers that fail, of the library and
-//! of the program, texts of errors that no row meets, and laws.
+//! What rows can't show: allocations that fail, in turn or if they are large, readers and writers that fail, of the library and
+//! of the program, messages of errors that no row meets, and laws.
 
 mod failing;
 mod laws;

@@ -20,7 +20,7 @@ one_fits greatest g one =
 abbrev pub the_end : EndOf (List ℕ)
 the_end = record { holds = 1 ∷ []; tag = None; start = 0 }
 
--- a state after so many samples of a value
+-- a state after a number of samples of a value
 abbrev pub recorded : Grain → State → ℕ → ℕ → State
 recorded g s n v = record { samples = s.samples ++ replicate n v; high = high_with g s.high v (reach_of g v) }
 

@@ -124,7 +124,7 @@ pub fn encode_zig_zag(n: i64) -> u64 {
     zig_zag_encode(n)
 }
 
-/// It stands with the deserializer.
+/// It is defined with the deserializer.
 pub fn decode_zig_zag(encoded: u64) -> i64 {
     deserializer::zig_zag_decode(encoded)
 }
@@ -133,7 +133,7 @@ pub fn greatest_size(counts: usize) -> Option<usize> {
     counts_array_max_encoded_size(counts)
 }
 
-/// Guard: room for nine bytes a bin.
+/// Guard: nine bytes for each bin.
 pub fn payload<T: Counter>(
     histogram: &Histogram<T>,
     buffer: &mut [u8],
@@ -174,7 +174,7 @@ pub fn errors_by_modules(
     (written, read)
 }
 
-/// A fault of a stream becomes an error of either.
+/// An error of a stream becomes an error of either.
 pub fn from_io(one: io::Error, other: io::Error) -> (V2SerializeError, DeserializeError) {
     (V2SerializeError::from(one), DeserializeError::from(other))
 }
@@ -185,7 +185,7 @@ pub fn by_question_mark<R: Read>(reader: &mut R) -> Result<u64, DeserializeError
     Ok(n)
 }
 
-/// Guard: room for nine bytes a bin up to the top mark's.
+/// Guard: nine bytes for each bin up to the top mark's.
 pub fn payload_to_the_mark<T: Counter>(
     histogram: &Histogram<T>,
     buffer: &mut [u8],

@@ -99,7 +99,7 @@ pub fn printed_errors() -> bool {
         && is_printed_error::<MergeError>()
 }
 
-/// A fault prints as its line.
+/// A `Fault` prints as its line.
 pub fn faults() -> bool {
     is_display::<Fault>()
 }

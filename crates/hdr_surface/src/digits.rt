@@ -5,7 +5,7 @@ use hdrhistogram::serialization::interval_log::{IntervalFilter, MergeError, Merg
 use hdrhistogram::{Counter, CreationError, Histogram};
 use std::alloc::Global;
 
-/// Any digits: a `low` of 1 and a `high` of 2 are no errors.
+/// Any digits: a `low` of 1 and a `high` of 2 are never errors.
 pub fn new_of<T: Counter>(alloc: Global, sigfig: u8) -> Option<Histogram<T>> {
     match Histogram::new(alloc, sigfig) {
         Ok(histogram) => Some(histogram),
@@ -19,7 +19,7 @@ pub fn new_of<T: Counter>(alloc: Global, sigfig: u8) -> Option<Histogram<T>> {
     }
 }
 
-/// Three digits are no error of a merge.
+/// Three digits are never an error of a merge.
 pub fn merge<T: Counter>(
     alloc: Global,
     log: &[u8],

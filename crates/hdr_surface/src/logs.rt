@@ -120,7 +120,7 @@ pub fn unwritten<E>(error: &IntervalLogWriterError<E>) -> u64 {
     }
 }
 
-/// A fault of a stream becomes such an error.
+/// An error of a stream becomes this error.
 pub fn from_io(error: io::Error) -> IntervalLogWriterError<V2SerializeError> {
     IntervalLogWriterError::from(error)
 }
@@ -162,14 +162,14 @@ pub fn time_of_entry(entry: &LogEntry<'_>) -> Duration {
     }
 }
 
-/// The one reason, with its place.
+/// The one reason, with its offset.
 pub fn place_of_fault(error: &LogIteratorError) -> usize {
     match error {
         LogIteratorError::ParseError { offset } => *offset,
     }
 }
 
-/// The reason with its place, made.
+/// The reason with its offset, constructed.
 pub fn fault_at(offset: usize) -> LogIteratorError {
     LogIteratorError::ParseError { offset }
 }

@@ -3,7 +3,7 @@
 use hdrhistogram::serialization::interval_log::{IntervalLogIterator, LogEntry, LogIteratorError};
 use hdrhistogram::{Counter, IterationValue};
 
-/// What is not read of a log: the place of a fault lies in it.
+/// What is not read of a log: the offset of an error lies in it.
 pub fn unread(log: &[u8]) -> &[u8] {
     for entry in IntervalLogIterator::new(log) {
         match entry {

@@ -1,10 +1,10 @@
-//! The program, over any reader and writer, and its faults.
+//! The program, over any reader and writer, and its errors.
 
 use hdr_tool::{Fault, run};
 use std::alloc::{AllocError, Global};
 use std::io::{Read, Write};
 
-/// Words lack the program's name.
+/// `words` lacks the program's name.
 pub fn run_words<R: Read, W: Write>(
     alloc: Global,
     words: &[String],
@@ -14,7 +14,7 @@ pub fn run_words<R: Read, W: Write>(
     run(alloc, words, reader, writer)
 }
 
-/// By the whole path.
+/// By the full path.
 pub fn run_by_path<R: Read, W: Write>(
     alloc: Global,
     words: &[String],

@@ -16,7 +16,7 @@ pub fn same_counter<T: Counter>(counter: T) -> T {
     T::from_u64(counter.as_u64()).unwrap()
 }
 
-/// Guard: a place below `distinct_values`.
+/// Guard: an index below `distinct_values`.
 pub fn number_at<T: Counter>(histogram: &Histogram<T>, index: usize) -> u64 {
     if index >= histogram.distinct_values() {
         return 0;
@@ -24,7 +24,7 @@ pub fn number_at<T: Counter>(histogram: &Histogram<T>, index: usize) -> u64 {
     histogram.bin_count(index).unwrap().as_u64()
 }
 
-/// Guard: a place below `distinct_values`.
+/// Guard: an index below `distinct_values`.
 pub fn value_at<T: Counter>(histogram: &Histogram<T>, index: usize) -> u64 {
     if index >= histogram.distinct_values() {
         return 0;

@@ -1,4 +1,4 @@
-//! What fits is computed without a test: numbers, shares, places and lengths.
+//! What fits is computed without a test: numbers, fractions, indices and lengths.
 
 use hdr_base::Scale;
 use hdr_base::laws::intervals;
@@ -27,7 +27,7 @@ pub fn whole_part(quantile: Quantile) -> u64 {
     quantile.num() / quantile.den()
 }
 
-/// The numerator of a share fits 64 bits.
+/// The numerator of a quantile fits 64 bits.
 pub fn share_below<T: Counter>(histogram: &Histogram<T>, value: u64) -> u64 {
     histogram.quantile_below(value).num as u64
 }
@@ -62,7 +62,7 @@ pub fn place_in_scale(scale: &Scale, value: u64) -> (u64, u64) {
     (value - scale.lowest(value), scale.top(value) - value)
 }
 
-/// One part in so many is kept of a value: no more than five digits are.
+/// Returns `10^sigfig`, which needs no test, since `sigfig` is at most 5.
 pub fn precision<T: Counter>(histogram: &Histogram<T>) -> u64 {
     let powers = [1, 10, 100, 1000, 10_000, 100_000];
     powers[histogram.sigfig() as usize]
@@ -81,7 +81,7 @@ pub fn last_sum<T: Counter>(counts: &Counts<T>) -> u128 {
     counts.sum_to(counts.len() - 1)
 }
 
-/// Blocks of any length, and then one more. Guard: room for one more among the most that there may be.
+/// Blocks of any length, and then one more. Guard: with one more there are at most as many as there may be.
 pub fn grown_by_one<T: Counter>(alloc: Global, blocks: usize, block: usize) -> Option<Counts<T>> {
     if block == 0 || blocks >= 6_291_456 / block {
         return None;

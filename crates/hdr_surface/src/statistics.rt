@@ -73,7 +73,7 @@ pub fn above<T: Counter>(histogram: &Histogram<T>, value: u64) -> u64 {
     histogram.len() - histogram.count_between(0, value)
 }
 
-/// A share is at most the whole.
+/// A quantile is at most 1.
 pub fn rest<T: Counter>(histogram: &Histogram<T>, value: u64) -> u128 {
     let below = histogram.quantile_below(value);
     below.den - below.num

@@ -1,15 +1,8 @@
 pub mod LinesParts
-pub mod OutcomesSinks
 pub mod OutcomesAnswers
 pub mod OutcomesRuns
-pub mod OutcomesEnds
 pub mod OutcomesCounts
 pub mod OutcomesOnce
-pub mod ProgramStreaming
-pub mod ProgramIntervals
 pub mod LogMergesWritten
-pub mod LogMergesEnds
-pub mod CommandsCalls
 pub mod CommandsLines
 pub mod LogMergesStands
-pub mod OutcomesRefused

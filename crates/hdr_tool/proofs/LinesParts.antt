@@ -9,7 +9,7 @@ use Rattle.std.proofs.lemmas.Bool.{ne_eqb}
 use Rattle.std.specs.Option.{option_map}
 use Rattle.hdr_log.specs.Parts.{parts}
 use Rattle.std.proofs.lemmas.List.FromFn.{length-enumerate_from}
-use Rattle.hdr_tool.specs.Lines.{parts_of_rest, number_lines}
+use Rattle.hdr_tool.specs.Commands.{parts_of_rest, number_lines}
 
 -- there is a first part
 pub parts_some : (b : ℕ) (text : List ℕ) (P : List (List ℕ) → Type 0) → ((first : List ℕ) (rest : List (List ℕ)) → P (first ∷ rest)) → P (parts b text)
@@ -24,7 +24,7 @@ fails : (t : Bool) → (t ≡ true → ⊥) → t ≡ false
 fails true h = absurd (h refl)
 fails false h = refl
 
--- the first part ends at the first such byte, and where there is none, it is the whole text
+-- the first part ends at the first such byte, and if there is none, it is all of the text
 pub first_part : (b : ℕ) (text : List ℕ) (at : ℕ) → IsFirstByte (is_byte b) text (Some at) → parts b text ≡ take at text ∷ parts b (drop (at + 1) text)
 first_part b text at h =
     let e : position_or_len (λ x. x == b) text ≡ at = position_or_len_is (λ x. x == b) text at 0 (omega (arith, h.0.high)) (λ j l. fails _ (λ q. h.0.before j (omega arith) l q)) (λ l. h.1) in
@@ -36,7 +36,7 @@ only_part b text h = slice_split_none (λ x. x == b) text (λ k d l. fails _ (λ
 pub left_all : (k : ℕ) (text : List ℕ) → take (length text - k) (drop k text) ≡ drop k text
 left_all k text = take_all (length text - k) (drop k text) (omega (arith, length-drop k text))
 
--- how long a text is that is left
+-- the length of the rest of a text
 abbrev pub left_length : Option (List ℕ) → ℕ
 left_length None = 0
 left_length (Some text) = length text + 1
@@ -45,7 +45,7 @@ pub left_shorter : (text : List ℕ) (after : Option (List ℕ)) → IfSome afte
 left_shorter text None h = omega arith
 left_shorter text (Some after) h = omega (arith, h)
 
--- whether nothing is left
+-- whether there is a rest
 pub nothing_left : {A : Type 0} (text_of : A → List ℕ) (b : ℕ) (left : Option A) (none : Bool) → is_some left ≡ not none → none ≡ (length (parts_of_rest b (option_map text_of left)) == 0)
 nothing_left text_of b None true e = refl
 nothing_left text_of b None false e = absurd (let f : false ≡ true = e in cc)
@@ -61,7 +61,7 @@ choose : (t : Bool) (x : ℕ) (ps qs : List (List ℕ)) → onto_first x (ps ++ 
 choose true x ps qs h = refl
 choose false x ps qs h = h
 
--- the lines before a line's end, and those after it
+-- the lines before an LF, and those after it
 lines_end : (front tail : List ℕ) → parts 10 (front ++ 10 ∷ tail) ≡ parts 10 front ++ parts 10 tail
 lines_end [] tail = refl
 lines_end (x ∷ front) tail =

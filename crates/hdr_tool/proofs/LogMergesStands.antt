@@ -2,9 +2,8 @@
 use Rattle.std.proofs.Common.{◌≡◌, ℕ, zero, suc, ◌+◌, ◌-◌, ◌*◌, ◌^◌, ◌<◌, ◌≤◌, Bool, true, false, cond, leb, ◌&&◌, List, [], ◌∷◌, ◌++◌, Option, Some, None, IfSome, refl, sym, ap₂, ◌∙◌, subst, arith, lit<, lit≤}
 use Rattle.std.specs.Option.{option_map}
 use Rattle.std.specs.Prelude.{codes}
-use Rattle.std.specs.List.{filter_map}
+use Rattle.std.specs.List.{filter_map, AllByRecursion, enumerate_from}
 use Rattle.std.specs.Str.{bytes_eq}
-use Rattle.std.specs.List.{AllByRecursion, enumerate_from}
 use Rattle.std.proofs.lemmas.Bool.{leb-true}
 use Rattle.hdr_base.specs.Classes.{least_from, Grain, unit_of, digits_of, grain_of, IsFiner}
 use Rattle.hdr_base.specs.Fractions.{Ratio}
@@ -20,13 +19,12 @@ use Rattle.hdr_tool.specs.declared.fault.Fault.{Fault}
 use Rattle.hdr_log.specs.Parts.{◌>>=◌, parts}
 use Rattle.hdr_tool.specs.Arguments.{sigfig_of, fraction_of, are_fractions, Task, Report, Log, Merge, figures_of, log_of, merge_of, task_of, Options, no_options, options_of, greatest_into, filter_of}
 use Rattle.hdr_tool.specs.declared.arguments.CounterType.{CounterType}
-use Rattle.hdr_tool.specs.declared.arguments.CounterType.TheVariants as counter
 use Rattle.hdr_tool.specs.Report.{IsReport}
 use Rattle.hdr_tool.specs.Program.{Outcome}
 use Rattle.hdr_tool.specs.LogMerges.{EndOf, chosen_of, ends_of, AreReadBack, EndsWith, AreEnds}
-use Rattle.hdr_tool.proofs.LogMergesEnds.{CallsStand, ends_stand}
-use Rattle.hdr_tool.proofs.CommandsCalls.{one_of, tail, any}
-use Rattle.hdr_tool.proofs.LogMergesWritten.{ReadsBack, log_then_merge}
+use Rattle.hdr_tool.proofs.LogMergesWritten.{CallsStand, ends_stand, ReadsBack, log_then_merge}
+use Rattle.hdr_tool.proofs.CommandsLines.{one_of, tail, any}
+use Rattle.hdr_tool.specs.declared.arguments.CounterType.TheVariants as counter
 
 -- ---- digits are at most five
 
@@ -166,7 +164,7 @@ read_parts f g (h ∷ hs) (k ∷ ks) (L ∷ Ls) back fine e r =
     } in
     (one, read_parts f g hs ks Ls back fine e.1 r.1)
 
--- ---- the whole way
+-- ---- from the samples to the report
 
 -- what the core's law on histograms that are added in order says
 pub record JoinedStand : Type 0 where

@@ -1,8 +1,17 @@
--- A log that was written is merged.
-use Rattle.std.proofs.Common.{◌≡◌, ℕ, ◌+◌, ◌-◌, ◌*◌, ◌^◌, ◌<◌, Bool, true, false, cond, arith, List, length, slice_index, [], ◌∷◌, ◌++◌, Option, Some, None, MatchOption, Result, Ok, Err, map, refl, sym, ap, ◌∙◌, subst}
+-- The histograms of a log that `log` wrote: what they stand for, and the result of merging them.
+use Rattle.std.proofs.Common.{◌≡◌, ℕ, ◌-◌, ◌^◌, List, [], ◌∷◌, Option, Some, None, IfSome, refl, sym, subst, ◌+◌, ◌*◌, ◌<◌, Bool, true, false, cond, arith, length, slice_index, ◌++◌, MatchOption, Result, Ok, Err, map, ap, ◌∙◌}
+use Rattle.hdr_base.specs.Classes.{Grain}
+use Rattle.hdr_model.specs.Plain.{Plain, IsPlain, grain, empty_plain, max_of}
+use Rattle.hdr_model.specs.Recording.{after_reset}
+use Rattle.hdr_core.specs.Calls.{after_call, CallTo, IsCallOf}
+use Rattle.hdr_model.specs.Runs.{StandsWhereFits, State}
+use Rattle.hdr_core.specs.declared.call.Call.{Call}
+use Rattle.hdr_core.specs.declared.call.Call.TheVariants.{Reset}
+use Rattle.hdr_tool.specs.Commands.{Command, Apply, End, command_of}
+use Rattle.hdr_tool.proofs.CommandsLines.{IsLineCommand, command_fine}
+use Rattle.hdr_tool.specs.LogMerges.{EndOf, at_command, ends_of, AfterCommand, EndsWith, AreEnds, chosen_of, AreReadBack, LogThenMerge}
 use Rattle.std.specs.List.{AllByRecursion, enumerate_from, flat_map}
 use Rattle.hdr_base.specs.Fractions.{Ratio}
-use Rattle.hdr_model.specs.Plain.{Plain, IsPlain, empty_plain, max_of}
 use Rattle.hdr_model.specs.Joining.{after_adds}
 use Rattle.hdr_log.specs.Grammar.{Entry, Span, Interval, reading}
 use Rattle.hdr_log.specs.Texts.{thousandths, to_thousandths, max_thousandths, base64_of, base64_bytes}
@@ -20,15 +29,44 @@ use Rattle.hdrhistogram.specs.declared.serialization.interval_log.merge.MergeErr
 use Rattle.hdr_tool.specs.declared.fault.Fault.{Fault}
 use Rattle.hdr_tool.specs.declared.fault.Fault.TheVariants.{WrongWords}
 use Rattle.hdr_log.specs.Parts.{parts}
-use Rattle.hdr_tool.specs.Commands.{Command, Apply, End, command_of}
-use Rattle.hdr_model.specs.Recording.{after_reset}
-use Rattle.hdr_tool.specs.Outcomes as run
 use Rattle.hdr_tool.specs.Outcomes.{Run, ended_by, prepend, run_command, run_lines, IsLogText}
 use Rattle.hdr_tool.specs.Report.{has_too_great_count, IsReport}
 use Rattle.hdr_tool.specs.Arguments.{Task, greatest_into, filter_of}
 use Rattle.hdr_tool.specs.Program.{fault_in, Reported, merged_histogram, MergeReported, TaskDone, Outcome}
 use Rattle.std.proofs.lemmas.List.{append-nil}
-use Rattle.hdr_tool.specs.LogMerges.{EndOf, chosen_of, at_command, ends_of, AreReadBack, LogThenMerge}
+use Rattle.hdr_tool.specs.Outcomes as run
+
+-- what a call makes of a histogram, by the library's law
+pub record CallsStand : Type 0 where
+  pub plain : (most : ℕ) (h : Plain) (call : Call ℕ) → IsCallOf most call → IsPlain (2 ^ 64 - 1) h → IsPlain (2 ^ 64 - 1) (after_call (2 ^ 64 - 1) (λ n. n) call h)
+  pub classes : (most : ℕ) (h : Plain) (call : Call ℕ) → IsCallOf most call → grain (after_call (2 ^ 64 - 1) (λ n. n) call h) ≡ grain h
+  pub wherever : (most : ℕ) (h : Plain) (call : Call ℕ) (s t : State) → IsCallOf most call → IsPlain (2 ^ 64 - 1) h → StandsWhereFits (2 ^ 64 - 1) h s
+      → CallTo (λ n. n) (grain h) call s t → StandsWhereFits (2 ^ 64 - 1) (after_call (2 ^ 64 - 1) (λ n. n) call h) t
+
+command_stands : (c : Option Command) (h : Plain) (s : State) (lines : List (ℕ × List ℕ)) (Ls : List (EndOf (List ℕ))) → CallsStand → IsPlain (2 ^ 64 - 1) h → StandsWhereFits (2 ^ 64 - 1) h s → IfSome c IsLineCommand → AfterCommand (grain h) s c (λ t rest. EndsWith (grain h) t lines rest) Ls
+    → ((g : Plain) (t : State) (rest : List (EndOf (List ℕ))) → IsPlain (2 ^ 64 - 1) g → StandsWhereFits (2 ^ 64 - 1) g t → EndsWith (grain g) t lines rest → AreEnds (grain g) (ends_of g lines) rest)
+    → AreEnds (grain h) (at_command h c (λ g. ends_of g lines)) Ls
+command_stands None h s lines Ls calls p st fine a tail = let A : List (EndOf (List ℕ)) → Type 0 = λ x. AreEnds (grain h) [] x in subst A (sym a) tt
+command_stands (Some (Apply call)) h s lines Ls calls p st fine a tail =
+    let next = after_call (2 ^ 64 - 1) (λ (n : ℕ). n) call h in
+    let same : grain next ≡ grain h = calls.classes (2 ^ 64 - 1) h call fine in
+    let W : Grain → Type 0 = λ g. EndsWith g a.0 lines Ls in
+    let E : Grain → Type 0 = λ g. AreEnds g (ends_of next lines) Ls in
+    subst E same (tail next a.0 Ls (calls.plain (2 ^ 64 - 1) h call fine p) (calls.wherever (2 ^ 64 - 1) h call s a.0 fine p st a.1) (subst W (sym same) a.2))
+command_stands (Some (End start duration tag)) h s lines Ls calls p st fine a tail =
+    let t : State = record { samples = []; high = s.high } in
+    let same : grain (after_reset h) ≡ grain h = calls.classes (2 ^ 64 - 1) h Reset tt in
+    let W : Grain → Type 0 = λ g. EndsWith g t lines a.0 in
+    let E : Grain → Type 0 = λ g. AreEnds g (ends_of (after_reset h) lines) a.0 in
+    let A : List (EndOf (List ℕ)) → Type 0 = λ x. AreEnds (grain h) (record { holds = h; tag = tag; start = start } ∷ ends_of (after_reset h) lines) x in
+    let rest = tail (after_reset h) t a.0 (calls.plain (2 ^ 64 - 1) h Reset tt p) (calls.wherever (2 ^ 64 - 1) h Reset s t tt p st (refl, refl)) (subst W (sym same) a.3) in
+    subst A (sym a.1) (record { plain = p; stands = st.0 a.2; classes = refl; tag = refl; start = refl }, subst E same rest)
+
+pub ends_stand : CallsStand → (h : Plain) (s : State) (lines : List (ℕ × List ℕ)) (Ls : List (EndOf (List ℕ))) → IsPlain (2 ^ 64 - 1) h → StandsWhereFits (2 ^ 64 - 1) h s → EndsWith (grain h) s lines Ls
+    → AreEnds (grain h) (ends_of h lines) Ls
+ends_stand calls h s [] Ls p st w = let A : List (EndOf (List ℕ)) → Type 0 = λ x. AreEnds (grain h) [] x in subst A (sym w) tt
+ends_stand calls h s ((k, []) ∷ lines) Ls p st w = ends_stand calls h s lines Ls p st w
+ends_stand calls h s ((k, b ∷ line) ∷ lines) Ls p st w = command_stands (command_of (b ∷ line)) h s lines Ls calls p st (command_fine (b ∷ line)) w (λ g t rest q u v. ends_stand calls g t lines rest q u v)
 
 -- an interval of a log, with the histogram that it was written from; its times are in milliseconds
 record Logged : Type 0 where
@@ -75,7 +113,7 @@ logs_of (i ∷ is) text (line, rest, t, p, e) =
     let T : List ℕ → Type 0 = λ x. Logs (map ends_at (i ∷ is)) x in
     subst T (sym e) (one_more i.histogram i.tag i.start i.duration (map ends_at is) line rest t (logs_of is rest p))
 
--- what lines end without a fault
+-- the intervals that lines end without a `Fault`
 no_error : {A B C : Type 0} (e : B) (x : A) → (λ (r : Result A B). r) (Err e) ≡ Ok x → C
 no_error e x h = absurd (let f = h in cc)
 
@@ -142,7 +180,7 @@ field_added greatest i m r back p v d =
     let A : Result (Plain × ℕ) DeserializeError → Type 0 = λ x. BytesMerge greatest m x r in
     (b.0, b.3, subst A b.2 f.2)
 
--- the merge ends well, and what was added is what these histograms were read as
+-- the merge has no error, and what was added is what these histograms were read as
 abbrev Added : ℕ → Merging → List Plain → Result Merging MergeError → Type 0
 Added greatest m hs r = (ks : List Plain) × AreReadBack hs ks × ((last : Merging) × (r ≡ Ok last) × (last.histogram ≡ after_adds greatest m.histogram ks))
 

@@ -1,4 +1,4 @@
--- What a task returns, by what its lines come to.
+-- What a task returns, by the result of its lines or its log.
 use Rattle.std.proofs.Common.{◌≡◌, ℕ, List, [], ◌∷◌, ◌++◌, length, true, false, Option, Some, None, IfSome, Result, Ok, Err, refl, sym, ap, ◌∙◌, subst, arith}
 use Rattle.std.specs.Io.KnownBytes.{Appends, IsAtEnd}
 use Rattle.std.proofs.lemmas.List.{append-nil}
@@ -6,14 +6,15 @@ use Rattle.hdr_base.specs.Fractions.{Ratio}
 use Rattle.hdr_model.specs.Plain.{Plain, empty_plain}
 use Rattle.hdrhistogram.specs.Streams.{AppendsFront}
 use Rattle.hdr_tool.specs.declared.fault.Fault.{Fault}
-use Rattle.hdr_tool.specs.Outcomes.{Interval, Run, ended_by, run_command, run_lines, IsLogText, Cause, Shortage, Output, Input, Usage, cause_of, Stops, Goes, RunRefused, Answers, ReadsTo, ReadsAll}
-use Rattle.hdr_tool.specs.Commands.{Command, Apply, End, command_of}
-use Rattle.hdr_tool.specs.Lines.{number_lines}
+use Rattle.hdr_tool.specs.Outcomes.{Interval, Run, ended_by, run_command, run_lines, IsLogText, Cause, Shortage, Output, Input, Usage, cause_of, Stops, Goes, RunRefused, Answers, ReadsTo, ReadsAll, merge_fault}
+use Rattle.hdr_tool.specs.Commands.{Command, Apply, End, command_of, number_lines}
 use Rattle.hdr_tool.specs.Arguments.{Task, Report, Log, Merge}
-use Rattle.hdr_tool.specs.Program.{run_input, fault_in, Reported, TaskDone, TaskStands, TaskWrites}
-use Rattle.hdr_tool.proofs.OutcomesRuns.{front_behind}
-use Rattle.hdr_tool.proofs.OutcomesSinks.{appends_nothing, appends_both}
-use Rattle.hdr_tool.proofs.ProgramStreaming.{some_input}
+use Rattle.hdr_tool.specs.Program.{run_input, fault_in, Reported, TaskDone, TaskStands, TaskWrites, MergeReported}
+use Rattle.hdr_tool.proofs.OutcomesRuns.{front_behind, appends_nothing, appends_both, some_input}
+use Rattle.hdrhistogram.specs.Chosen.{Filter}
+use Rattle.hdrhistogram.specs.LogMerging.{RefusesMerge}
+use Rattle.hdrhistogram.specs.declared.serialization.interval_log.merge.MergeError.{MergeError}
+use Rattle.hdrhistogram.specs.declared.serialization.interval_log.merge.MergeError.TheVariants.{Creation, Parse, Base64, Decode, OutOfMemory}
 
 -- ---- the lines of a report end no interval
 
@@ -119,9 +120,9 @@ reads_all m (Err f) e = all_by m (cause_of f) e
 pub reads_none : (m : Option (List ℕ)) (f : Fault) → cause_of f ≡ Shortage → ReadsTo IsAtEnd m (cause_of f)
 reads_none m f e = rw e tt
 
--- ---- the input is not read whole, or memory runs out before
+-- ---- not all of the input is read, or memory runs out before
 
--- nothing may stand, whatever the task
+-- nothing may be written, whatever the task
 stands_nothing : (task : Task) (input : List ℕ) → TaskStands task input []
 stands_nothing (Report sigfig quantiles) input = refl
 stands_nothing (Log sigfig) input = ([], (run_input true sigfig input).intervals, refl, refl)
@@ -132,3 +133,11 @@ unread task i o f e =
     let x = some_input i in
     let none : (t : List ℕ) × TaskStands task x.0 t × Appends o o t = ([], stands_nothing task x.0, appends_nothing o) in
     (x.0, x.1, rw e none)
+
+pub merge_refused : (greatest : ℕ) (filter : Filter) (sigfig : ℕ) (quantiles : List Ratio) (input : List ℕ) (o : Option (List ℕ)) (e : MergeError) → RefusesMerge greatest filter sigfig input e
+    → Answers (MergeReported greatest filter sigfig quantiles input) (λ text. text ≡ []) (λ text. MergeReported greatest filter sigfig quantiles input text None) o o (Err (merge_fault e))
+merge_refused greatest filter sigfig quantiles input o (Creation e) r = ([], refl, appends_nothing o)
+merge_refused greatest filter sigfig quantiles input o (Parse at) r = ([], (Err (Parse at), r.1, (refl, refl)), appends_nothing o)
+merge_refused greatest filter sigfig quantiles input o (Base64 k) r = ([], (Err (Base64 k), r.1, (refl, refl)), appends_nothing o)
+merge_refused greatest filter sigfig quantiles input o (Decode k e) r = ([], (Err (Decode k e), r.1, (refl, refl)), appends_nothing o)
+merge_refused greatest filter sigfig quantiles input o OutOfMemory r = ([], refl, appends_nothing o)

@@ -17,7 +17,7 @@ use Rattle.hdr_tool.specs.Report.{has_too_great_count}
 abbrev Small : ℕ → Type 0
 Small n = n < 2 ^ 63
 
--- nine bytes spell a number of 64 bits
+-- nine bytes encode a number of 64 bits
 more_fits : (b : Bool) (left x : ℕ) (xs : List ℕ) → MatchBool b (xs ≡ []) (IsSpelling left xs) → (IsSpelling left xs → number_of_spelling left xs < 2 ^ (7 * left + 8)) → x % 128 + 128 * number_of_spelling left xs < 2 ^ (7 * suc left + 8)
 more_fits b left x xs s h =
     let e : 7 * suc left + 8 ≡ 7 + (7 * left + 8) = omega arith in

@@ -7,10 +7,9 @@ use Rattle.std.specs.Fmt.{decimal}
 use Rattle.hex.specs.Hex.{encode_lower}
 use Rattle.hdr_base.specs.Fractions.{Ratio}
 use Rattle.hdr_model.specs.Plain.{Plain}
-use Rattle.hdr_log.specs.Grammar.{Entry, Start, Base, Span, Interval}
+use Rattle.hdr_log.specs.Grammar.{Entry, Start, Base, Span, Interval, reading}
 use Rattle.hdr_log.specs.Pieces.{piece_text}
 use Rattle.hdr_log.specs.Texts.{base64_bytes}
-use Rattle.hdr_log.specs.Grammar.{reading}
 use Rattle.hdrhistogram.specs.V2.{IsV2, IsWrittenAlike}
 use Rattle.hdrhistogram.specs.V2Read.{v2_at, ReadsV2}
 use Rattle.hdrhistogram.specs.Chosen.{Filter, Every, is_chosen}
@@ -21,10 +20,10 @@ use Rattle.hdrhistogram.specs.declared.serialization.interval_log.merge.MergeErr
 use Rattle.hdr_tool.specs.declared.fault.Fault.{Fault}
 use Rattle.hdr_tool.specs.declared.fault.Fault.TheVariants.{WrongWords}
 use Rattle.hdr_tool.specs.Arguments.{Task, Report, Log, Merge, task_of, greatest_into, filter_of}
-use Rattle.hdr_tool.specs.Faults.{merge_fault}
+use Rattle.hdr_tool.specs.Outcomes.{merge_fault}
 use Rattle.hdr_tool.specs.Report.{quantile_line, has_too_great_count}
-use Rattle.hdr_tool.specs.Outcomes as run
 use Rattle.hdr_tool.specs.Program.{run_input, Reported, merged_histogram, TaskDone, Outcome, Unread, told, OneOutcome}
+use Rattle.hdr_tool.specs.Outcomes as run
 
 -- what the library's laws on bytes and on merging say
 pub record Once : Type 0 where
@@ -50,7 +49,7 @@ reported_once once quantiles (Ok h) a b f g p q =
     (p.0.2 ∙ ap (λ x. codes "len " ++ decimal h.total ++ 10 ∷ [] ++ flat_map (quantile_line h) quantiles ++ codes "v2 " ++ x ++ 10 ∷ []) field ∙ sym q.0.2, p.1 ∙ sym q.1)
 reported_once once quantiles (Err e) a b f g p q = (p.0 ∙ sym q.0, p.1 ∙ sym q.1)
 
--- ---- a merge comes to one histogram, or to one fault
+-- ---- a merge has one result: one histogram, or one `Fault`
 
 abbrev Same : Result Merging MergeError → Result Merging MergeError → Type 0
 Same (Ok m) (Ok n) = m ≡ n

@@ -1,4 +1,4 @@
--- What the arguments ask for.
+-- The task of the arguments.
 use Rattle.std.specs.Prelude.{ℕ, ◌-◌, ◌*◌, ◌^◌, ◌==◌, Bool, ◌&&◌, nat_le, List, [], ◌∷◌, Option, Some, None, is_some, is_none, if◌then◌else◌, codes, map, string_bytes}
 use Rattle.std.specs.Option.{option_map}
 use Rattle.std.specs.List.{list_all, filter_map}
@@ -21,7 +21,7 @@ pub record Options : Type 0 where
   pub from : Option ℕ
   pub to : Option ℕ
 
--- what the program is to do: by so many digits, and for these quantiles
+-- the task of the program: its digits and its quantiles
 pub data Task : Type 0 where
   Report : ℕ → List Ratio → Task
   Log : ℕ → Task
@@ -57,7 +57,7 @@ counter_of name =
     else if bytes_eq name (codes "u64") then Some counter.U64
     else None
 
--- one option more, which was not given before
+-- one more option, which is not set yet
 unfoldable pub with_option : Options → List ℕ → List ℕ → Option Options
 with_option o name value =
     if bytes_eq name (codes "--into") && is_none o.into then option_map (λ x. record o { into = Some x }) (counter_of value)
@@ -69,7 +69,7 @@ with_option o name value =
 abbrev pub no_options : Options
 no_options = record { into = None; tag = None; from = None; to = None }
 
--- the options before the digits, after those that stood before, and the arguments from the digits on
+-- the options before the digits, added to earlier ones, and the arguments from the digits on
 abbrev pub options_of : Options → List (List ℕ) → Option (Options × List (List ℕ))
 options_of o (name ∷ value ∷ rest) = if is_some (sigfig_of name) then Some (o, name ∷ value ∷ rest) else with_option o name value >>= λ p. options_of p rest
 options_of o rest = Some (o, rest)
@@ -86,7 +86,7 @@ abbrev pub log_of : List (List ℕ) → Option Task
 log_of (digit ∷ []) = option_map Log (sigfig_of digit)
 log_of _ = None
 
--- the task of the arguments, none where they are wrong
+-- the task of the arguments, or `None` for a usage error
 unfoldable pub task_of : List (List ℕ) → Option Task
 task_of [] = None
 task_of (name ∷ arguments) =
@@ -95,7 +95,7 @@ task_of (name ∷ arguments) =
     else if bytes_eq name (codes "merge") then merge_of arguments
     else None
 
--- the greatest number of the sum's counters: u64 where no type is named
+-- the greatest number of the sum's counters: that of `u64` if no type is named
 abbrev pub greatest_into : Option CounterType → ℕ
 greatest_into (Some counter.U8) = 2 ^ 8 - 1
 greatest_into (Some counter.U16) = 2 ^ 16 - 1

@@ -1,29 +1,43 @@
--- The command of a line. A line has no line end.
-use Rattle.std.specs.Prelude.{◌≡◌, ℕ, ◌<◌, true, take, ◌==◌, ◌&&◌, not, length, List, [], ◌∷◌, Option, Some, None, if◌then◌else◌, codes}
+-- The lines of an input with their numbers, and the command of a line. A text is a list of bytes,
+-- and a line has no LF.
+use Rattle.std.specs.Prelude.{ℕ, List, [], ◌∷◌, Option, Some, None, ◌≡◌, ◌<◌, true, take, ◌==◌, ◌&&◌, not, length, if◌then◌else◌, codes}
 use Rattle.std.specs.Option.{option_map}
-use Rattle.std.specs.List.{list_all}
+use Rattle.std.specs.List.{enumerate_from, list_all}
+use Rattle.hdr_log.specs.Parts.{parts, number_of, ◌>>=◌}
 use Rattle.std.specs.Char.{is_ascii_digit}
 use Rattle.std.specs.Str.{bytes_eq}
 use Rattle.hdr_core.specs.declared.call.Call.{Call}
 use Rattle.hdr_core.specs.declared.call.Call.TheVariants.{Record, Clamp, Correct, Clear, Reset}
 use Rattle.hdr_log.specs.Grammar.{is_tag}
-use Rattle.hdr_log.specs.Parts.{◌>>=◌, parts, number_of}
 use Rattle.hdr_log.specs.Tags.{tag_text}
-use Rattle.hdr_tool.specs.Lines.{first_number}
 use Rattle.hdr_tool.specs.declared.command.Command as code
 use Rattle.hdr_tool.specs.declared.command.Command.TheVariants as code_command
+
+-- the parts of the rest of a text, none without a rest
+abbrev pub parts_of_rest : ℕ → Option (List ℕ) → List (List ℕ)
+parts_of_rest b None = []
+parts_of_rest b (Some text) = parts b text
+
+-- the lines of the rest of a text, with their numbers from this one on
+abbrev pub number_lines : ℕ → Option (List ℕ) → List (ℕ × List ℕ)
+number_lines number left = enumerate_from number (parts_of_rest 10 left)
+
+-- the number of the first field, and the fields after it
+abbrev pub first_number : List (List ℕ) → Option (ℕ × List (List ℕ))
+first_number [] = None
+first_number (field ∷ fields) = option_map (λ n. (n, fields)) (number_of field)
 
 -- a call, or an interval that ends, with its start and its duration in milliseconds and its tag
 pub data Command : Type 0 where
   Apply : Call ℕ → Command
   End : ℕ → ℕ → Option (List ℕ) → Command
 
--- what is asked for, where no field is left
+-- a value, if no field is left
 abbrev pub alone : {A : Type 0} → A → List (List ℕ) → Option A
 alone x [] = Some x
 alone x _ = None
 
--- `[N]`: a count, 1 where there is none
+-- `[N]`: a count, or 1 if there is none
 abbrev pub count_of : List (List ℕ) → Option ℕ
 count_of [] = Some 1
 count_of fields = do
@@ -44,7 +58,7 @@ correct_of fields = do
   count ← count_of rest
   Some (Apply (Correct value count interval))
 
--- the tag of a word that is not empty
+-- the tag of a field that is not empty
 abbrev pub tag_of_word : List ℕ → Option (List ℕ)
 tag_of_word word = if not (length word == 0) && is_tag word then Some word else None
 
@@ -86,7 +100,7 @@ abbrev pub view_of_command : code.Command → Command
 view_of_command (code_command.Apply call) = Apply call
 view_of_command (code_command.End start duration tag) = End start duration (option_map tag_text tag)
 
--- a text begins with digits up to a place, and they spell this number
+-- a text starts with digits up to an index, and they are this number
 pub record BeginsWith (text : List ℕ) (value at : ℕ) : Type 0 where
   pub some : 0 < at
   pub within : at < length text
@@ -106,7 +120,7 @@ pub record HasNumbers (text : List ℕ) (first : ℕ) (second : Option ℕ) (aft
   pub shorter : length after < length text
   pub numbers : AreNumbers (parts 32 line) first second
 
--- a text's first line asks for this call, and this is the text after it
+-- a text's first line is this call, and this is the text after it
 pub record IsCallLine (text : List ℕ) (call : Call ℕ) (after : List ℕ) : Type 0 where
   pub line : List ℕ
   pub lines : parts 10 text ≡ line ∷ parts 10 after

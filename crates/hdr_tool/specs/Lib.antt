@@ -1,7 +1,5 @@
-pub mod Lines
 pub mod Arguments
 pub mod Commands
-pub mod Faults
 pub mod Report
 pub mod Outcomes
 pub mod Program

@@ -48,8 +48,8 @@ AreReadBack [] [] = Unit {0}
 AreReadBack (h ∷ hs) (k ∷ ks) = IsReadBack h k × AreReadBack hs ks
 AreReadBack _ _ = ⊥
 
--- a log that was written without a fault is merged without one. The report is that of its chosen intervals, each written and
--- read again, added in order to an empty histogram
+-- A log that was written without a `Fault` is merged without one. The report is that of its chosen
+-- intervals, each written and read again, added in order to an empty histogram.
 abbrev pub LogThenMerge : Type 0
 LogThenMerge =
     (log merge : List (List ℕ)) (sigfig fewer : ℕ) (options : Options) (quantiles : List Ratio) (input written text : List ℕ) (fault : Option Fault)
@@ -59,7 +59,8 @@ LogThenMerge =
     → (fault ≡ None) × ((ks : List Plain) × AreReadBack (chosen_of (filter_of options) (ends_of (empty_plain 1 2 sigfig true) (enumerate_from 1 (parts 10 input)))) ks
     × IsReport (after_adds (greatest_into options.into) (empty_plain 1 2 fewer true) ks) quantiles text)
 
--- a command takes samples to others, or ends an interval with them, which fit there, and begins with none
+-- a command changes the samples, or ends an interval with them, if they fit, and starts one with
+-- none
 abbrev pub AfterCommand : Grain → State → Option Command → (State → List (EndOf (List ℕ)) → Type 0) → List (EndOf (List ℕ)) → Type 0
 AfterCommand g s None Onward Ls = Ls ≡ []
 AfterCommand g s (Some (Apply call)) Onward Ls = (t : State) × CallTo (λ n. n) g call s t × Onward t Ls
@@ -86,15 +87,15 @@ AreEnds g [] [] = Unit {0}
 AreEnds g (h ∷ hs) (L ∷ Ls) = IsEnd g h L × AreEnds g hs Ls
 AreEnds g _ _ = ⊥
 
--- the histograms of a log's intervals stand for the samples before the ends
+-- the histograms of a log's intervals stand for the samples of these intervals
 abbrev pub EndsStand : Type 0
 EndsStand =
     (h : Plain) (s : State) (lines : List (ℕ × List ℕ)) (Ls : List (EndOf (List ℕ))) → IsPlain (2 ^ 64 - 1) h → StandsWhereFits (2 ^ 64 - 1) h s → EndsWith (grain h) s lines Ls
     → AreEnds (grain h) (ends_of h lines) Ls
 
--- samples that are logged and merged again. A merge of the written log, by as many digits or fewer, has no fault. Its histogram
--- stands for the samples of the chosen intervals, joined. Each quantile above 0 is answered by the top of the class of the
--- ranked sample, near it
+-- Samples that are logged and merged again. A merge of the written log, with as many digits or
+-- fewer, has no `Fault`. Its histogram stands for the samples of the chosen intervals, joined. The
+-- value of each quantile above 0 is the top of the class of the ranked sample, near it.
 abbrev pub LogMergeStands : Type 0
 LogMergeStands =
     (log merge : List (List ℕ)) (sigfig fewer : ℕ) (options : Options) (quantiles : List Ratio) (input written text : List ℕ) (fault : Option Fault) (Ls : List (EndOf (List ℕ)))

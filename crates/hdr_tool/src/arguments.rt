@@ -4,7 +4,7 @@ ghost use Rattle.std.specs.Prelude.{◌≡◌, ◌∷◌, ◌<◌, length, map, 
 ghost use Rattle.std.specs.Option.{option_map};
 ghost use Rattle.std.specs.List.{filter_map};
 ghost use Rattle.hdrhistogram.specs.Chosen.{view_of_filter};
-ghost use Rattle.hdr_tool.specs.Arguments.{sigfig_of, fraction_of, are_fractions, figures_of, counter_of, with_option, no_options, options_of, merge_of, log_of, task_of, view_of_options, filter_of, view_of_task};
+ghost use Rattle.hdr_tool.specs.Arguments.{sigfig_of, fraction_of, are_fractions, figures_of, counter_of, with_option, no_options, options_of, task_of, view_of_options, filter_of, view_of_task};
 
 use hdr_log::parts::{number, split_once};
 use hdrhistogram::Quantile;
@@ -12,14 +12,14 @@ use hdrhistogram::serialization::interval_log::{IntervalFilter, Tag};
 use std::alloc::{AllocError, Global};
 use std::time::Duration;
 
-/// What the program is to do.
+/// The task that the arguments request.
 #[derive(Clone, Copy)]
 pub(crate) enum Task<'a> {
-    /// Report these quantiles, by a histogram of so many digits.
+    /// Report these quantiles, with a histogram of this many digits.
     Report(u8, &'a [String]),
-    /// Write a log, by a histogram of so many digits.
+    /// Write a log, with a histogram of this many digits.
     Log(u8),
-    /// Report these quantiles of a log's chosen intervals, by a histogram of so many digits.
+    /// Report these quantiles of a log's chosen intervals, with a histogram of this many digits.
     Merge(Options<'a>, u8, &'a [String]),
 }
 
@@ -42,7 +42,7 @@ pub(crate) struct Options<'a> {
 }
 
 impl<'a> Options<'a> {
-    /// The intervals that are chosen.
+    /// Returns the filter of the chosen intervals.
     pub fn filter(&self) -> IntervalFilter<'a>
         ensures { view_of_filter result ≡ filter_of (view_of_options self.now) }
     {
@@ -54,8 +54,8 @@ impl<'a> Options<'a> {
     }
 }
 
-/// The task that the arguments ask for; `None` where they ask for none.
-#[tactic(auto, unfolding(crate::specs::Arguments::task_of))]
+/// Parses the arguments. Returns `None` for a usage error.
+#[tactic(auto, unfolding(crate::specs::Arguments::task_of, crate::specs::Arguments::merge_of))]
 pub(crate) fn parse(arguments: &[String]) -> Option<Task<'_>>
     ensures { option_map view_of_task result ≡ task_of (map string_bytes arguments.now) }
 {
@@ -65,35 +65,21 @@ pub(crate) fn parse(arguments: &[String]) -> Option<Task<'_>>
         let (sigfig, quantiles) = figures(arguments)?;
         Some(Task::Report(sigfig, quantiles))
     } else if name == b"log".as_slice() {
-        log(arguments)
+        let [digit] = arguments else {
+            return None;
+        };
+        Some(Task::Log(sigfig(digit.as_bytes())?))
     } else if name == b"merge".as_slice() {
-        merge(arguments)
+        let (options, arguments) = take_options(arguments)?;
+        let (sigfig, quantiles) = figures(arguments)?;
+        Some(Task::Merge(options, sigfig, quantiles))
     } else {
         None
     }
 }
 
-/// The log of the arguments after `log`.
-fn log(arguments: &[String]) -> Option<Task<'_>>
-    ensures { option_map view_of_task result ≡ log_of (map string_bytes arguments.now) }
-{
-    let [digit] = arguments else {
-        return None;
-    };
-    Some(Task::Log(sigfig(digit.as_bytes())?))
-}
-
-/// The merge of the arguments after `merge`.
-#[tactic(auto, unfolding(crate::specs::Arguments::merge_of))]
-fn merge(arguments: &[String]) -> Option<Task<'_>>
-    ensures { option_map view_of_task result ≡ merge_of (map string_bytes arguments.now) }
-{
-    let (options, arguments) = take_options(arguments)?;
-    let (sigfig, quantiles) = figures(arguments)?;
-    Some(Task::Merge(options, sigfig, quantiles))
-}
-
-/// The options before the digits, and the arguments from the digits on.
+/// Parses the options before the digits, and returns them with the arguments from the digits on.
+/// Returns `None` if an option is invalid or set twice.
 fn take_options(arguments: &[String]) -> Option<(Options<'_>, &[String])>
     ensures { option_map (λ p. (view_of_options p.0, map string_bytes p.1.now)) result
         ≡ options_of no_options (map string_bytes arguments.now) }
@@ -115,7 +101,7 @@ fn take_options(arguments: &[String]) -> Option<(Options<'_>, &[String])>
     Some((options, left))
 }
 
-/// The first two arguments and those after them, where there are two.
+/// Returns the first two arguments and the rest, or `None` if there are fewer.
 fn first_two(arguments: &[String]) -> Option<(&String, &String, &[String])>
     ensures arguments { MatchOption result (length arguments.now < 2)
         (λ p. map string_bytes arguments.now
@@ -127,7 +113,7 @@ fn first_two(arguments: &[String]) -> Option<(&String, &String, &[String])>
     Some((first, second, rest))
 }
 
-/// One option more, which was not given before.
+/// Sets one more option. Returns `None` if it is already set or unknown, or if `value` is invalid.
 #[tactic(auto, unfolding(crate::specs::Arguments::with_option))]
 fn with_option<'a>(options: Options<'a>, name: &[u8], value: &'a str) -> Option<Options<'a>>
     ensures { option_map view_of_options result ≡ with_option
@@ -150,7 +136,7 @@ fn with_option<'a>(options: Options<'a>, name: &[u8], value: &'a str) -> Option<
     }
 }
 
-/// The counter type of a name.
+/// Parses the name of a counter type.
 #[tactic(auto, unfolding(crate::specs::Arguments::counter_of))]
 fn counter(name: &[u8]) -> Option<CounterType>
     ensures { result ≡ counter_of name.now }
@@ -168,17 +154,15 @@ fn counter(name: &[u8]) -> Option<CounterType>
     }
 }
 
-/// The digits, and the arguments after them, which are quantiles.
+/// Parses the digits, and returns them with the arguments after them. Returns `None` unless these
+/// are quantiles, one or more.
 fn figures(arguments: &[String]) -> Option<(u8, &[String])>
     ensures { option_map (λ f. (f.0, filter_map fraction_of (map string_bytes f.1.now))) result
         ≡ figures_of (map string_bytes arguments.now) }
 {
     let (digit, quantiles) = arguments.split_first()?;
     let sigfig = sigfig(digit.as_bytes())?;
-    if quantiles.is_empty() {
-        return None;
-    }
-    if !are_quantiles(quantiles) {
+    if quantiles.is_empty() || !are_quantiles(quantiles) {
         return None;
     }
     Some((sigfig, quantiles))
@@ -213,7 +197,7 @@ fn quantile(argument: &[u8]) -> Option<Quantile>
     Quantile::new(number(num)?, number(den)?)
 }
 
-/// The quantiles of the arguments.
+/// Returns the quantiles of the arguments, in order.
 pub(crate) fn quantiles(alloc: Global, arguments: &[String]) -> Result<Vec<Quantile>, AllocError>
     ensures { IfOk result (λ q. q.items ≡ filter_map fraction_of (map string_bytes arguments.now)) }
 {

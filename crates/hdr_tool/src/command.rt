@@ -13,13 +13,24 @@ use hdrhistogram::serialization::interval_log::Tag;
 /// The command of a line.
 #[derive(Drop)]
 pub(crate) enum Command<'a> {
-    /// A call.
+    /// A call on the histogram.
     Apply(Call<'static, u64>),
     /// An interval that ends: its start and its duration in milliseconds, and its tag.
     End(u64, u64, Option<Tag<'a>>),
 }
 
-/// `[N]`: a count, 1 where no field is left.
+/// Returns `value` if no field is left, and `None` otherwise.
+#[inline(always)]
+fn alone<T: Drop>(value: T, fields: &Fields<'_>) -> Option<T>
+    ensures { result ≡ alone value fields.now }
+{
+    if !fields.is_empty() {
+        return None;
+    }
+    Some(value)
+}
+
+/// Parses `[N]`: a count, or 1 if no field is left.
 #[inline(always)]
 fn count(fields: &mut Fields<'_>) -> Option<u64>
     ensures { result ≡ count_of fields.old }
@@ -28,13 +39,10 @@ fn count(fields: &mut Fields<'_>) -> Option<u64>
         return Some(1);
     }
     let count = fields.number()?;
-    if !fields.is_empty() {
-        return None;
-    }
-    Some(count)
+    alone(count, fields)
 }
 
-/// The tag of a text that is not empty.
+/// Parses a tag that is not empty.
 fn tag(word: &[u8]) -> Option<Tag<'_>>
     ensures { option_map tag_text result ≡ tag_of_word word.now }
 {
@@ -44,7 +52,7 @@ fn tag(word: &[u8]) -> Option<Tag<'_>>
     Tag::new(text(word)?)
 }
 
-/// `[TAG]`: a tag, if a field is left.
+/// Parses `[TAG]`: a tag, if a field is left.
 fn end_tag<'a>(fields: &mut Fields<'a>) -> Option<Option<Tag<'a>>>
     ensures { option_map (λ tag. option_map tag_text tag) result ≡ end_tag_of fields.old }
 {
@@ -57,17 +65,7 @@ fn end_tag<'a>(fields: &mut Fields<'a>) -> Option<Option<Tag<'a>>>
     Some(Some(tag(word)?))
 }
 
-/// A call by its name alone.
-fn alone(call: Call<'static, u64>, fields: &Fields<'_>) -> Option<Call<'static, u64>>
-    ensures { result ≡ alone call.entry fields.now }
-{
-    if !fields.is_empty() {
-        return None;
-    }
-    Some(call)
-}
-
-/// The command of a line; `None` where it is none.
+/// Parses the command of a line. Returns `None` if the line is not a command.
 #[inline(always)]
 #[tactic(auto, unfolding(crate::specs::Commands::command_of_name))]
 pub(crate) fn parse(line: &[u8]) -> Option<Command<'_>>
@@ -102,7 +100,8 @@ pub(crate) fn parse(line: &[u8]) -> Option<Command<'_>>
     }
 }
 
-/// Fast path: the number of 18 digits or fewer that a text begins with, and the place after it, which is inside the text.
+/// Fast path: parses the number of 18 digits or fewer that `text` starts with, and returns it with
+/// the index after it, which is less than the length.
 #[inline(always)]
 fn digits(text: &[u8]) -> Option<(u64, usize)>
     ensures { IfSome result (λ p. BeginsWith text.now p.0 p.1) }
@@ -120,7 +119,7 @@ fn digits(text: &[u8]) -> Option<(u64, usize)>
     None
 }
 
-/// Fast path: the numbers of `V` or `V W`, which an LF ends, and the text after it.
+/// Fast path: parses `V` or `V W`, which an LF ends, and returns the numbers with the rest.
 #[inline(always)]
 fn numbers(text: &[u8]) -> Option<(u64, Option<u64>, &[u8])>
     ensures { IfSome result (λ p. HasNumbers text.now p.0 p.1 p.2.now) }
@@ -132,16 +131,25 @@ fn numbers(text: &[u8]) -> Option<(u64, Option<u64>, &[u8])>
     if text[at] != b' ' {
         return None;
     }
-    let text = &text[at + 1..];
-    let (second, at) = digits(text)?;
+    let (second, after) = last_number(&text[at + 1..])?;
+    Some((first, Some(second), after))
+}
+
+/// Fast path: parses `V`, which an LF ends, and returns the number with the rest. Inlined, it would
+/// slow down the loop over the first number's digits.
+#[inline(never)]
+fn last_number(text: &[u8]) -> Option<(u64, &[u8])>
+    ensures { IfSome result (λ p. HasNumbers text.now p.0 None p.1.now) }
+{
+    let (value, at) = digits(text)?;
     if text[at] != b'\n' {
         return None;
     }
-    Some((first, Some(second), &text[at + 1..]))
+    Some((value, &text[at + 1..]))
 }
 
-/// Fast path: the call of a first line `r V [N]`, `s V [N]` or `c V I` that an LF ends, and the text after it. Numbers have
-/// up to 18 digits here.
+/// Fast path: parses a first line `r V [N]`, `s V [N]` or `c V I` that an LF ends, and returns its
+/// call with the rest. Numbers have at most 18 digits here.
 #[inline(always)]
 pub(crate) fn value_line(text: &[u8]) -> Option<(Call<'static, u64>, &[u8])>
     ensures { IfSome result (λ p. IsCallLine text.now p.0 p.1.now) }

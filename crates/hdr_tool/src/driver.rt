@@ -1,4 +1,4 @@
-//! The lines of an input, one after another. A report is a log without `end`: the same driver does both.
+//! Runs the lines of an input, in order. A report is a log without `end`: one driver runs both.
 
 ghost use Rattle.std.specs.Prelude.{◌≡◌, ◌+◌, ◌-◌, ◌^◌, ◌<◌, ◌∷◌, ◌++◌, ℕ, List, length, MatchResult, IfOk, IfSome, Ok, Err, Some, true};
 ghost use Rattle.std.specs.Option.{option_map};
@@ -6,9 +6,8 @@ ghost use Rattle.std.specs.Io.KnownBytes.{IsAtEnd};
 ghost use Rattle.hdr_model.specs.Plain.{Plain, IsPlain};
 ghost use Rattle.hdr_log.specs.Tags.{tag_text};
 ghost use Rattle.hdrhistogram.specs.LogWriters.{sink, divisor_of, IsSameLog};
-ghost use Rattle.hdr_tool.specs.Commands.{End};
-ghost use Rattle.hdr_tool.specs.Lines.{number_lines};
-ghost use Rattle.hdr_tool.specs.Outcomes.{Run, ended_by, run_command, run_lines, Goes, ReadsTo, cause_of};
+ghost use Rattle.hdr_tool.specs.Commands.{End, number_lines};
+ghost use Rattle.hdr_tool.specs.Outcomes.{Run, ended_by, run_command, run_lines, LinesNeed, Needs, Goes, ReadsTo, cause_of};
 ghost use Rattle.hdr_tool.specs.Program.{run_input};
 
 use crate::command::{Command, parse, value_line};
@@ -23,14 +22,14 @@ use std::alloc::Global;
 use std::io::{Read, Write};
 use std::time::Duration;
 
-/// What is true of every histogram. It does nothing.
+/// Shows that every histogram is plain (`IsPlain`). It has no effect.
 fn is_plain(histogram: &Histogram<u64>)
     ensures { IsPlain (2 ^ 64 - 1) histogram.now }
 {
     let _bins = histogram.distinct_values();
 }
 
-/// Writes the histogram's interval, and begins the next one.
+/// Writes the histogram's interval, and resets the histogram.
 fn end<W: Write>(
     histogram: &mut Histogram<u64>,
     line: u64,
@@ -45,6 +44,7 @@ fn end<W: Write>(
         (Some (End start duration (option_map tag_text tag.entry))))
         (λ (onward : Plain → Run). onward histogram.new)
         (W.contents (sink log.old).now) (W.contents (sink log.new).now) result }
+    ensures grows { histogram.new.auto_resize ≡ histogram.old.auto_resize }
 {
     is_plain(histogram);
     let start = Duration::from_millis(start);
@@ -55,19 +55,17 @@ fn end<W: Write>(
             Ok(())
         }
         Err(IntervalLogWriterError::IoError(_)) => Err(Fault::CannotWrite),
-        Err(IntervalLogWriterError::SerializeError(V2SerializeError::CountNotSerializable)) => Err(
-            Fault::NotWritten(
-                line,
-                IntervalLogWriterError::SerializeError(V2SerializeError::CountNotSerializable),
-            ),
-        ),
+        Err(IntervalLogWriterError::SerializeError(V2SerializeError::CountNotSerializable)) => {
+            let cause = V2SerializeError::CountNotSerializable;
+            Err(Fault::NotWritten(line, IntervalLogWriterError::SerializeError(cause)))
+        }
         Err(IntervalLogWriterError::SerializeError(_)) => Err(Fault::NoMemory),
         Err(IntervalLogWriterError::TimeOutOfRange) => Err(Fault::NoMemory),
         Err(IntervalLogWriterError::OutOfMemory) => Err(Fault::NoMemory),
     }
 }
 
-/// Runs the command of a line. An empty line has none, and `end` is a command of a log alone.
+/// Runs the command of a line. An empty line has none, and `end` is a command of a log only.
 #[inline(always)]
 fn run_line<W: Write>(
     is_log: bool,
@@ -76,11 +74,18 @@ fn run_line<W: Write>(
     line: &[u8],
     log: &mut IntervalLogWriter<'_, '_, W, V2Serializer>,
 ) -> Result<(), Fault>
-    requires { divisor_of log.old ≡ 1 }
+    // Greatest values are not divided, and the histogram grows.
+    requires divisor { divisor_of log.old ≡ 1 }
+    requires grows { histogram.old.auto_resize ≡ true }
+    // What is written, and when memory may run out.
     ensures same { IsSameLog log.old log.new }
     ensures goes { Goes (λ more. run_lines is_log histogram.old ((number, line.now) ∷ more))
         (run_lines is_log histogram.new)
         (W.contents (sink log.old).now) (W.contents (sink log.new).now) result }
+    ensures memory { Needs (λ more. LinesNeed is_log histogram.old ((number, line.now) ∷ more))
+        (LinesNeed is_log histogram.new) result }
+    // The histogram still grows.
+    ensures grows { histogram.new.auto_resize ≡ true }
 {
     if line.is_empty() {
         return Ok(());
@@ -88,7 +93,6 @@ fn run_line<W: Write>(
     match parse(line) {
         Some(Command::Apply(call)) => match histogram.apply(&call) {
             Ok(()) => Ok(()),
-            // A histogram that grows takes each value, so only memory can run out.
             Err(_) => Err(Fault::NoMemory),
         },
         Some(Command::End(start, duration, tag)) if is_log => {
@@ -98,7 +102,8 @@ fn run_line<W: Write>(
     }
 }
 
-/// Runs the lines of a text, the first of which has this number, and returns the number of the line after them.
+/// Runs the lines of `text`, the first of which has this number, and returns the number of the line
+/// after them.
 fn run_lines<W: Write>(
     is_log: bool,
     histogram: &mut Histogram<u64>,
@@ -106,11 +111,18 @@ fn run_lines<W: Write>(
     text: &[u8],
     log: &mut IntervalLogWriter<'_, '_, W, V2Serializer>,
 ) -> Result<u64, Fault>
-    requires { divisor_of log.old ≡ 1 }
+    // Greatest values are not divided, and the histogram grows.
+    requires divisor { divisor_of log.old ≡ 1 }
+    requires grows { histogram.old.auto_resize ≡ true }
+    // What is written, and when memory may run out.
     ensures same { IsSameLog log.old log.new }
     ensures goes { Goes (λ more. run_lines is_log histogram.old
         (number_lines number (Some text.now) ++ more)) (run_lines is_log histogram.new)
         (W.contents (sink log.old).now) (W.contents (sink log.new).now) result }
+    ensures memory { Needs (λ more. LinesNeed is_log histogram.old
+        (number_lines number (Some text.now) ++ more)) (LinesNeed is_log histogram.new) result }
+    // The histogram still grows, and the numbers of lines go on.
+    ensures grows { histogram.new.auto_resize ≡ true }
     ensures next { IfOk result (λ next. next
         ≡ number + length (number_lines number (Some text.now))) }
 {
@@ -136,7 +148,7 @@ fn run_lines<W: Write>(
     Ok(next)
 }
 
-/// Runs the lines of the whole input as they are read, up to the first fault.
+/// Runs the lines of all of the input as they are read, up to the first error.
 fn run_input<R: Read, W: Write>(
     alloc: Global,
     is_log: bool,
@@ -145,13 +157,17 @@ fn run_input<R: Read, W: Write>(
     piece: &mut [u8],
     log: &mut IntervalLogWriter<'_, '_, W, V2Serializer>,
 ) -> Result<(), Fault>
+    // Greatest values are not divided, the histogram grows, and `piece` is not empty.
     requires divisor { divisor_of log.old ≡ 1 }
+    requires grows { histogram.old.auto_resize ≡ true }
     requires room { 0 < length piece.old }
+    // What is written.
     ensures same { IsSameLog log.old log.new }
     ensures goes { (input : List ℕ) × IfSome (R.remaining reader.old) (λ bytes. input ≡ bytes)
         × Goes {M = Unit {0}} (λ _. run_lines is_log histogram.old (number_lines 1 (Some input)))
         (λ _. ended_by (Ok histogram.new))
         (W.contents (sink log.old).now) (W.contents (sink log.new).now) result }
+    // What is read.
     ensures read { MatchResult result (λ _. IsAtEnd (R.remaining reader.new))
         (λ f. ReadsTo (λ _. Unit {0}) (R.remaining reader.new) (cause_of f)) }
 {
@@ -191,7 +207,7 @@ pub(crate) fn run_task<R: Read, W: Write>(
     ensures read { MatchResult result (λ _. IsAtEnd (R.remaining reader.new))
         (λ f. ReadsTo (λ _. Unit {0}) (R.remaining reader.new) (cause_of f)) }
 {
-    // Each digit from 0 to 5 has a histogram, so only memory can run out.
+    // Each `sigfig` from 0 to 5 is valid, so this fails only if memory runs out.
     let Ok(mut histogram) = Histogram::new(alloc, sigfig) else {
         return Err(Fault::NoMemory);
     };

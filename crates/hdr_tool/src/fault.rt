@@ -1,4 +1,4 @@
-//! Why a run is refused.
+//! The errors of a run.
 
 ghost use Rattle.std.specs.Prelude.{◌≡◌};
 
@@ -7,33 +7,33 @@ use hdrhistogram::serialization::{DeserializeError, V2SerializeError};
 use std::alloc::AllocError;
 use std::fmt;
 
-/// Why a run is refused. Its text is the line on standard error, and takes no memory.
+/// Why a run fails. It is displayed as the fault line on standard error; this allocates nothing.
 #[derive(Debug, Drop)]
 pub enum Fault {
-    /// The arguments are not a command of the program.
+    /// The arguments are not a command of the program: a usage error.
     WrongWords,
     /// The line of this number, from 1, is not a command.
     NotACommand(u64),
-    /// The interval that the line of this number ends was not written.
+    /// The interval that ends at the line of this number was not written.
     NotWritten(u64, IntervalLogWriterError<V2SerializeError>),
-    /// The line that begins at this byte is no line of a log.
+    /// The line that starts at this byte is not a line of a log.
     NotALog(usize),
-    /// The field of the interval of this number, from 1, is no Base64.
+    /// The field of the interval of this number, from 1, is not valid Base64.
     NotBase64(u64),
-    /// The bytes of the interval of this number, from 1, are no histogram.
+    /// The bytes of the interval of this number, from 1, are not a histogram.
     NotRead(u64, DeserializeError),
-    /// No memory was left.
+    /// An allocation failed.
     NoMemory,
-    /// The input cannot be read.
+    /// The input could not be read.
     CannotRead,
-    /// The output cannot be written.
+    /// The output could not be written.
     CannotWrite,
 }
 
 impl Fault {
-    ghost use Rattle.hdr_tool.specs.Faults.{status_of};
+    ghost use Rattle.hdr_tool.specs.Outcomes.{status_of};
 
-    /// The exit status of the program: 2 for wrong words, 1 for any other fault.
+    /// The exit status of the program: 2 for a usage error, 1 for any other `Fault`.
     pub fn status(&self) -> u8
         ensures { result ≡ status_of self.now }
     {
@@ -56,7 +56,7 @@ impl From<AllocError> for Fault {
 }
 
 impl fmt::Display for Fault {
-    ghost use Rattle.hdr_tool.specs.Faults.{fault_text};
+    ghost use Rattle.hdr_tool.specs.Outcomes.{fault_text};
 
     ghost output = { fault_text };
 

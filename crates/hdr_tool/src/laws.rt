@@ -1,4 +1,5 @@
-//! Laws of the definitions: each function's contract is the law. A body that calls other laws takes what they say.
+//! Laws of the definitions: each function's contract is the law. A body that calls other laws uses
+//! them.
 
 ghost use Rattle.hdr_tool.specs.Program.{OneOutcome};
 ghost use Rattle.hdr_tool.specs.LogMerges.{EndsStand, LogThenMerge, LogMergeStands};
@@ -7,8 +8,9 @@ use hdr_base::laws::finer_classes;
 use hdr_core::laws::{calls_stand, clearing_stands, joined_stands, new_is_plain};
 use hdrhistogram::laws::{bytes_agree, bytes_read_back, merging_adds_the_chosen, read_back_stands};
 
-/// Arguments and an input have one outcome: one text and one fault, where of bytes that are no histogram the defect counts. So
-/// two runs that met no failed allocation, reader or writer wrote the same text and returned the same fault.
+/// Arguments and an input have one outcome: one output, and one `Fault` or none. Of bytes that are
+/// not a histogram, only the defect counts. So two runs in which no allocation, reader or writer
+/// failed have the same output and the same `Fault`, but for the cause in an `IoError`.
 pub fn one_outcome()
     ensures { OneOutcome }
 {
@@ -16,7 +18,8 @@ pub fn one_outcome()
     merging_adds_the_chosen();
 }
 
-/// The histograms of a log's intervals stand for the samples before the ends.
+/// The histogram of each interval of a log stands for the samples that the lines of this interval
+/// record, if they fit at its `end`.
 pub fn ends_stand()
     ensures { EndsStand }
 {

@@ -1,5 +1,5 @@
-//! What the program `hdr` does, over any reader and writer: it reports quantiles of samples, logs their histograms interval by
-//! interval, and merges such logs.
+//! The program `hdr`, over any reader and writer: it reports quantiles of samples, logs their
+//! histograms interval by interval, and merges such logs.
 #![tactic(auto)]
 
 mod arguments;

@@ -1,15 +1,16 @@
-//! The lines of a text, and the fields of a line.
+//! The lines of an input, and the fields of a line.
 
 ghost use Rattle.std.specs.Prelude.{◌≡◌, ◌==◌, ◌<◌, ◌∷◌, length, [], IfSome, MatchOption};
 ghost use Rattle.std.specs.Option.{option_map};
 ghost use Rattle.hdr_log.specs.Parts.{parts};
-ghost use Rattle.hdr_tool.specs.Lines.{parts_of_rest, first_number};
+ghost use Rattle.hdr_tool.specs.Commands.{parts_of_rest, first_number};
 
 use hdr_log::parts::number;
 use memchr::memchr;
 use std::marker::Model;
 
-/// What stands before the first such byte, and what stands after it, where there is one.
+/// Splits `text` at the first `byte`, and returns the parts before and after it. If it has none,
+/// returns all of `text` and `None`.
 #[inline(always)]
 pub(crate) fn split_first(text: &[u8], byte: u8) -> (&[u8], Option<&[u8]>)
     ensures parts { parts byte text.now
@@ -22,7 +23,8 @@ pub(crate) fn split_first(text: &[u8], byte: u8) -> (&[u8], Option<&[u8]>)
     }
 }
 
-/// The fields of a line that are left, separated by one space each. It is seen as their list.
+/// An iterator over the fields of a line, separated by one space each. To its callers it is the
+/// list of the fields that are left.
 #[derive(Drop)]
 pub(crate) struct Fields<'a> {
     left: Option<&'a [u8]>,
@@ -31,7 +33,7 @@ pub(crate) struct Fields<'a> {
 impl<'a> Model for Fields<'a> {
     ghost use Rattle.std.specs.Prelude.{ℕ, List};
     ghost use Rattle.std.specs.Option.{option_map};
-    ghost use Rattle.hdr_tool.specs.Lines.{parts_of_rest};
+    ghost use Rattle.hdr_tool.specs.Commands.{parts_of_rest};
 
     ghost Value = { List (List ℕ) };
 
@@ -39,7 +41,7 @@ impl<'a> Model for Fields<'a> {
 }
 
 impl<'a> Fields<'a> {
-    /// The fields of a line.
+    /// Creates an iterator over the fields of a line.
     #[inline(always)]
     pub fn new(line: &'a [u8]) -> Fields<'a>
         ensures { result ≡ parts 32 line.now }
@@ -47,7 +49,7 @@ impl<'a> Fields<'a> {
         Fields { left: Some(line) }
     }
 
-    /// The next field.
+    /// Returns the next field.
     #[inline(always)]
     pub fn next(&mut self) -> Option<&'a [u8]>
         ensures { MatchOption result ((self.old ≡ []) × (self.new ≡ []))
@@ -58,7 +60,7 @@ impl<'a> Fields<'a> {
         Some(field)
     }
 
-    /// The number of the next field.
+    /// Parses the next field as a number.
     #[inline(always)]
     pub fn number(&mut self) -> Option<u64>
         ensures { option_map (λ n. (n, self.new)) result ≡ first_number self.old }

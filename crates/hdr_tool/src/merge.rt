@@ -1,10 +1,9 @@
-//! Merging a log.
+//! Merges a log, and reports the result.
 
 ghost use Rattle.std.specs.Prelude.{◌≡◌, [], Some, None};
 ghost use Rattle.hdrhistogram.specs.Chosen.{view_of_filter};
 ghost use Rattle.hdr_tool.specs.Arguments.{Merge, view_of_options};
-ghost use Rattle.hdr_tool.specs.Faults.{merge_fault};
-ghost use Rattle.hdr_tool.specs.Outcomes.{Answers};
+ghost use Rattle.hdr_tool.specs.Outcomes.{merge_fault, Answers};
 ghost use Rattle.hdr_tool.specs.Program.{MergeReported, TaskDone, TaskStands, TaskWrites};
 
 use crate::arguments::{CounterType, Options};
@@ -15,7 +14,7 @@ use hdrhistogram::{Counter, Quantile};
 use std::alloc::Global;
 use std::io::Write;
 
-/// Writes the report of a log's chosen intervals, where nothing of the log is refused.
+/// Writes the report of a log's chosen intervals, unless the log has an error.
 pub(crate) fn report_log<W: Write>(
     alloc: Global,
     options: &Options<'_>,
@@ -46,7 +45,7 @@ pub(crate) fn report_log<W: Write>(
     }
 }
 
-/// The same, counted in one type.
+/// `report_log` with counters of type `T`.
 fn report_merged<T: Counter, W: Write>(
     alloc: Global,
     filter: &IntervalFilter<'_>,
@@ -67,7 +66,7 @@ fn report_merged<T: Counter, W: Write>(
     }
 }
 
-/// The fault of a merge that was refused.
+/// Converts the error of a merge.
 fn refused(error: MergeError) -> Fault
     ensures { result ≡ merge_fault error }
 {
@@ -75,7 +74,7 @@ fn refused(error: MergeError) -> Fault
         MergeError::Parse { offset } => Fault::NotALog(offset),
         MergeError::Base64 { interval } => Fault::NotBase64(interval),
         MergeError::Decode { interval, cause } => Fault::NotRead(interval, cause),
-        // Each number of digits that words can ask for has a histogram.
+        // The digits of the arguments are at most 5, so a histogram can have them.
         MergeError::Creation(_) | MergeError::OutOfMemory => Fault::NoMemory,
     }
 }

@@ -1,11 +1,12 @@
-//! The whole lines of a piece.
+//! The complete lines of a piece of the input.
 
 ghost use Rattle.std.specs.Prelude.{◌≡◌, ◌≢◌, ◌<◌, ◌∷◌, ◌++◌, ℕ, List, length, slice_index, IfSome, IfNone, IfOk, OnOk, MatchOption};
 
 use memchr::memrchr;
 use std::alloc::AllocError;
 
-/// What stands before the last such byte, and what stands after it; `None` where there is none.
+/// Splits `text` at the last `byte`, and returns the parts before and after it. Returns `None` if
+/// it has none.
 pub(crate) fn split_last(text: &[u8], byte: u8) -> Option<(&[u8], &[u8])>
     ensures parts { IfSome result (λ p. text.now ≡ p.0.now ++ byte ∷ p.1.now) }
     ensures last { IfSome result (λ p. (i : ℕ) → i < length p.1.now → slice_index p.1.now i ≢ byte) }
@@ -15,8 +16,8 @@ pub(crate) fn split_last(text: &[u8], byte: u8) -> Option<(&[u8], &[u8])>
     Some((&text[..at], &text[at + 1..]))
 }
 
-/// Adds what a piece has of whole lines to a text, without the last line's end, and answers what stands after them; all of it,
-/// where no line ends.
+/// Appends the complete lines of `piece` to `text`, without the last LF, and returns the rest of
+/// `piece`. If `piece` has no LF, appends all of it and returns `None`.
 pub(crate) fn take_lines<'a>(
     text: &mut Vec<u8>,
     piece: &'a [u8],
@@ -41,7 +42,7 @@ pub(crate) fn take_lines<'a>(
     }
 }
 
-/// Puts another text in place of what a text holds.
+/// Replaces the contents of `text` with `other`.
 pub(crate) fn replace(text: &mut Vec<u8>, other: &[u8]) -> Result<(), AllocError>
     ensures { OnOk result (text.new.items ≡ other.now) }
 {

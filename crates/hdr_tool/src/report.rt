@@ -1,4 +1,4 @@
-//! The report.
+//! Formats and writes reports.
 
 ghost use Rattle.std.specs.Prelude.{◌≡◌, ◌++◌, [], None, Ok, Err, OnOk, IfOk, string_bytes};
 ghost use Rattle.std.specs.List.{flat_map};
@@ -13,7 +13,7 @@ use hdrhistogram::{Counter, Histogram, Quantile};
 use std::alloc::{AllocError, Global};
 use std::io::Write;
 
-/// Adds the line of a quantile to a text.
+/// Appends the line of a quantile to `text`.
 fn push_quantile<T: Counter>(
     text: &mut String,
     histogram: &Histogram<T>,
@@ -28,7 +28,7 @@ fn push_quantile<T: Counter>(
     writeln!(text, "{num}/{den} {value}")
 }
 
-/// Adds the lines of the quantiles, in order.
+/// Appends the lines of the quantiles, in order.
 fn push_quantiles<T: Counter>(
     text: &mut String,
     histogram: &Histogram<T>,
@@ -43,7 +43,7 @@ fn push_quantiles<T: Counter>(
     Ok(())
 }
 
-/// The histogram's bytes in hexadecimal, or `none` where a count is too great for bytes.
+/// Returns the histogram's bytes in hexadecimal, or `none` if a count is too great for bytes.
 fn bytes_field<T: Counter>(alloc: Global, histogram: &Histogram<T>) -> Result<String, AllocError>
     ensures { IfOk result (λ field. IsBytesField histogram.now (string_bytes field)) }
 {
@@ -55,7 +55,7 @@ fn bytes_field<T: Counter>(alloc: Global, histogram: &Histogram<T>) -> Result<St
     }
 }
 
-/// The text of a report.
+/// Returns the text of a report.
 fn report<T: Counter>(
     alloc: Global,
     histogram: &Histogram<T>,

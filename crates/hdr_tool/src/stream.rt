@@ -1,4 +1,4 @@
-//! Inputs, whole and in pieces, and whole outputs. The program tries interrupted reads and writes again, whatever the command.
+//! Reads inputs and writes outputs. Interrupted reads and writes are retried, whatever the command.
 
 ghost use Rattle.std.specs.Prelude.{◌≡◌, ◌<◌, ◌≤◌, [], length, take, OnOk, IfOk, IfErr, IfSome, MatchResult, ◌⊎◌};
 ghost use Rattle.std.specs.Io.KnownBytes.{Appends, Consumes, IsAtEnd};
@@ -9,10 +9,11 @@ use crate::fault::Fault;
 use std::alloc::Global;
 use std::io::{self, ErrorKind, Read, Write};
 
-/// The whole input. An interrupted read is tried again.
+/// Reads all of the input. An interrupted read is retried.
 ///
 /// # Errors
-/// `CannotRead` where the reader fails, whatever the kind of its error, and `NoMemory` where the input can't be held.
+/// Returns `CannotRead` if the reader fails with another error, and `NoMemory` if the input can't
+/// be allocated.
 pub(crate) fn read_whole<R: Read>(alloc: Global, reader: &mut R) -> Result<Vec<u8>, Fault>
     ensures ok { IfOk result (λ input. IfSome (R.remaining reader.old)
         (λ bytes. input.items ≡ bytes)) }
@@ -25,7 +26,7 @@ pub(crate) fn read_whole<R: Read>(alloc: Global, reader: &mut R) -> Result<Vec<u
     Ok(input)
 }
 
-/// Appends the input to a text that is empty, piece by piece.
+/// Reads all of the input into an empty buffer, piece by piece.
 fn read_pieces<R: Read>(reader: &mut R, piece: &mut [u8], input: &mut Vec<u8>) -> Result<(), Fault>
     requires room { 0 < length piece.old }
     requires empty { input.old.items ≡ [] }
@@ -44,11 +45,11 @@ fn read_pieces<R: Read>(reader: &mut R, piece: &mut [u8], input: &mut Vec<u8>) -
     Err(Fault::CannotRead)
 }
 
-/// How much of the input is read at a time.
+/// The number of bytes that are read at a time.
 pub(crate) const PIECE: usize = 65_536;
 
-/// The next bytes of the input, at most as many as the piece has room for; 0 at the end of the input. An interrupted read is
-/// tried again.
+/// Reads the next bytes of the input into `piece`, and returns their number: at most the length of
+/// `piece`, and 0 at the end of the input. An interrupted read is retried.
 pub(crate) fn read_piece<R: Read>(reader: &mut R, piece: &mut [u8]) -> Result<usize, Fault>
     ensures within { IfOk result (λ count. count ≤ length piece.old) }
     ensures ok { IfOk result (λ count. Consumes (R.remaining reader.old) (R.remaining reader.new)
@@ -67,8 +68,9 @@ pub(crate) fn read_piece<R: Read>(reader: &mut R, piece: &mut [u8]) -> Result<us
     Err(Fault::CannotRead)
 }
 
-/// The fault that a run tells where a line has this one. The input is read to its end first and dropped, and a reader that fails
-/// on the way is told instead. A fault of memory or of a stream is told at once.
+/// Returns the error of a run in which a line has the error `fault`. The rest of the input is read
+/// first and dropped; if the reader fails meanwhile, that error is returned instead. An error of
+/// memory or of a stream is returned at once.
 pub(crate) fn told_at_end<R: Read>(reader: &mut R, piece: &mut [u8], fault: Fault) -> Fault
     requires { 0 < length piece.old }
     ensures told { (result ≡ fault) ⊎ ((cause_of fault ≡ Input) × (cause_of result ≡ Shortage)) }
@@ -90,10 +92,10 @@ pub(crate) fn told_at_end<R: Read>(reader: &mut R, piece: &mut [u8], fault: Faul
     Fault::CannotRead
 }
 
-/// A writer that tries an interrupted write again. The program's output is one.
+/// A writer that retries interrupted writes. The program's output is one.
 #[derive(Drop)]
 pub struct Patient<W> {
-    /// The writer that it writes to.
+    /// The underlying writer.
     pub writer: W,
 }
 
@@ -115,7 +117,7 @@ impl<W: Write> Write for Patient<W> {
     }
 }
 
-/// Writes all of a text. After a fault a beginning of the text is written, not all.
+/// Writes all of `text`. On error a proper prefix of it is written.
 pub(crate) fn write_whole<W: Write>(writer: &mut W, text: &[u8]) -> Result<(), Fault>
     ensures { MatchResult result
         (λ _. Appends (W.contents writer.old) (W.contents writer.new) text.now)

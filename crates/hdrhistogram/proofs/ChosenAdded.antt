@@ -5,7 +5,7 @@ use Rattle.hdr_model.specs.Plain.{Plain, grain, empty_plain}
 use Rattle.hdr_model.specs.Marks.{IsTopMark, IsLowerMark}
 use Rattle.hdr_model.specs.Joining.{after_adds}
 use Rattle.hdr_model.specs.Merging.{after_add}
-use Rattle.hdr_model.proofs.PlainBounds.{bounds, bounds-merged, low-and-sigfig}
+use Rattle.hdr_model.proofs.PlainBounds.{bounds, bounds-merged, same-bounds}
 use Rattle.hdr_log.specs.Grammar.{Entry, Start, Base, Span, Interval}
 use Rattle.hdr_log.specs.Texts.{base64_bytes}
 use Rattle.hdrhistogram.specs.Chosen.{Filter, is_chosen}
@@ -84,7 +84,7 @@ all_added greatest filter (Ok (Span interval) ∷ entries) m last e =
     (λ next on. all_added greatest filter entries next last on)
 all_added greatest filter (Err at ∷ entries) m last e = failed greatest filter last entries e.0 _ e.1 e.2
 
--- ---- one histogram is held in an interval
+-- ---- an interval holds one histogram
 
 same_read : (p q : Contents × List ℕ) → (λ (r : Result (Contents × List ℕ) Defect). r) (Ok p) ≡ Ok q → p ≡ q
 same_read p q e = cc
@@ -136,7 +136,7 @@ pub empty_grain : (n : ℕ) → grain (empty_plain 1 2 n true) ≡ grain_of 1 n
 unfolding empty_plain
 empty_grain n = refl
 
--- ---- where the chosen intervals hold histograms, nothing of a merge is refused
+-- ---- if the chosen intervals hold histograms, a merge has no error
 
 abbrev pub IsDone : Result Merging MergeError → Type 0
 IsDone r = (m : Merging) × (r ≡ Ok m)
@@ -197,5 +197,5 @@ empty_sigfig n = refl
 
 pub added_digits : (greatest n : ℕ) (h : Plain) (ks : List Plain) → h ≡ after_adds greatest (empty_plain 1 2 n true) ks → (h.low ≡ 1) × (h.sigfig ≡ n)
 added_digits greatest n h ks e =
-    let kept = low-and-sigfig h (empty_plain 1 2 n true) (ap (λ (k : Plain). bounds k) e ∙ added_bounds greatest (empty_plain 1 2 n true) ks) in
+    let kept = same-bounds h (empty_plain 1 2 n true) (ap (λ (k : Plain). bounds k) e ∙ added_bounds greatest (empty_plain 1 2 n true) ks) in
     (kept.0 ∙ empty_low n, kept.1 ∙ empty_sigfig n)

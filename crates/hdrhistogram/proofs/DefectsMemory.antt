@@ -1,4 +1,4 @@
--- Where memory may run out.
+-- When memory may run out.
 use Rattle.std.proofs.Common.{◌≡◌, ◌++◌, List, ℕ, Option, Some, None, Result, Ok, Err, IfErr, refl, sym, ap, ◌∙◌}
 use Rattle.std.specs.Io.KnownBytes.{Consumes}
 use Rattle.std.proofs.KnownBytes.{Consumes-trans}
@@ -8,7 +8,7 @@ use Rattle.hdrhistogram.specs.Defects.{Defect, RunsOutOnly, defect_of_error}
 use Rattle.hdrhistogram.specs.V2Read.{Header, HasBounds, header_at, bounds_defect}
 use Rattle.hdrhistogram.proofs.V2ReadHeader.{TakenBy, header-steady, steady_whole}
 
--- the condition is owed for one error alone
+-- the condition is required for one error only
 runs_out_if : (Condition : Type 0) (e : DeserializeError) → (e ≡ errors.OutOfMemory → Condition) → RunsOutOnly Condition e
 runs_out_if Condition (errors.IoError cause) h = tt
 runs_out_if Condition errors.InvalidCookie h = tt
@@ -19,14 +19,15 @@ runs_out_if Condition errors.UsizeTypeTooSmall h = tt
 runs_out_if Condition errors.EncodedArrayTooLong h = tt
 runs_out_if Condition errors.OutOfMemory h = h refl
 
--- where the condition holds, and where the error names a defect
+-- if the condition holds, and if the error names a defect
 pub runs_out : (Condition : Type 0) (e : DeserializeError) → Condition → RunsOutOnly Condition e
 runs_out Condition e h = runs_out_if Condition e (λ _. h)
 
 pub names_out : {f : Defect} (Condition : Type 0) (e : DeserializeError) → defect_of_error e ≡ Some f → RunsOutOnly Condition e
 names_out {f} Condition e h = runs_out_if Condition e (λ is. let no : ◌≡◌ {A = Option Defect} None (Some f) = sym (ap defect_of_error is) ∙ h in absurd cc)
 
--- where a header was taken whose bounds are those of a histogram, whatever was taken after it, memory may run out
+-- if a header was taken whose bounds are those of a histogram, memory may run out, whatever was
+-- taken after it
 pub after_bounds_out : {X : Type 0} (old mid new : Option (List ℕ)) (header : Header) (r : Result X DeserializeError) → TakenBy old mid header_at header → bounds_defect header ≡ None
     → (more : List ℕ) → Consumes mid new more → IfErr r (λ e. (taken : List ℕ) × Consumes old new taken × RunsOutOnly (HasBounds taken) e)
 after_bounds_out old mid new header (Ok x) by fine more d = tt

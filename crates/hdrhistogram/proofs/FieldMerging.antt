@@ -1,4 +1,4 @@
--- What a field that was read, or refused, adds to a merge.
+-- What a field adds to a merge: its histogram, or its error.
 use Rattle.std.proofs.Common.{ℕ, ◌+◌, List, Option, Ok, Err, refl, sym, subst}
 use Rattle.hdr_model.specs.Plain.{Plain}
 use Rattle.hdr_log.specs.Texts.{base64_bytes}

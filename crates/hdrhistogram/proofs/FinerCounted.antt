@@ -1,4 +1,4 @@
--- The classes of a sum, and how many histograms are coarser.
+-- The classes of a sum, and the number of coarser histograms.
 use Rattle.std.proofs.Common.{◌≡◌, ◌∙◌, ℕ, Bool, true, false, ◌&&◌, cond, leb, List, [], ◌∷◌, ◌++◌, refl, arith, eqb, ◌↔◌}
 use Rattle.std.specs.List.{AllByRecursion}
 use Rattle.std.proofs.lemmas.Bool.Decides.{nat_tests}
@@ -69,6 +69,6 @@ none_coarser : (g : Grain) (hs : List Plain) → AllByRecursion (λ (h : Plain).
 none_coarser g [] a = refl
 none_coarser g (h ∷ hs) a = omega (arith, none_if_finer g h a.0, none_coarser g hs a.1)
 
--- none is coarser exactly where all are finer
+-- none is coarser exactly if all are finer
 pub none_is_coarser : (g : Grain) (hs : List Plain) → (coarser_of g hs ≡ 0) ↔ AllByRecursion (λ (h : Plain). IsFiner (grain h) g) hs
 none_is_coarser g hs = (all_finer g hs, none_coarser g hs)

@@ -1,4 +1,4 @@
--- The text that a log begins with, part by part.
+-- The text that a log starts with, part by part.
 use Rattle.std.proofs.Common.{◌≡◌, ℕ, List, [], ◌∷◌, ◌++◌, Option, Result, Ok, Err, OnOk, map, refl, sym, ap, ◌∙◌, append_assoc}
 use Rattle.std.specs.List.{flat_map}
 use Rattle.hdr_log.specs.Pieces.{Piece, Comment, StartsAt, BasedAt, piece_text, text_of}

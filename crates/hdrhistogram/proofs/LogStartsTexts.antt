@@ -54,7 +54,7 @@ start_written v s cs st bt d nothing text now vs ec es eb ed hs hb hd en et ew t
     let P : List Piece → Type 0 = λ ps. AllByRecursion IsPiece ps × (t ≡ text_of ps) in
     subst S vs (subst P same (are_pieces cs st bt d hs hb hd, e ∙ ew ∙ et ∙ ap (λ x. x ++ text_of (start_pieces cs st bt d)) en))
 
--- where nothing is set, nothing is to be written, and so no writer fails
+-- if nothing is set, nothing is to be written, and so no writer fails
 pub plain_written : {E : Type 0} (s : LogStart) (o n : Option (List ℕ)) (r : Result (Unit {0}) (IntervalLogWriterError E)) → WritesText (IsStartText s) (λ _. ⊥) o n r → IfErr r IsIoError → s ≡ new_start → r ≡ Ok tt
 plain_written s o n (Ok tt) h f e = refl
 plain_written s o n (Err (IoError cause)) (text, (all, is), (count, few, front)) f e =

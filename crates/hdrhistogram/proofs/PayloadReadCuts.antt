@@ -1,4 +1,4 @@
--- A payload is cut into spellings and a rest in one way.
+-- A payload has exactly one split into varints and a rest.
 use Rattle.std.proofs.Common.{◌≡◌, ℕ, zero, suc, ◌<◌, ◌≤◌, Bool, true, false, List, [], ◌∷◌, ◌++◌, length, refl, sym, ap, ◌∙◌, subst, arith, append_assoc, length-append, ltb, flat_map, ◌⊎◌, inl, inr}
 use Rattle.std.proofs.lemmas.Bool.{ltb-false}
 use Rattle.std.specs.List.{AllByRecursion}
@@ -6,7 +6,7 @@ use Rattle.hdrhistogram.specs.Varint.{IsSpelling}
 use Rattle.hdrhistogram.specs.PayloadRead.{Parted, split_spellings, AreSpellings}
 use Rattle.hdrhistogram.proofs.PayloadReadFilling.{parted_spelling, parted_rest}
 
--- ---- a payload has spellings and a rest
+-- ---- a payload has varints and a rest
 
 record Front (left : ℕ) (bytes : List ℕ) : Type 0 where
   text : List ℕ
@@ -55,7 +55,7 @@ split_by : (n : ℕ) (bytes : List ℕ) → length bytes ≤ n → Split bytes
 split_by zero bytes h = split_either bytes (λ f. absurd (omega (arith, f.some, simp length-append at (ap length f.whole)))) (front_of 8 bytes)
 split_by (suc n) bytes h = split_either bytes (λ f. split_by n f.rest (omega (arith, f.some, simp length-append at (ap length f.whole)))) (front_of 8 bytes)
 
--- ---- and is cut so
+-- ---- and they are its split
 
 texts_parted : (texts : List (List ℕ)) (rest : List ℕ) → AllByRecursion (IsSpelling 8) texts → length rest ≤ 8 → AllByRecursion (λ b. 128 ≤ b) rest → split_spellings 8 (flat_map (λ t. t) texts ++ rest) ≡ record { texts = texts; rest = rest }
 texts_parted [] rest each few high = parted_rest 8 rest few high

@@ -11,7 +11,7 @@ use Rattle.hdrhistogram.proofs.VarintRead.{two_spelt}
 use Rattle.hdrhistogram.specs.Defects.{Defect, cut, unless, defect_of_error, FailsBy, Gives}
 use Rattle.hdrhistogram.specs.PayloadRead.{Parted, last_byte, put_before, split_spellings, numbers, bins_of_number, move, defect_at, first_defect, fit_bins, with_count, IsCountPut, IsPairPut, counts_or_defect, counts_in, IsCut}
 
--- ---- the spellings of a payload
+-- ---- the varints of a payload
 
 parted_more : (t : Bool) (left b : ℕ) (bs more : List ℕ) → MatchBool t (bs ≡ []) (IsSpelling left bs)
     → (IsSpelling left bs → split_spellings left (bs ++ more) ≡ record { texts = bs ∷ (split_spellings 8 more).texts; rest = (split_spellings 8 more).rest })
@@ -20,14 +20,14 @@ parted_more : (t : Bool) (left b : ℕ) (bs more : List ℕ) → MatchBool t (bs
 parted_more true left b bs more s again = rw s refl
 parted_more false left b bs more s again = rw (again s) refl
 
--- a spelling is cut off whole
+-- a complete varint is split off
 pub parted_spelling : (left : ℕ) (text more : List ℕ) → IsSpelling left text → split_spellings left (text ++ more) ≡ record { texts = text ∷ (split_spellings 8 more).texts; rest = (split_spellings 8 more).rest }
 unfolding IsSpelling split_spellings
 parted_spelling left [] more s = absurd s
 parted_spelling zero (b ∷ bs) more s = rw s refl
 parted_spelling (suc left) (b ∷ bs) more s = parted_more (ltb b 128) left b bs more s (λ s'. parted_spelling left bs more s')
 
--- a rest that is no whole spelling stays
+-- an incomplete varint stays
 pub parted_rest : (left : ℕ) (rest : List ℕ) → length rest ≤ left → AllByRecursion (λ b. 128 ≤ b) rest → split_spellings left rest ≡ record { texts = []; rest = rest }
 unfolding split_spellings
 parted_rest left [] few high = refl
@@ -120,7 +120,7 @@ two-put greatest place bytes old new n two high fits low even is more most insid
 
 -- ---- the loop
 
--- what is left of a payload, where these bins were read of it
+-- the rest of a payload, of which these bins were read
 pub from : ℕ → ℕ → ℕ → List ℕ → Parted → Result (List ℕ) Defect
 from bins greatest place front later =
     counts_or_defect (first_defect bins greatest place (numbers later.texts)) later.rest (fit_bins bins (front ++ flat_map bins_of_number (numbers later.texts)))
@@ -140,7 +140,7 @@ fill_start bins greatest payload counts e = record { front = []; long = refl; no
 pub fill_bins : (bins greatest : ℕ) (payload counts : List ℕ) (at place : ℕ) → IsFilledTo bins greatest payload counts at place → length counts ≡ bins
 fill_bins bins greatest payload counts at place d = ap (length {A = ℕ}) d.now ∙ length_fitted bins d.front
 
--- the next spelling, and what comes after it
+-- the next varint, and what comes after it
 parts_of : (payload text : List ℕ) (at next len : ℕ) → text ≡ take len (drop at payload) → next ≡ at + len → drop at payload ≡ text ++ drop next payload
 parts_of payload text at next len t e =
     sym (take-append-drop len (drop at payload)) ∙ ap (λ l. l ++ drop len (drop at payload)) (sym t)
@@ -206,7 +206,7 @@ fill_cut bins greatest payload counts at place d h c =
     d.whole ∙ ap (from bins greatest place d.front) (parted_rest 8 (drop at payload) c.short c.high)
     ∙ cut_from bins greatest place d.front (drop at payload) (omega (arith, length-drop at payload))
 
--- the bins after a count was put, and after nothing was
+-- the bins after a count was set, and after nothing was
 pub fill_short : (bins greatest : ℕ) (payload counts after : List ℕ) (at next place further len : ℕ) → IsFilledTo bins greatest payload counts at place
     → IsCountPut greatest place (drop at payload) counts after len → next ≡ at + len → further ≡ place + 1 → IsFilledTo bins greatest payload after next further
 fill_short bins greatest payload counts after at next place further len d p next_is further_is =
@@ -219,12 +219,12 @@ fill_pair bins greatest payload counts after at next place further d p next_is f
     let second : IsCountPut greatest (place + 1) (drop (at + 2) payload) p.between after 2 = subst (λ l. IsCountPut greatest (place + 1) l p.between after 2) (drop-drop 2 at payload) p.second in
     fill_short bins greatest payload p.between after (at + 2) next (place + 1) further 2 half second (omega arith) (omega arith)
 
--- an error that names a check's defect names what it makes of the whole
+-- an error that names the defect of a check names the defect of all of it
 pub fails_so : {A : Type 0} (o defect : Option Defect) (whole : Result A Defect) → FailsBy {A = ℕ} o (unless defect 0) → ((f : Defect) → defect ≡ Some f → whole ≡ Err f) → FailsBy o whole
 fails_so None defect whole h so = tt
 fails_so (Some f) None whole h so = cc
 fails_so (Some f) (Some g) whole h so = let same : g ≡ f = cc in so f (ap Some same)
 
--- an answer that is this error
+-- a result that is this error
 pub gives_fails : {X Y : Type 0} (view : X → Y) (r : Result X DeserializeError) (e d : DeserializeError) (whole : Result Y Defect) → r ≡ Err e → e ≡ d → FailsBy (defect_of_error d) whole → Gives view r whole
 gives_fails view r e d whole p q h = rw (p, q) h

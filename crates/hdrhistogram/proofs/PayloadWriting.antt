@@ -1,6 +1,6 @@
 -- The payload: counts in parts, and the loop that writes them.
-use Rattle.std.proofs.Common.{◌≡◌, ◌≢◌, ℕ, zero, suc, ◌+◌, ◌-◌, ◌*◌, ◌^◌, ◌<◌, ◌≤◌, Bool, true, false, cond, List, [], ◌∷◌, ◌++◌, length, take, drop, get_or, replicate, refl, sym, ap, ◌∙◌, subst, arith, append_assoc, append-nil, length-take-le, length-append, drop_of_length-le, take-append-drop, eqb, flat_map, pos, add-one, below_more, drop-cons, min, nat_lt, map}
-use Rattle.std.proofs.lemmas.Bool.{eqb-true, eqb-false, eq-eqb, ne_eqb, lt-ltb, le-ltb}
+use Rattle.std.proofs.Common.{◌≡◌, ◌≢◌, ℕ, zero, suc, ◌+◌, ◌-◌, ◌*◌, ◌^◌, ◌<◌, ◌≤◌, Bool, true, false, cond, List, [], ◌∷◌, ◌++◌, length, take, drop, get_or, replicate, refl, sym, ap, ◌∙◌, subst, arith, append_assoc, append-nil, length-take-le, length-append, drop_of_length-le, take-append-drop, eqb, flat_map, pos, add-one, below_more, drop-cons, min, nat_lt, map, ⊎_elim}
+use Rattle.std.proofs.lemmas.Bool.{cases_lt, eqb-true, eqb-false, eq-eqb, ne_eqb, lt-ltb, le-ltb}
 use Rattle.std.proofs.lemmas.Grind.{get_or_default_zero}
 use Rattle.std.proofs.lemmas.List.{length-replicate, length-map, get_or-take, get_or-map, take-take}
 use Rattle.std.proofs.lemmas.List.Elements.{recursion_from_All}
@@ -113,7 +113,7 @@ text_of_none : (z : ℕ) → text_from z [] ≡ run_text z
 unfolding text_from parts_from
 text_of_none z = close_text z [] ∙ append-nil (run_text z)
 
--- the text up to `written` stands in out, and left is still to come
+-- the text up to `written` is stored in out, and left is still to come
 pub record StandsIn (whole out old left : List ℕ) (written : ℕ) : Type 0 where
   pub text : take written out ++ left ≡ whole
   pub behind : drop written out ≡ drop written old
@@ -125,11 +125,10 @@ stands_more whole out old next piece left written further s h front behind = rec
   behind = behind ∙ drop_past out old written further h s.behind;
 }
 
--- one bin more
-nonempty_more : (counts : List ℕ) (index : ℕ) → nonempty (take index counts) ≤ nonempty (take (index + 1) counts)
-nonempty_more counts index =
-    let e : nonempty (take index (take (index + 1) counts)) ≡ nonempty (take index counts) = ap nonempty (take-take index (index + 1) counts (omega arith)) in
-    omega (arith, e, sum_by-take-le (λ n. cond (nat_lt 0 n) 1 0) (take (index + 1) counts) index)
+nonempty_upto : (counts : List ℕ) (index next : ℕ) → index ≤ next → nonempty (take index counts) ≤ nonempty (take next counts)
+nonempty_upto counts index next h =
+    let e : nonempty (take index (take next counts)) ≡ nonempty (take index counts) = ap nonempty (take-take index next counts h) in
+    omega (arith, e, sum_by-take-le (λ n. cond (nat_lt 0 n) 1 0) (take next counts) index)
 
 nonempty_one : (counts : List ℕ) (index : ℕ) → index < length counts → get_or counts index 0 ≢ 0 → nonempty (take (index + 1) counts) ≡ nonempty (take index counts) + 1
 nonempty_one counts index h full = count_by_more_yes (λ n. nat_lt 0 n) counts index 0 h (lt-ltb 0 (get_or counts index 0) (omega arith))
@@ -152,82 +151,114 @@ full_same f xs i x full h is none was =
 nonempty_of : (counts : List ℕ) (index : ℕ) → nonempty (take index counts) ≤ nonempty counts
 nonempty_of counts index = sum_by-take-le (λ n. cond (nat_lt 0 n) 1 0) counts index
 
--- the counts before `index` are written, but for the empty ones at their end
-pub record IsEncodedTo (counts out old : List ℕ) (index written empty : ℕ) : Type 0 where
-  pub stands : StandsIn (text_from 0 counts) out old (text_from empty (drop index counts)) written
-  pub some : empty ≤ index
-  pub room : written + 9 * empty ≤ 9 * index
-  pub parts : written ≤ 18 * nonempty (take index counts)
+-- the counts before `index` are written; a run of empty ones at their end is all of its run
+pub record IsEncodedTo (counts out old : List ℕ) (index written : ℕ) : Type 0 where
+  pub stands : StandsIn (text_from 0 counts) out old (text_from 0 (drop index counts)) written
+  pub room : written ≤ 9 * index
+  pub parts : written ≤ 18 * nonempty (take index counts) + 9
+  pub fresh : index < length counts → get_or counts index 0 ≡ 0 → written ≤ 18 * nonempty (take index counts)
   pub small : (k : ℕ) → k < index → get_or counts k 0 < 2 ^ 63
 
-pub encode_start : (counts old : List ℕ) → IsEncodedTo counts old old 0 0 0
-encode_start counts old = record { stands = record { text = refl; behind = refl }; some = omega arith; room = omega arith; parts = omega arith; small = λ k h. absurd (omega arith) }
+pub encode_start : (counts old : List ℕ) → IsEncodedTo counts old old 0 0
+encode_start counts old = record { stands = record { text = refl; behind = refl }; room = omega arith; parts = omega arith; fresh = λ h z. omega arith; small = λ k h. absurd (omega arith) }
 
--- an empty bin waits
-pub encode_empty : (counts out old : List ℕ) (index written empty : ℕ) → IsEncodedTo counts out old index written empty → index < length counts → get_or counts index 0 ≡ 0
-    → IsEncodedTo counts out old (index + 1) written (empty + 1)
-encode_empty counts out old index written empty e h zero_here =
-    let rest : text_from empty (drop index counts) ≡ text_from (empty + 1) (drop (index + 1) counts)
-    = ap (text_from empty) (drop-cons counts index 0 h ∙ ap (λ n. get_or counts index 0 ∷ drop n counts) (sym (add-one index))) ∙ text_of_empty empty _ _ zero_here in
+-- empty bins wait
+text_past : (counts : List ℕ) (index k : ℕ) → index + k ≤ length counts → ((i : ℕ) → index ≤ i → i < index + k → get_or counts i 0 ≡ 0)
+    → text_from 0 (drop index counts) ≡ text_from k (drop (index + k) counts)
+text_past counts index zero h zeros = ap (λ i. text_from 0 (drop i counts)) (let a : index ≡ index + 0 = omega arith in a)
+text_past counts index (suc k) h zeros =
+    let at = index + k in
+    let before : text_from 0 (drop index counts) ≡ text_from k (drop at counts) = text_past counts index k (omega arith) (λ i a b. zeros i a (omega (arith, b))) in
+    let here : text_from k (drop at counts) ≡ text_from (k + 1) (drop (at + 1) counts)
+    = ap (text_from k) (drop-cons counts at 0 (omega arith) ∙ ap (λ n. get_or counts at 0 ∷ drop n counts) (sym (add-one at))) ∙ text_of_empty k _ _ (zeros at (omega arith) (omega arith)) in
+    before ∙ here ∙ ap (λ n. text_from n (drop (at + 1) counts)) (let a : k + 1 ≡ suc k = omega arith in a)
+    ∙ ap (λ i. text_from (suc k) (drop i counts)) (let a : at + 1 ≡ index + suc k = omega arith in a)
+
+-- a run is all of its run before a nonempty bin and at the end
+text_of_run : (counts : List ℕ) (next z : ℕ) → (next < length counts → get_or counts next 0 ≢ 0) → text_from z (drop next counts) ≡ run_text z ++ text_from 0 (drop next counts)
+unfolding run_text
+text_of_run counts next z full =
+    ⊎_elim (λ (h : next < length counts).
+    let parts : drop next counts ≡ get_or counts next 0 ∷ drop (suc next) counts = drop-cons counts next 0 h in
+    ap (text_from z) parts ∙ text_of_full z _ _ (full h) ∙ ap (λ l. run_text z ++ l) (sym (ap (text_from 0) parts ∙ text_of_full 0 _ _ (full h))))
+    (λ (h : length counts ≤ next).
+    let none : drop next counts ≡ [] = drop_of_length-le counts {i = next} h in
+    ap (text_from z) none ∙ text_of_none z ∙ sym (append-nil (run_text z)) ∙ ap (λ l. run_text z ++ l) (sym (ap (text_from 0) none ∙ text_of_none 0)))
+    (cases_lt next (length counts))
+
+small_past : (counts : List ℕ) (index next : ℕ) → ((k : ℕ) → k < index → get_or counts k 0 < 2 ^ 63) → ((i : ℕ) → index ≤ i → i < next → get_or counts i 0 ≡ 0) → (k : ℕ) → k < next → get_or counts k 0 < 2 ^ 63
+small_past counts index next small zeros k h =
+    ⊎_elim (λ (lt : k < index). small k lt) (λ (le : index ≤ k). omega (arith, zeros k le h)) (cases_lt k index)
+
+-- a run of empty bins
+pub encode_run : (counts out to old : List ℕ) (index next written further : ℕ) → IsEncodedTo counts out old index written → index < next → next ≤ length counts
+    → ((i : ℕ) → index ≤ i → i < next → get_or counts i 0 ≡ 0) → (next < length counts → get_or counts next 0 ≢ 0)
+    → written ≤ further → further ≤ written + 9 → take further to ≡ take written out ++ run_text (next - index) → drop further to ≡ drop further out
+    → IsEncodedTo counts to old next further
+encode_run counts out to old index next written further e some h zeros full more few front behind =
+    let z = next - index in
+    let is : index + z ≡ next = omega arith in
+    let rest : text_from 0 (drop index counts) ≡ run_text z ++ text_from 0 (drop next counts)
+    = text_past counts index z (omega arith) (λ i a b. zeros i a (omega (arith, b))) ∙ ap (λ i. text_from z (drop i counts)) is ∙ text_of_run counts next z full in
+    let bound : further ≤ 18 * nonempty (take next counts) + 9 = omega (arith, few, e.fresh (omega arith) (zeros index (omega arith) some), nonempty_upto counts index next (omega arith)) in
     record {
-      stands = subst (λ l. StandsIn (text_from 0 counts) out old l written) rest e.stands;
-      some = omega (arith, e.some);
+      stands = stands_more (text_from 0 counts) out old to (run_text z) (text_from 0 (drop next counts)) written further
+          (subst (λ l. StandsIn (text_from 0 counts) out old l written) rest e.stands) more front behind;
       room = omega (arith, e.room);
-      parts = omega (arith, e.parts, nonempty_more counts index);
-      small = below_more _ index e.small (omega (arith, zero_here));
+      parts = bound;
+      fresh = λ inside empty. absurd (full inside empty);
+      small = small_past counts index next e.small zeros;
     }
 
--- several empty bins wait
-pub encode_skip : (counts out old : List ℕ) (index written empty k : ℕ) → IsEncodedTo counts out old index written empty → index + k ≤ length counts → ((i : ℕ) → index ≤ i → i < index + k → get_or counts i 0 ≡ 0)
-    → IsEncodedTo counts out old (index + k) written (empty + k)
-encode_skip counts out old index written empty zero e h zeros =
-    subst (λ i. IsEncodedTo counts out old i written (empty + 0)) (let a : index ≡ index + 0 = omega arith in a) (subst (λ z. IsEncodedTo counts out old index written z) (let a : empty ≡ empty + 0 = omega arith in a) e)
-encode_skip counts out old index written empty (suc k) e h zeros =
-    let next = encode_empty counts out old (index + k) written (empty + k) (encode_skip counts out old index written empty k e (omega arith) (λ i a b. zeros i a (omega (arith, b)))) (omega arith) (zeros (index + k) (omega arith) (omega arith)) in
-    subst (λ i. IsEncodedTo counts out old i written (empty + suc k)) (let a : index + k + 1 ≡ index + suc k = omega arith in a) (subst (λ z. IsEncodedTo counts out old (index + k + 1) written z) (let a : empty + k + 1 ≡ empty + suc k = omega arith in a) next)
+-- the next nonempty bin after an empty one
+pub past_empty : (counts : List ℕ) (index next : ℕ) → index < length counts → get_or counts index 0 ≡ 0 → index ≤ next → (next < length counts → 0 < get_or counts next 0) → index < next
+past_empty counts index next h empty on full =
+    ⊎_elim (λ (lt : index < next). lt) (λ (le : next ≤ index).
+    let same : next ≡ index = omega arith in
+    absurd (omega (arith, full (omega arith), ap (λ i. get_or counts i 0) same, empty)))
+    (cases_lt index next)
 
--- up to a bin before which all are empty
-pub encode_past : (counts out old : List ℕ) (index next written empty : ℕ) → IsEncodedTo counts out old index written empty → index ≤ next → next ≤ length counts → ((i : ℕ) → index ≤ i → i < next → get_or counts i 0 ≡ 0)
-    → IsEncodedTo counts out old next written (empty + (next - index))
-encode_past counts out old index next written empty e on h zeros =
-    let is : index + (next - index) ≡ next = omega arith in
-    subst (λ i. IsEncodedTo counts out old i written (empty + (next - index))) is
-    (encode_skip counts out old index written empty (next - index) e (omega arith) (λ i a b. zeros i a (omega (arith, b))))
-
--- the run that waits is written, and a nonempty bin
-pub encode_full : (counts out mid next old : List ℕ) (index written between further empty : ℕ) → IsEncodedTo counts out old index written empty → index < length counts
+-- a nonempty bin
+pub encode_full : (counts out to old : List ℕ) (index written further : ℕ) → IsEncodedTo counts out old index written → index < length counts
     → get_or counts index 0 ≢ 0 → get_or counts index 0 < 2 ^ 63
-    → written ≤ between → between ≤ written + 9 * min empty 1 → take between mid ≡ take written out ++ run_text empty → drop between mid ≡ drop between out
-    → between ≤ further → further ≤ between + 9 → take further next ≡ take between mid ++ spelling (zig_zag (pos (get_or counts index 0))) → drop further next ≡ drop further mid
-    → IsEncodedTo counts next old (index + 1) further 0
-encode_full counts out mid next old index written between further empty e h full small h1 few1 front1 behind1 h2 few2 front2 behind2 =
+    → written ≤ further → further ≤ written + 9 → take further to ≡ take written out ++ spelling (zig_zag (pos (get_or counts index 0))) → drop further to ≡ drop further out
+    → IsEncodedTo counts to old (index + 1) further
+unfolding run_text
+encode_full counts out to old index written further e h full small more few front behind =
     let c = get_or counts index 0 in
-    let rest : text_from empty (drop index counts) ≡ run_text empty ++ (spelling (zig_zag (pos c)) ++ text_from 0 (drop (index + 1) counts))
-    = ap (text_from empty) (drop-cons counts index 0 h ∙ ap (λ n. c ∷ drop n counts) (sym (add-one index))) ∙ text_of_full empty c _ full in
-    let first = stands_more (text_from 0 counts) out old mid (run_text empty) (spelling (zig_zag (pos c)) ++ text_from 0 (drop (index + 1) counts)) written between
-    (subst (λ l. StandsIn (text_from 0 counts) out old l written) rest e.stands) h1 front1 behind1 in
+    let rest : text_from 0 (drop index counts) ≡ spelling (zig_zag (pos c)) ++ text_from 0 (drop (index + 1) counts)
+    = ap (text_from 0) (drop-cons counts index 0 h ∙ ap (λ n. c ∷ drop n counts) (sym (add-one index))) ∙ text_of_full 0 c _ full in
+    let bound : further ≤ 18 * nonempty (take (index + 1) counts) = omega (arith, few, e.parts, nonempty_one counts index h full) in
     record {
-      stands = stands_more (text_from 0 counts) mid old next (spelling (zig_zag (pos c))) (text_from 0 (drop (index + 1) counts)) between further first h2 front2 behind2;
-      some = omega arith;
+      stands = stands_more (text_from 0 counts) out old to (spelling (zig_zag (pos c))) (text_from 0 (drop (index + 1) counts)) written further
+          (subst (λ l. StandsIn (text_from 0 counts) out old l written) rest e.stands) more front behind;
       room = omega (arith, e.room);
-      parts = omega (arith, e.parts, nonempty_one counts index h full);
+      parts = omega (arith, bound);
+      fresh = λ inside empty. bound;
       small = below_more _ index e.small small;
     }
 
--- ---- the room that is enough
+-- ---- the length that is enough
 
--- for a run and a nonempty bin after it
-pub room_for_both : (counts out old : List ℕ) (index written empty room : ℕ) → IsEncodedTo counts out old index written empty → index < length counts → get_or counts index 0 ≢ 0
-    → enough_bytes counts ≤ room → written + 9 * min empty 1 + 9 ≤ room
+-- for a nonempty bin
+pub room_for_full : (counts out old : List ℕ) (index written room : ℕ) → IsEncodedTo counts out old index written → index < length counts → get_or counts index 0 ≢ 0
+    → enough_bytes counts ≤ room → written + 9 ≤ room
 unfolding enough_bytes
-room_for_both counts out old index written empty room e h full enough =
+room_for_full counts out old index written room e h full enough =
     omega (arith, e.room, e.parts, nonempty_one counts index h full, nonempty_of counts (index + 1))
 
--- for a run at the end
-pub room_for_last : (counts out old : List ℕ) (index written empty room : ℕ) → IsEncodedTo counts out old index written empty → index ≤ length counts
-    → enough_bytes counts ≤ room → written + 9 * min empty 1 ≤ room
+-- for a run
+pub room_for_run : (counts out old : List ℕ) (index written room : ℕ) → IsEncodedTo counts out old index written → index < length counts → get_or counts index 0 ≡ 0
+    → enough_bytes counts ≤ room → written + 9 ≤ room
 unfolding enough_bytes
-room_for_last counts out old index written empty room e h enough =
+room_for_run counts out old index written room e h empty enough =
+    omega (arith, e.room, e.fresh h empty, nonempty_of counts index)
+
+-- for all that is written
+pub room_for_all : (counts out old : List ℕ) (index written room : ℕ) → IsEncodedTo counts out old index written → index ≤ length counts
+    → enough_bytes counts ≤ room → written ≤ room
+unfolding enough_bytes
+room_for_all counts out old index written room e h enough =
     omega (arith, e.room, e.parts, nonempty_of counts index)
 
 -- nine bytes for each bin
@@ -272,23 +303,20 @@ payload_of_parts counts few small =
     let split = parts_split 0 counts in
     record { parts = parts_from 0 counts; split = split; spelt = spelt_of (parts_from 0 counts) (omega (arith, ap (length {A = ℕ}) split.whole)) (subst (AllByRecursion (λ c. c < 2 ^ 63)) (sym split.whole) small) }
 
-pub small_all : {out old : List ℕ} {index written empty : ℕ} (counts : List ℕ) → IsEncodedTo counts out old index written empty → length counts ≤ index
+pub small_all : {out old : List ℕ} {index written : ℕ} (counts : List ℕ) → IsEncodedTo counts out old index written → length counts ≤ index
     → (k d : ℕ) → k < length counts → get_or counts k d < 2 ^ 63
 small_all counts e h k d p = rw (get_or_default_zero counts k d p) (e.small k (omega arith))
 
-pub encode_end : (counts out next old : List ℕ) (index written further empty : ℕ) → IsEncodedTo counts out old index written empty → length counts ≤ index → length counts < 2 ^ 63
-    → written ≤ further → take further next ≡ take written out ++ run_text empty → drop further next ≡ drop further out → further ≤ length next
-    → (text : List ℕ) × IsPayload counts text × (further ≡ length text) × (next ≡ text ++ drop further old)
-encode_end counts out next old index written further empty e h few h1 front behind within =
-    let rest : text_from empty (drop index counts) ≡ run_text empty ++ []
-    = ap (text_from empty) (drop_of_length-le counts {i = index} h) ∙ text_of_none empty ∙ sym (append-nil (run_text empty)) in
-    let last = stands_more (text_from 0 counts) out old next (run_text empty) [] written further
-    (subst (λ l. StandsIn (text_from 0 counts) out old l written) rest e.stands) h1 front behind in
-    let text : take further next ≡ text_from 0 counts = sym (append-nil (take further next)) ∙ last.text in (
+pub encode_end : (counts out old : List ℕ) (index written : ℕ) → IsEncodedTo counts out old index written → length counts ≤ index → length counts < 2 ^ 63 → written ≤ length out
+    → (text : List ℕ) × IsPayload counts text × (written ≡ length text) × (out ≡ text ++ drop written old)
+unfolding run_text
+encode_end counts out old index written e h few within =
+    let none : text_from 0 (drop index counts) ≡ [] = ap (text_from 0) (drop_of_length-le counts {i = index} h) ∙ text_of_none 0 in
+    let text : take written out ≡ text_from 0 counts = sym (append-nil (take written out)) ∙ ap (λ l. take written out ++ l) (sym none) ∙ e.stands.text in (
       text_from 0 counts,
       payload_of_parts counts few (recursion_from_All _ counts (small_all counts e h)),
-      sym (length-take-le further next within) ∙ ap length text,
-      sym (take-append-drop further next) ∙ ap (λ l. l ++ drop further next) text ∙ ap (λ l. text_from 0 counts ++ l) last.behind,
+      sym (length-take-le written out within) ∙ ap length text,
+      sym (take-append-drop written out) ∙ ap (λ l. l ++ drop written out) text ∙ ap (λ l. text_from 0 counts ++ l) e.stands.behind,
     )
 
 -- ---- what the helpers write

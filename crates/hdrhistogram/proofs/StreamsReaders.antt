@@ -1,4 +1,4 @@
--- Bytes that a reader gives, call by call.
+-- Bytes that are read, call by call.
 use Rattle.std.proofs.Common.{◌≡◌, ℕ, ◌+◌, ◌-◌, ◌<◌, ◌≤◌, List, ◌++◌, length, take, drop, sym, ap, ◌∙◌, subst, arith, Option, Some, None, length-take-le, length-drop, length-append, append-nil, drop_of_length-le, []}
 use Rattle.std.specs.Io.KnownBytes.{Consumes, Keeps}
 use Rattle.std.proofs.KnownBytes.{Consumes-trans, Consumes-kept}
@@ -20,7 +20,7 @@ pub Consumes-more : (x y z : Option (List ℕ)) (buffer new : List ℕ) (a n : �
     → Consumes x z (take (a + n) (put_mid a (length buffer - a) buffer new))
 Consumes-more x y z buffer new a n h k p q = subst (Consumes x z) (filled_is buffer new a n h k) (Consumes-trans x y z _ _ p q)
 
--- a read that failed, or gave nothing
+-- a read that failed, or returned 0 bytes
 pub Consumes-stopped : (x y z : Option (List ℕ)) (buffer : List ℕ) (a limit : ℕ) → a < limit → a ≤ length buffer
     → Consumes x y (take a buffer) → Keeps y z → ConsumesFewer x z limit
 Consumes-stopped x y z buffer a limit h k p q = (take a buffer, omega (arith, length-take-le a buffer k), Consumes-kept x y z _ p q)

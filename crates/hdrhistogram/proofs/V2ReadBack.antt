@@ -205,7 +205,7 @@ header_again h len rest few digits low high =
     let e7 = checked_fine ratio_defect (eight_at t7) 0x3ff0000000000000 rest (eight_again 0x3ff0000000000000 rest (omega arith)) ratio_fine in
     ap header_at regrouped ∙ rw (e1, e2, e3, e4, e5, e6, e7) refl
 
--- ---- the whole
+-- ---- header and payload
 
 bytes_again : (payload more : List ℕ) → bytes_at (length payload) (payload ++ more) ≡ Ok (payload, more)
 unfolding bytes_at
@@ -273,7 +273,7 @@ min-by : (h k : Plain) → h.low ≡ k.low → h.sigfig ≡ k.sigfig → h.lower
 unfolding min_nz_of
 min-by h k low sigfig lower = ap (λ l. value_of_mark (grain_of l h.sigfig) h.lower_mark) low ∙ ap (λ s. value_of_mark (grain_of k.low s) h.lower_mark) sigfig ∙ ap (value_of_mark (grain_of k.low k.sigfig)) lower
 
--- where the marks and the total are those of the numbers, it is equal to what was written
+-- if the marks and the total are those of the numbers, it is equal to what was written
 pub equal_back : (h k : Plain) → IsRestated h → HasContents (told_of h) k → same_plain k h ≡ true
 equal_back h k r c =
     let low : k.low ≡ h.low = ap (λ (t : Contents). t.low) c.told in

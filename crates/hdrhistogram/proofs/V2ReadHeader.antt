@@ -1,4 +1,4 @@
--- A header that a reader gives field by field.
+-- A header that is read field by field.
 use Rattle.std.proofs.Common.{◌≡◌, ℕ, ◌+◌, ◌-◌, ◌<◌, ◌≤◌, Bool, true, false, cond, ltb, List, [], ◌∷◌, ◌++◌, length, drop, Option, Some, None, Result, Ok, Err, refl, sym, ap, ◌∙◌, subst, arith, length-append, length-drop, length-take-le, take, take-append-drop, append-nil, append_assoc, drop_at}
 use Rattle.std.specs.Io.KnownBytes.{Consumes}
 use Rattle.std.proofs.KnownBytes.{Consumes-trans}
@@ -12,7 +12,8 @@ use Rattle.hdrhistogram.specs.V2Read.{Header, four_of, eight_of, four_at, eight_
 
 -- ---- a field whose bytes were taken
 
--- what is read takes a front of the text, and whatever follows that front does not change it
+-- decoding consumes a prefix of the text, and whatever follows that prefix does not change the
+-- result
 abbrev pub IsSteady : {A : Type 0} → (List ℕ → Result (A × List ℕ) Defect) → Type 0
 IsSteady {A} p = (t rest : List ℕ) (x : A) → p t ≡ Ok (x, rest) → (front : List ℕ) × (t ≡ front ++ rest) × ((more : List ℕ) → p (front ++ more) ≡ Ok (x, more))
 
@@ -120,7 +121,7 @@ bind-steady p q ps qs t rest x e =
       λ more. ap (λ l. p l >>= λ z. q z.0 z.1) (append_assoc f g more) ∙ ap (λ r. r >>= λ z. q z.0 z.1) (again (g ++ more)) ∙ again' more,
     )
 
--- a text that is taken whole
+-- a text that is consumed completely
 pub steady_whole : {A : Type 0} (p : List ℕ → Result (A × List ℕ) Defect) → IsSteady p → (t more : List ℕ) (x : A) → p t ≡ Ok (x, []) → p (t ++ more) ≡ Ok (x, more)
 steady_whole p steady t more x e =
     let (front, parts, again) = steady t [] x e in
@@ -134,7 +135,7 @@ TakenBy old new p x = (t : List ℕ) × Consumes old new t × (p t ≡ Ok (x, []
 abbrev pub TakenSo : {B : Type 0} → Option (List ℕ) → Option (List ℕ) → (List ℕ → Result B Defect) → (Result B Defect → Type 0) → Type 0
 TakenSo old new p G = (t : List ℕ) × Consumes old new t × G (p t) × TakesNoMore p t
 
--- where the front of a text is cut, so is what goes on with it
+-- if the prefix of a text is incomplete, so is what goes on with it
 pub bind_cut : {A B : Type 0} (r : Result A Defect) (f : A → Result B Defect) → r ≡ Err cut → (r >>= f) ≡ Err cut
 bind_cut r f e = rw e refl
 

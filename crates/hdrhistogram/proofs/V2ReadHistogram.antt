@@ -69,14 +69,14 @@ named_bad make.CannotRepresentSigFigBeyondLow f n = cc
 named_bad make.UsizeTypeTooSmall f n = cc
 named_bad make.OutOfMemory f n = absurd cc
 
--- refused bounds are the defect of the header
+-- bounds that no histogram has are the defect of the header
 pub bounds-refused : (h : Header) (e : CreationError) (o : Option Defect) → RefusesBounds h.low h.high h.sigfig e → o ≡ creation_defect e → FailsBy {A = ℕ} o (unless (bounds_defect h) 0)
 bounds-refused h e None r n = tt
 bounds-refused h e (Some f) r n =
     let bad : f ≡ bad_bounds = named_bad e f (sym n) in
     ap (λ (p : Option Defect). unless p 0) (defect-some h (bounds-no h.low h.high h.sigfig e f r (sym n))) ∙ ap Err (sym bad)
 
--- where memory for the bins runs out, no bound was refused
+-- if memory for the bins runs out, the bounds have no defect
 pub bounds-memory : (h : Header) (e : CreationError) (r : DeserializeError) → RefusesBounds h.low h.high h.sigfig e → defect_of_error r ≡ creation_defect e → RunsOutOnly (bounds_defect h ≡ None) r
 bounds-memory h make.OutOfMemory r b n = runs_out (bounds_defect h ≡ None) r (defect-none h (bounds-yes h.low h.high h.sigfig b))
 bounds-memory h make.LowIsZero r b n = names_out (bounds_defect h ≡ None) r n
@@ -86,7 +86,7 @@ bounds-memory h make.SigFigExceedsMax r b n = names_out (bounds_defect h ≡ Non
 bounds-memory h make.CannotRepresentSigFigBeyondLow r b n = names_out (bounds_defect h ≡ None) r n
 bounds-memory h make.UsizeTypeTooSmall r b n = names_out (bounds_defect h ≡ None) r n
 
--- what empty bins tell
+-- the contents of empty bins
 pub record IsMade (f : Open) (low high sigfig : ℕ) : Type 0 where
   pub empty : f.counts ≡ replicate (length f.counts) 0
   pub fixed : f.auto_resize ≡ false
@@ -151,7 +151,7 @@ bounds-steady greatest header (Some f) t rest x e = absurd cc
 bounds-steady greatest header None t rest x e =
     bind-steady (bytes_at header.payload_len) (from_counts greatest header) (bytes-steady header.payload_len) (λ payload. counts-steady header (counts_in (bins_for header) greatest payload)) t rest x e
 
--- what follows a histogram does not change it, and what is read of it is its front
+-- what follows a histogram does not change it, and decoding consumes a prefix
 pub v2-steady : (greatest : ℕ) → IsSteady (v2_at greatest)
 unfolding v2_at
 v2-steady greatest = bind-steady header_at (from_bounds greatest) header-steady (λ header. bounds-steady greatest header (bounds_defect header))
@@ -224,7 +224,7 @@ no_longer greatest text rest c e =
     let (front, parts, again) = v2-steady greatest text rest c e in
     omega (arith, ap (length {A = ℕ}) parts, length-append front rest)
 
--- ---- a payload that a reader gives
+-- ---- a payload that is read
 
 pub stream_fails : {A : Type 0} (e : DeserializeError) (r : Result A Defect) → IsStreamError e → r ≡ Err cut → FailsBy (defect_of_error e) r
 stream_fails (errors.IoError cause) r s h = h

@@ -83,7 +83,7 @@ read_stands h k S r s whole few =
       total = total ∙ omega (arith, whole, few);
     }
 
--- ---- what is read back answers alike
+-- ---- what is read back has the same quantiles
 
 same_answers : (h k : Plain) (q : Ratio) → k.counts ≡ h.counts → k.total ≡ h.total → grain k ≡ grain h → quantile_of k q ≡ quantile_of h q
 unfolding quantile_of

@@ -1,4 +1,4 @@
--- What payloads and V2 bytes tell: the counts, and the histogram but for what they leave out.
+-- What payloads and V2 bytes hold: the counts, and the histogram but for what they leave out.
 use Rattle.std.proofs.Common.{◌≡◌, ℕ, zero, suc, ◌+◌, ◌*◌, ◌^◌, ◌<◌, List, [], ◌∷◌, ◌++◌, length, take, get_or, refl, sym, ap, ◌∙◌, subst, arith, length-append, length-take-le, ltb, flat_map, ℤ, pos, negsuc, inl, inr, ◌%◌}
 use Rattle.std.proofs.lemmas.Bool.{cases_lt, eq-eqb, ne_eqb}
 use Rattle.std.proofs.lemmas.List.{get_or-take, ext_get_or}
@@ -47,7 +47,7 @@ unfolding IsFull
 full_first (run z) parts m = (m.0, m.2)
 full_first (bin c) parts m = (m.0, m.1)
 
--- a number stands for one part
+-- a number encodes one part
 one_part : (a b : Part) → IsFull a → IsFull b → number_of a ≡ number_of b → a ≡ b
 unfolding IsFull
 one_part (run zero) b h k e = absurd (omega arith)
@@ -69,7 +69,7 @@ append_cancel (b ∷ u) x y e = let rest : u ++ x ≡ u ++ y = cc in append_canc
 no_first : (first rest text : List ℕ) (n : ℕ) → IsShortest first n → text ≡ first ++ rest → text ≡ [] → ⊥
 no_first first rest text n s e none = omega (arith, some_byte 8 first s.spells.whole, ap (length {A = ℕ}) (sym e ∙ none), length-append first rest)
 
--- a text spells one list of parts
+-- a text encodes one list of parts
 one_list : (a b : List Part) (text : List ℕ) → AreMaximal a → AreMaximal b → AreSpelt a text → AreSpelt b text → a ≡ b
 one_list [] [] text m n p q = refl
 one_list [] (y ∷ b) text m n p (f, r, e, s, more) = absurd (no_first f r text _ s e p)
@@ -85,7 +85,7 @@ one_list (x ∷ a) (y ∷ b) text m n (f, r, e, s, more) (f', r', e', s', more')
     let parts : a ≡ b = one_list a b r' xs.1 ys.1 (subst (AreSpelt a) rest more) more' in
     cc
 
--- a payload is that of one list of counts
+-- a payload encodes one list of counts
 pub one_counts : (counts other text : List ℕ) → IsPayload counts text → IsPayload other text → counts ≡ other
 one_counts counts other text p q =
     sym p.split.whole ∙ ap (flat_map bins_of) (one_list p.parts q.parts text p.split.maximal q.split.maximal p.spelt q.spelt) ∙ q.split.whole
@@ -118,7 +118,7 @@ last_four x y m n e = fronts x y (four m) (four n) (omega (arith, ap (length {A 
 last_eight : (x y : List ℕ) (m n : ℕ) → x ++ eight m ≡ y ++ eight n → (x ≡ y) × (eight m ≡ eight n)
 last_eight x y m n e = fronts x y (eight m) (eight n) (omega (arith, ap (length {A = ℕ}) e, length-append x (eight m), length-append y (eight n), length-eight m, length-eight n)) e
 
--- what a header tells
+-- the fields of a header
 record IsHeadedAlike (h k : Plain) : Type 0 where
   low : eight h.low ≡ eight k.low
   high : eight h.high ≡ eight k.high
@@ -150,7 +150,7 @@ same_length f g h k p q low high sigfig =
 length_written : (greatest : ℕ) (h : Plain) → IsPlain greatest h → length (written_counts h) ≡ written_bins h
 length_written greatest h p = length-take-le (written_bins h) h.counts (omega (arith, mark-inside greatest h p))
 
--- where the written counts agree and the bins are as many, all counts agree
+-- if the written counts agree and the bins are as many, all counts agree
 same_counts : (f g : ℕ) (h k : Plain) → IsPlain f h → IsPlain g k → length h.counts ≡ length k.counts → written_counts h ≡ written_counts k → h.counts ≡ k.counts
 same_counts f g h k p q size e =
     let top : written_bins h ≡ written_bins k = sym (length_written f h p) ∙ ap (length {A = ℕ}) e ∙ length_written g k q in

@@ -1,4 +1,4 @@
--- The V2 text in its two parts.
+-- V2 bytes in their two parts.
 use Rattle.std.proofs.Common.{◌≡◌, ℕ, ◌+◌, ◌-◌, ◌≤◌, List, ◌++◌, length, take, drop, refl, sym, ap, ◌∙◌, arith, append_assoc, length-append, length-take-le, drop_at, take-append-drop}
 use Rattle.std.proofs.Math.Seq.{take-append_seam}
 use Rattle.byteorder.specs.Numbers.{length-bytes_high_first}
@@ -19,7 +19,7 @@ length-eight n = length-bytes_high_first 8 n
 pub length-header : (h : Plain) (n : ℕ) → length (header h n) ≡ 40
 length-header h n = simp (length-append, length-four, length-eight) refl
 
--- a payload that was written after 40 bytes, and then its header in their place
+-- a payload that was written after 40 bytes, and then a header instead of these
 pub v2_whole : (h : Plain) (old part next payload : List ℕ) (n : ℕ) → 40 ≤ length old → IsPayload (written_counts h) payload → n ≡ length payload
     → part ≡ payload ++ drop n (drop 40 old) → next ≡ header h n ++ drop 40 (put_mid 40 (length old - 40) old part)
     → (40 + n ≤ length next) × IsV2 h (take (40 + n) next)
@@ -34,7 +34,7 @@ v2_whole h old part next payload n room p size e f =
       record { payload = payload; counts = p; text = ap (take (40 + n)) whole ∙ ap (λ k. take k (text ++ behind)) long ∙ take-append_seam text behind ∙ ap (λ k. header h k ++ payload) size },
     )
 
--- seven numbers that were written one after the other, from the front on
+-- seven numbers that were written one after the other, from the start on
 pub header_written : (h : Plain) (n sigfig low high : ℕ) (out a b c d e f g : List ℕ) → sigfig ≡ h.sigfig → low ≡ h.low → high ≡ h.high
     → take 4 a ≡ four 0x1c849313 → take 8 b ≡ take 4 a ++ four n → take 12 c ≡ take 8 b ++ four 0 → take 16 d ≡ take 12 c ++ four sigfig
     → take 24 e ≡ take 16 d ++ eight low → take 32 f ≡ take 24 e ++ eight high → take 40 g ≡ take 32 f ++ eight 0x3ff0000000000000

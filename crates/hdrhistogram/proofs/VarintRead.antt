@@ -1,4 +1,4 @@
--- Spellings that are read byte by byte, from a slice and from a reader.
+-- Varints that are decoded byte by byte, from a slice and from a reader.
 use Rattle.std.proofs.Common.{◌≡◌, ℕ, zero, suc, ◌+◌, ◌-◌, ◌*◌, ◌/◌, ◌%◌, ◌^◌, ◌<◌, ◌≤◌, List, [], ◌∷◌, ◌++◌, length, take, get_or, refl, sym, ap, ◌∙◌, subst, arith, append_assoc, length-append, Option, ◌≢◌, take_all, inl, inr}
 use Rattle.std.proofs.lemmas.Bool.{le-ltb, lt-ltb, cases_lt}
 use Rattle.std.specs.Io.KnownBytes.{Consumes}
@@ -29,7 +29,7 @@ bytes_push [] b fits h (suc i) = omega arith
 bytes_push (c ∷ bytes) b fits h zero = fits 0
 bytes_push (c ∷ bytes) b fits h (suc i) = bytes_push bytes b (λ k. fits (suc k)) h i
 
--- the bytes below `place` each ask for another, and give value, whatever follows
+-- the bytes below `place` each have another after them, and value is their number, whatever follows
 pub record IsReadTo (bytes : List ℕ) (place value weight : ℕ) : Type 0 where
   pub whole : (tail : List ℕ) → IsSpelling (8 - place) tail → IsSpelling 8 (take place bytes ++ tail)
   pub number : (tail : List ℕ) → number_of_spelling 8 (take place bytes ++ tail) ≡ value + weight * number_of_spelling (8 - place) tail
@@ -59,7 +59,7 @@ all_push : (P : ℕ → Type 0) (xs : List ℕ) (y : ℕ) → AllByRecursion P x
 all_push P [] y h p = (p, tt)
 all_push P (x ∷ xs) y h p = (h.0, all_push P xs y h.1 p)
 
--- a byte that asks for another
+-- a byte that has another after it
 pub read_next : (bytes : List ℕ) (place value weight : ℕ) → IsReadTo bytes place value weight → place < 8 → place < length bytes → 128 ≤ get_or bytes place 0
     → IsReadTo bytes (place + 1) (value + weight * (get_or bytes place 0 % 128)) (weight * 128)
 read_next bytes place value weight r h room high =
@@ -122,7 +122,7 @@ one_byte [] e = absurd (omega arith)
 one_byte (b ∷ []) e = refl
 one_byte (b ∷ c ∷ part) e = absurd (omega arith)
 
--- what a reader gave so far
+-- what was read so far
 pub record IsTaken (old new : Option (List ℕ)) (place value weight : ℕ) : Type 0 where
   pub bytes : List ℕ
   pub read : IsReadTo bytes place value weight
@@ -182,7 +182,7 @@ value_fits place value weight b e h k v =
     let group : weight * (b % 128) ≤ weight * 127 = mul-le-mul_left weight (omega arith) in
     omega (arith, weight_fits place weight e h k, group)
 
--- a spelling of one byte, and of two
+-- a varint of one byte, and of two
 pub one_spelt : (bytes : List ℕ) → 0 < length bytes → get_or bytes 0 0 < 128 → Spells (take 1 bytes) (get_or bytes 0 0)
 unfolding IsSpelling number_of_spelling
 one_spelt [] some low = absurd (omega arith)
@@ -199,7 +199,7 @@ two_spelt (b ∷ c ∷ bytes) some high fits low = record {
   value = omega arith;
 }
 
--- one byte or two, as the first byte tells
+-- one byte or two, by the first byte
 pub one_or_two_spelt : (bytes : List ℕ) (two : ℕ) → 1 < length bytes → get_or bytes 0 0 < 256 → two ≡ get_or bytes 0 0 / 128 → two * get_or bytes 1 0 < 128
     → Spells (take (1 + two) bytes) (get_or bytes 0 0 % 128 + 128 * (two * get_or bytes 1 0))
 one_or_two_spelt bytes two more fits is low =

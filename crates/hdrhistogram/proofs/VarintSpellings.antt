@@ -1,10 +1,11 @@
--- Spellings of numbers: one begins no other, and each number of 64 bits has one that is shortest.
+-- Varints of numbers: none is a prefix of another, and each number of 64 bits has one that is
+-- shortest.
 use Rattle.std.proofs.Common.{◌≡◌, ℕ, zero, suc, ◌+◌, ◌*◌, ◌/◌, ◌%◌, ◌^◌, ◌<◌, ◌≤◌, Bool, true, false, cond, List, [], ◌∷◌, ◌++◌, length, refl, sym, ap, ◌∙◌, arith, MatchBool, pow-add, ltb, inl, inr}
 use Rattle.std.proofs.lemmas.Bool.{ltb-true, ltb-false, le-ltb, cases_lt}
 use Rattle.std.specs.List.{AllByRecursion}
 use Rattle.hdrhistogram.specs.Varint.{IsSpelling, number_of_spelling, Spells, IsShortest}
 
--- ---- what is spelt
+-- ---- the number of a varint
 
 last_of : (left : ℕ) (t s : Bool) (a b x y : List ℕ) → t ≡ s → MatchBool t (a ≡ []) (IsSpelling left a) → MatchBool s (b ≡ []) (IsSpelling left b) → a ++ x ≡ b ++ y
     → (IsSpelling left a → IsSpelling left b → a ≡ b) → a ≡ b
@@ -13,7 +14,7 @@ last_of left false false a b x y e p q same again = again p q
 last_of left true false a b x y e p q same again = cc
 last_of left false true a b x y e p q same again = cc
 
--- two spellings at the front of one text are one
+-- two varints at the start of one text are one
 pub one_of : (left : ℕ) (a b x y : List ℕ) → IsSpelling left a → IsSpelling left b → a ++ x ≡ b ++ y → a ≡ b
 unfolding IsSpelling
 one_of left [] b x y p q e = absurd p
@@ -30,7 +31,7 @@ one_spelling_of a b x y m n p q e =
     let same = one_of 8 a b x y p.whole q.whole e in
     (same, p.value ∙ ap (number_of_spelling 8) same ∙ sym q.value)
 
--- a spelling has a byte
+-- a varint has a byte
 pub some_byte : (left : ℕ) (a : List ℕ) → IsSpelling left a → 0 < length a
 unfolding IsSpelling
 some_byte left [] p = absurd p
@@ -52,7 +53,7 @@ same_more false false left c d a b e f p q h k size value again =
 same_more true false left c d a b e f p q h k size value again = absurd (omega (arith, some_byte left b q, ap (length {A = ℕ}) p))
 same_more false true left c d a b e f p q h k size value again = absurd (omega (arith, some_byte left a p, ap (length {A = ℕ}) q))
 
--- two spellings of one number that are equally long are one
+-- two varints of one number that have the same length are one
 same_from : (left : ℕ) (a b : List ℕ) → IsSpelling left a → IsSpelling left b → AllByRecursion (λ x. x < 256) a → AllByRecursion (λ x. x < 256) b
     → length a ≡ length b → number_of_spelling left a ≡ number_of_spelling left b → a ≡ b
 unfolding IsSpelling number_of_spelling
@@ -65,14 +66,14 @@ same_from (suc left) (c ∷ a) (d ∷ b) p q h k size value =
     let rest = both.1 in
     cc
 
--- no number has two shortest spellings
+-- no number has two shortest varints
 pub one_shortest : (n : ℕ) (a b : List ℕ) → IsShortest a n → IsShortest b n → a ≡ b
 one_shortest n a b p q =
     let fewer = p.least b q.spells in
     let more = q.least a p.spells in
     same_from 8 a b p.spells.whole q.spells.whole p.spells.bytes q.spells.bytes (omega arith) (sym p.spells.value ∙ q.spells.value)
 
--- ---- the spelling that is written, as a function
+-- ---- the varint that is written, as a function
 
 unfoldable pub spelling_from : ℕ → ℕ → List ℕ
 spelling_from zero n = n ∷ []
@@ -129,7 +130,7 @@ pub spelling_least : (n : ℕ) → n < 2 ^ 64 → IsShortest (spelling n) n
 unfolding spelling
 spelling_least n h = record { spells = spelling_spells n h; least = λ other p. least_from 8 n other p.whole p.value }
 
--- a shortest spelling is the one that is written
+-- a shortest varint is the one that is written
 pub shortest_is : (n : ℕ) (text : List ℕ) → n < 2 ^ 64 → IsShortest text n → text ≡ spelling n
 shortest_is n text h p = one_shortest n text (spelling n) p (spelling_least n h)
 
@@ -146,11 +147,11 @@ pub spelling_short : (n : ℕ) → length (spelling n) ≤ 9
 unfolding spelling
 spelling_short n = length_at_most 8 n
 
--- a canonical spelling has at most nine bytes
+-- a canonical varint has at most nine bytes
 pub shortest_short : (n : ℕ) (text : List ℕ) → n < 2 ^ 64 → IsShortest text n → length text ≤ 9
 shortest_short n text h p = omega (arith, spelling_short n, ap (length {A = ℕ}) (shortest_is n text h p))
 
--- a whole spelling has as many bytes of seven bits as may come, and one of eight, at the most
+-- a complete varint has at most as many bytes of seven bits as may come, and one of eight
 spelling_ends : (left : ℕ) (text : List ℕ) → IsSpelling left text → length text ≤ left + 1
 unfolding IsSpelling
 spelling_ends left [] h = absurd h
@@ -161,7 +162,7 @@ spelling_ends (suc left) (b ∷ bs) h = told (ltb b 128) (λ more. spelling_ends
     told true rest none = rw none (omega arith)
     told false rest more = omega (arith, rest more)
 
--- there is room for the spelling where there are nine bytes, or where it is known to fit
+-- a varint fits if there are nine bytes, or if it is known to fit
 pub shortest_room : (n room : ℕ) → n < 2 ^ 64 → (room < 9 → (text : List ℕ) → IsShortest text n → length text ≤ room) → (text : List ℕ) → IsShortest text n → length text ≤ room
 shortest_room n room fits h text shortest = elim (cases_lt room 9) [
   | inl few ↦ h few text shortest

@@ -1,4 +1,4 @@
--- Bytes that are written at a place, and the spelling of a number byte by byte.
+-- Bytes that are written at an index, and the varint of a number byte by byte.
 use Rattle.std.proofs.Common.{◌≡◌, ℕ, zero, suc, ◌+◌, ◌-◌, ◌*◌, ◌/◌, ◌%◌, ◌^◌, ◌<◌, ◌≤◌, Bool, true, false, cond, List, [], ◌∷◌, ◌++◌, length, take, drop, set, refl, sym, ap, ◌∙◌, subst, arith, append_assoc, append-nil, length-append, length-take, length-take-le, length-drop, drop_at, drop_of_length-le, take-append-drop, pow-add, ltb, Option}
 use Rattle.std.specs.Int.{bytes_low_first}
 use Rattle.std.proofs.lemmas.Bool.{le-ltb, lt-ltb}
@@ -11,7 +11,7 @@ use Rattle.std.proofs.KnownBytes.{Appends-trans}
 use borrow.Rule.Slice.PartMut.{put_mid, post_of}
 use Rattle.hdrhistogram.proofs.VarintSpellings.{spelling_from, spelling}
 
--- ---- a text that is put at a place
+-- ---- a text that is written at an index
 
 -- what comes after it
 pub put_behind : (out part text : List ℕ) (at count : ℕ) → at ≤ length out → count ≡ length text
@@ -37,7 +37,7 @@ put_front out part text at count within same e =
     ∙ ap (λ n. take n ((take at out ++ text) ++ (behind ++ after))) (omega (arith, length-append (take at out) text, length-take-le at out within))
     ∙ take-append_seam (take at out ++ text) (behind ++ after)
 
--- lists that agree from a place on agree from each later one on
+-- lists that agree from an index on agree from each later one on
 pub drop_past : (xs ys : List ℕ) (a b : ℕ) → a ≤ b → drop a xs ≡ drop a ys → drop b xs ≡ drop b ys
 drop_past xs ys a b h e =
     let sum : a + (b - a) ≡ b = omega arith in
@@ -81,7 +81,7 @@ scaled rest weight number next h e =
     let fits : rest / 128 * 128 ≤ rest = omega arith in
     omega (arith, mul-le-mul_left weight fits, ap (λ k. rest / 128 * k) e)
 
--- the groups below `place` stand in out, and rest is what is left of the number
+-- the groups below `place` are stored in out, and rest is the rest of the number
 pub record IsWrittenTo (out old : List ℕ) (place rest number : ℕ) : Type 0 where
   pub text : take place out ++ spelling_from (8 - place) rest ≡ spelling number
   pub behind : drop place out ≡ drop place old
@@ -130,12 +130,12 @@ written_last out old place rest number w full room = closed out old 8 rest numbe
 part_is : (text : List ℕ) (a n : ℕ) → take a text ++ take n (take (length text - a) (drop a text)) ≡ take (a + n) text
 part_is text a n = ap (λ l. take a text ++ take n l) (take_rest text a) ∙ sym (take-add a n text)
 
--- a writer that took the text up to a place takes more of it
+-- a writer that took the text up to an index takes more of it
 pub Appends-more : (x y z : Option (List ℕ)) (text : List ℕ) (a n : ℕ) → Appends x y (take a text)
     → Appends y z (take n (take (length text - a) (drop a text))) → Appends x z (take (a + n) text)
 Appends-more x y z text a n p q = subst (Appends x z) (part_is text a n) (Appends-trans x y z _ _ p q)
 
--- the bytes of a number of more than 7 and at most 14 bits, lowest first, spell it
+-- the bytes of a number of more than 7 and at most 14 bits, lowest first, are its varint
 pub two_bytes : (n w : ℕ) → 128 ≤ n → n < 16384 → w ≡ n % 128 + 128 + n / 128 * 256 → bytes_low_first 0 2 w ≡ spelling n
 unfolding spelling
 two_bytes n w from to is =

@@ -20,13 +20,13 @@ view_of_choice choice.Every = Every
 view_of_choice (choice.Tagged tag) = Tagged (tag_text tag)
 view_of_choice choice.Untagged = Untagged
 
--- the tags that are asked for, the first time, and the time after the last
+-- the chosen tags, the first time, and the time after the last
 pub record Filter : Type 0 where
   pub tags : TagChoice
   pub from : Option ℕ
   pub to : Option ℕ
 
--- those of a tag that is asked for, and else every interval
+-- the intervals of a tag, if there is one, and otherwise every interval
 abbrev pub choice_of : Option (List ℕ) → TagChoice
 choice_of None = Every
 choice_of (Some tag) = Tagged tag

@@ -1,4 +1,4 @@
--- What the field of an interval is read as: Base64 of V2 bytes.
+-- What the field of an interval decodes to: it is Base64 of V2 bytes.
 use Rattle.std.specs.Prelude.{◌≡◌, ℕ, List, Some, None, Err}
 use Rattle.hdr_model.specs.Plain.{Plain}
 use Rattle.hdr_log.specs.Texts.{base64_bytes}
@@ -10,7 +10,7 @@ use Rattle.hdrhistogram.specs.declared.serialization.errors.FieldDecodeError.The
 abbrev pub IsHeldIn : ℕ → List ℕ → Plain → Type 0
 IsHeldIn greatest field h = (bytes : List ℕ) × (base64_bytes field ≡ Some bytes) × (taken : ℕ) × IsReadAs greatest bytes h taken
 
--- a field that is no Base64, or whose bytes are refused by name; running out of memory may come in place of any answer
+-- the field is not valid Base64, or its bytes have a defect, or memory ran out
 abbrev pub RefusesDecoding : ℕ → List ℕ → FieldDecodeError → Type 0
 RefusesDecoding greatest field NotBase64 = base64_bytes field ≡ None
 RefusesDecoding greatest field (Decode e) = (bytes : List ℕ) × (base64_bytes field ≡ Some bytes) × ReadsV2 greatest bytes (Err e)

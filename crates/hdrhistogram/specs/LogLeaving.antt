@@ -1,4 +1,4 @@
--- What stands in a writer after a call that writes to a log.
+-- What a call that writes to a log leaves in the writer.
 use Rattle.std.specs.Prelude.{◌≡◌, ℕ, Bool, true, false, List, Option, Result, Ok, Err}
 use Rattle.std.specs.Io.KnownBytes.{Appends, Keeps}
 use Rattle.hdr_model.specs.Plain.{Plain, max_of}
@@ -8,20 +8,20 @@ use Rattle.hdrhistogram.specs.Streams.{AppendsFront}
 use Rattle.hdrhistogram.specs.declared.serialization.interval_log.errors.IntervalLogWriterError.{IntervalLogWriterError}
 use Rattle.hdrhistogram.specs.declared.serialization.interval_log.errors.IntervalLogWriterError.TheVariants.{SerializeError, IoError, TimeOutOfRange, OutOfMemory}
 
--- a text of which P holds is not written: after an i/o error a beginning of it stands, not all, and after any other
--- refusal nothing. Q holds of what the serializer refuses.
+-- Output of which P holds is not written: after an i/o error a proper prefix of it is, and after
+-- any other error nothing. Q holds of the serializer's error.
 abbrev pub RefusesText : {E : Type 0} → (List ℕ → Type 0) → (E → Type 0) → Option (List ℕ) → Option (List ℕ) → IntervalLogWriterError E → Type 0
 RefusesText P Q old new (SerializeError e) = Q e × Keeps old new
 RefusesText P Q old new (IoError e) = (text : List ℕ) × P text × AppendsFront old new text
 RefusesText P Q old new TimeOutOfRange = Keeps old new
 RefusesText P Q old new OutOfMemory = Keeps old new
 
--- a text of which P holds is written whole, or not
+-- all of an output of which P holds is written, or there is an error
 abbrev pub WritesText : {E : Type 0} → (List ℕ → Type 0) → (E → Type 0) → Option (List ℕ) → Option (List ℕ) → Result (Unit {0}) (IntervalLogWriterError E) → Type 0
 WritesText P Q old new (Ok u) = (text : List ℕ) × P text × Appends old new text
 WritesText P Q old new (Err e) = RefusesText P Q old new e
 
--- a time is refused
+-- the error is `TimeOutOfRange`
 abbrev pub is_time_error : {A E : Type 0} → Result A (IntervalLogWriterError E) → Bool
 is_time_error (Ok u) = false
 is_time_error (Err (IoError e)) = false
@@ -29,17 +29,17 @@ is_time_error (Err (SerializeError e)) = false
 is_time_error (Err TimeOutOfRange) = true
 is_time_error (Err OutOfMemory) = false
 
--- the writer failed, and nothing else
+-- the error is the writer's
 abbrev pub IsIoError : {E : Type 0} → IntervalLogWriterError E → Type 0
 IsIoError (IoError cause) = Unit {0}
 IsIoError e = ⊥
 
--- the serializer refused nothing
+-- the error is not the serializer's
 abbrev pub IsNoSerializeError : {E : Type 0} → IntervalLogWriterError E → Type 0
 IsNoSerializeError (SerializeError e) = ⊥
 IsNoSerializeError e = Unit {0}
 
--- a histogram has no bytes: the serializer refuses it, or its buffer could not grow
+-- why a histogram is not serialized: the serializer returned an error, or the buffer could not grow
 abbrev pub RefusesSerialized : {E : Type 0} → (E → Type 0) → IntervalLogWriterError E → Type 0
 RefusesSerialized Q (SerializeError e) = Q e
 RefusesSerialized Q (IoError e) = ⊥

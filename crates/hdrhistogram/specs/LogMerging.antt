@@ -1,4 +1,5 @@
--- What merging a log comes to: the histograms of its chosen intervals are added in order, up to the first that is refused.
+-- The result of merging a log: the histograms of its chosen intervals are added in order, up to the
+-- first error.
 use Rattle.std.specs.Prelude.{◌≡◌, ℕ, ◌+◌, ◌<◌, Bool, true, false, ◌&&◌, nat_le, if◌then◌else◌, List, [], ◌∷◌, Option, Some, None, Result, Ok, Err}
 use Rattle.hdr_base.specs.Classes.{Grain}
 use Rattle.hdr_model.specs.Plain.{Plain, grain, empty_plain}
@@ -17,8 +18,8 @@ use Rattle.hdrhistogram.specs.declared.serialization.errors.FieldDecodeError.The
 use Rattle.hdrhistogram.specs.declared.serialization.interval_log.merge.MergeError.{MergeError}
 use Rattle.hdrhistogram.specs.declared.serialization.interval_log.merge.MergeError.TheVariants.{Creation, Parse, Base64, Decode, OutOfMemory}
 
--- how far a merge has come: its histogram, the log's base time, how many intervals were read and chosen, and how many of these
--- are coarser than the histogram
+-- the state of a merge: its histogram, the log's base time, the numbers of intervals read and
+-- chosen, and the number of chosen ones that are coarser than the histogram
 pub record Merging : Type 0 where
   pub histogram : Plain
   pub base : ℕ
@@ -26,11 +27,12 @@ pub record Merging : Type 0 where
   pub chosen : ℕ
   pub coarser : ℕ
 
--- a merge begins with an empty histogram that grows
+-- a merge starts with an empty histogram that grows
 abbrev pub new_merging : ℕ → Merging
 new_merging sigfig = record { histogram = empty_plain 1 2 sigfig true; base = 0; intervals = 0; chosen = 0; coarser = 0 }
 
--- 1 where the classes of a histogram do not all lie in classes of the grain (`IsFiner`), and else 0; the sum of that
+-- 1 if the classes of a histogram do not all lie in classes of the grain (`IsFiner`), and 0
+-- otherwise; the sum of that
 unfoldable pub one_if_coarser : Grain → Plain → ℕ
 one_if_coarser g h = if nat_le (grain h).unit g.unit && nat_le g.digits (grain h).digits then 0 else 1
 
@@ -38,7 +40,8 @@ abbrev pub coarser_of : Grain → List Plain → ℕ
 coarser_of g [] = 0
 coarser_of g (h ∷ hs) = one_if_coarser g h + coarser_of g hs
 
--- a base time, an interval that is not chosen, and one whose histogram is added
+-- the state after a base time, after an interval that is not chosen, and after one whose histogram
+-- is added
 abbrev pub with_base : Merging → ℕ → Merging
 with_base m time = record { histogram = m.histogram; base = time; intervals = m.intervals; chosen = m.chosen; coarser = m.coarser }
 
@@ -55,29 +58,30 @@ with_interval greatest m source =
       coarser = m.coarser + one_if_coarser (grain m.histogram) source;
     }
 
--- the histogram that was read of an interval's bytes is added, whatever follows it
+-- the histogram that an interval's bytes decode to is added, whatever follows it
 abbrev pub BytesMerge : ℕ → Merging → Result (Plain × ℕ) DeserializeError → Result Merging MergeError → Type 0
 BytesMerge greatest m (Ok found) r = r ≡ Ok (with_interval greatest m found.0)
 BytesMerge greatest m (Err e) r = r ≡ Err (Decode (m.intervals + 1) e)
 
--- the bytes of a field are read, by counters of 64 bits
+-- the bytes of a field are decoded, with counters of 64 bits
 abbrev pub FieldMerges : ℕ → Merging → Option (List ℕ) → Result Merging MergeError → Type 0
 FieldMerges greatest m None r = r ≡ Err (Base64 (m.intervals + 1))
 FieldMerges greatest m (Some bytes) r = (found : Result (Plain × ℕ) DeserializeError) × ReadsV2 18446744073709551615 bytes found × BytesMerge greatest m found r
 
--- an interval that is not chosen is counted alone
+-- an interval that is not chosen is only counted
 abbrev pub IntervalMerges : ℕ → Merging → Bool → Interval → Result Merging MergeError → Type 0
 IntervalMerges greatest m true interval r = FieldMerges greatest m (base64_bytes interval.field) r
 IntervalMerges greatest m false interval r = r ≡ Ok (past_interval m)
 
--- what is read of a log is done: an interval begins at its start after the last base time, and a start time says nothing
+-- an entry of a log is applied: an interval begins at its start after the last base time, and a
+-- start time changes nothing
 abbrev pub EntryMerges : ℕ → Filter → Merging → Result Entry ℕ → Result Merging MergeError → Type 0
 EntryMerges greatest filter m (Ok (Start time)) r = r ≡ Ok m
 EntryMerges greatest filter m (Ok (Base time)) r = r ≡ Ok (with_base m time)
 EntryMerges greatest filter m (Ok (Span interval)) r = IntervalMerges greatest m (is_chosen filter interval.tag (m.base + interval.start)) interval r
 EntryMerges greatest filter m (Err at) r = r ≡ Err (Parse at)
 
--- a step that is refused ends the merge, and else the rest follows
+-- a step with an error ends the merge; otherwise the rest follows
 abbrev pub MergesOn : (Merging → Result Merging MergeError → Type 0) → Result Merging MergeError → Result Merging MergeError → Type 0
 MergesOn Rest (Ok m) r = Rest m r
 MergesOn Rest (Err e) r = r ≡ Err e
@@ -87,11 +91,11 @@ EntriesMerge greatest filter [] m r = r ≡ Ok m
 EntriesMerge greatest filter (entry ∷ entries) m r =
     (step : Result Merging MergeError) × EntryMerges greatest filter m entry step × MergesOn (EntriesMerge greatest filter entries) step r
 
--- a log is merged into a histogram of these digits, where there is one
+-- a log is merged into a histogram of these digits, if there is one
 abbrev pub Merges : ℕ → Filter → ℕ → List ℕ → Result Merging MergeError → Type 0
 Merges greatest filter sigfig log r = EntriesMerge greatest filter (reading log) (new_merging sigfig) r
 
--- a histogram that was not made, and an interval whose field was refused
+-- the error of creating the histogram, and the error of decoding an interval's field
 abbrev pub creation_error : CreationError → MergeError
 creation_error make.OutOfMemory = OutOfMemory
 creation_error e = Creation e
@@ -101,34 +105,35 @@ field_error interval field.NotBase64 = Base64 interval
 field_error interval (field.Decode e) = Decode interval e
 field_error interval field.OutOfMemory = OutOfMemory
 
--- a step is refused by name as it is told, and running out of memory may come in place of any answer
+-- the error of a step is one of `Ends`, or memory ran out
 abbrev pub RefusesStep : (MergeError → Type 0) → MergeError → Type 0
 RefusesStep Ends (Creation e) = ⊥
 RefusesStep Ends OutOfMemory = Unit {0}
 RefusesStep Ends e = Ends e
 
--- a merge is refused where no histogram has these digits, and else by the first fault of the log
+-- a merge fails if no histogram has these digits, and otherwise with the first error of the log, or
+-- memory ran out
 abbrev pub RefusesMerge : ℕ → Filter → ℕ → List ℕ → MergeError → Type 0
 RefusesMerge greatest filter sigfig log (Creation make.OutOfMemory) = ⊥
 RefusesMerge greatest filter sigfig log (Creation e) = RefusesBounds 1 2 sigfig e
 RefusesMerge greatest filter sigfig log OutOfMemory = IsBounds 1 2 sigfig
 RefusesMerge greatest filter sigfig log e = IsBounds 1 2 sigfig × Merges greatest filter sigfig log (Err e)
 
--- a histogram, and how many intervals were chosen and how many of them are coarser, are what a merge comes to
+-- a histogram and the numbers of chosen and of coarser intervals are the result of a merge
 abbrev pub IsMergedBy : (Result Merging MergeError → Type 0) → Plain → ℕ → ℕ → Type 0
 IsMergedBy Ends histogram chosen coarser =
     (base : ℕ) × (intervals : ℕ) × Ends (Ok (record { histogram = histogram; base = base; intervals = intervals; chosen = chosen; coarser = coarser }))
 
--- the same, whatever the number of those that are coarser
+-- the same, for any number of coarser intervals
 abbrev pub IsMerged : (Result Merging MergeError → Type 0) → Plain → ℕ → Type 0
 IsMerged Ends histogram chosen = (coarser : ℕ) × IsMergedBy Ends histogram chosen coarser
 
--- no histogram was made, for too many digits alone
+-- creating the histogram fails by name only for more than 5 digits
 abbrev pub IsOfDigits : ℕ → MergeError → Type 0
 IsOfDigits sigfig (Creation e) = (e ≡ make.SigFigExceedsMax) × (5 < sigfig)
 IsOfDigits sigfig e = Unit {0}
 
--- the histograms of the chosen intervals of what is read, with the base time before it
+-- the histograms of the chosen intervals among entries, from a base time on
 abbrev pub ChosenFirst : Bool → Interval → (List Plain → Type 0) → List Plain → Type 0
 ChosenFirst true interval Rest hs = (h : Plain) × (rest : List Plain) × (hs ≡ h ∷ rest) × IsHeldIn 18446744073709551615 interval.field h × Rest rest
 ChosenFirst false interval Rest hs = Rest hs

@@ -3,7 +3,7 @@ use Rattle.std.specs.Prelude.{◌≡◌, ℕ}
 use Rattle.std.specs.Borrow.{MutBor}
 use Rattle.hdrhistogram.specs.declared.serialization.interval_log.writer.IntervalLogWriter.{IntervalLogWriter}
 
--- the writer that texts go to
+-- the writer that the log is written to
 abbrev pub sink : {W S : Type 0} → IntervalLogWriter W S → MutBor W
 sink log = log.writer
 
@@ -15,7 +15,7 @@ maker log = log.serializer
 abbrev pub divisor_of : {W S : Type 0} → IntervalLogWriter W S → ℕ
 divisor_of log = log.max_value_divisor
 
--- it still writes to the same place, by the same serializer and divisor
+-- it still has the same writer, serializer and divisor
 pub record IsSameLog {W S : Type 0} (old new : IntervalLogWriter W S) : Type 0 where
   pub writer : (sink new).ghost_name ≡ (sink old).ghost_name
   pub serializer : (maker new).ghost_name ≡ (maker old).ghost_name

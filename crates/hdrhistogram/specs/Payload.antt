@@ -14,14 +14,13 @@ abbrev pub bins_of : Part → List ℕ
 bins_of (run z) = replicate z 0
 bins_of (bin c) = c ∷ []
 
--- the parts do not begin with a run
+-- the parts do not start with a run
 abbrev pub BeginsNoRun : List Part → Type 0
 BeginsNoRun [] = Unit {0}
 BeginsNoRun (run z ∷ parts) = ⊥
 BeginsNoRun (bin c ∷ parts) = Unit {0}
 
--- no run is empty or stands beside another, so each is as long as it can be, and no single bin is
--- empty
+-- no run is empty or next to another, so each is as long as it can be, and no single bin is empty
 abbrev pub AreMaximal : List Part → Type 0
 AreMaximal [] = Unit {0}
 AreMaximal (run z ∷ parts) = (0 < z) × BeginsNoRun parts × AreMaximal parts
@@ -32,7 +31,7 @@ pub record IsSplit (counts : List ℕ) (parts : List Part) : Type 0 where
   pub whole : flat_map bins_of parts ≡ counts
   pub maximal : AreMaximal parts
 
--- the number that stands for a part: -z for a run of z empty bins, but 0 for a run of one, and the
+-- the number that encodes a part: -z for a run of z empty bins, but 0 for a run of one, and the
 -- count of a nonempty bin
 abbrev pub number_of : Part → ℤ
 number_of (run zero) = pos 0
@@ -40,7 +39,7 @@ number_of (run (suc zero)) = pos 0
 number_of (run (suc (suc z))) = negsuc (suc z)
 number_of (bin c) = pos c
 
--- the bytes are the canonical spellings of the parts' numbers, one after the other
+-- the bytes are the canonical varints of the parts' numbers, in order
 abbrev pub AreSpelt : List Part → List ℕ → Type 0
 AreSpelt [] text = text ≡ []
 AreSpelt (part ∷ parts) text =
@@ -53,16 +52,16 @@ pub record IsPayload (counts text : List ℕ) : Type 0 where
   pub split : IsSplit counts parts
   pub spelt : AreSpelt parts text
 
--- what is written of a run that may be empty
+-- the bytes of a run that may be empty
 abbrev pub IsRunText : ℕ → List ℕ → Type 0
 IsRunText zero text = text ≡ []
 IsRunText (suc z) text = IsShortest text (zig_zag (number_of (run (suc z))))
 
--- how many of the counts are above 0
+-- the number of nonzero counts
 abbrev pub nonempty : List ℕ → ℕ
 nonempty counts = count_by (λ n. nat_lt 0 n) counts
 
--- as many bytes as the payload of the counts takes at most: nine for each bin, or where fewer are
--- nonempty nine for each of those, for a run before each, and for a last one
+-- a bound of the payload's length in bytes: nine for each bin, or, if that is less, nine for each
+-- nonempty bin, for a run before each of these, and for a last run
 unfoldable pub enough_bytes : List ℕ → ℕ
 enough_bytes counts = 9 * min (length counts) (2 * nonempty counts + 1)

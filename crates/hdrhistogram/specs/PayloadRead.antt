@@ -1,34 +1,34 @@
--- What a payload is read as (the Rust crate's `deser_v2`, its two loops): any spellings of numbers, runs in any pieces, and
--- empty bins past the last.
+-- What a payload decodes to (the Rust crate's `deser_v2`, its two loops): varints need not be
+-- canonical, runs may be split, and empty bins may follow the last bin.
 use Rattle.std.specs.Prelude.{slice_set, ◌≡◌, ℕ, zero, suc, ◌+◌, ◌^◌, ◌≤◌, ◌++◌, List, [], ◌∷◌, length, nat_lt, nat_le, ◌&&◌, take, drop, if◌then◌else◌, ℤ, pos, negsuc, flat_map, map, replicate, Option, Some, None, Result, Ok, Err}
 use Rattle.std.specs.List.{AllByRecursion}
 use Rattle.hdrhistogram.specs.Varint.{IsSpelling, Spells, number_of_spelling}
 use Rattle.hdrhistogram.specs.ZigZag.{from_zig_zag}
 use Rattle.hdrhistogram.specs.Defects.{Defect, cut, too_great, past_bins, too_far}
 
--- bytes cut into whole spellings, and a rest
+-- bytes split into complete varints, and an incomplete rest
 pub record Parted : Type 0 where
   pub texts : List (List ℕ)
   pub rest : List ℕ
 
--- a byte that ends a spelling, and then these
+-- a byte that ends a varint, and then these
 abbrev pub last_byte : ℕ → Parted → Parted
 last_byte b p = record { texts = (b ∷ []) ∷ p.texts; rest = p.rest }
 
--- a byte put before the first spelling, or before the rest where there is none
+-- a byte before the first varint, or before the rest if there is none
 abbrev pub put_before : ℕ → List (List ℕ) → List ℕ → Parted
 put_before b [] rest = record { texts = []; rest = b ∷ rest }
 put_before b (text ∷ texts) rest = record { texts = (b ∷ text) ∷ texts; rest = rest }
 
--- The bytes are cut after each that ends a spelling: a byte below 128 does, and the ninth of one. `left` more bytes of the
--- spelling that has begun may come before its ninth.
+-- The bytes are split after each that ends a varint: a byte below 128 does, and the ninth of a
+-- varint. `left` more bytes of the current varint may come before its ninth.
 unfoldable pub split_spellings : ℕ → List ℕ → Parted
 split_spellings left [] = record { texts = []; rest = [] }
 split_spellings zero (b ∷ bs) = last_byte b (split_spellings 8 bs)
 split_spellings (suc left) (b ∷ bs) =
     if nat_lt b 128 then last_byte b (split_spellings 8 bs) else put_before b (split_spellings left bs).texts (split_spellings left bs).rest
 
--- the numbers that spellings spell, by zig-zag
+-- the numbers that varints encode, by zig-zag
 abbrev pub numbers : List (List ℕ) → List ℤ
 numbers texts = map (λ text. from_zig_zag (number_of_spelling 8 text)) texts
 
@@ -37,16 +37,16 @@ abbrev pub bins_of_number : ℤ → List ℕ
 bins_of_number (pos n) = n ∷ []
 bins_of_number (negsuc n) = replicate (suc n) 0
 
--- how many these are
+-- the number of these bins
 abbrev pub move : ℤ → ℕ
 move (pos n) = 1
 move (negsuc n) = suc n
 
--- a place is a u64
+-- the index of a bin is a u64
 abbrev pub place_defect : ℕ → Option Defect
 place_defect place = if nat_le (2 ^ 64) place then Some too_far else None
 
--- the defect of a number at a place, where there are so many bins and a count is at most the greatest
+-- the defect of a number at a bin, if there are `bins` bins and a count is at most `greatest`
 abbrev pub defect_at : ℕ → ℕ → ℕ → ℤ → Option Defect
 defect_at bins greatest place (negsuc n) = place_defect (place + suc n)
 defect_at bins greatest place (pos n) =
@@ -57,25 +57,26 @@ abbrev pub or_else : Option Defect → Option Defect → Option Defect
 or_else (Some f) later = Some f
 or_else None later = later
 
--- the defect of the first number that has one; the first stands at this place, and each further one after the bins of those
--- before it
+-- the defect of the first number that has one; the first is at the bin `place`, and each further
+-- one after the bins of those before it
 unfoldable pub first_defect : ℕ → ℕ → ℕ → List ℤ → Option Defect
 first_defect bins greatest place [] = None
 first_defect bins greatest place (n ∷ ns) = or_else (defect_at bins greatest place n) (first_defect bins greatest (place + move n) ns)
 
--- the first of these counts, as many as there are bins, and empty bins after them
+-- the counts as those of `bins` bins: further ones are left out, and missing ones are empty
 unfoldable pub fit_bins : ℕ → List ℕ → List ℕ
 fit_bins zero counts = []
 fit_bins (suc bins) [] = 0 ∷ fit_bins bins []
 fit_bins (suc bins) (n ∷ counts) = n ∷ fit_bins bins counts
 
--- the counts with a number's count at its place
+-- the counts after a number at the bin `place`, which sets it if the number is a nonzero count
 abbrev pub with_count : List ℕ → ℕ → ℤ → List ℕ
 with_count counts place (pos zero) = counts
 with_count counts place (pos (suc n)) = slice_set counts place (suc n)
 with_count counts place (negsuc n) = counts
 
--- the first `taken` of the bytes spell a count, which has no defect and was put at its place
+-- the first `taken` bytes encode the number of one bin, which has no defect and was applied at
+-- `place`
 pub record IsCountPut (greatest place : ℕ) (bytes old new : List ℕ) (taken : ℕ) : Type 0 where
   pub encoded : ℕ
   pub within : taken ≤ length bytes
@@ -84,30 +85,31 @@ pub record IsCountPut (greatest place : ℕ) (bytes old new : List ℕ) (taken :
   pub one : move (from_zig_zag encoded) ≡ 1
   pub put : new ≡ with_count old place (from_zig_zag encoded)
 
--- two counts of two bytes each were put, one after the other
+-- two counts of two bytes each were set, one after the other
 pub record IsPairPut (greatest place : ℕ) (bytes old new : List ℕ) : Type 0 where
   pub between : List ℕ
   pub first : IsCountPut greatest place bytes old between 2
   pub second : IsCountPut greatest (place + 1) (drop 2 bytes) between new 2
 
--- counts, unless there was a defect before or the bytes end inside a number
+-- counts, unless there was a defect before or the bytes end inside a varint
 abbrev pub counts_or_defect : Option Defect → List ℕ → List ℕ → Result (List ℕ) Defect
 counts_or_defect (Some f) rest counts = Err f
 counts_or_defect None [] counts = Ok counts
 counts_or_defect None (b ∷ rest) counts = Err cut
 
--- the payload as the counts of so many bins, each at most the greatest, or its first defect
+-- the counts that a payload decodes to, for `bins` bins and counts up to `greatest`, or its first
+-- defect
 unfoldable pub counts_in : ℕ → ℕ → List ℕ → Result (List ℕ) Defect
 counts_in bins greatest payload =
     let p = split_spellings 8 payload in
     counts_or_defect (first_defect bins greatest 0 (numbers p.texts)) p.rest (fit_bins bins (flat_map bins_of_number (numbers p.texts)))
 
--- a prefix of a spelling that is not whole: fewer than nine bytes, each of which asks for another
+-- an incomplete varint: fewer than nine bytes, each of which has another after it
 pub record IsCut (rest : List ℕ) : Type 0 where
   pub short : length rest ≤ 8
   pub high : AllByRecursion (λ b. 128 ≤ b) rest
 
--- the payload is spellings, one after the other, and a rest that spells nothing
+-- the payload is varints, one after the other, and an incomplete rest
 pub record AreSpellings (payload : List ℕ) (texts : List (List ℕ)) (rest : List ℕ) : Type 0 where
   pub whole : payload ≡ flat_map (λ text. text) texts ++ rest
   pub each : AllByRecursion (IsSpelling 8) texts

@@ -1,4 +1,4 @@
--- Why the V2 serializer refuses, and what it leaves in the writer.
+-- The errors of the V2 serializer, and what they leave in the writer.
 use Rattle.std.specs.Prelude.{ℕ, List, Option}
 use Rattle.std.specs.Io.KnownBytes.{Keeps}
 use Rattle.hdr_model.specs.Plain.{Plain}
@@ -7,23 +7,22 @@ use Rattle.hdrhistogram.specs.Streams.{AppendsFront}
 use Rattle.hdrhistogram.specs.declared.serialization.errors.V2SerializeError.{V2SerializeError}
 use Rattle.hdrhistogram.specs.declared.serialization.errors.V2SerializeError.TheVariants.{CountNotSerializable, UsizeTypeTooSmall, IoError, OutOfMemory}
 
--- the histogram's bytes are refused for a count that is too great or when memory runs out, and for
--- nothing else
+-- encoding the histogram fails only if a count is too great or memory runs out
 abbrev pub RefusesBytes : Plain → V2SerializeError → Type 0
 RefusesBytes h CountNotSerializable = HasTooGreatCount h
 RefusesBytes h UsizeTypeTooSmall = ⊥
 RefusesBytes h (IoError e) = ⊥
 RefusesBytes h OutOfMemory = Unit {0}
 
--- the same, and a writer's failure, whatever the writer holds
+-- the same, or the writer failed, whatever it holds
 abbrev pub RefusesNamed : Plain → V2SerializeError → Type 0
 RefusesNamed h CountNotSerializable = HasTooGreatCount h
 RefusesNamed h UsizeTypeTooSmall = ⊥
 RefusesNamed h (IoError e) = Unit {0}
 RefusesNamed h OutOfMemory = Unit {0}
 
--- the histogram is not written: after an i/o error a prefix of its bytes stands in the writer,
--- and any other refusal wrote nothing
+-- the histogram is not written: after an i/o error a proper prefix of its bytes is, and after any
+-- other error nothing
 abbrev pub RefusesWriting : Plain → Option (List ℕ) → Option (List ℕ) → V2SerializeError → Type 0
 RefusesWriting h old new CountNotSerializable = HasTooGreatCount h × Keeps old new
 RefusesWriting h old new UsizeTypeTooSmall = ⊥

@@ -5,7 +5,7 @@ use Rattle.byteorder.specs.Endian.{big_bytes}
 use Rattle.hdr_model.specs.Plain.{Plain}
 use Rattle.hdrhistogram.specs.Payload.{IsPayload}
 
--- how many bins are written: those up to the top mark's, or the first alone where there is no mark
+-- the number of bins that are written: those up to the top mark's, or 1 without a mark
 -- (`encode_counts`: up to the bin of `max`)
 abbrev pub written_bins : Plain → ℕ
 written_bins h = unwrap_or h.top_mark 0 + 1
@@ -21,26 +21,26 @@ four n = big_bytes 4 n
 unfoldable pub eight : ℕ → List ℕ
 eight n = big_bytes 8 n
 
--- the header: the cookie of the uncompressed form, the payload's length in bytes, the normalizing
--- offset 0, the number of significant digits, the lowest and the highest value, and the ratio 1.0
--- as the bits of a float
+-- The header: the cookie of the uncompressed form, the payload's length in bytes, and the
+-- normalizing offset 0. Then the number of significant digits, the lowest and the highest value,
+-- and the ratio 1.0 as the bits of a float.
 abbrev pub header : Plain → ℕ → List ℕ
 header h payload_len =
     four 0x1c849313 ++ four payload_len ++ four 0 ++ four h.sigfig
     ++ eight h.low ++ eight h.high ++ eight 0x3ff0000000000000
 
--- the bytes are the V2 text of the histogram
+-- the bytes are the V2 bytes of the histogram
 pub record IsV2 (h : Plain) (bytes : List ℕ) : Type 0 where
   pub payload : List ℕ
   pub counts : IsPayload (written_counts h) payload
   pub text : bytes ≡ header h (length payload) ++ payload
 
--- some count is above 2 ^ 63 - 1, the greatest number that zig-zag takes
+-- some count is above 2 ^ 63 - 1, the greatest that zig-zag encodes
 abbrev pub HasTooGreatCount : Plain → Type 0
 HasTooGreatCount h = Any (λ n. 2 ^ 63 ≤ n) h.counts
 
--- what of two histograms the V2 bytes tell: the bounds, the digits, the counts and the class of the
--- top mark, where none is as the first
+-- two histograms agree in what V2 bytes hold: the bounds, the digits, the counts and the class of
+-- the top mark; no mark counts as the first class
 pub record IsWrittenAlike (h k : Plain) : Type 0 where
   pub low : h.low ≡ k.low
   pub high : h.high ≡ k.high

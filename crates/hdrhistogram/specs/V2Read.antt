@@ -1,4 +1,5 @@
--- What V2 bytes are read as (the Rust crate's `Deserializer`), field by field: a field is checked before the next one is read.
+-- What V2 bytes decode to (the Rust crate's `Deserializer`), field by field: a field is checked
+-- before the next one is read.
 use Rattle.std.specs.Prelude.{◌≡◌, ◌==◌, ℕ, ◌+◌, ◌-◌, ◌*◌, ◌^◌, ◌≤◌, Bool, ◌&&◌, nat_lt, nat_le, if◌then◌else◌, min, Option, Some, None, List, length, take, drop, sum, false, Result, Ok, Err}
 use Rattle.byteorder.specs.Endian.{big_number}
 use Rattle.hdr_base.specs.Classes.{unit_of, digits_of, grain_of, bins_to}
@@ -18,7 +19,7 @@ four_of text = big_number 4 text
 unfoldable pub eight_of : List ℕ → ℕ
 eight_of text = big_number 8 text
 
--- a field of four bytes or of eight, or any bytes: what it holds, and the text after it
+-- a field of four bytes, of eight, or of `len` bytes: what it holds, and the rest
 unfoldable pub four_at : List ℕ → Result (ℕ × List ℕ) Defect
 four_at text = if nat_lt (length text) 4 then Err cut else Ok (four_of text, drop 4 text)
 
@@ -32,7 +33,7 @@ bytes_at len text = if nat_lt (length text) len then Err cut else Ok (take len t
 abbrev pub check_field : (ℕ → Option Defect) → Result (ℕ × List ℕ) Defect → Result (ℕ × List ℕ) Defect
 check_field defect field = field >>= λ f. unless (defect f.0) f
 
--- the uncompressed form's cookie; the compressed form's is known, and not supported
+-- the uncompressed form's cookie; the compressed form's is known, but not supported
 unfoldable pub cookie_defect : ℕ → Option Defect
 cookie_defect n = if n == 0x1c849313 then None else (if n == 0x1c849314 then Some unsupported else Some other_cookie)
 
@@ -44,18 +45,18 @@ offset_defect n = if n == 0 then None else Some unsupported
 unfoldable pub sigfig_defect : ℕ → Option Defect
 sigfig_defect n = if nat_lt 255 n then Some bad_bounds else None
 
--- the ratio is 1.0, by the bits of a float
+-- the ratio is 1.0, as the bits of a float
 unfoldable pub ratio_defect : ℕ → Option Defect
 ratio_defect n = if n == 0x3ff0000000000000 then None else Some unsupported
 
--- what a header tells
+-- the fields of a header that vary
 pub record Header : Type 0 where
   pub payload_len : ℕ
   pub sigfig : ℕ
   pub low : ℕ
   pub high : ℕ
 
--- the header at the front of a text, and the text after it
+-- the header at the start of the bytes, and the rest
 unfoldable pub header_at : List ℕ → Result (Header × List ℕ) Defect
 header_at text = do
   cookie ← check_field cookie_defect (four_at text)
@@ -75,11 +76,11 @@ are_bounds low high sigfig =
 unfoldable pub bounds_defect : Header → Option Defect
 bounds_defect h = if are_bounds h.low h.high h.sigfig then None else Some bad_bounds
 
--- the text begins with a header of bounds that a histogram can have; memory is taken only then
+-- the bytes start with a header whose bounds a histogram can have; only then is memory allocated
 abbrev pub HasBounds : List ℕ → Type 0
 HasBounds text = (found : Header × List ℕ) × (header_at text ≡ Ok found) × (bounds_defect found.0 ≡ None)
 
--- what refused bounds are, running out of memory aside
+-- the defect of bounds that no histogram has; running out of memory is none
 abbrev pub creation_defect : CreationError → Option Defect
 creation_defect OutOfMemory = None
 creation_defect LowIsZero = Some bad_bounds
@@ -89,11 +90,11 @@ creation_defect SigFigExceedsMax = Some bad_bounds
 creation_defect CannotRepresentSigFigBeyondLow = Some bad_bounds
 creation_defect UsizeTypeTooSmall = Some bad_bounds
 
--- how many bins a histogram of these bounds has
+-- the number of bins of a histogram with these bounds
 abbrev pub bins_for : Header → ℕ
 bins_for h = bins_to (grain_of h.low h.sigfig) h.high
 
--- what the bytes tell of a histogram
+-- what the bytes hold of a histogram
 pub record Contents : Type 0 where
   pub low : ℕ
   pub high : ℕ
@@ -103,7 +104,7 @@ pub record Contents : Type 0 where
 abbrev pub contents_of : Header → List ℕ → Contents
 contents_of h counts = record { low = h.low; high = h.high; sigfig = h.sigfig; counts = counts }
 
--- the histogram at the front of a text, for counters up to the greatest, and the text after it
+-- the histogram at the start of the bytes, for counters up to the greatest, and the rest
 unfoldable pub v2_at : ℕ → List ℕ → Result (Contents × List ℕ) Defect
 v2_at greatest text = do
   found ← header_at text
@@ -115,34 +116,35 @@ v2_at greatest text = do
 abbrev pub told_of : Plain → Contents
 told_of h = record { low = h.low; high = h.high; sigfig = h.sigfig; counts = h.counts }
 
--- the same of a histogram whose bins are being set
+-- the same of a histogram that is being built
 abbrev pub told_by : Open → Contents
 told_by f = record { low = f.low; high = f.high; sigfig = f.sigfig; counts = f.counts }
 
--- the total is the capped sum of the counts, and the marks are those of the nonempty classes
+-- the total is the saturating sum of the counts, and the marks are those of the nonempty classes
 pub record IsRestated (h : Plain) : Type 0 where
   pub total : h.total ≡ min (sum h.counts) (2 ^ 64 - 1)
   pub top_mark : IsTopMark h.counts h.top_mark
   pub lower_mark : IsLowerMark h.counts h.lower_mark
 
--- the histogram of what the bytes tell: it does not grow, and the rest is as its counts have it
+-- a histogram with these contents: it does not grow, and its total and marks follow from its counts
 pub record HasContents (c : Contents) (h : Plain) : Type 0 where
   pub told : told_of h ≡ c
   pub fixed : h.auto_resize ≡ false
   pub restated : IsRestated h
 
--- the first `taken` bytes of the text are read as this histogram
+-- the first `taken` bytes decode to this histogram
 pub record IsReadAs (greatest : ℕ) (text : List ℕ) (h : Plain) (taken : ℕ) : Type 0 where
   pub contents : Contents
   pub read : v2_at greatest text ≡ Ok (contents, drop taken text)
   pub within : taken ≤ length text
   pub histogram : HasContents contents h
 
--- the text is read as a histogram, with the number of bytes that it takes, or is refused by an error that names its defect
+-- the bytes decode to a histogram, with the number of bytes consumed, or to an error that names
+-- their defect
 abbrev pub ReadsV2 : ℕ → List ℕ → Result (Plain × ℕ) DeserializeError → Type 0
 ReadsV2 greatest text (Ok found) = IsReadAs greatest text found.0 found.1
 ReadsV2 greatest text (Err e) = (f : Defect) × (defect_of_error e ≡ Some f) × (v2_at greatest text ≡ Err f)
 
--- the second histogram is what is read of the first one's bytes
+-- the second histogram is what the first one's bytes decode to
 abbrev pub IsReadBack : Plain → Plain → Type 0
 IsReadBack h k = HasContents (told_of h) k

@@ -24,14 +24,14 @@ ghost use Rattle.hdrhistogram.specs.V2Read.{v2_at, Contents, told_of, IsRestated
 
 use hdr_core::laws::{clearing_stands, joined_stands, new_is_plain, samples_are_counted};
 
-/// Every number of 64 bits has one canonical spelling, and no spelling is longer than nine bytes.
+/// Each number below 2^64 has exactly one canonical varint. No varint is longer than nine bytes.
 pub fn one_canonical_spelling()
     ensures exists { (n : ℕ) → n < 2 ^ 64 → (text : List ℕ) × IsShortest text n }
     ensures unique { (n : ℕ) (a b : List ℕ) → IsShortest a n → IsShortest b n → a ≡ b }
     ensures short { (n : ℕ) (text : List ℕ) → Spells text n → length text ≤ 9 }
 {}
 
-/// No spelling begins another: what follows a spelling does not change what it spells.
+/// No varint is a proper prefix of another: bytes start with at most one varint, of one number.
 pub fn spellings_end()
     ensures { (a b x y : List ℕ) (m n : ℕ) → Spells a m → Spells b n → a ++ x ≡ b ++ y
         → (a ≡ b) × (m ≡ n) }
@@ -43,8 +43,8 @@ pub fn zig_zag_inverse()
     ensures encoded { (n : ℕ) → zig_zag (from_zig_zag n) ≡ n }
 {}
 
-/// Counts have one split into maximal runs of empty bins and single nonempty bins, and one payload
-/// at most; they have a payload where zig-zag takes them.
+/// Counts have exactly one split into maximal runs of empty bins and single nonempty bins, and at
+/// most one payload. They have one if they are fewer than 2^63, and each is below 2^63.
 pub fn one_payload()
     ensures parts { (counts : List ℕ) → (parts : List Part) × IsSplit counts parts }
     ensures split { (counts : List ℕ) (a b : List Part) → IsSplit counts a → IsSplit counts b
@@ -54,22 +54,22 @@ pub fn one_payload()
         → (text : List ℕ) × IsPayload counts text }
 {}
 
-/// A payload is that of one list of counts.
+/// A payload encodes one list of counts.
 pub fn payload_tells_counts()
     ensures { (counts other text : List ℕ) → IsPayload counts text → IsPayload other text
         → counts ≡ other }
 {}
 
-/// The V2 bytes of two histograms agree exactly where the bounds, the digits, the counts and the
-/// top mark's class agree; no mark counts as the first class. Their counter types need not agree,
-/// nor their totals, lower marks and auto-resize.
+/// The V2 bytes of two histograms are equal exactly if the bounds, the digits, the counts and the
+/// top mark's class are equal; no mark counts as the first class. Their counter types, totals,
+/// lower marks and auto-resize may differ.
 pub fn bytes_agree()
     ensures same { (h k : Plain) (a b : List ℕ) → IsV2 h a → IsV2 k b → IsWrittenAlike h k → a ≡ b }
     ensures alike { (f g : ℕ) (h k : Plain) (a b : List ℕ) → IsPlain f h → IsPlain g k
         → IsV2 h a → IsV2 k b → a ≡ b → IsWrittenAlike h k }
 {}
 
-/// A payload is cut in one way into spellings and a rest that spells nothing, which is how it is cut for reading.
+/// A payload has exactly one split into varints and an incomplete rest: that of `split_spellings`.
 pub fn one_parting()
     ensures are { (payload : List ℕ)
         → AreSpellings payload (split_spellings 8 payload).texts (split_spellings 8 payload).rest }
@@ -77,8 +77,8 @@ pub fn one_parting()
         → split_spellings 8 payload ≡ record { texts = texts; rest = rest } }
 {}
 
-/// What follows a histogram does not change how it is read, and reading takes a front of the
-/// text. So a histogram that a reader gives is the one that the whole of its bytes begins with.
+/// Decoding consumes a prefix of the bytes, and the bytes after that prefix do not change the
+/// result.
 pub fn reading_takes_a_front()
     ensures { (greatest : ℕ) (text rest : List ℕ) (c : Contents)
         → v2_at greatest text ≡ Ok (c, rest)
@@ -86,8 +86,9 @@ pub fn reading_takes_a_front()
         × ((more : List ℕ) → v2_at greatest (front ++ more) ≡ Ok (c, more)) }
 {}
 
-/// The V2 bytes of a histogram, with anything after them, are read for the same counters as its
-/// bounds, digits and counts, and what is after them is left.
+/// The V2 bytes of a histogram, followed by any bytes, decode to its bounds, digits and counts for
+/// the same counter type. The bytes after them are left. The decoded histogram is equal to it if
+/// its total and marks follow from its counts (`IsRestated`).
 pub fn bytes_read_back()
     ensures bytes { (h : Plain) (text : List ℕ) → IsV2 h text → (i : ℕ) → slice_index text i < 256 }
     ensures contents { (greatest : ℕ) (h : Plain) (bytes more : List ℕ) → IsPlain greatest h
@@ -99,8 +100,8 @@ pub fn bytes_read_back()
     ensures equal { (h k : Plain) → IsRestated h → IsReadBack h k → same_plain k h ≡ true }
 {}
 
-/// What was written and read again is a histogram with the same classes, stands for the same samples, and answers each quantile
-/// alike, 0 and those above 1 among them.
+/// A histogram that was encoded and decoded has the same classes, total and value at each quantile,
+/// 0 and those above 1 included. It stands for the same samples.
 pub fn read_back_stands()
     ensures plain { (greatest : ℕ) (h k : Plain) → IsPlain greatest h → IsReadBack h k
         → IsPlain greatest k }
@@ -115,9 +116,10 @@ pub fn read_back_stands()
     samples_are_counted();
 }
 
-/// Merging a log adds the histograms of its chosen intervals in order, and counts them and those that are coarser than the sum.
-/// Where none is, each of them is finer than the sum. The sum has the lowest value 1 and the digits that were asked for. Where
-/// each chosen interval holds a histogram and each line is a log's, nothing is refused by name.
+/// Merging a log adds the histograms of its chosen intervals in order, and counts them and those
+/// that are coarser than the sum. None is coarser exactly if all are finer (`IsFiner`). The sum has
+/// the lowest value 1 and `sigfig` digits. If each chosen interval holds a histogram and each line
+/// is valid, the log has no error.
 pub fn merging_adds_the_chosen()
     ensures added { (greatest sigfig : ℕ) (filter : Filter) (log : List ℕ) (m : Merging)
         → Merges greatest filter sigfig log (Ok m)
@@ -138,8 +140,8 @@ pub fn merging_adds_the_chosen()
         → (m.histogram.low ≡ 1) × (m.histogram.sigfig ≡ sigfig) }
 {}
 
-/// A merge stands for the samples of its chosen intervals joined, as far as those fit, and its quantiles are theirs. The classes
-/// of the intervals must be no coarser than those of the merge.
+/// A merge stands for the joined samples of its chosen intervals if they fit, and its quantiles are
+/// theirs. The classes of the intervals must not be coarser than those of the merge.
 pub fn merged_log_stands()
     ensures sum { (greatest sigfig : ℕ) (filter : Filter) (log : List ℕ) (m : Merging)
         (hs : List Plain) (Ls : List (List ℕ)) → 1 ≤ greatest

@@ -1,4 +1,7 @@
-//! High dynamic range histograms, their V2 bytes and logs of intervals. Version 1.0.0.
+//! High dynamic range histograms, their V2 bytes and interval logs. Version 1.0.0.
+//!
+//! `Histogram` counts `u64` values to a number of significant digits. `serialization` encodes and
+//! decodes histograms, and writes, reads and merges logs.
 #![tactic(auto)]
 
 pub mod laws;

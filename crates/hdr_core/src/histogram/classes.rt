@@ -8,21 +8,21 @@ use super::Histogram;
 use hdr_base::Counter;
 
 impl<T: Counter> Histogram<T> {
-    /// The lowest value of the class of a value.
+    /// Returns the lowest value of the class of `value`.
     pub fn lowest_equivalent(&self, value: u64) -> u64
         ensures { result ≡ lowest_of (grain self.now) value }
     {
         self.scale.lowest(value)
     }
 
-    /// The greatest value of the class of a value.
+    /// Returns the greatest value of the class of `value`.
     pub fn highest_equivalent(&self, value: u64) -> u64
         ensures { result ≡ top_of (grain self.now) value }
     {
         self.scale.top(value)
     }
 
-    /// The lowest value of the next class, or `u64::MAX` where there is none.
+    /// Returns the lowest value of the next class, or `u64::MAX` if there is none.
     pub fn next_non_equivalent(&self, value: u64) -> u64
         ensures next { result ≡ min (lowest_of (grain self.now) value
             + width_of (grain self.now) value) (2 ^ 64 - 1) }
@@ -32,7 +32,7 @@ impl<T: Counter> Histogram<T> {
         scale.lowest(value).saturating_add(scale.width(value))
     }
 
-    /// The value half a width above the lowest of the class of a value.
+    /// Returns the value half a width above the lowest of the class of `value`.
     pub fn median_equivalent(&self, value: u64) -> u64
         ensures { result ≡ lowest_of (grain self.now) value + width_of (grain self.now) value / 2 }
     {
@@ -40,7 +40,7 @@ impl<T: Counter> Histogram<T> {
         scale.lowest(value) + scale.width(value) / 2
     }
 
-    /// The width of the class of a value.
+    /// Returns the width of the class of `value`.
     pub fn equivalent_range(&self, value: u64) -> u64
         ensures width { result ≡ width_of (grain self.now) value }
         ensures at_least_one { 1 ≤ result }
@@ -55,8 +55,9 @@ impl<T: Counter> Histogram<T> {
         self.scale.bin(a) == self.scale.bin(b)
     }
 
-    /// Whether each class of this histogram lies in one class of another, which may count in another type: its unit is no
-    /// greater, and it keeps as many digits or more. Added to the other, its samples then stay in their classes.
+    /// Whether each class of this histogram lies in one class of `other`, which may count in
+    /// another type. This holds exactly if its unit is no greater and it keeps at least as many
+    /// digits. Added to `other`, its samples then stay in their classes.
     pub fn refines<F: Counter>(&self, other: &Histogram<F>) -> bool
         ensures { IsTrue result ↔ IsFiner (grain self.now) (grain other.now) }
     {

@@ -13,7 +13,8 @@ use hdr_model::CreationError;
 use std::alloc::Global;
 
 impl<T: Counter> Histogram<T> {
-    /// An empty histogram of the bounds of another, which grows where that one does. Refused for memory alone.
+    /// Returns an empty histogram with the bounds and the auto-resize setting of `source`. Returns
+    /// an error only if an allocation fails.
     pub fn new_from<F: Counter>(
         alloc: Global,
         source: &Histogram<F>,
@@ -39,7 +40,7 @@ impl<T: Counter> Histogram<T> {
         })
     }
 
-    /// A histogram that holds the same. Refused for memory alone.
+    /// Returns a copy of the histogram. Returns an error only if an allocation fails.
     pub fn clone(&self) -> Result<Histogram<T>, CreationError>
         ensures { MatchResult result (λ h. h ≡ self.now) (λ e. e ≡ OutOfMemory) }
     {
@@ -58,7 +59,8 @@ impl<T: Counter> Histogram<T> {
         })
     }
 
-    /// An empty histogram of the same bounds, to which this one is added with correction. Refused for memory alone.
+    /// Returns a histogram with the same bounds and auto-resize setting, to which `self` was added
+    /// as by `add_correct`. Returns an error only if an allocation fails.
     pub fn clone_correct(&self, interval: u64) -> Result<Histogram<T>, CreationError>
         ensures { MatchResult result (λ h. h ≡ after_add_correct T.greatest
             (empty_plain self.now.low self.now.high self.now.sigfig self.now.auto_resize) self.now interval)

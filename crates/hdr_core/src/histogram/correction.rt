@@ -1,6 +1,6 @@
 //! Recording with correction for coordinated omission, class by class.
 
-ghost use Rattle.std.specs.Prelude.{◌≡◌, ℕ, List, ◌∷◌, ◌++◌, ◌+◌, ◌-◌, ◌*◌, ◌/◌, ◌^◌, ◌<◌, ◌≤◌, OnOk, IfErr, true, false, [], length};
+ghost use Rattle.std.specs.Prelude.{◌≡◌, ℕ, List, ◌∷◌, ◌++◌, ◌+◌, ◌-◌, ◌*◌, ◌/◌, ◌%◌, ◌^◌, ◌<◌, ◌≤◌, OnOk, IfErr, true, false, [], length, min};
 ghost use Rattle.hdr_base.specs.Classes.{bucket, reach_of, most_bins};
 ghost use Rattle.hdr_model.specs.Plain.{grain, reach};
 ghost use Rattle.hdr_model.specs.Recording.{after_add_to_bin, after_records, samples_of, high_with};
@@ -13,9 +13,11 @@ use hdr_base::{Counter, Ticks};
 use hdr_model::RecordError;
 
 impl<T: Counter> Histogram<T> {
-    /// Records a value once and, for a caller that meant to take a sample every `interval`, each sample that it missed
-    /// while waiting for this one. Both are in the unit of the samples; an `interval` of 0 corrects nothing. Correct samples
-    /// once: not here and by `add_correct` again.
+    /// Records `value` once, and each sample that is missing before it if the expected interval
+    /// between samples is `interval`. Both arguments are in the unit of the samples; an `interval`
+    /// of 0 corrects nothing. Correct samples only once, not here and again by `add_correct`.
+    /// Returns an error as `record` does; `self` is then unchanged.
+    #[inline(always)]
     pub fn record_correct(&mut self, value: u64, interval: u64) -> Result<(), RecordError>
         ensures ok { OnOk result (self.new ≡ after_correct T.greatest self.old value 1 interval) }
         ensures samples { OnOk result (GainsSamples T.greatest self.old self.new
@@ -29,9 +31,11 @@ impl<T: Counter> Histogram<T> {
         self.record_n_correct(value, T::one(), interval)
     }
 
-    /// `record_correct`, `count` times for each value: `value`, `value - interval`, `value - 2 * interval`, .. down to the last
-    /// that is at least `interval`. An interval of 0 corrects nothing. Only the first record can be refused; a refusal changes
-    /// nothing.
+    /// As `record_correct`, `count` times for each value: `value`, `value - interval`,
+    /// `value - 2 * interval`, .. down to the last that is at least `interval`. An interval of 0
+    /// corrects nothing. Returns an error only if `record_n` of `value` does; `self` is then
+    /// unchanged.
+    #[inline(always)]
     pub fn record_n_correct(
         &mut self,
         value: u64,
@@ -51,8 +55,10 @@ impl<T: Counter> Histogram<T> {
         self.record_n_correct_counted(value, count, interval, &mut Ticks::new())
     }
 
-    /// `record_n_correct`, and what it costs: `ticks` grows by one for each counter that is updated after the first. There is one
-    /// for each class that holds a missing value, and so no more than there are bins.
+    /// As `record_n_correct`. `ticks` grows by one for each counter that is updated after the
+    /// first. There is one for each class that holds a missing value, and so no more than there are
+    /// bins. On error `ticks` is unchanged.
+    #[inline(always)]
     pub fn record_n_correct_counted(
         &mut self,
         value: u64,
@@ -110,8 +116,8 @@ impl<T: Counter> Histogram<T> {
         }
     }
 
-    /// Records those of these values that are at least `start`, and gives the next one below them. All of them lie in
-    /// one bucket, whose classes have one width.
+    /// Records those of these values that are at least `start`, and returns the next one below
+    /// them. All of them lie in one bucket, whose classes have one width.
     fn add_in_bucket(
         &mut self,
         first: u64,
@@ -139,20 +145,20 @@ impl<T: Counter> Histogram<T> {
         ensures same_bins { length self.new.counts ≡ length self.old.counts }
         ensures same_reach { reach self.new ≡ reach self.old }
     {
-        let width = self.scale.width(first);
-        let bin = self.scale.bin(first) - (first / width) as usize;
+        let scale = self.scale;
+        let width = scale.width(first);
+        let bin = scale.bin(first) - (first / width) as usize;
         let few = (width / interval).saturating_sub(1);
         let mut next = first;
         while next >= start {
-            let span = (next % width).min(next - interval);
-            let members = steps(span, interval, few) + 1;
+            let members = members(next, width, interval, few);
             self.add_counted(bin + (next / width) as usize, members, count, ticks);
             next -= members * interval;
         }
         next
     }
 
-    /// Adds members of a class, `count` times each, to its bin, and counts that update.
+    /// Adds `members` of a class, `count` times each, to its bin, and counts one tick.
     fn add_counted(&mut self, bin: usize, members: u64, count: u64, ticks: &mut Ticks)
         requires bin { bin < length self.old.counts }
         requires room { ticks.old < 2 ^ 64 - 1 }
@@ -160,15 +166,16 @@ impl<T: Counter> Histogram<T> {
         ensures ticks { ticks.new ≡ ticks.old + 1 }
     {
         let number = u128::from(members) * u128::from(count);
-        match u64::try_from(number) {
-            Ok(number) => self.add_to_bin(bin, number),
-            Err(_) => self.add_capped(bin, number),
+        if number <= u128::from(u64::MAX) {
+            self.add_to_bin(bin, number as u64);
+        } else {
+            self.add_capped(bin, number);
         }
         ticks.tick();
     }
 }
 
-/// Whether a value stands for missed samples, an interval apart.
+/// Whether samples may be missing before `value`, an interval apart; if not, none are.
 #[inline(always)]
 pub(super) fn hides(value: u64, interval: u64) -> bool
     ensures step { result ≡ true → 0 < interval }
@@ -184,7 +191,20 @@ pub(super) fn hides(value: u64, interval: u64) -> bool
     true
 }
 
-/// How many intervals a span holds. `few`, and one more, are tried before a division is done.
+/// Returns the number of values in the class of `next`, from it on down to the interval, an
+/// interval apart.
+fn members(next: u64, width: u64, interval: u64, few: u64) -> u64
+    requires some { (0 < interval) × (interval ≤ next) × (0 < width) }
+    requires fits { few * interval < 2 ^ 64 }
+    ensures { result ≡ min (next % width) (next - interval) / interval + 1 }
+{
+    if width <= interval {
+        return 1;
+    }
+    steps((next % width).min(next - interval), interval, few) + 1
+}
+
+/// Returns the number of intervals in `span`. Tries `few` and `few + 1` before it divides.
 fn steps(span: u64, interval: u64, few: u64) -> u64
     requires some { 0 < interval }
     requires fits { few * interval < 2 ^ 64 }

@@ -9,7 +9,7 @@ use super::Histogram;
 use hdr_base::Counter;
 use hdr_counts::Counts;
 
-/// How many counters are compared at once.
+/// The number of counters that are compared at once.
 const FEW: usize = 16;
 
 impl<T: Counter> PartialEq for Histogram<T> {
@@ -23,8 +23,9 @@ impl<T: Counter> PartialEq for Histogram<T> {
 }
 
 impl<T: Counter> Histogram<T> {
-    /// Whether both keep the same digits of the same values and hold the same: `low`, `sigfig`, the number of samples,
-    /// `max`, `min_nz` and the counter of each bin, 0 where there is none. The other may count in another type.
+    /// Whether both have the same `low`, `sigfig`, number of samples, `max`, `min_nz` and counter
+    /// of each bin. A bin that one of them does not have counts as 0. The other may count in
+    /// another type.
     pub fn equals<F: Counter>(&self, other: &Histogram<F>) -> bool
         ensures { result ≡ same_plain self.now other.now }
     {
@@ -42,7 +43,8 @@ impl<T: Counter> Histogram<T> {
     }
 }
 
-/// Whether two lists of counters hold the same numbers; each holds only zeros from the given place on.
+/// Whether two lists of counters hold the same numbers. They hold only zeros from the indices
+/// `left_used` and `right_used` on.
 fn same_numbers<T: Counter, F: Counter>(
     left: &Counts<T>,
     left_used: usize,
@@ -66,7 +68,7 @@ fn same_numbers<T: Counter, F: Counter>(
     true
 }
 
-/// The number at a place, 0 past the end.
+/// Returns the number at `index`, or 0 past the end.
 fn number_at<T: Counter>(counts: &Counts<T>, index: usize) -> u64
     ensures { result ≡ slice_index counts.now.numbers index }
 {
@@ -77,7 +79,7 @@ fn number_at<T: Counter>(counts: &Counts<T>, index: usize) -> u64
     }
 }
 
-/// Whether as many counters hold the same numbers, a few compared at once.
+/// Whether two slices of one length hold the same numbers; compares `FEW` at once.
 fn same_front<T: Counter, F: Counter>(left: &[T], right: &[F]) -> bool
     requires { length left.now ≡ length right.now }
     ensures same { result ≡ true → (i : ℕ) → i < length left.now
@@ -97,7 +99,7 @@ fn same_front<T: Counter, F: Counter>(left: &[T], right: &[F]) -> bool
     same_few(&left[from..end], &right[from..end])
 }
 
-/// The same; each place is looked at, so that several can be at once.
+/// As `same_front`. Each counter is read, so that several can be compared at once.
 fn same_few<T: Counter, F: Counter>(left: &[T], right: &[F]) -> bool
     requires { length left.now ≡ length right.now }
     ensures same { result ≡ true → (i : ℕ) → i < length left.now

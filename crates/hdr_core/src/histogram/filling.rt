@@ -1,6 +1,6 @@
-//! Setting bins, with total and marks made once when that is done.
+//! Setting bins, with the total and the marks computed once at the end.
 
-ghost use Rattle.std.specs.Prelude.{◌≡◌, ◌+◌, ◌<◌, ◌≤◌, MatchResult, false, length, slice_set};
+ghost use Rattle.std.specs.Prelude.{◌≡◌, ◌+◌, ◌<◌, ◌≤◌, MatchResult, true, false, length, slice_set};
 ghost use Rattle.hdr_base.specs.Classes.{most_bins};
 ghost use Rattle.hdr_model.specs.Filling.{open_of, IsClosed};
 ghost use Rattle.hdr_model.specs.Marks.{IsTopMark, IsLowerMark};
@@ -18,7 +18,8 @@ use std::marker::Model;
 
 /// A histogram whose bins are being set, seen as its bounds and the number of each bin.
 ///
-/// A bin that is set costs about two stores, in order. Total and marks are made when the histogram is taken out of it.
+/// A bin that is set costs about two stores, in order. `into_histogram` computes the total and the
+/// marks.
 #[derive(Debug, Drop)]
 pub struct Filling<T: Counter> {
     scale: Scale,
@@ -40,7 +41,7 @@ impl<T: Counter> Model for Filling<T> {
 }
 
 impl<T: Counter> Filling<T> {
-    /// Empty bins, as those of `Histogram::new_with_bounds`, which refuses the same bounds.
+    /// Returns empty bins, as those of `Histogram::new_with_bounds`, and the same errors.
     pub fn new_with_bounds(
         alloc: Global,
         low: u64,
@@ -64,8 +65,8 @@ impl<T: Counter> Filling<T> {
         })
     }
 
-    /// The bins of a histogram, made empty, as those of `new_with_bounds` for its bounds. It costs by what the histogram holds, and
-    /// takes no memory.
+    /// Returns the bins of `histogram`, each set to 0, as those of `new_with_bounds` for its
+    /// bounds. Sections that are empty are skipped, and nothing is allocated.
     pub fn emptied(histogram: Histogram<T>) -> Filling<T>
         ensures { (result ≡ open_of
             (empty_plain histogram.low histogram.high histogram.sigfig false))
@@ -91,7 +92,7 @@ impl<T: Counter> Filling<T> {
         }
     }
 
-    /// How many bins there are.
+    /// The number of bins.
     #[inline(always)]
     pub fn distinct_values(&self) -> usize
         ensures value { result ≡ length self.now.counts }
@@ -100,7 +101,7 @@ impl<T: Counter> Filling<T> {
         self.counts.len()
     }
 
-    /// Sets the counter of a bin, which is below `distinct_values()`.
+    /// Sets the counter of `bin`, which is below `distinct_values()`.
     #[inline(always)]
     pub fn set(&mut self, bin: usize, count: T)
         requires { bin < length self.old.counts }
@@ -112,19 +113,23 @@ impl<T: Counter> Filling<T> {
         self.counts.set(bin, count);
     }
 
-    /// Sets the counters of a bin and of the one after it; both are below `distinct_values()`.
+    /// Fast path: sets the counters of `bin` and of the one after it, with a store each, if it can.
+    /// Both must follow the bins that were set. Returns whether it did; `self` is unchanged if not.
     #[inline(always)]
-    pub fn set_two(&mut self, bin: usize, first: T, second: T)
-        requires { bin + 1 < length self.old.counts }
-        ensures { self.new ≡ record self.old {
-          counts = slice_set
-              (slice_set self.old.counts bin (T.number first)) (bin + 1) (T.number second);
-        } }
+    pub fn set_pair(&mut self, bin: usize, first: T, second: T) -> bool
+        ensures set { result ≡ true → (bin + 1 < length self.old.counts)
+            × (self.new ≡ record self.old {
+              counts = slice_set
+                  (slice_set self.old.counts bin (T.number first)) (bin + 1) (T.number second);
+            }) }
+        ensures kept { result ≡ false → self.new ≡ self.old }
+        ensures few { length self.old.counts ≤ most_bins }
     {
-        self.counts.set_two(bin, first, second);
+        self.counts.set_pair(bin, first, second)
     }
 
-    /// The histogram of the bins. Its total is the capped sum of its counters, and its marks are those of the ones above 0.
+    /// Returns the histogram of the bins. Its total is the saturated sum of its counters, and its
+    /// marks are those of the nonzero ones.
     pub fn into_histogram(self) -> Histogram<T>
         ensures { IsClosed self result }
     {
@@ -152,7 +157,7 @@ impl<T: Counter> Filling<T> {
     }
 }
 
-/// The marks of counters that are being set.
+/// Returns the marks of counters that are being set.
 fn open_marks<T: Counter>(counts: &OpenCounts<T>) -> Marks
     ensures top { IsTopMark counts.now.numbers result.top }
     ensures lower { IsLowerMark counts.now.numbers result.lower }

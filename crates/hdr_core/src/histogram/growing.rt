@@ -1,4 +1,4 @@
-//! How a histogram grows.
+//! Growth of a histogram.
 
 ghost use Rattle.std.specs.Prelude.{◌≡◌, ◌<◌, ◌≤◌, ◌⊎◌, MatchResult, OnOk, IfErr};
 ghost use Rattle.hdr_model.specs.Plain.{IsPlain, reach};
@@ -12,7 +12,8 @@ use hdr_model::{AdditionError, RecordError};
 use std::alloc::AllocError;
 
 impl<T: Counter> Histogram<T> {
-    /// Makes bins up to a value, where it has none. `high` is then their reach.
+    /// Makes bins up to `value` if it has none, and sets `high` to its reach. On error `self` is
+    /// unchanged.
     pub(super) fn cover(&mut self, value: u64) -> Result<(), RecordError>
         ensures ok { OnOk result (self.new ≡ with_bins_for self.old value) }
         ensures kept { IsPlain T.greatest self.old }
@@ -25,7 +26,8 @@ impl<T: Counter> Histogram<T> {
         Ok(())
     }
 
-    /// Bins up to a value, which becomes `high` where they had to grow.
+    /// Makes bins up to `value` if it has none, and sets `high` to `value`. On error `self` is
+    /// unchanged.
     pub(super) fn make_room(&mut self, value: u64) -> Result<(), AdditionError>
         ensures ok { OnOk result (self.new ≡ with_room self.old value) }
         ensures kept { IsPlain T.greatest self.old }
@@ -39,7 +41,8 @@ impl<T: Counter> Histogram<T> {
         }
     }
 
-    /// Makes bins up to a value, where it has none. `high` is then the number given.
+    /// Makes bins up to the argument `high` if `value` has none, and stores `high`. On error `self`
+    /// is unchanged.
     fn cover_to(&mut self, value: u64, high: u64) -> Result<(), RecordError>
         requires { value ≤ high }
         ensures ok { OnOk result (((value ≤ reach self.old) × (self.new ≡ self.old))
@@ -61,7 +64,8 @@ impl<T: Counter> Histogram<T> {
         }
     }
 
-    /// Makes bins up to the reach of `high`, a value past them, and keeps it as `high`. When memory runs out nothing is changed.
+    /// Makes bins up to the reach of `high`, a value past them, and stores it as `high`. Returns an
+    /// error if the allocation fails; `self` is then unchanged.
     fn grow(&mut self, high: u64) -> Result<(), AllocError>
         requires { reach self.old < high }
         ensures { MatchResult result (λ _. self.new ≡ with_bins_to self.old high)

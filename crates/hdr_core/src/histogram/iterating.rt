@@ -21,7 +21,8 @@ impl<T: Counter> Binned<T> for Histogram<T> {
 }
 
 impl<T: Counter> Histogram<T> {
-    /// The first bin from one on that holds samples, or how many bins there are. Long runs of empty bins cost little.
+    /// Returns the index of the first nonempty bin from `from` on, or the number of bins if there
+    /// is none. Long runs of empty bins cost little.
     pub fn next_filled(&self, from: usize) -> usize
         requires { from ≤ length self.now.counts }
         ensures onward { from ≤ result }
@@ -32,23 +33,25 @@ impl<T: Counter> Histogram<T> {
         self.counts.next_filled(from)
     }
 
-    /// Every bin once, in ascending order, each at the greatest value of its class.
+    /// Returns an iterator over every bin once, in ascending order, each at the greatest value of
+    /// its class.
     pub fn iter_all(&self) -> HistogramIterator<'_, T, all::Iter>
         ensures { result ≡ items_of (bins_seen self.now) (all_picks (bins_seen self.now)) }
     {
         all::Iter::new(self)
     }
 
-    /// Every bin that holds samples once, in ascending order, each at the greatest value of its class.
+    /// Returns an iterator over every nonempty bin once, in ascending order, each at the greatest
+    /// value of its class.
     pub fn iter_recorded(&self) -> HistogramIterator<'_, T, recorded::Iter>
         ensures { result ≡ items_of (bins_seen self.now) (recorded_picks (bins_seen self.now)) }
     {
         recorded::Iter::new(self)
     }
 
-    /// Steps of `step` values each, at least 1: an item for each level `step - 1`, `2 * step - 1`, .. with the samples up to
-    /// its class. The levels below the top mark's class are given, then the next one, then those up to the top of that
-    /// level's class.
+    /// Returns an iterator in steps of `step` values, at least 1. It yields an item for each level
+    /// `step - 1`, `2 * step - 1`, .. with the samples up to its class. These are the levels below
+    /// the top mark's class, then the next one, then those up to the top of that level's class.
     pub fn iter_linear(&self, step: u64) -> HistogramIterator<'_, T, linear::Iter<'_, T>>
         requires { 1 ≤ step }
         ensures { result ≡ items_of (bins_seen self.now) (linear_picks (bins_seen self.now) step) }
@@ -56,8 +59,9 @@ impl<T: Counter> Histogram<T> {
         linear::Iter::new(self, step)
     }
 
-    /// Steps that grow: an item for each level `start - 1`, `start * base - 1`, `start * base ^ 2 - 1`, .. below the top mark's
-    /// class, and the next one. `start` is at least 1, and `base` at least 2.
+    /// Returns an iterator in growing steps. It yields an item for each level `start - 1`,
+    /// `start * base - 1`, `start * base ^ 2 - 1`, .. below the top mark's class, and for the next
+    /// one. `start` is at least 1, and `base` at least 2.
     pub fn iter_log(&self, start: u64, base: u64) -> HistogramIterator<'_, T, log::Iter<'_, T>>
         requires some { 1 ≤ start }
         requires wide { 2 ≤ base }
@@ -67,8 +71,9 @@ impl<T: Counter> Histogram<T> {
         log::Iter::new(self, start, base)
     }
 
-    /// Quantiles that approach 1: `ticks_per_half_distance` equal steps, at least 1, over the first half, then as many over
-    /// half of the rest, and so on; at last 1 itself. Each is given at the first bin that reaches it.
+    /// Returns an iterator over quantiles that approach 1. `ticks_per_half_distance` equal steps,
+    /// at least 1, cover the first half, then as many half of the rest, and so on; the last is 1
+    /// itself. Each is yielded at the first bin that reaches it.
     pub fn iter_quantiles(
         &self,
         ticks_per_half_distance: u32,

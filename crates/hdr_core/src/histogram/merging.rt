@@ -14,11 +14,13 @@ use hdr_counts::Counts;
 use hdr_model::AdditionError;
 
 impl<T: Counter> Histogram<T> {
-    /// Adds the samples of another histogram; an empty one changes nothing. Where its `max` has no bin the bins grow, and `max`
-    /// becomes `high`; where they may not grow the call is refused. A refusal changes nothing.
+    /// Adds the samples of `source`; an empty one changes nothing. If its `max` is past the bins
+    /// and auto-resize is on, the bins grow, and that `max` becomes `high`. Returns an error if it
+    /// is past the bins, and auto-resize is off or the allocation fails; `self` is then unchanged.
     ///
-    /// With equal bins counters are added, and an empty target takes the source's total and marks. Else each nonempty class is
-    /// recorded at its lowest value, and the top mark's class with the count 0.
+    /// If the bins are equal, counters are added, and an empty target copies the source's total and
+    /// marks. Otherwise each nonempty class is recorded at its lowest value, and the top mark's
+    /// class with the count 0.
     pub fn add(&mut self, source: &Histogram<T>) -> Result<(), AdditionError>
         ensures ok { OnOk result (self.new ≡ after_add T.greatest self.old source.now) }
         ensures samples { OnOk result ((L : List ℕ) → StandsFor source.now L → IsFiner
@@ -35,8 +37,8 @@ impl<T: Counter> Histogram<T> {
         self.add_from(source)
     }
 
-    /// `add` of a histogram that may count in another type. Its numbers are added whole, and only the sums are cut to
-    /// this histogram's greatest counter.
+    /// As `add`, for a source that may count in another type. Its numbers are not saturated before
+    /// they are added; only the sums saturate, at `T::max_value()`.
     pub fn add_from<F: Counter>(&mut self, source: &Histogram<F>) -> Result<(), AdditionError>
         ensures ok { OnOk result (self.new ≡ after_add T.greatest self.old source.now) }
         ensures samples { OnOk result ((L : List ℕ) → StandsFor source.now L → IsFiner
@@ -58,8 +60,9 @@ impl<T: Counter> Histogram<T> {
         Ok(())
     }
 
-    /// Forgets what was recorded and adds what another histogram counted. Refused for range it leaves the histogram
-    /// reset, refused for memory unchanged.
+    /// Resets the histogram, and adds the samples of `source`. If `max` of `source` is out of
+    /// range, returns an error and leaves `self` reset. If the allocation fails, returns an error
+    /// and leaves `self` unchanged.
     pub fn set_to(&mut self, source: &Histogram<T>) -> Result<(), AdditionError>
         ensures ok { OnOk result (self.new ≡ after_add T.greatest
             (after_reset self.old) source.now) }
@@ -142,7 +145,7 @@ impl<T: Counter> Histogram<T> {
         self.marks.widen_if(source.marks.top());
     }
 
-    /// How many of the first bins hold all samples: those up to the top mark's.
+    /// Returns the number of bins up to the top mark's; the bins after them are empty.
     pub(super) fn used_bins(&self) -> usize
         ensures within { result ≤ length self.now.counts }
         ensures rest { (i : ℕ) → result ≤ i → slice_index self.now.counts i ≡ 0 }
@@ -181,7 +184,7 @@ impl<T: Counter> Histogram<T> {
     }
 }
 
-/// The sum of counters, up to `u64::MAX`.
+/// Returns the sum of the counters, saturated at `u64::MAX`.
 pub(super) fn capped_sum<T: Counter>(counts: &Counts<T>) -> u64
     requires { 0 < length counts.now.numbers }
     ensures { result ≡ min (sum counts.now.numbers) (2 ^ 64 - 1) }

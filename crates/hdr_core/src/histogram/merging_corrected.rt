@@ -15,9 +15,10 @@ use hdr_base::{Counter, Ticks};
 use hdr_model::RecordError;
 
 impl<T: Counter> Histogram<T> {
-    /// Adds each nonempty class of another histogram at its greatest value, corrected as `record_n_correct` does. Where
-    /// the greatest value of its last nonempty class is past the reach the bins grow to it, or the call is refused; a
-    /// refusal changes nothing.
+    /// Adds each nonempty class of `source` at its greatest value, corrected as by
+    /// `record_n_correct`. If the greatest value of its last nonempty class is past the bins and
+    /// auto-resize is on, the bins grow. Returns an error if it is past the bins, and auto-resize
+    /// is off or the allocation fails; `self` is then unchanged.
     pub fn add_correct(&mut self, source: &Histogram<T>, interval: u64) -> Result<(), RecordError>
         ensures ok { OnOk result (self.new
             ≡ after_add_correct T.greatest self.old source.now interval) }
@@ -34,8 +35,8 @@ impl<T: Counter> Histogram<T> {
         self.add_correct_from(source, interval)
     }
 
-    /// `add_correct` of a histogram that may count in another type. Its numbers are added whole, and only the sums are
-    /// cut to this histogram's greatest counter.
+    /// As `add_correct`, for a source that may count in another type. Its numbers are not saturated
+    /// before they are added; only the sums saturate, at `T::max_value()`.
     pub fn add_correct_from<F: Counter>(
         &mut self,
         source: &Histogram<F>,
@@ -58,8 +59,9 @@ impl<T: Counter> Histogram<T> {
         Ok(())
     }
 
-    /// Forgets what was recorded and adds what another histogram counted, corrected. Refused for range it leaves the
-    /// histogram reset, refused for memory unchanged.
+    /// Resets the histogram, and adds `source` as `add_correct` does. If `source` is out of range,
+    /// returns an error and leaves `self` reset. If the allocation fails, returns an error and
+    /// leaves `self` unchanged.
     pub fn set_to_corrected(
         &mut self,
         source: &Histogram<T>,
@@ -85,7 +87,7 @@ impl<T: Counter> Histogram<T> {
         }
     }
 
-    /// The greatest value of the last class that is not empty, 0 where all are.
+    /// Returns the greatest value of the last nonempty class, or 0 if all are empty.
     pub(super) fn highest_top(&self) -> u64
         ensures { result ≡ highest_top self.now }
     {
@@ -110,7 +112,7 @@ impl<T: Counter> Histogram<T> {
         }
     }
 
-    /// Records a value that has a bin, and what it hides.
+    /// Records a value that has a bin, and the samples missing before it.
     fn correct_inside(&mut self, value: u64, count: u64, interval: u64)
         requires { value ≤ reach self.old }
         ensures { self.new ≡ after_records T.greatest self.old

@@ -12,9 +12,10 @@ use super::Histogram;
 use hdr_base::{Counter, Quantile, Ticks};
 
 impl<T: Counter> Histogram<T> {
-    /// The greatest value of the class that holds the sample of a quantile: the sample at the place
-    /// `ceil(num * len / den)` of all samples in order, or the first. The lowest value of that class for the quantile 0;
-    /// 0 where the counters, full ones among them, do not reach the place. A quantile above 1 counts as 1.
+    /// Returns the greatest value of the class that holds the sample of rank
+    /// `ceil(num * len / den)`, at least 1, among all samples in order. For the quantile 0, returns
+    /// the lowest value of that class. Returns 0 if the counters, saturated ones among them, do not
+    /// reach the rank. A quantile above 1 counts as 1.
     pub fn value_at_quantile(&self, quantile: Quantile) -> u64
         ensures value { result ≡ quantile_of self.now quantile }
         ensures ranked { (S : List ℕ) → StandsFor self.now S → 0 < length S → 0 < quantile.num
@@ -24,9 +25,10 @@ impl<T: Counter> Histogram<T> {
         self.answer(quantile.num(), self.first_reaching(rank))
     }
 
-    /// The answer of `value_at_quantile`, and what it costs: `ticks` grows by one for each look at a block's sum or at a counter.
-    /// There are at most as many looks as there are blocks and counters in a block together. A block holds half as many bins as
-    /// the first bucket. Its sum is added up from those of its sections, which is one look.
+    /// As `value_at_quantile`. `ticks` grows by one for each read of a block's sum or of a counter.
+    /// There are at most as many reads as there are blocks and counters in a block together. A
+    /// block holds half as many bins as the first bucket. Its sum is added up from those of its
+    /// sections, and costs one tick.
     pub fn value_at_quantile_counted(&self, quantile: Quantile, ticks: &mut Ticks) -> u64
         requires { ticks.old ≤ 2 ^ 63 }
         ensures value { result ≡ quantile_of self.now quantile }
@@ -43,7 +45,7 @@ impl<T: Counter> Histogram<T> {
         self.answer(quantile.num(), place)
     }
 
-    /// The answer of `value_at_quantile` to a hundredth of this fraction: 999/10 asks for 99.9 %.
+    /// As `value_at_quantile`, for a hundredth of `percentile`: 999/10 is 99.9 %.
     pub fn value_at_percentile(&self, percentile: Quantile) -> u64
         ensures value { result ≡ quantile_of self.now (hundredth percentile) }
         ensures ranked { (S : List ℕ) → StandsFor self.now S → 0 < length S → 0 < percentile.num
@@ -57,7 +59,7 @@ impl<T: Counter> Histogram<T> {
         self.answer(percentile.num(), self.first_reaching(rank))
     }
 
-    /// The first class where the sum of the counters up to it reaches a rank.
+    /// Returns the first bin at which the sum of the counters up to it reaches `rank`.
     fn first_reaching(&self, rank: u64) -> Option<usize>
         requires { 1 ≤ rank }
         ensures place { result ≡ first_reaching self.now.counts rank }
@@ -66,7 +68,7 @@ impl<T: Counter> Histogram<T> {
         self.counts.first_reaching(rank)
     }
 
-    /// The same, and counts each look.
+    /// As `first_reaching`, and counts a tick for each read.
     fn find(&self, rank: u64, ticks: &mut Ticks) -> Option<usize>
         requires some { 1 ≤ rank }
         requires room { ticks.old ≤ 2 ^ 63 }
@@ -78,7 +80,7 @@ impl<T: Counter> Histogram<T> {
         self.counts.find(rank, ticks)
     }
 
-    /// What the first class that reaches a rank answers to a quantile of that numerator.
+    /// As `answer`, for the first bin at which the running sum reaches `rank`.
     pub(super) fn answer_found(&self, num: u64, rank: u64, place: Option<usize>) -> u64
         requires some { 1 ≤ rank }
         requires first { MatchOption place (sum self.now.counts < rank)
@@ -88,7 +90,7 @@ impl<T: Counter> Histogram<T> {
         self.answer(num, place)
     }
 
-    /// What a class answers to a quantile of that numerator.
+    /// Returns the top of bin `place`, or its lowest value if `num` is 0. Returns 0 for `None`.
     fn answer(&self, num: u64, place: Option<usize>) -> u64
         requires { IfSome place (λ i. i < length self.now.counts) }
         ensures { result ≡ answer_at (grain self.now) num place }
@@ -101,7 +103,7 @@ impl<T: Counter> Histogram<T> {
     }
 }
 
-/// The place of the share `num / whole` among so many samples, from 1.
+/// Returns the rank, from 1, of the quantile `num / whole` among `total` samples.
 pub(super) fn rank_of(num: u64, whole: u128, total: u64) -> u64
     requires { 0 < whole }
     ensures value { result ≡ rank (record { num = num; den = whole }) total }
@@ -112,7 +114,8 @@ pub(super) fn rank_of(num: u64, whole: u128, total: u64) -> u64
     (place as u64).max(1)
 }
 
-/// The quotient, rounded up; divided in 64 bits where both numbers fit them, which takes less time.
+/// Returns the quotient, rounded up. Divides in 64 bits if both numbers fit them, which takes less
+/// time.
 fn divided_up(number: u128, by: u128) -> u128
     requires { 0 < by }
     ensures { result ≡ div_ceil number by }

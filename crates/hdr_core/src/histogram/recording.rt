@@ -13,8 +13,8 @@ use hdr_base::Counter;
 use hdr_model::RecordError;
 
 impl<T: Counter> Histogram<T> {
-    /// Records a value once, in the caller's unit. Refused past the bins where the histogram does not grow, or when memory
-    /// runs out; a refusal changes nothing.
+    /// Records `value` once, in the caller's unit. Returns an error if `value` is past the bins and
+    /// auto-resize is off, or if the allocation fails; `self` is then unchanged.
     #[inline(always)]
     pub fn record(&mut self, value: u64) -> Result<(), RecordError>
         ensures ok { OnOk result (self.new ≡ after_record T.greatest self.old value 1) }
@@ -29,9 +29,12 @@ impl<T: Counter> Histogram<T> {
         self.record_n(value, T::one())
     }
 
-    /// Records a value `count` times: the counter of its bin and the total grow, each up to its greatest, and the marks
-    /// are widened by its class, also where `count` is 0. A value past the bins is refused, unless the histogram grows;
-    /// then its reach becomes `high`. A refusal changes nothing, and memory can run out past the bins alone.
+    /// Records `value` `count` times. The counter of its bin and the total grow, each saturating.
+    /// The marks are widened by its class, even if `count` is 0. If `value` is past the bins and
+    /// auto-resize is on, the bins grow, and the reach of `value` becomes `high`.
+    ///
+    /// Returns an error if `value` is past the bins, and auto-resize is off or the allocation
+    /// fails; `self` is then unchanged.
     #[inline(always)]
     pub fn record_n(&mut self, value: u64, count: T) -> Result<(), RecordError>
         ensures ok { OnOk result (self.new ≡ after_record T.greatest self.old value
@@ -53,7 +56,7 @@ impl<T: Counter> Histogram<T> {
         }
     }
 
-    /// Records a value past the bins, which first makes bins for it.
+    /// Records `value`, which is past the bins, after making bins for it.
     #[cold]
     #[inline(never)]
     fn record_past(&mut self, value: u64, count: T) -> Result<(), RecordError>
@@ -70,7 +73,7 @@ impl<T: Counter> Histogram<T> {
         Ok(())
     }
 
-    /// Records a value once, or `high` in its place where the value is past the bins.
+    /// Records `value` once, or `high` if `value` is past the bins.
     pub fn saturating_record(&mut self, value: u64)
         ensures state { self.new ≡ after_record T.greatest self.old
             (clamp_to_bins self.old value) 1 }
@@ -80,8 +83,8 @@ impl<T: Counter> Histogram<T> {
         self.saturating_record_n(value, T::one())
     }
 
-    /// Records a value `count` times, or `high` in its place where the value is past the bins. It never grows, never
-    /// fails and takes no memory.
+    /// Records `value` `count` times, or `high` if `value` is past the bins. It never grows, never
+    /// fails and never allocates.
     pub fn saturating_record_n(&mut self, value: u64, count: T)
         ensures state { self.new ≡ after_record T.greatest self.old (clamp_to_bins self.old value)
             (T.number count) }
@@ -93,7 +96,7 @@ impl<T: Counter> Histogram<T> {
         self.add_to_bin(bin, count.as_u64());
     }
 
-    /// The value, or `high` where the value is past the bins.
+    /// Returns `value`, or `high` if `value` is past the bins.
     fn clamped(&self, value: u64) -> u64
         ensures value { result ≡ clamp_to_bins self.now value }
         ensures within { result ≤ reach self.now }
@@ -104,8 +107,8 @@ impl<T: Counter> Histogram<T> {
         }
     }
 
-    /// Forgets what was recorded, and keeps `max` and `min_nz`, the bins and the bounds. Where nothing is counted it costs a
-    /// comparison.
+    /// Clears the counters and the total, and keeps `max` and `min_nz`, the bins and the bounds.
+    /// Returns at once if `len` is 0.
     pub fn clear(&mut self)
         ensures { self.new ≡ after_clear self.old }
     {
@@ -116,7 +119,7 @@ impl<T: Counter> Histogram<T> {
         self.total = 0;
     }
 
-    /// Forgets what was recorded and the marks, and keeps the bins and the bounds.
+    /// Clears the counters, the total and the marks, and keeps the bins and the bounds.
     pub fn reset(&mut self)
         ensures { self.new ≡ after_reset self.old }
     {
@@ -124,7 +127,7 @@ impl<T: Counter> Histogram<T> {
         self.marks = Marks::none();
     }
 
-    /// Adds a number to a bin and to the total, each up to its greatest, and widens the marks by the bin.
+    /// Adds `number` to a bin and to the total, each saturating, and widens the marks by the bin.
     #[inline(always)]
     pub(super) fn add_to_bin(&mut self, bin: usize, number: u64)
         requires { bin < length self.old.counts }
@@ -140,7 +143,7 @@ impl<T: Counter> Histogram<T> {
         self.marks.widen(bin);
     }
 
-    /// Adds a number to a bin and to the total, where one of them may reach its greatest.
+    /// As `add_to_bin`, for a number that may saturate the counter or the total.
     #[cold]
     #[inline(never)]
     pub(super) fn add_capped(&mut self, bin: usize, number: u128)
@@ -155,7 +158,7 @@ impl<T: Counter> Histogram<T> {
     }
 }
 
-/// The counter of a number, or the greatest where the number is above it.
+/// Returns the counter of `number`, or `T::max_value()` if `number` is above it.
 pub(super) fn capped<T: Counter>(number: u128) -> T
     ensures { T.number result ≡ min number T.greatest }
 {
@@ -165,7 +168,7 @@ pub(super) fn capped<T: Counter>(number: u128) -> T
     }
 }
 
-/// A number, or `u64::MAX` where the number is above it.
+/// Returns `number`, or `u64::MAX` if `number` is above it.
 pub(super) fn capped_total(number: u128) -> u64
     ensures { result ≡ min number (2 ^ 64 - 1) }
 {

@@ -11,15 +11,16 @@ use super::recording::capped_total;
 use hdr_base::{Counter, Fraction, Scale};
 
 impl<T: Counter> Histogram<T> {
-    /// The counter of a value's class, or of the last bin where the value lies past the bins.
+    /// Returns the counter of the class of `value`, or of the last bin if `value` is past the bins.
     pub fn count_at(&self, value: u64) -> T
         ensures { T.number result ≡ slice_index self.now.counts (held_bin self.now value) }
     {
         self.counts.get(self.held_bin(value))
     }
 
-    /// The sum of the counters from one value's bin to another's, up to `u64::MAX`; 0 where the first is later.
-    /// A value past the bins counts as one of the last bin. It is at most `len`.
+    /// Returns the sum of the counters from the bin of `low` to that of `high`, saturated at
+    /// `u64::MAX`, or 0 if the bin of `low` is later. A value past the bins counts as one of the
+    /// last bin. The result is at most `len`.
     pub fn count_between(&self, low: u64, high: u64) -> u64
         ensures value { result ≡ min (sum_between self.now low high) (2 ^ 64 - 1) }
         ensures samples { (S : List ℕ) → StandsFor self.now S → low ≤ high → high ≤ reach self.now
@@ -40,8 +41,9 @@ impl<T: Counter> Histogram<T> {
         capped_total(self.counts.sum_to(to) - before)
     }
 
-    /// The share of the samples that lie in a value's class or below it: the sum of the counters up to its bin, over `len`.
-    /// A value past the bins counts as one of the last bin. 1/1 where there are no samples.
+    /// Returns the fraction of the samples that lie in the class of `value` or below it: the sum of
+    /// the counters up to its bin, over `len`. A value past the bins counts as one of the last bin.
+    /// Returns 1/1 if `len` is 0.
     pub fn quantile_below(&self, value: u64) -> Fraction
         ensures value { result ≡ share_below self.now value }
         ensures samples { (S : List ℕ) → StandsFor self.now S → 0 < length S
@@ -64,7 +66,7 @@ impl<T: Counter> Histogram<T> {
         }
     }
 
-    /// The same share in hundredths.
+    /// As `quantile_below`, times 100.
     pub fn percentile_below(&self, value: u64) -> Fraction
         ensures value { result ≡ in_hundredths (share_below self.now value) }
         ensures share { result.num ≤ 100 * result.den }
@@ -77,8 +79,9 @@ impl<T: Counter> Histogram<T> {
         }
     }
 
-    /// The mean of the samples, each taken as the value in the middle of its class: the exact sum over `len`. 0 of 1 where
-    /// there are no samples; `None` where `len` is `u64::MAX`, which more samples than that may stand for.
+    /// Returns the mean of the samples, each taken as the value in the middle of its class: the
+    /// exact sum over `len`. Returns 0/1 if `len` is 0. Returns `None` if `len` is `u64::MAX`,
+    /// which may be a saturated total.
     pub fn mean(&self) -> Option<Fraction>
         ensures value { result ≡ mean_of self.now }
         ensures den { IfSome result (λ mean. 0 < mean.den) }
@@ -95,7 +98,7 @@ impl<T: Counter> Histogram<T> {
         })
     }
 
-    /// The sum of the counters, each times the value in the middle of its class.
+    /// Returns the sum of the counters, each times the value in the middle of its class.
     fn weighed(&self) -> u128
         requires { self.now.total < 2 ^ 64 - 1 }
         ensures { result ≡ weight_from (grain self.now) 0 self.now.counts }
@@ -109,7 +112,7 @@ impl<T: Counter> Histogram<T> {
         sum
     }
 
-    /// The bin of a value, or the last bin where the value lies past the bins.
+    /// Returns the bin of `value`, or the last bin if `value` is past the bins.
     fn held_bin(&self, value: u64) -> usize
         ensures value { result ≡ held_bin self.now value }
         ensures within { result < length self.now.counts }
@@ -119,7 +122,7 @@ impl<T: Counter> Histogram<T> {
     }
 }
 
-/// A number times the value in the middle of the class of a bin; most bins hold nothing.
+/// Returns `number` times the value in the middle of the class of `bin`; most bins are empty.
 fn weight(scale: Scale, bin: usize, number: u64) -> u128
     requires { bin ≤ bin_of scale (2 ^ 64 - 1) }
     ensures value { result ≡ median_of scale (value_of scale bin) * number }

@@ -17,9 +17,12 @@ use hdr_counts::Counts;
 use hdr_model::SubtractionError;
 
 impl<T: Counter> Histogram<T> {
-    /// Takes out what another histogram counted, each of its classes at its lowest value. An empty one changes nothing.
-    /// Refused where its `max` is past the reach, and where what it takes from a class is more than the class holds; a
-    /// refusal changes nothing. Total and marks are then those of the counters. It takes no memory.
+    /// Subtracts what `other` counted, each of its classes at its lowest value. An empty one
+    /// changes nothing. The total and the marks are then computed from the counters. It allocates
+    /// nothing.
+    ///
+    /// Returns an error if the `max` of `other` is past the reach, or if a class holds less than is
+    /// subtracted from it; `self` is then unchanged.
     pub fn subtract(&mut self, other: &Histogram<T>) -> Result<(), SubtractionError>
         ensures none { other.now.total ≡ 0 → OnOk result (self.new ≡ self.old) }
         ensures ok { OnOk result (0 < other.now.total → IsDifference self.old other.now self.new) }
@@ -40,7 +43,8 @@ impl<T: Counter> Histogram<T> {
         Ok(())
     }
 
-    /// Whether each bin holds what the classes of another histogram have there, each at its lowest value.
+    /// Whether each bin holds at least what the classes of `other` have there, each at its lowest
+    /// value.
     fn holds(&self, other: &Histogram<T>) -> bool
         requires { max_of other.now ≤ reach self.now }
         ensures yes { result ≡ true → (j : ℕ)
@@ -52,7 +56,7 @@ impl<T: Counter> Histogram<T> {
     {
         let mut at: usize = 0;
         let mut sum: u128 = 0;
-        for bin in 0..other.counts.len() {
+        for bin in 0..other.used_bins() {
             let count = other.counts.get(bin).as_u64();
             if count > 0 {
                 let target = self.bin_of_class(other, bin);
@@ -67,7 +71,7 @@ impl<T: Counter> Histogram<T> {
         true
     }
 
-    /// The bin of the lowest value of another histogram's class.
+    /// Returns the bin of the lowest value of a class of `other`.
     fn bin_of_class(&self, other: &Histogram<T>, bin: usize) -> usize
         requires inside { bin < length other.now.counts }
         requires reached { value_of (grain other.now) bin ≤ reach self.now }
@@ -77,7 +81,7 @@ impl<T: Counter> Histogram<T> {
         self.scale.bin(other.class_value(bin))
     }
 
-    /// Takes out what another histogram holds, where each bin has enough.
+    /// Subtracts what `other` holds, if each bin has enough.
     fn take_out(&mut self, other: &Histogram<T>)
         requires { (j : ℕ) → in_class (grain self.old) j (lowest_values other.now)
             ≤ slice_index self.old.counts j }
@@ -89,7 +93,7 @@ impl<T: Counter> Histogram<T> {
     }
 }
 
-/// Takes out what the classes of a histogram hold, each at its lowest value.
+/// Subtracts what the classes of `other` hold, each at its lowest value.
 fn take_each<T: Counter>(counts: &mut Counts<T>, scale: Scale, other: &Histogram<T>)
     requires enough { (j : ℕ)
         → in_class scale j (lowest_values other.now) ≤ slice_index counts.old.numbers j }
@@ -101,7 +105,7 @@ fn take_each<T: Counter>(counts: &mut Counts<T>, scale: Scale, other: &Histogram
         → slice_index counts.new.numbers j + in_class scale j (lowest_values other.now)
         ≡ slice_index counts.old.numbers j }
 {
-    for bin in 0..other.counts.len() {
+    for bin in 0..other.used_bins() {
         let count = other.counts.get(bin);
         if count.as_u64() > 0 {
             let target = scale.bin(other.class_value(bin));
@@ -110,7 +114,7 @@ fn take_each<T: Counter>(counts: &mut Counts<T>, scale: Scale, other: &Histogram
     }
 }
 
-/// Takes a counter from the one at a place.
+/// Subtracts `count` from the counter at index `target`.
 fn take_from<T: Counter>(counts: &mut Counts<T>, target: usize, count: T)
     requires inside { target < length counts.old.numbers }
     requires enough { T.number count ≤ slice_index counts.old.numbers target }
@@ -124,7 +128,7 @@ fn take_from<T: Counter>(counts: &mut Counts<T>, target: usize, count: T)
     }
 }
 
-/// The marks of counters.
+/// Returns the marks of counters.
 pub(super) fn marks_of<T: Counter>(counts: &Counts<T>) -> Marks
     ensures top { IsTopMark counts.now.numbers result.top }
     ensures lower { IsLowerMark counts.now.numbers result.lower }

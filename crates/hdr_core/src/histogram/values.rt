@@ -1,4 +1,4 @@
-//! Answers to many quantiles in ascending order, in one pass.
+//! The values at many quantiles in ascending order, in one pass.
 
 ghost use Rattle.std.specs.Prelude.{◌≡◌, ℕ, ◌*◌, ◌^◌, ◌<◌, ◌≤◌, List, map, length};
 ghost use Rattle.std.specs.Iterator.{YieldsFirst, item_count};
@@ -11,14 +11,15 @@ use hdr_base::{Counter, Fraction, Quantile};
 use hdr_counts::Search;
 use std::marker::Model;
 
-/// The answers to quantiles in ascending order, seen as the list of those still to come. It goes over the bins once.
+/// The values at quantiles in ascending order, seen as the list of those still to come. It reads
+/// the bins once.
 #[derive(Debug, Drop)]
 pub struct Values<'a, T: Counter> {
     histogram: &'a Histogram<T>,
     rest: &'a [Quantile],
-    /// What each is a share of: 1, or 100 for percentiles.
+    /// What each quantile is a fraction of: 1, or 100 for percentiles.
     whole: u64,
-    /// The share that was answered last; 0 of 1 at first.
+    /// The last quantile whose value was yielded; 0/1 at first.
     last: Fraction,
     search: Search<'a, T>,
 }
@@ -35,8 +36,9 @@ impl<'a, T: Counter> Model for Values<'a, T> {
 }
 
 impl<T: Counter> Histogram<T> {
-    /// The answers of `value_at_quantile` to quantiles in ascending order, in one pass over the bins; it ends before the
-    /// first that is below the one before it. Where there are no samples, 0 for each of them, in any order.
+    /// Returns an iterator over the results of `value_at_quantile` for quantiles in ascending
+    /// order, by one pass. It ends before the first quantile that is below the one before it. If
+    /// `len` is 0, it yields 0 for each of them, in any order.
     pub fn value_at_quantiles<'a>(&'a self, quantiles: &'a [Quantile]) -> Values<'a, T>
         ensures value { result ≡ quantiles_of self.now quantiles.now }
         ensures ranked { (S : List ℕ) → StandsFor self.now S → 0 < length S
@@ -45,7 +47,7 @@ impl<T: Counter> Histogram<T> {
         self.values(quantiles, 1)
     }
 
-    /// The answers of `value_at_percentile` to percentiles, likewise.
+    /// As `value_at_quantiles`, for percentiles.
     pub fn value_at_percentiles<'a>(&'a self, percentiles: &'a [Quantile]) -> Values<'a, T>
         ensures value { result ≡ quantiles_of self.now (map hundredth percentiles.now) }
         ensures ranked { (S : List ℕ) → StandsFor self.now S → 0 < length S
@@ -55,7 +57,7 @@ impl<T: Counter> Histogram<T> {
         self.values(percentiles, 100)
     }
 
-    /// The answers to shares of 1 or 100.
+    /// Returns an iterator over the values at fractions of 1 or 100.
     fn values<'a>(&'a self, shares: &'a [Quantile], whole: u64) -> Values<'a, T>
         requires some { 0 < whole }
         requires few { whole ≤ 100 }
@@ -103,7 +105,7 @@ impl<'a, T: Counter> Iterator for Values<'a, T> {
     }
 }
 
-/// Whether a share is below a fraction.
+/// Whether a quantile is below a fraction.
 fn is_below(share: Quantile, last: Fraction) -> bool
     requires num { last.num < 2 ^ 64 }
     requires den { last.den < 2 ^ 64 }

@@ -1,5 +1,5 @@
-//! Readers and writers that give or take little a call, and fail at one call: with each kind of failure that the kit has. They
-//! fail once, so that a body that tries again succeeds, and is seen.
+//! Readers and writers that read or write few bytes a call, and fail at one call, with each kind of error that the kit has. They
+//! fail once, so that a body that retries succeeds, and is seen.
 
 use std::io::{self, ErrorKind, Read, Write};
 
@@ -17,7 +17,7 @@ pub const KINDS: [ErrorKind; 42] = kinds! {
     InProgress Other Uncategorized
 };
 
-/// Gives at most `step` bytes a call, and fails at one call, counted from 1.
+/// A reader that returns at most `step` bytes a call, and fails at one call, counted from 1.
 #[derive(Drop)]
 pub struct Source<'a> {
     pub left: &'a [u8],
@@ -28,7 +28,7 @@ pub struct Source<'a> {
 }
 
 impl<'a> Source<'a> {
-    /// A reader that fails at a call; at none, where that is 0.
+    /// Returns a reader that fails at a call, or at none if that is 0.
     pub fn new(left: &'a [u8], step: usize, fails_at: usize, kind: ErrorKind) -> Source<'a> {
         Source {
             left,
@@ -54,8 +54,8 @@ impl<'a> Read for Source<'a> {
     }
 }
 
-/// Has room for 256 bytes, takes at most `step` bytes a call, and fails at one call, counted from 1: with a kind, or by taking
-/// none.
+/// A writer of at most 256 bytes, which takes at most `step` bytes a call, and fails at one call, counted from 1: with a kind,
+/// or by taking none.
 #[derive(Drop)]
 pub struct Sink {
     held: [u8; 256],
@@ -67,7 +67,7 @@ pub struct Sink {
 }
 
 impl Sink {
-    /// A writer that fails at a call; at none, where that is 0.
+    /// Returns a writer that fails at a call, or at none if that is 0.
     pub fn new(step: usize, fails_at: usize, kind: Option<ErrorKind>) -> Sink {
         Sink {
             held: [0; 256],
@@ -79,7 +79,7 @@ impl Sink {
         }
     }
 
-    /// What was written.
+    /// Returns what was written.
     pub fn text(&self) -> &[u8] {
         self.held.get(..self.len).unwrap_or(&[])
     }
@@ -90,7 +90,7 @@ impl Sink {
         self.text() == &text[..text.len().min(taken)]
     }
 
-    /// What its caller is told of: its own failure, or that it took nothing.
+    /// The error that its caller has to return: its own, or that it took nothing.
     pub fn failure(&self) -> ErrorKind {
         self.kind.unwrap_or(ErrorKind::WriteZero)
     }

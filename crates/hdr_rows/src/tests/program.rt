@@ -1,4 +1,4 @@
-//! The program over readers and writers that give or take little, and that fail.
+//! The program over readers and writers that read or write few bytes a call, and that fail.
 
 use crate::tests::failing::{KINDS, Sink, Source};
 use hdr_tool::{Fault, Patient, run};
@@ -7,7 +7,7 @@ use std::io::ErrorKind;
 use std::process::Abort;
 use std::test::Fail;
 
-/// Words of their own, from words that are separated by one space.
+/// Splits a line at its spaces into arguments.
 fn words_of(alloc: Global, line: &str) -> Result<Vec<String>, AllocError> {
     let mut words = Vec::new(alloc);
     for word in line.split(' ') {
@@ -16,7 +16,7 @@ fn words_of(alloc: Global, line: &str) -> Result<Vec<String>, AllocError> {
     Ok(words)
 }
 
-/// The words and the input of a small report, and what it prints.
+/// The arguments and the input of a small report, and its output.
 const SMALL: &str = "report 3 3/10";
 
 const SMALL_INPUT: &[u8; 20] = b"r 1\nr 2\nr 2\nr 2\nr 2\n";
@@ -35,7 +35,8 @@ fn a_byte_at_a_time(rt: HostRuntime) -> Result<(), Fail> {
     Ok(())
 }
 
-/// Runs words on an input with one read that fails, a byte a read, and tells whether that is the fault, and this stands.
+/// Runs the program on an input of a byte a read, with one read that fails. Returns whether that is the error, and `stands` is
+/// the output.
 fn is_unread(
     alloc: Global,
     words: &[String],
@@ -50,7 +51,7 @@ fn is_unread(
     matches!(ran, Err(Fault::CannotRead)) && sink.text() == stands
 }
 
-/// Whether a reader that fails with this kind ends the run: an interrupted read is tried again.
+/// Whether a reader that fails with this kind ends the run: an interrupted read is retried.
 fn ends_the_run(kind: ErrorKind) -> bool {
     kind != ErrorKind::Interrupted
 }
@@ -74,7 +75,7 @@ fn reads_fail(rt: &(impl Abort + AllocGlobal), words: &str, input: &[u8]) -> Res
 fn each_read_fails(rt: HostRuntime) -> Result<(), Fail> {
     reads_fail(&rt, SMALL, SMALL_INPUT)?;
     reads_fail(&rt, "merge 3 3/10", b"#a comment\n")?;
-    // A read that fails after a line that is no command is told in place of that line.
+    // A read that fails after a line that is not a command is reported, and not that line.
     reads_fail(&rt, SMALL, b"x\nr 1\n")?;
     reads_fail(&rt, "log 3", b"x\nr 1\n")
 }
@@ -111,8 +112,8 @@ fn each_read_of_a_log_fails(rt: HostRuntime) -> Result<(), Fail> {
     Ok(())
 }
 
-/// Runs words on an input with one write that fails, and tells whether that is the fault, and just a beginning of the output
-/// was written.
+/// Runs the program on an input, with one write that fails. Returns whether that is the error, and exactly the part of the
+/// output before it was written.
 fn is_told(
     alloc: Global,
     words: &[String],
@@ -162,8 +163,8 @@ fn each_write_fails(rt: HostRuntime) -> Result<(), Fail> {
     writes_fail(&rt, "merge 3 3/10", LOG_OUTPUT.as_bytes(), SMALL_OUTPUT, 11)
 }
 
-/// Runs words with an interrupted read and an interrupted write, on an output that tries again, and tells whether all of
-/// the output was written.
+/// Runs the program with an interrupted read and an interrupted write, on an output that retries. Returns whether all of the
+/// output was written.
 fn passes(alloc: Global, line: &str, input: &[u8], output: &str) -> Result<bool, AllocError> {
     let words = words_of(alloc, line)?;
     let mut source = Source::new(input, 7, 2, ErrorKind::Interrupted);
@@ -174,7 +175,7 @@ fn passes(alloc: Global, line: &str, input: &[u8], output: &str) -> Result<bool,
     Ok(ran.is_ok() && patient.writer.text() == output.as_bytes())
 }
 
-/// An output that does not try again ends each command alike: `writes_fail` has that.
+/// An output that does not retry ends each command alike: `writes_fail` has that.
 #[test]
 fn interruptions_pass(rt: HostRuntime) -> Result<(), Fail> {
     assert!(rt; passes(rt.alloc(), SMALL, SMALL_INPUT, SMALL_OUTPUT)?);

@@ -1,5 +1,5 @@
-//! Calls that are made again and again, each with one more request for memory refused: each run prints `no memory` exactly
-//! where one was refused.
+//! Calls that `tools/refused.sh` repeats, and each time lets the next allocation fail: a run prints `no memory` if and only if
+//! an allocation failed.
 
 mod bytes;
 mod resting;
@@ -27,7 +27,7 @@ const GROWING: &str = "one record 1000; one record_n 1000 0; one record_correct 
 const MERGED: &str =
     "one new 1; wide new 1; other new_with_max 1000 1; other saturating_record 1000";
 
-/// The same, where the first two hold 3 once: what `set_to` forgets is there to be kept.
+/// The same, but the first two hold 3 once: what `set_to` clears is there to be kept.
 const HELD: &str = "one new 1; wide new 1; other new_with_max 1000 1; one saturating_record 3; \
     wide saturating_record 3; other saturating_record 1000";
 
@@ -43,7 +43,7 @@ const MAKERS: &str =
     log field AQI=; log begin comment a then b; one log_line 0.0 1.0 1 a; \
     one merge 3 a - - Tag=a,0.0,1.0,2.0,HISTEwAAAAMAAAAAAAAAAwAAAAAAAAABAAAAAAAAAAI/8AAAAAAAAAACCA==\\n";
 
-/// Whether memory was refused to a call that is a value.
+/// Whether the error of a call that is a value is a failed allocation.
 fn is_stop(cause: &CallError) -> bool {
     matches!(
         cause,
@@ -52,7 +52,7 @@ fn is_stop(cause: &CallError) -> bool {
     )
 }
 
-/// Whether memory was refused to a call; a log in memory that cannot grow fails as a writer.
+/// Whether the error of a call is a failed allocation. A log in memory that cannot grow fails as a writer.
 fn is_memory(refusal: &Refusal) -> bool {
     match refusal {
         Refusal::Creation(CreationError::OutOfMemory)
@@ -67,7 +67,7 @@ fn is_memory(refusal: &Refusal) -> bool {
     }
 }
 
-/// Does calls; whether one of them was refused for memory, or is none, and then the rest aren't done.
+/// Makes calls up to the first with a failed allocation, or with an error in its line. Returns whether there was one.
 fn is_refused(alloc: Global, table: &mut Table<u64>, calls: &str) -> bool {
     for call in calls.split("; ") {
         if let Err(refusal) = table.answer(alloc, call)
@@ -79,10 +79,10 @@ fn is_refused(alloc: Global, table: &mut Table<u64>, calls: &str) -> bool {
     false
 }
 
-/// How the first histogram is compared with its twin in the second's place: all that it tells of itself, and `==`.
+/// How the first histogram is compared with its twin, which is the second: by all its calls, and by `==`.
 const OTHER: &str = "one same; one is_other";
 
-/// How it is compared with a twin in the third's place.
+/// How it is compared with a twin that is the third.
 const WIDE: &str = "one same_wide; one equals_wide";
 
 /// Whether all comparisons find two histograms alike.
@@ -95,15 +95,22 @@ fn are_alike(alloc: Global, table: &mut Table<u64>, twin: &str) -> bool {
     true
 }
 
-/// Whether memory was refused to a call, or to what is made before it. A call that was refused changed nothing: the first
-/// histogram and its twin, which comparisons name, are still alike.
+/// Returns the histograms that calls make, or `None` if an allocation failed.
+fn made(alloc: Global, making: &str) -> Option<Table<u64>> {
+    let mut table = Table::new(alloc).ok()?;
+    if is_refused(alloc, &mut table, making) {
+        drop(table);
+        return None;
+    }
+    Some(table)
+}
+
+/// Whether an allocation failed in a call, or in the calls before it. A call that failed changed nothing: the first histogram
+/// and its twin, which comparisons name, are still alike.
 fn refuses(rt: &impl Abort, alloc: Global, making: &str, call: &str, twin: &str) -> bool {
-    let Ok(mut table) = Table::new(alloc) else {
+    let Some(mut table) = made(alloc, making) else {
         return true;
     };
-    if is_refused(alloc, &mut table, making) {
-        return true;
-    }
     let refused = is_refused(alloc, &mut table, call);
     if refused {
         assert!(rt; are_alike(alloc, &mut table, twin), "{call}");
@@ -112,7 +119,7 @@ fn refuses(rt: &impl Abort, alloc: Global, making: &str, call: &str, twin: &str)
     refused
 }
 
-/// Does each call of a list on histograms of its own, and prints whether one meets a refusal.
+/// Makes each call of a list on histograms of its own, and prints whether an allocation failed in one.
 fn try_each(
     rt: &(impl Abort + AllocGlobal + Print),
     making: &str,
@@ -151,7 +158,7 @@ fn making(rt: HostRuntime) -> Result<(), Fail> {
     try_each(&rt, TWINS, MAKERS, OTHER)
 }
 
-/// Prints whether memory was refused to the second call of a run, which leaves what the first call did: 4 is recorded as in
+/// Prints whether an allocation failed in the second call of a run, which leaves what the first call did: 4 is recorded as in
 /// the second histogram.
 fn tell_stop(
     rt: &(impl Abort + AllocGlobal + Print),
@@ -168,19 +175,9 @@ fn tell_stop(
     Ok(())
 }
 
-/// The histograms of `TWINS`. None: memory was refused.
-fn twins(alloc: Global) -> Option<Table<u64>> {
-    let mut table = Table::new(alloc).ok()?;
-    if is_refused(alloc, &mut table, TWINS) {
-        drop(table);
-        return None;
-    }
-    Some(table)
-}
-
 #[test]
 fn running(rt: HostRuntime) -> Result<(), Fail> {
-    let Some(mut table) = twins(rt.alloc()) else {
+    let Some(mut table) = made(rt.alloc(), TWINS) else {
         return Ok(println!(rt; "no memory")?);
     };
     let calls = [Call::Record(4, 1), Call::Record(1000, 5), Call::Clear];
@@ -190,7 +187,7 @@ fn running(rt: HostRuntime) -> Result<(), Fail> {
 
 #[test]
 fn running_from(rt: HostRuntime) -> Result<(), Fail> {
-    let Some(mut table) = twins(rt.alloc()) else {
+    let Some(mut table) = made(rt.alloc(), TWINS) else {
         return Ok(println!(rt; "no memory")?);
     };
     let calls = [

@@ -10,7 +10,7 @@ use std::process::Abort;
 use std::test::Fail;
 use std::time::Duration;
 
-/// Writes four bytes, two of which stand in no text, and the last of which is the number of digits.
+/// Writes four bytes, two of which are in no UTF-8, and the last of which is the number of digits.
 #[derive(Drop)]
 struct Lengths;
 

@@ -1,4 +1,4 @@
-//! Calls that ask for little memory at once, whatever their input states. `tools/refused.sh` runs each with large requests refused.
+//! Calls whose allocations are small, whatever their input states. `tools/refused.sh` lets large allocations fail.
 
 use hdrhistogram::serialization::{DeserializeError, Deserializer};
 use std::test::Fail;
@@ -9,7 +9,7 @@ const HEADER: [u8; 40] = [
     0, 0, 0, 0, 0, 0, 0, 2, 0x3f, 0xf0, 0, 0, 0, 0, 0, 0,
 ];
 
-/// The end of the reader is met before memory for the stated length is asked for.
+/// The end of the reader is met before the stated length is allocated.
 #[test]
 fn stated_length(rt: HostRuntime) -> Result<(), Fail> {
     let mut reader = HEADER.as_slice();

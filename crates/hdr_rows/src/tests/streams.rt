@@ -1,4 +1,4 @@
-//! What the library answers where a reader or a writer fails.
+//! What the library returns if a reader or a writer fails.
 
 use crate::tests::failing::{KINDS, Sink, Source};
 use crate::tests::{FIRST_RUN, first_run};
@@ -16,7 +16,7 @@ use std::process::Abort;
 use std::test::Fail;
 use std::time::Duration;
 
-/// Ends the test where a call was answered wrongly, and says with which failure and where it came.
+/// Ends the test if a result is wrong, and prints the error's kind and the call that failed.
 fn assert_right(rt: &impl Abort, is_right: bool, kind: Option<ErrorKind>, fails_at: usize) {
     assert!(rt; is_right, "{kind:?} at {fails_at}");
 }
@@ -26,7 +26,7 @@ fn sevens(fails_at: usize, kind: Option<ErrorKind>) -> Sink {
     Sink::new(7, fails_at, kind)
 }
 
-/// Whether bytes are written whole by seven calls, or the failure of one of them is told; what was taken before it stands.
+/// Whether all bytes are written by seven calls, or the error of one of them is returned; what was written before it remains.
 fn serializes(h: &Histogram<u64>, serializer: &mut V2Serializer, mut sink: Sink) -> bool {
     let is_told = match serializer.serialize(h, &mut sink) {
         Ok(count) => count == 43 && sink.fails_at == 8,
@@ -57,7 +57,7 @@ fn writers_of_bytes(rt: HostRuntime) -> Result<(), Fail> {
     Ok(())
 }
 
-/// Whether bytes are read whole by 43 calls, or the failure of one of them is told.
+/// Whether all bytes are read by 43 calls, or the error of one of them is returned.
 fn reads(deserializer: &mut Deserializer, source: &mut Source) -> bool {
     match deserializer.deserialize::<u64, Source>(source) {
         Ok(h) => h.len() == 5 && source.fails_at == 44,
@@ -80,8 +80,8 @@ fn readers_of_bytes(rt: HostRuntime) {
     }
 }
 
-/// Places in the bytes of the first run, what stands there in their stead, and how many bytes are then taken: those up to and
-/// including the field that is refused, or the whole payload.
+/// Indices of bytes of the first run, the byte that replaces each, and how many bytes are then consumed: those up to and
+/// including the invalid field, or all of the payload.
 const REFUSED: [(usize, u8, usize); 7] = [
     (0, 0, 4),
     (3, 0x14, 4),
@@ -92,7 +92,7 @@ const REFUSED: [(usize, u8, usize); 7] = [
     (42, 0x80, 43),
 ];
 
-/// Whether a reader that does not fail is refused, and an early end is told as such.
+/// Whether the bytes of a reader that does not fail are an error, and an early end is returned as such.
 fn refuses(deserializer: &mut Deserializer, source: &mut Source) -> bool {
     match deserializer.deserialize::<u64, Source>(source) {
         Ok(_) => false,
@@ -101,7 +101,7 @@ fn refuses(deserializer: &mut Deserializer, source: &mut Source) -> bool {
     }
 }
 
-/// Nothing is taken after what decides a refusal.
+/// Nothing is consumed after the bytes that decide the error.
 #[test]
 fn refused_bytes(rt: HostRuntime) {
     let mut deserializer = Deserializer::new(rt.alloc());
@@ -117,10 +117,10 @@ fn refused_bytes(rt: HostRuntime) {
     }
 }
 
-/// The greatest number, spelt in nine bytes, and a byte after it.
+/// The varint of the greatest number, which has nine bytes, and a byte after it.
 const GREATEST: [u8; 10] = [0xff, 0xff, 0xff, 0xff, 0xff, 0xff, 0xff, 0xff, 0xff, 7];
 
-/// Whether the greatest number is read by nine calls, or the failure of one of them is told.
+/// Whether the greatest number is read by nine calls, or the error of one of them is returned.
 fn reads_greatest(source: &mut Source) -> bool {
     match varint_read(source) {
         Ok(n) => n == u64::MAX && source.fails_at == 10,
@@ -143,7 +143,7 @@ fn readers_of_varints(rt: HostRuntime) {
 const LINE: &[u8; 85] =
     b"Tag=a,0.000,1.000,2.000,HISTEwAAAAMAAAAAAAAAAwAAAAAAAAABAAAAAAAAAAI/8AAAAAAAAAACCA==\n";
 
-/// Whether a part of a log is written by so many calls, or the failure of one of them is told.
+/// Whether a part of a log is written by `calls` calls, or the error of one of them is returned.
 fn is_told(
     answer: Result<(), IntervalLogWriterError<V2SerializeError>>,
     sink: &Sink,
@@ -157,7 +157,7 @@ fn is_told(
     }
 }
 
-/// Whether an interval is written whole by 13 calls, or a failure is told; what was taken before it stands.
+/// Whether all of an interval is written by 13 calls, or an error is returned; what was written before it remains.
 fn logs(alloc: Global, h: &Histogram<u64>, serializer: &mut V2Serializer, mut sink: Sink) -> bool {
     let answer = {
         let mut log = IntervalLogWriter::new(alloc, &mut sink, serializer, 1);

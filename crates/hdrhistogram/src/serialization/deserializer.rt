@@ -1,4 +1,4 @@
-//! Reading V2 bytes.
+//! Decodes V2 bytes.
 
 ghost use Rattle.std.specs.Prelude.{◌≡◌, ℕ, List, [], length, replicate, true, false, None, IfOk, IfErr, MatchResult};
 ghost use Rattle.std.specs.Io.KnownBytes.{Consumes};
@@ -21,9 +21,9 @@ use std::alloc::Global;
 use std::io::Read;
 use std::marker::Model;
 
-/// Reads histograms, by way of a buffer of its own.
+/// Decodes histograms, through a buffer of its own.
 ///
-/// To its callers it is the list of the bytes that it holds, which is empty between calls.
+/// To its callers it is the list of the bytes in that buffer, which is empty between calls.
 #[derive(Drop)]
 pub struct Deserializer {
     payload: Vec<u8>,
@@ -38,7 +38,7 @@ impl Model for Deserializer {
 }
 
 impl Deserializer {
-    /// A deserializer with an empty buffer. It takes no memory.
+    /// Creates a deserializer with an empty buffer. It allocates nothing.
     pub fn new(alloc: Global) -> Deserializer
         ensures { result ≡ [] }
     {
@@ -47,13 +47,17 @@ impl Deserializer {
         }
     }
 
-    /// Reads the histogram at the front of a text, and gives it with the number of bytes that it
-    /// takes. What follows them is not looked at.
+    /// Decodes the histogram at the start of `text`, and returns it with the number of bytes
+    /// consumed. Trailing bytes are ignored.
     ///
-    /// The histogram does not grow, its total is the capped sum of its counters, and its marks are
-    /// those of the nonempty ones. Bytes that are no histogram's are refused by their first fault.
-    /// `OutOfMemory` comes only after a header whose bounds a histogram can have. The deserializer
-    /// is as before.
+    /// The histogram does not grow, its total is the saturating sum of its counters, and its marks
+    /// are those of the nonempty ones. The deserializer is unchanged.
+    ///
+    /// # Errors
+    /// Returns the error of the first defect: of the header's fields in order, its bounds, the
+    /// payload's length, and the payload's numbers in order. The variants of `DeserializeError` say
+    /// which defect each is. Returns `OutOfMemory` if an allocation fails, only after a header
+    /// whose bounds a histogram can have.
     pub fn decode_slice<T: Counter>(
         &mut self,
         text: &[u8],
@@ -67,14 +71,14 @@ impl Deserializer {
         decode_front(*self.payload.allocator(), text, None)
     }
 
-    /// Reads a histogram from a reader by single calls of `read`, and takes no byte after it. The
-    /// histogram is that of `decode_slice`.
+    /// Reads a histogram from `reader` by single calls of `read`, and consumes no byte after it.
+    /// The histogram is that of `decode_slice`. The deserializer holds no bytes afterwards.
     ///
-    /// A refusal names the first fault of the bytes that were taken. They are the reader's up to
-    /// and including the field that is refused, or the whole payload where one of its numbers is.
-    /// A reader that fails, is interrupted or ends is `IoError`. When memory runs out the answer
-    /// is `OutOfMemory`, only after a header as for `decode_slice`. The deserializer holds no bytes
-    /// afterwards.
+    /// # Errors
+    /// Returns the error of the first defect of the bytes consumed, as `decode_slice` does. They
+    /// end with the field that has the defect, with the header if its bounds have it, or with the
+    /// payload if one of its numbers has it. Returns `IoError` if the reader fails, is interrupted
+    /// or ends. Returns `OutOfMemory` only after a header as for `decode_slice`.
     pub fn deserialize<T: Counter, R: Read>(
         &mut self,
         reader: &mut R,
@@ -97,11 +101,13 @@ impl Deserializer {
         read
     }
 
-    /// Reads the histogram of an interval's field, which is Base64 of its bytes: that of `decode_slice`. What follows it in
-    /// the field is not looked at. One deserializer serves for many fields, by one buffer.
+    /// Decodes the histogram of an interval's field, which is its bytes in Base64, as
+    /// `decode_slice` does. Bytes after it in the field are ignored. One deserializer decodes many
+    /// fields, through one buffer, which is empty afterwards.
     ///
-    /// A field that is no Base64 is `NotBase64`, and bytes that are no histogram's are `Decode` with their first fault. When
-    /// memory runs out the answer is `OutOfMemory`. The deserializer is as new afterwards.
+    /// # Errors
+    /// Returns `NotBase64` if the field is not valid Base64, and `Decode` with the first defect if
+    /// its bytes are not a histogram. Returns `OutOfMemory` if an allocation fails.
     pub fn decode_field<T: Counter>(
         &mut self,
         field: &str,
@@ -113,7 +119,7 @@ impl Deserializer {
         self.decode_field_into(field, None)
     }
 
-    /// `decode_field`, in the memory of a histogram that is no longer wanted, where that has the same bounds.
+    /// `decode_field` into the memory of `spare`, if that has the same bounds.
     pub(crate) fn decode_field_into<T: Counter>(
         &mut self,
         field: &str,
@@ -129,7 +135,7 @@ impl Deserializer {
     }
 }
 
-/// The histogram of a field, by way of a buffer.
+/// Decodes the histogram of a field through `buffer`.
 fn read_field<T: Counter>(
     field: &str,
     buffer: &mut Vec<u8>,
@@ -150,14 +156,17 @@ fn read_field<T: Counter>(
     }
 }
 
-/// Empty bins of a header's bounds: those of a histogram that is no longer wanted, where it has these bounds, or new ones.
+/// Returns empty bins for a header's bounds: those of `spare` if it has these bounds, and otherwise
+/// new ones.
 fn empty_for<T: Counter>(
     alloc: Global,
     header: Header,
     spare: Option<Histogram<T>>,
 ) -> Result<Filling<T>, DeserializeError>
+    // The error.
     ensures bounds { Checks result (bounds_defect (header_of header)) }
     ensures memory { IfErr result (RunsOutOnly (bounds_defect (header_of header) ≡ None)) }
+    // The bins: all empty, with the bounds of the header.
     ensures empty { IfOk result (λ f. f.counts ≡ replicate (length f.counts) 0) }
     ensures fixed { IfOk result (λ f. f.auto_resize ≡ false) }
     ensures told { IfOk result (λ f. told_by f
@@ -180,7 +189,7 @@ fn empty_for<T: Counter>(
     }
 }
 
-/// Whether a histogram has the bounds of a header.
+/// Whether a histogram has the bounds and digits of a header.
 fn has_bounds<T: Counter>(histogram: &Histogram<T>, header: Header) -> bool
     ensures low { result ≡ true → histogram.now.low ≡ header.low }
     ensures high { result ≡ true → histogram.now.high ≡ header.high }
@@ -191,7 +200,7 @@ fn has_bounds<T: Counter>(histogram: &Histogram<T>, header: Header) -> bool
         && histogram.sigfig() == header.sigfig
 }
 
-/// What it is for bytes that their bounds are refused.
+/// Converts the error of creating the bins.
 fn refused(error: CreationError) -> DeserializeError
     ensures { defect_of_error result ≡ creation_defect error }
 {
@@ -201,7 +210,7 @@ fn refused(error: CreationError) -> DeserializeError
     }
 }
 
-/// So many bytes at the front of a text, and the text after them.
+/// Returns the first `len` bytes of `text`, and the rest.
 #[tactic(auto, unfolding(crate::specs::V2Read::bytes_at))]
 fn bytes_at(text: &[u8], len: usize) -> Result<(&[u8], &[u8]), DeserializeError>
     ensures { Gives (λ x. (x.0.now, x.1.now)) result (bytes_at len text.now) }
@@ -212,7 +221,7 @@ fn bytes_at(text: &[u8], len: usize) -> Result<(&[u8], &[u8]), DeserializeError>
     Ok((&text[..len], &text[len..]))
 }
 
-/// The histogram at the front of a text, and how many bytes it takes.
+/// Decodes the histogram at the start of `text`, and returns it with the number of bytes consumed.
 fn decode_front<T: Counter>(
     alloc: Global,
     text: &[u8],
@@ -226,7 +235,7 @@ fn decode_front<T: Counter>(
     Ok((h, text.len() - rest.len()))
 }
 
-/// The histogram at the front of a text, and the text after it.
+/// Decodes the histogram at the start of `text`, and returns it with the rest.
 #[tactic(auto, unfolding(crate::specs::V2Read::v2_at))]
 fn decode<T: Counter>(
     alloc: Global,
@@ -245,7 +254,7 @@ fn decode<T: Counter>(
     Ok((h, rest))
 }
 
-/// Takes a histogram from a reader by way of an empty buffer.
+/// Reads a histogram from `reader` through an empty buffer.
 fn read_v2<T: Counter, R: Read>(
     reader: &mut R,
     buffer: &mut Vec<u8>,
@@ -266,7 +275,7 @@ fn read_v2<T: Counter, R: Read>(
     Ok(h)
 }
 
-/// Takes so many bytes from a reader into an empty buffer.
+/// Reads `len` bytes from `reader` into an empty buffer.
 fn read_payload<R: Read>(
     reader: &mut R,
     buffer: &mut Vec<u8>,

@@ -1,21 +1,21 @@
-//! Why histograms are not written, and why bytes are not read.
+//! The errors of encoding and decoding.
 
 use std::io;
 use thiserror::Error;
 
-/// Why a histogram is not written as V2 bytes.
+/// Why a histogram is not encoded as V2 bytes.
 #[derive(Debug, Drop, Error)]
 pub enum V2SerializeError {
-    /// A count is above the greatest `i64`, so zig-zag does not take it.
+    /// A count is above `i64::MAX`, the greatest that zig-zag encodes.
     #[error("A count above i64::MAX cannot be zig-zag encoded")]
     CountNotSerializable,
 
-    /// A length does not fit a `usize`. It never comes: the longest bytes of a histogram are
-    /// 56,623,144.
+    /// A length does not fit a `usize`. It is never returned: a histogram has at most 56,623,144
+    /// bytes.
     #[error("Internal calculations cannot be represented in `usize`")]
     UsizeTypeTooSmall,
 
-    /// The writer failed, was interrupted, or took no byte.
+    /// The writer failed, was interrupted, or wrote no byte.
     #[error("An i/o operation failed: {0}")]
     IoError(io::Error),
 
@@ -35,23 +35,24 @@ impl From<io::Error> for V2SerializeError {
     }
 }
 
-/// Why bytes are not read as a histogram.
+/// Why bytes are not decoded as a histogram.
 #[derive(Debug, Drop, Error)]
 pub enum DeserializeError {
-    /// The reader failed, was interrupted, or ended inside the histogram; or the payload ends
-    /// inside a number.
+    /// The reader failed or was interrupted, the bytes end inside the histogram, or the payload
+    /// ends inside a varint.
     #[error("An i/o operation failed: {0}")]
     IoError(io::Error),
 
-    /// The first four bytes begin no format that is known.
+    /// The first four bytes are not the cookie of a known format.
     #[error("The cookie (first 4 bytes) did not match that for any supported format")]
     InvalidCookie,
 
-    /// The bytes are compressed, or their values are shifted or scaled.
+    /// The bytes are compressed, or their values are shifted or scaled: the normalizing offset is
+    /// not 0, or the ratio of integers to doubles is not 1.0.
     #[error("The histogram uses features that this implementation doesn't support")]
     UnsupportedFeature,
 
-    /// A count is above the greatest of the counter type.
+    /// A count is above the greatest number of the counter type.
     #[error("A count exceeded what can be represented in the chosen counter type")]
     UnsuitableCounterType,
 
@@ -59,31 +60,31 @@ pub enum DeserializeError {
     #[error("The serialized parameters were invalid(e.g. lowest value, highest value, etc)")]
     InvalidParameters,
 
-    /// A bin's number would be above `u64::MAX`.
+    /// The index of a bin would be above `u64::MAX`.
     #[error("The current system's pointer width cannot represent the encoded histogram")]
     UsizeTypeTooSmall,
 
-    /// A count lies past the bins.
+    /// A nonzero count is past the last bin.
     #[error("The encoded array is longer than it should be for the histogram's value range")]
     EncodedArrayTooLong,
 
-    /// The counters or the buffer could not be had.
+    /// The counters or the buffer could not be allocated.
     #[error("Out of memory")]
     OutOfMemory,
 }
 
-/// Why the field of an interval is not read as a histogram.
+/// Why the field of an interval is not decoded as a histogram.
 #[derive(Debug, Drop, Error)]
 pub enum FieldDecodeError {
-    /// The field is no Base64.
+    /// The field is not valid Base64.
     #[error("not base64")]
     NotBase64,
 
-    /// The bytes of the field are no histogram.
+    /// The bytes of the field are not a histogram.
     #[error("{0}")]
     Decode(DeserializeError),
 
-    /// The bytes or the counters could not be had.
+    /// The bytes or the counters could not be allocated.
     #[error("Out of memory")]
     OutOfMemory,
 }

@@ -1,4 +1,4 @@
-//! The header of V2 bytes, read field by field.
+//! Decodes the header of V2 bytes, field by field.
 
 ghost use Rattle.std.specs.Prelude.{◌≡◌, Some, IfOk, IfErr};
 ghost use Rattle.hdrhistogram.specs.Defects.{Gives, TakesAs, Checks, RunsOutOnly, defect_of_error, cut};
@@ -14,7 +14,7 @@ use std::io::{self, ErrorKind, Read};
 /// The cookie of the V2 encoding, compressed.
 const COMPRESSED_COOKIE: u32 = 0x1c84_9314;
 
-/// What a header tells.
+/// The fields of a header that vary.
 #[derive(Clone, Copy)]
 pub(crate) struct Header {
     pub payload_len: u32,
@@ -23,7 +23,7 @@ pub(crate) struct Header {
     pub high: u64,
 }
 
-/// The error of bytes that end too soon.
+/// Returns the error of bytes that end too soon.
 pub(crate) fn ended() -> DeserializeError
     ensures defect { defect_of_error result ≡ Some cut }
     ensures named { RunsOutOnly ⊥ result }
@@ -82,7 +82,7 @@ fn check_ratio(ratio: u64) -> Result<(), DeserializeError>
     }
 }
 
-/// The number in the first four bytes, and the text after them.
+/// Decodes the number in the first four bytes, and returns it with the rest.
 #[tactic(auto, unfolding(crate::specs::V2Read::four_at, crate::specs::V2Read::four_of))]
 fn four_at(text: &[u8]) -> Result<(u32, &[u8]), DeserializeError>
     ensures read { Gives (λ x. (x.0, x.1.now)) result (four_at text.now) }
@@ -94,7 +94,7 @@ fn four_at(text: &[u8]) -> Result<(u32, &[u8]), DeserializeError>
     Ok((BigEndian::read_u32(text), &text[4..]))
 }
 
-/// The number in the first eight bytes, and the text after them.
+/// Decodes the number in the first eight bytes, and returns it with the rest.
 #[tactic(auto, unfolding(crate::specs::V2Read::eight_at, crate::specs::V2Read::eight_of))]
 fn eight_at(text: &[u8]) -> Result<(u64, &[u8]), DeserializeError>
     ensures read { Gives (λ x. (x.0, x.1.now)) result (eight_at text.now) }
@@ -106,7 +106,7 @@ fn eight_at(text: &[u8]) -> Result<(u64, &[u8]), DeserializeError>
     Ok((BigEndian::read_u64(text), &text[8..]))
 }
 
-/// The header at the front of a text, and the text after it.
+/// Decodes the header at the start of `text`, and returns it with the rest.
 #[tactic(auto, unfolding(crate::specs::V2Read::header_at))]
 pub(crate) fn header_at(text: &[u8]) -> Result<(Header, &[u8]), DeserializeError>
     ensures read { Gives (λ x. (header_of x.0, x.1.now)) result (header_at text.now) }
@@ -132,7 +132,7 @@ pub(crate) fn header_at(text: &[u8]) -> Result<(Header, &[u8]), DeserializeError
     Ok((header, text))
 }
 
-/// Takes a field of four bytes from a reader.
+/// Reads a field of four bytes.
 fn read_four<R: Read>(reader: &mut R) -> Result<u32, DeserializeError>
     ensures read { TakesAs (R.remaining reader.old) (R.remaining reader.new) (λ n. n) four_at result }
     ensures named { IfErr result (RunsOutOnly ⊥) }
@@ -142,7 +142,7 @@ fn read_four<R: Read>(reader: &mut R) -> Result<u32, DeserializeError>
     Ok(BigEndian::read_u32(&bytes))
 }
 
-/// Takes a field of eight bytes from a reader.
+/// Reads a field of eight bytes.
 fn read_eight<R: Read>(reader: &mut R) -> Result<u64, DeserializeError>
     ensures read { TakesAs (R.remaining reader.old) (R.remaining reader.new) (λ n. n) eight_at result }
     ensures named { IfErr result (RunsOutOnly ⊥) }
@@ -152,7 +152,7 @@ fn read_eight<R: Read>(reader: &mut R) -> Result<u64, DeserializeError>
     Ok(BigEndian::read_u64(&bytes))
 }
 
-/// Takes a header from a reader, and nothing after it.
+/// Reads a header, and consumes no byte after it.
 pub(crate) fn read_header<R: Read>(reader: &mut R) -> Result<Header, DeserializeError>
     ensures read { TakesAs (R.remaining reader.old) (R.remaining reader.new) header_of header_at result }
     ensures named { IfErr result (RunsOutOnly ⊥) }

@@ -1,4 +1,4 @@
-//! A payload, read into the bins of a histogram.
+//! Decodes a payload into the bins of a histogram.
 
 ghost use Rattle.std.specs.Prelude.{◌≡◌, ◌+◌, ◌*◌, ◌%◌, ◌<◌, ◌≤◌, IfNone, IfOk, IfSome, OnOk, length, replicate, true, false};
 ghost use Rattle.hdr_base.specs.Classes.{most_bins};
@@ -13,7 +13,8 @@ use crate::serialization::zig_zag::zig_zag_decode;
 use hdr_base::Counter;
 use hdr_core::{Filling, Histogram};
 
-/// Puts a number at its place, and gives the place after it.
+/// Applies a number of the payload at the bin `place`, and returns the index after its bins. Sets
+/// the bin if the number is a nonzero count.
 fn put_number<T: Counter>(
     filling: &mut Filling<T>,
     place: u64,
@@ -43,8 +44,9 @@ fn put_number<T: Counter>(
         .ok_or(DeserializeError::UsizeTypeTooSmall)
 }
 
-/// Puts the count that a byte or two spell at the front, and gives how many they are. `None`, with nothing put, where
-/// they spell another number or the front is spelt by more bytes, and where the count is refused.
+/// Fast path: decodes a nonzero count of one or two bytes at the start of `bytes`, sets the bin
+/// `place` to it, and returns the bytes consumed. Returns `None`, and sets nothing, for any other
+/// varint, for a count out of range, and past the last bin.
 #[inline(always)]
 fn put_short<T: Counter>(filling: &mut Filling<T>, place: u64, bytes: &[u8]) -> Option<usize>
     ensures put { IfSome result
@@ -68,7 +70,8 @@ fn put_short<T: Counter>(filling: &mut Filling<T>, place: u64, bytes: &[u8]) -> 
     Some(len)
 }
 
-/// The count above 0 that two bytes spell, where just two spell it.
+/// Returns the nonzero count that these bytes encode, or `None` if they are not a varint of two
+/// bytes with such a count.
 #[inline(always)]
 fn two_byte_count<T: Counter>(first: u8, second: u8) -> Option<T>
     ensures bytes { IfSome result (λ _. (128 ≤ first) × (second < 128) × (first % 2 ≡ 0)) }
@@ -91,8 +94,9 @@ fn two_byte_count<T: Counter>(first: u8, second: u8) -> Option<T>
     T::from_u64(low + 64 * u64::from(second))
 }
 
-/// Puts two counts that two bytes each spell at the front. Whether there are two such, and neither is refused; else
-/// nothing is put.
+/// Fast path: decodes two nonzero counts of two bytes each at the start of `bytes`, and sets two
+/// bins from `place` on, if these follow the bins that were set. Returns whether they were set;
+/// nothing is set otherwise.
 #[inline(always)]
 fn put_pair<T: Counter>(filling: &mut Filling<T>, place: u64, bytes: &[u8]) -> bool
     ensures put { result ≡ true
@@ -110,18 +114,10 @@ fn put_pair<T: Counter>(filling: &mut Filling<T>, place: u64, bytes: &[u8]) -> b
     let Some(second) = two_byte_count(bytes[2], bytes[3]) else {
         return false;
     };
-    if place >= filling.distinct_values() as u64 {
-        return false;
-    }
-    let bin = place as usize;
-    if bin + 1 >= filling.distinct_values() {
-        return false;
-    }
-    filling.set_two(bin, first, second);
-    true
+    filling.set_pair(place as usize, first, second)
 }
 
-/// Reads a payload into bins that are all empty.
+/// Decodes a payload into bins that are all empty.
 fn fill<T: Counter>(filling: &mut Filling<T>, payload: &[u8]) -> Result<(), DeserializeError>
     requires { filling.old.counts ≡ replicate (length filling.old.counts) 0 }
     ensures counts { Gives (λ _. filling.new.counts) result
@@ -150,15 +146,18 @@ fn fill<T: Counter>(filling: &mut Filling<T>, payload: &[u8]) -> Result<(), Dese
     Ok(())
 }
 
-/// The histogram of bins that are all empty, after they were read from a payload.
+/// Decodes a payload into bins that are all empty, and returns their histogram.
 pub(crate) fn filled<T: Counter>(
     mut filling: Filling<T>,
     payload: &[u8],
 ) -> Result<Histogram<T>, DeserializeError>
+    // Bins that are all empty, and do not grow.
     requires empty { filling.counts ≡ replicate (length filling.counts) 0 }
     requires fixed { filling.auto_resize ≡ false }
+    // The counts of the payload, or its defect.
     ensures counts { Gives (λ h. h.counts) result
         (counts_in (length filling.counts) T.greatest payload.now) }
+    // The rest of the histogram.
     ensures told { IfOk result (λ h. told_of h ≡ record (told_by filling) { counts = h.counts }) }
     ensures fixed { IfOk result (λ h. h.auto_resize ≡ false) }
     ensures restated { IfOk result (λ h. IsRestated h) }

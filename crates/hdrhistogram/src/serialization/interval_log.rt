@@ -1,8 +1,9 @@
-//! Interval logs: histograms of intervals of time, one a line, with headers and comments between them. The bytes of a
-//! histogram stand in its line as Base64.
+//! Interval logs: histograms of intervals of time, one on each line, with headers and comments
+//! between them. A line has the bytes of its histogram in Base64.
 //!
-//! `IntervalLogWriterBuilder` begins a log, `IntervalLogWriter` writes it, and `IntervalLogIterator` reads it in
-//! place. `merge_log` adds the histograms of a log's chosen intervals.
+//! `IntervalLogWriterBuilder` starts a log, `IntervalLogWriter` writes it, and
+//! `IntervalLogIterator` reads it in place. `merge_log` adds the histograms of a log's chosen
+//! intervals.
 
 mod buffer;
 mod builder;

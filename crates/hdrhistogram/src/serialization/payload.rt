@@ -14,25 +14,21 @@ use crate::serialization::varint::varint_write;
 use hdr_base::Counter;
 use hdr_core::Histogram;
 
-/// The greatest count that zig-zag takes.
+/// The greatest count that zig-zag encodes.
 const GREATEST_COUNT: u64 = i64::MAX as u64;
 
-/// So many bins are looked at one by one, from a nonempty one on, before the next nonempty one is looked for.
-const PIECE: usize = 256;
-
-/// Room of at most so many bytes is taken without a look at which bins are empty.
+/// If nine bytes for each bin are at most this many, nonempty bins are not counted.
 const SMALL_ROOM: usize = 1_048_576;
 
-/// The most bytes that the payload of so many bins takes, nine for each; `None` where that is above
-/// the greatest `usize`.
+/// Returns the maximum length of the payload of `length` bins in bytes, nine for each, or `None` if
+/// that is above `usize::MAX`.
 pub fn counts_array_max_encoded_size(length: usize) -> Option<usize>
     ensures { SomeIff result (9 * length < 2 ^ 64) (9 * length) }
 {
     length.checked_mul(9)
 }
 
-/// How many bins are written: those up to the top mark's, or the first alone where there is no
-/// mark.
+/// Returns the number of bins that are written: those up to the top mark's, or 1 without a mark.
 pub(crate) fn written_bins<T: Counter>(h: &Histogram<T>) -> usize
     ensures value { result ≡ written_bins h.now }
     ensures within { result ≤ length h.now.counts }
@@ -46,8 +42,8 @@ pub(crate) fn written_bins<T: Counter>(h: &Histogram<T>) -> usize
     }
 }
 
-/// How much room the payload of a histogram takes at most: nine bytes for each bin that is written,
-/// or, where that is not little, nine for each nonempty one and for each run beside them.
+/// Returns a bound of the payload's length in bytes: nine for each bin that is written. If that is
+/// above `SMALL_ROOM`, the bound is at most nine for each nonempty bin and each run beside these.
 pub(crate) fn payload_room<T: Counter>(h: &Histogram<T>) -> usize
     ensures enough { enough_bytes (written_counts h.now) ≤ result }
     ensures near { result ≤ max 1048576 (enough_bytes (written_counts h.now)) }
@@ -60,7 +56,7 @@ pub(crate) fn payload_room<T: Counter>(h: &Histogram<T>) -> usize
     9 * bins.min(2 * nonempty(&h.counters()[..bins]) + 1)
 }
 
-/// How many of the counters are above 0.
+/// Returns the number of nonzero counters.
 fn nonempty<T: Counter>(counters: &[T]) -> usize
     ensures value { result ≡ nonempty (map T.number counters.now) }
     ensures few { result ≤ length counters.now }
@@ -83,7 +79,7 @@ fn count_of<T: Counter>(counters: &[T], bin: usize) -> u64
     counters[bin].as_u64()
 }
 
-/// Writes the spelling of a number at a place, and gives the place after it.
+/// Writes the canonical varint of `number` at the offset `at`, and returns the offset after it.
 #[inline]
 fn put_number(buf: &mut [u8], at: usize, number: u64) -> usize
     requires { at + 9 ≤ length buf.old }
@@ -96,50 +92,38 @@ fn put_number(buf: &mut [u8], at: usize, number: u64) -> usize
     at + varint_write(number, &mut buf[at..])
 }
 
-/// Writes the run of empty bins from one bin up to another at a place, or nothing where there are none, and gives the
-/// place after it.
-#[inline(always)]
-fn put_run(buf: &mut [u8], at: usize, from: usize, to: usize) -> usize
-    requires order { from ≤ to }
-    requires room { at + 9 * min (to - from) 1 ≤ length buf.old }
-    requires fits { to < 2 ^ 63 }
-    ensures few { result ≤ at + 9 * min (to - from) 1 }
-    ensures further { at ≤ result }
-    ensures front { (text : List ℕ) × IsRunText (to - from) text
-        × (take result buf.new ≡ take at buf.old ++ text) }
-    ensures kept { drop result buf.new ≡ drop result buf.old }
-{
-    if from == to {
-        return at;
-    }
-    put_empty(buf, at, from, to)
-}
-
-/// The same for one empty bin or more. Zig-zag makes 2n - 1 of -n.
-#[inline(never)]
-fn put_empty(buf: &mut [u8], at: usize, from: usize, to: usize) -> usize
-    requires some { from < to }
+/// Writes a run of empty bins at the offset `at`, and returns the offset after it. The number of a
+/// run of one is 0; otherwise it is -n, which zig-zag encodes as 2n - 1.
+#[inline]
+fn put_run(buf: &mut [u8], at: usize, empty: u64) -> usize
+    // A run that is not empty, nine bytes for it, and a number that zig-zag encodes.
+    requires some { 1 ≤ empty }
     requires room { at + 9 ≤ length buf.old }
-    requires fits { to < 2 ^ 63 }
+    requires fits { empty < 2 ^ 63 }
+    // The offset after it.
     ensures few { result ≤ at + 9 }
     ensures further { at ≤ result }
-    ensures front { (text : List ℕ) × IsRunText (to - from) text
+    // The bytes that are written, and those after them.
+    ensures front { (text : List ℕ) × IsRunText empty text
         × (take result buf.new ≡ take at buf.old ++ text) }
     ensures kept { drop result buf.new ≡ drop result buf.old }
 {
-    match to - from {
+    match empty {
         1 => put_number(buf, at, 0),
-        empty => put_number(buf, at, 2 * empty as u64 - 1),
+        _ => put_number(buf, at, 2 * empty - 1),
     }
 }
 
-/// Writes the payload of a histogram at the front of the buffer, and gives its length in bytes. It
-/// holds the counts of the bins up to the top mark's, in order. Each run of empty bins is one number.
-/// Numbers are by zig-zag and in their shortest spellings. The buffer must have room for nine bytes
-/// for each of these bins.
+/// Encodes the payload of a histogram at the start of `buf`, and returns its length in bytes. The
+/// bytes after it are unchanged. The call allocates nothing.
 ///
-/// A count above the greatest `i64` is refused as `CountNotSerializable`, and nothing else is; what
-/// the buffer holds then is left open. The call takes no memory.
+/// The payload has the counts of the bins up to the top mark's, in order. Each run of empty bins is
+/// one number. Numbers are encoded by zig-zag, as canonical varints. `buf` must have nine bytes for
+/// each of these bins.
+///
+/// # Errors
+/// Returns `CountNotSerializable` if a count is above `i64::MAX`, and no other error. The contents
+/// of `buf` are then unspecified.
 pub fn encode_counts<T: Counter>(
     h: &Histogram<T>,
     buf: &mut [u8],
@@ -154,7 +138,7 @@ pub fn encode_counts<T: Counter>(
     encode_within(h, buf)
 }
 
-/// The same where the buffer has room enough for the nonempty bins and the runs beside them.
+/// `encode_counts` if `buf` is long enough for the nonempty bins and the runs beside them.
 pub(crate) fn encode_within<T: Counter>(
     h: &Histogram<T>,
     buf: &mut [u8],
@@ -169,25 +153,20 @@ pub(crate) fn encode_within<T: Counter>(
     let bins = written_bins(h);
     let counters = h.counters();
     let mut written = 0;
-    let mut from = 0usize;
     let mut bin = 0usize;
     while bin < bins {
-        bin = h.next_filled(bin).min(bins);
-        let end = bins.min(bin + PIECE);
-        while bin < end {
-            let count = count_of(counters, bin);
-            if count == 0 {
-                bin += 1;
-                continue;
-            }
-            if count > GREATEST_COUNT {
-                return Err(V2SerializeError::CountNotSerializable);
-            }
-            written = put_run(buf, written, from, bin);
-            written = put_number(buf, written, 2 * count);
-            bin += 1;
-            from = bin;
+        let count = count_of(counters, bin);
+        if count == 0 {
+            let filled = h.next_filled(bin).min(bins);
+            written = put_run(buf, written, (filled - bin) as u64);
+            bin = filled;
+            continue;
         }
+        if count > GREATEST_COUNT {
+            return Err(V2SerializeError::CountNotSerializable);
+        }
+        written = put_number(buf, written, 2 * count);
+        bin += 1;
     }
-    Ok(put_run(buf, written, from, bin))
+    Ok(written)
 }

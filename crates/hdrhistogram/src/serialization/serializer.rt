@@ -1,4 +1,4 @@
-//! What writes histograms.
+//! The trait of serializers.
 
 ghost use Rattle.std.specs.Prelude.{◌≡◌, ℕ, List, length, IfOk, IfErr};
 ghost use Rattle.std.specs.Io.KnownBytes.{Appends};
@@ -10,17 +10,21 @@ use std::io::Write;
 
 /// Writes histograms as bytes.
 pub trait Serializer {
-    /// Why a histogram is not written.
+    /// The error of `serialize`.
     type SerializeError: Drop;
 
-    /// The histogram may be written as these bytes. The relation speaks of the histogram's numbers
-    /// alone, of no counter type and of no writer.
+    /// Whether a histogram may be written as these bytes. It depends on the histogram's numbers
+    /// alone, not on a counter type or a writer.
     ghost writes: { Plain → List ℕ → Type 0 };
 
-    /// Why the histogram may be refused, whatever the writer holds; any reason where it is left out.
+    /// Whether writing a histogram may fail with this error, whatever the writer holds; any error
+    /// if it is left out.
     ghost refuses: { Plain → Self.SerializeError → Type 0 } = { λ _ _. Unit {0} };
 
-    /// Writes the histogram whole, and gives the number of bytes written.
+    /// Writes all of the histogram to `writer`, and returns the number of bytes written.
+    ///
+    /// # Errors
+    /// Returns an error that `refuses` allows. What is then written is unspecified.
     fn serialize<T: Counter, W: Write>(
         &mut self,
         h: &Histogram<T>,

@@ -8,8 +8,8 @@ use crate::serialization::errors::DeserializeError;
 use std::alloc::AllocError;
 use std::io::{self, ErrorKind, Read, Write};
 
-/// Writes the whole text. The first call of `write` that fails, is interrupted or takes no byte
-/// ends it with an error, and a prefix of the text then stands in the writer.
+/// As `Write::write_all`, but an interrupted write is an error. On error a proper prefix of `text`
+/// is written.
 pub(crate) fn write_whole<W: Write>(writer: &mut W, text: &[u8]) -> io::Result<()>
     ensures ok { OnOk result (Appends (W.contents writer.old) (W.contents writer.new) text.now) }
     ensures err { OnErr result
@@ -26,8 +26,8 @@ pub(crate) fn write_whole<W: Write>(writer: &mut W, text: &[u8]) -> io::Result<(
     Ok(())
 }
 
-/// Fills the buffer from a reader, and takes no byte after it. The first call of `read` that
-/// fails, is interrupted or gives no byte ends it with an error.
+/// As `Read::read_exact`, but an interrupted read is an error. On error fewer bytes are consumed
+/// than `buffer` has.
 pub(crate) fn read_whole<R: Read>(reader: &mut R, buffer: &mut [u8]) -> io::Result<()>
     ensures ok { OnOk result
         (Consumes (R.remaining reader.old) (R.remaining reader.new) buffer.new) }
@@ -45,12 +45,11 @@ pub(crate) fn read_whole<R: Read>(reader: &mut R, buffer: &mut [u8]) -> io::Resu
     Ok(())
 }
 
-/// How many bytes are asked for before they have come.
+/// The maximum number of bytes that are allocated before they are read.
 const PIECE: usize = 4096;
 
-/// Reads the next of `left` bytes after those that have come, which the buffer holds: at most
-/// 4,096 of them, so that the buffer is never longer than that past the bytes that have come. It
-/// asks for room for no more.
+/// Reads the next `left` bytes, but at most `PIECE` of them, and appends them to `buffer`. On error
+/// `buffer` is at most `PIECE` bytes longer. Its capacity grows to no more than that.
 pub(crate) fn read_piece<R: Read>(
     reader: &mut R,
     buffer: &mut Vec<u8>,
@@ -75,7 +74,8 @@ pub(crate) fn read_piece<R: Read>(
     Ok(())
 }
 
-/// Appends `count` zeros, and allocates room for no more than these. Nothing else bounds the capacity: `resize` may double it.
+/// Appends `count` zeros, and allocates capacity for no more than these. `resize` may double the
+/// capacity.
 fn push_zeros(buffer: &mut Vec<u8>, count: usize) -> Result<(), AllocError>
     ensures ok { OnOk result (buffer.new.items ≡ buffer.old.items ++ replicate count 0) }
     ensures len { OnOk result (vec_len buffer.new ≡ vec_len buffer.old + count) }

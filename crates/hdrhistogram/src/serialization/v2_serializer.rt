@@ -21,10 +21,10 @@ use std::alloc::{AllocError, Global};
 use std::io::Write;
 use std::marker::Model;
 
-/// Writes histograms as V2 bytes, by way of a buffer of its own, which is used again.
+/// Encodes histograms as V2 bytes, in a buffer of its own, which is reused.
 ///
-/// To its callers it is the list of the bytes of the last histogram: none when it is new, and after
-/// each refusal.
+/// To its callers it is the list of the bytes of the last histogram: empty if it is new, and after
+/// each error.
 #[derive(Drop)]
 pub struct V2Serializer {
     buffer: Vec<u8>,
@@ -45,7 +45,7 @@ impl V2Serializer {
     ghost use Rattle.std.specs.Borrow.{sem};
     ghost use Rattle.hdrhistogram.specs.Lending.{ends_lending};
 
-    /// A serializer with an empty buffer. It takes no memory.
+    /// Creates a serializer with an empty buffer. It allocates nothing.
     pub fn new(alloc: Global) -> V2Serializer
         ensures { result ≡ [] }
     {
@@ -55,7 +55,8 @@ impl V2Serializer {
         }
     }
 
-    /// Puts the V2 bytes of a histogram into the buffer.
+    /// Encodes the V2 bytes of a histogram into the buffer. After an error the serializer holds no
+    /// bytes.
     fn fill<T: Counter>(&mut self, h: &Histogram<T>) -> Result<(), V2SerializeError>
         ensures bytes { OnOk result (IsV2 h.now self.new) }
         ensures few { OnOk result ((length self.new ≤ 40 + 9 * written_bins h.now)
@@ -71,15 +72,16 @@ impl V2Serializer {
         Ok(())
     }
 
-    /// The V2 bytes of a histogram, lent from the serializer's own buffer: at most 40 bytes and
-    /// nine for each bin up to the top mark's.
+    /// Returns the V2 bytes of a histogram, borrowed from the serializer's own buffer: at most 40
+    /// bytes and nine for each bin up to the top mark's.
     ///
-    /// The buffer grows first and once. Where nine bytes for each bin are more than 1 MiB, it grows to nine bytes for each
-    /// nonempty bin and for each run of empty ones at most.
+    /// The buffer grows first, and once. If nine bytes for each bin are more than 1 MiB, it grows
+    /// to at most nine bytes for each nonempty bin and for each run of empty ones.
     ///
     /// # Errors
-    /// `OutOfMemory` where the buffer can't grow, and then `CountNotSerializable` for a count above the greatest `i64`. After
-    /// an error the serializer holds no bytes; the clause `after` that says so is starred, for proofs of borrows alone.
+    /// Returns `OutOfMemory` if the buffer can't grow, and then `CountNotSerializable` if a count
+    /// is above `i64::MAX`. After an error the serializer holds no bytes; the clause `after` that
+    /// says so is starred, for proofs of borrows alone.
     pub fn to_bytes<T: Counter>(&mut self, h: &Histogram<T>) -> Result<&[u8], V2SerializeError>
         ensures bytes { IfOk result (λ bytes. IsV2 h.now bytes.now) }
         ensures few { IfOk result (λ bytes. (length bytes.now ≤ 40 + 9 * written_bins h.now)
@@ -100,11 +102,13 @@ impl Serializer for V2Serializer {
 
     ghost refuses = { RefusesNamed };
 
-    /// Writes the V2 bytes of a histogram, and gives their number. They stand in the buffer whole
-    /// before the first of them is written, by single calls of `write`. A call that fails, is
-    /// interrupted or takes no byte is answered as `IoError`, and a prefix of the bytes then
-    /// stands in the writer; the other refusals are those of `to_bytes`, and write nothing. After
-    /// each of them the serializer holds no bytes.
+    /// Writes the V2 bytes of a histogram, and returns their number. All of them are in the buffer
+    /// before the first is written, by single calls of `write`.
+    ///
+    /// # Errors
+    /// Returns `IoError` if a call of `write` fails, is interrupted or writes no byte; a proper
+    /// prefix of the bytes is then written. The other errors are those of `to_bytes`, and nothing
+    /// is written. After an error the serializer holds no bytes.
     fn serialize<T: Counter, W: Write>(
         &mut self,
         h: &Histogram<T>,
@@ -131,7 +135,7 @@ impl Serializer for V2Serializer {
     }
 }
 
-/// Makes the buffer at least so many bytes long.
+/// Zero-fills `buffer` to a length of at least `room`.
 fn make_room(buffer: &mut Vec<u8>, room: usize) -> Result<(), AllocError>
     ensures { OnOk result (room ≤ vec_len buffer.new) }
 {
@@ -141,7 +145,7 @@ fn make_room(buffer: &mut Vec<u8>, room: usize) -> Result<(), AllocError>
     Ok(())
 }
 
-/// Writes the V2 bytes of a histogram at the front of the buffer, and gives their number.
+/// Encodes the V2 bytes of a histogram at the start of `buf`, and returns their number.
 fn write_v2<T: Counter>(h: &Histogram<T>, buf: &mut [u8]) -> Result<usize, V2SerializeError>
     requires { 40 + enough_bytes (written_counts h.now) ≤ length buf.old }
     ensures written { IfOk result (λ n. (n ≤ length buf.new) × IsV2 h.now (take n buf.new)) }

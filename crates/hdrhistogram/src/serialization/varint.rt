@@ -1,4 +1,5 @@
-//! Numbers as bytes of seven bits each, and a ninth of eight.
+//! Varints, HdrHistogram's LEB128 of at most nine bytes: seven bits in each of the first eight
+//! bytes, and eight in a ninth.
 
 ghost use Rattle.std.specs.Prelude.{List, length, take, ℕ, ◌<◌, ◌≤◌, IfSome, IfNone, IfOk, OnErr};
 ghost use Rattle.std.specs.Io.KnownBytes.{Consumes};
@@ -10,15 +11,15 @@ use crate::serialization::streams::read_whole;
 use byteorder::{ByteOrder, LittleEndian};
 use std::io::{self, Read};
 
-/// A byte of seven bits that is below this has no high bit, so none follows it.
+/// One of the first eight bytes that is below this is the last of its varint.
 const LAST_BELOW: u64 = 128;
 
-/// A number that is below this is spelt by one byte or two.
+/// The varint of a number below this has one byte or two.
 const SHORT_BELOW: u64 = 128 * 128;
 
-/// Writes the canonical spelling of the number at the front of the buffer, and gives its length:
-/// the shortest spelling by seven bits a byte, one to nine bytes. The buffer must have room for it;
-/// nine bytes always suffice.
+/// Encodes `n` as its canonical varint at the start of `buf`, and returns its length, one to nine
+/// bytes. The canonical varint is the shortest. The bytes after it are unchanged. `buf` must be
+/// long enough; nine bytes always suffice.
 #[inline]
 pub fn varint_write(n: u64, buf: &mut [u8]) -> usize
     requires { length buf.old < 9 → (text : List ℕ) → IsShortest text n → length text ≤ length buf.old }
@@ -36,7 +37,7 @@ pub fn varint_write(n: u64, buf: &mut [u8]) -> usize
     }
 }
 
-/// Writes the canonical spelling of a number of any length, byte by byte.
+/// `varint_write` for a varint of any length, byte by byte.
 #[cold]
 #[inline(never)]
 fn write_long(n: u64, buf: &mut [u8]) -> usize
@@ -57,8 +58,8 @@ fn write_long(n: u64, buf: &mut [u8]) -> usize
     9
 }
 
-/// The number that is spelt at the front, and the length of its spelling; `None` where the bytes
-/// end inside it.
+/// Decodes the varint at the start of `bytes`, canonical or not, and returns the number with the
+/// varint's length. Returns `None` if `bytes` ends inside it.
 pub(crate) fn varint_at(bytes: &[u8]) -> Option<(u64, usize)>
     ensures within { IfSome result (λ found. found.1 ≤ length bytes.now) }
     ensures few { IfSome result (λ found. found.1 ≤ 9) }
@@ -71,8 +72,8 @@ pub(crate) fn varint_at(bytes: &[u8]) -> Option<(u64, usize)>
     }
 }
 
-/// The number that one byte or two spell at the front, and how many they are, without a branch on
-/// that; `None` where more bytes spell it or two are not at hand.
+/// Fast path: decodes a varint of one or two bytes at the start of `bytes`, without a branch on its
+/// length. Returns `None` for a longer varint, and if `bytes` has fewer than two bytes.
 #[inline(always)]
 pub(crate) fn short_varint_at(bytes: &[u8]) -> Option<(u64, usize)>
     ensures within { IfSome result (λ found. found.1 ≤ length bytes.now) }
@@ -91,7 +92,7 @@ pub(crate) fn short_varint_at(bytes: &[u8]) -> Option<(u64, usize)>
     Some((first % 128 + 128 * (two * second), 1 + two as usize))
 }
 
-/// The same for a spelling of any length, byte by byte.
+/// `varint_at` for a varint of any length, byte by byte.
 #[cold]
 #[inline(never)]
 fn read_long(bytes: &[u8]) -> Option<(u64, usize)>
@@ -116,7 +117,8 @@ fn read_long(bytes: &[u8]) -> Option<(u64, usize)>
     None
 }
 
-/// The number that is spelt at the front of nine bytes or more, and the length of its spelling.
+/// Decodes the varint at the start of `slice`, canonical or not, and returns the number with the
+/// varint's length. `slice` must have nine bytes or more.
 pub fn varint_read_slice(slice: &[u8]) -> (u64, usize)
     requires { 9 ≤ length slice.now }
     ensures few { result.1 ≤ 9 }
@@ -128,8 +130,12 @@ pub fn varint_read_slice(slice: &[u8]) -> (u64, usize)
     }
 }
 
-/// Reads a number, byte by byte, and takes no byte after its spelling. Any spelling is taken, not
-/// the shortest alone. Where the reader fails, what it gave is no whole spelling.
+/// Reads a varint from `reader`, byte by byte, and consumes no byte after it. It need not be
+/// canonical.
+///
+/// # Errors
+/// Returns an error if a call of `read` fails, is interrupted or returns 0 bytes. The bytes
+/// consumed are then an incomplete varint.
 pub fn varint_read<R: Read>(reader: &mut R) -> io::Result<u64>
     ensures ok { IfOk result (λ n. (text : List ℕ) × Spells text n
         × Consumes (R.remaining reader.old) (R.remaining reader.new) text) }

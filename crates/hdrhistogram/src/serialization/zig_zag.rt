@@ -1,9 +1,9 @@
-//! Whole numbers as numbers from 0.
+//! Zig-zag: signed integers as unsigned ones.
 
 ghost use Rattle.std.specs.Prelude.{◌≡◌};
 ghost use Rattle.hdrhistogram.specs.ZigZag.{zig_zag, from_zig_zag};
 
-/// 2n for a number n from 0 on, and -2n - 1 for one below 0: 0, -1, 1, -2 become 0, 1, 2, 3.
+/// Returns 2n if `n` is 0 or more, and -2n - 1 if it is negative: 0, -1, 1, -2 become 0, 1, 2, 3.
 #[inline]
 pub fn zig_zag_encode(n: i64) -> u64
     ensures { result ≡ zig_zag n }
@@ -15,7 +15,7 @@ pub fn zig_zag_encode(n: i64) -> u64
     }
 }
 
-/// The whole number that `zig_zag_encode` makes this one of.
+/// Returns the integer that `zig_zag_encode` encodes as `encoded`.
 #[inline]
 pub fn zig_zag_decode(encoded: u64) -> i64
     ensures { result ≡ from_zig_zag encoded }

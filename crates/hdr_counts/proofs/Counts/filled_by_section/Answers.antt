@@ -5,7 +5,7 @@ use Rattle.hdr_counts.proofs.Counts.filled_by_section.Given as given
 use Rattle.hdr_counts.proofs.Counts.filled_by_section.Goals as goal
 use Rattle.hdr_counts.proofs.Counts.filled_by_section.Goals.{After-quotient-k}
 
--- what is left of the place's section
+-- what is left of the index's section
 rest : (g : given.Over) (c : After-quotient-k g) → BlockRest g.T.Counter.number c.self.inside.counters.items c.self.inside.sums.items c.loop-place.place c.quotient-k.result ((c.quotient-k.result + 1) * c.self.inside.section)
 rest g c =
     let s = c.self.inside in

@@ -10,7 +10,7 @@ use Rattle.hdr_counts.proofs.Counts.find.Given as given
 use Rattle.hdr_counts.proofs.Counts.find.Goals as goal
 use Rattle.hdr_counts.proofs.Counts.find.Goals.{In-loop-k, After-deref, After-loop-k, After-from_residual}
 
--- block k, whose sum is looked at
+-- block k, whose sum is read
 block : (g : given.Over) (c : In-loop-k g) → IsGroup g.T.Counter.number c.self.inside.counters.items (c.self.inside.block / c.self.inside.section) c.self.inside.block c.loop-k.k c.self.inside.sums.items
 block g c =
     let s = c.self.inside in
@@ -24,7 +24,7 @@ read g c =
     let n = c.self.inside.block / c.self.inside.section in
     group-sum-read n c.loop-k.k (c.loop-k.k * n + n - c.loop-k.k * n) c.self.inside.sums.items c.deref.result.now c.deref.ensures.value (omega arith)
 
--- where the sum reaches the rank, a place is found
+-- if the sum reaches the rank, an index is found
 found : (g : given.Over) (c : After-from_residual g) → ⊥
 found g c =
     none-found g.T.Counter.number c.self.inside.counters.items c.deref-then-sum-from.result.now c.self.inside.sums.items (c.self.inside.block / c.self.inside.section) c.self.inside.block c.loop-k.k _ _ _

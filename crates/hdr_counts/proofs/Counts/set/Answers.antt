@@ -9,7 +9,7 @@ use Rattle.hdr_counts.proofs.Counts.set.Given as given
 use Rattle.hdr_counts.proofs.Counts.set.Goals as goal
 use Rattle.hdr_counts.proofs.Counts.set.Goals.{After-as_u64-old}
 
--- the place is one of the counters
+-- the index is one of the counters
 inside : (g : given.Over) (c : After-as_u64-old g) → c.args.i < length (map g.T.Counter.number c.self.inside.counters.items)
 inside g c = lt_as _ _ _ c.requires (ap (λ v. length v.numbers) c.self.view_is)
 

@@ -9,7 +9,7 @@ use Rattle.hdr_counts.proofs.Counts.try_add.Given as given
 use Rattle.hdr_counts.proofs.Counts.try_add.Goals as goal
 use Rattle.hdr_counts.proofs.Counts.try_add.Goals.{After-as_u64}
 
--- the place is one of the counters
+-- the index is one of the counters
 inside : (g : given.Over) (c : After-as_u64 g) → c.args.i < length (map g.T.Counter.number c.self.inside.counters.items)
 inside g c = lt_as _ _ _ c.requires (ap (λ v. length v.numbers) c.self.view_is)
 

@@ -11,7 +11,7 @@ use std::process::Abort;
 use std::test::Fail;
 use std::time::Duration;
 
-/// An empty histogram, and one with a sample in its top class. None: memory was refused.
+/// Returns an empty histogram, and one with a sample in its top class, or `None` if an allocation failed.
 fn small_and_large(alloc: Global) -> Option<(Histogram<u64>, Histogram<u64>)> {
     let small = Histogram::new(alloc, 0).ok()?;
     let mut large = Histogram::new_with_max(alloc, 1000, 2).ok()?;
@@ -19,16 +19,11 @@ fn small_and_large(alloc: Global) -> Option<(Histogram<u64>, Histogram<u64>)> {
     Some((small, large))
 }
 
-/// Whether bytes of that length are lent; else memory was refused to them.
-fn lends(
-    rt: &impl Abort,
-    serializer: &mut V2Serializer,
-    h: &Histogram<u64>,
-    length: usize,
-) -> bool {
+/// Whether `to_bytes` returns bytes of length `len`; otherwise an allocation failed.
+fn lends(rt: &impl Abort, serializer: &mut V2Serializer, h: &Histogram<u64>, len: usize) -> bool {
     match serializer.to_bytes(h) {
         Ok(bytes) => {
-            assert_eq!(rt; bytes.len(), length);
+            assert_eq!(rt; bytes.len(), len);
             true
         }
         Err(error) => {
@@ -38,7 +33,7 @@ fn lends(
     }
 }
 
-/// Whether the bytes of both are lent at once; else memory was refused to one of them, and then they are lent.
+/// Whether `to_bytes` returns the bytes of both at once; otherwise an allocation failed, and it returns them the second time.
 fn lends_both(
     rt: &impl Abort,
     small: &Histogram<u64>,
@@ -69,7 +64,7 @@ fn to_bytes(rt: HostRuntime) -> Result<(), Fail> {
     Ok(())
 }
 
-/// The histogram of the first run. None: memory was refused.
+/// Returns the histogram of the first run, or `None` if an allocation failed.
 fn held(alloc: Global) -> Option<Histogram<u64>> {
     let mut h = Histogram::new(alloc, 3).ok()?;
     h.saturating_record(1);
@@ -77,7 +72,7 @@ fn held(alloc: Global) -> Option<Histogram<u64>> {
     Some(h)
 }
 
-/// Whether the bytes of the first run are written; else memory was refused to them, and nothing is written.
+/// Whether the bytes of the first run are written; otherwise an allocation failed, and nothing is written.
 fn serializes(
     rt: &impl Abort,
     serializer: &mut V2Serializer,
@@ -97,7 +92,7 @@ fn serializes(
     }
 }
 
-/// A serializer that memory was refused to makes the right bytes then, written and lent.
+/// After a failed allocation the serializer makes the right bytes, by `serialize` and by `to_bytes`.
 #[test]
 fn serialize(rt: HostRuntime) -> Result<(), Fail> {
     let Some(h) = held(rt.alloc()) else {
@@ -121,7 +116,7 @@ fn serialize(rt: HostRuntime) -> Result<(), Fail> {
     Ok(())
 }
 
-/// Whether a reading of a slice is done; else memory was refused to it.
+/// Whether a slice is decoded; otherwise an allocation failed.
 fn reads_a_slice(rt: &impl Abort, deserializer: &mut Deserializer) -> bool {
     match deserializer.decode_slice::<u64>(&FIRST_RUN) {
         Ok((h, taken)) => {
@@ -145,17 +140,12 @@ fn decode_slice(rt: HostRuntime) -> Result<(), Fail> {
     Ok(())
 }
 
-/// Whether a reading by a reader gives so many samples, and leaves nothing; else memory was refused to it.
-fn reads_a_reader(
-    rt: &impl Abort,
-    deserializer: &mut Deserializer,
-    text: &[u8],
-    samples: u64,
-) -> bool {
+/// Whether a reader's bytes are decoded to a histogram of `len` samples, up to their end; otherwise an allocation failed.
+fn reads_a_reader(rt: &impl Abort, deserializer: &mut Deserializer, text: &[u8], len: u64) -> bool {
     let mut reader = text;
     match deserializer.deserialize::<u64, &[u8]>(&mut reader) {
         Ok(h) => {
-            assert!(rt; h.len() == samples && reader.is_empty());
+            assert!(rt; h.len() == len && reader.is_empty());
             true
         }
         Err(error) => {
@@ -165,14 +155,19 @@ fn reads_a_reader(
     }
 }
 
-#[test]
-fn deserialize(rt: HostRuntime) -> Result<(), Fail> {
+/// Prints whether an allocation failed as bytes were decoded, after which the first run is decoded.
+fn read_text(rt: &(impl Abort + AllocGlobal + Print), text: &[u8], len: u64) -> Result<(), Fail> {
     let mut deserializer = Deserializer::new(rt.alloc());
-    if !reads_a_reader(&rt, &mut deserializer, &FIRST_RUN, 5) {
+    if !reads_a_reader(rt, &mut deserializer, text, len) {
         println!(rt; "no memory")?;
-        assert!(rt; reads_a_reader(&rt, &mut deserializer, &FIRST_RUN, 5));
+        assert!(rt; reads_a_reader(rt, &mut deserializer, &FIRST_RUN, 5));
     }
     Ok(())
+}
+
+#[test]
+fn deserialize(rt: HostRuntime) -> Result<(), Fail> {
+    read_text(&rt, &FIRST_RUN, 5)
 }
 
 /// The header of bytes with 5,000 numbers, and 0 held once, which is the first of them.
@@ -181,7 +176,7 @@ const LONG: [u8; 41] = [
     0, 0, 0, 0, 0, 2, 0x3f, 0xf0, 0, 0, 0, 0, 0, 0, 2,
 ];
 
-/// Bytes whose payload comes in two pieces. None: memory was refused.
+/// Returns bytes whose payload is read in two chunks, or `None` if an allocation failed.
 fn long_text(alloc: Global) -> Option<Vec<u8>> {
     let mut text = Vec::with_capacity(alloc, 5_040).ok()?;
     text.extend_from_slice(LONG.as_slice()).ok()?;
@@ -196,15 +191,10 @@ fn deserialize_pieces(rt: HostRuntime) -> Result<(), Fail> {
     let Some(text) = long_text(rt.alloc()) else {
         return Ok(println!(rt; "no memory")?);
     };
-    let mut deserializer = Deserializer::new(rt.alloc());
-    if !reads_a_reader(&rt, &mut deserializer, text.as_slice(), 1) {
-        println!(rt; "no memory")?;
-        assert!(rt; reads_a_reader(&rt, &mut deserializer, &FIRST_RUN, 5));
-    }
-    Ok(())
+    read_text(&rt, text.as_slice(), 1)
 }
 
-/// An empty histogram, and room for its log. None: memory was refused.
+/// Returns an empty histogram, and a buffer for its log, or `None` if an allocation failed.
 fn empty_and_log(alloc: Global) -> Option<(Histogram<u64>, Vec<u8>)> {
     let h = Histogram::new(alloc, 0).ok()?;
     let log = Vec::with_capacity(alloc, 200).ok()?;
@@ -215,7 +205,7 @@ fn empty_and_log(alloc: Global) -> Option<(Histogram<u64>, Vec<u8>)> {
 const LOG: &[u8; 156] =
     b"#a\n#b\n0.000,0.000,0.000,HISTEwAAAAEAAAAAAAAAAAAAAAAAAAABAAAAAAAAAAI/8AAAAAAAAAA=\n0.000,0.000,0.000,HISTEwAAAAEAAAAAAAAAAAAAAAAAAAABAAAAAAAAAAI/8AAAAAAAAAA=\n";
 
-/// Whether a part of a log was written; else memory was refused to it. None: another error.
+/// Whether a part of a log was written; otherwise an allocation failed. `None` for any other error.
 fn is_done(answer: Result<(), IntervalLogWriterError<V2SerializeError>>) -> Option<bool> {
     match answer {
         Ok(()) => Some(true),
@@ -225,7 +215,7 @@ fn is_done(answer: Result<(), IntervalLogWriterError<V2SerializeError>>) -> Opti
     }
 }
 
-/// How many parts of `LOG` are written before memory is refused. None: another error.
+/// Returns how many parts of `LOG` are written before an allocation fails, or `None` for any other error.
 fn parts_written(
     alloc: Global,
     serializer: &mut V2Serializer,
@@ -245,7 +235,7 @@ fn parts_written(
     Some(3)
 }
 
-/// A part that memory is refused to leaves the parts before it, and nothing of its own.
+/// A part whose allocation fails leaves the parts before it, and nothing of its own.
 #[test]
 fn log_part_by_part(rt: HostRuntime) -> Result<(), Fail> {
     let Some((h, mut log)) = empty_and_log(rt.alloc()) else {

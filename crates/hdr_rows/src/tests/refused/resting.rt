@@ -1,6 +1,6 @@
-//! Calls that take no memory.
+//! Calls that allocate nothing.
 
-use crate::tests::refused::is_refused;
+use crate::tests::refused::{is_refused, made};
 use hdr_base::Quantile;
 use hdr_core::{Call, CallFrom, Histogram};
 use hdr_log::{IntervalLogIterator, Tag};
@@ -19,7 +19,7 @@ use std::time::Duration;
 const SMALL: &str = "one new_with_max 1000 1; other new_with_max 1000 1; wide new_with_max 1000 1; \
     other saturating_record 7; wide saturating_record 900";
 
-/// Calls that take no memory on `SMALL`.
+/// Calls that allocate nothing on `SMALL`.
 const RESTING: &str = "one record 900; one record_n 5 255; one record_correct 90 10; \
     one record_n_correct 90 200 7; one record_n_correct_counted 900 1 1; \
     one saturating_record 5000; one saturating_record_n 5000 3; one record 5000; \
@@ -39,7 +39,7 @@ const RESTING: &str = "one record 900; one record_n 5 255; one record_correct 90
     scale top 1 1 900; scale reach 1 1 900; scale buckets 1 1 900; scale block 1 1; \
     fraction num 1 2; fraction den 1 2; fraction ticks; bytes zig_zag -5; log tag a";
 
-/// Whether a run is done that takes no memory.
+/// Whether a run succeeds that allocates nothing.
 fn run_is_done(table: &mut Table<u64>) -> bool {
     let calls = [
         Call::Record(9, 1),
@@ -49,7 +49,7 @@ fn run_is_done(table: &mut Table<u64>) -> bool {
     table.one.apply_all(&calls).is_ok()
 }
 
-/// Whether a run is done that takes no memory, with a source of another type.
+/// Whether a run with a source of another type succeeds, which allocates nothing.
 fn run_from_is_done(table: &mut Table<u64>) -> bool {
     let calls = [
         CallFrom::Own(Call::Record(9, 1)),
@@ -59,12 +59,9 @@ fn run_from_is_done(table: &mut Table<u64>) -> bool {
     table.one.apply_all_from(&calls).is_ok()
 }
 
-/// Whether calls that take no memory are done. None: memory was refused to what is made before them.
+/// Whether calls that allocate nothing succeed, or `None` if an allocation failed before them.
 fn rests(alloc: Global) -> Option<bool> {
-    let mut table: Table<u64> = Table::new(alloc).ok()?;
-    if is_refused(alloc, &mut table, SMALL) {
-        return None;
-    }
+    let mut table = made(alloc, SMALL)?;
     Some(
         !is_refused(alloc, &mut table, RESTING)
             && run_is_done(&mut table)
@@ -72,7 +69,7 @@ fn rests(alloc: Global) -> Option<bool> {
     )
 }
 
-/// Whether the payload of a histogram and its parts are right, in a buffer that stands.
+/// Whether the payload of a histogram is right, in a buffer that is not allocated anew.
 fn payload_is_right(h: &Histogram<u64>, buf: &mut Vec<u8>) -> bool {
     let Some(room) = counts_array_max_encoded_size(h.distinct_values()) else {
         return false;
@@ -80,7 +77,7 @@ fn payload_is_right(h: &Histogram<u64>, buf: &mut Vec<u8>) -> bool {
     room <= buf.len() && matches!(encode_counts(h, buf), Ok(len) if len > 0)
 }
 
-/// Whether numbers are spelt and read again.
+/// Whether numbers are encoded, and decoded again.
 fn numbers_are_right() -> bool {
     let mut buf = [0; 9];
     let len = varint_write(300, &mut buf);
@@ -96,7 +93,7 @@ macro_rules! count_each {
     ($n:ident: $($items:expr),*) => { $(for _item in $items { $n = $n.saturating_add(1); })* };
 }
 
-/// How many items all iterators give.
+/// Returns how many items all iterators have.
 fn iterated(h: &Histogram<u64>) -> u64 {
     let mut items: u64 = 0;
     count_each!(items: h.iter_all(), h.iter_recorded(), h.iter_linear(100), h.iter_log(1, 10));
@@ -111,17 +108,14 @@ fn statistics_are_right(h: &Histogram<u64>, half: Quantile) -> bool {
     let percentiles = h.value_at_percentiles(halves.as_slice()).count();
     let below = h.quantile_below(7);
     let percent = h.percentile_below(7);
-    let is_mean = match h.mean() {
-        Some(mean) => mean.num == 7 && mean.den == 1,
-        None => false,
-    };
+    let is_mean = matches!(h.mean(), Some(mean) if mean.num == 7 && mean.den == 1);
     (quantiles, percentiles) == (2, 2)
         && (below.num, below.den) == (1, 1)
         && (percent.num, percent.den) == (100, 1)
         && is_mean
 }
 
-/// Whether makers that take no memory are called, and a log is read.
+/// Whether constructors that allocate nothing are called, and a log is read.
 fn makes_and_reads(alloc: Global) -> bool {
     let _serializer = V2Serializer::new(alloc);
     let _deserializer = Deserializer::new(alloc);
@@ -133,7 +127,7 @@ fn makes_and_reads(alloc: Global) -> bool {
     matches!(log.next(), Some(Ok(_))) && log.next().is_none() && Tag::new("a").is_some()
 }
 
-/// Whether bytes, iterators and statistics take no memory. None: memory was refused to what is made before them.
+/// Whether bytes, iterators and statistics are right, which allocate nothing, or `None` if an allocation failed before them.
 fn reads_rest(alloc: Global) -> Option<bool> {
     let mut h: Histogram<u64> = Histogram::new_with_max(alloc, 1000, 1).ok()?;
     let mut buf = vec![in alloc; 0u8; 10_000].ok()?;
@@ -148,7 +142,7 @@ fn reads_rest(alloc: Global) -> Option<bool> {
     )
 }
 
-/// What takes no memory meets no refusal once the histograms are made.
+/// No allocation fails once the histograms are made.
 #[test]
 fn resting(rt: HostRuntime) -> Result<(), Fail> {
     match rests(rt.alloc()) {

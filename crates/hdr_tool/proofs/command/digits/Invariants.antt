@@ -2,7 +2,7 @@ use Rattle.std.proofs.Common.{◌<◌, ◌^◌}
 use Rattle.hdr_log.proofs.PartsNumbers.{Reads}
 use Rattle.hdr_tool.proofs.command.digits.Given as goal
 
--- the digits so far spell the value, and few digits a small one
+-- the digits so far are the value, and few digits a small one
 abbrev pub invariant-loop-at : goal.invariant-loop-at
 invariant-loop-at l = record {
   reads : Reads l.text l.at l.value;

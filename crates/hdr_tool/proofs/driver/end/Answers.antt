@@ -1,4 +1,6 @@
-use Rattle.std.proofs.Common.{refl, Some, true}
+use Rattle.std.proofs.Common.{refl, ap, Some, true}
+use Rattle.hdr_model.specs.Plain.{Plain}
+use Rattle.hdr_model.specs.Recording.{after_reset}
 use Rattle.std.specs.Option.{option_map}
 use Rattle.hdr_tool.specs.Commands.{End}
 use Rattle.hdr_tool.specs.Outcomes.{run_command}
@@ -6,8 +8,7 @@ use Rattle.hdr_log.specs.Tags.{tag_text}
 use Rattle.hdrhistogram.specs.V2.{IsV2}
 use Rattle.hdrhistogram.specs.LogWriters.{sink}
 use Rattle.hdr_tool.specs.declared.fault.Fault.TheVariants.{CannotWrite, NoMemory}
-use Rattle.hdr_tool.proofs.OutcomesEnds.{end_written, end_failed, end_refused, short}
-use Rattle.hdr_tool.proofs.ProgramIntervals.{interval_same}
+use Rattle.hdr_tool.proofs.OutcomesRuns.{end_written, end_failed, end_refused, short, interval_same}
 use Rattle.hdr_tool.proofs.driver.end.Goals as goal
 
 pub returns-in-Ok-clause-goes : goal.returns-in-Ok-clause-goes
@@ -15,6 +16,10 @@ returns-in-Ok-clause-goes g c =
     let l = c.in-Ok.ensures.leaves in
     rw c.reset.ensures (end_written c.args.line c.args.histogram.now c.args.start c.args.duration (option_map tag_text c.args.tag) (g.W.Write.contents (sink c.args.log.now).now) (g.W.Write.contents (sink c.write_histogram.new.self).now) c.is_plain.ensures
     (l.0, interval_same IsV2 c.args.histogram.now (option_map tag_text c.args.tag) _ _ _ _ _ _ l.0 c.from_millis-start.ensures c.from_millis-duration.ensures c.requires l.1, l.2))
+
+pub returns-in-Ok-clause-grows : goal.returns-in-Ok-clause-grows
+unfolding after_reset
+returns-in-Ok-clause-grows g c = ap (λ (h : Plain). h.auto_resize) c.reset.ensures
 
 pub returns-in-Err-IoError-clause-goes : goal.returns-in-Err-IoError-clause-goes
 returns-in-Err-IoError-clause-goes g c =

@@ -1,12 +1,10 @@
 use Rattle.std.proofs.Common.{ℕ, List, take, length, ◌+◌, ◌++◌, Ok, Err, Some, ◌∙◌, ap, sym, subst, arith, refl}
 use Rattle.std.proofs.KnownBytes.{Consumes-trans}
 use Rattle.hdrhistogram.specs.LogWriters.{sink}
-use Rattle.hdr_tool.specs.Outcomes.{cause_of}
+use Rattle.hdr_tool.specs.Outcomes.{cause_of, run_lines}
 use Rattle.hdr_tool.specs.declared.fault.Fault.TheVariants.{NoMemory, CannotRead}
-use Rattle.hdr_tool.specs.Lines.{number_lines}
-use Rattle.hdr_tool.specs.Outcomes.{run_lines}
-use Rattle.hdr_tool.proofs.OutcomesSinks.{handed_on}
-use Rattle.hdr_tool.proofs.ProgramStreaming.{Streamed, rest_of, carried, further, none_read, read_to, read_all, finish, unread_rest, of_input, told_at}
+use Rattle.hdr_tool.specs.Commands.{number_lines}
+use Rattle.hdr_tool.proofs.OutcomesRuns.{handed_on, Streamed, rest_of, carried, further, none_read, read_to, read_all, finish, unread_rest, of_input, told_at}
 use Rattle.hdr_tool.proofs.driver.run_input.Goals as goal
 
 pub returns-in_err-count-clause-goes : goal.returns-in_err-count-clause-goes
@@ -47,6 +45,7 @@ loop-preserved-in_default g c =
     let p = take c.in_ok-count.count c.read_piece.new.piece in
     let t = rw c.in_default.is at c.in_ok-tail.ensures.parts in
     record {
+      grows = c.loop.invariant.grows;
       room = omega (arith, c.read_piece.auto.piece, c.loop.invariant.room);
       same = c.loop.invariant.same;
       streamed = (s.0 ++ p, Consumes-trans (g.R.Read.remaining c.args.reader.now) (g.R.Read.remaining c.loop.reader) (g.R.Read.remaining c.read_piece.new.reader) s.0 p s.1 c.in_ok-count.ensures.ok, carried c.args.is_log c.args.histogram.now s.0 c.loop.number c.loop.carry.items c.loop.histogram (g.W.Write.contents (sink c.args.log.now).now) (g.W.Write.contents (sink c.loop.log).now) s.2 p c.take_lines.new.text.items t);
@@ -81,6 +80,7 @@ loop-preserved g c =
     let then = c.run_lines-in-loop.new.histogram in
     let F : List ℕ → Type 0 = λ x. Streamed c.args.is_log c.args.histogram.now (s.0 ++ p) c.in-Ok.next x then (g.W.Write.contents (sink c.args.log.now).now) (g.W.Write.contents (sink c.run_lines-in-loop.new.log).now) in
     record {
+      grows = c.run_lines-in-loop.ensures.grows;
       room = omega (arith, c.read_piece.auto.piece, c.loop.invariant.room);
       same = record {
         writer = c.run_lines-in-loop.ensures.same.writer ∙ c.loop.invariant.same.writer;

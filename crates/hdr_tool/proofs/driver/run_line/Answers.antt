@@ -5,10 +5,8 @@ use Rattle.hdr_log.specs.Tags.{tag_text}
 use Rattle.hdrhistogram.specs.LogWriters.{sink}
 use Rattle.hdr_tool.specs.declared.fault.Fault.TheVariants.{NoMemory}
 use Rattle.hdr_tool.specs.Commands.{End}
-use Rattle.hdr_tool.specs.Outcomes.{Run, run_command, run_lines}
-use Rattle.hdr_tool.proofs.OutcomesRuns.{and_then, command_line, call_line}
-use Rattle.hdr_tool.proofs.OutcomesEnds.{short, next_line, no_command}
-use Rattle.hdr_tool.proofs.OutcomesSinks.{keeps}
+use Rattle.hdr_tool.specs.Outcomes.{Run, run_command, run_lines, LinesNeed}
+use Rattle.hdr_tool.proofs.OutcomesRuns.{and_then, command_line, call_line, short, next_line, no_command, command_needs, call_refused, call_passed, by_need, keeps}
 use Rattle.hdr_tool.proofs.driver.run_line.Goals as goal
 
 pub returns-in-Ok-clause-goes : goal.returns-in-Ok-clause-goes
@@ -37,3 +35,17 @@ returns-in_default-clause-goes g c =
     no_command (λ more. run_lines c.args.is_log c.args.histogram.now ((c.args.number, c.args.line.now) ∷ more)) c.args.number (g.W.Write.contents (sink c.args.log.now).now)
     (λ more. command_line c.args.is_log c.args.histogram.now c.args.number c.args.line.now more command (sym (rw c.in-Some-End.field-0-is at c.in-Some-End.ensures))
     ∙ ap (λ b. run_command b c.args.number c.args.histogram.now (Some command) (λ k. run_lines c.args.is_log k more)) c.if-is_log.false)
+
+pub returns-in-Ok-clause-memory : goal.returns-in-Ok-clause-memory
+returns-in-Ok-clause-memory g c = λ more n.
+    call_passed c.args.is_log c.args.histogram.now c.apply.new.self c.args.number c.args.line.now more c.in-Some-Apply.call (sym (rw c.in-Some-Apply.field-0-is at c.in-Some-Apply.ensures)) c.in-Ok.ensures.ok n
+
+pub returns-in-Err-clause-memory : goal.returns-in-Err-clause-memory
+returns-in-Err-clause-memory g c = λ more.
+    call_refused c.args.is_log c.args.histogram.now c.args.number c.args.line.now more c.in-Some-Apply.call _ (sym (rw c.in-Some-Apply.field-0-is at c.in-Some-Apply.ensures)) c.requires.grows c.in-Err.ensures.refused.0
+
+pub returns-in-Some-End-clause-memory : goal.returns-in-Some-End-clause-memory
+returns-in-Some-End-clause-memory g c =
+    let command = End c.in-Some-End.start c.in-Some-End.duration (option_map tag_text c.in-Some-End.tag) in
+    by_need (λ more. LinesNeed c.args.is_log c.args.histogram.now ((c.args.number, c.args.line.now) ∷ more)) (LinesNeed c.args.is_log c.end.new.histogram) c.end.result
+    (λ more. command_needs c.args.is_log c.args.histogram.now c.args.number c.args.line.now more command (sym (rw c.in-Some-End.field-0-is at c.in-Some-End.ensures)) (rw c.if-is_log.true tt))

@@ -1,13 +1,11 @@
-use Rattle.std.proofs.Common.{◌≡◌, ◌+◌, ◌++◌, ◌∷◌, Ok, Err, Some, refl, ap, length, arith, ◌∙◌}
+use Rattle.std.proofs.Common.{◌≡◌, ℕ, ◌+◌, ◌++◌, ◌∷◌, Ok, Err, Some, refl, sym, ap, subst, length, arith, ◌∙◌}
 use Rattle.std.specs.Option.{option_map}
 use Rattle.std.specs.List.{enumerate_from}
 use Rattle.hdrhistogram.specs.LogWriters.{sink}
 use Rattle.hdr_tool.specs.declared.fault.Fault.TheVariants.{NoMemory, CannotRead}
-use Rattle.hdr_tool.specs.Lines.{number_lines}
-use Rattle.hdr_tool.specs.Outcomes.{run_lines}
-use Rattle.hdr_tool.proofs.OutcomesRuns.{cut_short, one_line, call_line}
-use Rattle.hdr_tool.proofs.OutcomesEnds.{next_line}
-use Rattle.hdr_tool.proofs.OutcomesSinks.{handed_on}
+use Rattle.hdr_tool.specs.Commands.{number_lines}
+use Rattle.hdr_tool.specs.Outcomes.{run_lines, LinesNeed}
+use Rattle.hdr_tool.proofs.OutcomesRuns.{cut_short, one_line, call_line, next_line, call_refused, call_passed, needs_up, handed_on}
 use Rattle.hdr_tool.proofs.driver.run_lines.Goals as goal
 
 pub returns-in_default-checked_add-clause-goes : goal.returns-in_default-checked_add-clause-goes
@@ -17,6 +15,13 @@ returns-in_default-checked_add-clause-goes g c =
 pub returns-in_default-apply-clause-goes : goal.returns-in_default-apply-clause-goes
 returns-in_default-apply-clause-goes g c =
     cut_short (λ more. run_lines c.args.is_log c.args.histogram.now (number_lines c.args.number (Some c.args.text.now) ++ more)) (λ more. run_lines c.args.is_log c.loop-left.histogram (number_lines c.loop-left.next (option_map (λ t. t.now) c.loop-left.left) ++ more)) (g.W.Write.contents (sink c.args.log.now).now) (g.W.Write.contents (sink c.loop-left.log).now) NoMemory refl c.loop-left.invariant.goes
+
+pub returns-in_default-apply-clause-memory : goal.returns-in_default-apply-clause-memory
+returns-in_default-apply-clause-memory g c = λ more.
+    let line = c.in-Some-value_line.ensures in
+    let e = ap (λ o. number_lines c.loop-left.next (option_map (λ t. t.now) o)) c.in-Some.is ∙ ap (enumerate_from c.loop-left.next) line.lines in
+    c.loop-left.invariant.memory more (subst (λ l. LinesNeed c.args.is_log c.loop-left.histogram (l ++ more)) (sym e)
+    (call_refused c.args.is_log c.loop-left.histogram c.loop-left.next line.line (number_lines (c.loop-left.next + 1) (Some c.in-Some-value_line.after.now) ++ more) c.in-Some-value_line.call _ line.command c.loop-left.invariant.grows c.in_default-apply.ensures.refused.0))
 
 pub loop-left-preserved-in-Some-value_line : goal.loop-left-preserved-in-Some-value_line
 loop-left-preserved-in-Some-value_line g c =
@@ -30,6 +35,9 @@ loop-left-preserved-in-Some-value_line g c =
       goes = rw next (one_line {A = Unit {0}} c.args.is_log (λ more. run_lines c.args.is_log c.args.histogram.now (number_lines c.args.number (Some c.args.text.now) ++ more)) c.loop-left.histogram c.apply.new.self (number_lines c.loop-left.next (option_map (λ t. t.now) c.loop-left.left)) (number_lines (c.loop-left.next + 1) (Some c.in-Some-value_line.after.now)) (c.loop-left.next, line.line) o m m (Ok tt) c.loop-left.invariant.goes e
           (next_line {A = Unit {0}} (λ more. run_lines c.args.is_log c.loop-left.histogram ((c.loop-left.next, line.line) ∷ more)) (run_lines c.args.is_log c.apply.new.self) m tt
           (λ more. call_line c.args.is_log c.loop-left.histogram c.apply.new.self c.loop-left.next line.line more c.in-Some-value_line.call line.command c.in-Ok.ensures.ok)));
+      memory = rw next (λ more n. c.loop-left.invariant.memory more (subst (λ l. LinesNeed c.args.is_log c.loop-left.histogram (l ++ more)) (sym e)
+          (call_passed c.args.is_log c.loop-left.histogram c.apply.new.self c.loop-left.next line.line (number_lines (c.loop-left.next + 1) (Some c.in-Some-value_line.after.now) ++ more) c.in-Some-value_line.call line.command c.in-Ok.ensures.ok n)));
+      grows = c.in-Ok.ensures.same_bounds.2 ∙ c.loop-left.invariant.grows;
       counts = rw next (omega (arith, ap length e, c.loop-left.invariant.counts));
     }
 
@@ -39,6 +47,14 @@ returns-in_err-run_line-clause-goes g c =
     rw (handed_on c.from_residual.result c.in_err-run_line.field-0.0 c.from_residual.ensures.1)
     (one_line {A = Unit {0}} c.args.is_log (λ more. run_lines c.args.is_log c.args.histogram.now (number_lines c.args.number (Some c.args.text.now) ++ more)) c.loop-left.histogram c.run_line.new.histogram (number_lines c.loop-left.next (option_map (λ t. t.now) c.loop-left.left)) (number_lines (c.loop-left.next + 1) (option_map (λ t. t.now) c.split_first.result.1)) (c.loop-left.next, c.split_first.result.0.now)
     (g.W.Write.contents (sink c.args.log.now).now) (g.W.Write.contents (sink c.loop-left.log).now) (g.W.Write.contents (sink c.run_line.new.log).now) (Err c.in_err-run_line.field-0.0) c.loop-left.invariant.goes e c.in_err-run_line.ensures.goes)
+
+pub returns-in_err-run_line-clause-memory : goal.returns-in_err-run_line-clause-memory
+returns-in_err-run_line-clause-memory g c =
+    let e = ap (λ o. number_lines c.loop-left.next (option_map (λ t. t.now) o)) c.in-Some.is ∙ ap (enumerate_from c.loop-left.next) c.split_first.ensures.parts in
+    rw (handed_on c.from_residual.result c.in_err-run_line.field-0.0 c.from_residual.ensures.1)
+    (needs_up (Unit {0}) ℕ (λ more. LinesNeed c.args.is_log c.args.histogram.now (number_lines c.args.number (Some c.args.text.now) ++ more)) (λ more. LinesNeed c.args.is_log c.loop-left.histogram ((c.loop-left.next, c.split_first.result.0.now) ∷ more)) (LinesNeed c.args.is_log c.run_line.new.histogram) (LinesNeed c.args.is_log c.run_line.new.histogram)
+    (λ more. number_lines (c.loop-left.next + 1) (option_map (λ t. t.now) c.split_first.result.1) ++ more) c.in_err-run_line.field-0.0
+    (λ more n. c.loop-left.invariant.memory more (subst (λ l. LinesNeed c.args.is_log c.loop-left.histogram (l ++ more)) (sym e) n)) c.in_err-run_line.ensures.memory)
 
 pub loop-left-preserved : goal.loop-left-preserved
 loop-left-preserved g c =
@@ -52,5 +68,8 @@ loop-left-preserved g c =
       };
       goes = rw next (one_line {A = Unit {0}} c.args.is_log (λ more. run_lines c.args.is_log c.args.histogram.now (number_lines c.args.number (Some c.args.text.now) ++ more)) c.loop-left.histogram c.run_line.new.histogram (number_lines c.loop-left.next (option_map (λ t. t.now) c.loop-left.left)) (number_lines (c.loop-left.next + 1) (option_map (λ t. t.now) c.split_first.result.1)) (c.loop-left.next, c.split_first.result.0.now)
           (g.W.Write.contents (sink c.args.log.now).now) (g.W.Write.contents (sink c.loop-left.log).now) (g.W.Write.contents (sink c.run_line.new.log).now) (Ok tt) c.loop-left.invariant.goes e c.in_ok-run_line.ensures.goes);
+      memory = rw next (λ more n. c.loop-left.invariant.memory more (subst (λ l. LinesNeed c.args.is_log c.loop-left.histogram (l ++ more)) (sym e)
+          (c.in_ok-run_line.ensures.memory (number_lines (c.loop-left.next + 1) (option_map (λ t. t.now) c.split_first.result.1) ++ more) n)));
+      grows = c.in_ok-run_line.ensures.grows;
       counts = rw next (omega (arith, ap length e, c.loop-left.invariant.counts));
     }

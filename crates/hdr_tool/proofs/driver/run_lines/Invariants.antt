@@ -1,8 +1,8 @@
-use Rattle.std.proofs.Common.{◌≡◌, ◌+◌, ◌++◌, Some, Ok, length}
+use Rattle.std.proofs.Common.{◌≡◌, ℕ, ◌+◌, ◌++◌, List, true, Some, Ok, length}
 use Rattle.std.specs.Option.{option_map}
 use Rattle.hdrhistogram.specs.LogWriters.{sink, IsSameLog}
-use Rattle.hdr_tool.specs.Lines.{number_lines}
-use Rattle.hdr_tool.specs.Outcomes.{run_lines, Goes}
+use Rattle.hdr_tool.specs.Commands.{number_lines}
+use Rattle.hdr_tool.specs.Outcomes.{run_lines, LinesNeed, Goes}
 use Rattle.hdr_tool.proofs.LinesParts.{left_length}
 use Rattle.hdr_tool.proofs.driver.run_lines.Given as goal
 
@@ -12,6 +12,8 @@ invariant-loop-left g l = record {
   same : IsSameLog l.fn.log l.log;
   goes : Goes {A = Unit {0}} (λ more. run_lines l.fn.is_log l.fn.histogram (number_lines l.fn.number (Some l.fn.text) ++ more)) (λ more. run_lines l.fn.is_log l.histogram (number_lines l.next (option_map (λ t. t.now) l.left) ++ more))
       (g.W.Write.contents (sink l.fn.log).now) (g.W.Write.contents (sink l.log).now) (Ok tt);
+  memory : (more : List (ℕ × List ℕ)) → LinesNeed l.fn.is_log l.histogram (number_lines l.next (option_map (λ t. t.now) l.left) ++ more) → LinesNeed l.fn.is_log l.fn.histogram (number_lines l.fn.number (Some l.fn.text) ++ more);
+  grows : l.histogram.auto_resize ≡ true;
   counts : l.next + length (number_lines l.next (option_map (λ t. t.now) l.left)) ≡ l.fn.number + length (number_lines l.fn.number (Some l.fn.text));
 }
 

@@ -1,13 +1,11 @@
 use Rattle.std.proofs.Common.{Some, Ok, refl, ap, sym, ◌∙◌, true}
-use Rattle.hdr_model.specs.Plain.{empty_plain}
+use Rattle.hdr_model.specs.Plain.{Plain, empty_plain}
 use Rattle.hdrhistogram.specs.LogWriters.{sink}
 use Rattle.hdr_tool.specs.declared.fault.Fault.TheVariants.{NoMemory}
-use Rattle.hdr_tool.specs.Lines.{number_lines}
+use Rattle.hdr_tool.specs.Commands.{number_lines}
 use Rattle.hdr_tool.specs.Outcomes.{ended_by, run_lines, Stops, Goes, cause_of}
 use Rattle.hdr_tool.specs.Program.{run_input}
-use Rattle.hdr_tool.proofs.OutcomesEnds.{short}
-use Rattle.hdr_tool.proofs.OutcomesSinks.{keeps, handed_on}
-use Rattle.hdr_tool.proofs.ProgramStreaming.{some_input, moved}
+use Rattle.hdr_tool.proofs.OutcomesRuns.{short, keeps, handed_on, some_input, moved}
 use Rattle.hdr_tool.proofs.driver.run_task.Goals as goal
 
 pub returns-in_default-clause-goes : goal.returns-in_default-clause-goes
@@ -40,3 +38,7 @@ returns-clause-goes g c =
       moved (λ h o n. Goes {M = Unit {0}} {A = Unit {0}} (λ _. run_lines c.args.is_log h (number_lines 1 (Some a.0))) (λ _. ended_by (Ok c.run_input.new.histogram)) o n (Ok tt)) c.in-Ok.histogram (empty_plain 1 2 c.args.sigfig true) (g.W.Write.contents (sink c.new-log.result).now) (g.W.Write.contents c.args.writer.now) (g.W.Write.contents (sink c.run_input.new.log).now) _
           c.in-Ok.ensures.made.0 (ap g.W.Write.contents c.new-log.ensures.holds) (ap g.W.Write.contents (sym (c.writer-2-1.given.1 (sym (c.run_input.ensures.same.writer ∙ c.new-log.ensures.writer)) ∙ c.drop-log-2.ensures.writer))) a.2,
     )
+
+pub run_input-requires-clause-grows : goal.run_input-requires-clause-grows
+unfolding empty_plain
+run_input-requires-clause-grows g c = ap (λ (h : Plain). h.auto_resize) c.in-Ok.ensures.made.0

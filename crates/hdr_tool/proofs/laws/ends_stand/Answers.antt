@@ -1,4 +1,4 @@
-use Rattle.hdr_tool.proofs.LogMergesEnds.{ends_stand}
+use Rattle.hdr_tool.proofs.LogMergesWritten.{ends_stand}
 use Rattle.hdr_tool.proofs.laws.ends_stand.Goals as goal
 
 pub returns : goal.returns

@@ -1,5 +1,4 @@
-use Rattle.hdr_tool.proofs.LogMergesEnds.{CallsStand}
-use Rattle.hdr_tool.proofs.LogMergesWritten.{ReadsBack}
+use Rattle.hdr_tool.proofs.LogMergesWritten.{CallsStand, ReadsBack}
 use Rattle.hdr_tool.proofs.LogMergesStands.{ReadsStand, JoinedStand, same_unit, whole_way}
 use Rattle.hdr_tool.proofs.laws.log_merge_stands.Goals as goal
 

@@ -1,5 +1,5 @@
 use Rattle.hdrhistogram.specs.Chosen.{view_of_filter}
-use Rattle.hdr_tool.proofs.OutcomesRefused.{merge_refused}
+use Rattle.hdr_tool.proofs.OutcomesAnswers.{merge_refused}
 use Rattle.hdr_tool.proofs.merge.report_merged.Goals as goal
 
 pub returns-in-Err : goal.returns-in-Err

@@ -2,6 +2,6 @@ use Rattle.std.proofs.Common.{◌≡◌, length}
 use Rattle.std.specs.Io.KnownBytes.{Keeps}
 use Rattle.hdr_tool.proofs.stream.read_piece.Given as goal
 
--- an interrupted read gave nothing
+-- an interrupted read consumed nothing
 abbrev pub invariant-loop : goal.invariant-loop
 invariant-loop g l = (length l.piece ≡ length l.fn.piece) × Keeps (g.R.Read.remaining l.fn.reader) (g.R.Read.remaining l.reader)

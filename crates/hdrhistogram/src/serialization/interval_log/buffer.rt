@@ -1,4 +1,4 @@
-//! The bytes of a histogram before they stand in a line.
+//! The bytes of a histogram, before they are written in Base64.
 
 ghost use Rattle.std.specs.Prelude.{MatchResult};
 ghost use Rattle.hdrhistogram.specs.LogLeaving.{RefusesSerialized};
@@ -10,7 +10,7 @@ use hdr_core::Histogram;
 use std::alloc::Global;
 use std::io::{self, ErrorKind, Write};
 
-/// A buffer that a serializer writes to. It tells whether it could not grow.
+/// A buffer that a serializer writes to. `is_refused` is set if it could not grow.
 #[derive(Drop)]
 struct Buffer {
     bytes: Vec<u8>,
@@ -37,8 +37,8 @@ impl Write for Buffer {
     }
 }
 
-/// The bytes of a histogram by a serializer. The answer is `OutOfMemory` where the buffer could not grow; any other refusal
-/// is the serializer's.
+/// Returns the bytes that `serializer` writes for a histogram. Returns `OutOfMemory` if the buffer
+/// could not grow; any other error is the serializer's.
 pub(crate) fn serialized<T: Counter, S: Serializer>(
     alloc: Global,
     serializer: &mut S,

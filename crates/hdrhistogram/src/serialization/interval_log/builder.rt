@@ -1,4 +1,4 @@
-//! How a log begins.
+//! The start of a log.
 
 ghost use Rattle.std.specs.Prelude.{◌≡◌, ◌≢◌, ◌<◌, ◌++◌, ◌∷◌, [], ◌↔◌, ℕ, List, false, Some, None, Ok, IfOk, OnOk, OnErr, IfErr, MatchOption, map, string_bytes};
 ghost use Rattle.std.specs.List.{flat_map};
@@ -19,7 +19,8 @@ use std::io::Write;
 use std::marker::Model;
 use std::time::Duration;
 
-/// Says how a log begins: comments, and then the headers that are set. To its callers it is that beginning.
+/// Builds the start of a log: comments, and then the headers that are set. To its callers it is
+/// these comments and headers.
 #[derive(Drop)]
 pub struct IntervalLogWriterBuilder {
     alloc: Global,
@@ -48,7 +49,7 @@ impl Model for IntervalLogWriterBuilder {
 }
 
 impl IntervalLogWriterBuilder {
-    /// A beginning with no comment and no header. It takes no memory.
+    /// Creates a builder with no comment and no header. It allocates nothing.
     pub fn new(alloc: Global) -> IntervalLogWriterBuilder
         ensures { result ≡ new_start }
     {
@@ -61,8 +62,11 @@ impl IntervalLogWriterBuilder {
         }
     }
 
-    /// Adds a comment after those that are there. Each part of it between line feeds is to stand on a line of its own; a
-    /// part that spells a header is read as that header.
+    /// Adds a comment after the earlier ones. Each part of it between line feeds is written on a
+    /// line of its own. A part in the form of a header is read as that header.
+    ///
+    /// # Errors
+    /// Returns `OutOfMemory` if the builder could not grow; it is then unchanged.
     pub fn add_comment(&mut self, comment: &str) -> Result<(), CommentError>
         ensures ok { OnOk result (self.new
             ≡ record self.old { comments = self.old.comments ++ comment.now ∷ [] }) }
@@ -95,7 +99,8 @@ impl IntervalLogWriterBuilder {
         self
     }
 
-    /// Sets the divisor, at least 1, of the greatest values in the log; 1 if it is not set. The last call counts.
+    /// Sets the divisor of the greatest values in the log, which is at least 1. It is 1 if it is
+    /// not set. The last call counts.
     pub fn with_max_value_divisor(&mut self, divisor: u64) -> &mut Self
         requires { 0 < divisor }
         ensures same { result.ghost_name ≡ self.entry.ghost_name }
@@ -105,13 +110,14 @@ impl IntervalLogWriterBuilder {
         self
     }
 
-    /// Writes the comments in order, and then the headers that are set: start time, base time, and a divisor other than 1.
-    /// Where nothing is set, it writes nothing and succeeds.
+    /// Writes the comments in order, and then the headers that are set: start time, base time, and
+    /// a divisor other than 1. If nothing is set, it writes nothing and succeeds.
     ///
     /// # Errors
-    /// `TimeOutOfRange` where the seconds of a time don't fit 64 bits, before memory is asked for. `OutOfMemory` where the
-    /// text, which is built whole, can't be allocated. `IoError` from the writer, in which a beginning of the text may stand;
-    /// after the other errors nothing was written.
+    /// Returns `TimeOutOfRange` if the seconds of a time do not fit a `u64`, before anything is
+    /// allocated. Returns `OutOfMemory` if the output, which is built before it is written, can't
+    /// be allocated. Returns `IoError` if the writer fails; a proper prefix of the output is then
+    /// written. After the other errors nothing is written.
     pub fn write_headers<W: Write, E>(
         &self,
         writer: &mut W,
@@ -140,12 +146,12 @@ impl IntervalLogWriterBuilder {
         }
     }
 
-    /// Begins a log: `write_headers`, and then `IntervalLogWriter::new`, which lends the writer and the serializer to the
-    /// log's writer until that is dropped.
+    /// Starts a log: calls `write_headers`, and then `IntervalLogWriter::new`, whose writer borrows
+    /// `writer` and `serializer` until it is dropped.
     ///
     /// # Errors
-    /// Those of `write_headers`. What stands in the writer after one is a clause of `write_headers`, and of this call it is
-    /// only tested: no clause here speaks of a writer that was to be lent.
+    /// Those of `write_headers`. What is written on error is a clause of `write_headers`. For this
+    /// call it is only tested: no clause here is about a borrowed writer after an error.
     pub fn begin_log_with<'a, 'b, W: Write, S: Serializer>(
         &self,
         writer: &'a mut W,
@@ -174,7 +180,8 @@ impl IntervalLogWriterBuilder {
     }
 }
 
-/// The time of a header in thousandths, if it is set; `None` where its seconds do not fit 64 bits.
+/// Converts the time of a header, if it is set, to thousandths of a second. Returns `None` if its
+/// seconds do not fit a `u64`.
 fn header_time(time: Option<Duration>) -> Option<Option<u128>>
     ensures value { MatchOption result (AreSmall (thousandths_set (option_map as_nanos time)) → ⊥)
         (λ t. (t ≡ thousandths_set (option_map as_nanos time)) × AreSmall t) }
@@ -188,7 +195,7 @@ fn header_time(time: Option<Duration>) -> Option<Option<u128>>
     }
 }
 
-/// Adds comments in order.
+/// Appends comments, in order.
 fn push_comments(text: &mut Vec<u8>, comments: &[String]) -> Result<(), AllocError>
     ensures pushed { OnOk result (text.new.items ≡ text.old.items
         ++ flat_map (λ comment. piece_text (Comment (string_bytes comment))) comments.now) }
@@ -200,7 +207,7 @@ fn push_comments(text: &mut Vec<u8>, comments: &[String]) -> Result<(), AllocErr
     Ok(())
 }
 
-/// Adds the headers that are set.
+/// Appends the headers that are set.
 fn push_headers(
     text: &mut Vec<u8>,
     start_time: Option<u128>,
@@ -227,7 +234,7 @@ fn push_headers(
     Ok(())
 }
 
-/// Adds comments in order, and then the headers that are set.
+/// Appends comments, in order, and then the headers that are set.
 fn push_start(
     text: &mut Vec<u8>,
     comments: &[String],

@@ -1,4 +1,4 @@
-//! Why logs are not written.
+//! The errors of writing a log.
 
 use std::fmt::Display;
 use std::io;
@@ -12,23 +12,23 @@ pub enum CommentError {
     OutOfMemory,
 }
 
-/// Why a text is not written to a log.
+/// Why comments, headers or an interval are not written to a log.
 #[derive(Debug, Drop, Error)]
 #[error_bound(E: Display)]
 pub enum IntervalLogWriterError<E> {
-    /// The serializer refused the histogram.
+    /// The serializer returned an error.
     #[error("Histogram serialization failed: {0}")]
     SerializeError(E),
 
-    /// The writer failed, was interrupted, or took no byte.
+    /// The writer failed, was interrupted, or wrote no byte.
     #[error("An i/o error occurred: {0}")]
     IoError(io::Error),
 
-    /// A time has more seconds than 64 bits hold, once it is rounded.
+    /// The seconds of a time, once it is rounded, do not fit a `u64`.
     #[error("A time is past the seconds that a u64 holds")]
     TimeOutOfRange,
 
-    /// The text could not be built.
+    /// The output, or the bytes of the histogram, could not be allocated.
     #[error("Out of memory")]
     OutOfMemory,
 }

@@ -1,4 +1,4 @@
-//! Merging the chosen intervals of a log.
+//! Merges the chosen intervals of a log.
 
 ghost use Rattle.std.specs.Prelude.{◌≡◌, ◌+◌, ◌<◌, ◌≤◌, ◌^◌, ℕ, length, MatchResult, IfErr, Ok, Err};
 ghost use Rattle.std.specs.Option.{option_map};
@@ -21,15 +21,15 @@ use std::alloc::Global;
 use std::time::Duration;
 use thiserror::Error;
 
-/// Which intervals of a log are chosen. An interval begins at its start after the log's last base time before it, or
-/// after the epoch where it has none.
+/// Which intervals of a log are chosen. An interval begins at its start, counted from the last base
+/// time before it in the log, or from the epoch if there is none.
 #[derive(Debug, PartialEq, Clone, Copy)]
 pub struct IntervalFilter<'a> {
-    /// Intervals of this tag alone; `None`: tagged or not.
+    /// Only intervals of this tag; if `None`, tagged or not.
     pub tag: Option<Tag<'a>>,
-    /// Intervals that begin at this time or later, since the epoch; `None`: from the first on.
+    /// Only intervals that begin at this time since the epoch, or later; if `None`, from the first.
     pub from: Option<Duration>,
-    /// Intervals that begin before this time, since the epoch; `None`: to the last.
+    /// Only intervals that begin before this time since the epoch; if `None`, to the last.
     pub to: Option<Duration>,
 }
 
@@ -38,81 +38,85 @@ pub struct IntervalFilter<'a> {
 pub enum TagChoice<'a> {
     /// Every interval, tagged or not.
     Every,
-    /// Intervals of this tag alone.
+    /// Only intervals of this tag.
     Tagged(Tag<'a>),
-    /// Intervals without a tag alone.
+    /// Only intervals without a tag.
     Untagged,
 }
 
 /// An `IntervalFilter` that can also choose the intervals without a tag.
 #[derive(Debug, PartialEq, Clone, Copy)]
 pub struct IntervalChoice<'a> {
-    /// Whether their tags matter, and which one they have to have.
+    /// Which intervals are chosen by their tags.
     pub tags: TagChoice<'a>,
-    /// Intervals that begin at this time or later, since the epoch; `None`: from the first on.
+    /// Only intervals that begin at this time since the epoch, or later; if `None`, from the first.
     pub from: Option<Duration>,
-    /// Intervals that begin before this time, since the epoch; `None`: to the last.
+    /// Only intervals that begin before this time since the epoch; if `None`, to the last.
     pub to: Option<Duration>,
 }
 
-/// What was merged of a log.
+/// The result of `merge_log`.
 #[derive(Debug, Drop)]
 pub struct Merged<T: Counter> {
     /// The sum of the chosen intervals' histograms.
     pub histogram: Histogram<T>,
-    /// How many intervals were chosen.
+    /// The number of chosen intervals.
     pub chosen: u64,
 }
 
-/// What was merged of a log, and how many of its intervals are coarser than the sum.
+/// The result of `merge_chosen`.
 #[derive(Debug, Drop)]
 pub struct MergedChoice<T: Counter> {
     /// The sum of the chosen intervals' histograms.
     pub histogram: Histogram<T>,
-    /// How many intervals were chosen.
+    /// The number of chosen intervals.
     pub chosen: u64,
-    /// How many of these have classes that do not lie in classes of the sum: fewer digits, or a greater lowest value. Where it
-    /// is 0, the sum stands for their samples by its own classes.
+    /// The number of these whose classes do not all lie in classes of the sum: they have fewer
+    /// digits or a greater lowest value. If it is 0, the sum stands for their samples by its own
+    /// classes.
     pub coarser: u64,
 }
 
-/// Why a log is not merged. Intervals count from 1, chosen or not.
+/// Why a log is not merged. Intervals are numbered from 1, chosen or not.
 #[derive(Debug, Drop, Error)]
 pub enum MergeError {
-    /// No histogram has so many digits.
+    /// The digits are above 5.
     #[error("{0}")]
     Creation(CreationError),
 
-    /// The line that begins at this byte is no line of a log.
+    /// The line that starts at the byte `offset` is invalid.
     #[error("parse error at byte {offset}")]
     Parse {
         offset: usize,
     },
 
-    /// The field of this interval is no Base64.
+    /// The field of this interval is not valid Base64.
     #[error("interval {interval}: not base64")]
     Base64 {
         interval: u64,
     },
 
-    /// The bytes of this interval are no histogram.
+    /// The bytes of this interval are not a histogram.
     #[error("interval {interval}: {cause}")]
     Decode {
         interval: u64,
         cause: DeserializeError,
     },
 
-    /// No memory was left.
+    /// An allocation failed.
     #[error("Out of memory")]
     OutOfMemory,
 }
 
-/// Adds the histograms of a log's chosen intervals, in order, to an empty one of `sigfig` digits that grows. Intervals are
-/// decoded for counters of 64 bits, and their numbers are added whole. One that is not chosen is not decoded, and what
-/// follows a histogram in its field is not looked at.
+/// Adds the histograms of a log's chosen intervals, in order, to an empty one of `sigfig` digits
+/// that grows. Intervals are decoded with 64-bit counters, and a count above the greatest of `T` is
+/// saturated only in the sum. An interval that is not chosen is not decoded, and bytes after a
+/// histogram in its field are ignored.
 ///
-/// Digits above 5 are refused first. Then the lines go in order, and the first fault decides. When memory runs out the answer
-/// is `OutOfMemory`, also while a histogram is decoded.
+/// # Errors
+/// Returns `Creation` if `sigfig` is above 5, before the log is read. Otherwise returns the first
+/// error of the log, in the order of its lines: `Parse`, `Base64` or `Decode`. Returns
+/// `OutOfMemory` if an allocation fails, also while a histogram is decoded.
 pub fn merge_log<T: Counter>(
     alloc: Global,
     log: &[u8],
@@ -134,7 +138,8 @@ pub fn merge_log<T: Counter>(
     }
 }
 
-/// `merge_log` of a choice, which also counts the chosen intervals that are coarser than the sum.
+/// `merge_log` for an `IntervalChoice`, which also counts the chosen intervals that are coarser
+/// than the sum. The errors are those of `merge_log`.
 pub fn merge_chosen<T: Counter>(
     alloc: Global,
     log: &[u8],
@@ -172,23 +177,24 @@ pub fn merge_chosen<T: Counter>(
     })
 }
 
-/// How far a merge has come.
+/// The state of a merge.
 #[derive(Drop)]
 struct Merging<T: Counter> {
     histogram: Histogram<T>,
-    /// It reads all fields, by one buffer.
+    /// Decodes all fields, through one buffer.
     deserializer: Deserializer,
-    /// The histogram that was added last: the next one is read into its memory.
+    /// The histogram that was added last: the next one is decoded into its memory.
     spare: Option<Histogram<u64>>,
     /// The log's base time.
     base: Duration,
-    /// The intervals that were read, those of them that were chosen, and those of these that are coarser than the histogram.
+    /// The numbers of intervals read, of those of them that were chosen, and of those of these that
+    /// are coarser than the histogram.
     intervals: u64,
     chosen: u64,
     coarser: u64,
 }
 
-/// Why the empty histogram was not made.
+/// Converts the error of creating the empty histogram.
 fn not_made(cause: CreationError) -> MergeError
     ensures { result ≡ creation_error cause }
 {
@@ -198,18 +204,21 @@ fn not_made(cause: CreationError) -> MergeError
     }
 }
 
-/// Does what is read of a log.
+/// Applies an entry of a log, or returns the error of an invalid line.
 fn merge_entry<T: Counter>(
     merging: &mut Merging<T>,
     choice: &IntervalChoice<'_>,
     entry: &Result<LogEntry<'_>, LogIteratorError>,
 ) -> Result<(), MergeError>
+    // The numbers of intervals do not overflow.
     requires room { merging.old.intervals + 1 < 2 ^ 64 }
     requires chosen { merging.old.chosen ≤ merging.old.intervals }
     requires coarser { merging.old.coarser ≤ merging.old.intervals }
+    // They grow by 1 at most.
     ensures few { merging.new.intervals ≤ merging.old.intervals + 1 }
     ensures chosen { merging.new.chosen ≤ merging.new.intervals }
     ensures coarser { merging.new.coarser ≤ merging.new.intervals }
+    // The state after the entry, or its error.
     ensures done { MatchResult result
         (λ _. EntryMerges T.greatest (view_of_interval_choice choice.now) (view_of_merging merging.old)
         (view_of_item entry.now) (Ok (view_of_merging merging.new)))
@@ -234,14 +243,17 @@ fn merge_entry<T: Counter>(
     }
 }
 
-/// Adds the histogram of a chosen interval's field.
+/// Decodes a chosen interval's field, and adds its histogram.
 fn merge_field<T: Counter>(merging: &mut Merging<T>, field: &str) -> Result<(), MergeError>
+    // The numbers of intervals do not overflow.
     requires room { merging.old.intervals + 1 < 2 ^ 64 }
     requires chosen { merging.old.chosen ≤ merging.old.intervals }
     requires coarser { merging.old.coarser ≤ merging.old.intervals }
+    // They grow by 1 at most.
     ensures few { merging.new.intervals ≤ merging.old.intervals + 1 }
     ensures chosen { merging.new.chosen ≤ merging.new.intervals }
     ensures coarser { merging.new.coarser ≤ merging.new.intervals }
+    // The state after the interval, or its error.
     ensures done { MatchResult result
         (λ _. FieldMerges T.greatest (view_of_merging merging.old) (base64_bytes field.now)
         (Ok (view_of_merging merging.new)))
@@ -255,7 +267,7 @@ fn merge_field<T: Counter>(merging: &mut Merging<T>, field: &str) -> Result<(), 
         Err(cause) => return Err(not_decoded(interval, cause)),
     };
     let coarser = one_if_coarser(&merging.histogram, &source);
-    // A histogram that grows takes every value, so only memory can run out.
+    // A histogram that grows accepts every value, so this fails only if memory runs out.
     match merging.histogram.add_from(&source) {
         Ok(()) => {}
         Err(_) => return Err(MergeError::OutOfMemory),
@@ -267,7 +279,7 @@ fn merge_field<T: Counter>(merging: &mut Merging<T>, field: &str) -> Result<(), 
     Ok(())
 }
 
-/// 1 where the classes of a histogram do not all lie in classes of the sum, and else 0.
+/// Returns 1 if the classes of `source` do not all lie in classes of `sum`, and 0 otherwise.
 fn one_if_coarser<T: Counter, F: Counter>(sum: &Histogram<T>, source: &Histogram<F>) -> u64
     ensures value { result ≡ one_if_coarser (grain sum.now) source.now }
     ensures few { result ≤ 1 }
@@ -275,7 +287,7 @@ fn one_if_coarser<T: Counter, F: Counter>(sum: &Histogram<T>, source: &Histogram
     if source.refines(sum) { 0 } else { 1 }
 }
 
-/// Why the field of an interval was not read.
+/// Converts the error of decoding an interval's field.
 fn not_decoded(interval: u64, cause: FieldDecodeError) -> MergeError
     ensures { result ≡ field_error interval cause }
 {
@@ -287,7 +299,7 @@ fn not_decoded(interval: u64, cause: FieldDecodeError) -> MergeError
 }
 
 impl<'a> IntervalFilter<'a> {
-    /// The same choice, for `merge_chosen`.
+    /// Returns the same choice, for `merge_chosen`.
     pub fn choice(&self) -> IntervalChoice<'a>
         ensures { view_of_interval_choice result ≡ view_of_filter self.now }
     {
@@ -302,7 +314,7 @@ impl<'a> IntervalFilter<'a> {
         }
     }
 
-    /// Whether an interval is chosen, with this base time.
+    /// Whether `interval` is chosen, if `base` is the last base time before it.
     pub fn chooses(&self, base: Duration, interval: &IntervalLogHistogram<'_>) -> bool
         ensures { result ≡ is_chosen (view_of_filter self.now) (view_of_interval interval.now).tag
             (as_nanos base + (view_of_interval interval.now).start) }
@@ -312,7 +324,7 @@ impl<'a> IntervalFilter<'a> {
 }
 
 impl IntervalChoice<'_> {
-    /// Whether an interval is chosen, with this base time.
+    /// Whether `interval` is chosen, if `base` is the last base time before it.
     #[tactic(auto, unfolding(crate::specs::Chosen::is_chosen))]
     pub fn chooses(&self, base: Duration, interval: &IntervalLogHistogram<'_>) -> bool
         ensures { result ≡ is_chosen (view_of_interval_choice self.now) (view_of_interval interval.now).tag

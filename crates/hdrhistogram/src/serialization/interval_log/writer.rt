@@ -20,7 +20,8 @@ use std::alloc::Global;
 use std::io::Write;
 use std::time::Duration;
 
-/// Writes an interval log, which `IntervalLogWriterBuilder` begins. After a refusal it can be used again.
+/// Writes an interval log, which `IntervalLogWriterBuilder` starts. After an error it can be used
+/// again.
 pub struct IntervalLogWriter<'a, 'b, W, S> {
     writer: &'a mut W,
     serializer: &'b mut S,
@@ -29,7 +30,7 @@ pub struct IntervalLogWriter<'a, 'b, W, S> {
     ghost divides: { 0 < max_value_divisor },
 }
 
-/// Writes a text that was built.
+/// Writes all of `text`.
 pub(crate) fn write_text<W: Write, E>(
     writer: &mut W,
     text: &[u8],
@@ -48,8 +49,8 @@ pub(crate) fn write_text<W: Write, E>(
 impl<'a, 'b, W: Write, S: Serializer> IntervalLogWriter<'a, 'b, W, S> {
     ghost use Rattle.hdrhistogram.specs.LogWriters.{sink, maker, divisor_of, IsSameLog};
 
-    /// A writer that continues a log. Greatest values are divided by the divisor, which is at least 1. It writes nothing
-    /// itself, not even the divisor's header.
+    /// Creates a writer that continues a log. Greatest values are divided by `max_value_divisor`,
+    /// which is at least 1. The call writes nothing, not even the divisor's header.
     pub fn new(
         alloc: Global,
         writer: &'a mut W,
@@ -71,8 +72,13 @@ impl<'a, 'b, W: Write, S: Serializer> IntervalLogWriter<'a, 'b, W, S> {
         }
     }
 
-    /// Writes a comment, each part of it between line feeds on a line of its own. A part that spells a header is read as
-    /// that header.
+    /// Writes a comment, each part of it between line feeds on a line of its own. A part in the
+    /// form of a header is read as that header.
+    ///
+    /// # Errors
+    /// Returns `OutOfMemory` if the lines, which are built before they are written, can't be
+    /// allocated; nothing is then written. Returns `IoError` if the writer fails; a proper prefix
+    /// of the lines is then written.
     pub fn write_comment(
         &mut self,
         comment: &str,
@@ -90,14 +96,16 @@ impl<'a, 'b, W: Write, S: Serializer> IntervalLogWriter<'a, 'b, W, S> {
         write_text(self.writer, &text)
     }
 
-    /// Writes one interval: its tag, its start, its duration, its greatest value over the divisor, and its bytes in Base64.
-    /// The start counts from the log's base time, or from the epoch where there is none. Times are rounded to milliseconds,
-    /// and the greatest value to thousandths.
+    /// Writes one interval: its tag, its start, its duration, its greatest value over the divisor,
+    /// and its bytes in Base64. The start counts from the log's base time, or from the epoch if
+    /// there is none. Times are rounded to milliseconds, and the greatest value to thousandths.
     ///
     /// # Errors
-    /// `TimeOutOfRange` where the seconds of a time don't fit 64 bits: the serializer isn't called then. `SerializeError` with
-    /// the serializer's own error. `OutOfMemory` where the line, which is built whole, can't be allocated. `IoError` from the
-    /// writer, in which a beginning of the line may stand; after every other error nothing was written.
+    /// Returns `TimeOutOfRange` if the seconds of a time do not fit a `u64`; the serializer isn't
+    /// called then. Returns `SerializeError` with the serializer's own error. Returns `OutOfMemory`
+    /// if the bytes or the line, which is built before it is written, can't be allocated. Returns
+    /// `IoError` if the writer fails; a proper prefix of the line is then written. After every
+    /// other error nothing is written.
     pub fn write_histogram<T: Counter>(
         &mut self,
         h: &Histogram<T>,

@@ -5,7 +5,7 @@ use Rattle.hdr_base.proofs.ClassesLaws.{bucket-least}
 use Rattle.hdr_base.proofs.ClassesIntervals.{start-IsLeast, start-bucket, start-code, one-bucket}
 use Rattle.hdr_base.proofs.scale.Scale.bucket_start.Goals as goal
 
--- the first bucket begins at 0
+-- the first bucket starts at 0
 first-start : (g : Grain) (v : ℕ) → bucket g v ≡ 0 → bucket g 0 ≡ bucket g v
 first-start g v none = omega (arith, none, bucket-least g 0 (bucket g v) (rw none (omega (arith, pow_pos (g.unit + g.digits + 0)))))
 
@@ -21,7 +21,7 @@ returns-then-bucket-eq0-clause-one_bucket c = λ x from to.
     let none : bucket c.args.self c.args.value ≡ 0 = omega (arith, c.bucket-bucket.ensures.value, c.if-bucket-eq0.true) in
     one-bucket c.args.self c.args.value 0 x (first-start c.args.self c.args.value none) from to
 
--- what the code answers for a bucket above the first
+-- what the code returns for a bucket above the first
 is-start : (g : Grain) (u d b v : ℕ) → record { unit = u; digits = d } ≡ g → b ≡ bucket g v → g.unit + g.digits + b ≤ 64 → 0 < b
     → 1 * 2 ^ (u + d + (b - 1)) % 18446744073709551616 ≡ 2 ^ (g.unit + g.digits + (bucket g v - 1))
 is-start g u d b v view is bound some =

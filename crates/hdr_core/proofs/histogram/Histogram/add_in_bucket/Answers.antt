@@ -11,7 +11,7 @@ use Rattle.hdr_core.proofs.histogram.Histogram.add_in_bucket.Given as given
 use Rattle.hdr_core.proofs.histogram.Histogram.add_in_bucket.Goals as goal
 use Rattle.hdr_core.proofs.histogram.Histogram.add_in_bucket.Goals.{In-loop-next}
 
--- what is found of the value x at hand: its bin, and how far it is above the lowest value of its class
+-- what is known of the value x: its bin, and how far it is above the lowest value of its class
 record IsFound (h : Plain) (scale : Grain) (x first w i : ℕ) : Type 0 where
   ge : i ≤ x
   digits : 0 < (grain h).digits
@@ -55,15 +55,15 @@ add_counted-requires-clause-room g c =
     let f = found g (goal.at.add_counted-requires-clause-room g c).In-loop-next in
     omega (arith, c.requires.room, c.loop-next.invariant.ticks, held-step (grain h) x i low ((x - low) / i + 1) (omega arith) f.digits f.ge refl refl (length h.counts) f.room)
 
-pub overflow_sub-next-in-loop-next : goal.overflow_sub-next-in-loop-next
-overflow_sub-next-in-loop-next g c =
+pub overflow_sub-next : goal.overflow_sub-next
+overflow_sub-next g c =
     let h = c.args.self.now in
     let i = c.args.interval in
-    let f = found g (goal.at.overflow_sub-next-in-loop-next g c).In-loop-next in
-    members-fit (grain h) c.loop-next.next i (max (lowest_of (grain h) c.loop-next.next) i) (c.steps-members.result + 1) (omega arith) f.digits f.ge refl (ap (λ q. q + 1) (c.steps-members.ensures ∙ ap (λ y. y / i) (f.span_is c.min-span.result c.min-span.ensures)))
+    let f = found g (goal.at.overflow_sub-next g c).In-loop-next in
+    members-fit (grain h) c.loop-next.next i (max (lowest_of (grain h) c.loop-next.next) i) c.members-members.result (omega arith) f.digits f.ge refl (c.members-members.ensures ∙ ap (λ y. y / i + 1) (f.span_is _ refl))
 
 pub overflow_mul-next : goal.overflow_mul-next
-overflow_mul-next g c = omega (arith, overflow_sub-next-in-loop-next g c)
+overflow_mul-next g c = omega (arith, overflow_sub-next g c)
 
 pub loop-next-preserved : goal.loop-next-preserved
 loop-next-preserved g c =
@@ -78,13 +78,13 @@ loop-next-preserved g c =
     let inv = c.loop-next.invariant in
     let f = found g (goal.at.loop-next-preserved g c).In-loop-next in
     let digits_here : 0 < (grain k).digits = rw inv.same_classes f.digits in
-    let steps = c.steps-members.ensures ∙ ap (λ y. y / i) (f.span_is c.min-span.result c.min-span.ensures) in
+    let members : c.members-members.result ≡ m = c.members-members.ensures ∙ ap (λ y. y / i + 1) (f.span_is _ refl) in
     let is_low_here : low ≡ max (lowest_of (grain k) x) i = ap (λ (s : Grain). max (lowest_of s x) i) (sym inv.same_classes) in
     let is_bin = f.bin_is c.bin.result c.bin.ensures.value ∙ ap (λ (s : Grain). bin_of s x) (sym inv.same_classes) in
     let room_here : bin_of (grain k) x < length k.counts = rw inv.same_classes (omega (arith, f.room, inv.same_bins)) in
     let new : c.add_counted.new.self ≡ after_add_to_bin greatest k (bin_of (grain k) x) (m * n) =
-    c.add_counted.ensures.state ∙ ap (λ b. after_add_to_bin greatest k b ((c.steps-members.result + 1) * n)) is_bin ∙ ap (λ q. after_add_to_bin greatest k (bin_of (grain k) x) ((q + 1) * n)) steps in
-    rw steps (record {
+    c.add_counted.ensures.state ∙ ap (λ b. after_add_to_bin greatest k b (c.members-members.result * n)) is_bin ∙ ap (λ q. after_add_to_bin greatest k (bin_of (grain k) x) (q * n)) members in
+    rw members (record {
       state = ap (λ (s : Plain). after_records greatest s (each_times n (down_to (x - m * i) i))) new
           ∙ state-step greatest k x i low m n (omega arith) digits_here f.ge is_low_here refl (omega (arith, c.requires.within, inv.below, inv.same_reach)) room_here ∙ inv.state;
       ticks = omega (arith, c.add_counted.ensures.ticks, inv.ticks, held-step (grain h) x i low m (omega arith) f.digits f.ge refl refl (length h.counts) f.room);

@@ -4,7 +4,7 @@ use Rattle.hdr_model.specs.Plain.{Plain, grain, max_of}
 use Rattle.hdr_model.specs.Samples.{StandsFor, Fits}
 use Rattle.hdr_model.specs.Merging.{highest_top}
 use Rattle.hdr_model.specs.Recording.{high_with, clamp}
-use Rattle.hdr_model.proofs.PlainBounds.{bounds, low-and-sigfig, bounds-recorded, bounds-corrected, bounds-cleared, bounds-restarted, bounds-merged, bounds-merged_corrected}
+use Rattle.hdr_model.proofs.PlainBounds.{bounds, same-bounds, bounds-recorded, bounds-corrected, bounds-cleared, bounds-restarted, bounds-merged, bounds-merged_corrected}
 use Rattle.hdr_model.proofs.PlainKept.{grain-recorded}
 use Rattle.hdr_model.proofs.RecordingClears.{grain-cleared, grain-restarted, high-cleared, high-restarted, high-clamped, clamped-is, stands-cleared, stands-restarted}
 use Rattle.hdr_model.proofs.CorrectionByClass.{grain-corrected}
@@ -95,22 +95,22 @@ returns-in-Ok-add_correct-clause-samples g c = λ s t stands to fits.
     )
 
 pub returns-in-Ok-clause-same_bounds : goal.returns-in-Ok-clause-same_bounds
-returns-in-Ok-clause-same_bounds g c = low-and-sigfig _ c.args.self.now (ap (λ (h : Plain). bounds h) c.in-Ok.ensures.ok ∙ bounds-recorded g.T.Counter.greatest c.args.self.now c.in-Record.value (g.T.Counter.number c.in-Record.count))
+returns-in-Ok-clause-same_bounds g c = same-bounds _ c.args.self.now (ap (λ (h : Plain). bounds h) c.in-Ok.ensures.ok ∙ bounds-recorded g.T.Counter.greatest c.args.self.now c.in-Record.value (g.T.Counter.number c.in-Record.count))
 
 pub returns-in-Clamp-clause-same_bounds : goal.returns-in-Clamp-clause-same_bounds
-returns-in-Clamp-clause-same_bounds g c = low-and-sigfig _ c.args.self.now (ap (λ (h : Plain). bounds h) c.saturating_record_n.ensures.state ∙ bounds-recorded _ _ _ _)
+returns-in-Clamp-clause-same_bounds g c = same-bounds _ c.args.self.now (ap (λ (h : Plain). bounds h) c.saturating_record_n.ensures.state ∙ bounds-recorded _ _ _ _)
 
 pub returns-in-Ok-record_n_correct-clause-same_bounds : goal.returns-in-Ok-record_n_correct-clause-same_bounds
-returns-in-Ok-record_n_correct-clause-same_bounds g c = low-and-sigfig _ c.args.self.now (ap (λ (h : Plain). bounds h) c.in-Ok-record_n_correct.ensures.ok ∙ bounds-corrected g.T.Counter.greatest c.args.self.now c.in-Correct.value (g.T.Counter.number c.in-Correct.count) c.in-Correct.interval)
+returns-in-Ok-record_n_correct-clause-same_bounds g c = same-bounds _ c.args.self.now (ap (λ (h : Plain). bounds h) c.in-Ok-record_n_correct.ensures.ok ∙ bounds-corrected g.T.Counter.greatest c.args.self.now c.in-Correct.value (g.T.Counter.number c.in-Correct.count) c.in-Correct.interval)
 
 pub returns-in-Clear-clause-same_bounds : goal.returns-in-Clear-clause-same_bounds
-returns-in-Clear-clause-same_bounds g c = low-and-sigfig _ c.args.self.now (ap (λ (h : Plain). bounds h) c.clear.ensures ∙ bounds-cleared c.args.self.now)
+returns-in-Clear-clause-same_bounds g c = same-bounds _ c.args.self.now (ap (λ (h : Plain). bounds h) c.clear.ensures ∙ bounds-cleared c.args.self.now)
 
 pub returns-in-Reset-clause-same_bounds : goal.returns-in-Reset-clause-same_bounds
-returns-in-Reset-clause-same_bounds g c = low-and-sigfig _ c.args.self.now (ap (λ (h : Plain). bounds h) c.reset.ensures ∙ bounds-restarted c.args.self.now)
+returns-in-Reset-clause-same_bounds g c = same-bounds _ c.args.self.now (ap (λ (h : Plain). bounds h) c.reset.ensures ∙ bounds-restarted c.args.self.now)
 
 pub returns-in-Ok-add-clause-same_bounds : goal.returns-in-Ok-add-clause-same_bounds
-returns-in-Ok-add-clause-same_bounds g c = low-and-sigfig _ c.args.self.now (ap (λ (h : Plain). bounds h) c.in-Ok-add.ensures.ok ∙ bounds-merged g.T.Counter.greatest c.args.self.now c.in-Add.source.now)
+returns-in-Ok-add-clause-same_bounds g c = same-bounds _ c.args.self.now (ap (λ (h : Plain). bounds h) c.in-Ok-add.ensures.ok ∙ bounds-merged g.T.Counter.greatest c.args.self.now c.in-Add.source.now)
 
 pub returns-in-Ok-add_correct-clause-same_bounds : goal.returns-in-Ok-add_correct-clause-same_bounds
-returns-in-Ok-add_correct-clause-same_bounds g c = low-and-sigfig _ c.args.self.now (ap (λ (h : Plain). bounds h) c.in-Ok-add_correct.ensures.ok ∙ bounds-merged_corrected g.T.Counter.greatest c.args.self.now c.in-AddCorrect.source.now c.in-AddCorrect.interval)
+returns-in-Ok-add_correct-clause-same_bounds g c = same-bounds _ c.args.self.now (ap (λ (h : Plain). bounds h) c.in-Ok-add_correct.ensures.ok ∙ bounds-merged_corrected g.T.Counter.greatest c.args.self.now c.in-AddCorrect.source.now c.in-AddCorrect.interval)

@@ -21,7 +21,7 @@ loop-at-preserved g c =
     let same = sym c.loop-at.invariant.same_classes in
     record {
       same_classes = c.in_default.ensures.same_classes ∙ c.loop-at.invariant.same_classes;
-      same_bounds = (c.in_default.ensures.same_bounds.0 ∙ c.loop-at.invariant.same_bounds.0, c.in_default.ensures.same_bounds.1 ∙ c.loop-at.invariant.same_bounds.1);
+      same_bounds = (c.in_default.ensures.same_bounds.0 ∙ c.loop-at.invariant.same_bounds.0, c.in_default.ensures.same_bounds.1 ∙ c.loop-at.invariant.same_bounds.1, c.in_default.ensures.same_bounds.2 ∙ c.loop-at.invariant.same_bounds.2);
       run = rw more (WasRun-push (after_call_from greatest number) IsTakenFrom (CallFromTo number k) (Fits greatest k) (take at calls) call h c.loop-at.self c.apply_from.new.self c.loop-at.invariant.run c.in_default.ensures.can c.in_default.ensures.ok
           (λ s t stands called fits. c.in_default.ensures.samples s t stands (subst (λ (k : Grain). CallFromTo number k call s t) same called) (subst (λ (k : Grain). Fits greatest k t.samples) same fits)));
     }

@@ -1,10 +1,11 @@
-use Rattle.std.proofs.Common.{◌≡◌, ◌≢◌, ◌⊎◌, ◌∙◌, ◌+◌, ◌<◌, ◌≤◌, ap, subst, sym, arith, length, get_or, inl, inr}
+use Rattle.std.proofs.Common.{◌≡◌, ℕ, ◌≢◌, ◌⊎◌, ◌∙◌, ◌+◌, ◌<◌, ◌≤◌, ap, subst, sym, arith, length, get_or, inl, inr}
 use Rattle.hdr_base.specs.Classes.{value_of}
 use Rattle.hdr_base.proofs.ClassesFiner.{bin-value_of}
 use Rattle.hdr_model.specs.Plain.{Plain, grain}
 use Rattle.hdr_model.proofs.PlainKept.{grain-digits}
 use Rattle.hdr_model.proofs.MergingKeeps.{number-le-max}
-use Rattle.hdr_model.proofs.MergingHolds.{held-all, held-le, IsTested, tested-init, tested-same, tested-sum, tested-next}
+use Rattle.hdr_model.proofs.MergingHolds.{held-le, IsTested, tested-init, tested-same, tested-sum, tested-next}
+use Rattle.hdr_core.proofs.UsedBins.{held-used}
 use Rattle.hdr_core.proofs.histogram.Histogram.holds.Given as given
 use Rattle.hdr_core.proofs.histogram.Histogram.holds.Goals as goal
 use Rattle.hdr_core.proofs.histogram.Histogram.holds.Goals.{In-loop-bin, After-get, then-count-gt0+else-sum-from, then-target-at, else-target-at, else-count-gt0}
@@ -12,16 +13,16 @@ use Rattle.hdr_core.proofs.histogram.Histogram.holds.Goals.{In-loop-bin, After-g
 pub loop-bin-init : goal.loop-bin-init
 loop-bin-init g c = tested-init (grain c.args.self.now) (grain c.args.other.now) c.args.self.now.counts c.args.other.now.counts
 
--- the class that is looked at is one of the other's
+-- the class that is read is one of the other's
 inside : (g : given.Over) (c : In-loop-bin g) → c.loop-bin.bin < length c.args.other.now.counts
-inside g c = omega (arith, ap (λ (p : Plain). length p.counts) c.other.view_is, c.loop-bin-test.true, c.len-bin-end.ensures, c.loop-bin.auto.bin-end)
+inside g c = omega (arith, c.loop-bin-test.true, c.used_bins-bin-end.ensures.within, c.loop-bin.auto.bin-end)
 
 -- its number
 number : (g : given.Over) (c : After-get g) → g.T.Counter.number c.get.result ≡ get_or c.args.other.now.counts c.loop-bin.bin 0
 number g c = c.get.ensures ∙ ap (λ (p : Plain). get_or p.counts c.loop-bin.bin 0) c.other.view_is
 
 -- digits of both
-digits : (g : given.Over) (c : In-loop-bin g) → (0 < (grain c.args.self.now).digits) × (0 < (grain c.args.other.now).digits)
+digits : (g : given.Over) (c : After-get g) → (0 < (grain c.args.self.now).digits) × (0 < (grain c.args.other.now).digits)
 digits g c = (
   grain-digits g.T.Counter.greatest c.args.self.now (rw c.self.view_is at c.self.invariant.plain),
   grain-digits g.T.Counter.greatest c.args.other.now (rw c.other.view_is at c.other.invariant.plain),
@@ -32,7 +33,7 @@ bin_of_class-target-requires-clause-reached g c =
     let s = c.args.other.now in
     let i = c.loop-bin.bin in
     let pos : 0 < get_or s.counts i 0 = omega (arith, number g (goal.at.bin_of_class-target-requires-clause-reached g c).After-get, c.as_u64-count.ensures.value, c.if-count-gt0.true) in
-    let positive = (digits g (goal.at.bin_of_class-target-requires-clause-reached g c).In-loop-bin).1 in
+    let positive = (digits g (goal.at.bin_of_class-target-requires-clause-reached g c).After-get).1 in
     omega (arith, number-le-max g.T.Counter.greatest s i (value_of (grain s) i) (rw c.other.view_is at c.other.invariant.plain) pos (bin-value_of (grain s) i positive), c.requires)
 
 pub returns-then-sum-from-clause-no : goal.returns-then-sum-from-clause-no
@@ -41,7 +42,7 @@ returns-then-sum-from-clause-no g c =
     let s = c.args.other.now in
     let i = c.loop-bin.bin in
     let at = c.as_u64-count.ensures.value ∙ number g (goal.at.returns-then-sum-from-clause-no g c).After-get in
-    let positive = digits g (goal.at.returns-then-sum-from-clause-no g c).In-loop-bin in
+    let positive = digits g (goal.at.returns-then-sum-from-clause-no g c).After-get in
     let target = c.bin_of_class-target.result in
     let before = c.if-target-at.before in
     let from : ((target ≡ c.loop-bin.at) × (before ≡ c.loop-bin.sum)) ⊎ ((target ≢ c.loop-bin.at) × (before ≡ 0)) = elim c.if-target-at.branch [
@@ -59,7 +60,7 @@ loop-bin-preserved g c =
     let i = c.loop-bin.bin in
     let at = c.as_u64-count.ensures.value ∙ number g (goal.at.loop-bin-preserved g c).After-get in
     let lt = inside g (goal.at.loop-bin-preserved g c).In-loop-bin in
-    let positive = digits g (goal.at.loop-bin-preserved g c).In-loop-bin in
+    let positive = digits g (goal.at.loop-bin-preserved g c).After-get in
     elim c.if-count-gt0.branch [
       | then-count-gt0+else-sum-from w ↦ (
           let target = w.bin_of_class-target.result in
@@ -85,5 +86,5 @@ returns-clause-yes g c =
     let h = c.args.self.now in
     let s = c.args.other.now in
     let i = c.loop-bin.bin in
-    let end : length s.counts ≤ i = omega (arith, ap (λ (p : Plain). length p.counts) c.other.view_is, c.loop-bin-test.false, c.len-bin-end.ensures, c.loop-bin.auto.bin-end) in
-    λ e j. omega (arith, c.loop-bin.invariant.tested j, held-all (grain h) (grain s) s.counts i j end)
+    let rest : (k : ℕ) → i ≤ k → get_or s.counts k 0 ≡ 0 = λ k le. c.used_bins-bin-end.ensures.rest k (omega (arith, le, c.loop-bin-test.false, c.loop-bin.auto.bin-end)) in
+    λ e j. omega (arith, c.loop-bin.invariant.tested j, held-used (grain h) (grain s) s.counts i j rest)

@@ -1,11 +1,11 @@
-use Rattle.std.proofs.Common.{◌≡◌, ◌∙◌, ◌+◌, ◌-◌, ◌^◌, ◌<◌, ◌≤◌, IfSome, ◌++◌, min, ap, sym, subst, length, sum, arith}
+use Rattle.std.proofs.Common.{◌≡◌, ◌∙◌, ◌+◌, ◌-◌, ◌^◌, ◌<◌, ◌≤◌, IfSome, ◌++◌, min, ap, sym, subst, length, sum}
 use Rattle.hdr_counts.specs.Blocks.{Blocks, capped_sums}
 use Rattle.hdr_core.specs.Shown.{plain_of}
 use Rattle.hdr_model.specs.Marks.{MarkPair, later_of, earlier_of}
 use Rattle.hdr_model.specs.Plain.{Plain, IsPlain, grain, reach, max_of}
 use Rattle.hdr_model.specs.Recording.{after_records}
 use Rattle.hdr_model.specs.Merging.{classes_from, top_class}
-use Rattle.hdr_model.proofs.MergingFronts.{added_at_once, fronts-are}
+use Rattle.hdr_model.proofs.MergingFronts.{fronts-are}
 use Rattle.hdr_model.proofs.MergingOrder.{IsPlain-each}
 use Rattle.hdr_model.proofs.MergingStands.{classes-inside}
 use Rattle.hdr_model.proofs.PlainBins.{few-bins}

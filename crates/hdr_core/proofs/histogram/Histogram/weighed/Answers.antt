@@ -11,7 +11,7 @@ use Rattle.hdr_core.proofs.histogram.Histogram.weighed.Given as given
 use Rattle.hdr_core.proofs.histogram.Histogram.weighed.Goals as goal
 use Rattle.hdr_core.proofs.histogram.Histogram.weighed.Goals.{In-loop-bin, After-as_u64}
 
--- the bin that is looked at, and its number
+-- the bin that is read, and its number
 at : (g : given.Over) (c : In-loop-bin g) → c.loop-bin.bin < length c.self.inside.counts.numbers
 at g c = omega (arith, c.loop-bin-test.true, c.len.ensures.value)
 

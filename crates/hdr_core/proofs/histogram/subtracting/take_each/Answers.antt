@@ -5,7 +5,8 @@ use Rattle.std.proofs.lemmas.List.Elements.{All-set}
 use Rattle.hdr_base.specs.Classes.{bin_of}
 use Rattle.hdr_counts.specs.Blocks.{Blocks}
 use Rattle.hdr_model.specs.Plain.{Plain, grain}
-use Rattle.hdr_model.proofs.MergingHolds.{held, held-all, held-none, held-same, enough-left, taken-next}
+use Rattle.hdr_model.proofs.MergingHolds.{held, held-none, held-same, enough-left, taken-next}
+use Rattle.hdr_core.proofs.UsedBins.{held-used}
 use Rattle.hdr_core.proofs.histogram.subtracting.take_each.Given as given
 use Rattle.hdr_core.proofs.histogram.subtracting.take_each.Goals as goal
 use Rattle.hdr_core.proofs.histogram.subtracting.take_each.Goals.{After-get-count, then-as_u64-gt0, else-as_u64-gt0}
@@ -18,10 +19,10 @@ loop-bin-init g c = record {
   taken = λ j. omega (arith, held-none c.args.scale (grain c.args.other.now) c.args.other.now.counts j);
 }
 
--- the class that is looked at is one of the other's, and its number
+-- the class that is read is one of the other's, and its number
 looked_at : (g : given.Over) (c : After-get-count g) → (c.loop-bin.bin < length c.args.other.now.counts) × (g.T.Counter.number c.get-count.result ≡ get_or c.args.other.now.counts c.loop-bin.bin 0)
 looked_at g c = (
-  omega (arith, ap (λ (p : Plain). length p.counts) c.other.view_is, c.loop-bin-test.true, c.len-bin-end.ensures, c.loop-bin.auto.bin-end),
+  omega (arith, c.loop-bin-test.true, c.used_bins-bin-end.ensures.within, c.loop-bin.auto.bin-end),
   c.get-count.ensures ∙ ap (λ (p : Plain). get_or p.counts c.loop-bin.bin 0) c.other.view_is,
 )
 
@@ -76,5 +77,5 @@ pub returns-clause-numbers : goal.returns-clause-numbers
 returns-clause-numbers g c =
     let s = c.args.other.now in
     let i = c.loop-bin.bin in
-    let end : length s.counts ≤ i = omega (arith, ap (λ (p : Plain). length p.counts) c.other.view_is, c.loop-bin-test.false, c.len-bin-end.ensures, c.loop-bin.auto.bin-end) in
-    λ j. omega (arith, c.loop-bin.invariant.taken j, held-all c.args.scale (grain s) s.counts i j end)
+    let rest : (k : ℕ) → i ≤ k → get_or s.counts k 0 ≡ 0 = λ k le. c.used_bins-bin-end.ensures.rest k (omega (arith, le, c.loop-bin-test.false, c.loop-bin.auto.bin-end)) in
+    λ j. omega (arith, c.loop-bin.invariant.taken j, held-used c.args.scale (grain s) s.counts i j rest)

@@ -1,15 +1,8 @@
-use Rattle.std.proofs.Common.{◌-◌, ◌<◌, map, set, take, drop, subst, arith}
+use Rattle.std.proofs.Common.{◌-◌, ◌<◌, map, take, drop, subst, arith}
 use Rattle.std.proofs.lemmas.List.{length-take}
 use Rattle.hdr_counts.specs.Blocks.{AreZeros, IsFirstNonzero}
-use Rattle.hdr_counts.proofs.BlocksOpen.{part-small, open-first, open-none-after}
+use Rattle.hdr_counts.proofs.BlocksOpen.{open-first, open-none-after}
 use Rattle.hdr_counts.proofs.open_counts.OpenCounts.next_nonzero.Goals as goal
-
-pub first_of-requires : goal.first_of-requires
-first_of-requires g c =
-    let s = c.self.inside in
-    let from = c.min-from.result in
-    let small = part-small g.T.Counter.number s.counters.items c.deref.result.now g.T.Counter.greatest s.section s.len _ from (s.next - from) (set s.sums.items s.current s.sum) s.shift c.self.invariant.0 c.deref.ensures.value in
-    omega (arith, small)
 
 pub returns-in-Some-clause-place : goal.returns-in-Some-clause-place
 returns-in-Some-clause-place g c =

@@ -8,7 +8,7 @@ use Rattle.hdr_counts.proofs.open_counts.OpenCounts.set_further.Given as given
 use Rattle.hdr_counts.proofs.open_counts.OpenCounts.set_further.Goals as goal
 use Rattle.hdr_counts.proofs.open_counts.OpenCounts.set_further.Goals.{After-cover, After-keep_sum, After-exchanged-sum}
 
--- the counters with the place at hand
+-- the counters, zero-filled up to the index
 covered : (g : given.Over) (c : After-cover g) → AreOpen g.T.Counter.greatest c.self.inside.section c.self.inside.len (vec_capacity c.cover.new.counters) (map g.T.Counter.number c.cover.new.counters.items) (set c.self.inside.sums.items c.self.inside.current c.self.inside.sum) c.self.inside.shift
 covered g c =
     let n = g.T.Counter.number in
@@ -34,7 +34,7 @@ here g c =
     let end : (c.quotient-k.result + 1) * s.section ≡ (c.args.i / s.section + 1) * s.section = ap (λ q. (q + 1) * s.section) c.quotient-k.ensures in
     omega (arith, block-end g c, end, block_of s.section c.args.i c.self.invariant.0.some)
 
--- all numbers with the place written
+-- all numbers with the index written
 written : (g : given.Over) (c : After-cover g) → ◌≡◌ {A = Blocks} (record { block = c.self.inside.block; numbers = with_zeros (map g.T.Counter.number (set c.cover.new.counters.items c.args.i c.args.value)) c.self.inside.len })
     (record { block = c.args.self.now.block; numbers = set c.args.self.now.numbers c.args.i (g.T.Counter.number c.args.value) })
 written g c =
@@ -46,7 +46,7 @@ written g c =
     rw (← c.self.view_is) (ap (λ l. record { block = s.block; numbers = l }) (ap (λ l. with_zeros l s.len) (map-set n xs i c.args.value) ∙ set-with-zeros (map n xs) s.len i (n c.args.value) (here g c)
     ∙ ap (λ l. set l i (n c.args.value)) (more-zeros (map n s.counters.items) (map n xs) s.len more zeros (covered g c).within)))
 
--- the counters, with the sum of the current block in its place
+-- the counters, with the sum of the current block stored
 kept : (g : given.Over) (c : After-keep_sum g) → AreOpen g.T.Counter.greatest c.self.inside.section c.self.inside.len (vec_capacity c.cover.new.counters) (map g.T.Counter.number c.cover.new.counters.items) (set c.self.inside.sums.items c.self.inside.current c.self.inside.sum) c.self.inside.shift
     → AreOpen g.T.Counter.greatest c.self.inside.section c.self.inside.len (vec_capacity c.cover.new.counters) (map g.T.Counter.number c.cover.new.counters.items) c.keep_sum.new.sums.items c.self.inside.shift
 kept g c before =

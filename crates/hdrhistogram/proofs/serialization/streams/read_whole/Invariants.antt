@@ -2,7 +2,7 @@ use Rattle.std.proofs.Common.{length, ◌-◌, ◌≤◌, take}
 use Rattle.std.specs.Io.KnownBytes.{Consumes}
 use Rattle.hdrhistogram.proofs.serialization.streams.read_whole.Given as goal
 
--- the reader gave the part that is done
+-- the part that is done was read
 abbrev pub invariant-loop-done : goal.invariant-loop-done
 invariant-loop-done g l =
     let remaining = g.R.Read.remaining in

@@ -2,7 +2,7 @@ use Rattle.std.proofs.Common.{length, ◌-◌, ◌≤◌, take}
 use Rattle.std.specs.Io.KnownBytes.{Appends}
 use Rattle.hdrhistogram.proofs.serialization.streams.write_whole.Given as goal
 
--- the part that is done stands in the writer
+-- the part that is done is written
 abbrev pub invariant-loop-done : goal.invariant-loop-done
 invariant-loop-done g l =
     let contents = g.W.Write.contents in

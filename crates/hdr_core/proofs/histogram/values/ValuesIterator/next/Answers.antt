@@ -6,7 +6,7 @@ use Rattle.hdr_core.proofs.histogram.values.ValuesIterator.next.Given as given
 use Rattle.hdr_core.proofs.histogram.values.ValuesIterator.next.Goals as goal
 use Rattle.hdr_core.proofs.histogram.values.ValuesIterator.next.Goals.{Joined-else-total-gt0, else-total-gt0-via-then-total-gt0+else-is_below, else-total-gt0-via-else-total-gt0}
 
--- a quantile that is answered is not below the one before it
+-- a quantile whose value is yielded is not below the one before it
 rising : (g : given.Over) (c : Joined-else-total-gt0 g) → 0 < c.self.inside.histogram.now.total → is_below c.in_ok-first.first.now c.self.inside.last ≡ false
 rising g c some = elim c.else-total-gt0.branch [
   | else-total-gt0-via-then-total-gt0+else-is_below w ↦ sym w.is_below.ensures ∙ w.if-is_below.false

@@ -5,7 +5,7 @@ use Rattle.hdrhistogram.specs.MergeView.{view_of_merging}
 use Rattle.hdrhistogram.specs.declared.serialization.interval_log.merge.MergeError.{MergeError}
 use Rattle.hdrhistogram.proofs.serialization.interval_log.merge.merge_chosen.Given as goal
 
--- how what is left of the log merges is how all of it does, and there are no more intervals than were read
+-- the rest of the log merges as all of it does, and there are no more intervals than were read
 abbrev pub invariant-loop-entry : goal.invariant-loop-entry
 invariant-loop-entry g l = record {
   few : l.merging.intervals + length l.entry-iterator ≤ length l.fn.log + 1;
