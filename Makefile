@@ -13,10 +13,17 @@ install: all
 	install -Dm755 target/hdr $(DESTDIR)$(PREFIX)/bin/hdr
 	install -Dm644 man/hdr.1 $(DESTDIR)$(PREFIX)/share/man/man1/hdr.1
 
+# The edits are tried in a copy of the repository meanwhile, and what comes of them is printed last.
 check:
-	tools/edits --beside $(MAKE) --no-print-directory proofs-and-runs
+	tools/edits --control
+	$(MAKE) --no-print-directory -j2 proofs-and-runs trials || { cat target/edits.log; exit 1; }
+	cat target/edits.log
 
-# What the gate does beside the edits and their controls.
+trials:
+	mkdir -p target
+	tools/edits --fresh >target/edits.log
+
+# What the gate does beside the edits.
 proofs-and-runs:
 	rt ci
 	tools/test --keep
@@ -47,4 +54,4 @@ bench:
 bench-shapes:
 	compare/run shapes
 
-.PHONY: all install check proofs-and-runs test edits quick bench bench-shapes
+.PHONY: all install check proofs-and-runs trials test edits quick bench bench-shapes
