@@ -1,20 +1,8 @@
 -- The commands of lines: their values are u64. Value lines of few digits.
-use Rattle.std.proofs.Common.{◌≡◌, ℕ, ◌-◌, ◌^◌, ◌<◌, Bool, true, false, cond, ◌&&◌, nat_lt, List, [], ◌∷◌, Option, Some, None, IfSome, refl, zero, suc, ◌+◌, ◌*◌, ◌≤◌, ◌==◌, ◌++◌, length, take, drop, get_or, unwrap_or, sym, ap, ◌∙◌, arith, lit<}
-use Rattle.std.specs.Option.{option_map}
-use Rattle.std.specs.Prelude.{codes}
-use Rattle.std.specs.Str.{bytes_eq}
+use Rattle.hdr_tool.proofs.Common.{◌≡◌, ℕ, ◌-◌, ◌^◌, ◌<◌, Bool, true, false, cond, ◌&&◌, nat_lt, List, [], ◌∷◌, Option, Some, None, IfSome, refl, zero, suc, ◌+◌, ◌*◌, ◌≤◌, ◌==◌, ◌++◌, length, take, drop, get_or, unwrap_or, sym, ap, ◌∙◌, arith, lit<, option_map, codes, bytes_eq, ltb-true, lt-ltb, ne_eqb, IsCallOf, Call, Record, Clamp, Correct, Clear, Reset, ◌>>=◌, parts, is_digits, first_number, Command, Apply, End, alone, count_of, record_of, correct_of, end_tag_of, end_of, command_of_fields, command_of, BeginsWith, AreNumbers, HasNumbers, IsCallLine, list_all, onto_first, is_ascii_digit, digit_value, pow-suc, pow-le-pow_right, length-drop, append-nil, Reads}
 use Rattle.std.specs.Str.Parse.{digits_value}
-use Rattle.std.proofs.lemmas.Bool.{ltb-true, lt-ltb, ne_eqb}
-use Rattle.hdr_core.specs.Calls.{IsCallOf}
-use Rattle.hdr_core.specs.declared.call.Call.{Call}
-use Rattle.hdr_core.specs.declared.call.Call.TheVariants.{Record, Clamp, Correct, Clear, Reset}
-use Rattle.hdr_log.specs.Parts.{◌>>=◌, parts, is_digits, number_of}
-use Rattle.hdr_tool.specs.Commands.{first_number, Command, Apply, End, alone, count_of, record_of, correct_of, end_tag_of, end_of, command_of_name, command_of_fields, command_of, BeginsWith, AreNumbers, HasNumbers, IsCallLine}
-use Rattle.std.specs.List.{list_all, onto_first}
-use Rattle.std.specs.Char.{is_ascii_digit, digit_value}
-use Rattle.std.proofs.Math.Nat.{pow-suc, pow-le-pow_right}
-use Rattle.std.proofs.lemmas.List.{length-drop, append-nil}
-use Rattle.hdr_log.proofs.PartsNumbers.{Reads}
+use Rattle.hdr_log.specs.Parts.{number_of}
+use Rattle.hdr_tool.specs.Commands.{command_of_name}
 
 -- one of two results, and one after another
 pub one_of : {A : Type 0} (P : A → Type 0) (b : Bool) (x y : Option A) → IfSome x P → IfSome y P → IfSome (cond b x y) P

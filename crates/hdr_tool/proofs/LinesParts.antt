@@ -1,15 +1,9 @@
 -- The parts of a text.
-use Rattle.std.proofs.Common.{◌≡◌, ℕ, suc, ◌+◌, ◌-◌, ◌<◌, ◌==◌, not, Bool, true, false, cond, List, [], ◌∷◌, ◌++◌, length, take, drop, Option, Some, None, IfSome, is_some, refl, sym, ap, ◌∙◌, arith}
-use Rattle.std.specs.List.{slice_split, onto_first, position_or_len, enumerate_from}
-use Rattle.std.proofs.lemmas.List.{take_all, length-drop, get_or_default}
+use Rattle.hdr_tool.proofs.Common.{◌≡◌, ℕ, suc, ◌+◌, ◌-◌, ◌<◌, ◌==◌, not, Bool, true, false, cond, List, [], ◌∷◌, ◌++◌, length, take, drop, Option, Some, None, IfSome, is_some, refl, sym, ap, ◌∙◌, arith, slice_split, onto_first, position_or_len, enumerate_from, take_all, length-drop, get_or_default, ne_eqb, option_map, parts, parts_of_rest, number_lines}
 use Rattle.std.proofs.lemmas.List.Splits.{slice_split_first, slice_split_none}
 use Rattle.std.proofs.lemmas.List.Sums.{position_or_len_is}
 use Rattle.memchr.specs.Find.{IsFirstByte, is_byte}
-use Rattle.std.proofs.lemmas.Bool.{ne_eqb}
-use Rattle.std.specs.Option.{option_map}
-use Rattle.hdr_log.specs.Parts.{parts}
 use Rattle.std.proofs.lemmas.List.FromFn.{length-enumerate_from}
-use Rattle.hdr_tool.specs.Commands.{parts_of_rest, number_lines}
 
 -- there is a first part
 pub parts_some : (b : ℕ) (text : List ℕ) (P : List (List ℕ) → Type 0) → ((first : List ℕ) (rest : List (List ℕ)) → P (first ∷ rest)) → P (parts b text)

@@ -1,27 +1,12 @@
 -- What a log's lines recorded is what a merge of the written log reports.
-use Rattle.std.proofs.Common.{◌≡◌, ℕ, zero, suc, ◌+◌, ◌-◌, ◌*◌, ◌^◌, ◌<◌, ◌≤◌, Bool, true, false, cond, leb, ◌&&◌, List, [], ◌∷◌, ◌++◌, Option, Some, None, IfSome, refl, sym, ap₂, ◌∙◌, subst, arith, lit<, lit≤}
-use Rattle.std.specs.Option.{option_map}
-use Rattle.std.specs.Prelude.{codes}
-use Rattle.std.specs.List.{filter_map, AllByRecursion, enumerate_from}
-use Rattle.std.specs.Str.{bytes_eq}
-use Rattle.std.proofs.lemmas.Bool.{leb-true}
-use Rattle.hdr_base.specs.Classes.{least_from, Grain, unit_of, digits_of, grain_of, IsFiner}
-use Rattle.hdr_base.specs.Fractions.{Ratio}
-use Rattle.hdr_model.specs.Plain.{Plain, IsPlain, grain, empty_plain}
+use Rattle.hdr_tool.proofs.Common.{◌≡◌, ℕ, zero, suc, ◌+◌, ◌-◌, ◌*◌, ◌^◌, ◌<◌, ◌≤◌, Bool, true, false, cond, leb, ◌&&◌, List, [], ◌∷◌, ◌++◌, Option, Some, None, IfSome, refl, sym, ap₂, ◌∙◌, subst, arith, lit<, lit≤, option_map, codes, filter_map, AllByRecursion, enumerate_from, bytes_eq, leb-true, Grain, IsFiner, Ratio, Plain, IsPlain, grain, StandsWhereFits, State, after_adds, IsPart, AreParts, joined_samples, AnswersRanked, Filter, is_chosen, IsReadBack, Fault, ◌>>=◌, parts, sigfig_of, fraction_of, are_fractions, Task, Report, Log, Merge, figures_of, log_of, Options, no_options, options_of, greatest_into, filter_of, IsReport, Outcome, EndOf, chosen_of, ends_of, AreReadBack, EndsWith, AreEnds}
+use Rattle.hdr_base.specs.Classes.{least_from, unit_of, digits_of, grain_of}
+use Rattle.hdr_model.specs.Plain.{empty_plain}
 use Rattle.hdr_model.specs.Samples.{StandsFor, Fits}
-use Rattle.hdr_model.specs.Runs.{StandsWhereFits, State}
 use Rattle.hdr_model.specs.Refusals.{IsBounds}
-use Rattle.hdr_model.specs.Joining.{after_adds, IsPart, AreParts, joined_samples, AnswersRanked}
-use Rattle.hdrhistogram.specs.Chosen.{Filter, is_chosen}
-use Rattle.hdrhistogram.specs.V2Read.{IsReadBack}
 use Rattle.hdrhistogram.proofs.ChosenAdded.{added_digits}
-use Rattle.hdr_tool.specs.declared.fault.Fault.{Fault}
-use Rattle.hdr_log.specs.Parts.{◌>>=◌, parts}
-use Rattle.hdr_tool.specs.Arguments.{sigfig_of, fraction_of, are_fractions, Task, Report, Log, Merge, figures_of, log_of, merge_of, task_of, Options, no_options, options_of, greatest_into, filter_of}
+use Rattle.hdr_tool.specs.Arguments.{merge_of, task_of}
 use Rattle.hdr_tool.specs.declared.arguments.CounterType.{CounterType}
-use Rattle.hdr_tool.specs.Report.{IsReport}
-use Rattle.hdr_tool.specs.Program.{Outcome}
-use Rattle.hdr_tool.specs.LogMerges.{EndOf, chosen_of, ends_of, AreReadBack, EndsWith, AreEnds}
 use Rattle.hdr_tool.proofs.LogMergesWritten.{CallsStand, ends_stand, ReadsBack, log_then_merge}
 use Rattle.hdr_tool.proofs.CommandsLines.{one_of, tail, any}
 use Rattle.hdr_tool.specs.declared.arguments.CounterType.TheVariants as counter

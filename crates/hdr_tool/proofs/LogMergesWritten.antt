@@ -1,39 +1,12 @@
 -- The histograms of a log that `log` wrote: what they stand for, and the result of merging them.
-use Rattle.std.proofs.Common.{◌≡◌, ℕ, ◌-◌, ◌^◌, List, [], ◌∷◌, Option, Some, None, IfSome, refl, sym, subst, ◌+◌, ◌*◌, ◌<◌, Bool, true, false, cond, arith, length, slice_index, ◌++◌, MatchOption, Result, Ok, Err, map, ap, ◌∙◌}
-use Rattle.hdr_base.specs.Classes.{Grain}
-use Rattle.hdr_model.specs.Plain.{Plain, IsPlain, grain, empty_plain, max_of}
-use Rattle.hdr_model.specs.Recording.{after_reset}
-use Rattle.hdr_core.specs.Calls.{after_call, CallTo, IsCallOf}
-use Rattle.hdr_model.specs.Runs.{StandsWhereFits, State}
-use Rattle.hdr_core.specs.declared.call.Call.{Call}
-use Rattle.hdr_core.specs.declared.call.Call.TheVariants.{Reset}
-use Rattle.hdr_tool.specs.Commands.{Command, Apply, End, command_of}
+use Rattle.hdr_tool.proofs.Common.{◌≡◌, ℕ, ◌-◌, ◌^◌, List, [], ◌∷◌, Option, Some, None, IfSome, refl, sym, subst, ◌+◌, ◌*◌, ◌<◌, Bool, true, false, cond, arith, length, slice_index, ◌++◌, MatchOption, Result, Ok, Err, map, ap, ◌∙◌, Grain, Plain, IsPlain, grain, empty_plain, max_of, after_reset, after_call, CallTo, IsCallOf, StandsWhereFits, State, Call, Reset, Command, Apply, End, command_of, EndOf, at_command, ends_of, AfterCommand, EndsWith, AreEnds, chosen_of, AreReadBack, LogThenMerge, AllByRecursion, enumerate_from, Ratio, after_adds, Entry, Span, reading, thousandths, to_thousandths, max_thousandths, base64_of, base64_bytes, Piece, IsPiece, piece_text, text_of, said_by, is_read, IsV2, interval_piece, IsIntervalText, told_of, v2_at, IsReadAs, IsReadBack, ReadsV2, Filter, is_chosen, Merging, new_merging, past_interval, with_interval, BytesMerge, FieldMerges, IntervalMerges, MergesOn, EntriesMerge, DeserializeError, MergeError, Fault, WrongWords, parts, Run, ended_by, prepend, run_command, run_lines, IsLogText, has_too_great_count, IsReport, Task, greatest_into, filter_of, fault_in, Reported, merged_histogram, MergeReported, TaskDone, append-nil}
 use Rattle.hdr_tool.proofs.CommandsLines.{IsLineCommand, command_fine}
-use Rattle.hdr_tool.specs.LogMerges.{EndOf, at_command, ends_of, AfterCommand, EndsWith, AreEnds, chosen_of, AreReadBack, LogThenMerge}
-use Rattle.std.specs.List.{AllByRecursion, enumerate_from, flat_map}
-use Rattle.hdr_base.specs.Fractions.{Ratio}
-use Rattle.hdr_model.specs.Joining.{after_adds}
-use Rattle.hdr_log.specs.Grammar.{Entry, Span, Interval, reading}
-use Rattle.hdr_log.specs.Texts.{thousandths, to_thousandths, max_thousandths, base64_of, base64_bytes}
-use Rattle.hdr_log.specs.Pieces.{Piece, IsPiece, piece_text, text_of, said_by, is_read}
+use Rattle.std.specs.List.{flat_map}
+use Rattle.hdr_log.specs.Grammar.{Interval}
 use Rattle.hdr_log.proofs.GrammarWhole.{pieces_read}
 use Rattle.hdr_log.proofs.TextsBase64.{base64_decoded}
-use Rattle.hdrhistogram.specs.V2.{IsV2}
-use Rattle.hdrhistogram.specs.LogLeaving.{interval_piece, IsIntervalText}
-use Rattle.hdrhistogram.specs.V2Read.{told_of, v2_at, IsReadAs, IsReadBack, ReadsV2}
-use Rattle.hdrhistogram.specs.Chosen.{Filter, is_chosen}
-use Rattle.hdrhistogram.specs.LogMerging.{Merging, new_merging, past_interval, with_interval, BytesMerge, FieldMerges, IntervalMerges, MergesOn, EntriesMerge}
 use Rattle.hdrhistogram.specs.Defects.{Defect}
-use Rattle.hdrhistogram.specs.declared.serialization.errors.DeserializeError.{DeserializeError}
-use Rattle.hdrhistogram.specs.declared.serialization.interval_log.merge.MergeError.{MergeError}
-use Rattle.hdr_tool.specs.declared.fault.Fault.{Fault}
-use Rattle.hdr_tool.specs.declared.fault.Fault.TheVariants.{WrongWords}
-use Rattle.hdr_log.specs.Parts.{parts}
-use Rattle.hdr_tool.specs.Outcomes.{Run, ended_by, prepend, run_command, run_lines, IsLogText}
-use Rattle.hdr_tool.specs.Report.{has_too_great_count, IsReport}
-use Rattle.hdr_tool.specs.Arguments.{Task, greatest_into, filter_of}
-use Rattle.hdr_tool.specs.Program.{fault_in, Reported, merged_histogram, MergeReported, TaskDone, Outcome}
-use Rattle.std.proofs.lemmas.List.{append-nil}
+use Rattle.hdr_tool.specs.Program.{Outcome}
 use Rattle.hdr_tool.specs.Outcomes as run
 
 -- what a call makes of a histogram, by the library's law

@@ -1,19 +1,7 @@
 -- What a task returns, by the result of its lines or its log.
-use Rattle.std.proofs.Common.{◌≡◌, ℕ, List, [], ◌∷◌, ◌++◌, length, true, false, Option, Some, None, IfSome, Result, Ok, Err, refl, sym, ap, ◌∙◌, subst, arith}
-use Rattle.std.specs.Io.KnownBytes.{Appends, IsAtEnd}
-use Rattle.std.proofs.lemmas.List.{append-nil}
-use Rattle.hdr_base.specs.Fractions.{Ratio}
-use Rattle.hdr_model.specs.Plain.{Plain, empty_plain}
-use Rattle.hdrhistogram.specs.Streams.{AppendsFront}
-use Rattle.hdr_tool.specs.declared.fault.Fault.{Fault}
-use Rattle.hdr_tool.specs.Outcomes.{Interval, Run, ended_by, run_command, run_lines, IsLogText, Cause, Shortage, Output, Input, Usage, cause_of, Stops, Goes, RunRefused, Answers, ReadsTo, ReadsAll, merge_fault}
-use Rattle.hdr_tool.specs.Commands.{Command, Apply, End, command_of, number_lines}
-use Rattle.hdr_tool.specs.Arguments.{Task, Report, Log, Merge}
-use Rattle.hdr_tool.specs.Program.{run_input, fault_in, Reported, TaskDone, TaskStands, TaskWrites, MergeReported}
+use Rattle.hdr_tool.proofs.Common.{◌≡◌, ℕ, List, [], ◌∷◌, ◌++◌, length, true, false, Option, Some, None, IfSome, Result, Ok, Err, refl, sym, ap, ◌∙◌, subst, arith, Appends, IsAtEnd, append-nil, Ratio, Plain, empty_plain, AppendsFront, Fault, Run, ended_by, run_command, run_lines, IsLogText, Cause, Shortage, Output, Input, Usage, cause_of, Stops, Goes, RunRefused, Answers, ReadsTo, ReadsAll, merge_fault, Command, Apply, End, command_of, number_lines, Task, Report, Log, Merge, run_input, fault_in, Reported, TaskDone, TaskStands, TaskWrites, MergeReported, Filter, RefusesMerge, MergeError}
+use Rattle.hdr_tool.specs.Outcomes.{Interval}
 use Rattle.hdr_tool.proofs.OutcomesRuns.{front_behind, appends_nothing, appends_both, some_input}
-use Rattle.hdrhistogram.specs.Chosen.{Filter}
-use Rattle.hdrhistogram.specs.LogMerging.{RefusesMerge}
-use Rattle.hdrhistogram.specs.declared.serialization.interval_log.merge.MergeError.{MergeError}
 use Rattle.hdrhistogram.specs.declared.serialization.interval_log.merge.MergeError.TheVariants.{Creation, Parse, Base64, Decode, OutOfMemory}
 
 -- ---- the lines of a report end no interval

@@ -1,28 +1,11 @@
 -- Arguments and an input have one outcome.
-use Rattle.std.proofs.Common.{◌≡◌, ℕ, ◌+◌, ◌-◌, ◌*◌, ◌^◌, Bool, true, false, List, [], ◌∷◌, ◌++◌, Option, Some, None, MatchOption, Result, Ok, Err, refl, sym, ap, ◌∙◌, subst}
-use Rattle.std.specs.Prelude.{MatchBool, codes}
-use Rattle.std.specs.Option.{option_map}
+use Rattle.hdr_tool.proofs.Common.{◌≡◌, ℕ, ◌+◌, ◌-◌, ◌*◌, ◌^◌, Bool, true, false, List, [], ◌∷◌, ◌++◌, Option, Some, None, MatchOption, Result, Ok, Err, refl, sym, ap, ◌∙◌, subst, MatchBool, codes, option_map, Ratio, Plain, Entry, Start, Base, Span, reading, piece_text, base64_bytes, IsV2, IsWrittenAlike, v2_at, ReadsV2, Filter, Every, interval_piece, Merging, new_merging, with_interval, BytesMerge, FieldMerges, IntervalMerges, EntryMerges, MergesOn, EntriesMerge, AreChosen, DeserializeError, MergeError, Fault, WrongWords, Task, Report, Log, Merge, task_of, greatest_into, filter_of, merge_fault, quantile_line, has_too_great_count, run_input, Reported, merged_histogram, TaskDone, Unread, told, OneOutcome}
 use Rattle.std.specs.List.{flat_map}
 use Rattle.std.specs.Fmt.{decimal}
 use Rattle.hex.specs.Hex.{encode_lower}
-use Rattle.hdr_base.specs.Fractions.{Ratio}
-use Rattle.hdr_model.specs.Plain.{Plain}
-use Rattle.hdr_log.specs.Grammar.{Entry, Start, Base, Span, Interval, reading}
-use Rattle.hdr_log.specs.Pieces.{piece_text}
-use Rattle.hdr_log.specs.Texts.{base64_bytes}
-use Rattle.hdrhistogram.specs.V2.{IsV2, IsWrittenAlike}
-use Rattle.hdrhistogram.specs.V2Read.{v2_at, ReadsV2}
-use Rattle.hdrhistogram.specs.Chosen.{Filter, Every, is_chosen}
-use Rattle.hdrhistogram.specs.LogLeaving.{interval_piece}
-use Rattle.hdrhistogram.specs.LogMerging.{Merging, new_merging, with_interval, BytesMerge, FieldMerges, IntervalMerges, EntryMerges, MergesOn, EntriesMerge, AreChosen}
-use Rattle.hdrhistogram.specs.declared.serialization.errors.DeserializeError.{DeserializeError}
-use Rattle.hdrhistogram.specs.declared.serialization.interval_log.merge.MergeError.{MergeError}
-use Rattle.hdr_tool.specs.declared.fault.Fault.{Fault}
-use Rattle.hdr_tool.specs.declared.fault.Fault.TheVariants.{WrongWords}
-use Rattle.hdr_tool.specs.Arguments.{Task, Report, Log, Merge, task_of, greatest_into, filter_of}
-use Rattle.hdr_tool.specs.Outcomes.{merge_fault}
-use Rattle.hdr_tool.specs.Report.{quantile_line, has_too_great_count}
-use Rattle.hdr_tool.specs.Program.{run_input, Reported, merged_histogram, TaskDone, Outcome, Unread, told, OneOutcome}
+use Rattle.hdr_log.specs.Grammar.{Interval}
+use Rattle.hdrhistogram.specs.Chosen.{is_chosen}
+use Rattle.hdr_tool.specs.Program.{Outcome}
 use Rattle.hdr_tool.specs.Outcomes as run
 
 -- what the library's laws on bytes and on merging say

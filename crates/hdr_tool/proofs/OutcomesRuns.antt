@@ -1,24 +1,12 @@
 -- What running lines leaves in the writer: one line, one part after another, and lines that are run while the input is read.
-use Rattle.std.proofs.Common.{◌≡◌, ℕ, ◌+◌, ◌-◌, List, [], ◌++◌, length, take, drop, Option, Some, None, Result, Ok, Err, IsErrAnd, refl, sym, ap, ◌∙◌, append_assoc, suc, ◌^◌, Bool, ◌∷◌, subst, length-append, zero-add, arith, ◌*◌, true, inl, inr, IfSome, ◌⊎◌}
-use Rattle.hdr_tool.specs.declared.fault.Fault.{Fault}
-use Rattle.std.specs.Io.KnownBytes.{Appends, Keeps, Consumes, IsAtEnd}
-use Rattle.std.proofs.lemmas.List.{take_rest, append-nil}
+use Rattle.hdr_tool.proofs.Common.{◌≡◌, ℕ, ◌+◌, ◌-◌, List, [], ◌++◌, length, take, drop, Option, Some, None, Result, Ok, Err, IsErrAnd, refl, sym, ap, ◌∙◌, append_assoc, suc, ◌^◌, Bool, ◌∷◌, subst, length-append, zero-add, arith, ◌*◌, true, inl, inr, IfSome, ◌⊎◌, Fault, Appends, Keeps, Consumes, IsAtEnd, take_rest, append-nil, Plain, IsPlain, after_call, RefusesCall, Call, AppendsFront, Command, Apply, command_of, End, number_lines, Run, prepend, run_command, run_lines, IsLogText, Cause, Shortage, Output, Input, Usage, cause_of, Wrote, Stops, Goes, ended_by, CommandNeeds, LinesNeed, Needs, ReadsTo, after_reset, IsV2, HasTooGreatCount, IsIntervalText, NotACommand, NotWritten, NoMemory, Consumes-trans}
 use Rattle.std.proofs.Math.Seq.{take-add}
-use Rattle.hdr_model.specs.Plain.{Plain, IsPlain}
-use Rattle.hdr_core.specs.Calls.{after_call, RefusesCall}
-use Rattle.hdr_core.specs.declared.call.Call.{Call}
-use Rattle.hdrhistogram.specs.Streams.{AppendsFront}
-use Rattle.hdr_tool.specs.Commands.{Command, Apply, command_of_name, command_of, End, number_lines}
-use Rattle.hdr_tool.specs.Outcomes.{Interval, Run, prepend, run_command, run_lines, IsLogText, Cause, Shortage, Output, Input, Usage, cause_of, Wrote, Stops, Goes, ended_by, CommandNeeds, LinesNeed, Needs, ReadsTo}
-use Rattle.hdr_model.specs.Recording.{after_reset}
+use Rattle.hdr_tool.specs.Commands.{command_of_name}
+use Rattle.hdr_tool.specs.Outcomes.{Interval}
 use Rattle.hdr_core.specs.declared.call.CallError.{CallError}
-use Rattle.hdrhistogram.specs.V2.{IsV2, HasTooGreatCount}
-use Rattle.hdrhistogram.specs.LogLeaving.{IsIntervalText}
 use Rattle.hdrhistogram.specs.declared.serialization.errors.V2SerializeError.TheVariants.{CountNotSerializable}
 use Rattle.hdrhistogram.specs.declared.serialization.interval_log.errors.IntervalLogWriterError.TheVariants.{SerializeError}
-use Rattle.hdr_tool.specs.declared.fault.Fault.TheVariants.{NotACommand, NotWritten, NoMemory}
 use Rattle.hdr_tool.proofs.OutcomesCounts.{one_too_great, bytes_not_great}
-use Rattle.std.proofs.KnownBytes.{Consumes-trans}
 use Rattle.hdr_tool.proofs.LinesParts.{numbered_end}
 
 pub appends_both : (o m n : Option (List ℕ)) (xs ys : List ℕ) → Appends o m xs → Appends m n ys → Appends o n (xs ++ ys)

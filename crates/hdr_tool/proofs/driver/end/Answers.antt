@@ -1,13 +1,5 @@
-use Rattle.std.proofs.Common.{refl, ap, Some, true}
-use Rattle.hdr_model.specs.Plain.{Plain}
+use Rattle.hdr_tool.proofs.Common.{refl, ap, Some, true, Plain, option_map, End, run_command, tag_text, IsV2, sink, CannotWrite, NoMemory}
 use Rattle.hdr_model.specs.Recording.{after_reset}
-use Rattle.std.specs.Option.{option_map}
-use Rattle.hdr_tool.specs.Commands.{End}
-use Rattle.hdr_tool.specs.Outcomes.{run_command}
-use Rattle.hdr_log.specs.Tags.{tag_text}
-use Rattle.hdrhistogram.specs.V2.{IsV2}
-use Rattle.hdrhistogram.specs.LogWriters.{sink}
-use Rattle.hdr_tool.specs.declared.fault.Fault.TheVariants.{CannotWrite, NoMemory}
 use Rattle.hdr_tool.proofs.OutcomesRuns.{end_written, end_failed, end_refused, short, interval_same}
 use Rattle.hdr_tool.proofs.driver.end.Goals as goal
 

@@ -1,10 +1,4 @@
-use Rattle.std.proofs.Common.{◌≡◌, ℕ, ◌+◌, ◌++◌, ◌∷◌, Ok, Err, Some, refl, sym, ap, subst, length, arith, ◌∙◌}
-use Rattle.std.specs.Option.{option_map}
-use Rattle.std.specs.List.{enumerate_from}
-use Rattle.hdrhistogram.specs.LogWriters.{sink}
-use Rattle.hdr_tool.specs.declared.fault.Fault.TheVariants.{NoMemory, CannotRead}
-use Rattle.hdr_tool.specs.Commands.{number_lines}
-use Rattle.hdr_tool.specs.Outcomes.{run_lines, LinesNeed}
+use Rattle.hdr_tool.proofs.Common.{◌≡◌, ℕ, ◌+◌, ◌++◌, ◌∷◌, Ok, Err, Some, refl, sym, ap, subst, length, arith, ◌∙◌, option_map, enumerate_from, sink, NoMemory, CannotRead, number_lines, run_lines, LinesNeed}
 use Rattle.hdr_tool.proofs.OutcomesRuns.{cut_short, one_line, call_line, next_line, call_refused, call_passed, needs_up, handed_on}
 use Rattle.hdr_tool.proofs.driver.run_lines.Goals as goal
 
