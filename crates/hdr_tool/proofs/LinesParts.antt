@@ -35,10 +35,6 @@ abbrev pub left_length : Option (List ℕ) → ℕ
 left_length None = 0
 left_length (Some text) = length text + 1
 
-pub left_shorter : (text : List ℕ) (after : Option (List ℕ)) → IfSome after (λ t. length t < length text) → left_length after < left_length (Some text)
-left_shorter text None h = omega arith
-left_shorter text (Some after) h = omega (arith, h)
-
 -- whether there is a rest
 pub nothing_left : {A : Type 0} (text_of : A → List ℕ) (b : ℕ) (left : Option A) (none : Bool) → is_some left ≡ not none → none ≡ (length (parts_of_rest b (option_map text_of left)) == 0)
 nothing_left text_of b None true e = refl

@@ -101,13 +101,6 @@ all_by m Output e = e
 all_by m Input e = e
 all_by m Usage e = tt
 
-pub reads_all : (m : Option (List ℕ)) (r : Result (Unit {0}) Fault) → IsAtEnd m → ReadsAll IsAtEnd m r
-reads_all m (Ok u) e = e
-reads_all m (Err f) e = all_by m (cause_of f) e
-
-pub reads_none : (m : Option (List ℕ)) (f : Fault) → cause_of f ≡ Shortage → ReadsTo IsAtEnd m (cause_of f)
-reads_none m f e = rw e tt
-
 -- ---- not all of the input is read, or memory runs out before
 
 -- nothing may be written, whatever the task

@@ -46,9 +46,6 @@ same_self (Err e) = refl
 same_both : (x r s : Result Merging MergeError) → r ≡ x → s ≡ x → Same r s
 same_both x r s p q = rw (p, q) (same_self x)
 
-same_some : {A : Type 0} (x y : A) → (λ (o : Option A). o) (Some x) ≡ Some y → x ≡ y
-same_some x y e = cc
-
 apart : {A B : Type 0} (r : Result A B) (x : A) (e : B) → r ≡ Ok x → r ≡ Err e → ⊥
 apart r x e p q = absurd (let h = sym p ∙ q in cc)
 

@@ -214,9 +214,6 @@ module _ (log : Bool) (begins : Plain) where
   abbrev pub Streamed : List ℕ → ℕ → List ℕ → Plain → Option (List ℕ) → Option (List ℕ) → Type 0
   Streamed read number carry now o m = Goes {A = Unit {0}} (whole read) (onward now number carry) o m (Ok tt)
 
-  pub nothing_read : (carry : List ℕ) (o : Option (List ℕ)) → carry ≡ [] → Streamed [] 1 carry begins o o
-  nothing_read carry o e = let F : List ℕ → Type 0 = λ c. Streamed [] 1 c begins o o in subst F (sym e) (begin (whole []) o)
-
   module _ (read : List ℕ) (number : ℕ) (carry : List ℕ) (now : Plain) (o m : Option (List ℕ)) (s : Streamed read number carry now o m) where
     -- a piece without an LF
     pub carried : (piece lines : List ℕ) → lines ≡ carry ++ piece → Streamed (read ++ piece) number lines now o m

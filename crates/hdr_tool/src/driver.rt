@@ -60,7 +60,8 @@ fn end<W: Write>(
             Err(Fault::NotWritten(line, IntervalLogWriterError::SerializeError(cause)))
         }
         Err(IntervalLogWriterError::SerializeError(_)) => Err(Fault::NoMemory),
-        Err(IntervalLogWriterError::TimeOutOfRange) => Err(Fault::NoMemory),
+        // The seconds of a `u64` of milliseconds fit a `u64`.
+        Err(IntervalLogWriterError::TimeOutOfRange) => unreachable!(),
         Err(IntervalLogWriterError::OutOfMemory) => Err(Fault::NoMemory),
     }
 }

@@ -29,8 +29,5 @@ returns-in-Err-SerializeError-clause-goes g c =
     let l = rw c.in-Err-SerializeError.field-0-is at c.in-Err-SerializeError.ensures.leaves in
     short (run_command true c.args.line c.args.histogram.now (Some (End c.args.start c.args.duration (option_map tag_text c.args.tag)))) (g.W.Write.contents (sink c.args.log.now).now) (g.W.Write.contents (sink c.write_histogram.new.self).now) NoMemory refl l.1
 
-pub returns-in-Err-TimeOutOfRange-clause-goes : goal.returns-in-Err-TimeOutOfRange-clause-goes
-returns-in-Err-TimeOutOfRange-clause-goes g c = short (run_command true c.args.line c.args.histogram.now (Some (End c.args.start c.args.duration (option_map tag_text c.args.tag)))) (g.W.Write.contents (sink c.args.log.now).now) (g.W.Write.contents (sink c.write_histogram.new.self).now) NoMemory refl (rw c.in-Err-TimeOutOfRange.field-0-is at c.in-Err-TimeOutOfRange.ensures.leaves)
-
 pub returns-in-Err-OutOfMemory-clause-goes : goal.returns-in-Err-OutOfMemory-clause-goes
 returns-in-Err-OutOfMemory-clause-goes g c = short (run_command true c.args.line c.args.histogram.now (Some (End c.args.start c.args.duration (option_map tag_text c.args.tag)))) (g.W.Write.contents (sink c.args.log.now).now) (g.W.Write.contents (sink c.write_histogram.new.self).now) NoMemory refl (rw c.in-Err-OutOfMemory.field-0-is at c.in-Err-OutOfMemory.ensures.leaves)
