@@ -1,5 +1,5 @@
 -- The parts of a text.
-use Rattle.hdr_tool.proofs.Common.{◌≡◌, ℕ, suc, ◌+◌, ◌-◌, ◌<◌, ◌==◌, not, Bool, true, false, cond, List, [], ◌∷◌, ◌++◌, length, take, drop, Option, Some, None, IfSome, is_some, refl, sym, ap, ◌∙◌, arith, slice_split, onto_first, position_or_len, enumerate_from, take_all, length-drop, get_or_default, ne_eqb, option_map, parts, parts_of_rest, number_lines}
+use Rattle.hdr_tool.proofs.Common.{◌≡◌, ℕ, suc, ◌+◌, ◌-◌, ◌==◌, not, Bool, true, false, cond, List, [], ◌∷◌, ◌++◌, length, take, drop, Option, Some, None, is_some, refl, sym, ap, ◌∙◌, arith, slice_split, onto_first, position_or_len, enumerate_from, take_all, length-drop, get_or_default, ne_eqb, option_map, parts, parts_of_rest, number_lines}
 use Rattle.std.proofs.lemmas.List.Splits.{slice_split_first, slice_split_none}
 use Rattle.std.proofs.lemmas.List.Sums.{position_or_len_is}
 use Rattle.memchr.specs.Find.{IsFirstByte, is_byte}

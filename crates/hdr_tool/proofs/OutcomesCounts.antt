@@ -6,7 +6,7 @@ use Rattle.hdrhistogram.specs.Varint.{IsSpelling, number_of_spelling, Spells}
 use Rattle.hdrhistogram.specs.Payload.{Part, run, bin, bins_of, AreSpelt}
 use Rattle.hdrhistogram.proofs.VarintSpellings.{nothing_spelled}
 use Rattle.hdrhistogram.proofs.V2Bins.{all-small}
-use Rattle.hdr_tool.specs.Report.{has_too_great_count}
+use Rattle.hdr_tool.specs.Program.{has_too_great_count}
 
 abbrev Small : ℕ → Type 0
 Small n = n < 2 ^ 63

@@ -6,7 +6,7 @@ use Rattle.hex.specs.Hex.{encode_lower}
 use Rattle.hdr_log.specs.Grammar.{Interval}
 use Rattle.hdrhistogram.specs.Chosen.{is_chosen}
 use Rattle.hdr_tool.specs.Program.{Outcome}
-use Rattle.hdr_tool.specs.Outcomes as run
+use Rattle.hdr_tool.specs.Program as run
 
 -- what the library's laws on bytes and on merging say
 pub record Once : Type 0 where
@@ -16,10 +16,10 @@ pub record Once : Type 0 where
 bytes_once : Once → (h : Plain) (a b : List ℕ) → IsV2 h a → IsV2 h b → a ≡ b
 bytes_once once h a b p q = once.bytes h h a b p q (record { low = refl; high = refl; sigfig = refl; counts = refl; top_class = refl })
 
-text_once : Once → (is : List run.Interval) (a b : List ℕ) → run.IsLogText is a → run.IsLogText is b → a ≡ b
+text_once : Once → (is : List (run.Interval Plain)) (a b : List ℕ) → run.IsLogText is a → run.IsLogText is b → a ≡ b
 text_once once [] a b p q = p ∙ sym q
 text_once once (i ∷ is) a b (l, r, t, p, e) (l', r', t', p', e') =
-    let line : l ≡ l' = t.3 ∙ ap (λ x. piece_text (interval_piece i.histogram i.tag (i.start * 1_000_000) (i.duration * 1_000_000) 1 x)) (bytes_once once i.histogram t.0 t'.0 t.1 t'.1) ∙ sym t'.3 in
+    let line : l ≡ l' = t.3 ∙ ap (λ x. piece_text (interval_piece i.holds i.tag (i.start * 1_000_000) (i.duration * 1_000_000) 1 x)) (bytes_once once i.holds t.0 t'.0 t.1 t'.1) ∙ sym t'.3 in
     e ∙ ap (λ x. x ++ r) line ∙ ap (λ x. l' ++ x) (text_once once is r r' p p') ∙ sym e'
 
 field_once : Once → (h : Plain) (great : Bool) (a b : List ℕ) → MatchBool great (a ≡ codes "none") ((bytes : List ℕ) × IsV2 h bytes × (a ≡ encode_lower bytes)) → MatchBool great (b ≡ codes "none") ((bytes : List ℕ) × IsV2 h bytes × (b ≡ encode_lower bytes)) → a ≡ b

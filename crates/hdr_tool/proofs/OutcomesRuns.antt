@@ -2,7 +2,7 @@
 use Rattle.hdr_tool.proofs.Common.{◌≡◌, ℕ, ◌+◌, ◌-◌, List, [], ◌++◌, length, take, drop, Option, Some, None, Result, Ok, Err, IsErrAnd, refl, sym, ap, ◌∙◌, append_assoc, suc, ◌^◌, Bool, ◌∷◌, subst, length-append, zero-add, arith, ◌*◌, true, inl, inr, IfSome, ◌⊎◌, Fault, Appends, Keeps, Consumes, IsAtEnd, take_rest, append-nil, Plain, IsPlain, after_call, RefusesCall, Call, AppendsFront, Command, Apply, command_of, End, number_lines, Run, prepend, run_command, run_lines, IsLogText, Cause, Shortage, Output, Input, Usage, cause_of, Wrote, Stops, Goes, ended_by, CommandNeeds, LinesNeed, Needs, ReadsTo, after_reset, IsV2, HasTooGreatCount, IsIntervalText, NotACommand, NotWritten, NoMemory, Consumes-trans}
 use Rattle.std.proofs.Math.Seq.{take-add}
 use Rattle.hdr_tool.specs.Commands.{command_of_name}
-use Rattle.hdr_tool.specs.Outcomes.{Interval}
+use Rattle.hdr_tool.specs.Program.{Interval}
 use Rattle.hdr_core.specs.declared.call.CallError.{CallError}
 use Rattle.hdrhistogram.specs.declared.serialization.errors.V2SerializeError.TheVariants.{CountNotSerializable}
 use Rattle.hdrhistogram.specs.declared.serialization.interval_log.errors.IntervalLogWriterError.TheVariants.{SerializeError}
@@ -50,14 +50,14 @@ front_behind o m n done text a f =
     (length done + f.0, omega (arith, length-append done text, f.1), subst A (sym (take_both done text f.0)) (appends_both o m n done (take f.0 text) a f.2))
 
 -- the text of some intervals and of others
-pub text_both : (is js : List Interval) (a b : List ℕ) → IsLogText is a → IsLogText js b → IsLogText (is ++ js) (a ++ b)
+pub text_both : (is js : List (Interval Plain)) (a b : List ℕ) → IsLogText is a → IsLogText js b → IsLogText (is ++ js) (a ++ b)
 text_both [] js a b p q = rw p q
 text_both (i ∷ is) js a b (line, rest, t, p, e) q = (line, rest ++ b, t, text_both is js rest b p q, ap (λ x. x ++ b) e ∙ append_assoc line rest b)
 
-wrote_both : (is js : List Interval) (o m n : Option (List ℕ)) → Wrote is o m → Wrote js m n → Wrote (is ++ js) o n
+wrote_both : (is js : List (Interval Plain)) (o m n : Option (List ℕ)) → Wrote is o m → Wrote js m n → Wrote (is ++ js) o n
 wrote_both is js o m n p q = (p.0 ++ q.0, text_both is js p.0 q.0 p.1 q.1, appends_both o m n p.0 q.0 p.2 q.2)
 
-prepend_both : (is js : List Interval) (r : Run) → prepend is (prepend js r) ≡ prepend (is ++ js) r
+prepend_both : (is js : List (Interval Plain)) (r : Run) → prepend is (prepend js r) ≡ prepend (is ++ js) r
 prepend_both is js r = ap (λ x. record { intervals = x; ended = r.ended }) (sym (append_assoc is js r.intervals))
 
 -- nothing is run yet
@@ -103,8 +103,8 @@ module _ (k : ℕ) (h : Plain) (start duration : ℕ) (tag : Option (List ℕ)) 
   abbrev Whole : (Plain → Run) → Run
   Whole = run_command true k h (Some (End start duration tag))
 
-  abbrev this : Interval
-  this = record { histogram = h; tag = tag; start = start; duration = duration }
+  abbrev this : Interval Plain
+  this = record { holds = h; tag = tag; start = start; duration = duration }
 
   pub end_written : IsPlain (2 ^ 64 - 1) h → (text : List ℕ) × IsIntervalText IsV2 h tag (start * 1_000_000) (duration * 1_000_000) 1 text × Appends o n text → Goes {A = Unit {0}} Whole (λ (onward : Plain → Run). onward (after_reset h)) o n (Ok tt)
   end_written p (text, t, a) = (this ∷ [], (text, (text, [], t, refl, sym (append-nil text)), a), λ onward. rw (bytes_not_great (2 ^ 64 - 1) h t.0 p t.1) refl)
