@@ -1,18 +1,10 @@
 -- What a merge of a written log adds.
-use Rattle.std.specs.Prelude.{◌≡◌, ℕ, ◌-◌, ◌*◌, ◌^◌, ◌≤◌, if◌then◌else◌, List, [], ◌∷◌, Option, Some, None, true}
-use Rattle.std.specs.List.{AllByRecursion, enumerate_from}
-use Rattle.hdr_base.specs.Fractions.{Ratio}
-use Rattle.hdr_model.specs.Plain.{Plain, IsPlain, grain, empty_plain}
-use Rattle.hdr_model.specs.Recording.{after_reset}
-use Rattle.hdr_core.specs.Calls.{after_call, CallTo}
+use Rattle.hdr_tool.specs.Common.{◌≡◌, ℕ, ◌-◌, ◌*◌, ◌^◌, ◌≤◌, if◌then◌else◌, List, [], ◌∷◌, Option, Some, None, true, AllByRecursion, enumerate_from, Ratio, Plain, IsPlain, grain, empty_plain, after_reset, after_call, CallTo, Filter, is_chosen, Fault, parts}
 use Rattle.hdr_model.specs.Runs.{StandsWhereFits, State}
 use Rattle.hdr_model.specs.Samples.{StandsFor, Fits}
 use Rattle.hdr_model.specs.Joining.{after_adds, joined_samples, AnswersRanked}
 use Rattle.hdr_base.specs.Classes.{Grain, grain_of}
-use Rattle.hdrhistogram.specs.Chosen.{Filter, is_chosen}
 use Rattle.hdrhistogram.specs.V2Read.{IsReadBack}
-use Rattle.hdr_tool.specs.declared.fault.Fault.{Fault}
-use Rattle.hdr_log.specs.Parts.{parts}
 use Rattle.hdr_tool.specs.Commands.{Command, Apply, End, command_of}
 use Rattle.hdr_tool.specs.Arguments.{Options, greatest_into, filter_of, Log, Merge, task_of}
 use Rattle.hdr_tool.specs.Program.{IsReport, Interval, Outcome}

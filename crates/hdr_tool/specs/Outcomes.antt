@@ -1,13 +1,7 @@
 -- The errors of a run, the memory that lines need, and what a call leaves in the streams.
-use Rattle.std.specs.Prelude.{◌≡◌, ◌⊎◌, ℕ, ◌-◌, ◌^◌, List, ◌∷◌, [], ◌++◌, Option, Some, None, Result, Ok, Err, Bool, true, codes}
-use Rattle.std.specs.Fmt.{decimal}
-use Rattle.std.specs.Io.KnownBytes.{Appends, IsAtEnd}
-use Rattle.hdr_model.specs.Plain.{Plain}
-use Rattle.hdr_core.specs.Calls.{after_call, RefusesCall}
+use Rattle.hdr_tool.specs.Common.{◌≡◌, ◌⊎◌, ℕ, ◌-◌, ◌^◌, List, ◌∷◌, [], ◌++◌, Option, Some, None, Result, Ok, Err, Bool, true, codes, decimal, Appends, IsAtEnd, Plain, after_call, RefusesCall, Fault, WrongWords, NotACommand, NotALog, NotBase64, NoMemory, CannotRead, CannotWrite}
 use Rattle.hdr_core.specs.declared.call.CallError.{CallError}
 use Rattle.hdrhistogram.specs.Streams.{AppendsFront}
-use Rattle.hdr_tool.specs.declared.fault.Fault.{Fault}
-use Rattle.hdr_tool.specs.declared.fault.Fault.TheVariants.{WrongWords, NotACommand, NotALog, NotBase64, NoMemory, CannotRead, CannotWrite}
 use Rattle.hdr_tool.specs.Commands.{Command, Apply, End, command_of}
 use Rattle.hdr_tool.specs.Program.{Interval, Run, prepend, IsLogText}
 

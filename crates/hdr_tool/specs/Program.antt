@@ -1,17 +1,8 @@
 -- The program: its arguments, its input, its output, and the `Fault` that ends it. A stream that
 -- fails is not part of it, nor is running out of memory.
-use Rattle.std.specs.Prelude.{◌≡◌, ℕ, nat_le, ◌-◌, ◌*◌, ◌^◌, List, [], ◌∷◌, ◌++◌, Option, Some, None, MatchOption, Result, Ok, Err, Bool, true, false, if◌then◌else◌, MatchBool, codes}
-use Rattle.std.specs.Option.{option_map}
-use Rattle.std.specs.List.{flat_map, list_any}
-use Rattle.std.specs.Fmt.{decimal}
-use Rattle.std.specs.Io.KnownBytes.{IsAtEnd}
+use Rattle.hdr_tool.specs.Common.{◌≡◌, ℕ, nat_le, ◌-◌, ◌*◌, ◌^◌, List, [], ◌∷◌, ◌++◌, Option, Some, None, MatchOption, Result, Ok, Err, Bool, true, false, if◌then◌else◌, MatchBool, codes, option_map, flat_map, list_any, decimal, IsAtEnd, Ratio, Plain, empty_plain, after_reset, after_call, Filter, Fault, WrongWords, NotACommand, NotWritten, NotALog, NotBase64, NotRead, NoMemory}
 use Rattle.hex.specs.Hex.{encode_lower}
-use Rattle.hdr_base.specs.Fractions.{Ratio}
-use Rattle.hdr_model.specs.Plain.{Plain, empty_plain}
 use Rattle.hdr_model.specs.Quantiles.{quantile_of}
-use Rattle.hdr_model.specs.Recording.{after_reset}
-use Rattle.hdr_core.specs.Calls.{after_call}
-use Rattle.hdrhistogram.specs.Chosen.{Filter}
 use Rattle.hdrhistogram.specs.Defects.{Defect, defect_of_error}
 use Rattle.hdrhistogram.specs.V2.{IsV2}
 use Rattle.hdrhistogram.specs.LogLeaving.{IsIntervalText}
@@ -20,8 +11,6 @@ use Rattle.hdrhistogram.specs.declared.serialization.errors.V2SerializeError.The
 use Rattle.hdrhistogram.specs.declared.serialization.interval_log.errors.IntervalLogWriterError.TheVariants.{SerializeError}
 use Rattle.hdrhistogram.specs.declared.serialization.interval_log.merge.MergeError.{MergeError}
 use Rattle.hdrhistogram.specs.declared.serialization.interval_log.merge.MergeError.TheVariants as merging
-use Rattle.hdr_tool.specs.declared.fault.Fault.{Fault}
-use Rattle.hdr_tool.specs.declared.fault.Fault.TheVariants.{WrongWords, NotACommand, NotWritten, NotALog, NotBase64, NotRead, NoMemory}
 use Rattle.hdr_tool.specs.Arguments.{Task, Report, Log, Merge, task_of, greatest_into, filter_of}
 use Rattle.hdr_tool.specs.Commands.{Command, Apply, End, command_of, number_lines}
 

@@ -15,7 +15,7 @@ returns-in_default-apply-clause-memory g c = λ more.
     let line = c.in-Some-value_line.ensures in
     let e = ap (λ o. number_lines c.loop-left.next (option_map (λ t. t.now) o)) c.in-Some.is ∙ ap (enumerate_from c.loop-left.next) line.lines in
     c.loop-left.invariant.memory more (subst (λ l. LinesNeed c.args.is_log c.loop-left.histogram (l ++ more)) (sym e)
-    (call_refused c.args.is_log c.loop-left.histogram c.loop-left.next line.line (number_lines (c.loop-left.next + 1) (Some c.in-Some-value_line.after.now) ++ more) c.in-Some-value_line.call _ line.command c.loop-left.invariant.grows c.in_default-apply.ensures.refused.0))
+    (call_refused c.args.is_log c.loop-left.histogram c.loop-left.next line.line (number_lines (c.loop-left.next + 1) (Some c.in-Some-value_line.after.now) ++ more) c.in-Some-value_line.call _ line.fits c.loop-left.invariant.grows c.in_default-apply.ensures.refused.0))
 
 pub loop-left-preserved-in-Some-value_line : goal.loop-left-preserved-in-Some-value_line
 loop-left-preserved-in-Some-value_line g c =
@@ -28,9 +28,9 @@ loop-left-preserved-in-Some-value_line g c =
       same = c.loop-left.invariant.same;
       goes = rw next (one_line {A = Unit {0}} c.args.is_log (λ more. run_lines c.args.is_log c.args.histogram.now (number_lines c.args.number (Some c.args.text.now) ++ more)) c.loop-left.histogram c.apply.new.self (number_lines c.loop-left.next (option_map (λ t. t.now) c.loop-left.left)) (number_lines (c.loop-left.next + 1) (Some c.in-Some-value_line.after.now)) (c.loop-left.next, line.line) o m m (Ok tt) c.loop-left.invariant.goes e
           (next_line {A = Unit {0}} (λ more. run_lines c.args.is_log c.loop-left.histogram ((c.loop-left.next, line.line) ∷ more)) (run_lines c.args.is_log c.apply.new.self) m tt
-          (λ more. call_line c.args.is_log c.loop-left.histogram c.apply.new.self c.loop-left.next line.line more c.in-Some-value_line.call line.command c.in-Ok.ensures.ok)));
+          (λ more. call_line c.args.is_log c.loop-left.histogram c.apply.new.self c.loop-left.next line.line more c.in-Some-value_line.call line.fits c.in-Ok.ensures.ok)));
       memory = rw next (λ more n. c.loop-left.invariant.memory more (subst (λ l. LinesNeed c.args.is_log c.loop-left.histogram (l ++ more)) (sym e)
-          (call_passed c.args.is_log c.loop-left.histogram c.apply.new.self c.loop-left.next line.line (number_lines (c.loop-left.next + 1) (Some c.in-Some-value_line.after.now) ++ more) c.in-Some-value_line.call line.command c.in-Ok.ensures.ok n)));
+          (call_passed c.args.is_log c.loop-left.histogram c.apply.new.self c.loop-left.next line.line (number_lines (c.loop-left.next + 1) (Some c.in-Some-value_line.after.now) ++ more) c.in-Some-value_line.call line.fits c.in-Ok.ensures.ok n)));
       grows = c.in-Ok.ensures.same_bounds.2 ∙ c.loop-left.invariant.grows;
       counts = rw next (omega (arith, ap length e, c.loop-left.invariant.counts));
     }
