@@ -8,7 +8,8 @@ use Rattle.hdr_model.specs.Recording.{high_with}
 use Rattle.hdr_model.specs.Runs.{State}
 use Rattle.hdr_model.specs.Samples.{Fits, in_class}
 use Rattle.hdr_tool.specs.Commands.{command_of_name}
-use Rattle.hdr_tool.specs.LogMerges.{EndOf, EndsWith}
+use Rattle.hdr_tool.specs.LogMerges.{EndsWith}
+use Rattle.hdr_tool.specs.Program.{Interval}
 use Rattle.hdr_surface.specs.Overflows.{past_the_end, before_a_clear}
 
 pub one_fits : (greatest : ℕ) (g : Grain) → 1 ≤ greatest → Fits greatest g (1 ∷ [])
@@ -17,8 +18,8 @@ one_fits greatest g one =
     record { in_all = lit< tt; in_classes = λ i. omega (arith, one, few i) }
 
 -- the interval of one sample
-abbrev pub the_end : EndOf (List ℕ)
-the_end = record { holds = 1 ∷ []; tag = None; start = 0 }
+abbrev pub the_end : Interval (List ℕ)
+the_end = record { holds = 1 ∷ []; tag = None; start = 0; duration = 1000 }
 
 -- a state after a number of samples of a value
 abbrev pub recorded : Grain → State → ℕ → ℕ → State

@@ -6,8 +6,7 @@ use Rattle.hdr_model.specs.Samples.{StandsFor}
 use Rattle.hdr_log.specs.Texts.{lines_text}
 use Rattle.hdr_tool.specs.declared.fault.Fault.{Fault}
 use Rattle.hdr_tool.specs.Arguments.{no_options, Log, Merge, task_of}
-use Rattle.hdr_tool.specs.Report.{IsReport}
-use Rattle.hdr_tool.specs.Program.{Outcome}
+use Rattle.hdr_tool.specs.Program.{IsReport, Outcome}
 
 -- after the last `end` come more samples than 64 bits count
 abbrev pub past_the_end : List ℕ

@@ -1,20 +1,8 @@
 -- The commands of lines: their values are u64. Value lines of few digits.
-use Rattle.std.proofs.Common.{◌≡◌, ℕ, ◌-◌, ◌^◌, ◌<◌, Bool, true, false, cond, ◌&&◌, nat_lt, List, [], ◌∷◌, Option, Some, None, IfSome, refl, zero, suc, ◌+◌, ◌*◌, ◌≤◌, ◌==◌, ◌++◌, length, take, drop, get_or, unwrap_or, sym, ap, ◌∙◌, arith, lit<}
-use Rattle.std.specs.Option.{option_map}
-use Rattle.std.specs.Prelude.{codes}
-use Rattle.std.specs.Str.{bytes_eq}
+use Rattle.hdr_tool.proofs.Common.{◌≡◌, ℕ, ◌-◌, ◌^◌, ◌<◌, Bool, true, false, cond, ◌&&◌, nat_lt, List, [], ◌∷◌, Option, Some, None, IfSome, refl, zero, suc, ◌+◌, ◌*◌, ◌≤◌, ◌==◌, ◌++◌, length, take, drop, get_or, unwrap_or, sym, ap, ◌∙◌, arith, lit<, option_map, codes, bytes_eq, ltb-true, lt-ltb, ne_eqb, IsCallOf, Call, Record, Clamp, Correct, Clear, Reset, ◌>>=◌, parts, is_digits, first_number, Command, Apply, End, alone, count_of, record_of, correct_of, end_tag_of, end_of, command_of_fields, command_of, BeginsWith, AreNumbers, FirstLine, list_all, onto_first, is_ascii_digit, digit_value, pow-suc, pow-le-pow_right, length-drop, append-nil, Reads}
 use Rattle.std.specs.Str.Parse.{digits_value}
-use Rattle.std.proofs.lemmas.Bool.{ltb-true, lt-ltb, ne_eqb}
-use Rattle.hdr_core.specs.Calls.{IsCallOf}
-use Rattle.hdr_core.specs.declared.call.Call.{Call}
-use Rattle.hdr_core.specs.declared.call.Call.TheVariants.{Record, Clamp, Correct, Clear, Reset}
-use Rattle.hdr_log.specs.Parts.{◌>>=◌, parts, is_digits, number_of}
-use Rattle.hdr_tool.specs.Commands.{first_number, Command, Apply, End, alone, count_of, record_of, correct_of, end_tag_of, end_of, command_of_name, command_of_fields, command_of, BeginsWith, AreNumbers, HasNumbers, IsCallLine}
-use Rattle.std.specs.List.{list_all, onto_first}
-use Rattle.std.specs.Char.{is_ascii_digit, digit_value}
-use Rattle.std.proofs.Math.Nat.{pow-suc, pow-le-pow_right}
-use Rattle.std.proofs.lemmas.List.{length-drop, append-nil}
-use Rattle.hdr_log.proofs.PartsNumbers.{Reads}
+use Rattle.hdr_log.specs.Parts.{number_of}
+use Rattle.hdr_tool.specs.Commands.{command_of_name}
 
 -- one of two results, and one after another
 pub one_of : {A : Type 0} (P : A → Type 0) (b : Bool) (x y : Option A) → IfSome x P → IfSome y P → IfSome (cond b x y) P
@@ -136,13 +124,20 @@ front n [] l a b = absurd (omega (arith, l))
 front n (x ∷ []) l a b = absurd (omega (arith, l))
 front n (x ∷ y ∷ text) l a b = let p : x ≡ n = a in let q : y ≡ 32 = b in rw (p, q) refl
 
+-- a text's first line is these numbers, or this call
+abbrev pub HasNumbers : List ℕ → ℕ → Option ℕ → List ℕ → Type 0
+HasNumbers text n m after = FirstLine text (λ line. AreNumbers (parts 32 line) n m) after
+
+abbrev pub IsCallLine : List ℕ → Call ℕ → List ℕ → Type 0
+IsCallLine text call after = FirstLine text (λ line. command_of line ≡ Some (Apply call)) after
+
 -- a line of one number, and of two
 one_line : (xs ds after : List ℕ) (n : ℕ) → list_all is_ascii_digit xs ≡ true → number_of xs ≡ Some n → ds ≡ xs ++ 10 ∷ after → length after < length ds → HasNumbers ds n None after
 one_line xs ds after n d e t s = record {
   line = xs ++ [];
   lines = ap (parts 10) t ∙ digits_then 10 not_end xs (10 ∷ after) [] (parts 10 after) d refl;
   shorter = s;
-  numbers = rw (digits_then 32 not_space xs [] [] [] d refl) (ap number_of (append-nil xs) ∙ e);
+  fits = rw (digits_then 32 not_space xs [] [] [] d refl) (ap number_of (append-nil xs) ∙ e);
 }
 
 two_lines : (fields : List (List ℕ)) (f : List ℕ) (n m : ℕ) → number_of f ≡ Some n → AreNumbers fields m None → AreNumbers (f ∷ fields) n (Some m)
@@ -156,7 +151,7 @@ two_line xs ds rest after n m d e t h s = record {
   line = xs ++ 32 ∷ h.line;
   lines = ap (parts 10) t ∙ digits_then 10 not_end xs (32 ∷ rest) (32 ∷ h.line) (parts 10 after) d (ap (onto_first 32) h.lines);
   shorter = omega (arith, s, h.shorter);
-  numbers = rw (digits_then 32 not_space xs (32 ∷ h.line) [] (parts 32 h.line) d refl) (two_lines (parts 32 h.line) (xs ++ []) n m (ap number_of (append-nil xs) ∙ e) h.numbers);
+  fits = rw (digits_then 32 not_space xs (32 ∷ h.line) [] (parts 32 h.line) d refl) (two_lines (parts 32 h.line) (xs ++ []) n m (ap number_of (append-nil xs) ∙ e) h.fits);
 }
 
 behind : (text rest : List ℕ) (at b : ℕ) → at < length text → get_or text at 0 ≡ b → rest ≡ drop (at + 1) text → (text ≡ take at text ++ b ∷ rest) × (length rest < length text)
@@ -189,15 +184,15 @@ asks_correct (f ∷ g ∷ h ∷ fields) n m a = absurd a
 module _ (text rest after : List ℕ) (n : ℕ) where
   pub record_line : (m : Option ℕ) → text ≡ 114 ∷ 32 ∷ rest → HasNumbers rest n m after → IsCallLine text (Record n (unwrap_or m 1)) after
   unfolding command_of_name
-  record_line m t h = record { line = 114 ∷ 32 ∷ h.line; lines = rw (t, h.lines) refl; shorter = omega (arith, ap length t, h.shorter); command = asks_record Record (parts 32 h.line) n m h.numbers }
+  record_line m t h = record { line = 114 ∷ 32 ∷ h.line; lines = rw (t, h.lines) refl; shorter = omega (arith, ap length t, h.shorter); fits = asks_record Record (parts 32 h.line) n m h.fits }
 
   pub clamp_line : (m : Option ℕ) → text ≡ 115 ∷ 32 ∷ rest → HasNumbers rest n m after → IsCallLine text (Clamp n (unwrap_or m 1)) after
   unfolding command_of_name
-  clamp_line m t h = record { line = 115 ∷ 32 ∷ h.line; lines = rw (t, h.lines) refl; shorter = omega (arith, ap length t, h.shorter); command = asks_record Clamp (parts 32 h.line) n m h.numbers }
+  clamp_line m t h = record { line = 115 ∷ 32 ∷ h.line; lines = rw (t, h.lines) refl; shorter = omega (arith, ap length t, h.shorter); fits = asks_record Clamp (parts 32 h.line) n m h.fits }
 
   pub correct_line : (m : ℕ) → text ≡ 99 ∷ 32 ∷ rest → HasNumbers rest n (Some m) after → IsCallLine text (Correct n 1 m) after
   unfolding command_of_name
-  correct_line m t h = record { line = 99 ∷ 32 ∷ h.line; lines = rw (t, h.lines) refl; shorter = omega (arith, ap length t, h.shorter); command = asks_correct (parts 32 h.line) n m h.numbers }
+  correct_line m t h = record { line = 99 ∷ 32 ∷ h.line; lines = rw (t, h.lines) refl; shorter = omega (arith, ap length t, h.shorter); fits = asks_correct (parts 32 h.line) n m h.fits }
 
 -- one more digit of few
 pub few_more : (at value digit : ℕ) → at < 19 → value < 10 ^ at → digit < 10 → (value * 10 + digit < 10 ^ (at + 1)) × (value * 10 + digit < 2 ^ 64)

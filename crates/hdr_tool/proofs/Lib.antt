@@ -1,3 +1,4 @@
+pub mod Common
 pub mod LinesParts
 pub mod OutcomesAnswers
 pub mod OutcomesRuns

@@ -1,15 +1,9 @@
 -- The parts of a text.
-use Rattle.std.proofs.Common.{◌≡◌, ℕ, suc, ◌+◌, ◌-◌, ◌<◌, ◌==◌, not, Bool, true, false, cond, List, [], ◌∷◌, ◌++◌, length, take, drop, Option, Some, None, IfSome, is_some, refl, sym, ap, ◌∙◌, arith}
-use Rattle.std.specs.List.{slice_split, onto_first, position_or_len, enumerate_from}
-use Rattle.std.proofs.lemmas.List.{take_all, length-drop, get_or_default}
+use Rattle.hdr_tool.proofs.Common.{◌≡◌, ℕ, suc, ◌+◌, ◌-◌, ◌==◌, not, Bool, true, false, cond, List, [], ◌∷◌, ◌++◌, length, take, drop, Option, Some, None, is_some, refl, sym, ap, ◌∙◌, arith, slice_split, onto_first, position_or_len, enumerate_from, take_all, length-drop, get_or_default, ne_eqb, option_map, parts, parts_of_rest, number_lines}
 use Rattle.std.proofs.lemmas.List.Splits.{slice_split_first, slice_split_none}
 use Rattle.std.proofs.lemmas.List.Sums.{position_or_len_is}
 use Rattle.memchr.specs.Find.{IsFirstByte, is_byte}
-use Rattle.std.proofs.lemmas.Bool.{ne_eqb}
-use Rattle.std.specs.Option.{option_map}
-use Rattle.hdr_log.specs.Parts.{parts}
 use Rattle.std.proofs.lemmas.List.FromFn.{length-enumerate_from}
-use Rattle.hdr_tool.specs.Commands.{parts_of_rest, number_lines}
 
 -- there is a first part
 pub parts_some : (b : ℕ) (text : List ℕ) (P : List (List ℕ) → Type 0) → ((first : List ℕ) (rest : List (List ℕ)) → P (first ∷ rest)) → P (parts b text)
@@ -40,10 +34,6 @@ left_all k text = take_all (length text - k) (drop k text) (omega (arith, length
 abbrev pub left_length : Option (List ℕ) → ℕ
 left_length None = 0
 left_length (Some text) = length text + 1
-
-pub left_shorter : (text : List ℕ) (after : Option (List ℕ)) → IfSome after (λ t. length t < length text) → left_length after < left_length (Some text)
-left_shorter text None h = omega arith
-left_shorter text (Some after) h = omega (arith, h)
 
 -- whether there is a rest
 pub nothing_left : {A : Type 0} (text_of : A → List ℕ) (b : ℕ) (left : Option A) (none : Bool) → is_some left ≡ not none → none ≡ (length (parts_of_rest b (option_map text_of left)) == 0)

@@ -1,27 +1,12 @@
 -- What a log's lines recorded is what a merge of the written log reports.
-use Rattle.std.proofs.Common.{◌≡◌, ℕ, zero, suc, ◌+◌, ◌-◌, ◌*◌, ◌^◌, ◌<◌, ◌≤◌, Bool, true, false, cond, leb, ◌&&◌, List, [], ◌∷◌, ◌++◌, Option, Some, None, IfSome, refl, sym, ap₂, ◌∙◌, subst, arith, lit<, lit≤}
-use Rattle.std.specs.Option.{option_map}
-use Rattle.std.specs.Prelude.{codes}
-use Rattle.std.specs.List.{filter_map, AllByRecursion, enumerate_from}
-use Rattle.std.specs.Str.{bytes_eq}
-use Rattle.std.proofs.lemmas.Bool.{leb-true}
-use Rattle.hdr_base.specs.Classes.{least_from, Grain, unit_of, digits_of, grain_of, IsFiner}
-use Rattle.hdr_base.specs.Fractions.{Ratio}
-use Rattle.hdr_model.specs.Plain.{Plain, IsPlain, grain, empty_plain}
+use Rattle.hdr_tool.proofs.Common.{◌≡◌, ℕ, zero, suc, ◌+◌, ◌-◌, ◌*◌, ◌^◌, ◌<◌, ◌≤◌, Bool, true, false, cond, leb, ◌&&◌, List, [], ◌∷◌, ◌++◌, Option, Some, None, IfSome, refl, sym, ap₂, ◌∙◌, subst, arith, lit<, lit≤, option_map, codes, filter_map, AllByRecursion, enumerate_from, bytes_eq, leb-true, Grain, IsFiner, Ratio, Plain, IsPlain, grain, StandsWhereFits, State, after_adds, IsPart, AreParts, joined_samples, AnswersRanked, Filter, is_chosen, IsReadBack, Fault, ◌>>=◌, parts, sigfig_of, fraction_of, are_fractions, Task, Report, Log, Merge, figures_of, log_of, Options, no_options, options_of, greatest_into, filter_of, IsReport, Outcome, Interval, chosen_of, ends_of, AreReadBack, EndsWith, AreEnds}
+use Rattle.hdr_base.specs.Classes.{least_from, unit_of, digits_of, grain_of}
+use Rattle.hdr_model.specs.Plain.{empty_plain}
 use Rattle.hdr_model.specs.Samples.{StandsFor, Fits}
-use Rattle.hdr_model.specs.Runs.{StandsWhereFits, State}
 use Rattle.hdr_model.specs.Refusals.{IsBounds}
-use Rattle.hdr_model.specs.Joining.{after_adds, IsPart, AreParts, joined_samples, AnswersRanked}
-use Rattle.hdrhistogram.specs.Chosen.{Filter, is_chosen}
-use Rattle.hdrhistogram.specs.V2Read.{IsReadBack}
 use Rattle.hdrhistogram.proofs.ChosenAdded.{added_digits}
-use Rattle.hdr_tool.specs.declared.fault.Fault.{Fault}
-use Rattle.hdr_log.specs.Parts.{◌>>=◌, parts}
-use Rattle.hdr_tool.specs.Arguments.{sigfig_of, fraction_of, are_fractions, Task, Report, Log, Merge, figures_of, log_of, merge_of, task_of, Options, no_options, options_of, greatest_into, filter_of}
+use Rattle.hdr_tool.specs.Arguments.{merge_of, task_of}
 use Rattle.hdr_tool.specs.declared.arguments.CounterType.{CounterType}
-use Rattle.hdr_tool.specs.Report.{IsReport}
-use Rattle.hdr_tool.specs.Program.{Outcome}
-use Rattle.hdr_tool.specs.LogMerges.{EndOf, chosen_of, ends_of, AreReadBack, EndsWith, AreEnds}
 use Rattle.hdr_tool.proofs.LogMergesWritten.{CallsStand, ends_stand, ReadsBack, log_then_merge}
 use Rattle.hdr_tool.proofs.CommandsLines.{one_of, tail, any}
 use Rattle.hdr_tool.specs.declared.arguments.CounterType.TheVariants as counter
@@ -118,7 +103,7 @@ pub record ReadsStand : Type 0 where
   pub classes : (h k : Plain) → IsReadBack h k → grain k ≡ grain h
   pub samples : (greatest : ℕ) (h k : Plain) (S : List ℕ) → IsPlain greatest h → IsReadBack h k → StandsFor h S → StandsFor k S
 
-ends_plain : (g : Grain) (hs : List (EndOf Plain)) (Ls : List (EndOf (List ℕ))) → AreEnds g hs Ls → AllByRecursion (λ (e : EndOf Plain). IsPlain (2 ^ 64 - 1) e.holds) hs
+ends_plain : (g : Grain) (hs : List (Interval Plain)) (Ls : List (Interval (List ℕ))) → AreEnds g hs Ls → AllByRecursion (λ (e : Interval Plain). IsPlain (2 ^ 64 - 1) e.holds) hs
 ends_plain g [] [] e = tt
 ends_plain g [] (L ∷ Ls) e = absurd e
 ends_plain g (h ∷ hs) [] e = absurd e
@@ -141,7 +126,7 @@ chosen_one g false false h L hs Ls e one all = all
 chosen_one g true false h L hs Ls e one all = absurd (let f = e in cc)
 chosen_one g false true h L hs Ls e one all = absurd (let f = e in cc)
 
-chosen_hold : (filter : Filter) (g : Grain) (hs : List (EndOf Plain)) (Ls : List (EndOf (List ℕ))) → AreEnds g hs Ls → AllHold g (chosen_of filter hs) (chosen_of filter Ls)
+chosen_hold : (filter : Filter) (g : Grain) (hs : List (Interval Plain)) (Ls : List (Interval (List ℕ))) → AreEnds g hs Ls → AllHold g (chosen_of filter hs) (chosen_of filter Ls)
 chosen_hold filter g [] [] e = tt
 chosen_hold filter g [] (L ∷ Ls) e = absurd e
 chosen_hold filter g (h ∷ hs) [] e = absurd e
@@ -188,7 +173,7 @@ pub record IsMerged (fewer : ℕ) (quantiles : List Ratio) (text samples : List 
   pub stands : StandsFor histogram samples
   pub ranked : AnswersRanked histogram samples
 
-pub whole_way : (log merge : List (List ℕ)) (sigfig fewer : ℕ) (options : Options) (quantiles : List Ratio) (input written text : List ℕ) (fault : Option Fault) (Ls : List (EndOf (List ℕ)))
+pub whole_way : (log merge : List (List ℕ)) (sigfig fewer : ℕ) (options : Options) (quantiles : List Ratio) (input written text : List ℕ) (fault : Option Fault) (Ls : List (Interval (List ℕ)))
     → NewIsPlain → CallsStand → JoinedStand → ReadsBack → ReadsStand → ((n : ℕ) → StandsFor (empty_plain 1 2 n true) []) → IsFiner (grain_of 1 sigfig) (grain_of 1 fewer)
     → task_of log ≡ Some (Log sigfig) → task_of merge ≡ Some (Merge options fewer quantiles)
     → EndsWith (grain_of 1 sigfig) (record { samples = []; high = 2 }) (enumerate_from 1 (parts 10 input)) Ls → Fits (greatest_into options.into) (grain_of 1 fewer) (joined_samples (chosen_of (filter_of options) Ls))

@@ -1,40 +1,13 @@
 -- The histograms of a log that `log` wrote: what they stand for, and the result of merging them.
-use Rattle.std.proofs.Common.{◌≡◌, ℕ, ◌-◌, ◌^◌, List, [], ◌∷◌, Option, Some, None, IfSome, refl, sym, subst, ◌+◌, ◌*◌, ◌<◌, Bool, true, false, cond, arith, length, slice_index, ◌++◌, MatchOption, Result, Ok, Err, map, ap, ◌∙◌}
-use Rattle.hdr_base.specs.Classes.{Grain}
-use Rattle.hdr_model.specs.Plain.{Plain, IsPlain, grain, empty_plain, max_of}
-use Rattle.hdr_model.specs.Recording.{after_reset}
-use Rattle.hdr_core.specs.Calls.{after_call, CallTo, IsCallOf}
-use Rattle.hdr_model.specs.Runs.{StandsWhereFits, State}
-use Rattle.hdr_core.specs.declared.call.Call.{Call}
-use Rattle.hdr_core.specs.declared.call.Call.TheVariants.{Reset}
-use Rattle.hdr_tool.specs.Commands.{Command, Apply, End, command_of}
+use Rattle.hdr_tool.proofs.Common.{◌≡◌, ℕ, ◌-◌, ◌^◌, List, [], ◌∷◌, Option, Some, None, IfSome, refl, sym, subst, ◌+◌, ◌*◌, ◌<◌, Bool, true, false, cond, arith, length, slice_index, ◌++◌, MatchOption, Result, Ok, Err, map, ap, ◌∙◌, Grain, Plain, IsPlain, grain, empty_plain, max_of, after_reset, after_call, CallTo, IsCallOf, StandsWhereFits, State, Call, Reset, Command, Apply, End, command_of, at_command, ends_of, AfterCommand, EndsWith, AreEnds, chosen_of, AreReadBack, LogThenMerge, AllByRecursion, enumerate_from, Ratio, after_adds, Entry, Span, reading, thousandths, to_thousandths, max_thousandths, base64_of, base64_bytes, Piece, IsPiece, piece_text, text_of, said_by, is_read, IsV2, interval_piece, IsIntervalText, told_of, v2_at, IsReadAs, IsReadBack, ReadsV2, Filter, is_chosen, Merging, new_merging, past_interval, with_interval, BytesMerge, FieldMerges, IntervalMerges, MergesOn, EntriesMerge, DeserializeError, MergeError, Fault, WrongWords, parts, Run, ended_by, prepend, run_command, run_lines, IsLogText, has_too_great_count, IsReport, Task, greatest_into, filter_of, fault_in, Reported, merged_histogram, MergeReported, TaskDone, append-nil}
 use Rattle.hdr_tool.proofs.CommandsLines.{IsLineCommand, command_fine}
-use Rattle.hdr_tool.specs.LogMerges.{EndOf, at_command, ends_of, AfterCommand, EndsWith, AreEnds, chosen_of, AreReadBack, LogThenMerge}
-use Rattle.std.specs.List.{AllByRecursion, enumerate_from, flat_map}
-use Rattle.hdr_base.specs.Fractions.{Ratio}
-use Rattle.hdr_model.specs.Joining.{after_adds}
-use Rattle.hdr_log.specs.Grammar.{Entry, Span, Interval, reading}
-use Rattle.hdr_log.specs.Texts.{thousandths, to_thousandths, max_thousandths, base64_of, base64_bytes}
-use Rattle.hdr_log.specs.Pieces.{Piece, IsPiece, piece_text, text_of, said_by, is_read}
+use Rattle.std.specs.List.{flat_map}
+use Rattle.hdr_log.specs.Grammar.{Interval}
 use Rattle.hdr_log.proofs.GrammarWhole.{pieces_read}
 use Rattle.hdr_log.proofs.TextsBase64.{base64_decoded}
-use Rattle.hdrhistogram.specs.V2.{IsV2}
-use Rattle.hdrhistogram.specs.LogLeaving.{interval_piece, IsIntervalText}
-use Rattle.hdrhistogram.specs.V2Read.{told_of, v2_at, IsReadAs, IsReadBack, ReadsV2}
-use Rattle.hdrhistogram.specs.Chosen.{Filter, is_chosen}
-use Rattle.hdrhistogram.specs.LogMerging.{Merging, new_merging, past_interval, with_interval, BytesMerge, FieldMerges, IntervalMerges, MergesOn, EntriesMerge}
 use Rattle.hdrhistogram.specs.Defects.{Defect}
-use Rattle.hdrhistogram.specs.declared.serialization.errors.DeserializeError.{DeserializeError}
-use Rattle.hdrhistogram.specs.declared.serialization.interval_log.merge.MergeError.{MergeError}
-use Rattle.hdr_tool.specs.declared.fault.Fault.{Fault}
-use Rattle.hdr_tool.specs.declared.fault.Fault.TheVariants.{WrongWords}
-use Rattle.hdr_log.specs.Parts.{parts}
-use Rattle.hdr_tool.specs.Outcomes.{Run, ended_by, prepend, run_command, run_lines, IsLogText}
-use Rattle.hdr_tool.specs.Report.{has_too_great_count, IsReport}
-use Rattle.hdr_tool.specs.Arguments.{Task, greatest_into, filter_of}
-use Rattle.hdr_tool.specs.Program.{fault_in, Reported, merged_histogram, MergeReported, TaskDone, Outcome}
-use Rattle.std.proofs.lemmas.List.{append-nil}
-use Rattle.hdr_tool.specs.Outcomes as run
+use Rattle.hdr_tool.specs.Program.{Outcome}
+use Rattle.hdr_tool.specs.Program as run
 
 -- what a call makes of a histogram, by the library's law
 pub record CallsStand : Type 0 where
@@ -43,10 +16,10 @@ pub record CallsStand : Type 0 where
   pub wherever : (most : ℕ) (h : Plain) (call : Call ℕ) (s t : State) → IsCallOf most call → IsPlain (2 ^ 64 - 1) h → StandsWhereFits (2 ^ 64 - 1) h s
       → CallTo (λ n. n) (grain h) call s t → StandsWhereFits (2 ^ 64 - 1) (after_call (2 ^ 64 - 1) (λ n. n) call h) t
 
-command_stands : (c : Option Command) (h : Plain) (s : State) (lines : List (ℕ × List ℕ)) (Ls : List (EndOf (List ℕ))) → CallsStand → IsPlain (2 ^ 64 - 1) h → StandsWhereFits (2 ^ 64 - 1) h s → IfSome c IsLineCommand → AfterCommand (grain h) s c (λ t rest. EndsWith (grain h) t lines rest) Ls
-    → ((g : Plain) (t : State) (rest : List (EndOf (List ℕ))) → IsPlain (2 ^ 64 - 1) g → StandsWhereFits (2 ^ 64 - 1) g t → EndsWith (grain g) t lines rest → AreEnds (grain g) (ends_of g lines) rest)
+command_stands : (c : Option Command) (h : Plain) (s : State) (lines : List (ℕ × List ℕ)) (Ls : List (run.Interval (List ℕ))) → CallsStand → IsPlain (2 ^ 64 - 1) h → StandsWhereFits (2 ^ 64 - 1) h s → IfSome c IsLineCommand → AfterCommand (grain h) s c (λ t rest. EndsWith (grain h) t lines rest) Ls
+    → ((g : Plain) (t : State) (rest : List (run.Interval (List ℕ))) → IsPlain (2 ^ 64 - 1) g → StandsWhereFits (2 ^ 64 - 1) g t → EndsWith (grain g) t lines rest → AreEnds (grain g) (ends_of g lines) rest)
     → AreEnds (grain h) (at_command h c (λ g. ends_of g lines)) Ls
-command_stands None h s lines Ls calls p st fine a tail = let A : List (EndOf (List ℕ)) → Type 0 = λ x. AreEnds (grain h) [] x in subst A (sym a) tt
+command_stands None h s lines Ls calls p st fine a tail = let A : List (run.Interval (List ℕ)) → Type 0 = λ x. AreEnds (grain h) [] x in subst A (sym a) tt
 command_stands (Some (Apply call)) h s lines Ls calls p st fine a tail =
     let next = after_call (2 ^ 64 - 1) (λ (n : ℕ). n) call h in
     let same : grain next ≡ grain h = calls.classes (2 ^ 64 - 1) h call fine in
@@ -58,13 +31,13 @@ command_stands (Some (End start duration tag)) h s lines Ls calls p st fine a ta
     let same : grain (after_reset h) ≡ grain h = calls.classes (2 ^ 64 - 1) h Reset tt in
     let W : Grain → Type 0 = λ g. EndsWith g t lines a.0 in
     let E : Grain → Type 0 = λ g. AreEnds g (ends_of (after_reset h) lines) a.0 in
-    let A : List (EndOf (List ℕ)) → Type 0 = λ x. AreEnds (grain h) (record { holds = h; tag = tag; start = start } ∷ ends_of (after_reset h) lines) x in
+    let A : List (run.Interval (List ℕ)) → Type 0 = λ x. AreEnds (grain h) (record { holds = h; tag = tag; start = start; duration = duration } ∷ ends_of (after_reset h) lines) x in
     let rest = tail (after_reset h) t a.0 (calls.plain (2 ^ 64 - 1) h Reset tt p) (calls.wherever (2 ^ 64 - 1) h Reset s t tt p st (refl, refl)) (subst W (sym same) a.3) in
-    subst A (sym a.1) (record { plain = p; stands = st.0 a.2; classes = refl; tag = refl; start = refl }, subst E same rest)
+    subst A (sym a.1) (record { plain = p; stands = st.0 a.2; classes = refl; tag = refl; start = refl; duration = refl }, subst E same rest)
 
-pub ends_stand : CallsStand → (h : Plain) (s : State) (lines : List (ℕ × List ℕ)) (Ls : List (EndOf (List ℕ))) → IsPlain (2 ^ 64 - 1) h → StandsWhereFits (2 ^ 64 - 1) h s → EndsWith (grain h) s lines Ls
+pub ends_stand : CallsStand → (h : Plain) (s : State) (lines : List (ℕ × List ℕ)) (Ls : List (run.Interval (List ℕ))) → IsPlain (2 ^ 64 - 1) h → StandsWhereFits (2 ^ 64 - 1) h s → EndsWith (grain h) s lines Ls
     → AreEnds (grain h) (ends_of h lines) Ls
-ends_stand calls h s [] Ls p st w = let A : List (EndOf (List ℕ)) → Type 0 = λ x. AreEnds (grain h) [] x in subst A (sym w) tt
+ends_stand calls h s [] Ls p st w = let A : List (run.Interval (List ℕ)) → Type 0 = λ x. AreEnds (grain h) [] x in subst A (sym w) tt
 ends_stand calls h s ((k, []) ∷ lines) Ls p st w = ends_stand calls h s lines Ls p st w
 ends_stand calls h s ((k, b ∷ line) ∷ lines) Ls p st w = command_stands (command_of (b ∷ line)) h s lines Ls calls p st (command_fine (b ∷ line)) w (λ g t rest q u v. ends_stand calls g t lines rest q u v)
 
@@ -76,8 +49,8 @@ record Logged : Type 0 where
   start : ℕ
   duration : ℕ
 
-abbrev end_of : Logged → EndOf Plain
-end_of i = record { holds = i.histogram; tag = i.tag; start = i.start }
+abbrev end_of : Logged → run.Interval Plain
+end_of i = record { holds = i.histogram; tag = i.tag; start = i.start; duration = i.duration }
 
 abbrev piece_of : Logged → Piece
 piece_of i = interval_piece i.histogram i.tag (i.start * 1_000_000) (i.duration * 1_000_000) 1 i.bytes
@@ -87,14 +60,14 @@ record IsLogged (i : Logged) : Type 0 where
   piece : IsPiece (piece_of i)
 
 -- a text is that of intervals of these histograms
-record Logs (es : List (EndOf Plain)) (text : List ℕ) : Type 0 where
+record Logs (es : List (run.Interval Plain)) (text : List ℕ) : Type 0 where
   intervals : List Logged
   each : AllByRecursion IsLogged intervals
   text_is : text ≡ text_of (map piece_of intervals)
   ends : map end_of intervals ≡ es
 
-one_more : (h : Plain) (tag : Option (List ℕ)) (start duration : ℕ) (es : List (EndOf Plain)) (line text : List ℕ) → IsIntervalText IsV2 h tag (start * 1_000_000) (duration * 1_000_000) 1 line → Logs es text
-    → Logs (record { holds = h; tag = tag; start = start } ∷ es) (line ++ text)
+one_more : (h : Plain) (tag : Option (List ℕ)) (start duration : ℕ) (es : List (run.Interval Plain)) (line text : List ℕ) → IsIntervalText IsV2 h tag (start * 1_000_000) (duration * 1_000_000) 1 line → Logs es text
+    → Logs (record { holds = h; tag = tag; start = start; duration = duration } ∷ es) (line ++ text)
 one_more h tag start duration es line text i l =
     let first : Logged = record { histogram = h; bytes = i.0; tag = tag; start = start; duration = duration } in
     record {
@@ -104,31 +77,28 @@ one_more h tag start duration es line text i l =
       ends = ap (λ xs. end_of first ∷ xs) l.ends;
     }
 
-abbrev ends_at : run.Interval → EndOf Plain
-ends_at i = record { holds = i.histogram; tag = i.tag; start = i.start }
-
-logs_of : (is : List run.Interval) (text : List ℕ) → IsLogText is text → Logs (map ends_at is) text
+logs_of : (is : List (run.Interval Plain)) (text : List ℕ) → IsLogText is text → Logs is text
 logs_of [] text t = record { intervals = []; each = tt; text_is = t; ends = refl }
 logs_of (i ∷ is) text (line, rest, t, p, e) =
-    let T : List ℕ → Type 0 = λ x. Logs (map ends_at (i ∷ is)) x in
-    subst T (sym e) (one_more i.histogram i.tag i.start i.duration (map ends_at is) line rest t (logs_of is rest p))
+    let T : List ℕ → Type 0 = λ x. Logs (i ∷ is) x in
+    subst T (sym e) (one_more i.holds i.tag i.start i.duration is line rest t (logs_of is rest p))
 
 -- the intervals that lines end without a `Fault`
 no_error : {A B C : Type 0} (e : B) (x : A) → (λ (r : Result A B). r) (Err e) ≡ Ok x → C
 no_error e x h = absurd (let f = h in cc)
 
-end_ends : (great : Bool) (i : run.Interval) (f : Fault) (r : Run) (es : List (EndOf Plain)) (last : Plain) → (cond great (ended_by (Err f)) (prepend (i ∷ []) r)).ended ≡ Ok last → (r.ended ≡ Ok last → map ends_at r.intervals ≡ es)
-    → map ends_at (cond great (ended_by (Err f)) (prepend (i ∷ []) r)).intervals ≡ ends_at i ∷ es
+end_ends : (great : Bool) (i : run.Interval Plain) (f : Fault) (r : Run) (es : List (run.Interval Plain)) (last : Plain) → (cond great (ended_by (Err f)) (prepend (i ∷ []) r)).ended ≡ Ok last → (r.ended ≡ Ok last → r.intervals ≡ es)
+    → (cond great (ended_by (Err f)) (prepend (i ∷ []) r)).intervals ≡ i ∷ es
 end_ends true i f r es last e h = no_error f last e
-end_ends false i f r es last e h = ap (λ x. ends_at i ∷ x) (h e)
+end_ends false i f r es last e h = ap (λ x. i ∷ x) (h e)
 
-command_ends : (k : ℕ) (h : Plain) (c : Option Command) (onward : Plain → Run) (tail : Plain → List (EndOf Plain)) (last : Plain) → (run_command true k h c onward).ended ≡ Ok last → ((g : Plain) → (onward g).ended ≡ Ok last → map ends_at (onward g).intervals ≡ tail g)
-    → map ends_at (run_command true k h c onward).intervals ≡ at_command h c tail
+command_ends : (k : ℕ) (h : Plain) (c : Option Command) (onward : Plain → Run) (tail : Plain → List (run.Interval Plain)) (last : Plain) → (run_command true k h c onward).ended ≡ Ok last → ((g : Plain) → (onward g).ended ≡ Ok last → (onward g).intervals ≡ tail g)
+    → (run_command true k h c onward).intervals ≡ at_command h c tail
 command_ends k h None onward tail last e t = no_error _ last e
 command_ends k h (Some (Apply call)) onward tail last e t = t _ e
-command_ends k h (Some (End start duration tag)) onward tail last e t = end_ends (has_too_great_count h) (record { histogram = h; tag = tag; start = start; duration = duration }) _ (onward (after_reset h)) (tail (after_reset h)) last e (t (after_reset h))
+command_ends k h (Some (End start duration tag)) onward tail last e t = end_ends (has_too_great_count h) (record { holds = h; tag = tag; start = start; duration = duration }) _ (onward (after_reset h)) (tail (after_reset h)) last e (t (after_reset h))
 
-ends_are : (lines : List (ℕ × List ℕ)) (h last : Plain) → (run_lines true h lines).ended ≡ Ok last → map ends_at (run_lines true h lines).intervals ≡ ends_of h lines
+ends_are : (lines : List (ℕ × List ℕ)) (h last : Plain) → (run_lines true h lines).ended ≡ Ok last → (run_lines true h lines).intervals ≡ ends_of h lines
 ends_are [] h last e = refl
 ends_are ((k, []) ∷ lines) h last e = ends_are lines h last e
 ends_are ((k, b ∷ line) ∷ lines) h last e = command_ends k h (command_of (b ∷ line)) (λ g. run_lines true g lines) (λ g. ends_of g lines) last e (λ g f. ends_are lines g last f)
@@ -202,7 +172,7 @@ begins_at : (base ms : ℕ) → base ≡ 0 → base + to_thousandths (ms * 1_000
 begins_at base ms e = omega (arith, e)
 
 -- a merge of intervals
-merges : (greatest : ℕ) (filter : Filter) (is : List Logged) (m : Merging) (r : Result Merging MergeError) → ReadsBack → AllByRecursion IsLogged is → AllByRecursion (λ (e : EndOf Plain). IsPlain (2 ^ 64 - 1) e.holds) (map end_of is) → m.base ≡ 0
+merges : (greatest : ℕ) (filter : Filter) (is : List Logged) (m : Merging) (r : Result Merging MergeError) → ReadsBack → AllByRecursion IsLogged is → AllByRecursion (λ (e : run.Interval Plain). IsPlain (2 ^ 64 - 1) e.holds) (map end_of is) → m.base ≡ 0
     → EntriesMerge greatest filter (map is_read (map span_of is)) m r → Added greatest m (chosen_of filter (map end_of is)) r
 merges greatest filter [] m r back h p base e = ([], tt, (m, e, refl))
 merges greatest filter (i ∷ is) m r back h p base e =
@@ -216,20 +186,20 @@ no_fault (Ok h) e = (h, refl)
 no_fault (Err f) e = absurd (let g = e in cc)
 
 -- the parts joined
-merged_log : (h : Plain) (lines : List (ℕ × List ℕ)) (fewer greatest : ℕ) (filter : Filter) (quantiles : List Ratio) (written text : List ℕ) (fault : Option Fault) → ReadsBack → AllByRecursion (λ (e : EndOf Plain). IsPlain (2 ^ 64 - 1) e.holds) (ends_of h lines)
+merged_log : (h : Plain) (lines : List (ℕ × List ℕ)) (fewer greatest : ℕ) (filter : Filter) (quantiles : List Ratio) (written text : List ℕ) (fault : Option Fault) → ReadsBack → AllByRecursion (λ (e : run.Interval Plain). IsPlain (2 ^ 64 - 1) e.holds) (ends_of h lines)
     → IsLogText (run_lines true h lines).intervals written × (None ≡ fault_in (run_lines true h lines).ended) → MergeReported greatest filter fewer quantiles written text fault
     → (fault ≡ None) × ((ks : List Plain) × AreReadBack (chosen_of filter (ends_of h lines)) ks × IsReport (after_adds greatest (empty_plain 1 2 fewer true) ks) quantiles text)
 merged_log h lines fewer greatest filter quantiles written text fault back plain d t =
     let ok = no_fault (run_lines true h lines).ended d.1 in
-    let L : List (EndOf Plain) → Type 0 = λ es. Logs es written in
+    let L : List (run.Interval Plain) → Type 0 = λ es. Logs es written in
     let l : Logs (ends_of h lines) written = subst L (ends_are lines h ok.0 ok.1) (logs_of (run_lines true h lines).intervals written d.0) in
-    let P : List (EndOf Plain) → Type 0 = λ es. AllByRecursion (λ (e : EndOf Plain). IsPlain (2 ^ 64 - 1) e.holds) es in
+    let P : List (run.Interval Plain) → Type 0 = λ es. AllByRecursion (λ (e : run.Interval Plain). IsPlain (2 ^ 64 - 1) e.holds) es in
     let R : List (Result Entry ℕ) → Type 0 = λ xs. EntriesMerge greatest filter xs (new_merging fewer) t.0 in
     let read : reading written ≡ map is_read (map span_of l.intervals) = ap reading l.text_is ∙ log_read l.intervals l.each in
     let m = merges greatest filter l.intervals (new_merging fewer) t.0 back l.each (subst P (sym l.ends) plain) refl (subst R read t.1) in
     let E : Result Merging MergeError → Type 0 = λ e. Reported quantiles (merged_histogram e) text fault in
     let reported = subst E m.2.1 t.2 in
-    let B : List (EndOf Plain) → Type 0 = λ es. AreReadBack (chosen_of filter es) m.0 in
+    let B : List (run.Interval Plain) → Type 0 = λ es. AreReadBack (chosen_of filter es) m.0 in
     let I : Plain → Type 0 = λ k. IsReport k quantiles text in
     (reported.1, (m.0, subst B l.ends m.1, subst I m.2.2 reported.0))
 

@@ -1,19 +1,7 @@
 -- What a task returns, by the result of its lines or its log.
-use Rattle.std.proofs.Common.{◌≡◌, ℕ, List, [], ◌∷◌, ◌++◌, length, true, false, Option, Some, None, IfSome, Result, Ok, Err, refl, sym, ap, ◌∙◌, subst, arith}
-use Rattle.std.specs.Io.KnownBytes.{Appends, IsAtEnd}
-use Rattle.std.proofs.lemmas.List.{append-nil}
-use Rattle.hdr_base.specs.Fractions.{Ratio}
-use Rattle.hdr_model.specs.Plain.{Plain, empty_plain}
-use Rattle.hdrhistogram.specs.Streams.{AppendsFront}
-use Rattle.hdr_tool.specs.declared.fault.Fault.{Fault}
-use Rattle.hdr_tool.specs.Outcomes.{Interval, Run, ended_by, run_command, run_lines, IsLogText, Cause, Shortage, Output, Input, Usage, cause_of, Stops, Goes, RunRefused, Answers, ReadsTo, ReadsAll, merge_fault}
-use Rattle.hdr_tool.specs.Commands.{Command, Apply, End, command_of, number_lines}
-use Rattle.hdr_tool.specs.Arguments.{Task, Report, Log, Merge}
-use Rattle.hdr_tool.specs.Program.{run_input, fault_in, Reported, TaskDone, TaskStands, TaskWrites, MergeReported}
+use Rattle.hdr_tool.proofs.Common.{◌≡◌, ℕ, List, [], ◌∷◌, ◌++◌, length, true, false, Option, Some, None, IfSome, Result, Ok, Err, refl, sym, ap, ◌∙◌, subst, arith, Appends, IsAtEnd, append-nil, Ratio, Plain, empty_plain, AppendsFront, Fault, Run, ended_by, run_command, run_lines, IsLogText, Cause, Shortage, Output, Input, Usage, cause_of, Stops, Goes, RunRefused, Answers, ReadsTo, merge_fault, Command, Apply, End, command_of, number_lines, Task, Report, Log, Merge, run_input, fault_in, Reported, TaskDone, TaskStands, TaskWrites, MergeReported, Filter, RefusesMerge, MergeError}
+use Rattle.hdr_tool.specs.Program.{Interval}
 use Rattle.hdr_tool.proofs.OutcomesRuns.{front_behind, appends_nothing, appends_both, some_input}
-use Rattle.hdrhistogram.specs.Chosen.{Filter}
-use Rattle.hdrhistogram.specs.LogMerging.{RefusesMerge}
-use Rattle.hdrhistogram.specs.declared.serialization.interval_log.merge.MergeError.{MergeError}
 use Rattle.hdrhistogram.specs.declared.serialization.interval_log.merge.MergeError.TheVariants.{Creation, Parse, Base64, Decode, OutOfMemory}
 
 -- ---- the lines of a report end no interval
@@ -28,11 +16,11 @@ quiet [] h = refl
 quiet ((k, []) ∷ lines) h = quiet lines h
 quiet ((k, b ∷ line) ∷ lines) h = command_quiet k h (command_of (b ∷ line)) (λ g. run_lines false g lines) (λ g. quiet lines g)
 
-front_none : (is js : List Interval) → is ++ js ≡ [] → is ≡ []
+front_none : (is js : List (Interval Plain)) → is ++ js ≡ [] → is ≡ []
 front_none [] js e = refl
 front_none (i ∷ is) js e = absurd (let f = e in cc)
 
-no_text : (is : List Interval) (text : List ℕ) → is ≡ [] → IsLogText is text → text ≡ []
+no_text : (is : List (Interval Plain)) (text : List ℕ) → is ≡ [] → IsLogText is text → text ≡ []
 no_text [] text e t = t
 no_text (i ∷ is) text e t = absurd (let f = e in cc)
 
@@ -44,7 +32,7 @@ TaskRefused task input o n c f = RunRefused (TaskDone task input) (TaskStands ta
 
 module _ (sigfig : ℕ) (quantiles : List Ratio) (input : List ℕ) (o n : Option (List ℕ)) where
   -- what a report's lines wrote is nothing
-  nothing : (is : List Interval) (text : List ℕ) (rest : Run) → IsLogText is text → run_input false sigfig input ≡ record { intervals = is ++ rest.intervals; ended = rest.ended } → text ≡ []
+  nothing : (is : List (Interval Plain)) (text : List ℕ) (rest : Run) → IsLogText is text → run_input false sigfig input ≡ record { intervals = is ++ rest.intervals; ended = rest.ended } → text ≡ []
   nothing is text rest t e = no_text is text (front_none is rest.intervals (sym (ap (λ (r : Run). r.intervals) e) ∙ quiet (number_lines 1 (Some input)) (empty_plain 1 2 sigfig true))) t
 
   report_by : (f : Fault) (c : Cause) → Stops {M = Unit {0}} (λ _. run_input false sigfig input) o n c f → TaskRefused (Report sigfig quantiles) input o n c f
@@ -89,7 +77,7 @@ module _ (sigfig : ℕ) (quantiles : List Ratio) (input : List ℕ) (o n : Optio
 -- ---- a log
 
 module _ (sigfig : ℕ) (input : List ℕ) (o n : Option (List ℕ)) where
-  logged : (is : List Interval) (text : List ℕ) (ended : Result Plain Fault) → IsLogText is text → run_input true sigfig input ≡ record { intervals = is; ended = ended } → TaskDone (Log sigfig) input text (fault_in ended)
+  logged : (is : List (Interval Plain)) (text : List ℕ) (ended : Result Plain Fault) → IsLogText is text → run_input true sigfig input ≡ record { intervals = is; ended = ended } → TaskDone (Log sigfig) input text (fault_in ended)
   logged is text ended t e =
       let R : Run → Type 0 = λ r. IsLogText r.intervals text × (fault_in ended ≡ fault_in r.ended) in subst R (sym e) (t, refl)
 
@@ -106,19 +94,6 @@ module _ (sigfig : ℕ) (input : List ℕ) (o n : Option (List ℕ)) where
   log_done h a = (a.1.0, logged a.0 a.1.0 (Ok h) a.1.1 (a.2 tt ∙ ap (λ is. record { intervals = is; ended = Ok h }) (append-nil a.0)), a.1.2)
 
 -- ---- what is read
-
-all_by : (m : Option (List ℕ)) (c : Cause) → IsAtEnd m → ReadsTo IsAtEnd m c
-all_by m Shortage e = tt
-all_by m Output e = e
-all_by m Input e = e
-all_by m Usage e = tt
-
-pub reads_all : (m : Option (List ℕ)) (r : Result (Unit {0}) Fault) → IsAtEnd m → ReadsAll IsAtEnd m r
-reads_all m (Ok u) e = e
-reads_all m (Err f) e = all_by m (cause_of f) e
-
-pub reads_none : (m : Option (List ℕ)) (f : Fault) → cause_of f ≡ Shortage → ReadsTo IsAtEnd m (cause_of f)
-reads_none m f e = rw e tt
 
 -- ---- not all of the input is read, or memory runs out before
 

@@ -1,18 +1,12 @@
 -- A histogram that has V2 bytes has no count that is too great for them.
-use Rattle.std.proofs.Common.{◌≡◌, ℕ, zero, suc, ◌+◌, ◌*◌, ◌%◌, ◌^◌, ◌<◌, ◌≤◌, nat_lt, Bool, true, false, List, [], ◌∷◌, ◌++◌, get_or, replicate, flat_map, sym, ap, ◌∙◌, subst, arith, lit<, pow-add}
-use Rattle.std.specs.Prelude.{nat_le, All, MatchBool}
-use Rattle.std.specs.List.{AllByRecursion}
-use Rattle.std.proofs.Math.Nat.{pow-le-pow_right}
-use Rattle.std.proofs.lemmas.Bool.{le-leb, lt-leb}
+use Rattle.hdr_tool.proofs.Common.{◌≡◌, ℕ, zero, suc, ◌+◌, ◌*◌, ◌%◌, ◌^◌, ◌<◌, ◌≤◌, nat_lt, Bool, true, false, List, [], ◌∷◌, ◌++◌, get_or, replicate, flat_map, sym, ap, ◌∙◌, subst, arith, lit<, pow-add, nat_le, All, MatchBool, AllByRecursion, pow-le-pow_right, le-leb, lt-leb, Plain, IsPlain, written_counts, IsV2, HasTooGreatCount}
 use Rattle.std.proofs.lemmas.List.Elements.{All-weaker}
 use Rattle.std.proofs.lemmas.List.Folds.{list_any-from_Any, list_any_none}
-use Rattle.hdr_model.specs.Plain.{Plain, IsPlain}
 use Rattle.hdrhistogram.specs.Varint.{IsSpelling, number_of_spelling, Spells}
 use Rattle.hdrhistogram.specs.Payload.{Part, run, bin, bins_of, AreSpelt}
-use Rattle.hdrhistogram.specs.V2.{written_counts, IsV2, HasTooGreatCount}
 use Rattle.hdrhistogram.proofs.VarintSpellings.{nothing_spelled}
 use Rattle.hdrhistogram.proofs.V2Bins.{all-small}
-use Rattle.hdr_tool.specs.Report.{has_too_great_count}
+use Rattle.hdr_tool.specs.Program.{has_too_great_count}
 
 abbrev Small : ℕ → Type 0
 Small n = n < 2 ^ 63

@@ -1,29 +1,12 @@
 -- Arguments and an input have one outcome.
-use Rattle.std.proofs.Common.{◌≡◌, ℕ, ◌+◌, ◌-◌, ◌*◌, ◌^◌, Bool, true, false, List, [], ◌∷◌, ◌++◌, Option, Some, None, MatchOption, Result, Ok, Err, refl, sym, ap, ◌∙◌, subst}
-use Rattle.std.specs.Prelude.{MatchBool, codes}
-use Rattle.std.specs.Option.{option_map}
+use Rattle.hdr_tool.proofs.Common.{◌≡◌, ℕ, ◌+◌, ◌-◌, ◌*◌, ◌^◌, Bool, true, false, List, [], ◌∷◌, ◌++◌, Option, Some, None, MatchOption, Result, Ok, Err, refl, sym, ap, ◌∙◌, subst, MatchBool, codes, option_map, Ratio, Plain, Entry, Start, Base, Span, reading, piece_text, base64_bytes, IsV2, IsWrittenAlike, v2_at, ReadsV2, Filter, Every, interval_piece, Merging, new_merging, with_interval, BytesMerge, FieldMerges, IntervalMerges, EntryMerges, MergesOn, EntriesMerge, AreChosen, DeserializeError, MergeError, Fault, WrongWords, Task, Report, Log, Merge, task_of, greatest_into, filter_of, merge_fault, quantile_line, has_too_great_count, run_input, Reported, merged_histogram, TaskDone, Unread, told, OneOutcome}
 use Rattle.std.specs.List.{flat_map}
 use Rattle.std.specs.Fmt.{decimal}
 use Rattle.hex.specs.Hex.{encode_lower}
-use Rattle.hdr_base.specs.Fractions.{Ratio}
-use Rattle.hdr_model.specs.Plain.{Plain}
-use Rattle.hdr_log.specs.Grammar.{Entry, Start, Base, Span, Interval, reading}
-use Rattle.hdr_log.specs.Pieces.{piece_text}
-use Rattle.hdr_log.specs.Texts.{base64_bytes}
-use Rattle.hdrhistogram.specs.V2.{IsV2, IsWrittenAlike}
-use Rattle.hdrhistogram.specs.V2Read.{v2_at, ReadsV2}
-use Rattle.hdrhistogram.specs.Chosen.{Filter, Every, is_chosen}
-use Rattle.hdrhistogram.specs.LogLeaving.{interval_piece}
-use Rattle.hdrhistogram.specs.LogMerging.{Merging, new_merging, with_interval, BytesMerge, FieldMerges, IntervalMerges, EntryMerges, MergesOn, EntriesMerge, AreChosen}
-use Rattle.hdrhistogram.specs.declared.serialization.errors.DeserializeError.{DeserializeError}
-use Rattle.hdrhistogram.specs.declared.serialization.interval_log.merge.MergeError.{MergeError}
-use Rattle.hdr_tool.specs.declared.fault.Fault.{Fault}
-use Rattle.hdr_tool.specs.declared.fault.Fault.TheVariants.{WrongWords}
-use Rattle.hdr_tool.specs.Arguments.{Task, Report, Log, Merge, task_of, greatest_into, filter_of}
-use Rattle.hdr_tool.specs.Outcomes.{merge_fault}
-use Rattle.hdr_tool.specs.Report.{quantile_line, has_too_great_count}
-use Rattle.hdr_tool.specs.Program.{run_input, Reported, merged_histogram, TaskDone, Outcome, Unread, told, OneOutcome}
-use Rattle.hdr_tool.specs.Outcomes as run
+use Rattle.hdr_log.specs.Grammar.{Interval}
+use Rattle.hdrhistogram.specs.Chosen.{is_chosen}
+use Rattle.hdr_tool.specs.Program.{Outcome}
+use Rattle.hdr_tool.specs.Program as run
 
 -- what the library's laws on bytes and on merging say
 pub record Once : Type 0 where
@@ -33,10 +16,10 @@ pub record Once : Type 0 where
 bytes_once : Once → (h : Plain) (a b : List ℕ) → IsV2 h a → IsV2 h b → a ≡ b
 bytes_once once h a b p q = once.bytes h h a b p q (record { low = refl; high = refl; sigfig = refl; counts = refl; top_class = refl })
 
-text_once : Once → (is : List run.Interval) (a b : List ℕ) → run.IsLogText is a → run.IsLogText is b → a ≡ b
+text_once : Once → (is : List (run.Interval Plain)) (a b : List ℕ) → run.IsLogText is a → run.IsLogText is b → a ≡ b
 text_once once [] a b p q = p ∙ sym q
 text_once once (i ∷ is) a b (l, r, t, p, e) (l', r', t', p', e') =
-    let line : l ≡ l' = t.3 ∙ ap (λ x. piece_text (interval_piece i.histogram i.tag (i.start * 1_000_000) (i.duration * 1_000_000) 1 x)) (bytes_once once i.histogram t.0 t'.0 t.1 t'.1) ∙ sym t'.3 in
+    let line : l ≡ l' = t.3 ∙ ap (λ x. piece_text (interval_piece i.holds i.tag (i.start * 1_000_000) (i.duration * 1_000_000) 1 x)) (bytes_once once i.holds t.0 t'.0 t.1 t'.1) ∙ sym t'.3 in
     e ∙ ap (λ x. x ++ r) line ∙ ap (λ x. l' ++ x) (text_once once is r r' p p') ∙ sym e'
 
 field_once : Once → (h : Plain) (great : Bool) (a b : List ℕ) → MatchBool great (a ≡ codes "none") ((bytes : List ℕ) × IsV2 h bytes × (a ≡ encode_lower bytes)) → MatchBool great (b ≡ codes "none") ((bytes : List ℕ) × IsV2 h bytes × (b ≡ encode_lower bytes)) → a ≡ b
@@ -62,9 +45,6 @@ same_self (Err e) = refl
 
 same_both : (x r s : Result Merging MergeError) → r ≡ x → s ≡ x → Same r s
 same_both x r s p q = rw (p, q) (same_self x)
-
-same_some : {A : Type 0} (x y : A) → (λ (o : Option A). o) (Some x) ≡ Some y → x ≡ y
-same_some x y e = cc
 
 apart : {A B : Type 0} (r : Result A B) (x : A) (e : B) → r ≡ Ok x → r ≡ Err e → ⊥
 apart r x e p q = absurd (let h = sym p ∙ q in cc)

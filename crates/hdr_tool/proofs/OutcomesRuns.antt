@@ -1,24 +1,12 @@
 -- What running lines leaves in the writer: one line, one part after another, and lines that are run while the input is read.
-use Rattle.std.proofs.Common.{◌≡◌, ℕ, ◌+◌, ◌-◌, List, [], ◌++◌, length, take, drop, Option, Some, None, Result, Ok, Err, IsErrAnd, refl, sym, ap, ◌∙◌, append_assoc, suc, ◌^◌, Bool, ◌∷◌, subst, length-append, zero-add, arith, ◌*◌, true, inl, inr, IfSome, ◌⊎◌}
-use Rattle.hdr_tool.specs.declared.fault.Fault.{Fault}
-use Rattle.std.specs.Io.KnownBytes.{Appends, Keeps, Consumes, IsAtEnd}
-use Rattle.std.proofs.lemmas.List.{take_rest, append-nil}
+use Rattle.hdr_tool.proofs.Common.{◌≡◌, ℕ, ◌+◌, ◌-◌, List, [], ◌++◌, length, take, drop, Option, Some, None, Result, Ok, Err, IsErrAnd, refl, sym, ap, ◌∙◌, append_assoc, suc, ◌^◌, Bool, ◌∷◌, subst, length-append, zero-add, arith, ◌*◌, true, inl, inr, IfSome, ◌⊎◌, Fault, Appends, Keeps, Consumes, IsAtEnd, take_rest, append-nil, Plain, IsPlain, after_call, RefusesCall, Call, AppendsFront, Command, Apply, command_of, End, number_lines, Run, prepend, run_command, run_lines, IsLogText, Cause, Shortage, Output, Input, Usage, cause_of, Wrote, Stops, Goes, ended_by, CommandNeeds, LinesNeed, Needs, ReadsTo, after_reset, IsV2, HasTooGreatCount, IsIntervalText, NotACommand, NotWritten, NoMemory, Consumes-trans}
 use Rattle.std.proofs.Math.Seq.{take-add}
-use Rattle.hdr_model.specs.Plain.{Plain, IsPlain}
-use Rattle.hdr_core.specs.Calls.{after_call, RefusesCall}
-use Rattle.hdr_core.specs.declared.call.Call.{Call}
-use Rattle.hdrhistogram.specs.Streams.{AppendsFront}
-use Rattle.hdr_tool.specs.Commands.{Command, Apply, command_of_name, command_of, End, number_lines}
-use Rattle.hdr_tool.specs.Outcomes.{Interval, Run, prepend, run_command, run_lines, IsLogText, Cause, Shortage, Output, Input, Usage, cause_of, Wrote, Stops, Goes, ended_by, CommandNeeds, LinesNeed, Needs, ReadsTo}
-use Rattle.hdr_model.specs.Recording.{after_reset}
+use Rattle.hdr_tool.specs.Commands.{command_of_name}
+use Rattle.hdr_tool.specs.Program.{Interval}
 use Rattle.hdr_core.specs.declared.call.CallError.{CallError}
-use Rattle.hdrhistogram.specs.V2.{IsV2, HasTooGreatCount}
-use Rattle.hdrhistogram.specs.LogLeaving.{IsIntervalText}
 use Rattle.hdrhistogram.specs.declared.serialization.errors.V2SerializeError.TheVariants.{CountNotSerializable}
 use Rattle.hdrhistogram.specs.declared.serialization.interval_log.errors.IntervalLogWriterError.TheVariants.{SerializeError}
-use Rattle.hdr_tool.specs.declared.fault.Fault.TheVariants.{NotACommand, NotWritten, NoMemory}
 use Rattle.hdr_tool.proofs.OutcomesCounts.{one_too_great, bytes_not_great}
-use Rattle.std.proofs.KnownBytes.{Consumes-trans}
 use Rattle.hdr_tool.proofs.LinesParts.{numbered_end}
 
 pub appends_both : (o m n : Option (List ℕ)) (xs ys : List ℕ) → Appends o m xs → Appends m n ys → Appends o n (xs ++ ys)
@@ -62,14 +50,14 @@ front_behind o m n done text a f =
     (length done + f.0, omega (arith, length-append done text, f.1), subst A (sym (take_both done text f.0)) (appends_both o m n done (take f.0 text) a f.2))
 
 -- the text of some intervals and of others
-pub text_both : (is js : List Interval) (a b : List ℕ) → IsLogText is a → IsLogText js b → IsLogText (is ++ js) (a ++ b)
+pub text_both : (is js : List (Interval Plain)) (a b : List ℕ) → IsLogText is a → IsLogText js b → IsLogText (is ++ js) (a ++ b)
 text_both [] js a b p q = rw p q
 text_both (i ∷ is) js a b (line, rest, t, p, e) q = (line, rest ++ b, t, text_both is js rest b p q, ap (λ x. x ++ b) e ∙ append_assoc line rest b)
 
-wrote_both : (is js : List Interval) (o m n : Option (List ℕ)) → Wrote is o m → Wrote js m n → Wrote (is ++ js) o n
+wrote_both : (is js : List (Interval Plain)) (o m n : Option (List ℕ)) → Wrote is o m → Wrote js m n → Wrote (is ++ js) o n
 wrote_both is js o m n p q = (p.0 ++ q.0, text_both is js p.0 q.0 p.1 q.1, appends_both o m n p.0 q.0 p.2 q.2)
 
-prepend_both : (is js : List Interval) (r : Run) → prepend is (prepend js r) ≡ prepend (is ++ js) r
+prepend_both : (is js : List (Interval Plain)) (r : Run) → prepend is (prepend js r) ≡ prepend (is ++ js) r
 prepend_both is js r = ap (λ x. record { intervals = x; ended = r.ended }) (sym (append_assoc is js r.intervals))
 
 -- nothing is run yet
@@ -115,8 +103,8 @@ module _ (k : ℕ) (h : Plain) (start duration : ℕ) (tag : Option (List ℕ)) 
   abbrev Whole : (Plain → Run) → Run
   Whole = run_command true k h (Some (End start duration tag))
 
-  abbrev this : Interval
-  this = record { histogram = h; tag = tag; start = start; duration = duration }
+  abbrev this : Interval Plain
+  this = record { holds = h; tag = tag; start = start; duration = duration }
 
   pub end_written : IsPlain (2 ^ 64 - 1) h → (text : List ℕ) × IsIntervalText IsV2 h tag (start * 1_000_000) (duration * 1_000_000) 1 text × Appends o n text → Goes {A = Unit {0}} Whole (λ (onward : Plain → Run). onward (after_reset h)) o n (Ok tt)
   end_written p (text, t, a) = (this ∷ [], (text, (text, [], t, refl, sym (append-nil text)), a), λ onward. rw (bytes_not_great (2 ^ 64 - 1) h t.0 p t.1) refl)
@@ -225,9 +213,6 @@ module _ (log : Bool) (begins : Plain) where
 
   abbrev pub Streamed : List ℕ → ℕ → List ℕ → Plain → Option (List ℕ) → Option (List ℕ) → Type 0
   Streamed read number carry now o m = Goes {A = Unit {0}} (whole read) (onward now number carry) o m (Ok tt)
-
-  pub nothing_read : (carry : List ℕ) (o : Option (List ℕ)) → carry ≡ [] → Streamed [] 1 carry begins o o
-  nothing_read carry o e = let F : List ℕ → Type 0 = λ c. Streamed [] 1 c begins o o in subst F (sym e) (begin (whole []) o)
 
   module _ (read : List ℕ) (number : ℕ) (carry : List ℕ) (now : Plain) (o m : Option (List ℕ)) (s : Streamed read number carry now o m) where
     -- a piece without an LF

@@ -1,13 +1,5 @@
 -- The task of the arguments.
-use Rattle.std.specs.Prelude.{ℕ, ◌-◌, ◌*◌, ◌^◌, ◌==◌, Bool, ◌&&◌, nat_le, List, [], ◌∷◌, Option, Some, None, is_some, is_none, if◌then◌else◌, codes, map, string_bytes}
-use Rattle.std.specs.Option.{option_map}
-use Rattle.std.specs.List.{list_all, filter_map}
-use Rattle.std.specs.Str.{bytes_eq}
-use Rattle.hdr_base.specs.Fractions.{Ratio}
-use Rattle.hdr_log.specs.Grammar.{is_tag, only_if}
-use Rattle.hdr_log.specs.Parts.{◌>>=◌, split_at_byte, number_of}
-use Rattle.hdr_log.specs.Tags.{tag_text}
-use Rattle.hdrhistogram.specs.Chosen.{choice_of, Filter}
+use Rattle.hdr_tool.specs.Common.{ℕ, ◌-◌, ◌*◌, ◌^◌, ◌==◌, Bool, ◌&&◌, nat_le, List, [], ◌∷◌, Option, Some, None, is_some, is_none, if◌then◌else◌, codes, map, string_bytes, option_map, list_all, filter_map, bytes_eq, Ratio, is_tag, only_if, ◌>>=◌, split_at_byte, number_of, tag_text, choice_of, Filter}
 use Rattle.hdr_tool.specs.declared.arguments.CounterType.{CounterType}
 use Rattle.hdr_tool.specs.declared.arguments.CounterType.TheVariants as counter
 use Rattle.hdr_tool.specs.declared.arguments.Task.TheVariants as code_task

@@ -1,15 +1,9 @@
 -- The lines of an input with their numbers, and the command of a line. A text is a list of bytes,
 -- and a line has no LF.
-use Rattle.std.specs.Prelude.{ℕ, List, [], ◌∷◌, Option, Some, None, ◌≡◌, ◌<◌, true, take, ◌==◌, ◌&&◌, not, length, if◌then◌else◌, codes}
-use Rattle.std.specs.Option.{option_map}
-use Rattle.std.specs.List.{enumerate_from, list_all}
-use Rattle.hdr_log.specs.Parts.{parts, number_of, ◌>>=◌}
+use Rattle.hdr_tool.specs.Common.{ℕ, List, [], ◌∷◌, Option, Some, None, ◌≡◌, ◌<◌, true, take, ◌==◌, ◌&&◌, not, length, if◌then◌else◌, codes, option_map, enumerate_from, list_all, parts, number_of, ◌>>=◌, bytes_eq, is_tag, tag_text}
 use Rattle.std.specs.Char.{is_ascii_digit}
-use Rattle.std.specs.Str.{bytes_eq}
 use Rattle.hdr_core.specs.declared.call.Call.{Call}
 use Rattle.hdr_core.specs.declared.call.Call.TheVariants.{Record, Clamp, Correct, Clear, Reset}
-use Rattle.hdr_log.specs.Grammar.{is_tag}
-use Rattle.hdr_log.specs.Tags.{tag_text}
 use Rattle.hdr_tool.specs.declared.command.Command as code
 use Rattle.hdr_tool.specs.declared.command.Command.TheVariants as code_command
 
@@ -113,16 +107,9 @@ AreNumbers (f ∷ []) n None = number_of f ≡ Some n
 AreNumbers (f ∷ g ∷ []) n (Some m) = (number_of f ≡ Some n) × (number_of g ≡ Some m)
 AreNumbers _ _ _ = ⊥
 
--- a text's first line is these numbers, and this is the text after it
-pub record HasNumbers (text : List ℕ) (first : ℕ) (second : Option ℕ) (after : List ℕ) : Type 0 where
+-- P holds of a text's first line, and this is the text after it
+pub record FirstLine (text : List ℕ) (P : List ℕ → Type 0) (after : List ℕ) : Type 0 where
   pub line : List ℕ
   pub lines : parts 10 text ≡ line ∷ parts 10 after
   pub shorter : length after < length text
-  pub numbers : AreNumbers (parts 32 line) first second
-
--- a text's first line is this call, and this is the text after it
-pub record IsCallLine (text : List ℕ) (call : Call ℕ) (after : List ℕ) : Type 0 where
-  pub line : List ℕ
-  pub lines : parts 10 text ≡ line ∷ parts 10 after
-  pub shorter : length after < length text
-  pub command : command_of line ≡ Some (Apply call)
+  pub fits : P line

@@ -1,6 +1,6 @@
+pub mod Common
 pub mod Arguments
 pub mod Commands
-pub mod Report
-pub mod Outcomes
 pub mod Program
+pub mod Outcomes
 pub mod LogMerges

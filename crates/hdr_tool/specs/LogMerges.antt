@@ -1,43 +1,28 @@
 -- What a merge of a written log adds.
-use Rattle.std.specs.Prelude.{◌≡◌, ℕ, ◌-◌, ◌*◌, ◌^◌, ◌≤◌, if◌then◌else◌, List, [], ◌∷◌, Option, Some, None, true}
-use Rattle.std.specs.List.{AllByRecursion, enumerate_from}
-use Rattle.hdr_base.specs.Fractions.{Ratio}
-use Rattle.hdr_model.specs.Plain.{Plain, IsPlain, grain, empty_plain}
-use Rattle.hdr_model.specs.Recording.{after_reset}
-use Rattle.hdr_core.specs.Calls.{after_call, CallTo}
+use Rattle.hdr_tool.specs.Common.{◌≡◌, ℕ, ◌-◌, ◌*◌, ◌^◌, ◌≤◌, if◌then◌else◌, List, [], ◌∷◌, Option, Some, None, true, AllByRecursion, enumerate_from, Ratio, Plain, IsPlain, grain, empty_plain, after_reset, after_call, CallTo, Filter, is_chosen, Fault, parts}
 use Rattle.hdr_model.specs.Runs.{StandsWhereFits, State}
 use Rattle.hdr_model.specs.Samples.{StandsFor, Fits}
 use Rattle.hdr_model.specs.Joining.{after_adds, joined_samples, AnswersRanked}
 use Rattle.hdr_base.specs.Classes.{Grain, grain_of}
-use Rattle.hdrhistogram.specs.Chosen.{Filter, is_chosen}
 use Rattle.hdrhistogram.specs.V2Read.{IsReadBack}
-use Rattle.hdr_tool.specs.declared.fault.Fault.{Fault}
-use Rattle.hdr_log.specs.Parts.{parts}
 use Rattle.hdr_tool.specs.Commands.{Command, Apply, End, command_of}
 use Rattle.hdr_tool.specs.Arguments.{Options, greatest_into, filter_of, Log, Merge, task_of}
-use Rattle.hdr_tool.specs.Report.{IsReport}
-use Rattle.hdr_tool.specs.Program.{Outcome}
-
--- an interval that an `end` line closes: what it holds, its tag, and its start in milliseconds
-pub record EndOf (A : Type 0) : Type 0 where
-  pub holds : A
-  pub tag : Option (List ℕ)
-  pub start : ℕ
+use Rattle.hdr_tool.specs.Program.{IsReport, Interval, Outcome}
 
 -- what the chosen ones of a log's intervals hold; a written log has no base time
-abbrev pub chosen_of : {A : Type 0} → Filter → List (EndOf A) → List A
+abbrev pub chosen_of : {A : Type 0} → Filter → List (Interval A) → List A
 chosen_of filter [] = []
 chosen_of filter (e ∷ ends) =
     if is_chosen filter e.tag (e.start * 1_000_000) then e.holds ∷ chosen_of filter ends else chosen_of filter ends
 
 -- the intervals that commands end: what a command adds to those that come after it
-abbrev pub at_command : Plain → Option Command → (Plain → List (EndOf Plain)) → List (EndOf Plain)
+abbrev pub at_command : Plain → Option Command → (Plain → List (Interval Plain)) → List (Interval Plain)
 at_command h None onward = []
 at_command h (Some (Apply call)) onward = onward (after_call (2 ^ 64 - 1) (λ n. n) call h)
-at_command h (Some (End start duration tag)) onward = record { holds = h; tag = tag; start = start } ∷ onward (after_reset h)
+at_command h (Some (End start duration tag)) onward = record { holds = h; tag = tag; start = start; duration = duration } ∷ onward (after_reset h)
 
 -- the intervals that the lines of a log's input end, from a histogram on
-abbrev pub ends_of : Plain → List (ℕ × List ℕ) → List (EndOf Plain)
+abbrev pub ends_of : Plain → List (ℕ × List ℕ) → List (Interval Plain)
 ends_of h [] = []
 ends_of h ((k, []) ∷ lines) = ends_of h lines
 ends_of h ((k, b ∷ line) ∷ lines) = at_command h (command_of (b ∷ line)) (λ g. ends_of g lines)
@@ -54,35 +39,36 @@ abbrev pub LogThenMerge : Type 0
 LogThenMerge =
     (log merge : List (List ℕ)) (sigfig fewer : ℕ) (options : Options) (quantiles : List Ratio) (input written text : List ℕ) (fault : Option Fault)
     → task_of log ≡ Some (Log sigfig) → task_of merge ≡ Some (Merge options fewer quantiles)
-    → AllByRecursion (λ (e : EndOf Plain). IsPlain (2 ^ 64 - 1) e.holds) (ends_of (empty_plain 1 2 sigfig true) (enumerate_from 1 (parts 10 input)))
+    → AllByRecursion (λ (e : Interval Plain). IsPlain (2 ^ 64 - 1) e.holds) (ends_of (empty_plain 1 2 sigfig true) (enumerate_from 1 (parts 10 input)))
     → Outcome log input written None → Outcome merge written text fault
     → (fault ≡ None) × ((ks : List Plain) × AreReadBack (chosen_of (filter_of options) (ends_of (empty_plain 1 2 sigfig true) (enumerate_from 1 (parts 10 input)))) ks
     × IsReport (after_adds (greatest_into options.into) (empty_plain 1 2 fewer true) ks) quantiles text)
 
 -- a command changes the samples, or ends an interval with them, if they fit, and starts one with
 -- none
-abbrev pub AfterCommand : Grain → State → Option Command → (State → List (EndOf (List ℕ)) → Type 0) → List (EndOf (List ℕ)) → Type 0
+abbrev pub AfterCommand : Grain → State → Option Command → (State → List (Interval (List ℕ)) → Type 0) → List (Interval (List ℕ)) → Type 0
 AfterCommand g s None Onward Ls = Ls ≡ []
 AfterCommand g s (Some (Apply call)) Onward Ls = (t : State) × CallTo (λ n. n) g call s t × Onward t Ls
 AfterCommand g s (Some (End start duration tag)) Onward Ls =
-    (rest : List (EndOf (List ℕ))) × (Ls ≡ record { holds = s.samples; tag = tag; start = start } ∷ rest)
+    (rest : List (Interval (List ℕ))) × (Ls ≡ record { holds = s.samples; tag = tag; start = start; duration = duration } ∷ rest)
     × Fits (2 ^ 64 - 1) g s.samples × Onward (record { samples = []; high = s.high }) rest
 
 -- the samples before the ends of the lines of a log's input, which fit at each end
-abbrev pub EndsWith : Grain → State → List (ℕ × List ℕ) → List (EndOf (List ℕ)) → Type 0
+abbrev pub EndsWith : Grain → State → List (ℕ × List ℕ) → List (Interval (List ℕ)) → Type 0
 EndsWith g s [] Ls = Ls ≡ []
 EndsWith g s ((k, []) ∷ lines) Ls = EndsWith g s lines Ls
 EndsWith g s ((k, b ∷ line) ∷ lines) Ls = AfterCommand g s (command_of (b ∷ line)) (λ t rest. EndsWith g t lines rest) Ls
 
--- a histogram with these classes stands for samples, in an interval of the same tag and start
-pub record IsEnd (g : Grain) (h : EndOf Plain) (L : EndOf (List ℕ)) : Type 0 where
+-- a histogram with these classes stands for samples, in an interval of the same tag and times
+pub record IsEnd (g : Grain) (h : Interval Plain) (L : Interval (List ℕ)) : Type 0 where
   pub plain : IsPlain (2 ^ 64 - 1) h.holds
   pub stands : StandsFor h.holds L.holds
   pub classes : grain h.holds ≡ g
   pub tag : h.tag ≡ L.tag
   pub start : h.start ≡ L.start
+  pub duration : h.duration ≡ L.duration
 
-abbrev pub AreEnds : Grain → List (EndOf Plain) → List (EndOf (List ℕ)) → Type 0
+abbrev pub AreEnds : Grain → List (Interval Plain) → List (Interval (List ℕ)) → Type 0
 AreEnds g [] [] = Unit {0}
 AreEnds g (h ∷ hs) (L ∷ Ls) = IsEnd g h L × AreEnds g hs Ls
 AreEnds g _ _ = ⊥
@@ -90,7 +76,7 @@ AreEnds g _ _ = ⊥
 -- the histograms of a log's intervals stand for the samples of these intervals
 abbrev pub EndsStand : Type 0
 EndsStand =
-    (h : Plain) (s : State) (lines : List (ℕ × List ℕ)) (Ls : List (EndOf (List ℕ))) → IsPlain (2 ^ 64 - 1) h → StandsWhereFits (2 ^ 64 - 1) h s → EndsWith (grain h) s lines Ls
+    (h : Plain) (s : State) (lines : List (ℕ × List ℕ)) (Ls : List (Interval (List ℕ))) → IsPlain (2 ^ 64 - 1) h → StandsWhereFits (2 ^ 64 - 1) h s → EndsWith (grain h) s lines Ls
     → AreEnds (grain h) (ends_of h lines) Ls
 
 -- Samples that are logged and merged again. A merge of the written log, with as many digits or
@@ -98,7 +84,7 @@ EndsStand =
 -- value of each quantile above 0 is the top of the class of the ranked sample, near it.
 abbrev pub LogMergeStands : Type 0
 LogMergeStands =
-    (log merge : List (List ℕ)) (sigfig fewer : ℕ) (options : Options) (quantiles : List Ratio) (input written text : List ℕ) (fault : Option Fault) (Ls : List (EndOf (List ℕ)))
+    (log merge : List (List ℕ)) (sigfig fewer : ℕ) (options : Options) (quantiles : List Ratio) (input written text : List ℕ) (fault : Option Fault) (Ls : List (Interval (List ℕ)))
     → task_of log ≡ Some (Log sigfig) → task_of merge ≡ Some (Merge options fewer quantiles) → fewer ≤ sigfig
     → EndsWith (grain_of 1 sigfig) (record { samples = []; high = 2 }) (enumerate_from 1 (parts 10 input)) Ls
     → Fits (greatest_into options.into) (grain_of 1 fewer) (joined_samples (chosen_of (filter_of options) Ls))

@@ -1,81 +1,26 @@
--- The errors of a run, the results of an input's lines, and what running them leaves in the writer.
-use Rattle.std.specs.Prelude.{ℕ, List, ◌++◌, Option, Some, None, codes, ◌≡◌, ◌⊎◌, ◌-◌, ◌*◌, ◌^◌, Bool, true, if◌then◌else◌, [], ◌∷◌, Result, Ok, Err}
-use Rattle.std.specs.Fmt.{decimal}
-use Rattle.hdrhistogram.specs.declared.serialization.interval_log.merge.MergeError.{MergeError}
-use Rattle.hdr_tool.specs.declared.fault.Fault.{Fault}
-use Rattle.hdr_tool.specs.declared.fault.Fault.TheVariants.{WrongWords, NotACommand, NotWritten, NotALog, NotBase64, NotRead, NoMemory, CannotRead, CannotWrite}
-use Rattle.std.specs.Io.KnownBytes.{Appends, IsAtEnd}
-use Rattle.hdr_model.specs.Plain.{Plain}
-use Rattle.hdr_model.specs.Recording.{after_reset}
-use Rattle.hdr_core.specs.Calls.{after_call, RefusesCall}
+-- The errors of a run, the memory that lines need, and what a call leaves in the streams.
+use Rattle.hdr_tool.specs.Common.{◌≡◌, ◌⊎◌, ℕ, ◌-◌, ◌^◌, List, ◌∷◌, [], ◌++◌, Option, Some, None, Result, Ok, Err, Bool, true, codes, decimal, Appends, IsAtEnd, Plain, after_call, RefusesCall, Fault, WrongWords, NotACommand, NotALog, NotBase64, NoMemory, CannotRead, CannotWrite}
 use Rattle.hdr_core.specs.declared.call.CallError.{CallError}
 use Rattle.hdrhistogram.specs.Streams.{AppendsFront}
-use Rattle.hdrhistogram.specs.V2.{IsV2}
-use Rattle.hdrhistogram.specs.LogLeaving.{IsIntervalText}
-use Rattle.hdrhistogram.specs.declared.serialization.errors.V2SerializeError.TheVariants.{CountNotSerializable}
-use Rattle.hdrhistogram.specs.declared.serialization.interval_log.errors.IntervalLogWriterError.TheVariants.{SerializeError}
 use Rattle.hdr_tool.specs.Commands.{Command, Apply, End, command_of}
-use Rattle.hdr_tool.specs.Report.{has_too_great_count}
-use Rattle.hdrhistogram.specs.declared.serialization.interval_log.merge.MergeError.TheVariants as merging
-
--- the `Fault` of a merge's error; each number of digits that arguments can have is valid
-abbrev pub merge_fault : MergeError → Fault
-merge_fault (merging.Creation e) = NoMemory
-merge_fault (merging.Parse at) = NotALog at
-merge_fault (merging.Base64 k) = NotBase64 k
-merge_fault (merging.Decode k e) = NotRead k e
-merge_fault merging.OutOfMemory = NoMemory
+use Rattle.hdr_tool.specs.Program.{Interval, Run, prepend, IsLogText}
 
 -- the fault line on standard error; `None` if its text is partly the library's: for a histogram
 -- that is not written, and for bytes that are not a histogram
 abbrev pub fault_text : Fault → Option (List ℕ)
 fault_text WrongWords = Some (codes "hdr: usage: hdr report SIGFIG Q.. | hdr log SIGFIG | hdr merge [--into COUNTER] [--tag T] [--from MS] [--to MS] SIGFIG Q..")
 fault_text (NotACommand k) = Some (codes "hdr: line " ++ decimal k ++ codes ": not a command")
-fault_text (NotWritten k e) = None
 fault_text (NotALog at) = Some (codes "hdr: log: parse error at byte " ++ decimal at)
 fault_text (NotBase64 k) = Some (codes "hdr: interval " ++ decimal k ++ codes ": not base64")
-fault_text (NotRead k e) = None
 fault_text NoMemory = Some (codes "hdr: no memory")
 fault_text CannotRead = Some (codes "hdr: cannot read the input")
 fault_text CannotWrite = Some (codes "hdr: cannot write the output")
+fault_text _ = None
 
 -- the exit status
 abbrev pub status_of : Fault → ℕ
 status_of WrongWords = 2
 status_of _ = 1
-
--- an interval that an `end` line closes; its start and its duration are in milliseconds
-pub record Interval : Type 0 where
-  pub histogram : Plain
-  pub tag : Option (List ℕ)
-  pub start : ℕ
-  pub duration : ℕ
-
--- the result of lines: the intervals that they end, in order, and the histogram after them or the
--- first `Fault`
-pub record Run : Type 0 where
-  pub intervals : List Interval
-  pub ended : Result Plain Fault
-
-abbrev pub ended_by : Result Plain Fault → Run
-ended_by ended = record { intervals = []; ended = ended }
-
-abbrev pub prepend : List Interval → Run → Run
-prepend is run = record { intervals = is ++ run.intervals; ended = run.ended }
-
--- the command of line k, and then what follows; `end` is a command of a log only
-abbrev pub run_command : Bool → ℕ → Plain → Option Command → (Plain → Run) → Run
-run_command is_log k h (Some (Apply call)) onward = onward (after_call (2 ^ 64 - 1) (λ n. n) call h)
-run_command true k h (Some (End start duration tag)) onward =
-    if has_too_great_count h then ended_by (Err (NotWritten k (SerializeError CountNotSerializable)))
-    else prepend (record { histogram = h; tag = tag; start = start; duration = duration } ∷ []) (onward (after_reset h))
-run_command is_log k h c onward = ended_by (Err (NotACommand k))
-
--- numbered lines in order, up to the first `Fault`; an empty one changes nothing
-abbrev pub run_lines : Bool → Plain → List (ℕ × List ℕ) → Run
-run_lines is_log h [] = ended_by (Ok h)
-run_lines is_log h ((k, []) ∷ lines) = run_lines is_log h lines
-run_lines is_log h ((k, b ∷ line) ∷ lines) = run_command is_log k h (command_of (b ∷ line)) (λ g. run_lines is_log g lines)
 
 -- memory is needed for a call that returns an error although the histogram grows, for an interval,
 -- or for what follows
@@ -96,12 +41,6 @@ Needs {M = M} Whole Onward (Ok a) = (more : M) → Onward more → Whole more
 Needs {M = M} Whole Onward (Err NoMemory) = (more : M) → Whole more
 Needs Whole Onward (Err f) = Unit
 
--- the text of intervals, one after another
-abbrev pub IsLogText : List Interval → List ℕ → Type 0
-IsLogText [] text = text ≡ []
-IsLogText (i ∷ is) text =
-    (line : List ℕ) × (rest : List ℕ) × IsIntervalText IsV2 i.histogram i.tag (i.start * 1_000_000) (i.duration * 1_000_000) 1 line × IsLogText is rest × (text ≡ line ++ rest)
-
 -- what ends a run early: memory or the reader, the writer, the contents of the input, or the
 -- arguments
 pub data Cause : Type 0 where
@@ -118,24 +57,24 @@ cause_of WrongWords = Usage
 cause_of f = Input
 
 -- the text of intervals is written, or a proper prefix of it
-abbrev pub Wrote : List Interval → Option (List ℕ) → Option (List ℕ) → Type 0
+abbrev pub Wrote : List (Interval Plain) → Option (List ℕ) → Option (List ℕ) → Type 0
 Wrote is old new = (text : List ℕ) × IsLogText is text × Appends old new text
 
-abbrev pub WroteFront : List Interval → Option (List ℕ) → Option (List ℕ) → Type 0
+abbrev pub WroteFront : List (Interval Plain) → Option (List ℕ) → Option (List ℕ) → Type 0
 WroteFront is old new = (text : List ℕ) × IsLogText is text × AppendsFront old new text
 
 -- whatever follows, the run starts with the intervals that are written; or it ends after them with
 -- the `Fault`
 abbrev pub Stops : {M : Type 0} → (M → Run) → Option (List ℕ) → Option (List ℕ) → Cause → Fault → Type 0
-Stops {M = M} whole old new Shortage f = (is : List Interval) × Wrote is old new × ((more : M) → (rest : Run) × (whole more ≡ prepend is rest))
-Stops {M = M} whole old new Output f = (is : List Interval) × WroteFront is old new × ((more : M) → (rest : Run) × (whole more ≡ prepend is rest))
-Stops {M = M} whole old new Input f = (is : List Interval) × Wrote is old new × ((more : M) → whole more ≡ record { intervals = is; ended = Err f })
+Stops {M = M} whole old new Shortage f = (is : List (Interval Plain)) × Wrote is old new × ((more : M) → (rest : Run) × (whole more ≡ prepend is rest))
+Stops {M = M} whole old new Output f = (is : List (Interval Plain)) × WroteFront is old new × ((more : M) → (rest : Run) × (whole more ≡ prepend is rest))
+Stops {M = M} whole old new Input f = (is : List (Interval Plain)) × Wrote is old new × ((more : M) → whole more ≡ record { intervals = is; ended = Err f })
 Stops whole old new Usage f = ⊥
 
 -- whatever follows, the run is the intervals that are written, and then what is still to come; or
 -- it stopped
 abbrev pub Goes : {M A : Type 0} → (M → Run) → (M → Run) → Option (List ℕ) → Option (List ℕ) → Result A Fault → Type 0
-Goes {M = M} whole onward old new (Ok a) = (is : List Interval) × Wrote is old new × ((more : M) → whole more ≡ prepend is (onward more))
+Goes {M = M} whole onward old new (Ok a) = (is : List (Interval Plain)) × Wrote is old new × ((more : M) → whole more ≡ prepend is (onward more))
 Goes whole onward old new (Err f) = Stops whole old new (cause_of f) f
 
 -- `Ok` and a `Fault` of the input are how a program ends (Ends), and all of its output is written.

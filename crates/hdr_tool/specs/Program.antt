@@ -1,20 +1,71 @@
 -- The program: its arguments, its input, its output, and the `Fault` that ends it. A stream that
 -- fails is not part of it, nor is running out of memory.
-use Rattle.std.specs.Prelude.{◌≡◌, ℕ, List, [], ◌++◌, Option, Some, None, MatchOption, Result, Ok, Err, Bool, true, false}
-use Rattle.std.specs.Option.{option_map}
-use Rattle.std.specs.Io.KnownBytes.{IsAtEnd}
-use Rattle.hdr_base.specs.Fractions.{Ratio}
-use Rattle.hdr_model.specs.Plain.{Plain, empty_plain}
-use Rattle.hdrhistogram.specs.Chosen.{Filter}
+use Rattle.hdr_tool.specs.Common.{◌≡◌, ℕ, nat_le, ◌-◌, ◌*◌, ◌^◌, List, [], ◌∷◌, ◌++◌, Option, Some, None, MatchOption, Result, Ok, Err, Bool, true, false, if◌then◌else◌, MatchBool, codes, option_map, flat_map, list_any, decimal, IsAtEnd, Ratio, Plain, empty_plain, after_reset, after_call, Filter, Fault, WrongWords, NotACommand, NotWritten, NotALog, NotBase64, NotRead, NoMemory}
+use Rattle.hex.specs.Hex.{encode_lower}
+use Rattle.hdr_model.specs.Quantiles.{quantile_of}
 use Rattle.hdrhistogram.specs.Defects.{Defect, defect_of_error}
+use Rattle.hdrhistogram.specs.V2.{IsV2}
+use Rattle.hdrhistogram.specs.LogLeaving.{IsIntervalText}
 use Rattle.hdrhistogram.specs.LogMerging.{Merging, Merges}
+use Rattle.hdrhistogram.specs.declared.serialization.errors.V2SerializeError.TheVariants.{CountNotSerializable}
+use Rattle.hdrhistogram.specs.declared.serialization.interval_log.errors.IntervalLogWriterError.TheVariants.{SerializeError}
 use Rattle.hdrhistogram.specs.declared.serialization.interval_log.merge.MergeError.{MergeError}
-use Rattle.hdr_tool.specs.declared.fault.Fault.{Fault}
-use Rattle.hdr_tool.specs.declared.fault.Fault.TheVariants.{WrongWords, NotRead}
+use Rattle.hdrhistogram.specs.declared.serialization.interval_log.merge.MergeError.TheVariants as merging
 use Rattle.hdr_tool.specs.Arguments.{Task, Report, Log, Merge, task_of, greatest_into, filter_of}
-use Rattle.hdr_tool.specs.Outcomes.{merge_fault, Interval, Run, run_lines, IsLogText}
-use Rattle.hdr_tool.specs.Commands.{number_lines}
-use Rattle.hdr_tool.specs.Report.{IsReport}
+use Rattle.hdr_tool.specs.Commands.{Command, Apply, End, command_of, number_lines}
+
+-- `NUM/DEN VALUE`, and an LF
+abbrev pub quantile_line : Plain → Ratio → List ℕ
+quantile_line h q = decimal q.num ++ 47 ∷ [] ++ decimal q.den ++ 32 ∷ [] ++ decimal (quantile_of h q) ++ 10 ∷ []
+
+-- some count is too great for bytes
+unfoldable pub has_too_great_count : Plain → Bool
+has_too_great_count h = list_any (λ n. nat_le (2 ^ 63) n) h.counts
+
+-- a field holds the histogram's bytes in hexadecimal, or `none` if a count is too great for bytes
+abbrev pub IsBytesField : Plain → List ℕ → Type 0
+IsBytesField h field = MatchBool (has_too_great_count h) (field ≡ codes "none") ((bytes : List ℕ) × IsV2 h bytes × (field ≡ encode_lower bytes))
+
+-- a report is `len N`, a line for each quantile in order, and `v2` with the field of the bytes
+abbrev pub IsReport : Plain → List Ratio → List ℕ → Type 0
+IsReport h quantiles text =
+    (field : List ℕ) × IsBytesField h field × (text ≡ codes "len " ++ decimal h.total ++ 10 ∷ []
+    ++ flat_map (quantile_line h) quantiles
+    ++ codes "v2 " ++ field ++ 10 ∷ [])
+
+-- an interval that an `end` line closes: what it holds, its tag, and its start and its duration in
+-- milliseconds
+pub record Interval (A : Type 0) : Type 0 where
+  pub holds : A
+  pub tag : Option (List ℕ)
+  pub start : ℕ
+  pub duration : ℕ
+
+-- the result of lines: the intervals that they end, in order, and the histogram after them or the
+-- first `Fault`
+pub record Run : Type 0 where
+  pub intervals : List (Interval Plain)
+  pub ended : Result Plain Fault
+
+abbrev pub ended_by : Result Plain Fault → Run
+ended_by ended = record { intervals = []; ended = ended }
+
+abbrev pub prepend : List (Interval Plain) → Run → Run
+prepend is run = record { intervals = is ++ run.intervals; ended = run.ended }
+
+-- the command of line k, and then what follows; `end` is a command of a log only
+abbrev pub run_command : Bool → ℕ → Plain → Option Command → (Plain → Run) → Run
+run_command is_log k h (Some (Apply call)) onward = onward (after_call (2 ^ 64 - 1) (λ n. n) call h)
+run_command true k h (Some (End start duration tag)) onward =
+    if has_too_great_count h then ended_by (Err (NotWritten k (SerializeError CountNotSerializable)))
+    else prepend (record { holds = h; tag = tag; start = start; duration = duration } ∷ []) (onward (after_reset h))
+run_command is_log k h c onward = ended_by (Err (NotACommand k))
+
+-- numbered lines in order, up to the first `Fault`; an empty one changes nothing
+abbrev pub run_lines : Bool → Plain → List (ℕ × List ℕ) → Run
+run_lines is_log h [] = ended_by (Ok h)
+run_lines is_log h ((k, []) ∷ lines) = run_lines is_log h lines
+run_lines is_log h ((k, b ∷ line) ∷ lines) = run_command is_log k h (command_of (b ∷ line)) (λ g. run_lines is_log g lines)
 
 -- the lines of an input, run on an empty histogram that grows: those of a report, and those of a log
 abbrev pub run_input : Bool → ℕ → List ℕ → Run
@@ -25,10 +76,31 @@ abbrev pub fault_in : {A : Type 0} → Result A Fault → Option Fault
 fault_in (Ok a) = None
 fault_in (Err f) = Some f
 
+-- the text of intervals, one after another
+abbrev pub IsLogText : List (Interval Plain) → List ℕ → Type 0
+IsLogText [] text = text ≡ []
+IsLogText (i ∷ is) text =
+    (line : List ℕ) × (rest : List ℕ) × IsIntervalText IsV2 i.holds i.tag (i.start * 1_000_000) (i.duration * 1_000_000) 1 line × IsLogText is rest × (text ≡ line ++ rest)
+
+-- the intervals of a log are written up to the first `Fault`
+abbrev pub Logged : Run → List ℕ → Option Fault → Type 0
+Logged run text fault = IsLogText run.intervals text × (fault ≡ fault_in run.ended)
+
+-- only the first intervals of a log are written
+abbrev pub LoggedFirst : Run → List ℕ → Type 0
+LoggedFirst run text = (is : List (Interval Plain)) × (rest : List (Interval Plain)) × (run.intervals ≡ is ++ rest) × IsLogText is text
+
 -- a report is written only if no `Fault` ended the run
 abbrev pub Reported : List Ratio → Result Plain Fault → List ℕ → Option Fault → Type 0
 Reported quantiles (Ok h) text fault = IsReport h quantiles text × (fault ≡ None)
 Reported quantiles (Err f) text fault = (text ≡ []) × (fault ≡ Some f)
+
+-- the `Fault` of a merge's error; each number of digits that arguments can have is valid
+abbrev pub merge_fault : MergeError → Fault
+merge_fault (merging.Parse at) = NotALog at
+merge_fault (merging.Base64 k) = NotBase64 k
+merge_fault (merging.Decode k e) = NotRead k e
+merge_fault e = NoMemory
 
 -- the histogram of a merge, or the `Fault` of its error
 abbrev pub merged_histogram : Result Merging MergeError → Result Plain Fault
@@ -44,14 +116,14 @@ MergeReported greatest filter sigfig quantiles input text fault =
 -- a report of the histogram after the lines; a log, whose intervals are written as they are reached; a report of a merged log
 abbrev pub TaskDone : Task → List ℕ → List ℕ → Option Fault → Type 0
 TaskDone (Report sigfig quantiles) input text fault = Reported quantiles (run_input false sigfig input).ended text fault
-TaskDone (Log sigfig) input text fault = IsLogText (run_input true sigfig input).intervals text × (fault ≡ fault_in (run_input true sigfig input).ended)
+TaskDone (Log sigfig) input text fault = Logged (run_input true sigfig input) text fault
 TaskDone (Merge options sigfig quantiles) input text fault =
     MergeReported (greatest_into options.into) (filter_of options) sigfig quantiles input text fault
 
 -- what is written if memory runs out or the reader fails: the first intervals of a log, and
 -- otherwise nothing
 abbrev pub TaskStands : Task → List ℕ → List ℕ → Type 0
-TaskStands (Log sigfig) input text = (is : List Interval) × (rest : List Interval) × ((run_input true sigfig input).intervals ≡ is ++ rest) × IsLogText is text
+TaskStands (Log sigfig) input text = LoggedFirst (run_input true sigfig input) text
 TaskStands task input text = text ≡ []
 
 -- what is being written if the writer fails: the first intervals of a log, and otherwise all of the

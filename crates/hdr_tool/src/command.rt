@@ -1,8 +1,9 @@
 //! The commands of lines.
 
-ghost use Rattle.std.specs.Prelude.{◌≡◌, IfSome};
+ghost use Rattle.std.specs.Prelude.{◌≡◌, IfSome, Some, None};
 ghost use Rattle.std.specs.Option.{option_map};
-ghost use Rattle.hdr_tool.specs.Commands.{count_of, alone, tag_of_word, end_tag_of, command_of, view_of_command, BeginsWith, HasNumbers, IsCallLine};
+ghost use Rattle.hdr_tool.specs.Commands.{count_of, alone, tag_of_word, end_tag_of, command_of, view_of_command, BeginsWith, AreNumbers, FirstLine, Apply};
+ghost use Rattle.hdr_log.specs.Parts.{parts};
 ghost use Rattle.hdr_log.specs.Tags.{tag_text};
 
 use crate::lines::Fields;
@@ -122,7 +123,8 @@ fn digits(text: &[u8]) -> Option<(u64, usize)>
 /// Fast path: parses `V` or `V W`, which an LF ends, and returns the numbers with the rest.
 #[inline(always)]
 fn numbers(text: &[u8]) -> Option<(u64, Option<u64>, &[u8])>
-    ensures { IfSome result (λ p. HasNumbers text.now p.0 p.1 p.2.now) }
+    ensures { IfSome result (λ p. FirstLine text.now
+        (λ line. AreNumbers (parts 32 line) p.0 p.1) p.2.now) }
 {
     let (first, at) = digits(text)?;
     if text[at] == b'\n' {
@@ -139,7 +141,8 @@ fn numbers(text: &[u8]) -> Option<(u64, Option<u64>, &[u8])>
 /// slow down the loop over the first number's digits.
 #[inline(never)]
 fn last_number(text: &[u8]) -> Option<(u64, &[u8])>
-    ensures { IfSome result (λ p. HasNumbers text.now p.0 None p.1.now) }
+    ensures { IfSome result (λ p. FirstLine text.now
+        (λ line. AreNumbers (parts 32 line) p.0 None) p.1.now) }
 {
     let (value, at) = digits(text)?;
     if text[at] != b'\n' {
@@ -152,7 +155,8 @@ fn last_number(text: &[u8]) -> Option<(u64, &[u8])>
 /// call with the rest. Numbers have at most 18 digits here.
 #[inline(always)]
 pub(crate) fn value_line(text: &[u8]) -> Option<(Call<'static, u64>, &[u8])>
-    ensures { IfSome result (λ p. IsCallLine text.now p.0 p.1.now) }
+    ensures { IfSome result (λ p. FirstLine text.now
+        (λ line. command_of line ≡ Some (Apply p.0)) p.1.now) }
 {
     match text {
         [b'r', b' ', text @ ..] => {

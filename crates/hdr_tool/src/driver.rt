@@ -7,8 +7,8 @@ ghost use Rattle.hdr_model.specs.Plain.{Plain, IsPlain};
 ghost use Rattle.hdr_log.specs.Tags.{tag_text};
 ghost use Rattle.hdrhistogram.specs.LogWriters.{sink, divisor_of, IsSameLog};
 ghost use Rattle.hdr_tool.specs.Commands.{End, number_lines};
-ghost use Rattle.hdr_tool.specs.Outcomes.{Run, ended_by, run_command, run_lines, LinesNeed, Needs, Goes, ReadsTo, cause_of};
-ghost use Rattle.hdr_tool.specs.Program.{run_input};
+ghost use Rattle.hdr_tool.specs.Outcomes.{LinesNeed, Needs, Goes, ReadsTo, cause_of};
+ghost use Rattle.hdr_tool.specs.Program.{Run, ended_by, run_command, run_lines, run_input};
 
 use crate::command::{Command, parse, value_line};
 use crate::fault::Fault;
@@ -60,7 +60,8 @@ fn end<W: Write>(
             Err(Fault::NotWritten(line, IntervalLogWriterError::SerializeError(cause)))
         }
         Err(IntervalLogWriterError::SerializeError(_)) => Err(Fault::NoMemory),
-        Err(IntervalLogWriterError::TimeOutOfRange) => Err(Fault::NoMemory),
+        // The seconds of a `u64` of milliseconds fit a `u64`.
+        Err(IntervalLogWriterError::TimeOutOfRange) => unreachable!(),
         Err(IntervalLogWriterError::OutOfMemory) => Err(Fault::NoMemory),
     }
 }

@@ -1,8 +1,8 @@
 //! Laws of the definitions: each function's contract is the law. A body that calls other laws uses
 //! them.
 
-ghost use Rattle.hdr_tool.specs.Program.{OneOutcome};
 ghost use Rattle.hdr_tool.specs.LogMerges.{EndsStand, LogThenMerge, LogMergeStands};
+ghost use Rattle.hdr_tool.specs.Program.{OneOutcome};
 
 use hdr_base::laws::finer_classes;
 use hdr_core::laws::{calls_stand, clearing_stands, joined_stands, new_is_plain};

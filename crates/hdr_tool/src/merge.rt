@@ -3,8 +3,8 @@
 ghost use Rattle.std.specs.Prelude.{◌≡◌, [], Some, None};
 ghost use Rattle.hdrhistogram.specs.Chosen.{view_of_filter};
 ghost use Rattle.hdr_tool.specs.Arguments.{Merge, view_of_options};
-ghost use Rattle.hdr_tool.specs.Outcomes.{merge_fault, Answers};
-ghost use Rattle.hdr_tool.specs.Program.{MergeReported, TaskDone, TaskStands, TaskWrites};
+ghost use Rattle.hdr_tool.specs.Outcomes.{Answers};
+ghost use Rattle.hdr_tool.specs.Program.{merge_fault, MergeReported, TaskDone, TaskStands, TaskWrites};
 
 use crate::arguments::{CounterType, Options};
 use crate::fault::Fault;

@@ -3,8 +3,7 @@
 ghost use Rattle.std.specs.Prelude.{◌≡◌, ◌++◌, [], None, Ok, Err, OnOk, IfOk, string_bytes};
 ghost use Rattle.std.specs.List.{flat_map};
 ghost use Rattle.hdr_tool.specs.Outcomes.{Answers};
-ghost use Rattle.hdr_tool.specs.Program.{Reported};
-ghost use Rattle.hdr_tool.specs.Report.{quantile_line, IsBytesField, IsReport};
+ghost use Rattle.hdr_tool.specs.Program.{Reported, quantile_line, IsBytesField, IsReport};
 
 use crate::fault::Fault;
 use crate::stream::write_whole;

@@ -1,5 +1,4 @@
-use Rattle.std.proofs.Common.{◌≡◌, drop, map, string_bytes}
-use Rattle.hdr_tool.specs.Arguments.{are_fractions}
+use Rattle.hdr_tool.proofs.Common.{◌≡◌, drop, map, string_bytes, are_fractions}
 use Rattle.hdr_tool.proofs.arguments.are_quantiles.Given as goal
 
 -- what is left of the arguments decides

@@ -1,6 +1,4 @@
-use Rattle.std.proofs.Common.{◌≡◌, ◌++◌, drop, map, string_bytes}
-use Rattle.std.specs.List.{filter_map}
-use Rattle.hdr_tool.specs.Arguments.{fraction_of}
+use Rattle.hdr_tool.proofs.Common.{◌≡◌, ◌++◌, drop, map, string_bytes, filter_map, fraction_of}
 use Rattle.hdr_tool.proofs.arguments.quantiles.Given as goal
 
 -- the quantiles so far, and those of the arguments that are left

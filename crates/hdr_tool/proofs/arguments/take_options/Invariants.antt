@@ -1,5 +1,4 @@
-use Rattle.std.proofs.Common.{◌≡◌, length, map, string_bytes}
-use Rattle.hdr_tool.specs.Arguments.{no_options, options_of, view_of_options}
+use Rattle.hdr_tool.proofs.Common.{◌≡◌, length, map, string_bytes, no_options, options_of, view_of_options}
 use Rattle.hdr_tool.proofs.arguments.take_options.Given as goal
 
 -- what is left of the arguments has the options that all of them do

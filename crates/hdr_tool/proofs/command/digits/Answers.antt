@@ -1,6 +1,4 @@
-use Rattle.std.proofs.Common.{◌≡◌, ◌+◌, ◌*◌, ◌<◌, ◌^◌, true, get_or, length, subst, sym, ◌∙◌, arith}
-use Rattle.std.specs.Char.{is_ascii_digit, digit_value}
-use Rattle.hdr_log.proofs.PartsNumbers.{Reads, Reads-more}
+use Rattle.hdr_tool.proofs.Common.{◌≡◌, ◌+◌, ◌*◌, ◌<◌, ◌^◌, true, get_or, length, subst, sym, ◌∙◌, arith, is_ascii_digit, digit_value, Reads, Reads-more}
 use Rattle.hdr_tool.proofs.CommandsLines.{digit_small, digit_less, begins, few_more}
 use Rattle.hdr_tool.proofs.command.digits.Goals as goal
 

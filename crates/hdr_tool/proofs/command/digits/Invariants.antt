@@ -1,5 +1,4 @@
-use Rattle.std.proofs.Common.{◌<◌, ◌^◌}
-use Rattle.hdr_log.proofs.PartsNumbers.{Reads}
+use Rattle.hdr_tool.proofs.Common.{◌<◌, ◌^◌, Reads}
 use Rattle.hdr_tool.proofs.command.digits.Given as goal
 
 -- the digits so far are the value, and few digits a small one

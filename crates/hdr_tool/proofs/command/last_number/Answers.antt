@@ -1,4 +1,4 @@
-use Rattle.std.proofs.Common.{◌+◌}
+use Rattle.hdr_tool.proofs.Common.{◌+◌}
 use Rattle.hdr_tool.proofs.LinesParts.{left_all}
 use Rattle.hdr_tool.proofs.CommandsLines.{one}
 use Rattle.hdr_tool.proofs.command.last_number.Goals as goal

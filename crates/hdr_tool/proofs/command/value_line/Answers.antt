@@ -1,8 +1,6 @@
-use Rattle.std.proofs.Common.{◌≡◌, ◌-◌, ◌∷◌, ◌∙◌, length, take, drop, ap, sym, subst, arith}
-use Rattle.hdr_tool.specs.Commands.{IsCallLine}
-use Rattle.hdr_core.specs.declared.call.Call.TheVariants.{Record, Clamp}
+use Rattle.hdr_tool.proofs.Common.{◌≡◌, ◌-◌, ◌∷◌, ◌∙◌, length, take, drop, ap, sym, subst, arith, Record, Clamp}
 use Rattle.hdr_tool.proofs.LinesParts.{left_all}
-use Rattle.hdr_tool.proofs.CommandsLines.{front, record_line, clamp_line, correct_line}
+use Rattle.hdr_tool.proofs.CommandsLines.{IsCallLine, front, record_line, clamp_line, correct_line}
 use Rattle.hdr_tool.proofs.command.value_line.Goals as goal
 
 pub returns-in_ok-value-in-114 : goal.returns-in_ok-value-in-114

@@ -1,13 +1,5 @@
-use Rattle.std.proofs.Common.{refl, ap, Some, true}
-use Rattle.hdr_model.specs.Plain.{Plain}
+use Rattle.hdr_tool.proofs.Common.{refl, ap, Some, true, Plain, option_map, End, run_command, tag_text, IsV2, sink, CannotWrite, NoMemory}
 use Rattle.hdr_model.specs.Recording.{after_reset}
-use Rattle.std.specs.Option.{option_map}
-use Rattle.hdr_tool.specs.Commands.{End}
-use Rattle.hdr_tool.specs.Outcomes.{run_command}
-use Rattle.hdr_log.specs.Tags.{tag_text}
-use Rattle.hdrhistogram.specs.V2.{IsV2}
-use Rattle.hdrhistogram.specs.LogWriters.{sink}
-use Rattle.hdr_tool.specs.declared.fault.Fault.TheVariants.{CannotWrite, NoMemory}
 use Rattle.hdr_tool.proofs.OutcomesRuns.{end_written, end_failed, end_refused, short, interval_same}
 use Rattle.hdr_tool.proofs.driver.end.Goals as goal
 
@@ -36,9 +28,6 @@ pub returns-in-Err-SerializeError-clause-goes : goal.returns-in-Err-SerializeErr
 returns-in-Err-SerializeError-clause-goes g c =
     let l = rw c.in-Err-SerializeError.field-0-is at c.in-Err-SerializeError.ensures.leaves in
     short (run_command true c.args.line c.args.histogram.now (Some (End c.args.start c.args.duration (option_map tag_text c.args.tag)))) (g.W.Write.contents (sink c.args.log.now).now) (g.W.Write.contents (sink c.write_histogram.new.self).now) NoMemory refl l.1
-
-pub returns-in-Err-TimeOutOfRange-clause-goes : goal.returns-in-Err-TimeOutOfRange-clause-goes
-returns-in-Err-TimeOutOfRange-clause-goes g c = short (run_command true c.args.line c.args.histogram.now (Some (End c.args.start c.args.duration (option_map tag_text c.args.tag)))) (g.W.Write.contents (sink c.args.log.now).now) (g.W.Write.contents (sink c.write_histogram.new.self).now) NoMemory refl (rw c.in-Err-TimeOutOfRange.field-0-is at c.in-Err-TimeOutOfRange.ensures.leaves)
 
 pub returns-in-Err-OutOfMemory-clause-goes : goal.returns-in-Err-OutOfMemory-clause-goes
 returns-in-Err-OutOfMemory-clause-goes g c = short (run_command true c.args.line c.args.histogram.now (Some (End c.args.start c.args.duration (option_map tag_text c.args.tag)))) (g.W.Write.contents (sink c.args.log.now).now) (g.W.Write.contents (sink c.write_histogram.new.self).now) NoMemory refl (rw c.in-Err-OutOfMemory.field-0-is at c.in-Err-OutOfMemory.ensures.leaves)

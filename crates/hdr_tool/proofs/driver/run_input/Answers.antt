@@ -1,9 +1,4 @@
-use Rattle.std.proofs.Common.{ℕ, List, take, length, ◌+◌, ◌++◌, Ok, Err, Some, ◌∙◌, ap, sym, subst, arith, refl}
-use Rattle.std.proofs.KnownBytes.{Consumes-trans}
-use Rattle.hdrhistogram.specs.LogWriters.{sink}
-use Rattle.hdr_tool.specs.Outcomes.{cause_of, run_lines}
-use Rattle.hdr_tool.specs.declared.fault.Fault.TheVariants.{NoMemory, CannotRead}
-use Rattle.hdr_tool.specs.Commands.{number_lines}
+use Rattle.hdr_tool.proofs.Common.{ℕ, List, take, length, ◌+◌, ◌++◌, Ok, Err, Some, ◌∙◌, ap, sym, subst, arith, refl, Consumes-trans, sink, cause_of, run_lines, NoMemory, CannotRead, number_lines}
 use Rattle.hdr_tool.proofs.OutcomesRuns.{handed_on, Streamed, rest_of, carried, further, none_read, read_to, read_all, finish, unread_rest, of_input, told_at}
 use Rattle.hdr_tool.proofs.driver.run_input.Goals as goal
 

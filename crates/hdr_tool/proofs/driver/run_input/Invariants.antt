@@ -1,6 +1,4 @@
-use Rattle.std.proofs.Common.{◌≡◌, ℕ, ◌<◌, true, List, length}
-use Rattle.std.specs.Io.KnownBytes.{Consumes}
-use Rattle.hdrhistogram.specs.LogWriters.{sink, IsSameLog}
+use Rattle.hdr_tool.proofs.Common.{◌≡◌, ℕ, ◌<◌, true, List, length, Consumes, sink, IsSameLog}
 use Rattle.hdr_tool.proofs.OutcomesRuns.{Streamed}
 use Rattle.hdr_tool.proofs.driver.run_input.Given as goal
 

@@ -1,11 +1,4 @@
-use Rattle.std.proofs.Common.{ℕ, List, ◌∷◌, Some, refl, sym, ap, ◌∙◌, true}
-use Rattle.std.specs.Option.{option_map}
-use Rattle.hdr_model.specs.Plain.{Plain}
-use Rattle.hdr_log.specs.Tags.{tag_text}
-use Rattle.hdrhistogram.specs.LogWriters.{sink}
-use Rattle.hdr_tool.specs.declared.fault.Fault.TheVariants.{NoMemory}
-use Rattle.hdr_tool.specs.Commands.{End}
-use Rattle.hdr_tool.specs.Outcomes.{Run, run_command, run_lines, LinesNeed}
+use Rattle.hdr_tool.proofs.Common.{ℕ, List, ◌∷◌, Some, refl, sym, ap, ◌∙◌, true, option_map, Plain, tag_text, sink, NoMemory, End, Run, run_command, run_lines, LinesNeed}
 use Rattle.hdr_tool.proofs.OutcomesRuns.{and_then, command_line, call_line, short, next_line, no_command, command_needs, call_refused, call_passed, by_need, keeps}
 use Rattle.hdr_tool.proofs.driver.run_line.Goals as goal
 

@@ -1,10 +1,4 @@
-use Rattle.std.proofs.Common.{◌≡◌, ℕ, ◌+◌, ◌++◌, ◌∷◌, Ok, Err, Some, refl, sym, ap, subst, length, arith, ◌∙◌}
-use Rattle.std.specs.Option.{option_map}
-use Rattle.std.specs.List.{enumerate_from}
-use Rattle.hdrhistogram.specs.LogWriters.{sink}
-use Rattle.hdr_tool.specs.declared.fault.Fault.TheVariants.{NoMemory, CannotRead}
-use Rattle.hdr_tool.specs.Commands.{number_lines}
-use Rattle.hdr_tool.specs.Outcomes.{run_lines, LinesNeed}
+use Rattle.hdr_tool.proofs.Common.{◌≡◌, ℕ, ◌+◌, ◌++◌, ◌∷◌, Ok, Err, Some, refl, sym, ap, subst, length, arith, ◌∙◌, option_map, enumerate_from, sink, NoMemory, CannotRead, number_lines, run_lines, LinesNeed}
 use Rattle.hdr_tool.proofs.OutcomesRuns.{cut_short, one_line, call_line, next_line, call_refused, call_passed, needs_up, handed_on}
 use Rattle.hdr_tool.proofs.driver.run_lines.Goals as goal
 
@@ -21,7 +15,7 @@ returns-in_default-apply-clause-memory g c = λ more.
     let line = c.in-Some-value_line.ensures in
     let e = ap (λ o. number_lines c.loop-left.next (option_map (λ t. t.now) o)) c.in-Some.is ∙ ap (enumerate_from c.loop-left.next) line.lines in
     c.loop-left.invariant.memory more (subst (λ l. LinesNeed c.args.is_log c.loop-left.histogram (l ++ more)) (sym e)
-    (call_refused c.args.is_log c.loop-left.histogram c.loop-left.next line.line (number_lines (c.loop-left.next + 1) (Some c.in-Some-value_line.after.now) ++ more) c.in-Some-value_line.call _ line.command c.loop-left.invariant.grows c.in_default-apply.ensures.refused.0))
+    (call_refused c.args.is_log c.loop-left.histogram c.loop-left.next line.line (number_lines (c.loop-left.next + 1) (Some c.in-Some-value_line.after.now) ++ more) c.in-Some-value_line.call _ line.fits c.loop-left.invariant.grows c.in_default-apply.ensures.refused.0))
 
 pub loop-left-preserved-in-Some-value_line : goal.loop-left-preserved-in-Some-value_line
 loop-left-preserved-in-Some-value_line g c =
@@ -34,9 +28,9 @@ loop-left-preserved-in-Some-value_line g c =
       same = c.loop-left.invariant.same;
       goes = rw next (one_line {A = Unit {0}} c.args.is_log (λ more. run_lines c.args.is_log c.args.histogram.now (number_lines c.args.number (Some c.args.text.now) ++ more)) c.loop-left.histogram c.apply.new.self (number_lines c.loop-left.next (option_map (λ t. t.now) c.loop-left.left)) (number_lines (c.loop-left.next + 1) (Some c.in-Some-value_line.after.now)) (c.loop-left.next, line.line) o m m (Ok tt) c.loop-left.invariant.goes e
           (next_line {A = Unit {0}} (λ more. run_lines c.args.is_log c.loop-left.histogram ((c.loop-left.next, line.line) ∷ more)) (run_lines c.args.is_log c.apply.new.self) m tt
-          (λ more. call_line c.args.is_log c.loop-left.histogram c.apply.new.self c.loop-left.next line.line more c.in-Some-value_line.call line.command c.in-Ok.ensures.ok)));
+          (λ more. call_line c.args.is_log c.loop-left.histogram c.apply.new.self c.loop-left.next line.line more c.in-Some-value_line.call line.fits c.in-Ok.ensures.ok)));
       memory = rw next (λ more n. c.loop-left.invariant.memory more (subst (λ l. LinesNeed c.args.is_log c.loop-left.histogram (l ++ more)) (sym e)
-          (call_passed c.args.is_log c.loop-left.histogram c.apply.new.self c.loop-left.next line.line (number_lines (c.loop-left.next + 1) (Some c.in-Some-value_line.after.now) ++ more) c.in-Some-value_line.call line.command c.in-Ok.ensures.ok n)));
+          (call_passed c.args.is_log c.loop-left.histogram c.apply.new.self c.loop-left.next line.line (number_lines (c.loop-left.next + 1) (Some c.in-Some-value_line.after.now) ++ more) c.in-Some-value_line.call line.fits c.in-Ok.ensures.ok n)));
       grows = c.in-Ok.ensures.same_bounds.2 ∙ c.loop-left.invariant.grows;
       counts = rw next (omega (arith, ap length e, c.loop-left.invariant.counts));
     }

@@ -1,8 +1,4 @@
-use Rattle.std.proofs.Common.{◌≡◌, ℕ, ◌+◌, ◌++◌, List, true, Some, Ok, length}
-use Rattle.std.specs.Option.{option_map}
-use Rattle.hdrhistogram.specs.LogWriters.{sink, IsSameLog}
-use Rattle.hdr_tool.specs.Commands.{number_lines}
-use Rattle.hdr_tool.specs.Outcomes.{run_lines, LinesNeed, Goes}
+use Rattle.hdr_tool.proofs.Common.{◌≡◌, ℕ, ◌+◌, ◌++◌, List, true, Some, Ok, length, option_map, sink, IsSameLog, number_lines, run_lines, LinesNeed, Goes}
 use Rattle.hdr_tool.proofs.LinesParts.{left_length}
 use Rattle.hdr_tool.proofs.driver.run_lines.Given as goal
 

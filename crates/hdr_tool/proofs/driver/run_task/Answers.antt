@@ -1,10 +1,5 @@
-use Rattle.std.proofs.Common.{Some, Ok, refl, ap, sym, ◌∙◌, true}
-use Rattle.hdr_model.specs.Plain.{Plain, empty_plain}
-use Rattle.hdrhistogram.specs.LogWriters.{sink}
-use Rattle.hdr_tool.specs.declared.fault.Fault.TheVariants.{NoMemory}
-use Rattle.hdr_tool.specs.Commands.{number_lines}
-use Rattle.hdr_tool.specs.Outcomes.{ended_by, run_lines, Stops, Goes, cause_of}
-use Rattle.hdr_tool.specs.Program.{run_input}
+use Rattle.hdr_tool.proofs.Common.{Some, Ok, refl, ap, sym, ◌∙◌, true, Plain, sink, NoMemory, number_lines, ended_by, run_lines, Stops, Goes, cause_of, run_input}
+use Rattle.hdr_model.specs.Plain.{empty_plain}
 use Rattle.hdr_tool.proofs.OutcomesRuns.{short, keeps, handed_on, some_input, moved}
 use Rattle.hdr_tool.proofs.driver.run_task.Goals as goal
 

@@ -1,5 +1,4 @@
-use Rattle.std.proofs.Common.{◌+◌, ap, ◌∙◌, sym, take, ◌∷◌}
-use Rattle.hdr_log.specs.Parts.{parts}
+use Rattle.hdr_tool.proofs.Common.{◌+◌, ap, ◌∙◌, sym, take, ◌∷◌, parts}
 use Rattle.hdr_tool.proofs.LinesParts.{first_part, only_part, left_all}
 use Rattle.hdr_tool.proofs.lines.split_first.Goals as goal
 

@@ -1,4 +1,4 @@
-use Rattle.hdrhistogram.specs.Chosen.{view_of_filter}
+use Rattle.hdr_tool.proofs.Common.{view_of_filter}
 use Rattle.hdr_tool.proofs.OutcomesAnswers.{merge_refused}
 use Rattle.hdr_tool.proofs.merge.report_merged.Goals as goal
 

@@ -1,7 +1,4 @@
-use Rattle.std.proofs.Common.{refl, map, string_bytes, ◌∙◌}
-use Rattle.std.specs.List.{filter_map}
-use Rattle.hdr_tool.specs.Arguments.{fraction_of, view_of_task}
-use Rattle.hdr_tool.specs.declared.fault.Fault.TheVariants.{NoMemory}
+use Rattle.hdr_tool.proofs.Common.{refl, map, string_bytes, ◌∙◌, filter_map, fraction_of, view_of_task, NoMemory}
 use Rattle.hdr_tool.proofs.OutcomesAnswers.{unread, report_refused, report_reads, report_written, log_refused, log_done}
 use Rattle.hdr_tool.proofs.OutcomesRuns.{handed_on}
 use Rattle.hdr_tool.proofs.program.do_task.Goals as goal

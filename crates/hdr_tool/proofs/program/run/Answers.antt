@@ -1,8 +1,4 @@
-use Rattle.std.proofs.Common.{Result, subst}
-use Rattle.hdr_tool.specs.Arguments.{view_of_task}
-use Rattle.hdr_tool.specs.Outcomes.{Answers}
-use Rattle.hdr_tool.specs.Program.{TaskDone, TaskStands, TaskWrites}
-use Rattle.hdr_tool.specs.declared.fault.Fault.{Fault}
+use Rattle.hdr_tool.proofs.Common.{Result, subst, view_of_task, Answers, TaskDone, TaskStands, TaskWrites, Fault}
 use Rattle.hdr_tool.proofs.program.run.Goals as goal
 
 pub returns-clause-usage : goal.returns-clause-usage

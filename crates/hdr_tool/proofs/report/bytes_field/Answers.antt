@@ -1,4 +1,4 @@
-use Rattle.std.proofs.Common.{rules}
+use Rattle.hdr_tool.proofs.Common.{rules}
 use Rattle.hdr_tool.proofs.OutcomesCounts.{none_too_great, one_too_great}
 use Rattle.hdr_tool.proofs.report.bytes_field.Goals as goal
 

@@ -1,6 +1,5 @@
-use Rattle.std.proofs.Common.{◌≡◌, ◌++◌, take, string_bytes}
+use Rattle.hdr_tool.proofs.Common.{◌≡◌, ◌++◌, take, string_bytes, quantile_line}
 use Rattle.std.specs.List.{flat_map}
-use Rattle.hdr_tool.specs.Report.{quantile_line}
 use Rattle.hdr_tool.proofs.report.push_quantiles.Given as goal
 
 -- the lines so far

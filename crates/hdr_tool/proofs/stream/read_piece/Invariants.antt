@@ -1,5 +1,4 @@
-use Rattle.std.proofs.Common.{◌≡◌, length}
-use Rattle.std.specs.Io.KnownBytes.{Keeps}
+use Rattle.hdr_tool.proofs.Common.{◌≡◌, length, Keeps}
 use Rattle.hdr_tool.proofs.stream.read_piece.Given as goal
 
 -- an interrupted read consumed nothing

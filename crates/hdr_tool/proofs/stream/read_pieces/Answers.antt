@@ -1,6 +1,4 @@
-use Rattle.std.proofs.Common.{subst, sym}
-use Rattle.std.proofs.KnownBytes.{Consumes-nil}
-use Rattle.std.specs.Io.KnownBytes.{Consumes}
+use Rattle.hdr_tool.proofs.Common.{subst, sym, Consumes-nil, Consumes}
 use Rattle.hdr_tool.proofs.stream.read_pieces.Goals as goal
 
 pub loop-init : goal.loop-init

@@ -1,5 +1,4 @@
-use Rattle.std.proofs.Common.{◌<◌, length}
-use Rattle.std.specs.Io.KnownBytes.{Consumes}
+use Rattle.hdr_tool.proofs.Common.{◌<◌, length, Consumes}
 use Rattle.hdr_tool.proofs.stream.read_pieces.Given as goal
 
 -- what has come

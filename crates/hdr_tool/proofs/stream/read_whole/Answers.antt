@@ -1,5 +1,4 @@
-use Rattle.std.proofs.Common.{◌≡◌, refl}
-use Rattle.std.proofs.KnownBytes.{Consumes-whole}
+use Rattle.hdr_tool.proofs.Common.{◌≡◌, refl, Consumes-whole}
 use Rattle.hdr_tool.proofs.stream.read_whole.Goals as goal
 
 pub returns-clause-ok : goal.returns-clause-ok

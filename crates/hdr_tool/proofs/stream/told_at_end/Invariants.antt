@@ -1,4 +1,4 @@
-use Rattle.std.proofs.Common.{◌≡◌, length}
+use Rattle.hdr_tool.proofs.Common.{◌≡◌, length}
 use Rattle.hdr_tool.proofs.stream.told_at_end.Given as goal
 
 abbrev pub invariant-loop : goal.invariant-loop

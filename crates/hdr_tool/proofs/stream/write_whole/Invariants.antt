@@ -1,5 +1,4 @@
-use Rattle.std.proofs.Common.{◌≤◌, ◌-◌, length, take}
-use Rattle.std.specs.Io.KnownBytes.{Appends}
+use Rattle.hdr_tool.proofs.Common.{◌≤◌, ◌-◌, length, take, Appends}
 use Rattle.hdr_tool.proofs.stream.write_whole.Given as goal
 
 -- what is written so far

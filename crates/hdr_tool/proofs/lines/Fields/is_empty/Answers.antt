@@ -1,4 +1,4 @@
-use Rattle.std.proofs.Common.{◌==◌, ap, ◌∙◌, length}
+use Rattle.hdr_tool.proofs.Common.{◌==◌, ap, ◌∙◌, length}
 use Rattle.hdr_tool.proofs.LinesParts.{nothing_left}
 use Rattle.hdr_tool.proofs.lines.Fields.is_empty.Goals as goal
 

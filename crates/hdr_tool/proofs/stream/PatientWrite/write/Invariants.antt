@@ -1,4 +1,4 @@
-use Rattle.std.specs.Io.KnownBytes.{Keeps}
+use Rattle.hdr_tool.proofs.Common.{Keeps}
 use Rattle.hdr_tool.proofs.stream.PatientWrite.write.Given as goal
 
 -- an interrupted write wrote nothing
