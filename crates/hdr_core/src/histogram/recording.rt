@@ -133,13 +133,10 @@ impl<T: Counter> Histogram<T> {
         requires { bin < length self.old.counts }
         ensures { self.new ≡ after_add_to_bin T.greatest self.old bin number }
     {
-        let Some(total) = self.total.checked_add(number) else {
-            return self.add_capped(bin, u128::from(number));
-        };
         let Some(()) = self.counts.try_add(bin, number) else {
             return self.add_capped(bin, u128::from(number));
         };
-        self.total = total;
+        self.total = self.total.saturating_add(number);
         self.marks.widen(bin);
     }
 

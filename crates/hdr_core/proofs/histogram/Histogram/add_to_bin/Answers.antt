@@ -16,19 +16,19 @@ widen-requires g c =
     omega (arith, bins-few g.T.Counter.greatest (plain_of c.self.inside) c.self.invariant.plain)
 
 -- the fields are those of a number added
-parts : (g : given.Over) (c : After-widen g) → plain_of (record c.self.inside { counts = c.try_add.new.self; total = c.in-Some.total; marks = c.widen.new.self }) ≡ after_add_to_bin g.T.Counter.greatest (plain_of c.self.inside) c.args.bin c.args.number
+parts : (g : given.Over) (c : After-widen g) → plain_of (record c.self.inside { counts = c.try_add.new.self; total = c.saturating_add-self-inside.result; marks = c.widen.new.self }) ≡ after_add_to_bin g.T.Counter.greatest (plain_of c.self.inside) c.args.bin c.args.number
 parts g c =
     let h = plain_of c.self.inside in
     let put : c.try_add.new.self.numbers ≡ set h.counts c.args.bin (min (get_or h.counts c.args.bin 0 + c.args.number) g.T.Counter.greatest) =
-    ap (λ (b : Blocks). b.numbers) c.in-Some-try_add.ensures.1
-    ∙ ap (λ k. set h.counts c.args.bin k) (omega (arith, c.in-Some-try_add.ensures.0)) in
-    added-parts g.T.Counter.greatest h c.args.bin c.args.number c.try_add.new.self.numbers c.in-Some.total c.widen.new.self.top c.widen.new.self.lower put (omega (arith, c.in-Some.ensures))
+    ap (λ (b : Blocks). b.numbers) c.in-Some.ensures.1
+    ∙ ap (λ k. set h.counts c.args.bin k) (omega (arith, c.in-Some.ensures.0)) in
+    added-parts g.T.Counter.greatest h c.args.bin c.args.number c.try_add.new.self.numbers c.saturating_add-self-inside.result c.widen.new.self.top c.widen.new.self.lower put c.saturating_add-self-inside.ensures
     (ap (λ (m : MarkPair). m.top) c.widen.ensures) (ap (λ (m : MarkPair). m.lower) c.widen.ensures)
 
 pub invariant_of-self-2 : goal.invariant_of-self-2
 invariant_of-self-2 g c = record {
   scale = c.self.invariant.scale;
-  block = ap (λ (b : Blocks). b.block) c.in-Some-try_add.ensures.1 ∙ c.self.invariant.block;
+  block = ap (λ (b : Blocks). b.block) c.in-Some.ensures.1 ∙ c.self.invariant.block;
   plain = rw (parts g c) (IsPlain-added g.T.Counter.greatest (plain_of c.self.inside) c.args.bin c.args.number g.met.T.Counter.one_fits (rw (← c.self.view_is) at c.requires) c.self.invariant.plain);
 }
 
