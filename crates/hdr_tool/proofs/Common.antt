@@ -17,8 +17,8 @@ pub use Rattle.hdr_model.specs.Runs.{StandsWhereFits, State}
 pub use Rattle.hdr_tool.specs.Arguments.{Task, Report, Log, Merge, greatest_into, filter_of, task_of, sigfig_of, fraction_of, are_fractions, figures_of, log_of, Options, no_options, options_of, view_of_options, view_of_task}
 pub use Rattle.hdr_tool.specs.Commands.{Command, Apply, End, command_of, number_lines, first_number, alone, count_of, record_of, correct_of, end_tag_of, end_of, command_of_fields, BeginsWith, AreNumbers, FirstLine, parts_of_rest}
 pub use Rattle.hdr_tool.specs.LogMerges.{at_command, ends_of, AfterCommand, EndsWith, AreEnds, chosen_of, AreReadBack, LogThenMerge}
-pub use Rattle.hdr_tool.specs.Outcomes.{Cause, Shortage, Output, Input, Usage, cause_of, Stops, Goes, RunRefused, Answers, ReadsTo, ReadsAll, Wrote, CommandNeeds, LinesNeed, Needs}
-pub use Rattle.hdr_tool.specs.Program.{Interval, Run, ended_by, run_command, run_lines, IsLogText, merge_fault, prepend, run_input, fault_in, Reported, TaskDone, TaskStands, TaskWrites, MergeReported, merged_histogram, Unread, told, OneOutcome, Outcome, has_too_great_count, IsReport, quantile_line}
+pub use Rattle.hdr_tool.specs.Outcomes.{Cause, Shortage, Output, Input, Usage, cause_of, Goes, Fails, Answers, ReadsTo, ReadsAll, CommandNeeds, LinesNeed, Needs}
+pub use Rattle.hdr_tool.specs.Program.{Interval, Run, ended_by, run_command, run_lines, IsLogText, Logged, LoggedFirst, merge_fault, prepend, run_input, fault_in, Reported, TaskDone, TaskStands, TaskWrites, MergeReported, merged_histogram, Unread, told, OneOutcome, Outcome, has_too_great_count, IsReport, quantile_line}
 pub use Rattle.hdr_tool.specs.declared.fault.Fault.{Fault}
 pub use Rattle.hdr_tool.specs.declared.fault.Fault.TheVariants.{WrongWords, NotACommand, NotWritten, NoMemory, CannotRead, CannotWrite}
 pub use Rattle.hdrhistogram.specs.Chosen.{Filter, is_chosen, Every, view_of_filter}

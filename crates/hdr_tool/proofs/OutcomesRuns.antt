@@ -1,5 +1,5 @@
 -- What running lines leaves in the writer: one line, one part after another, and lines that are run while the input is read.
-use Rattle.hdr_tool.proofs.Common.{◌≡◌, ℕ, ◌+◌, ◌-◌, List, [], ◌++◌, length, take, drop, Option, Some, None, Result, Ok, Err, IsErrAnd, refl, sym, ap, ◌∙◌, append_assoc, suc, ◌^◌, Bool, ◌∷◌, subst, length-append, zero-add, arith, ◌*◌, true, inl, inr, IfSome, ◌⊎◌, Fault, Appends, Keeps, Consumes, IsAtEnd, take_rest, append-nil, Plain, IsPlain, after_call, RefusesCall, Call, AppendsFront, Command, Apply, command_of, End, number_lines, Run, prepend, run_command, run_lines, IsLogText, Cause, Shortage, Output, Input, Usage, cause_of, Wrote, Stops, Goes, ended_by, CommandNeeds, LinesNeed, Needs, ReadsTo, after_reset, IsV2, HasTooGreatCount, IsIntervalText, NotACommand, NotWritten, NoMemory, Consumes-trans}
+use Rattle.hdr_tool.proofs.Common.{◌≡◌, ℕ, ◌+◌, ◌-◌, List, [], ◌++◌, length, take, drop, Option, Some, None, Result, Ok, Err, IsErrAnd, refl, sym, ap, ◌∙◌, append_assoc, suc, ◌^◌, Bool, ◌∷◌, subst, length-append, zero-add, arith, ◌*◌, true, inl, inr, IfSome, ◌⊎◌, Fault, Appends, Keeps, Consumes, IsAtEnd, take_rest, append-nil, Plain, IsPlain, after_call, RefusesCall, Call, AppendsFront, Command, Apply, command_of, End, number_lines, Run, prepend, run_command, run_lines, IsLogText, Cause, Shortage, Output, Input, Usage, cause_of, Goes, Fails, Logged, LoggedFirst, ended_by, CommandNeeds, LinesNeed, Needs, ReadsTo, after_reset, IsV2, HasTooGreatCount, IsIntervalText, NotACommand, NotWritten, NoMemory, Consumes-trans}
 use Rattle.std.proofs.Math.Seq.{take-add}
 use Rattle.hdr_tool.specs.Commands.{command_of_name}
 use Rattle.hdr_tool.specs.Program.{Interval}
@@ -54,8 +54,31 @@ pub text_both : (is js : List (Interval Plain)) (a b : List ℕ) → IsLogText i
 text_both [] js a b p q = rw p q
 text_both (i ∷ is) js a b (line, rest, t, p, e) q = (line, rest ++ b, t, text_both is js rest b p q, ap (λ x. x ++ b) e ∙ append_assoc line rest b)
 
+-- the text of intervals is written
+abbrev pub Wrote : List (Interval Plain) → Option (List ℕ) → Option (List ℕ) → Type 0
+Wrote is old new = (text : List ℕ) × IsLogText is text × Appends old new text
+
 wrote_both : (is js : List (Interval Plain)) (o m n : Option (List ℕ)) → Wrote is o m → Wrote js m n → Wrote (is ++ js) o n
 wrote_both is js o m n p q = (p.0 ++ q.0, text_both is js p.0 q.0 p.1 q.1, appends_both o m n p.0 q.0 p.2 q.2)
+
+-- a run fails, whatever follows
+abbrev pub LogsAll : {M : Type 0} → (M → Run) → List ℕ → Option Fault → Type 0
+LogsAll {M = M} whole text fault = (more : M) → Logged (whole more) text fault
+
+abbrev pub LogsFirst : {M : Type 0} → (M → Run) → List ℕ → Type 0
+LogsFirst {M = M} whole text = (more : M) → LoggedFirst (whole more) text
+
+abbrev pub Stops : {M : Type 0} → (M → Run) → Option (List ℕ) → Option (List ℕ) → Cause → Fault → Type 0
+Stops whole old new c f = Fails (LogsAll whole) (LogsFirst whole) (LogsFirst whole) old new c f
+
+-- what fails after some text that is written
+pub fails_on : (E F : List ℕ → Option Fault → Type 0) (S T U V : List ℕ → Type 0) (o m n : Option (List ℕ)) (done : List ℕ) (f : Fault) (c : Cause) → Appends o m done
+    → ((text : List ℕ) → E text (Some f) → F (done ++ text) (Some f)) → ((text : List ℕ) → S text → T (done ++ text))
+    → ((text : List ℕ) → U text → AppendsFront m n text → V (done ++ text)) → Fails E S U m n c f → Fails F T V o n c f
+fails_on E F S T U V o m n done f Shortage a ends stands writes x = (done ++ x.0, stands x.0 x.1, appends_both o m n done x.0 a x.2)
+fails_on E F S T U V o m n done f Output a ends stands writes x = (done ++ x.0, writes x.0 x.1 x.2, front_behind o m n done x.0 a x.2)
+fails_on E F S T U V o m n done f Input a ends stands writes x = (done ++ x.0, ends x.0 x.1, appends_both o m n done x.0 a x.2)
+fails_on E F S T U V o m n done f Usage a ends stands writes x = x
 
 prepend_both : (is js : List (Interval Plain)) (r : Run) → prepend is (prepend js r) ≡ prepend (is ++ js) r
 prepend_both is js r = ap (λ x. record { intervals = x; ended = r.ended }) (sym (append_assoc is js r.intervals))
@@ -66,20 +89,24 @@ begin whole o = ([], ([], refl, appends_nothing o), λ x. refl)
 
 -- one part, and then another: `pre` is what follows of the second if `x` follows of both
 module _ {M N : Type 0} (whole : M → Run) (middle onward : N → Run) (pre : M → N) (o m n : Option (List ℕ)) (p : Goes {A = Unit {0}} whole (λ x. middle (pre x)) o m (Ok tt)) where
-  stops : (f : Fault) (c : Cause) → Stops middle m n c f → Stops whole o n c f
-  stops f Shortage q = (p.0 ++ q.0, wrote_both p.0 q.0 o m n p.1 q.1, λ x. let s = q.2 (pre x) in (s.0, p.2 x ∙ ap (prepend p.0) s.1 ∙ prepend_both p.0 q.0 s.0))
-  stops f Output q =
-      (p.0 ++ q.0, (p.1.0 ++ q.1.0, text_both p.0 q.0 p.1.0 q.1.0 p.1.1 q.1.1, front_behind o m n p.1.0 q.1.0 p.1.2 q.1.2), λ x. let s = q.2 (pre x) in (s.0, p.2 x ∙ ap (prepend p.0) s.1 ∙ prepend_both p.0 q.0 s.0))
-  stops f Input q = (p.0 ++ q.0, wrote_both p.0 q.0 o m n p.1 q.1, λ x. p.2 x ∙ ap (prepend p.0) (q.2 (pre x)))
-  stops f Usage q = q
+  ends : (fault : Option Fault) (text : List ℕ) → ((y : N) → Logged (middle y) text fault) → (x : M) → Logged (whole x) (p.1.0 ++ text) fault
+  ends fault text l x =
+      let R : Run → Type 0 = λ r. Logged r (p.1.0 ++ text) fault in
+      let y = l (pre x) in subst R (sym (p.2 x)) (text_both p.0 (middle (pre x)).intervals p.1.0 text p.1.1 y.0, y.1)
+
+  first : (text : List ℕ) → ((y : N) → LoggedFirst (middle y) text) → (x : M) → LoggedFirst (whole x) (p.1.0 ++ text)
+  first text l x =
+      let y = l (pre x) in
+      let e = ap (λ (r : Run). r.intervals) (p.2 x) ∙ ap (λ is. p.0 ++ is) y.2 ∙ sym (append_assoc p.0 y.0 y.1) in
+      (p.0 ++ y.0, y.1, e, text_both p.0 y.0 p.1.0 text p.1.1 y.3)
 
   pub and_then : {A : Type 0} (r : Result A Fault) → Goes middle onward m n r → Goes whole (λ x. onward (pre x)) o n r
   and_then (Ok a) q = (p.0 ++ q.0, wrote_both p.0 q.0 o m n p.1 q.1, λ x. p.2 x ∙ ap (prepend p.0) (q.2 (pre x)) ∙ prepend_both p.0 q.0 (onward (pre x)))
-  and_then (Err f) q = stops f (cause_of f) q
+  and_then (Err f) q = fails_on (LogsAll middle) (LogsAll whole) (LogsFirst middle) (LogsFirst whole) (LogsFirst middle) (LogsFirst whole) o m n p.1.0 f (cause_of f) p.1.2 (ends (Some f)) first (λ text l _. first text l) q
 
 -- what goes on stops if memory runs out or the reader fails
 pub cut_short : {M : Type 0} (whole onward : M → Run) (o m : Option (List ℕ)) (f : Fault) → cause_of f ≡ Shortage → Goes {A = Unit {0}} whole onward o m (Ok tt) → Stops whole o m (cause_of f) f
-cut_short whole onward o m f e p = let s : Stops whole o m Shortage f = (p.0, p.1, λ x. (onward x, p.2 x)) in rw e s
+cut_short whole onward o m f e p = let s : Stops whole o m Shortage f = (p.1.0, (λ x. (p.0, (onward x).intervals, ap (λ (r : Run). r.intervals) (p.2 x), p.1.1)), p.1.2) in rw e s
 
 -- one line more
 pub one_line : {A : Type 0} (log : Bool) (whole : List (ℕ × List ℕ) → Run) (h new : Plain) (it rest : List (ℕ × List ℕ)) (x : ℕ × List ℕ) (o m n : Option (List ℕ)) (r : Result A Fault) → Goes {A = Unit {0}} whole (λ more. run_lines log h (it ++ more)) o m (Ok tt)
@@ -110,21 +137,22 @@ module _ (k : ℕ) (h : Plain) (start duration : ℕ) (tag : Option (List ℕ)) 
   end_written p (text, t, a) = (this ∷ [], (text, (text, [], t, refl, sym (append-nil text)), a), λ onward. rw (bytes_not_great (2 ^ 64 - 1) h t.0 p t.1) refl)
 
   pub end_failed : (f : Fault) → IsPlain (2 ^ 64 - 1) h → (text : List ℕ) × IsIntervalText IsV2 h tag (start * 1_000_000) (duration * 1_000_000) 1 text × AppendsFront o n text → Stops Whole o n Output f
-  end_failed f p (text, t, a) = (this ∷ [], (text, (text, [], t, refl, sym (append-nil text)), a), λ onward. (onward (after_reset h), rw (bytes_not_great (2 ^ 64 - 1) h t.0 p t.1) refl))
+  end_failed f p (text, t, a) =
+      (text, (λ onward. (this ∷ [], (onward (after_reset h)).intervals, rw (bytes_not_great (2 ^ 64 - 1) h t.0 p t.1) refl, (text, [], t, refl, sym (append-nil text)))), a)
 
   pub end_refused : HasTooGreatCount h → Keeps o n → Stops Whole o n Input (NotWritten k (SerializeError CountNotSerializable))
-  end_refused g e = ([], ([], refl, appends_kept o o n [] (appends_nothing o) e), λ onward. rw (one_too_great h g) refl)
+  end_refused g e = ([], (λ onward. rw (one_too_great h g) (refl, refl)), appends_kept o o n [] (appends_nothing o) e)
 
 -- nothing is written, and memory runs out
 pub short : {M : Type 0} (whole : M → Run) (o n : Option (List ℕ)) (f : Fault) → cause_of f ≡ Shortage → Keeps o n → Stops whole o n (cause_of f) f
-short whole o n f e k = let s : Stops whole o n Shortage f = ([], ([], refl, appends_kept o o n [] (appends_nothing o) k), λ x. (whole x, refl)) in rw e s
+short whole o n f e k = let s : Stops whole o n Shortage f = ([], (λ x. ([], (whole x).intervals, refl, refl)), appends_kept o o n [] (appends_nothing o) k) in rw e s
 
 -- nothing is written, and the rest follows
 pub next_line : {M A : Type 0} (whole onward : M → Run) (o : Option (List ℕ)) (a : A) → ((x : M) → whole x ≡ onward x) → Goes whole onward o o (Ok a)
 next_line whole onward o a e = ([], ([], refl, appends_nothing o), λ x. e x)
 
 pub no_command : {M : Type 0} (whole : M → Run) (k : ℕ) (o : Option (List ℕ)) → ((x : M) → whole x ≡ ended_by (Err (NotACommand k))) → Stops whole o o Input (NotACommand k)
-no_command whole k o e = ([], ([], refl, appends_nothing o), λ x. e x)
+no_command whole k o e = ([], (λ x. rw (e x) (refl, refl)), appends_nothing o)
 
 -- ---- memory that lines need
 
@@ -197,10 +225,9 @@ read_to m f e = rw e tt
 
 -- what follows is known
 pub at_rest : {M : Type 0} (whole : M → Run) (x : M) (o m : Option (List ℕ)) (c : Cause) (f : Fault) → Stops whole o m c f → Stops {M = Unit {0}} (λ _. whole x) o m c f
-at_rest whole x o m Shortage f p = (p.0, p.1, λ _. p.2 x)
-at_rest whole x o m Output f p = (p.0, p.1, λ _. p.2 x)
-at_rest whole x o m Input f p = (p.0, p.1, λ _. p.2 x)
-at_rest whole x o m Usage f p = p
+at_rest whole x o m c f p =
+    let then : Unit {0} → Run = λ _. whole x in
+    fails_on (LogsAll whole) (LogsAll then) (LogsFirst whole) (LogsFirst then) (LogsFirst whole) (LogsFirst then) o o m [] f c (appends_nothing o) (λ text l _. l x) (λ text l _. l x) (λ text l _ _. l x) p
 
 module _ (log : Bool) (begins : Plain) where
   -- the lines of an input that begins with what was read
@@ -281,5 +308,5 @@ told_at whole o n f g (inl e) a = let F : Fault → Type 0 = λ x. Stops whole o
 told_at whole o n f g (inr (p, q)) a =
     let F : Cause → Type 0 = λ c. Stops whole o n c f in
     let b = subst F p a in
-    let s : Stops whole o n Shortage g = (b.0, b.1, λ x. (ended_by (Err f), b.2 x ∙ ap (λ is. record { intervals = is; ended = Err f }) (sym (append-nil b.0)))) in
+    let s : Stops whole o n Shortage g = (b.0, (λ x. ((whole x).intervals, [], sym (append-nil (whole x).intervals), (b.1 x).0)), b.2) in
     rw q s

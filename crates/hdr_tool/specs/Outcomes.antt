@@ -3,7 +3,7 @@ use Rattle.hdr_tool.specs.Common.{◌≡◌, ◌⊎◌, ℕ, ◌-◌, ◌^◌, L
 use Rattle.hdr_core.specs.declared.call.CallError.{CallError}
 use Rattle.hdrhistogram.specs.Streams.{AppendsFront}
 use Rattle.hdr_tool.specs.Commands.{Command, Apply, End, command_of}
-use Rattle.hdr_tool.specs.Program.{Interval, Run, prepend, IsLogText}
+use Rattle.hdr_tool.specs.Program.{Interval, Run, prepend, IsLogText, Logged, LoggedFirst}
 
 -- the fault line on standard error; `None` if its text is partly the library's: for a histogram
 -- that is not written, and for bytes that are not a histogram
@@ -56,40 +56,26 @@ cause_of CannotWrite = Output
 cause_of WrongWords = Usage
 cause_of f = Input
 
--- the text of intervals is written, or a proper prefix of it
-abbrev pub Wrote : List (Interval Plain) → Option (List ℕ) → Option (List ℕ) → Type 0
-Wrote is old new = (text : List ℕ) × IsLogText is text × Appends old new text
-
-abbrev pub WroteFront : List (Interval Plain) → Option (List ℕ) → Option (List ℕ) → Type 0
-WroteFront is old new = (text : List ℕ) × IsLogText is text × AppendsFront old new text
-
--- whatever follows, the run starts with the intervals that are written; or it ends after them with
--- the `Fault`
-abbrev pub Stops : {M : Type 0} → (M → Run) → Option (List ℕ) → Option (List ℕ) → Cause → Fault → Type 0
-Stops {M = M} whole old new Shortage f = (is : List (Interval Plain)) × Wrote is old new × ((more : M) → (rest : Run) × (whole more ≡ prepend is rest))
-Stops {M = M} whole old new Output f = (is : List (Interval Plain)) × WroteFront is old new × ((more : M) → (rest : Run) × (whole more ≡ prepend is rest))
-Stops {M = M} whole old new Input f = (is : List (Interval Plain)) × Wrote is old new × ((more : M) → whole more ≡ record { intervals = is; ended = Err f })
-Stops whole old new Usage f = ⊥
-
--- whatever follows, the run is the intervals that are written, and then what is still to come; or
--- it stopped
-abbrev pub Goes : {M A : Type 0} → (M → Run) → (M → Run) → Option (List ℕ) → Option (List ℕ) → Result A Fault → Type 0
-Goes {M = M} whole onward old new (Ok a) = (is : List (Interval Plain)) × Wrote is old new × ((more : M) → whole more ≡ prepend is (onward more))
-Goes whole onward old new (Err f) = Stops whole old new (cause_of f) f
-
--- `Ok` and a `Fault` of the input are how a program ends (Ends), and all of its output is written.
+-- `Ok` and a `Fault` of the input are how a run ends (Ends), and all of its output is written.
 -- Instead, memory may run out or the reader fail at any point, and what was written so far remains
--- (Stands). If the writer fails, it has a proper prefix of what the program was writing
--- (IsWriting).
-abbrev pub RunRefused : (List ℕ → Option Fault → Type 0) → (List ℕ → Type 0) → (List ℕ → Type 0) → Option (List ℕ) → Option (List ℕ) → Cause → Fault → Type 0
-RunRefused Ends Stands IsWriting old new Shortage f = (text : List ℕ) × Stands text × Appends old new text
-RunRefused Ends Stands IsWriting old new Output f = (text : List ℕ) × IsWriting text × AppendsFront old new text
-RunRefused Ends Stands IsWriting old new Input f = (text : List ℕ) × Ends text (Some f) × Appends old new text
-RunRefused Ends Stands IsWriting old new Usage f = ⊥
+-- (Stands). If the writer fails, it has a proper prefix of what the run was writing (IsWriting).
+abbrev pub Fails : (List ℕ → Option Fault → Type 0) → (List ℕ → Type 0) → (List ℕ → Type 0) → Option (List ℕ) → Option (List ℕ) → Cause → Fault → Type 0
+Fails Ends Stands IsWriting old new Shortage f = (text : List ℕ) × Stands text × Appends old new text
+Fails Ends Stands IsWriting old new Output f = (text : List ℕ) × IsWriting text × AppendsFront old new text
+Fails Ends Stands IsWriting old new Input f = (text : List ℕ) × Ends text (Some f) × Appends old new text
+Fails Ends Stands IsWriting old new Usage f = ⊥
 
 abbrev pub Answers : (List ℕ → Option Fault → Type 0) → (List ℕ → Type 0) → (List ℕ → Type 0) → Option (List ℕ) → Option (List ℕ) → Result (Unit {0}) Fault → Type 0
 Answers Ends Stands IsWriting old new (Ok u) = (text : List ℕ) × Ends text None × Appends old new text
-Answers Ends Stands IsWriting old new (Err f) = RunRefused Ends Stands IsWriting old new (cause_of f) f
+Answers Ends Stands IsWriting old new (Err f) = Fails Ends Stands IsWriting old new (cause_of f) f
+
+-- whatever follows, the run is the intervals that are written, and then what is still to come; or
+-- it fails, and its first intervals are written
+abbrev pub Goes : {M A : Type 0} → (M → Run) → (M → Run) → Option (List ℕ) → Option (List ℕ) → Result A Fault → Type 0
+Goes {M = M} whole onward old new (Ok a) =
+    (is : List (Interval Plain)) × ((text : List ℕ) × IsLogText is text × Appends old new text) × ((more : M) → whole more ≡ prepend is (onward more))
+Goes {M = M} whole onward old new (Err f) =
+    let First : List ℕ → Type 0 = λ text. (more : M) → LoggedFirst (whole more) text in Fails (λ text fault. (more : M) → Logged (whole more) text fault) First First old new (cause_of f) f
 
 -- all of the input is read before a `Fault` of it is returned. Leaves holds of the rest of the
 -- input if the writer fails.

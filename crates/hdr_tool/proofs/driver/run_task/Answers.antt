@@ -1,6 +1,6 @@
-use Rattle.hdr_tool.proofs.Common.{Some, Ok, refl, ap, sym, ◌∙◌, true, Plain, sink, NoMemory, number_lines, ended_by, run_lines, Stops, Goes, cause_of, run_input}
+use Rattle.hdr_tool.proofs.Common.{Some, Ok, refl, ap, sym, ◌∙◌, true, Plain, sink, NoMemory, number_lines, ended_by, run_lines, Goes, cause_of, run_input}
 use Rattle.hdr_model.specs.Plain.{empty_plain}
-use Rattle.hdr_tool.proofs.OutcomesRuns.{short, keeps, handed_on, some_input, moved}
+use Rattle.hdr_tool.proofs.OutcomesRuns.{Stops, short, keeps, handed_on, some_input, moved}
 use Rattle.hdr_tool.proofs.driver.run_task.Goals as goal
 
 pub returns-in_default-clause-goes : goal.returns-in_default-clause-goes
