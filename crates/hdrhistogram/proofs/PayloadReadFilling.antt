@@ -9,7 +9,7 @@ use Rattle.hdrhistogram.specs.ZigZag.{from_zig_zag}
 use Rattle.hdrhistogram.specs.declared.serialization.errors.DeserializeError.{DeserializeError}
 use Rattle.hdrhistogram.proofs.VarintRead.{two_spelt}
 use Rattle.hdrhistogram.specs.Defects.{Defect, cut, unless, defect_of_error, FailsBy, Gives}
-use Rattle.hdrhistogram.specs.PayloadRead.{Parted, last_byte, put_before, split_spellings, numbers, bins_of_number, move, defect_at, first_defect, fit_bins, with_count, IsCountPut, IsPairPut, counts_or_defect, counts_in, IsCut}
+use Rattle.hdrhistogram.specs.PayloadRead.{Parted, last_byte, put_before, split_spellings, numbers, bins_of_number, move, defect_at, first_defect, fit_bins, with_count, IsNumberPut, IsPairPut, counts_or_defect, counts_in, IsCut}
 
 -- ---- the varints of a payload
 
@@ -103,7 +103,7 @@ fine_at bins greatest place n fits inside few =
 
 -- a count of two bytes
 pub two-put : (greatest place : ℕ) (bytes old new : List ℕ) (n : ℕ) → 1 < length bytes → 128 ≤ get_or bytes 0 0 → get_or bytes 0 0 < 256 → get_or bytes 1 0 < 128 → get_or bytes 0 0 % 2 ≡ 0
-    → 2 * n ≡ get_or bytes 0 0 % 128 + 128 * get_or bytes 1 0 → 0 < n → n ≤ greatest → place < length old → length old ≤ most_bins → new ≡ set old place n → IsCountPut greatest place bytes old new 2
+    → 2 * n ≡ get_or bytes 0 0 % 128 + 128 * get_or bytes 1 0 → 0 < n → n ≤ greatest → place < length old → length old ≤ most_bins → new ≡ set old place n → IsNumberPut greatest place bytes old new 2 1
 two-put greatest place bytes old new n two high fits low even is more most inside few e =
     let encoded = get_or bytes 0 0 % 128 + 128 * get_or bytes 1 0 in
     let parity : encoded % 2 ≡ 0 = omega arith in
@@ -114,7 +114,7 @@ two-put greatest place bytes old new n two high fits low even is more most insid
       within = omega arith;
       spells = two_spelt bytes two high fits low;
       fine = rw number (fine_at (length old) greatest place n most inside few);
-      one = rw number refl;
+      bins = rw number refl;
       put = rw number (e ∙ sym (with_positive old place n more));
     }
 
@@ -206,18 +206,18 @@ fill_cut bins greatest payload counts at place d h c =
     d.whole ∙ ap (from bins greatest place d.front) (parted_rest 8 (drop at payload) c.short c.high)
     ∙ cut_from bins greatest place d.front (drop at payload) (omega (arith, length-drop at payload))
 
--- the bins after a count was set, and after nothing was
-pub fill_short : (bins greatest : ℕ) (payload counts after : List ℕ) (at next place further len : ℕ) → IsFilledTo bins greatest payload counts at place
-    → IsCountPut greatest place (drop at payload) counts after len → next ≡ at + len → further ≡ place + 1 → IsFilledTo bins greatest payload after next further
-fill_short bins greatest payload counts after at next place further len d p next_is further_is =
-    fill_next bins greatest payload counts after (take len (drop at payload)) at next place further len p.encoded (from_zig_zag p.encoded) d p.within refl p.spells refl p.fine p.put next_is (further_is ∙ ap (λ k. place + k) (sym p.one))
+-- the bins after a number was applied
+pub fill_short : (bins greatest : ℕ) (payload counts after : List ℕ) (at next place further len moved : ℕ) → IsFilledTo bins greatest payload counts at place
+    → IsNumberPut greatest place (drop at payload) counts after len moved → next ≡ at + len → further ≡ place + moved → IsFilledTo bins greatest payload after next further
+fill_short bins greatest payload counts after at next place further len moved d p next_is further_is =
+    fill_next bins greatest payload counts after (take len (drop at payload)) at next place further len p.encoded (from_zig_zag p.encoded) d p.within refl p.spells refl p.fine p.put next_is (further_is ∙ ap (λ k. place + k) (sym p.bins))
 
 pub fill_pair : (bins greatest : ℕ) (payload counts after : List ℕ) (at next place further : ℕ) → IsFilledTo bins greatest payload counts at place
     → IsPairPut greatest place (drop at payload) counts after → next ≡ at + 4 → further ≡ place + 2 → IsFilledTo bins greatest payload after next further
 fill_pair bins greatest payload counts after at next place further d p next_is further_is =
-    let half = fill_short bins greatest payload counts p.between at (at + 2) place (place + 1) 2 d p.first refl refl in
-    let second : IsCountPut greatest (place + 1) (drop (at + 2) payload) p.between after 2 = subst (λ l. IsCountPut greatest (place + 1) l p.between after 2) (drop-drop 2 at payload) p.second in
-    fill_short bins greatest payload p.between after (at + 2) next (place + 1) further 2 half second (omega arith) (omega arith)
+    let half = fill_short bins greatest payload counts p.between at (at + 2) place (place + 1) 2 1 d p.first refl refl in
+    let second : IsNumberPut greatest (place + 1) (drop (at + 2) payload) p.between after 2 1 = subst (λ l. IsNumberPut greatest (place + 1) l p.between after 2 1) (drop-drop 2 at payload) p.second in
+    fill_short bins greatest payload p.between after (at + 2) next (place + 1) further 2 1 half second (omega arith) (omega arith)
 
 -- an error that names the defect of a check names the defect of all of it
 pub fails_so : {A : Type 0} (o defect : Option Defect) (whole : Result A Defect) → FailsBy {A = ℕ} o (unless defect 0) → ((f : Defect) → defect ≡ Some f → whole ≡ Err f) → FailsBy o whole

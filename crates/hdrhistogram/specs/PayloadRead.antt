@@ -75,21 +75,21 @@ with_count counts place (pos zero) = counts
 with_count counts place (pos (suc n)) = slice_set counts place (suc n)
 with_count counts place (negsuc n) = counts
 
--- the first `taken` bytes encode the number of one bin, which has no defect and was applied at
+-- the first `taken` bytes encode a number of `moved` bins, which has no defect and was applied at
 -- `place`
-pub record IsCountPut (greatest place : ℕ) (bytes old new : List ℕ) (taken : ℕ) : Type 0 where
+pub record IsNumberPut (greatest place : ℕ) (bytes old new : List ℕ) (taken moved : ℕ) : Type 0 where
   pub encoded : ℕ
   pub within : taken ≤ length bytes
   pub spells : Spells (take taken bytes) encoded
   pub fine : defect_at (length old) greatest place (from_zig_zag encoded) ≡ None
-  pub one : move (from_zig_zag encoded) ≡ 1
+  pub bins : move (from_zig_zag encoded) ≡ moved
   pub put : new ≡ with_count old place (from_zig_zag encoded)
 
 -- two counts of two bytes each were set, one after the other
 pub record IsPairPut (greatest place : ℕ) (bytes old new : List ℕ) : Type 0 where
   pub between : List ℕ
-  pub first : IsCountPut greatest place bytes old between 2
-  pub second : IsCountPut greatest (place + 1) (drop 2 bytes) between new 2
+  pub first : IsNumberPut greatest place bytes old between 2 1
+  pub second : IsNumberPut greatest (place + 1) (drop 2 bytes) between new 2 1
 
 -- counts, unless there was a defect before or the bytes end inside a varint
 abbrev pub counts_or_defect : Option Defect → List ℕ → List ℕ → Result (List ℕ) Defect

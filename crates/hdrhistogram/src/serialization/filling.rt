@@ -1,9 +1,9 @@
 //! Decodes a payload into the bins of a histogram.
 
-ghost use Rattle.std.specs.Prelude.{◌≡◌, ◌+◌, ◌*◌, ◌%◌, ◌<◌, ◌≤◌, IfNone, IfOk, IfSome, OnOk, length, replicate, true, false};
+ghost use Rattle.std.specs.Prelude.{◌≡◌, ◌+◌, ◌*◌, ◌%◌, ◌^◌, ◌<◌, ◌≤◌, IfNone, IfOk, IfSome, OnOk, length, replicate, true, false};
 ghost use Rattle.hdr_base.specs.Classes.{most_bins};
 ghost use Rattle.hdrhistogram.specs.Defects.{Gives, Checks};
-ghost use Rattle.hdrhistogram.specs.PayloadRead.{IsCountPut, IsPairPut, defect_at, move, with_count, counts_in};
+ghost use Rattle.hdrhistogram.specs.PayloadRead.{IsNumberPut, IsPairPut, defect_at, move, with_count, counts_in};
 ghost use Rattle.hdrhistogram.specs.V2Read.{told_by, told_of, IsRestated};
 
 use crate::serialization::errors::DeserializeError;
@@ -44,30 +44,34 @@ fn put_number<T: Counter>(
         .ok_or(DeserializeError::UsizeTypeTooSmall)
 }
 
-/// Fast path: decodes a nonzero count of one or two bytes at the start of `bytes`, sets the bin
-/// `place` to it, and returns the bytes consumed. Returns `None`, and sets nothing, for any other
-/// varint, for a count out of range, and past the last bin.
+/// Fast path: decodes a number of one or two bytes at the start of `bytes`, and applies it at the
+/// bin `place`. Returns the bytes consumed and the number of its bins. Returns `None`, and sets
+/// nothing, for any other varint, for a count out of range, and past the last bin.
 #[inline(always)]
-fn put_short<T: Counter>(filling: &mut Filling<T>, place: u64, bytes: &[u8]) -> Option<usize>
-    ensures put { IfSome result
-        (IsCountPut T.greatest place bytes.now filling.old.counts filling.new.counts) }
-    ensures few { IfSome result (λ _. place < most_bins) }
+fn put_short<T: Counter>(
+    filling: &mut Filling<T>,
+    place: u64,
+    bytes: &[u8],
+) -> Option<(usize, u64)>
+    ensures put { IfSome result (λ found. IsNumberPut T.greatest place bytes.now filling.old.counts
+        filling.new.counts found.0 found.1) }
+    ensures few { IfSome result (λ found. place + found.1 < 2 ^ 64) }
     ensures rest { filling.new ≡ record filling.old { counts = filling.new.counts } }
     ensures kept { IfNone result (filling.new ≡ filling.old) }
 {
     let (encoded, len) = short_varint_at(bytes)?;
-    if encoded % 2 != 0 {
-        return None;
-    }
-    if encoded == 0 {
-        return None;
-    }
-    let count = T::from_u64(encoded / 2)?;
     if place >= filling.distinct_values() as u64 {
         return None;
     }
+    if encoded % 2 != 0 {
+        return Some((len, encoded / 2 + 1));
+    }
+    if encoded == 0 {
+        return Some((len, 1));
+    }
+    let count = T::from_u64(encoded / 2)?;
     filling.set(place as usize, count);
-    Some(len)
+    Some((len, 1))
 }
 
 /// Returns the nonzero count that these bytes encode, or `None` if they are not a varint of two
@@ -132,9 +136,9 @@ fn fill<T: Counter>(filling: &mut Filling<T>, payload: &[u8]) -> Result<(), Dese
             place += 2;
             continue;
         }
-        if let Some(len) = put_short(filling, place, &payload[at..]) {
+        if let Some((len, moved)) = put_short(filling, place, &payload[at..]) {
             at += len;
-            place += 1;
+            place += moved;
             continue;
         }
         let Some((encoded, len)) = varint_at(&payload[at..]) else {

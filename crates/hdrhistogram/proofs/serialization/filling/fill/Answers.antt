@@ -4,7 +4,7 @@ use Rattle.std.proofs.lemmas.Int.{to_z-of_z}
 use Rattle.std.proofs.lemmas.Result.{err_from_is_err_and}
 use mir.Val.{SFits}
 use Rattle.hdrhistogram.specs.Defects.{defect_of_error, FailsBy}
-use Rattle.hdrhistogram.specs.PayloadRead.{IsCut, IsCountPut, IsPairPut, counts_in}
+use Rattle.hdrhistogram.specs.PayloadRead.{IsCut, IsNumberPut, IsPairPut, counts_in}
 use Rattle.hdr_model.specs.Filling.{Open}
 use Rattle.hdrhistogram.proofs.VarintSpellings.{some_byte}
 use Rattle.hdrhistogram.proofs.V2ReadRestated.{set-again}
@@ -70,9 +70,9 @@ loop-at-preserved-in-Some g c =
     let at = c.loop-at.at in
     let same = ap (λ (o : Open). o.counts) (c.put_pair.ensures.kept c.if-put_pair.false) in
     let d = subst (λ l. IsFilledTo bins g.T.Counter.greatest p l at c.loop-at.place) (sym same) c.loop-at.invariant.filled in
-    let put = subst (λ l. IsCountPut g.T.Counter.greatest c.loop-at.place l c.put_pair.new.filling.counts c.put_short.new.filling.counts c.in-Some.len) (take_rest p at) c.in-Some.ensures.put in
+    let put = subst (λ l. IsNumberPut g.T.Counter.greatest c.loop-at.place l c.put_pair.new.filling.counts c.put_short.new.filling.counts c.in-Some.len c.in-Some.moved) (take_rest p at) c.in-Some.ensures.put in
     record {
-      filled = fill_short bins g.T.Counter.greatest p c.put_pair.new.filling.counts c.put_short.new.filling.counts at (at + c.in-Some.len) c.loop-at.place (c.loop-at.place + 1) c.in-Some.len d put refl refl;
+      filled = fill_short bins g.T.Counter.greatest p c.put_pair.new.filling.counts c.put_short.new.filling.counts at (at + c.in-Some.len) c.loop-at.place (c.loop-at.place + c.in-Some.moved) c.in-Some.len c.in-Some.moved d put refl refl;
       rest = set-again c.args.filling.now c.put_pair.new.filling c.put_short.new.filling _ (set-again c.args.filling.now c.loop-at.filling c.put_pair.new.filling _ c.loop-at.invariant.rest c.put_pair.ensures.rest) c.put_short.ensures.rest;
     }
 
