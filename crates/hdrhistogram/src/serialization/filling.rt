@@ -48,11 +48,7 @@ fn put_number<T: Counter>(
 /// bin `place`. Returns the bytes consumed and the number of its bins. Returns `None`, and sets
 /// nothing, for any other varint, for a count out of range, and past the last bin.
 #[inline(always)]
-fn put_short<T: Counter>(
-    filling: &mut Filling<T>,
-    place: u64,
-    bytes: &[u8],
-) -> Option<(usize, u64)>
+fn put_short<T: Counter>(filling: &mut Filling<T>, place: u64, bytes: &[u8]) -> Option<(usize, u64)>
     ensures put { IfSome result (λ found. IsNumberPut T.greatest place bytes.now filling.old.counts
         filling.new.counts found.0 found.1) }
     ensures few { IfSome result (λ found. place + found.1 < 2 ^ 64) }

@@ -1,8 +1,8 @@
-use Rattle.std.proofs.Common.{◌≡◌, ℕ, ◌+◌, ◌-◌, ◌^◌, ◌<◌, ◌≤◌, arith, ◌∙◌, ◌++◌, sym, subst, take, drop, ap, List, length, get_or, length-take-le}
+use Rattle.std.proofs.Common.{◌≡◌, ℕ, ◌^◌, ◌<◌, ◌≤◌, arith, ◌∙◌, ◌++◌, sym, subst, take, drop, ap, List, length, get_or, length-take-le}
 use Rattle.std.proofs.lemmas.List.{get_or-take}
 use Rattle.hdrhistogram.specs.Payload.{IsPayload, enough_bytes}
 use Rattle.hdrhistogram.proofs.V2Bins.{all-small}
-use Rattle.hdrhistogram.proofs.PayloadWriting.{IsEncodedTo, encode_start, encode_run, encode_full, encode_end, past_empty, run_is, count_is, count_here, room_for_full, room_for_run, room_for_all}
+use Rattle.hdrhistogram.proofs.PayloadWriting.{encode_start, encode_run, encode_full, encode_end, past_empty, run_is, count_is, count_here, room_for_full, room_for_run, room_for_all}
 use Rattle.hdrhistogram.proofs.serialization.payload.encode_within.Goals as goal
 
 pub loop-bin-init : goal.loop-bin-init
