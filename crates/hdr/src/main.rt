@@ -1,7 +1,7 @@
 //! The program `hdr`: reports quantiles of samples, logs their histograms interval by interval, and merges such logs.
 #![tactic(auto)]
 
-use hdr_tool::{Fault, Patient, run};
+use hdr_tool::{Fault, RetryWriter, run};
 use std::env;
 use std::io::ErrorKind;
 use std::process::ExitCode;
@@ -11,7 +11,7 @@ fn words_given(rt: &HostRuntime) -> Result<Vec<String>, Fault> {
     let mut words = match env::args(rt) {
         Ok(words) => words,
         Err(e) if e.kind() == ErrorKind::OutOfMemory => return Err(Fault::NoMemory),
-        Err(_) => return Err(Fault::WrongWords),
+        Err(_) => return Err(Fault::Usage),
     };
     let _name = words.next();
     match words.collect(rt.alloc()) {
@@ -24,7 +24,7 @@ fn words_given(rt: &HostRuntime) -> Result<Vec<String>, Fault> {
 /// write.
 fn hdr(rt: &HostRuntime) -> Result<(), Fault> {
     let words = words_given(rt)?;
-    let mut output = Patient {
+    let mut output = RetryWriter {
         writer: rt.stdout(),
     };
     run(rt.alloc(), words.as_slice(), &mut rt.stdin(), &mut output)

@@ -4,7 +4,7 @@ use Rattle.std.proofs.lemmas.Bool.Decides.{nat_tests}
 use Rattle.std.proofs.lemmas.Bool.{cases_lt}
 use Rattle.std.proofs.lemmas.Nat.{pow-add, mul-le}
 use Rattle.std.proofs.Math.Nat.{one-le-pow}
-use Rattle.hdr_base.specs.Classes.{IsLeast, IsFiner, digits_of, grain_of, unit_of}
+use Rattle.hdr_base.specs.Classes.{IsLeast, IsFiner, digits_of, resolution_of, unit_of}
 use Rattle.hdr_base.proofs.ClassesLeast.{least_from-passes, least_from-le}
 use Rattle.hdr_base.proofs.ClassesLaws.{below_own_power}
 
@@ -45,8 +45,8 @@ digits-mono a b le =
     let passes : test (digits_of b) ≡ true = grind (arith, nat_tests) in
     least_from-le test n 0 (digits_of b) (omega arith) passes
 
-pub finer-by : (low a other b : ℕ) → unit_of low ≤ unit_of other → b ≤ a → IsFiner (grain_of low a) (grain_of other b)
-unfolding grain_of
+pub finer-by : (low a other b : ℕ) → unit_of low ≤ unit_of other → b ≤ a → IsFiner (resolution_of low a) (resolution_of other b)
+unfolding resolution_of
 finer-by low a other b unit digits = record { unit = unit; digits = digits-mono b a digits }
 
 leb-from : (a b : ℕ) → a ≤ b → leb a b ≡ true
@@ -59,6 +59,6 @@ digits-IsLeast s = record {
   least = λ j h. least_from-le (λ m. leb (2 * 10 ^ s) (2 ^ m)) (2 * 10 ^ s) 0 j (omega arith) (leb-from (2 * 10 ^ s) (2 ^ j) h);
 }
 
-pub digits-pos-of : (low s : ℕ) → 0 < (grain_of low s).digits
-unfolding grain_of
+pub digits-pos-of : (low s : ℕ) → 0 < (resolution_of low s).digits
+unfolding resolution_of
 digits-pos-of low s = digits-pos s

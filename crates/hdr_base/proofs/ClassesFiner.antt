@@ -1,12 +1,12 @@
--- Classes by their numbers, and classes of two grains.
+-- Classes by their numbers, and classes of two resolutions.
 use Rattle.std.proofs.Common.{◌≡◌, ℕ, ◌+◌, ◌-◌, ◌*◌, ◌/◌, ◌^◌, ◌<◌, ◌≤◌, sym, ap, ◌∙◌, arith, inl, inr}
 use Rattle.std.proofs.lemmas.Bool.{cases_lt}
 use Rattle.std.proofs.lemmas.Nat.{mul-le, pow_pos, pow-add, div-add-mod', mod_below}
-use Rattle.hdr_base.specs.Classes.{Grain, bucket, width_of, lowest_of, bin_of, value_of, IsFiner}
+use Rattle.hdr_base.specs.Classes.{Resolution, bucket, width_of, lowest_of, bin_of, value_of, IsFiner}
 use Rattle.hdr_base.proofs.ClassesLaws.{pow_mono_le, bucket-end, bucket-begin, two-halves, lowest-as-product, lowest-le, same-bin, bin-lowest, top-above, bin-width}
 use Rattle.hdr_base.proofs.ClassesScale.{value-bin, value-lowest, value-width}
 
-module _ (g : Grain) (i : ℕ) (m : 0 < g.digits) where
+module _ (g : Resolution) (i : ℕ) (m : 0 < g.digits) where
   half-parts : let H = 2 ^ (g.digits - 1) in let k = i / H - 1 in (i - k * H < 2 ^ g.digits) × (0 < k → H ≤ i - k * H) × (k * H ≤ i)
   half-parts =
       let H = 2 ^ (g.digits - 1) in
@@ -52,7 +52,7 @@ multiple-below a c w h =
       | inr ge ↦ mul-le c w a w ge (omega arith)
     ]
 
-module _ (f g : Grain) (fine : IsFiner f g) (v : ℕ) where
+module _ (f g : Resolution) (fine : IsFiner f g) (v : ℕ) where
   exponents : f.unit + bucket f v ≤ g.unit + bucket g v
   exponents =
       elim (cases_lt 0 (bucket f v)) [
@@ -98,8 +98,8 @@ module _ (f g : Grain) (fine : IsFiner f g) (v : ℕ) where
             ]),
       )
 
--- two values of one class of the finer grain have one class of the other
-pub finer-bin : (f g : Grain) → IsFiner f g → 0 < f.digits → 0 < g.digits → (x y : ℕ) → bin_of f x ≡ bin_of f y → bin_of g x ≡ bin_of g y
+-- two values of one class of the finer resolution have one class of the other
+pub finer-bin : (f g : Resolution) → IsFiner f g → 0 < f.digits → 0 < g.digits → (x y : ℕ) → bin_of f x ≡ bin_of f y → bin_of g x ≡ bin_of g y
 finer-bin f g fine mf mg x y e =
     let inside = class-inside f g fine y mg in
     let low = bin-lowest f x y mf e in

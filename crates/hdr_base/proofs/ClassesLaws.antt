@@ -5,7 +5,7 @@ use Rattle.std.proofs.lemmas.Bool.{cases_lt}
 use Rattle.std.proofs.Math.Numerals.{sub-one}
 use Rattle.std.proofs.lemmas.Nat.{mul-le, div-mul-add, pow_pos, pow-add, div-add-mod', mod_below, div_below, le-div}
 use Rattle.std.proofs.Math.Nat.{mul-le-mul_left, pow-suc}
-use Rattle.hdr_base.specs.Classes.{Grain, bucket, width_of, lowest_of, top_of, bin_of}
+use Rattle.hdr_base.specs.Classes.{Resolution, bucket, width_of, lowest_of, top_of, bin_of}
 use Rattle.hdr_base.proofs.ClassesLeast.{least_from-passes, least_from-le}
 
 -- a number is below the power of two of itself
@@ -26,19 +26,19 @@ pow_mono_le i j h =
     omega (arith, mul-le-mul_left (2 ^ i) (pow_pos (j - i)))
 
 -- a value is below the end of its bucket
-pub bucket-end : (g : Grain) (v : ℕ) → v < 2 ^ (g.unit + g.digits + bucket g v)
+pub bucket-end : (g : Resolution) (v : ℕ) → v < 2 ^ (g.unit + g.digits + bucket g v)
 unfolding bucket
 bucket-end g v =
     ltb-to _ _ (least_from-passes (λ k. ltb v (2 ^ (g.unit + g.digits + k))) v 0 v (omega arith) (omega arith)
     (ltb-from _ _ (omega (arith, below_own_power v, pow_mono_le v (g.unit + g.digits + v) (omega arith)))))
 
 -- and that bucket is the least such
-pub bucket-least : (g : Grain) (v j : ℕ) → v < 2 ^ (g.unit + g.digits + j) → bucket g v ≤ j
+pub bucket-least : (g : Resolution) (v j : ℕ) → v < 2 ^ (g.unit + g.digits + j) → bucket g v ≤ j
 unfolding bucket
 bucket-least g v j h = least_from-le (λ k. ltb v (2 ^ (g.unit + g.digits + k))) v 0 j (omega arith) (ltb-from _ _ h)
 
 -- the bucket before starts at or below the value
-pub bucket-begin : (g : Grain) (v : ℕ) → 0 < bucket g v → 2 ^ (g.unit + g.digits + (bucket g v - 1)) ≤ v
+pub bucket-begin : (g : Resolution) (v : ℕ) → 0 < bucket g v → 2 ^ (g.unit + g.digits + (bucket g v - 1)) ≤ v
 bucket-begin g v h =
     elim (cases_lt v (2 ^ (g.unit + g.digits + (bucket g v - 1)))) [
       | inl lt ↦ (let l : bucket g v ≤ bucket g v - 1 = bucket-least g v (bucket g v - 1) lt in absurd (omega arith))
@@ -46,7 +46,7 @@ bucket-begin g v h =
     ]
 
 -- a bucket is known by its ends
-pub bucket-is : (g : Grain) (v k : ℕ) → v < 2 ^ (g.unit + g.digits + k) → (0 < k → 2 ^ (g.unit + g.digits + (k - 1)) ≤ v) → bucket g v ≡ k
+pub bucket-is : (g : Resolution) (v k : ℕ) → v < 2 ^ (g.unit + g.digits + k) → (0 < k → 2 ^ (g.unit + g.digits + (k - 1)) ≤ v) → bucket g v ≡ k
 bucket-is g v k below above =
     let le : bucket g v ≤ k = bucket-least g v k below in
     let ends = bucket-end g v in
@@ -59,7 +59,7 @@ bucket-is g v k below above =
       | inr ge ↦ omega arith
     ]
 
-module _ (g : Grain) (v : ℕ) where
+module _ (g : Resolution) (v : ℕ) where
   -- the width is a power of two
   pub width-pos : 0 < width_of g v
   unfolding width_of
@@ -107,7 +107,7 @@ two-halves zero h = absurd (omega arith)
 two-halves (suc n) h = rw sub-one (omega (arith, pow-suc 2 n))
 
 -- each value of a class has that class
-module _ (g : Grain) (v x : ℕ) where
+module _ (g : Resolution) (v x : ℕ) where
   product-below : x < lowest_of g v + width_of g v → x < 2 ^ (g.unit + g.digits + bucket g v)
   unfolding width_of
   product-below h =
@@ -169,7 +169,7 @@ module _ (g : Grain) (v x : ℕ) where
       ]
 
 -- two values with one bin have one class
-module _ (g : Grain) (v x : ℕ) where
+module _ (g : Resolution) (v x : ℕ) where
   bin-bucket : 0 < g.digits → bin_of g v ≡ bin_of g x → bucket g v ≡ bucket g x
   bin-bucket m e =
       elim (cases_lt (bucket g v) (bucket g x)) [
@@ -198,7 +198,7 @@ module _ (g : Grain) (v x : ℕ) where
   bin-top m e = omega (arith, bin-lowest m e, bin-width m e)
 
 -- a class is one unit wide below 2 ^ (unit + digits)
-pub width-of-units : (g : Grain) (v : ℕ) → v < 2 ^ (g.unit + g.digits) → width_of g v ≡ 2 ^ g.unit
+pub width-of-units : (g : Resolution) (v : ℕ) → v < 2 ^ (g.unit + g.digits) → width_of g v ≡ 2 ^ g.unit
 unfolding width_of
 width-of-units g v h =
     let none : bucket g v ≤ 0 = bucket-least g v 0 (rw add-zero h) in
@@ -206,7 +206,7 @@ width-of-units g v h =
     ap (λ (k : ℕ). 2 ^ k) e
 
 -- and from there on its lowest value holds the width as often as the digits say
-pub width-bound : (g : Grain) (v most : ℕ) → 0 < g.digits → 2 * most ≤ 2 ^ g.digits → 2 ^ (g.unit + g.digits) ≤ v → width_of g v * most ≤ lowest_of g v
+pub width-bound : (g : Resolution) (v most : ℕ) → 0 < g.digits → 2 * most ≤ 2 ^ g.digits → 2 ^ (g.unit + g.digits) ≤ v → width_of g v * most ≤ lowest_of g v
 width-bound g v most m enough h =
     let later : 0 < bucket g v = elim (cases_lt 0 (bucket g v)) [
       | inl lt ↦ lt

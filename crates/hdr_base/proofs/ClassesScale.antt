@@ -5,11 +5,11 @@ use lib.Count.{count_leading_zeros}
 use Rattle.std.proofs.lemmas.Bool.{cases_lt}
 use Rattle.std.proofs.lemmas.Nat.{shl-shr, mul-le, div-mul-add, pow_pos, pow-add, div-add-mod', mod_below, shr_le, shl_whole, one_shl, leading_length}
 use Rattle.std.proofs.Math.Nat.{mod-eq_of_lt}
-use Rattle.hdr_base.specs.Classes.{most_bins, Grain, bucket, width_of, lowest_of, bin_of, unit_of, least_from}
+use Rattle.hdr_base.specs.Classes.{most_bins, Resolution, bucket, width_of, lowest_of, bin_of, unit_of, least_from}
 use Rattle.hdr_base.proofs.ClassesLeast.{least_from-passes, least_from-le}
 use Rattle.hdr_base.proofs.ClassesLaws.{below_own_power, ltb-from, ltb-to, pow_mono_le, bucket-is, bucket-least, two-halves, place-below, lowest-as-product, lowest-le, end-as-product, bin-mono}
 
-module _ (g : Grain) (v : ℕ) (small : v < 2 ^ 64) (fits : g.unit + g.digits ≤ 63) where
+module _ (g : Resolution) (v : ℕ) (small : v < 2 ^ 64) (fits : g.unit + g.digits ≤ 63) where
   pub bucket-bound : g.unit + g.digits + bucket g v ≤ 64
   bucket-bound =
       let s = g.unit + g.digits in
@@ -67,7 +67,7 @@ module _ (g : Grain) (v : ℕ) (small : v < 2 ^ 64) (fits : g.unit + g.digits �
   lowest-from-shifts = mod-eq_of_lt (omega (arith, lowest-as-product g v, lowest-le g v)) ∙ sym (lowest-as-product g v)
 
 -- the value of a class, by its index within the bucket
-module _ (g : Grain) (k q : ℕ) (m : 0 < g.digits) (below : q < 2 ^ g.digits) (above : 0 < k → 2 ^ (g.digits - 1) ≤ q) where
+module _ (g : Resolution) (k q : ℕ) (m : 0 < g.digits) (below : q < 2 ^ g.digits) (above : 0 < k → 2 ^ (g.digits - 1) ≤ q) where
   value-bucket : bucket g (q * 2 ^ (g.unit + k)) ≡ k
   value-bucket =
       let w = 2 ^ (g.unit + k) in
@@ -94,7 +94,7 @@ module _ (g : Grain) (k q : ℕ) (m : 0 < g.digits) (below : q < 2 ^ g.digits) (
       lowest-as-product g (q * 2 ^ (g.unit + k)) ∙ ap (λ (p : ℕ). p * width_of g (q * 2 ^ (g.unit + k))) value-place ∙ ap (λ (w : ℕ). q * w) value-width
 
 -- the value of an index, and the indices that have none
-module _ (g : Grain) (i : ℕ) (m : 0 < g.digits) (d : g.digits ≤ 18) (fits : g.unit + g.digits ≤ 63) where
+module _ (g : Resolution) (i : ℕ) (m : 0 < g.digits) (d : g.digits ≤ 18) (fits : g.unit + g.digits ≤ 63) where
   index-last : 64 - (g.unit + g.digits) < i / 2 ^ (g.digits - 1) - 1 → bin_of g (2 ^ 64 - 1) < i
   unfolding bin_of
   index-last h =

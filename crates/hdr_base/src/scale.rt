@@ -1,7 +1,7 @@
 //! The classes of values, from a lowest value and a number of significant digits.
 
 ghost use Rattle.std.specs.Prelude.{◌≡◌, ℕ, ◌+◌, ◌-◌, ◌*◌, ◌^◌, ◌<◌, ◌≤◌, MatchOption, SomeIff, IfSome, IsSome};
-ghost use Rattle.hdr_base.specs.Classes.{most_bins, IsLeast, grain_of, digits_of, bucket, width_of, lowest_of, top_of, bin_of, value_of, reach_of, HasScale};
+ghost use Rattle.hdr_base.specs.Classes.{most_bins, IsLeast, resolution_of, digits_of, bucket, width_of, lowest_of, top_of, bin_of, value_of, reach_of, HasScale};
 
 use std::marker::Model;
 
@@ -17,9 +17,9 @@ pub struct Scale {
 
 impl Model for Scale {
     ghost use Rattle.std.specs.Prelude.{◌+◌, ◌≤◌, ◌<◌};
-    ghost use Rattle.hdr_base.specs.Classes.{Grain};
+    ghost use Rattle.hdr_base.specs.Classes.{Resolution};
 
-    ghost Value = { Grain };
+    ghost Value = { Resolution };
 
     ghost view = { λ s. record { unit = s.unit; digits = s.digits } };
 
@@ -32,7 +32,7 @@ impl Scale {
     /// Returns the scale whose classes keep `sigfig` significant digits of values from `low` on. Returns `None` if `low` is 0,
     /// if `sigfig` is above 5, or if unit and digits together exceed 63 bits, which they never do for a `low` below 2^46.
     pub fn new(low: u64, sigfig: u8) -> Option<Scale>
-        ensures scale { SomeIff result (HasScale low sigfig) (grain_of low sigfig) }
+        ensures scale { SomeIff result (HasScale low sigfig) (resolution_of low sigfig) }
         ensures unit { IfSome result (λ s. IsLeast (λ u. low < 2 ^ (u + 1)) s.unit) }
         ensures digits { IfSome result (λ s. IsLeast (λ m. 2 * 10 ^ sigfig ≤ 2 ^ m) s.digits) }
         ensures small { 0 < low → low < 2 ^ 46 → sigfig ≤ 5 → IsSome result }
@@ -140,7 +140,7 @@ impl Scale {
     pub fn buckets(self, value: u64) -> usize
         ensures value { result ≡ bucket self value + 1 }
         ensures bound { result ≤ 64 }
-        ensures few { (result + 1) * 2 ^ (self.digits - 1) ≤ most_bins }
+        ensures fits { (result + 1) * 2 ^ (self.digits - 1) ≤ most_bins }
     {
         self.bucket(value) as usize + 1
     }
@@ -156,7 +156,7 @@ impl Scale {
     /// Returns the number of blocks that hold the classes up to the end of a value's bucket.
     pub fn blocks(self, value: u64) -> usize
         ensures value { result ≡ bucket self value + 2 }
-        ensures few { result * 2 ^ (self.digits - 1) ≤ most_bins }
+        ensures fits { result * 2 ^ (self.digits - 1) ≤ most_bins }
     {
         self.buckets(value) + 1
     }

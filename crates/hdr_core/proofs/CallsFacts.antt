@@ -1,7 +1,7 @@
 -- One call keeps what is true of every histogram, and takes what it stands for to what the call makes of it.
 use Rattle.std.proofs.Common.{◌≡◌, ℕ, ◌≤◌, cond, eqb, List, ◌++◌, length, replicate, sym, ap, subst, ◌∙◌}
-use Rattle.hdr_base.specs.Classes.{Grain, reach_of}
-use Rattle.hdr_model.specs.Plain.{Plain, IsPlain, grain, max_of}
+use Rattle.hdr_base.specs.Classes.{Resolution, reach_of}
+use Rattle.hdr_model.specs.Plain.{Plain, IsPlain, resolution, max_of}
 use Rattle.hdr_model.specs.Recording.{clamp_to_bins, high_with, clamp}
 use Rattle.hdr_model.specs.Merging.{highest_top}
 use Rattle.hdr_model.specs.Samples.{StandsFor, Fits}
@@ -9,12 +9,12 @@ use Rattle.hdr_core.specs.Calls.{after_call, CallTo, IsCallOf}
 use Rattle.hdr_model.specs.Runs.{StandsAt, StandsWhereFits, State}
 use Rattle.hdr_core.specs.declared.call.Call.{Call}
 use Rattle.hdr_core.specs.declared.call.Call.TheVariants.{Record, Clamp, Correct, Clear, Reset, Add, AddCorrect}
-use Rattle.hdr_model.proofs.PlainKept.{grain-recorded}
+use Rattle.hdr_model.proofs.PlainKept.{resolution-recorded}
 use Rattle.hdr_model.proofs.RecordingStands.{StandsFor-recorded}
-use Rattle.hdr_model.proofs.MergingStands.{Fits-front, StandsFor-merged, merged-high, grain-merged, recorded-high_with}
-use Rattle.hdr_model.proofs.CorrectionByClass.{high-corrected, grain-corrected}
-use Rattle.hdr_model.proofs.RecordingClears.{IsPlain-cleared, clamped-is, clamped-small, high-clamped, grain-cleared, grain-restarted, high-cleared, high-restarted, stands-cleared, stands-restarted}
-use Rattle.hdr_model.proofs.MergingCorrects.{StandsFor-one-corrected, StandsFor-merged_corrected, merged_corrected-high, grain-merged_corrected}
+use Rattle.hdr_model.proofs.MergingStands.{Fits-front, StandsFor-merged, merged-high, resolution-merged, recorded-high_with}
+use Rattle.hdr_model.proofs.CorrectionByClass.{high-corrected, resolution-corrected}
+use Rattle.hdr_model.proofs.RecordingClears.{IsPlain-cleared, clamped-is, clamped-small, high-clamped, resolution-cleared, resolution-restarted, high-cleared, high-restarted, stands-cleared, stands-restarted}
+use Rattle.hdr_model.proofs.MergingCorrects.{StandsFor-one-corrected, StandsFor-merged_corrected, merged_corrected-high, resolution-merged_corrected}
 use Rattle.hdr_model.proofs.MergingOrder.{max-small, highest-small}
 use Rattle.hdr_model.proofs.PlainAfter.{IsPlain-recorded, IsPlain-corrected, IsPlain-restarted, IsPlain-merged, IsPlain-merged_corrected}
 
@@ -31,14 +31,14 @@ call-plain greatest most number h (AddCorrect source i) one q p = IsPlain-merged
 
 -- ---- the classes
 
-pub call-classes : {T : Type 0} (greatest most : ℕ) (number : T → ℕ) (h : Plain) (call : Call T) → IsCallOf most call → grain (after_call greatest number call h) ≡ grain h
-call-classes greatest most number h (Record v n) fine = grain-recorded greatest h v (number n)
-call-classes greatest most number h (Clamp v n) fine = grain-recorded greatest h (clamp_to_bins h v) (number n)
-call-classes greatest most number h (Correct v n i) fine = grain-corrected greatest h v (number n) i
-call-classes greatest most number h Clear fine = grain-cleared h
-call-classes greatest most number h Reset fine = grain-restarted h
-call-classes greatest most number h (Add source) fine = grain-merged greatest most h source.now fine
-call-classes greatest most number h (AddCorrect source i) fine = grain-merged_corrected greatest h source.now i
+pub call-classes : {T : Type 0} (greatest most : ℕ) (number : T → ℕ) (h : Plain) (call : Call T) → IsCallOf most call → resolution (after_call greatest number call h) ≡ resolution h
+call-classes greatest most number h (Record v n) fine = resolution-recorded greatest h v (number n)
+call-classes greatest most number h (Clamp v n) fine = resolution-recorded greatest h (clamp_to_bins h v) (number n)
+call-classes greatest most number h (Correct v n i) fine = resolution-corrected greatest h v (number n) i
+call-classes greatest most number h Clear fine = resolution-cleared h
+call-classes greatest most number h Reset fine = resolution-restarted h
+call-classes greatest most number h (Add source) fine = resolution-merged greatest most h source.now fine
+call-classes greatest most number h (AddCorrect source i) fine = resolution-merged_corrected greatest h source.now i
 
 -- ---- the samples
 
@@ -47,29 +47,29 @@ same-samples : (k : Plain) (S R : List ℕ) → S ≡ R → StandsFor k R → St
 same-samples k S R e s = subst (λ l. StandsFor k l) (sym e) s
 
 -- a call's samples if its classes are those of before
-fits-before : (greatest : ℕ) (g k : Grain) (S R : List ℕ) → k ≡ g → S ≡ R → Fits greatest k S → Fits greatest g R
+fits-before : (greatest : ℕ) (g k : Resolution) (S R : List ℕ) → k ≡ g → S ≡ R → Fits greatest k S → Fits greatest g R
 fits-before greatest g k S R same e fits = subst (λ l. Fits greatest g l) e (subst (λ x. Fits greatest x S) same fits)
 
 pub call-wherever : {T : Type 0} (greatest most : ℕ) (number : T → ℕ) (h : Plain) (call : Call T) (s t : State) → 1 ≤ greatest → IsCallOf most call → IsPlain greatest h
-    → StandsWhereFits greatest h s → CallTo number (grain h) call s t → StandsWhereFits greatest (after_call greatest number call h) t
+    → StandsWhereFits greatest h s → CallTo number (resolution h) call s t → StandsWhereFits greatest (after_call greatest number call h) t
 call-wherever greatest most number h (Record v n) s t one small p stands to = (
   (λ fits.
-      let f = fits-before greatest (grain h) _ t.samples _ (grain-recorded greatest h v (number n)) to.0 fits in
-      same-samples _ t.samples _ to.0 (StandsFor-recorded greatest h v (number n) s.samples small p (stands.0 (Fits-front greatest (grain h) s.samples _ f)) f)),
-  recorded-high_with greatest h v (number n) ∙ ap (λ x. high_with (grain h) x v (reach_of (grain h) v)) stands.1 ∙ sym to.1,
+      let f = fits-before greatest (resolution h) _ t.samples _ (resolution-recorded greatest h v (number n)) to.0 fits in
+      same-samples _ t.samples _ to.0 (StandsFor-recorded greatest h v (number n) s.samples small p (stands.0 (Fits-front greatest (resolution h) s.samples _ f)) f)),
+  recorded-high_with greatest h v (number n) ∙ ap (λ x. high_with (resolution h) x v (reach_of (resolution h) v)) stands.1 ∙ sym to.1,
 )
 call-wherever greatest most number h (Clamp v n) s t one small p stands to =
-    let list = to.0 ∙ ap (λ k. s.samples ++ replicate (number n) (clamp (grain h) k v)) (sym stands.1) ∙ ap (λ x. s.samples ++ replicate (number n) x) (sym (clamped-is h v)) in (
+    let list = to.0 ∙ ap (λ k. s.samples ++ replicate (number n) (clamp (resolution h) k v)) (sym stands.1) ∙ ap (λ x. s.samples ++ replicate (number n) x) (sym (clamped-is h v)) in (
       (λ fits.
-          let f = fits-before greatest (grain h) _ t.samples _ (grain-recorded greatest h (clamp_to_bins h v) (number n)) list fits in
-          same-samples _ t.samples _ list (StandsFor-recorded greatest h (clamp_to_bins h v) (number n) s.samples (clamped-small greatest h v small p) p (stands.0 (Fits-front greatest (grain h) s.samples _ f)) f)),
+          let f = fits-before greatest (resolution h) _ t.samples _ (resolution-recorded greatest h (clamp_to_bins h v) (number n)) list fits in
+          same-samples _ t.samples _ list (StandsFor-recorded greatest h (clamp_to_bins h v) (number n) s.samples (clamped-small greatest h v small p) p (stands.0 (Fits-front greatest (resolution h) s.samples _ f)) f)),
       high-clamped greatest h v (number n) ∙ stands.1 ∙ sym to.1,
     )
 call-wherever greatest most number h (Correct v n i) s t one small p stands to = (
   (λ fits.
-      let f = fits-before greatest (grain h) _ t.samples _ (grain-corrected greatest h v (number n) i) to.0 fits in
-      same-samples _ t.samples _ to.0 (StandsFor-one-corrected greatest h v (number n) i s.samples small one p (stands.0 (Fits-front greatest (grain h) s.samples _ f)) f)),
-  high-corrected greatest h v (number n) i ∙ ap (λ x. high_with (grain h) x v (reach_of (grain h) v)) stands.1 ∙ sym to.1,
+      let f = fits-before greatest (resolution h) _ t.samples _ (resolution-corrected greatest h v (number n) i) to.0 fits in
+      same-samples _ t.samples _ to.0 (StandsFor-one-corrected greatest h v (number n) i s.samples small one p (stands.0 (Fits-front greatest (resolution h) s.samples _ f)) f)),
+  high-corrected greatest h v (number n) i ∙ ap (λ x. high_with (resolution h) x v (reach_of (resolution h) v)) stands.1 ∙ sym to.1,
 )
 call-wherever greatest most number h Clear s t one small p stands to =
     ((λ fits. same-samples _ t.samples _ to.0 (stands-cleared h)), high-cleared h ∙ stands.1 ∙ sym to.1)
@@ -78,20 +78,20 @@ call-wherever greatest most number h Reset s t one small p stands to =
 call-wherever greatest most number h (Add source) s t one q p stands to =
     let m = max_of source.now in (
       (λ fits.
-          let f = fits-before greatest (grain h) _ t.samples _ (grain-merged greatest most h source.now q) to.3 fits in
-          same-samples _ t.samples _ to.3 (StandsFor-merged greatest most h source.now s.samples to.0 one p q (max-small most source.now q) (stands.0 (Fits-front greatest (grain h) s.samples to.0 f)) to.1 to.2 f)),
-      merged-high greatest most h source.now q ∙ ap (λ n. cond (eqb n 0) h.high (high_with (grain h) h.high m m)) to.1.total ∙ ap (λ x. cond (eqb (length to.0) 0) x (high_with (grain h) x m m)) stands.1 ∙ sym to.4,
+          let f = fits-before greatest (resolution h) _ t.samples _ (resolution-merged greatest most h source.now q) to.3 fits in
+          same-samples _ t.samples _ to.3 (StandsFor-merged greatest most h source.now s.samples to.0 one p q (max-small most source.now q) (stands.0 (Fits-front greatest (resolution h) s.samples to.0 f)) to.1 to.2 f)),
+      merged-high greatest most h source.now q ∙ ap (λ n. cond (eqb n 0) h.high (high_with (resolution h) h.high m m)) to.1.total ∙ ap (λ x. cond (eqb (length to.0) 0) x (high_with (resolution h) x m m)) stands.1 ∙ sym to.4,
     )
 call-wherever greatest most number h (AddCorrect source i) s t one q p stands to =
     let m = highest_top source.now in (
       (λ fits.
-          let f = fits-before greatest (grain h) _ t.samples _ (grain-merged_corrected greatest h source.now i) to.2 fits in
-          same-samples _ t.samples _ to.2 (StandsFor-merged_corrected greatest most h source.now i s.samples to.0 one p q (highest-small most source.now q) (stands.0 (Fits-front greatest (grain h) s.samples _ f)) to.1 f)),
-      merged_corrected-high greatest h source.now i ∙ ap (λ x. high_with (grain h) x m (reach_of (grain h) m)) stands.1 ∙ sym to.3,
+          let f = fits-before greatest (resolution h) _ t.samples _ (resolution-merged_corrected greatest h source.now i) to.2 fits in
+          same-samples _ t.samples _ to.2 (StandsFor-merged_corrected greatest most h source.now i s.samples to.0 one p q (highest-small most source.now q) (stands.0 (Fits-front greatest (resolution h) s.samples _ f)) to.1 f)),
+      merged_corrected-high greatest h source.now i ∙ ap (λ x. high_with (resolution h) x m (reach_of (resolution h) m)) stands.1 ∙ sym to.3,
     )
 
 pub call-stands : {T : Type 0} (greatest most : ℕ) (number : T → ℕ) (h : Plain) (call : Call T) (s t : State) → 1 ≤ greatest → IsCallOf most call → IsPlain greatest h
-    → StandsAt h s → CallTo number (grain h) call s t → Fits greatest (grain h) t.samples → StandsAt (after_call greatest number call h) t
+    → StandsAt h s → CallTo number (resolution h) call s t → Fits greatest (resolution h) t.samples → StandsAt (after_call greatest number call h) t
 call-stands greatest most number h call s t one small p stands to fits =
     let after = call-wherever greatest most number h call s t one small p ((λ before. stands.0), stands.1) to in
     (after.0 (subst (λ g. Fits greatest g t.samples) (sym (call-classes greatest most number h call small)) fits), after.1)

@@ -1,13 +1,13 @@
 -- What calls do, by numbers and by samples. (Each case is the documentation of that call of the Rust crate; calls as values
 -- are our own.)
 use Rattle.std.specs.Prelude.{◌≡◌, ◌⊎◌, ℕ, ◌^◌, ◌<◌, List, [], ◌∷◌, ◌++◌, replicate, Result, Ok, Err}
-use Rattle.hdr_base.specs.Classes.{Grain, reach_of}
+use Rattle.hdr_base.specs.Classes.{Resolution, reach_of}
 use Rattle.hdr_model.specs.Plain.{Plain, IsPlain, max_of}
 use Rattle.hdr_model.specs.Recording.{after_record, clamp_to_bins, after_clear, after_reset, samples_of, clamp, high_with}
 use Rattle.hdr_model.specs.Correction.{missing, each_times, after_correct}
 use Rattle.hdr_model.specs.Merging.{highest_top, after_add_correct, after_add}
-use Rattle.hdr_model.specs.Refusals.{HasRoom, RefusesRecord, RefusesAddition, RefusesCorrected}
-use Rattle.hdr_model.specs.Runs.{State, after_each, EachIsTaken, EachTo, AddCorrectedTo, AddTo}
+use Rattle.hdr_model.specs.Refusals.{IsRecordable, IsRecordError, IsAdditionError, IsCorrectionError}
+use Rattle.hdr_model.specs.Runs.{State, after_each, EachIsAccepted, EachTo, AddCorrectedTo, AddTo}
 use Rattle.hdr_core.specs.declared.call.Call.{Call}
 use Rattle.hdr_core.specs.declared.call.Call.TheVariants.{Record, Clamp, Correct, Clear, Reset, Add, AddCorrect}
 use Rattle.hdr_core.specs.declared.call.CallError.{CallError}
@@ -39,29 +39,29 @@ IsCallOf most (Add source) = IsPlain most source.now
 IsCallOf most (AddCorrect source i) = IsPlain most source.now
 
 -- when a call returns an error, and which
-abbrev pub RefusesCall : {T : Type 0} → Plain → Call T → CallError → Type 0
-RefusesCall h (Record v n) (err.Record e) = RefusesRecord h v e
-RefusesCall h (Correct v n i) (err.Record e) = RefusesRecord h v e
-RefusesCall h (Add source) (err.Addition e) = RefusesAddition h source.now e
-RefusesCall h (AddCorrect source i) (err.Record e) = RefusesCorrected h source.now e
-RefusesCall h _ _ = ⊥
+abbrev pub IsCallError : {T : Type 0} → Plain → Call T → CallError → Type 0
+IsCallError h (Record v n) (err.Record e) = IsRecordError h v e
+IsCallError h (Correct v n i) (err.Record e) = IsRecordError h v e
+IsCallError h (Add source) (err.Addition e) = IsAdditionError h source.now e
+IsCallError h (AddCorrect source i) (err.Record e) = IsCorrectionError h source.now e
+IsCallError h _ _ = ⊥
 
 -- the call fails only if an allocation does
-abbrev pub IsTaken : {T : Type 0} → Plain → Call T → Type 0
-IsTaken h (Record v n) = HasRoom h v
-IsTaken h (Clamp v n) = Unit {0}
-IsTaken h (Correct v n i) = HasRoom h v
-IsTaken h Clear = Unit {0}
-IsTaken h Reset = Unit {0}
-IsTaken h (Add source) = (source.now.total ≡ 0) ⊎ HasRoom h (max_of source.now)
-IsTaken h (AddCorrect source i) = HasRoom h (highest_top source.now)
+abbrev pub IsAccepted : {T : Type 0} → Plain → Call T → Type 0
+IsAccepted h (Record v n) = IsRecordable h v
+IsAccepted h (Clamp v n) = Unit {0}
+IsAccepted h (Correct v n i) = IsRecordable h v
+IsAccepted h Clear = Unit {0}
+IsAccepted h Reset = Unit {0}
+IsAccepted h (Add source) = (source.now.total ≡ 0) ⊎ IsRecordable h (max_of source.now)
+IsAccepted h (AddCorrect source i) = IsRecordable h (highest_top source.now)
 
 -- each of the calls, in order, fails only if an allocation does
-abbrev pub AreTaken : {T : Type 0} → ℕ → (T → ℕ) → List (Call T) → Plain → Type 0
-AreTaken greatest number = EachIsTaken (after_call greatest number) IsTaken
+abbrev pub AreAccepted : {T : Type 0} → ℕ → (T → ℕ) → List (Call T) → Plain → Type 0
+AreAccepted greatest number = EachIsAccepted (after_call greatest number) IsAccepted
 
 -- a call takes one state to another
-abbrev pub CallTo : {T : Type 0} → (T → ℕ) → Grain → Call T → State → State → Type 0
+abbrev pub CallTo : {T : Type 0} → (T → ℕ) → Resolution → Call T → State → State → Type 0
 CallTo number g (Record v n) s t =
     (t.samples ≡ s.samples ++ replicate (number n) v) × (t.high ≡ high_with g s.high v (reach_of g v))
 CallTo number g (Clamp v n) s t =
@@ -74,7 +74,7 @@ CallTo number g (Add source) s t = AddTo g source.now s t
 CallTo number g (AddCorrect source i) s t = AddCorrectedTo g source.now i s t
 
 -- a run of calls takes one state to another, and after each call the samples fit
-abbrev pub CallsTo : {T : Type 0} → (T → ℕ) → Grain → (List ℕ → Type 0) → List (Call T) → State → State → Type 0
+abbrev pub CallsTo : {T : Type 0} → (T → ℕ) → Resolution → (List ℕ → Type 0) → List (Call T) → State → State → Type 0
 CallsTo number g fits = EachTo (CallTo number g) fits
 
 -- the number of n calls that were done

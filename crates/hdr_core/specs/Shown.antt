@@ -1,6 +1,6 @@
 -- A histogram's fields, as the numbers that contracts speak of. (Our own: so that no contract names a field.)
 use Rattle.std.specs.Prelude.{◌≡◌, ℕ, ◌-◌, ◌^◌}
-use Rattle.hdr_base.specs.Classes.{grain_of}
+use Rattle.hdr_base.specs.Classes.{resolution_of}
 use Rattle.hdr_model.specs.Plain.{Plain, IsPlain}
 use Rattle.hdr_core.specs.declared.histogram.Histogram.TheInside.{Inside}
 
@@ -19,6 +19,6 @@ plain_of h = record {
 -- what is true of the fields: the scale is that of the bounds, a block is half of the first bucket, and the numbers are a
 -- histogram's
 pub record IsHeld {T : Type 0} (greatest : ℕ) (h : Inside T) : Type 0 where
-  pub scale : h.scale ≡ grain_of h.low h.sigfig
-  pub block : h.counts.block ≡ 2 ^ ((grain_of h.low h.sigfig).digits - 1)
+  pub scale : h.scale ≡ resolution_of h.low h.sigfig
+  pub block : h.counts.block ≡ 2 ^ ((resolution_of h.low h.sigfig).digits - 1)
   pub plain : IsPlain greatest (plain_of h)

@@ -1,10 +1,10 @@
 //! Calls as values, and runs of them.
 
 ghost use Rattle.std.specs.Prelude.{◌≡◌, ◌<◌, OnOk, IfErr, length, take, slice_get, IfSome};
-ghost use Rattle.hdr_model.specs.Plain.{grain};
+ghost use Rattle.hdr_model.specs.Plain.{resolution};
 ghost use Rattle.hdr_model.specs.Samples.{Fits};
 ghost use Rattle.hdr_model.specs.Runs.{StandsAt, State};
-ghost use Rattle.hdr_core.specs.Calls.{after_call, after_calls, IsTaken, AreTaken, RefusesCall, CallTo, CallsTo, calls_done};
+ghost use Rattle.hdr_core.specs.Calls.{after_call, after_calls, IsAccepted, AreAccepted, IsCallError, CallTo, CallsTo, calls_done};
 
 use crate::histogram::Histogram;
 use hdr_base::Counter;
@@ -53,14 +53,14 @@ impl<T: Counter> Histogram<T> {
     #[inline(always)]
     pub fn apply(&mut self, call: &Call<'_, T>) -> Result<(), CallError>
         ensures ok { OnOk result (self.new ≡ after_call T.greatest T.number call.now self.old) }
-        ensures same_classes { grain self.new ≡ grain self.old }
+        ensures same_classes { resolution self.new ≡ resolution self.old }
         ensures samples { OnOk result ((s t : State) → StandsAt self.old s → CallTo T.number
-            (grain self.old) call.now s t
-            → Fits T.greatest (grain self.old) t.samples → StandsAt self.new t) }
+            (resolution self.old) call.now s t
+            → Fits T.greatest (resolution self.old) t.samples → StandsAt self.new t) }
         ensures same_bounds { (self.new.low ≡ self.old.low) × (self.new.sigfig ≡ self.old.sigfig)
             × (self.new.auto_resize ≡ self.old.auto_resize) }
-        ensures can { OnOk result (IsTaken self.old call.now) }
-        ensures refused { IfErr result (λ e. RefusesCall self.old call.now e
+        ensures accepted { OnOk result (IsAccepted self.old call.now) }
+        ensures err { IfErr result (λ e. IsCallError self.old call.now e
             × (self.new ≡ self.old)) }
     {
         match call {
@@ -103,14 +103,14 @@ impl<T: Counter> Histogram<T> {
         ensures done { self.new ≡ after_calls T.greatest T.number
             (take (calls_done result (length calls.now)) calls.now) self.old }
         ensures samples { (s t : State) → StandsAt self.old s
-            → CallsTo T.number (grain self.old) (Fits T.greatest (grain self.old))
+            → CallsTo T.number (resolution self.old) (Fits T.greatest (resolution self.old))
             (take (calls_done result (length calls.now)) calls.now) s t → StandsAt self.new t }
         ensures same_bounds { (self.new.low ≡ self.old.low) × (self.new.sigfig ≡ self.old.sigfig)
             × (self.new.auto_resize ≡ self.old.auto_resize) }
-        ensures can { AreTaken T.greatest T.number
+        ensures accepted { AreAccepted T.greatest T.number
             (take (calls_done result (length calls.now)) calls.now) self.old }
-        ensures refused { IfErr result (λ e. IfSome (slice_get calls.now e.at)
-            (λ call. RefusesCall self.new call e.cause)) }
+        ensures err { IfErr result (λ e. IfSome (slice_get calls.now e.at)
+            (λ call. IsCallError self.new call e.cause)) }
         ensures at { IfErr result (λ e. e.at < length calls.now) }
     {
         for (at, call) in calls.iter().enumerate() {

@@ -1,11 +1,11 @@
 //! Calls as values whose sources may count in another type, and runs of them.
 
 ghost use Rattle.std.specs.Prelude.{◌≡◌, ◌<◌, OnOk, IfErr, length, take, slice_get, IfSome};
-ghost use Rattle.hdr_model.specs.Plain.{grain};
+ghost use Rattle.hdr_model.specs.Plain.{resolution};
 ghost use Rattle.hdr_model.specs.Samples.{Fits};
 ghost use Rattle.hdr_model.specs.Runs.{State, StandsAt};
 ghost use Rattle.hdr_core.specs.Calls.{calls_done};
-ghost use Rattle.hdr_core.specs.CallsFrom.{after_call_from, after_calls_from, IsTakenFrom, AreTakenFrom, RefusesCallFrom, CallFromTo, CallsFromTo};
+ghost use Rattle.hdr_core.specs.CallsFrom.{after_call_from, after_calls_from, IsAcceptedFrom, AreAcceptedFrom, IsCallFromError, CallFromTo, CallsFromTo};
 
 use crate::call::{Call, CallError, RunError};
 use crate::histogram::Histogram;
@@ -27,14 +27,14 @@ impl<T: Counter> Histogram<T> {
     fn apply_from<F: Counter>(&mut self, call: &CallFrom<'_, T, F>) -> Result<(), CallError>
         ensures ok { OnOk result (self.new
             ≡ after_call_from T.greatest T.number call.now self.old) }
-        ensures same_classes { grain self.new ≡ grain self.old }
+        ensures same_classes { resolution self.new ≡ resolution self.old }
         ensures samples { OnOk result ((s t : State) → StandsAt self.old s → CallFromTo T.number
-            (grain self.old) call.now s t
-            → Fits T.greatest (grain self.old) t.samples → StandsAt self.new t) }
+            (resolution self.old) call.now s t
+            → Fits T.greatest (resolution self.old) t.samples → StandsAt self.new t) }
         ensures same_bounds { (self.new.low ≡ self.old.low) × (self.new.sigfig ≡ self.old.sigfig)
             × (self.new.auto_resize ≡ self.old.auto_resize) }
-        ensures can { OnOk result (IsTakenFrom self.old call.now) }
-        ensures refused { IfErr result (λ e. RefusesCallFrom self.old call.now e
+        ensures accepted { OnOk result (IsAcceptedFrom self.old call.now) }
+        ensures err { IfErr result (λ e. IsCallFromError self.old call.now e
             × (self.new ≡ self.old)) }
     {
         match call {
@@ -62,14 +62,14 @@ impl<T: Counter> Histogram<T> {
         ensures done { self.new ≡ after_calls_from T.greatest T.number
             (take (calls_done result (length calls.now)) calls.now) self.old }
         ensures samples { (s t : State) → StandsAt self.old s
-            → CallsFromTo T.number (grain self.old) (Fits T.greatest (grain self.old))
+            → CallsFromTo T.number (resolution self.old) (Fits T.greatest (resolution self.old))
             (take (calls_done result (length calls.now)) calls.now) s t → StandsAt self.new t }
         ensures same_bounds { (self.new.low ≡ self.old.low) × (self.new.sigfig ≡ self.old.sigfig)
             × (self.new.auto_resize ≡ self.old.auto_resize) }
-        ensures can { AreTakenFrom T.greatest T.number
+        ensures accepted { AreAcceptedFrom T.greatest T.number
             (take (calls_done result (length calls.now)) calls.now) self.old }
-        ensures refused { IfErr result (λ e. IfSome (slice_get calls.now e.at)
-            (λ call. RefusesCallFrom self.new call e.cause)) }
+        ensures err { IfErr result (λ e. IfSome (slice_get calls.now e.at)
+            (λ call. IsCallFromError self.new call e.cause)) }
         ensures at { IfErr result (λ e. e.at < length calls.now) }
     {
         for (at, call) in calls.iter().enumerate() {

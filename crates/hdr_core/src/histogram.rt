@@ -1,16 +1,16 @@
 //! The histogram: constructors and properties.
 
 ghost use Rattle.std.specs.Prelude.{◌≡◌, ◌↔◌, MatchResult, MatchOption, IsTrue, false, true, ◌+◌, ◌*◌, ◌<◌, ◌≤◌, IfSome, SomeIff, IfErr, length, map, slice_index, unwrap_or};
-ghost use Rattle.hdr_base.specs.Classes.{most_bins, bin_of, bucket, grain_of, value_of, top_of};
-ghost use Rattle.hdr_model.specs.Plain.{IsPlain, grain, reach, block_of, empty_plain, max_of, min_nz_of, min_of};
-ghost use Rattle.hdr_model.specs.Refusals.{RefusesBounds, IsBounds, IsBeyondLow};
+ghost use Rattle.hdr_base.specs.Classes.{most_bins, bin_of, bucket, resolution_of, value_of, top_of};
+ghost use Rattle.hdr_model.specs.Plain.{IsPlain, resolution, reach, block_of, empty_plain, max_of, min_nz_of, min_of};
+ghost use Rattle.hdr_model.specs.Refusals.{IsCreationError, IsBounds, IsBeyondLow};
 ghost use Rattle.hdr_model.specs.Merging.{highest_top};
 
+mod builder;
 mod classes;
 mod copying;
 mod correction;
 mod equality;
-mod filling;
 mod growing;
 mod iterating;
 mod merging;
@@ -22,7 +22,7 @@ mod subtracting;
 mod values;
 
 use crate::marks::Marks;
-pub use filling::Filling;
+pub use builder::HistogramBuilder;
 use hdr_base::{Counter, Scale};
 use hdr_counts::Counts;
 use hdr_model::CreationError;
@@ -74,7 +74,7 @@ impl<T: Counter> Histogram<T> {
         sigfig: u8,
     ) -> Result<Histogram<T>, CreationError>
         ensures made { MatchResult result (λ h. (h ≡ empty_plain low high sigfig false)
-            × IsBounds low high sigfig) (RefusesBounds low high sigfig) }
+            × IsBounds low high sigfig) (IsCreationError low high sigfig) }
         ensures beyond { IfErr result (IsBeyondLow low) }
     {
         let scale = scale_for(low, high, sigfig)?;
@@ -96,7 +96,7 @@ impl<T: Counter> Histogram<T> {
     /// As `new_with_bounds` with `low` 1: `high` is at least 2, and `sigfig` 0 to 5.
     pub fn new_with_max(alloc: Global, high: u64, sigfig: u8) -> Result<Histogram<T>, CreationError>
         ensures made { MatchResult result (λ h. (h ≡ empty_plain 1 high sigfig false)
-            × IsBounds 1 high sigfig) (RefusesBounds 1 high sigfig) }
+            × IsBounds 1 high sigfig) (IsCreationError 1 high sigfig) }
         ensures beyond { IfErr result (IsBeyondLow 1) }
     {
         Histogram::new_with_bounds(alloc, 1, high, sigfig)
@@ -108,7 +108,7 @@ impl<T: Counter> Histogram<T> {
     #[tactic(auto, unfolding(hdr_model::specs::Plain::empty_plain))]
     pub fn new(alloc: Global, sigfig: u8) -> Result<Histogram<T>, CreationError>
         ensures made { MatchResult result (λ h. (h ≡ empty_plain 1 2 sigfig true)
-            × IsBounds 1 2 sigfig) (RefusesBounds 1 2 sigfig) }
+            × IsBounds 1 2 sigfig) (IsCreationError 1 2 sigfig) }
         ensures beyond { IfErr result (IsBeyondLow 1) }
     {
         let mut histogram = Histogram::new_with_bounds(alloc, 1, 2, sigfig)?;
@@ -126,8 +126,8 @@ impl<T: Counter> Histogram<T> {
     /// The number of bins, one for each class from 0 to the reach.
     pub fn distinct_values(&self) -> usize
         ensures value { result ≡ length self.now.counts }
-        ensures blocks { result ≡ (bucket (grain self.now) self.now.high + 2) * block_of self.now }
-        ensures few { result ≤ most_bins }
+        ensures blocks { result ≡ (bucket (resolution self.now) self.now.high + 2) * block_of self.now }
+        ensures at_most { result ≤ most_bins }
         ensures plain { IsPlain T.greatest self.now }
     {
         self.counts.len()
@@ -183,7 +183,7 @@ impl<T: Counter> Histogram<T> {
 
     /// The number of buckets up to that of `high`, 1 to 64.
     pub fn buckets(&self) -> u8
-        ensures value { result ≡ bucket (grain self.now) self.now.high + 1 }
+        ensures value { result ≡ bucket (resolution self.now) self.now.high + 1 }
         ensures bound { result ≤ 64 }
     {
         self.scale.buckets(self.high) as u8
@@ -205,7 +205,7 @@ impl<T: Counter> Histogram<T> {
 
     /// Returns the index of the bin of `value`, or `None` if `value` is past the bins.
     pub fn bin_of(&self, value: u64) -> Option<usize>
-        ensures value { SomeIff result (value ≤ reach self.now) (bin_of (grain self.now) value) }
+        ensures value { SomeIff result (value ≤ reach self.now) (bin_of (resolution self.now) value) }
         ensures within { IfSome result (λ bin. bin < length self.now.counts) }
         ensures plain { IsPlain T.greatest self.now }
     {
@@ -220,8 +220,8 @@ impl<T: Counter> Histogram<T> {
     /// Returns the lowest value of the class of bin `index`, or `None` if `index` is past the bins.
     pub fn bin_value(&self, index: usize) -> Option<u64>
         ensures value { SomeIff result (index < length self.now.counts)
-            (value_of (grain self.now) index) }
-        ensures bin { IfSome result (λ v. bin_of (grain self.now) v ≡ index) }
+            (value_of (resolution self.now) index) }
+        ensures bin { IfSome result (λ v. bin_of (resolution self.now) v ≡ index) }
         ensures within { IfSome result (λ v. v ≤ reach self.now) }
     {
         if index < self.counts.len() {
@@ -254,7 +254,7 @@ impl<T: Counter> Histogram<T> {
     /// Returns the lowest value of the class of `bin`.
     fn class_value(&self, bin: usize) -> u64
         requires { bin < length self.now.counts }
-        ensures { result ≡ value_of (grain self.now) bin }
+        ensures { result ≡ value_of (resolution self.now) bin }
     {
         match self.scale.bin_value(bin) {
             Some(value) => value,
@@ -265,7 +265,7 @@ impl<T: Counter> Histogram<T> {
     /// Returns the greatest value of the class of `bin`.
     fn class_top(&self, bin: usize) -> u64
         requires { bin < length self.now.counts }
-        ensures { result ≡ top_of (grain self.now) (value_of (grain self.now) bin) }
+        ensures { result ≡ top_of (resolution self.now) (value_of (resolution self.now) bin) }
     {
         self.scale.top(self.class_value(bin))
     }
@@ -274,7 +274,7 @@ impl<T: Counter> Histogram<T> {
     /// class after it holds samples.
     pub fn max(&self) -> u64
         ensures value { result ≡ max_of self.now }
-        ensures bin { bin_of (grain self.now) result ≡ unwrap_or self.now.top_mark 0 }
+        ensures bin { bin_of (resolution self.now) result ≡ unwrap_or self.now.top_mark 0 }
         ensures within { result ≤ reach self.now }
         ensures covers { highest_top self.now ≤ result }
     {
@@ -310,8 +310,8 @@ impl<T: Counter> Histogram<T> {
 
 /// Returns the scale of a histogram's bounds, or an error for the first bound that does not hold.
 fn scale_for(low: u64, high: u64, sigfig: u8) -> Result<Scale, CreationError>
-    ensures made { MatchResult result (λ s. (s ≡ grain_of low sigfig) × IsBounds low high sigfig)
-        (RefusesBounds low high sigfig) }
+    ensures made { MatchResult result (λ s. (s ≡ resolution_of low sigfig) × IsBounds low high sigfig)
+        (IsCreationError low high sigfig) }
     ensures beyond { IfErr result (IsBeyondLow low) }
 {
     if low < 1 {

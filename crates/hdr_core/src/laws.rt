@@ -2,7 +2,7 @@
 //! of no call are in `hdr_model`.
 
 ghost use Rattle.std.specs.Prelude.{◌≡◌, ℕ};
-ghost use Rattle.hdr_model.specs.Plain.{Plain, IsPlain, grain};
+ghost use Rattle.hdr_model.specs.Plain.{Plain, IsPlain, resolution};
 ghost use Rattle.hdr_model.specs.Samples.{Fits};
 ghost use Rattle.hdr_model.specs.Runs.{StandsAt, StandsWhereFits, State};
 ghost use Rattle.hdr_core.specs.Calls.{after_call, CallTo, IsCallOf};
@@ -23,13 +23,13 @@ pub fn calls_stand<T: Counter>()
     ensures plain { (most : ℕ) (h : Plain) (call : Call T) → IsCallOf most call
         → IsPlain T.greatest h → IsPlain T.greatest (after_call T.greatest T.number call h) }
     ensures classes { (most : ℕ) (h : Plain) (call : Call T) → IsCallOf most call
-        → grain (after_call T.greatest T.number call h) ≡ grain h }
+        → resolution (after_call T.greatest T.number call h) ≡ resolution h }
     ensures samples { (most : ℕ) (h : Plain) (call : Call T) (s t : State) → IsCallOf most call
         → IsPlain T.greatest h → StandsAt h s
-        → CallTo T.number (grain h) call s t → Fits T.greatest (grain h) t.samples
+        → CallTo T.number (resolution h) call s t → Fits T.greatest (resolution h) t.samples
         → StandsAt (after_call T.greatest T.number call h) t }
     ensures wherever { (most : ℕ) (h : Plain) (call : Call T) (s t : State) → IsCallOf most call
         → IsPlain T.greatest h → StandsWhereFits T.greatest h s
-        → CallTo T.number (grain h) call s t
+        → CallTo T.number (resolution h) call s t
         → StandsWhereFits T.greatest (after_call T.greatest T.number call h) t }
 {}

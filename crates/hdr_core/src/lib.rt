@@ -14,4 +14,4 @@ pub use hdr_base::{Counter, Fraction, IterationValue, Quantile, Ticks};
 pub use hdr_model::{
     AdditionError, CreationError, RecordError, SubtractionError, UsizeTypeTooSmall, errors,
 };
-pub use histogram::{Filling, Histogram, Values};
+pub use histogram::{Histogram, HistogramBuilder, Values};

@@ -65,7 +65,7 @@ fn add_section<T: Counter, F: Counter>(
     more: u128,
 ) -> u128
     requires len { length counters.old ≡ length source.now }
-    requires few { length counters.old ≤ most_bins }
+    requires at_most { length counters.old ≤ most_bins }
     requires sum { had ≡ sum (map T.number counters.old) }
     requires more { more ≡ sum (map F.number source.now) }
     requires fits { had + more < 2 ^ 128 }

@@ -14,7 +14,7 @@ impl<T: Counter> Counts<T> {
     /// Returns the index of the last nonzero counter. A section whose sum is 0 is skipped.
     pub fn last_nonzero(&self) -> Option<usize>
         ensures within { IfSome result (λ m. m < most_bins) }
-        ensures place { MatchOption result ((i : ℕ) → slice_index self.now.numbers i ≡ 0)
+        ensures index { MatchOption result ((i : ℕ) → slice_index self.now.numbers i ≡ 0)
             (λ m. (0 < slice_index self.now.numbers m)
             × ((i : ℕ) → m < i → slice_index self.now.numbers i ≡ 0)) }
     {
@@ -24,7 +24,7 @@ impl<T: Counter> Counts<T> {
     /// Returns the index of the first nonzero counter after counter 0.
     pub fn next_nonzero(&self) -> Option<usize>
         ensures within { IfSome result (λ m. (0 < m) × (m < most_bins)) }
-        ensures place { MatchOption result ((i : ℕ) → 0 < i → slice_index self.now.numbers i ≡ 0)
+        ensures index { MatchOption result ((i : ℕ) → 0 < i → slice_index self.now.numbers i ≡ 0)
             (λ m. (0 < slice_index self.now.numbers m)
             × ((i : ℕ) → 0 < i → i < m → slice_index self.now.numbers i ≡ 0)) }
     {
@@ -95,7 +95,7 @@ impl<T: Counter> Counts<T> {
 fn last_place<T: Counter>(counters: &[T], sums: &[u128], section: usize) -> Option<usize>
     requires { AreSums section (map T.number counters.now) sums.now }
     ensures within { IfSome result (λ m. m < most_bins) }
-    ensures place { MatchOption result (AreZeros (map T.number counters.now))
+    ensures index { MatchOption result (AreZeros (map T.number counters.now))
         (IsLastNonzero (map T.number counters.now)) }
 {
     for passed in 0..sums.len() {
@@ -112,7 +112,7 @@ fn last_place<T: Counter>(counters: &[T], sums: &[u128], section: usize) -> Opti
 pub(crate) fn last_of<T: Counter>(counters: &[T], most: u128) -> Option<usize>
     requires { sum (map T.number counters.now) ≤ most }
     ensures within { IfSome result (λ m. m < length counters.now) }
-    ensures place { MatchOption result (AreZeros (map T.number counters.now))
+    ensures index { MatchOption result (AreZeros (map T.number counters.now))
         (IsLastNonzero (map T.number counters.now)) }
 {
     if most == 0 {
@@ -131,7 +131,7 @@ pub(crate) fn last_of<T: Counter>(counters: &[T], most: u128) -> Option<usize>
 fn first_of<T: Counter>(counters: &[T], most: u128) -> Option<usize>
     requires { sum (map T.number counters.now) ≤ most }
     ensures within { IfSome result (λ m. m < length counters.now) }
-    ensures place { MatchOption result (AreZeros (map T.number counters.now))
+    ensures index { MatchOption result (AreZeros (map T.number counters.now))
         (IsFirstNonzero (map T.number counters.now)) }
 {
     if most == 0 {
@@ -144,7 +144,7 @@ fn first_of<T: Counter>(counters: &[T], most: u128) -> Option<usize>
 #[inline]
 pub(crate) fn first_nonzero<T: Counter>(counters: &[T]) -> Option<usize>
     ensures within { IfSome result (λ m. m < length counters.now) }
-    ensures place { MatchOption result (AreZeros (map T.number counters.now))
+    ensures index { MatchOption result (AreZeros (map T.number counters.now))
         (IsFirstNonzero (map T.number counters.now)) }
 {
     for (i, counter) in counters.iter().enumerate() {

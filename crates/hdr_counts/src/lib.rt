@@ -3,8 +3,8 @@
 
 mod adding;
 mod clearing;
+mod counts_builder;
 mod ends;
-mod open_counts;
 mod search;
 mod sections;
 
@@ -14,10 +14,10 @@ ghost use Rattle.hdr_counts.specs.Blocks.{Blocks, sum_below, IsFirstToReach, loo
 
 use adding::add_sections;
 use clearing::clear_sections;
+pub use counts_builder::CountsBuilder;
 use hdr_base::{Counter, Ticks};
-pub use open_counts::OpenCounts;
 pub use search::Search;
-use search::{first_reaching, first_reaching_looked, look_block};
+use search::{look_block, position_of_rank, position_of_rank_counted};
 use std::alloc::{AllocError, Global};
 use std::marker::Model;
 
@@ -51,8 +51,8 @@ impl<T: Counter> Model for Counts<T> {
 impl<T: Counter> Counts<T> {
     /// Returns `blocks * block` counters of 0. Returns an error only if an allocation fails.
     pub fn new(alloc: Global, blocks: usize, block: usize) -> Result<Counts<T>, AllocError>
-        requires some { 1 ≤ block }
-        requires few { blocks * block ≤ most_bins }
+        requires nonzero { 1 ≤ block }
+        requires at_most { blocks * block ≤ most_bins }
         ensures { IfOk result (λ c. c
             ≡ record { block = block; numbers = replicate (blocks * block) 0 }) }
     {
@@ -76,7 +76,7 @@ impl<T: Counter> Counts<T> {
     /// fails; `self` is then unchanged.
     pub fn grow(&mut self, blocks: usize) -> Result<(), AllocError>
         requires more { length self.old.numbers ≤ blocks * self.old.block }
-        requires few { blocks * self.old.block ≤ most_bins }
+        requires at_most { blocks * self.old.block ≤ most_bins }
         ensures { MatchResult result (λ _. self.new
             ≡ record {
               block = self.old.block;
@@ -121,7 +121,7 @@ impl<T: Counter> Counts<T> {
     /// The number of counters.
     pub fn len(&self) -> usize
         ensures value { result ≡ length self.now.numbers }
-        ensures few { length self.now.numbers ≤ most_bins }
+        ensures at_most { length self.now.numbers ≤ most_bins }
         ensures fit { All (λ n. n ≤ T.greatest) self.now.numbers }
     {
         self.counters.len()
@@ -209,9 +209,9 @@ impl<T: Counter> Counts<T> {
     /// then grows by one for each counter of that block up to the index. For `None`, each block's
     /// sum was read. A block's sum is added up from those of its sections, and costs one tick.
     pub fn find(&self, rank: u64, ticks: &mut Ticks) -> Option<usize>
-        requires some { 1 ≤ rank }
-        requires room { ticks.old ≤ 2 ^ 63 }
-        ensures place { MatchOption result (sum self.now.numbers < rank)
+        requires nonzero { 1 ≤ rank }
+        requires ticks_fit { ticks.old ≤ 2 ^ 63 }
+        ensures index { MatchOption result (sum self.now.numbers < rank)
             (IsFirstToReach self.now.numbers rank) }
         ensures ticks { ticks.new ≡ ticks.old + looks self.now.block (length self.now.numbers)
             result }
@@ -224,7 +224,7 @@ impl<T: Counter> Counts<T> {
             if sum >= u128::from(rest) {
                 let from = k * self.block;
                 let counters = &self.counters[from..from + self.block];
-                let place = first_reaching_looked(counters, rest, ticks)?;
+                let place = position_of_rank_counted(counters, rest, ticks)?;
                 return Some(from + place);
             }
             rest -= sum as u64;
@@ -233,12 +233,12 @@ impl<T: Counter> Counts<T> {
     }
 
     /// As `find`, without ticks: returns the first index at which the running sum reaches `rank`.
-    pub fn first_reaching(&self, rank: u64) -> Option<usize>
+    pub fn position_of_rank(&self, rank: u64) -> Option<usize>
         requires { 1 ≤ rank }
         ensures { MatchOption result (sum self.now.numbers < rank)
             (IsFirstToReach self.now.numbers rank) }
     {
-        Search::new(self).first_reaching(rank)
+        Search::new(self).next_position(rank)
     }
 
     /// Returns the sum of section `k`, or `None` past the sections.
@@ -247,7 +247,7 @@ impl<T: Counter> Counts<T> {
             (λ s. (sum_below self.now.numbers (k * section_of self.now.block) + s ≡ sum_below self.now.numbers
             ((k + 1) * section_of self.now.block)) × ((k + 1) * section_of self.now.block ≤ length self.now.numbers)) }
         ensures inside { IfSome result (λ _. k < length self.now.numbers) }
-        ensures few { length self.now.numbers ≤ most_bins }
+        ensures at_most { length self.now.numbers ≤ most_bins }
     {
         if k < self.sums.len() {
             Some(self.sums[k])
@@ -259,7 +259,7 @@ impl<T: Counter> Counts<T> {
     /// Returns the first index at which the running sum reaches `rest` more than the sum before
     /// section `k`. It lies in that section.
     fn first_in_section(&self, k: usize, rest: u64) -> usize
-        requires some { 1 ≤ rest }
+        requires nonzero { 1 ≤ rest }
         requires within { (k + 1) * section_of self.now.block ≤ length self.now.numbers }
         requires reached { sum_below self.now.numbers (k * section_of self.now.block) + rest
             ≤ sum_below self.now.numbers ((k + 1) * section_of self.now.block) }
@@ -267,7 +267,7 @@ impl<T: Counter> Counts<T> {
             (sum_below self.now.numbers (k * section_of self.now.block) + rest) result }
     {
         let from = k * self.section;
-        match first_reaching(
+        match position_of_rank(
             &self.counters[from..from + self.section],
             rest,
             self.sums[k],
@@ -302,7 +302,7 @@ impl<T: Counter> Counts<T> {
 fn section_len(block: usize) -> usize
     requires { 1 ≤ block }
     ensures value { result ≡ section_of block }
-    ensures some { 1 ≤ result }
+    ensures nonzero { 1 ≤ result }
 {
     let short = part_len(block, 1024, 256, block);
     let medium = part_len(block, 16_384, 1024, short);
@@ -324,9 +324,9 @@ fn part_len(block: usize, least: usize, section: usize, otherwise: usize) -> usi
 
 /// Returns the number of sections of `blocks` blocks.
 fn sections_in(blocks: usize, block: usize, section: usize) -> usize
-    requires some { 1 ≤ block }
+    requires nonzero { 1 ≤ block }
     requires section { section ≡ section_of block }
-    requires few { blocks * block ≤ most_bins }
+    requires at_most { blocks * block ≤ most_bins }
     ensures { result * section ≡ blocks * block }
 {
     blocks * (block / section)
@@ -360,7 +360,7 @@ fn exchanged(sum: u128, old: u64, new: u64) -> u128
 
 /// Returns `place / section`, by a shift if `section` is a power of two.
 fn quotient(place: usize, section: usize, shift: Option<u32>) -> usize
-    requires some { 1 ≤ section }
+    requires nonzero { 1 ≤ section }
     requires shift { IsShift section shift }
     ensures { result ≡ place / section }
 {

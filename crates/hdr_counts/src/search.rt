@@ -45,11 +45,11 @@ impl<'a, T: Counter> Search<'a, T> {
 
     /// Returns the first index at which the running sum reaches `rank`, or `None` if there is none.
     /// `rank` is above the sum of the sections that were skipped.
-    pub fn first_reaching(&mut self, rank: u64) -> Option<usize>
+    pub fn next_position(&mut self, rank: u64) -> Option<usize>
         requires { self.old.passed < rank }
         ensures numbers { self.new.numbers ≡ self.old.numbers }
         ensures passed { self.new.passed < rank }
-        ensures place { MatchOption result (sum self.old.numbers < rank)
+        ensures index { MatchOption result (sum self.old.numbers < rank)
             (IsFirstToReach self.old.numbers rank) }
     {
         let counts = self.counts;
@@ -76,7 +76,7 @@ const FEW: usize = 64;
 /// Returns the sum of a block, which is that of the sums of its sections, and counts one tick.
 pub(crate) fn look_block(sums: &[u128], ticks: &mut Ticks) -> u128
     requires fits { sum sums.now < 2 ^ 128 }
-    requires room { ticks.old < 2 ^ 64 - 1 }
+    requires ticks_fit { ticks.old < 2 ^ 64 - 1 }
     ensures value { result ≡ sum sums.now }
     ensures counted { ticks.new ≡ ticks.old + 1 }
 {
@@ -108,14 +108,14 @@ fn sum_of_sums(sums: &[u128]) -> u128
 
 /// Returns the first index at which the running sum reaches `rest`, or `None` if there is none.
 /// Counts one tick for each counter that is read.
-pub(crate) fn first_reaching_looked<T: Counter>(
+pub(crate) fn position_of_rank_counted<T: Counter>(
     counters: &[T],
     mut rest: u64,
     ticks: &mut Ticks,
 ) -> Option<usize>
-    requires some { 1 ≤ rest }
-    requires room { ticks.old + length counters.now < 2 ^ 64 }
-    ensures place { MatchOption result (sum (map T.number counters.now) < rest)
+    requires nonzero { 1 ≤ rest }
+    requires ticks_fit { ticks.old + length counters.now < 2 ^ 64 }
+    ensures index { MatchOption result (sum (map T.number counters.now) < rest)
         (IsFirstToReach (map T.number counters.now) rest) }
     ensures ticks { MatchOption result (ticks.new ≡ ticks.old + length counters.now)
         (λ i. ticks.new ≡ ticks.old + i + 1) }
@@ -132,9 +132,9 @@ pub(crate) fn first_reaching_looked<T: Counter>(
 
 /// Returns the first index at which the running sum reaches `rest`, or `None` if there is none.
 /// `whole` is the sum of all counters. If it fits a `u64`, `FEW` counters are added up at once.
-pub(crate) fn first_reaching<T: Counter>(counters: &[T], rest: u64, whole: u128) -> Option<usize>
-    requires some { 1 ≤ rest }
-    requires few { length counters.now ≤ most_bins }
+pub(crate) fn position_of_rank<T: Counter>(counters: &[T], rest: u64, whole: u128) -> Option<usize>
+    requires nonzero { 1 ≤ rest }
+    requires at_most { length counters.now ≤ most_bins }
     requires whole { whole ≡ sum (map T.number counters.now) }
     ensures { MatchOption result (sum (map T.number counters.now) < rest)
         (IsFirstToReach (map T.number counters.now) rest) }
@@ -147,8 +147,8 @@ pub(crate) fn first_reaching<T: Counter>(counters: &[T], rest: u64, whole: u128)
 }
 
 fn by_few<T: Counter>(counters: &[T], mut rest: u64) -> Option<usize>
-    requires some { 1 ≤ rest }
-    requires few { length counters.now ≤ most_bins }
+    requires nonzero { 1 ≤ rest }
+    requires at_most { length counters.now ≤ most_bins }
     requires fits { sum (map T.number counters.now) < 2 ^ 64 }
     ensures { MatchOption result (sum (map T.number counters.now) < rest)
         (IsFirstToReach (map T.number counters.now) rest) }

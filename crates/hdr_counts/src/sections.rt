@@ -29,7 +29,7 @@ impl<T: Counter> Counts<T> {
 
 /// Returns the sum of `part`, in 64 bits if `whole` fits them. `whole` is at least that sum.
 pub(crate) fn part_sum<T: Counter>(part: &[T], whole: u128) -> u128
-    requires few { length part.now ≤ most_bins }
+    requires at_most { length part.now ≤ most_bins }
     requires within { sum (map T.number part.now) ≤ whole }
     ensures { result ≡ sum (map T.number part.now) }
 {

@@ -3,8 +3,8 @@ use Rattle.std.proofs.Common.{◌≡◌, ℕ, ◌-◌, ◌^◌, ◌<◌, ◌≤�
 use Rattle.std.specs.List.{All}
 use Rattle.std.proofs.lemmas.List.Elements.{All-nil, All-cons, All-head, All-tail, All-append}
 use Rattle.std.proofs.lemmas.List.Sums.{count_by-le-length}
-use Rattle.hdr_base.specs.Classes.{Grain, bin_of}
-use Rattle.hdr_model.specs.Plain.{Plain, grain, reach}
+use Rattle.hdr_base.specs.Classes.{Resolution, bin_of}
+use Rattle.hdr_model.specs.Plain.{Plain, resolution, reach}
 use Rattle.hdr_model.specs.Samples.{StandsFor, Fits, in_class}
 use Rattle.hdr_model.proofs.MergingStands.{in_class-append, StandsFor-swap}
 
@@ -16,7 +16,7 @@ all_behind : (P : ℕ → Type 0) (A B : List ℕ) → All P (A ++ B) → All P 
 all_behind P [] B h = h
 all_behind P (x ∷ A) B h = all_behind P A B (All-tail P x (A ++ B) h)
 
-in_class-exchange : (g : Grain) (i : ℕ) (A B : List ℕ) → in_class g i (A ++ B) ≡ in_class g i (B ++ A)
+in_class-exchange : (g : Resolution) (i : ℕ) (A B : List ℕ) → in_class g i (A ++ B) ≡ in_class g i (B ++ A)
 in_class-exchange g i A B = omega (arith, in_class-append g i A B, in_class-append g i B A)
 
 pub length-exchange : (A B : List ℕ) → length (A ++ B) ≡ length (B ++ A)
@@ -26,11 +26,11 @@ length-exchange A B = omega (arith, length-append A B, length-append B A)
 pub stands_exchanged : (h : Plain) (A B : List ℕ) → StandsFor h (A ++ B) → StandsFor h (B ++ A)
 stands_exchanged h A B s =
     let P : ℕ → Type 0 = λ x. x ≤ reach h in
-    StandsFor-swap h (A ++ B) (B ++ A) (λ i. in_class-exchange (grain h) i A B) (length-exchange A B)
+    StandsFor-swap h (A ++ B) (B ++ A) (λ i. in_class-exchange (resolution h) i A B) (length-exchange A B)
     (All-append P B A (all_behind P A B s.within) (all_front P A B s.within)) s
 
 -- counters of 64 bits hold as many samples as 64 bits count
-pub fits_by_length : (g : Grain) (S : List ℕ) → length S < 2 ^ 64 → Fits (2 ^ 64 - 1) g S
+pub fits_by_length : (g : Resolution) (S : List ℕ) → length S < 2 ^ 64 → Fits (2 ^ 64 - 1) g S
 fits_by_length g S few = record {
   in_all = few;
   in_classes = λ i. omega (arith, few, count_by-le-length (λ s. eqb (bin_of g s) i) S);

@@ -51,7 +51,7 @@ fn write_sum<W: Write>(
     log: &mut IntervalLogWriter<'_, '_, W, V2Serializer>,
 ) -> Result<()>
     requires { divisor_of log.old ≡ 1 }
-    ensures same { IsSameLog log.old log.new }
+    ensures same_log { IsSameLog log.old log.new }
     ensures written { OnOk result ((sum : Plain) × (length : ℕ) × (text : List ℕ)
         × IsSumOf (field_of first.now ∷ map field_of others.now) sum
         × IsIntervalText IsV2 sum (option_map tag_text first.now.tag)

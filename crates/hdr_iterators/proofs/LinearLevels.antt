@@ -71,14 +71,14 @@ pub level_below : (h : Seen) (s j : ℕ) → AreBins h → 1 ≤ s → j < first
 level_below h s j p q l =
     let a : (j + 1) * s ≤ lowest_in h h.last = le_div (lowest_in h h.last) (j + 1) s q (omega (arith, l)) in
     let b : linear_level s j < lowest_in h h.last = omega (arith, a, q) in
-    omega (arith, before-class h.grain (linear_level s j) h.last p.digits b)
+    omega (arith, before-class h.resolution (linear_level s j) h.last p.digits b)
 
 -- the others are picked at its bin or after it
 pub level_not_below : (h : Seen) (s j : ℕ) → AreBins h → 1 ≤ s → first_end h s ≤ j → h.last ≤ place_of h (linear_level s j)
 level_not_below h s j p q l =
     let a : lowest_in h h.last < (j + 1) * s = lt_div (lowest_in h h.last) (j + 1) s q (omega (arith, l)) in
     let b : lowest_in h h.last ≤ linear_level s j = omega (arith, a, lowest-fits h h.last p p.last_inside) in
-    omega (arith, from-class h.grain (linear_level s j) h.last p.digits b, p.last_inside)
+    omega (arith, from-class h.resolution (linear_level s j) h.last p.digits b, p.last_inside)
 
 linear_end_fits : (h : Seen) (s : ℕ) → AreBins h → linear_end h s ≤ (2 ^ 64 - 1)
 linear_end_fits h s p = top-fits h (place_of h (linear_level s (first_end h s))) p (place-inside h (linear_level s (first_end h s)) p)

@@ -109,7 +109,7 @@ log_more h p b w l =
     ⊎_elim
     (λ (lt : p - 1 < lowest_in h h.last). lt)
     (λ (ge : lowest_in h h.last ≤ p - 1).
-    absurd (omega (arith, from-class h.grain (p - 1) h.last w.plain.digits ge, l, w.plain.last_inside)))
+    absurd (omega (arith, from-class h.resolution (p - 1) h.last w.plain.digits ge, l, w.plain.last_inside)))
     (cases_lt (p - 1) (lowest_in h h.last)) in
     let c = count_low h p b w low in
     let n : log_count h p b - 1 ≡ log_count h (capped (p * b)) b = omega (arith, c) in
@@ -124,7 +124,7 @@ log_last h p b w l =
     let high : lowest_in h h.last ≤ p - 1 =
     ⊎_elim
     (λ (lt : p - 1 < lowest_in h h.last).
-    absurd (omega (arith, before-class h.grain (p - 1) h.last w.plain.digits lt, l)))
+    absurd (omega (arith, before-class h.resolution (p - 1) h.last w.plain.digits lt, l)))
     (λ (ge : lowest_in h h.last ≤ p - 1). ge)
     (cases_lt (p - 1) (lowest_in h h.last)) in
     ap (λ q. map (λ j. level_pick h (log_level p b j)) (range_with_len 0 q)) (count_high h p b w high) ∙ ap (λ q. q ∷ []) (first_pick h p b w.fits)

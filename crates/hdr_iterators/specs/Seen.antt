@@ -1,11 +1,11 @@
 -- A histogram as its iterators see it. (The Rust crate's iterators hold the histogram itself; this crate is below it.)
 use Rattle.std.specs.Prelude.{◌≡◌, ℕ, ◌+◌, ◌-◌, ◌^◌, ◌<◌, ◌≤◌, min, List, length, take, sum, slice_index}
-use Rattle.hdr_base.specs.Classes.{most_bins, Grain, bin_of, value_of, top_of}
+use Rattle.hdr_base.specs.Classes.{most_bins, Resolution, bin_of, value_of, top_of}
 
 -- the classes, the number of each bin, how many samples there are, and the bin of the greatest value that counts as
 -- recorded: the first if there is none
 pub record Seen : Type 0 where
-  pub grain : Grain
+  pub resolution : Resolution
   pub numbers : List ℕ
   pub total : ℕ
   pub last : ℕ
@@ -19,14 +19,14 @@ bins_in h = length h.numbers
 
 -- the lowest and the greatest value of a bin
 abbrev pub lowest_in : Seen → ℕ → ℕ
-lowest_in h i = value_of h.grain i
+lowest_in h i = value_of h.resolution i
 
 abbrev pub top_in : Seen → ℕ → ℕ
-top_in h i = top_of h.grain (value_of h.grain i)
+top_in h i = top_of h.resolution (value_of h.resolution i)
 
 -- the bin of a value, or the last bin if the value lies past the bins
 abbrev pub place_of : Seen → ℕ → ℕ
-place_of h v = min (bin_of h.grain v) (bins_in h - 1)
+place_of h v = min (bin_of h.resolution v) (bins_in h - 1)
 
 -- the sum of the numbers before bin i
 abbrev pub below : Seen → ℕ → ℕ
@@ -40,9 +40,9 @@ running h i = capped (below h (i + 1))
 pub record AreBins (h : Seen) : Type 0 where
   pub some : 0 < length h.numbers
   pub few : length h.numbers ≤ most_bins
-  pub digits : 0 < h.grain.digits
-  pub grain_fits : h.grain.unit + h.grain.digits ≤ 63
-  pub within : length h.numbers ≤ bin_of h.grain (2 ^ 64 - 1) + 1
+  pub digits : 0 < h.resolution.digits
+  pub resolution_fits : h.resolution.unit + h.resolution.digits ≤ 63
+  pub within : length h.numbers ≤ bin_of h.resolution (2 ^ 64 - 1) + 1
   pub total_fits : h.total < 2 ^ 64
   pub counted : capped (sum h.numbers) ≤ h.total
   pub last_inside : h.last < length h.numbers

@@ -32,9 +32,9 @@ impl<'a, T: Counter> Model for Bins<'a, T> {
 
     ghost Value = { Seen };
 
-    ghost view = { λ b. record { grain = b.scale; numbers = b.counts.now.numbers; total = b.total; last = b.last } };
+    ghost view = { λ b. record { resolution = b.scale; numbers = b.counts.now.numbers; total = b.total; last = b.last } };
 
-    ghost invariant = { λ b. AreBins (record { grain = b.scale; numbers = b.counts.now.numbers; total = b.total; last = b.last }) };
+    ghost invariant = { λ b. AreBins (record { resolution = b.scale; numbers = b.counts.now.numbers; total = b.total; last = b.last }) };
 }
 
 impl<'a, T: Counter> Bins<'a, T> {
@@ -42,13 +42,13 @@ impl<'a, T: Counter> Bins<'a, T> {
     pub fn new(scale: Scale, counts: &'a Counts<T>, total: u64, last: usize) -> Bins<'a, T>
         requires { AreBins
             (record {
-              grain = scale;
+              resolution = scale;
               numbers = counts.now.numbers;
               total = total;
               last = last;
             }) }
         ensures { result ≡ record {
-          grain = scale;
+          resolution = scale;
           numbers = counts.now.numbers;
           total = total;
           last = last;
@@ -98,7 +98,7 @@ impl<'a, T: Counter> Bins<'a, T> {
     /// The counter of the first bin.
     pub(crate) fn first(&self) -> T
         ensures value { T.number result ≡ slice_index self.now.numbers 0 }
-        ensures some { 0 < bins_in self.now }
+        ensures nonempty { 0 < bins_in self.now }
     {
         self.counts.get(0)
     }

@@ -28,7 +28,7 @@ impl<'a, T: Counter> Iter<'a, T> {
         start: u64,
         base: u64,
     ) -> HistogramIterator<'a, T, Iter<'a, T>>
-        requires some { 1 ≤ start }
+        requires nonzero { 1 ≤ start }
         requires wide { 2 ≤ base }
         ensures { result ≡ items_of (H.seen histogram.now)
             (log_picks (H.seen histogram.now) start base) }

@@ -60,7 +60,7 @@ pub trait PickyIterator<T: Counter>: Drop {
 
     /// Whether more picks may follow after a pick at the last recorded bin or a later one.
     fn more(&mut self, index_to_pick: usize) -> bool
-        ensures kept { (h : Seen) (last : Option ℕ) → goes_with self.old h last
+        ensures goes_on { (h : Seen) (last : Option ℕ) → goes_with self.old h last
             → goes_with self.new h last × (picks self.new h ≡ picks self.old h) }
         ensures end { (h : Seen) (last : Option ℕ) → goes_with self.old h last → IsAtEnd h last
             → result ≡ false → picks self.old h ≡ [] };
@@ -187,7 +187,7 @@ fn has_ended<T: Counter, P: PickyIterator<T>>(
     last: usize,
     index: usize,
 ) -> bool
-    ensures kept { (h : Seen) (picked : Option ℕ) → P.goes_with picker.old h picked
+    ensures goes_on { (h : Seen) (picked : Option ℕ) → P.goes_with picker.old h picked
         → P.goes_with picker.new h picked × (P.picks picker.new h ≡ P.picks picker.old h) }
     ensures end { (h : Seen) → P.goes_with picker.old h last_picked_index → last ≡ h.last
         → IsTrue result → P.picks picker.old h ≡ [] }
@@ -202,7 +202,7 @@ fn has_ended<T: Counter, P: PickyIterator<T>>(
 /// other. Returns the number of bins if none is left.
 fn next_asked<T: Counter>(bins: &Bins<'_, T>, skips_empty: bool, index: usize) -> usize
     requires inside { index < bins_in bins.now }
-    requires room { index + 1 < 2 ^ 64 }
+    requires fits { index + 1 < 2 ^ 64 }
     ensures onward { index < result }
     ensures within { result ≤ bins_in bins.now }
     ensures empty { AreEmpty bins.now.numbers (index + 1) result }

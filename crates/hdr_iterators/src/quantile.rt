@@ -44,7 +44,7 @@ impl Tick {
     /// The denominator of the tick.
     fn whole(&self) -> u128
         ensures value { result ≡ (tick_of self.now.per_half self.now.number).den }
-        ensures some { 1 ≤ result }
+        ensures nonzero { 1 ≤ result }
     {
         u128::from(self.per_half) << (self.half + 1)
     }
@@ -53,7 +53,7 @@ impl Tick {
     fn left_after(&self) -> u128
         ensures value { (tick_of self.now.per_half self.now.number).num + result
             ≡ (tick_of self.now.per_half self.now.number).den }
-        ensures few { result < 2 ^ 33 }
+        ensures fits { result < 2 ^ 33 }
     {
         2 * u128::from(self.per_half) - u128::from(self.step)
     }
@@ -138,7 +138,7 @@ impl NextTick {
     fn is_within(&self, count: u64) -> bool
         requires { count < self.now.total }
         ensures value { result ≡ is_within self.now.per_half count self.now.total self.now.number }
-        ensures few { IsTrue result → self.now.number < 64 * self.now.per_half }
+        ensures below { IsTrue result → self.now.number < 64 * self.now.per_half }
     {
         count >= self.reached_at
     }

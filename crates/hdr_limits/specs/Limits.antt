@@ -3,7 +3,7 @@ use Rattle.std.specs.Prelude.{◌≡◌, ℕ, ◌-◌, ◌^◌, Bool, nat_lt, if
 use Rattle.std.specs.List.{flat_map}
 use Rattle.std.specs.Fmt.{decimal}
 use Rattle.hdr_model.specs.Plain.{Plain}
-use Rattle.hdr_model.specs.Quantiles.{quantile_of}
+use Rattle.hdr_model.specs.Quantiles.{value_at_quantile}
 use Rattle.hdrhistogram.specs.Chosen.{Every, Filter}
 use Rattle.hdrhistogram.specs.LogMerging.{Merges, IsMergedBy}
 use Rattle.hdr_limits.specs.declared.limit.Limit.{Limit}
@@ -14,12 +14,12 @@ every = record { tags = Every; from = None; to = None }
 
 -- the quantile of what was recorded is above the limit
 abbrev pub is_broken : Plain → Limit → Bool
-is_broken h l = nat_lt l.most (quantile_of h l.quantile)
+is_broken h l = nat_lt l.most (value_at_quantile h l.quantile)
 
 -- `NUM/DEN: VALUE above LIMIT` and a line end
 abbrev pub broken_line : Plain → Limit → List ℕ
 broken_line h l =
-    decimal l.quantile.num ++ codes "/" ++ decimal l.quantile.den ++ codes ": " ++ decimal (quantile_of h l.quantile) ++ codes " above " ++ decimal l.most ++ 10 ∷ []
+    decimal l.quantile.num ++ codes "/" ++ decimal l.quantile.den ++ codes ": " ++ decimal (value_at_quantile h l.quantile) ++ codes " above " ++ decimal l.most ++ 10 ∷ []
 
 -- the line of a limit that is broken, and nothing for any other limit
 abbrev pub told : Plain → Limit → List ℕ

@@ -1,7 +1,7 @@
 //! Limits, and the arguments that they are parsed from.
 
 ghost use Rattle.std.specs.Prelude.{◌≡◌, ◌≤◌, ◌<◌, ℕ, List, length, false};
-ghost use Rattle.hdr_model.specs.Quantiles.{quantile_of, ranked_sample};
+ghost use Rattle.hdr_model.specs.Quantiles.{value_at_quantile, ranked_sample};
 ghost use Rattle.hdr_model.specs.Samples.{StandsFor};
 ghost use Rattle.hdr_limits.specs.Limits.{is_broken};
 

@@ -2,7 +2,7 @@
 
 ghost use Rattle.std.specs.Prelude.{◌≡◌, ◌++◌, ◌-◌, ◌^◌, IfOk, OnOk, MatchResult, string_bytes};
 ghost use Rattle.std.specs.List.{flat_map};
-ghost use Rattle.hdrhistogram.specs.LogMerging.{RefusesMerge};
+ghost use Rattle.hdrhistogram.specs.LogMerging.{IsMergeError};
 ghost use Rattle.hdr_limits.specs.Limits.{every, told, IsVerdict};
 
 use crate::limit::Limit;
@@ -33,7 +33,7 @@ pub(crate) fn broken_limits(
 ) -> Result<Verdict, MergeError>
     ensures { MatchResult result (λ verdict. IsVerdict log.now limits.now
         (string_bytes verdict.text) verdict.intervals verdict.coarser)
-        (RefusesMerge (2 ^ 64 - 1) every 3 log.now) }
+        (IsMergeError (2 ^ 64 - 1) every 3 log.now) }
 {
     let every = IntervalChoice {
         tags: TagChoice::Every,

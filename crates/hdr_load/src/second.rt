@@ -48,7 +48,7 @@ pub(crate) fn answered<W: Write>(
     interval: u64,
 ) -> Result<()>
     requires { divisor_of log.old ≡ 1_000 }
-    ensures same { IsSameLog log.old log.new }
+    ensures same_log { IsSameLog log.old log.new }
     ensures recorded { OnOk result
         (second.new ≡ after_answer second.old (end / 1_000_000) response interval) }
     ensures written { OnOk result ((text : List ℕ)
@@ -70,7 +70,7 @@ pub(crate) fn write_second<W: Write>(
     log: &mut IntervalLogWriter<'_, '_, W, V2Serializer>,
 ) -> Result<()>
     requires { divisor_of log.old ≡ 1_000 }
-    ensures same { IsSameLog log.old log.new }
+    ensures same_log { IsSameLog log.old log.new }
     ensures begins { OnOk result (second.new ≡ after_second second.old) }
     ensures written { OnOk result ((text : List ℕ) × IsIntervalOf second.old text
         × Appends (W.contents (sink log.old).now) (W.contents (sink log.new).now) text) }

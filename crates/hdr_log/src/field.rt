@@ -2,7 +2,7 @@
 
 ghost use Rattle.std.specs.Prelude.{◌≡◌, Some, None, MatchResult};
 ghost use Rattle.hdr_log.specs.Texts.{base64_bytes};
-ghost use Rattle.hdr_log.specs.Fields.{RefusesField};
+ghost use Rattle.hdr_log.specs.Fields.{IsFieldError};
 
 use base64::DecodeAllocError;
 use base64::engine::general_purpose::STANDARD;
@@ -20,7 +20,7 @@ pub enum FieldError {
 /// Decodes a field in Base64, and returns its bytes.
 pub fn decoded(alloc: Global, field: &str) -> Result<Vec<u8>, FieldError>
     ensures { MatchResult result (λ bytes. base64_bytes field.now ≡ Some bytes.items)
-        (RefusesField field.now) }
+        (IsFieldError field.now) }
 {
     let mut bytes = Vec::new(alloc);
     decode_into(field, &mut bytes)?;
@@ -31,7 +31,7 @@ pub fn decoded(alloc: Global, field: &str) -> Result<Vec<u8>, FieldError>
 #[tactic(auto, unfolding(crate::specs::Texts::base64_bytes))]
 pub fn decode_into(field: &str, buffer: &mut Vec<u8>) -> Result<(), FieldError>
     ensures { MatchResult result (λ _. base64_bytes field.now ≡ Some buffer.new.items)
-        (RefusesField field.now) }
+        (IsFieldError field.now) }
 {
     buffer.clear();
     match STANDARD.decode_vec(field.as_bytes(), buffer) {

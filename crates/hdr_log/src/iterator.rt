@@ -35,7 +35,7 @@ impl<'a> IntervalLogIterator<'a> {
     /// Returns an iterator over the entries of `input`. The offset of a parse error is an offset into it.
     pub fn new(input: &'a [u8]) -> IntervalLogIterator<'a>
         ensures items { result ≡ reading input.now }
-        ensures few { length result ≤ length input.now + 1 }
+        ensures at_most { length result ≤ length input.now + 1 }
         ensures places { All (LiesIn (length input.now)) result }
     {
         IntervalLogIterator { input, offset: 0 }

@@ -6,7 +6,7 @@ use Rattle.std.proofs.lemmas.Bool.{cases_eq}
 use Rattle.std.proofs.lemmas.List.Sums.{sum_by-append, sum_by-cons, count_by-le-length}
 use Rattle.std.proofs.lemmas.List.FromFn.{length-range_with_len}
 use Rattle.std.proofs.lemmas.List.Elements.{All-head, All-tail}
-use Rattle.hdr_base.specs.Classes.{Grain, bin_of}
+use Rattle.hdr_base.specs.Classes.{Resolution, bin_of}
 use Rattle.hdr_model.specs.Samples.{in_class}
 use Rattle.hdr_model.specs.Correction.{classes_held}
 use Rattle.hdr_model.proofs.RecordingStands.{eqb-other}
@@ -14,7 +14,7 @@ use Rattle.hdr_model.proofs.RecordingStands.{eqb-other}
 eqb-is : (a b : ℕ) → a ≡ b → eqb a b ≡ true
 eqb-is a b e = grind (arith, nat_tests)
 
-pub all-in-class : (g : Grain) (b : ℕ) (xs : List ℕ) → All (λ y. bin_of g y ≡ b) xs → in_class g b xs ≡ length xs
+pub all-in-class : (g : Resolution) (b : ℕ) (xs : List ℕ) → All (λ y. bin_of g y ≡ b) xs → in_class g b xs ≡ length xs
 all-in-class g b [] h = refl
 all-in-class g b (x ∷ xs) h =
     sum_by-cons (λ s. cond (eqb (bin_of g s) b) 1 0) x xs
@@ -22,7 +22,7 @@ all-in-class g b (x ∷ xs) h =
     let rest : in_class g b xs ≡ length xs = all-in-class g b xs (All-tail (λ y. bin_of g y ≡ b) x xs h) in
     rw e (omega arith))
 
-pub none-in-class : (g : Grain) (b : ℕ) (xs : List ℕ) → All (λ y. bin_of g y ≢ b) xs → in_class g b xs ≡ 0
+pub none-in-class : (g : Resolution) (b : ℕ) (xs : List ℕ) → All (λ y. bin_of g y ≢ b) xs → in_class g b xs ≡ 0
 none-in-class g b [] h = refl
 none-in-class g b (x ∷ xs) h =
     sum_by-cons (λ s. cond (eqb (bin_of g s) b) 1 0) x xs
@@ -30,7 +30,7 @@ none-in-class g b (x ∷ xs) h =
     let rest : in_class g b xs ≡ 0 = none-in-class g b xs (All-tail (λ y. bin_of g y ≢ b) x xs h) in
     rw e (omega arith))
 
-not-in-other : (g : Grain) (b c : ℕ) (xs : List ℕ) → c ≢ b → All (λ y. bin_of g y ≡ b) xs → in_class g c xs ≡ 0
+not-in-other : (g : Resolution) (b c : ℕ) (xs : List ℕ) → c ≢ b → All (λ y. bin_of g y ≡ b) xs → in_class g c xs ≡ 0
 not-in-other g b c [] other h = refl
 not-in-other g b c (x ∷ xs) other h =
     let here = All-head (λ y. bin_of g y ≡ b) x xs h in
@@ -79,7 +79,7 @@ ltb-some : (n : ℕ) → 0 < n → ltb 0 n ≡ true
 ltb-some n h = grind (arith, nat_tests)
 
 -- values of one class, before values of others, are one class more
-pub held-more : (g : Grain) (classes b : ℕ) (xs ys : List ℕ) → b < classes → 0 < length xs → All (λ y. bin_of g y ≡ b) xs → All (λ y. bin_of g y ≢ b) ys
+pub held-more : (g : Resolution) (classes b : ℕ) (xs ys : List ℕ) → b < classes → 0 < length xs → All (λ y. bin_of g y ≡ b) xs → All (λ y. bin_of g y ≢ b) ys
     → classes_held g classes (xs ++ ys) ≡ 1 + classes_held g classes ys
 unfolding classes_held
 held-more g classes b xs ys room some inside outside =
@@ -90,12 +90,12 @@ held-more g classes b xs ys room some inside outside =
     (ltb-zero (in_class g b ys) (none-in-class g b ys outside))
     0 classes (omega arith) (omega arith)
 
-pub held-le : (g : Grain) (classes : ℕ) (xs : List ℕ) → classes_held g classes xs ≤ classes
+pub held-le : (g : Resolution) (classes : ℕ) (xs : List ℕ) → classes_held g classes xs ≤ classes
 unfolding classes_held
 held-le g classes xs =
     omega (arith, count_by-le-length (λ b. ltb 0 (in_class g b xs)) (range_with_len 0 classes), length-range_with_len 0 classes)
 
-pub held-none : (g : Grain) (classes : ℕ) → classes_held g classes [] ≡ 0
+pub held-none : (g : Resolution) (classes : ℕ) → classes_held g classes [] ≡ 0
 unfolding classes_held
 held-none g classes = none-held classes 0
   where

@@ -26,6 +26,6 @@ pub mod EqualityZeros
 pub mod StatisticsBetween
 pub mod StatisticsShares
 pub mod StatisticsMeans
-pub mod FillingFacts
+pub mod UnfinishedFacts
 pub mod PlainAfter
 pub mod SamplesFacts

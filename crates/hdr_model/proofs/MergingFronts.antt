@@ -3,17 +3,17 @@ use Rattle.std.proofs.Common.{◌≡◌, ℕ, zero, suc, ◌+◌, ◌-◌, ◌^�
 use Rattle.std.proofs.lemmas.Bool.{and_parts, cases_lt, cases_eq, eqb-true, ne_eqb}
 use Rattle.std.proofs.lemmas.List.{ext_get_or, get_or_past, get_or-set_same, get_or-set_other, length-set, set-get_or}
 use Rattle.std.proofs.lemmas.List.Sums.{sum_by-cons}
-use Rattle.hdr_base.specs.Classes.{Grain, bin_of, reach_of, value_of}
+use Rattle.hdr_base.specs.Classes.{Resolution, bin_of, reach_of, value_of}
 use Rattle.hdr_base.proofs.ClassesFiner.{bin-value_of}
 use Rattle.hdr_counts.specs.Blocks.{capped_sums}
 use Rattle.hdr_counts.proofs.BlocksCapped.{capped-length}
-use Rattle.hdr_model.specs.Plain.{Plain, IsPlain, grain, reach, max_of}
+use Rattle.hdr_model.specs.Plain.{Plain, IsPlain, resolution, reach, max_of}
 use Rattle.hdr_model.specs.Marks.{IsAbove, IsLowerMark, later_mark, earlier_mark, later_of, earlier_of}
 use Rattle.hdr_model.specs.Recording.{Times, after_record, after_records, after_add_to_bin}
 use Rattle.hdr_model.specs.Merging.{classes_from, top_class}
 use Rattle.hdr_model.proofs.MergingKeeps.{number-le-max, recorded-inside, value-le-max}
 use Rattle.hdr_model.proofs.MergingOrder.{number-fits}
-use Rattle.hdr_model.proofs.PlainKept.{grain-digits, room-in}
+use Rattle.hdr_model.proofs.PlainKept.{resolution-digits, room-in}
 
 -- the nonempty ones of these numbers added, the first to bin i
 added_from : ℕ → Plain → ℕ → List ℕ → Plain
@@ -40,16 +40,16 @@ unfolding AtEach
 at-head P i n ns each = subst P (first i) (each 0 (omega arith))
 
 -- classes within the reach are recorded at their bins
-records-are : (greatest : ℕ) (h : Plain) (i : ℕ) (ns : List ℕ) (ts : List Times) → 0 < (grain h).digits → AtEach (λ k. value_of (grain h) k ≤ reach h) i ns
-    → after_records greatest h (classes_from (grain h) i ns ++ ts) ≡ after_records greatest (added_from greatest h i ns) ts
+records-are : (greatest : ℕ) (h : Plain) (i : ℕ) (ns : List ℕ) (ts : List Times) → 0 < (resolution h).digits → AtEach (λ k. value_of (resolution h) k ≤ reach h) i ns
+    → after_records greatest h (classes_from (resolution h) i ns ++ ts) ≡ after_records greatest (added_from greatest h i ns) ts
 unfolding added_from after_add_to_bin reach
 records-are greatest h i [] ts m each = refl
-records-are greatest h i (zero ∷ ns) ts m each = records-are greatest h (suc i) ns ts m (at-tail (λ k. value_of (grain h) k ≤ reach h) i 0 ns each)
+records-are greatest h i (zero ∷ ns) ts m each = records-are greatest h (suc i) ns ts m (at-tail (λ k. value_of (resolution h) k ≤ reach h) i 0 ns each)
 records-are greatest h i (suc n ∷ ns) ts m each =
-    let P = λ (k : ℕ). value_of (grain h) k ≤ reach h in
-    let v = value_of (grain h) i in
-    let step : after_record greatest h v (suc n) ≡ after_add_to_bin greatest h i (suc n) = sym (recorded-inside greatest h v (suc n) (at-head P i n ns each)) ∙ ap (λ b. after_add_to_bin greatest h b (suc n)) (bin-value_of (grain h) i m) in
-    ap (λ w. after_records greatest w (classes_from (grain h) (suc i) ns ++ ts)) step ∙ records-are greatest (after_add_to_bin greatest h i (suc n)) (suc i) ns ts m (at-tail P i (suc n) ns each)
+    let P = λ (k : ℕ). value_of (resolution h) k ≤ reach h in
+    let v = value_of (resolution h) i in
+    let step : after_record greatest h v (suc n) ≡ after_add_to_bin greatest h i (suc n) = sym (recorded-inside greatest h v (suc n) (at-head P i n ns each)) ∙ ap (λ b. after_add_to_bin greatest h b (suc n)) (bin-value_of (resolution h) i m) in
+    ap (λ w. after_records greatest w (classes_from (resolution h) (suc i) ns ++ ts)) step ∙ records-are greatest (after_add_to_bin greatest h i (suc n)) (suc i) ns ts m (at-tail P i (suc n) ns each)
 
 -- only counters, total and marks change
 added-parts : (greatest : ℕ) (h : Plain) (i : ℕ) (ns : List ℕ) → let w = added_from greatest h i ns in
@@ -256,26 +256,26 @@ added-with greatest h ns top lower p each =
     ∙ ap (λ t. record h { counts = capped_sums greatest h.counts ns; total = t; top_mark = top; lower_mark = lower }) (added-total greatest h 0 ns (omega (arith, p.total_fits)) ∙ total-capped h.total (sum ns))
 
 -- a source whose greatest value has a bin
-module _ (greatest most : ℕ) (h s : Plain) (p : IsPlain greatest h) (q : IsPlain most s) (same : grain s ≡ grain h) (room : max_of s ≤ reach h) where
-  each-reached : AtEach (λ k. value_of (grain h) k ≤ reach h) 0 s.counts
+module _ (greatest most : ℕ) (h s : Plain) (p : IsPlain greatest h) (q : IsPlain most s) (same : resolution s ≡ resolution h) (room : max_of s ≤ reach h) where
+  each-reached : AtEach (λ k. value_of (resolution h) k ≤ reach h) 0 s.counts
   unfolding AtEach
   each-reached = λ j pos.
-      let at : bin_of (grain s) (value_of (grain s) j) ≡ j = bin-value_of (grain s) j (grain-digits most s q) in
-      let le : value_of (grain s) j ≤ reach h = omega (arith, number-le-max most s j (value_of (grain s) j) q pos at, room) in
-      subst (λ k. value_of (grain h) k ≤ reach h) (let e : j ≡ 0 + j = omega arith in e) (subst (λ (f : Grain). value_of f j ≤ reach h) same le)
+      let at : bin_of (resolution s) (value_of (resolution s) j) ≡ j = bin-value_of (resolution s) j (resolution-digits most s q) in
+      let le : value_of (resolution s) j ≤ reach h = omega (arith, number-le-max most s j (value_of (resolution s) j) q pos at, room) in
+      subst (λ k. value_of (resolution h) k ≤ reach h) (let e : j ≡ 0 + j = omega arith in e) (subst (λ (f : Resolution). value_of f j ≤ reach h) same le)
 
   each-inside : AtEach (λ k. k < length h.counts) 0 s.counts
   unfolding AtEach
   each-inside = λ j pos.
       let le = each-reached j pos in
-      let at : bin_of (grain h) (value_of (grain h) (0 + j)) ≡ 0 + j = bin-value_of (grain h) (0 + j) (grain-digits greatest h p) in
-      omega (arith, room-in greatest h (value_of (grain h) (0 + j)) p le, at)
+      let at : bin_of (resolution h) (value_of (resolution h) (0 + j)) ≡ 0 + j = bin-value_of (resolution h) (0 + j) (resolution-digits greatest h p) in
+      omega (arith, room-in greatest h (value_of (resolution h) (0 + j)) p le, at)
 
-  recorded-are : (ts : List Times) → after_records greatest h (classes_from (grain s) 0 s.counts ++ ts) ≡ after_records greatest (added_from greatest h 0 s.counts) ts
+  recorded-are : (ts : List Times) → after_records greatest h (classes_from (resolution s) 0 s.counts ++ ts) ≡ after_records greatest (added_from greatest h 0 s.counts) ts
   recorded-are ts =
-      ap (λ (f : Grain). after_records greatest h (classes_from f 0 s.counts ++ ts)) same ∙ records-are greatest h 0 s.counts ts (grain-digits greatest h p) each-reached
+      ap (λ (f : Resolution). after_records greatest h (classes_from f 0 s.counts ++ ts)) same ∙ records-are greatest h 0 s.counts ts (resolution-digits greatest h p) each-reached
 
-  pub fronts-none : (first : Option ℕ) → s.top_mark ≡ None → IsLowerMark s.counts first → added_at_once greatest h s.counts (later_of (later_of h.top_mark first) None) (earlier_of (earlier_of h.lower_mark first) None) ≡ after_records greatest h (classes_from (grain s) 0 s.counts ++ [])
+  pub fronts-none : (first : Option ℕ) → s.top_mark ≡ None → IsLowerMark s.counts first → added_at_once greatest h s.counts (later_of (later_of h.top_mark first) None) (earlier_of (earlier_of h.lower_mark first) None) ≡ after_records greatest h (classes_from (resolution s) 0 s.counts ++ [])
   unfolding AtEach
   fronts-none first none is =
       let zeros : (j : ℕ) → get_or s.counts j 0 ≡ 0 = λ j. q.none_above j (subst (λ mark. IsAbove mark j) (sym none) tt) in
@@ -292,15 +292,15 @@ module _ (greatest most : ℕ) (h s : Plain) (p : IsPlain greatest h) (q : IsPla
       no-first (Some f) is zeros = absurd (omega (arith, is.1, zeros f))
 
   pub fronts-some : (first : Option ℕ) (m : ℕ) → s.top_mark ≡ Some m → IsLowerMark s.counts first → added_at_once greatest h s.counts (later_of (later_of h.top_mark first) (Some m)) (earlier_of (earlier_of h.lower_mark first) (Some m))
-      ≡ after_records greatest h (classes_from (grain s) 0 s.counts ++ record { value = value_of (grain s) m; times = 0 } ∷ [])
+      ≡ after_records greatest h (classes_from (resolution s) 0 s.counts ++ record { value = value_of (resolution s) m; times = 0 } ∷ [])
   unfolding AtEach reach
   fronts-some first m is_top is =
       let w = added_from greatest h 0 s.counts in
-      let v = value_of (grain s) m in
+      let v = value_of (resolution s) m in
       let below : (j : ℕ) → 0 < get_or s.counts j 0 → j ≤ m = λ j pos. elim (cases_lt m j) [ inl lt ↦ absurd (omega (arith, q.none_above j (subst (λ mark. IsAbove mark j) (sym is_top) lt), pos)) | inr le ↦ le ] in
       let parts = added-parts greatest h 0 s.counts in
       let le : v ≤ reach w = subst (λ r. v ≤ r) (sym (same-reach parts)) (omega (arith, value-le-max s m is_top, room)) in
-      let at : bin_of (grain w) v ≡ m = ap (λ (f : Grain). bin_of f v) (ap (λ (x : Plain). grain x) parts ∙ sym same) ∙ bin-value_of (grain s) m (grain-digits most s q) in
+      let at : bin_of (resolution w) v ≡ m = ap (λ (f : Resolution). bin_of f v) (ap (λ (x : Plain). resolution x) parts ∙ sym same) ∙ bin-value_of (resolution s) m (resolution-digits most s q) in
       let small = added-small greatest h s.counts (smalls greatest h p) each-inside in
       let total : w.total ≤ 2 ^ 64 - 1 = omega (arith, added-total greatest h 0 s.counts (omega (arith, p.total_fits))) in
       let last : after_record greatest w v 0 ≡ record w { top_mark = later_mark w.top_mark m; lower_mark = earlier_mark w.lower_mark m } = sym (recorded-inside greatest w v 0 le) ∙ ap (λ b. after_add_to_bin greatest w b 0) at ∙ added-mark greatest w m small total in
@@ -313,7 +313,7 @@ module _ (greatest most : ℕ) (h s : Plain) (p : IsPlain greatest h) (q : IsPla
       ∙ added-with greatest h s.counts (later_of (later_of h.top_mark first) (Some m)) (earlier_of (earlier_of h.lower_mark first) (Some m)) p each-inside)
     where
       same-reach : {x : Plain} {c : List ℕ} {t : ℕ} {a b : Option ℕ} → x ≡ record h { counts = c; total = t; top_mark = a; lower_mark = b } → reach x ≡ reach h
-      same-reach e = ap (λ (y : Plain). reach_of (grain y) y.high) e
+      same-reach e = ap (λ (y : Plain). reach_of (resolution y) y.high) e
 
       top-by : (first : Option ℕ) → IsLowerMark s.counts first → ((j : ℕ) → 0 < get_or s.counts j 0 → j ≤ m) → later_mark h.top_mark m ≡ later_of (later_of h.top_mark first) (Some m)
       top-by None is below = refl
@@ -328,15 +328,15 @@ module _ (greatest most : ℕ) (h s : Plain) (p : IsPlain greatest h) (q : IsPla
       lower-by (Some f) is = added-lower greatest h 0 s.counts f (own-lower h.lower_mark p.lower_in_bins) is.0 (omega arith) (subst (λ k. 0 < get_or s.counts k 0) (let e : f ≡ f - 0 = omega arith in e) is.1) (λ j a b. is.2 j (omega (arith, a)) (omega (arith, b)))
 
 -- the classes of a source recorded one by one are its numbers added at once
-pub fronts-are : (greatest most : ℕ) (h s : Plain) (first : Option ℕ) → IsPlain greatest h → IsPlain most s → grain s ≡ grain h → max_of s ≤ reach h → IsLowerMark s.counts first
-    → added_at_once greatest h s.counts (later_of (later_of h.top_mark first) s.top_mark) (earlier_of (earlier_of h.lower_mark first) s.top_mark) ≡ after_records greatest h (classes_from (grain s) 0 s.counts ++ top_class (grain s) s.top_mark)
+pub fronts-are : (greatest most : ℕ) (h s : Plain) (first : Option ℕ) → IsPlain greatest h → IsPlain most s → resolution s ≡ resolution h → max_of s ≤ reach h → IsLowerMark s.counts first
+    → added_at_once greatest h s.counts (later_of (later_of h.top_mark first) s.top_mark) (earlier_of (earlier_of h.lower_mark first) s.top_mark) ≡ after_records greatest h (classes_from (resolution s) 0 s.counts ++ top_class (resolution s) s.top_mark)
 fronts-are greatest most h s first p q same room is = go s.top_mark refl
   where
-    go : (top : Option ℕ) → s.top_mark ≡ top → added_at_once greatest h s.counts (later_of (later_of h.top_mark first) top) (earlier_of (earlier_of h.lower_mark first) top) ≡ after_records greatest h (classes_from (grain s) 0 s.counts ++ top_class (grain s) top)
+    go : (top : Option ℕ) → s.top_mark ≡ top → added_at_once greatest h s.counts (later_of (later_of h.top_mark first) top) (earlier_of (earlier_of h.lower_mark first) top) ≡ after_records greatest h (classes_from (resolution s) 0 s.counts ++ top_class (resolution s) top)
     go None e = fronts-none greatest most h s p q same room first e is
     go (Some m) e = fronts-some greatest most h s p q same room first m e is
 
-pub same-classes : (f g : Grain) → (eqb f.unit g.unit && eqb f.digits g.digits) ≡ true → f ≡ g
+pub same-classes : (f g : Resolution) → (eqb f.unit g.unit && eqb f.digits g.digits) ≡ true → f ≡ g
 same-classes f g e =
     let both = and_parts (eqb f.unit g.unit) (eqb f.digits g.digits) e in
     ap (λ u. record { unit = u; digits = f.digits }) (eqb-true f.unit g.unit both.0) ∙ ap (λ d. record { unit = g.unit; digits = d }) (eqb-true f.digits g.digits both.1)

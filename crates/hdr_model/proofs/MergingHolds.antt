@@ -2,7 +2,7 @@
 use Rattle.std.proofs.Common.{◌≡◌, ◌≢◌, ◌⊎◌, ℕ, zero, suc, ◌+◌, ◌-◌, ◌<◌, ◌≤◌, List, [], ◌∷◌, ◌++◌, length, get_or, take, drop, replicate, refl, sym, ap, subst, ◌∙◌, arith, inl, inr, set, sum}
 use Rattle.std.proofs.lemmas.Bool.{cases_lt, cases_eq}
 use Rattle.std.proofs.lemmas.List.{get_or_past, get_or-set_same, get_or-set_other, append-nil, take_more, take_all, length-take-le, take-append-drop}
-use Rattle.hdr_base.specs.Classes.{Grain, bin_of, value_of}
+use Rattle.hdr_base.specs.Classes.{Resolution, bin_of, value_of}
 use Rattle.hdr_base.proofs.ClassesLaws.{bin-mono}
 use Rattle.hdr_base.proofs.ClassesFiner.{bin-value_of}
 use Rattle.hdr_model.specs.Samples.{in_class}
@@ -13,24 +13,24 @@ use Rattle.hdr_model.proofs.MergingStands.{spread-append, in_class-append}
 use Rattle.hdr_model.proofs.MergingKeeps.{classes-more-some, classes-more-none}
 
 -- how much the first i classes hold of class j of g
-pub held : Grain → Grain → List ℕ → ℕ → ℕ → ℕ
+pub held : Resolution → Resolution → List ℕ → ℕ → ℕ → ℕ
 held g f ns i j = in_class g j (samples_of (classes_from f 0 (take i ns)))
 
-pub held-all : (g f : Grain) (ns : List ℕ) (i j : ℕ) → length ns ≤ i → held g f ns i j ≡ in_class g j (samples_of (classes_from f 0 ns))
+pub held-all : (g f : Resolution) (ns : List ℕ) (i j : ℕ) → length ns ≤ i → held g f ns i j ≡ in_class g j (samples_of (classes_from f 0 ns))
 unfolding held
 held-all g f ns i j le = ap (λ l. in_class g j (samples_of (classes_from f 0 l))) (take_all i ns le)
 
-pub held-none : (g f : Grain) (ns : List ℕ) (j : ℕ) → held g f ns 0 j ≡ 0
+pub held-none : (g f : Resolution) (ns : List ℕ) (j : ℕ) → held g f ns 0 j ≡ 0
 unfolding held
 held-none g f ns j = refl
 
-pub held-same : (g f : Grain) (ns : List ℕ) (i j : ℕ) → i < length ns → get_or ns i 0 ≡ 0 → held g f ns (i + 1) j ≡ held g f ns i j
+pub held-same : (g f : Resolution) (ns : List ℕ) (i j : ℕ) → i < length ns → get_or ns i 0 ≡ 0 → held g f ns (i + 1) j ≡ held g f ns i j
 unfolding held
 held-same g f ns i j lt none =
     ap (λ l. in_class g j (samples_of (classes_from f 0 l))) (take_more ns i 0 lt ∙ ap (λ n. take i ns ++ n ∷ []) none)
     ∙ ap (λ ts. in_class g j (samples_of ts)) (classes-more-none f 0 (take i ns))
 
-pub held-next : (g f : Grain) (ns : List ℕ) (i j : ℕ) → i < length ns → 0 < get_or ns i 0
+pub held-next : (g f : Resolution) (ns : List ℕ) (i j : ℕ) → i < length ns → 0 < get_or ns i 0
     → held g f ns (i + 1) j ≡ in_class g j (samples_of (classes_from f 0 (take i ns)) ++ replicate (get_or ns i 0) (value_of f i))
 unfolding held
 held-next g f ns i j lt pos =
@@ -42,25 +42,25 @@ held-next g f ns i j lt pos =
     ap (λ ts. in_class g j (samples_of ts)) classes
     ∙ ap (λ l. in_class g j l) (spread-append (classes_from f 0 (take i ns)) (last ∷ []) ∙ ap (λ l. samples_of (classes_from f 0 (take i ns)) ++ l) (append-nil (replicate n (value_of f i))))
 
-pub held-here : (g f : Grain) (ns : List ℕ) (i : ℕ) → i < length ns → 0 < get_or ns i 0
+pub held-here : (g f : Resolution) (ns : List ℕ) (i : ℕ) → i < length ns → 0 < get_or ns i 0
     → held g f ns (i + 1) (bin_of g (value_of f i)) ≡ held g f ns i (bin_of g (value_of f i)) + get_or ns i 0
 unfolding held
 held-here g f ns i lt pos = held-next g f ns i (bin_of g (value_of f i)) lt pos ∙ in_class-same g (value_of f i) (get_or ns i 0) (samples_of (classes_from f 0 (take i ns)))
 
-pub held-other : (g f : Grain) (ns : List ℕ) (i j : ℕ) → i < length ns → 0 < get_or ns i 0 → bin_of g (value_of f i) ≢ j
+pub held-other : (g f : Resolution) (ns : List ℕ) (i j : ℕ) → i < length ns → 0 < get_or ns i 0 → bin_of g (value_of f i) ≢ j
     → held g f ns (i + 1) j ≡ held g f ns i j
 unfolding held
 held-other g f ns i j lt pos other = held-next g f ns i j lt pos ∙ in_class-other g j (value_of f i) (get_or ns i 0) (samples_of (classes_from f 0 (take i ns))) other
 
 -- more classes hold no less
-classes-append : (f : Grain) (k : ℕ) (ms ns : List ℕ) → classes_from f k (ms ++ ns) ≡ classes_from f k ms ++ classes_from f (k + length ms) ns
+classes-append : (f : Resolution) (k : ℕ) (ms ns : List ℕ) → classes_from f k (ms ++ ns) ≡ classes_from f k ms ++ classes_from f (k + length ms) ns
 classes-append f k [] ns = ap (λ i. classes_from f i ns) (let e : k ≡ k + 0 = omega arith in e)
 classes-append f k (zero ∷ ms) ns = classes-append f (suc k) ms ns ∙ ap (λ i. classes_from f (suc k) ms ++ classes_from f i ns) (let e : suc k + length ms ≡ k + suc (length ms) = omega arith in e)
 classes-append f k (suc m ∷ ms) ns =
     ap (λ ts. record { value = value_of f k; times = suc m } ∷ ts)
     (classes-append f (suc k) ms ns ∙ ap (λ i. classes_from f (suc k) ms ++ classes_from f i ns) (let e : suc k + length ms ≡ k + suc (length ms) = omega arith in e))
 
-pub held-le : (g f : Grain) (ns : List ℕ) (i j : ℕ) → held g f ns i j ≤ in_class g j (samples_of (classes_from f 0 ns))
+pub held-le : (g f : Resolution) (ns : List ℕ) (i j : ℕ) → held g f ns i j ≤ in_class g j (samples_of (classes_from f 0 ns))
 unfolding held
 held-le g f ns i j =
     let whole : take i ns ++ drop i ns ≡ ns = take-append-drop i ns in
@@ -72,7 +72,7 @@ held-le g f ns i j =
     omega (arith, parts)
 
 -- later classes start at greater values
-pub value_of-mono : (f : Grain) (i k : ℕ) → 0 < f.digits → i ≤ k → value_of f i ≤ value_of f k
+pub value_of-mono : (f : Resolution) (i k : ℕ) → 0 < f.digits → i ≤ k → value_of f i ≤ value_of f k
 value_of-mono f i k m le = elim (cases_lt (value_of f k) (value_of f i)) [
   | inl lt ↦ (
       let b = bin-mono f (value_of f k) (value_of f i) m (omega arith) in
@@ -83,13 +83,13 @@ value_of-mono f i k m le = elim (cases_lt (value_of f k) (value_of f i)) [
 ]
 
 -- what the test of one class leaves known
-pub record IsTested (g f : Grain) (counts ns : List ℕ) (i at sum : ℕ) : Type 0 where
+pub record IsTested (g f : Resolution) (counts ns : List ℕ) (i at sum : ℕ) : Type 0 where
   pub tested : (j : ℕ) → held g f ns i j ≤ get_or counts j 0
   pub running : sum ≡ held g f ns i at
   pub later : (j : ℕ) → at < j → held g f ns i j ≡ 0
   pub order : (k : ℕ) → i ≤ k → at ≤ bin_of g (value_of f k)
 
-pub tested-init : (g f : Grain) (counts ns : List ℕ) → IsTested g f counts ns 0 0 0
+pub tested-init : (g f : Resolution) (counts ns : List ℕ) → IsTested g f counts ns 0 0 0
 tested-init g f counts ns = record {
   tested = λ j. omega (arith, held-none g f ns j);
   running = sym (held-none g f ns 0);
@@ -97,7 +97,7 @@ tested-init g f counts ns = record {
   order = λ k le. omega arith;
 }
 
-pub tested-same : (g f : Grain) (counts ns : List ℕ) (i at sum : ℕ) → i < length ns → get_or ns i 0 ≡ 0 → IsTested g f counts ns i at sum → IsTested g f counts ns (i + 1) at sum
+pub tested-same : (g f : Resolution) (counts ns : List ℕ) (i at sum : ℕ) → i < length ns → get_or ns i 0 ≡ 0 → IsTested g f counts ns i at sum → IsTested g f counts ns (i + 1) at sum
 tested-same g f counts ns i at sum lt none t = record {
   tested = λ j. omega (arith, held-same g f ns i j lt none, t.tested j);
   running = omega (arith, held-same g f ns i at lt none, t.running);
@@ -105,7 +105,7 @@ tested-same g f counts ns i at sum lt none t = record {
   order = λ k le. t.order k (omega arith);
 }
 
-module _ (g f : Grain) (counts ns : List ℕ) (i at sum before target : ℕ) (mf : 0 < f.digits) (mg : 0 < g.digits) (lt : i < length ns) (pos : 0 < get_or ns i 0) (t : IsTested g f counts ns i at sum)
+module _ (g f : Resolution) (counts ns : List ℕ) (i at sum before target : ℕ) (mf : 0 < f.digits) (mg : 0 < g.digits) (lt : i < length ns) (pos : 0 < get_or ns i 0) (t : IsTested g f counts ns i at sum)
     (here : target ≡ bin_of g (value_of f i)) (from : ((target ≡ at) × (before ≡ sum)) ⊎ ((target ≢ at) × (before ≡ 0))) where
   pub tested-sum : before + get_or ns i 0 ≡ held g f ns (i + 1) target
   tested-sum =
@@ -135,7 +135,7 @@ pub place-in : (counts : List ℕ) (i : ℕ) → 0 < get_or counts i 0 → i < l
 place-in counts i pos = elim (cases_lt i (length counts)) [ inl lt ↦ lt | inr ge ↦ absurd (omega (arith, get_or_past counts i 0 ge)) ]
 
 -- the bin of a class has what the class holds
-pub enough-left : (g f : Grain) (ns was now : List ℕ) (i target : ℕ) → i < length ns → 0 < get_or ns i 0 → target ≡ bin_of g (value_of f i)
+pub enough-left : (g f : Resolution) (ns was now : List ℕ) (i target : ℕ) → i < length ns → 0 < get_or ns i 0 → target ≡ bin_of g (value_of f i)
     → ((j : ℕ) → in_class g j (samples_of (classes_from f 0 ns)) ≤ get_or was j 0) → ((j : ℕ) → get_or now j 0 + held g f ns i j ≡ get_or was j 0)
     → (target < length now) × (get_or ns i 0 ≤ get_or now target 0)
 enough-left g f ns was now i target lt pos here all taken =
@@ -144,7 +144,7 @@ enough-left g f ns was now i target lt pos here all taken =
     (place-in now target (omega (arith, enough, pos)), enough)
 
 -- one class taken out
-pub taken-next : (g f : Grain) (ns was now : List ℕ) (i target : ℕ) → i < length ns → 0 < get_or ns i 0 → target ≡ bin_of g (value_of f i) → target < length now → get_or ns i 0 ≤ get_or now target 0
+pub taken-next : (g f : Resolution) (ns was now : List ℕ) (i target : ℕ) → i < length ns → 0 < get_or ns i 0 → target ≡ bin_of g (value_of f i) → target < length now → get_or ns i 0 ≤ get_or now target 0
     → ((j : ℕ) → get_or now j 0 + held g f ns i j ≡ get_or was j 0)
     → (j : ℕ) → get_or (set now target (get_or now target 0 - get_or ns i 0)) j 0 + held g f ns (i + 1) j ≡ get_or was j 0
 taken-next g f ns was now i target lt pos here inside enough taken j =

@@ -4,22 +4,22 @@ use Rattle.std.proofs.lemmas.Bool.Decides.{nat_tests}
 use Rattle.std.proofs.lemmas.Bool.{cases_lt}
 use Rattle.std.proofs.lemmas.List.{get_or_past, take_more, length-take-le}
 use Rattle.std.proofs.lemmas.List.Sums.{get_or-le-sum_by}
-use Rattle.hdr_base.specs.Classes.{Grain, bin_of, top_of, value_of, reach_of}
+use Rattle.hdr_base.specs.Classes.{Resolution, bin_of, top_of, value_of, reach_of}
 use Rattle.hdr_base.proofs.ClassesLaws.{bin-mono, bin-top, top-of-value}
 use Rattle.hdr_base.proofs.ClassesFiner.{bin-value_of}
-use Rattle.hdr_model.specs.Plain.{Plain, IsPlain, grain, reach, max_of}
+use Rattle.hdr_model.specs.Plain.{Plain, IsPlain, resolution, reach, max_of}
 use Rattle.hdr_model.specs.Marks.{IsAbove, IsBelow, top_of_mark, later_of, earlier_of}
 use Rattle.hdr_model.specs.Recording.{with_bins_to, after_add_to_bin, after_record, Times, after_records}
 use Rattle.hdr_model.specs.Merging.{classes_from, top_class, same_bins, after_add_same_bins, after_add_within, with_room, after_add}
 use Rattle.hdr_counts.specs.Blocks.{capped_sums}
 use Rattle.hdr_counts.proofs.BlocksCapped.{capped-length, capped-get, capped-fit, capped-sum, capped-nothing}
 use Rattle.hdr_base.proofs.ClassesReach.{reach-holds}
-use Rattle.hdr_model.proofs.PlainKept.{above-later, later-in, earlier-in, widened-same, grain-digits, leb-yes, leb-no}
+use Rattle.hdr_model.proofs.PlainKept.{above-later, later-in, earlier-in, widened-same, resolution-digits, leb-yes, leb-no}
 
 -- ---- the greatest value
 
 -- a value whose class is at or below another is at or below its top
-pub value-le-top : (g : Grain) (x j : ℕ) → 0 < g.digits → bin_of g x ≤ j → x ≤ top_of g (value_of g j)
+pub value-le-top : (g : Resolution) (x j : ℕ) → 0 < g.digits → bin_of g x ≤ j → x ≤ top_of g (value_of g j)
 value-le-top g x j m le =
     elim (cases_lt (value_of g j) x) [
       | inl lt ↦ (
@@ -30,7 +30,7 @@ value-le-top g x j m le =
       | inr ge ↦ omega (arith, top-of-value g (value_of g j))
     ]
 
-mark-holds : (g : Grain) (mark : Option ℕ) (counts : List ℕ) (i x : ℕ) → 0 < g.digits → ((i : ℕ) → IsAbove mark i → get_or counts i 0 ≡ 0)
+mark-holds : (g : Resolution) (mark : Option ℕ) (counts : List ℕ) (i x : ℕ) → 0 < g.digits → ((i : ℕ) → IsAbove mark i → get_or counts i 0 ≡ 0)
     → 0 < get_or counts i 0 → bin_of g x ≡ i → x ≤ top_of_mark g mark
 mark-holds g None counts i x m none some at = absurd (omega (arith, none i tt))
 mark-holds g (Some k) counts i x m none some at =
@@ -40,15 +40,15 @@ mark-holds g (Some k) counts i x m none some at =
     ]
 
 -- each value of a nonempty class is at or below the greatest
-pub number-le-max : (greatest : ℕ) (h : Plain) (i x : ℕ) → IsPlain greatest h → 0 < get_or h.counts i 0 → bin_of (grain h) x ≡ i → x ≤ max_of h
+pub number-le-max : (greatest : ℕ) (h : Plain) (i x : ℕ) → IsPlain greatest h → 0 < get_or h.counts i 0 → bin_of (resolution h) x ≡ i → x ≤ max_of h
 unfolding max_of
-number-le-max greatest h i x p some at = mark-holds (grain h) h.top_mark h.counts i x (grain-digits greatest h p) p.none_above some at
+number-le-max greatest h i x p some at = mark-holds (resolution h) h.top_mark h.counts i x (resolution-digits greatest h p) p.none_above some at
 
 pub max-none : (h : Plain) → ((i : ℕ) → h.top_mark ≡ Some i → ⊥) → 0 ≡ max_of h
 unfolding max_of
 max-none h unmarked = go h.top_mark unmarked
   where
-    go : (mark : Option ℕ) → ((i : ℕ) → mark ≡ Some i → ⊥) → 0 ≡ top_of_mark (grain h) mark
+    go : (mark : Option ℕ) → ((i : ℕ) → mark ≡ Some i → ⊥) → 0 ≡ top_of_mark (resolution h) mark
     go None unmarked = refl
     go (Some i) unmarked = absurd (unmarked i refl)
 
@@ -56,9 +56,9 @@ pub mark-in : (greatest : ℕ) (h : Plain) (i : ℕ) → IsPlain greatest h → 
 mark-in greatest h i p e = subst (λ o. IfSome o (λ i. i < length h.counts)) e p.top_in_bins
 
 -- the top mark's class starts at or below the greatest value
-pub value-le-max : (h : Plain) (i : ℕ) → h.top_mark ≡ Some i → value_of (grain h) i ≤ max_of h
+pub value-le-max : (h : Plain) (i : ℕ) → h.top_mark ≡ Some i → value_of (resolution h) i ≤ max_of h
 unfolding max_of
-value-le-max h i e = subst (λ o. value_of (grain h) i ≤ top_of_mark (grain h) o) (sym e) (top-of-value (grain h) (value_of (grain h) i))
+value-le-max h i e = subst (λ o. value_of (resolution h) i ≤ top_of_mark (resolution h) o) (sym e) (top-of-value (resolution h) (value_of (resolution h) i))
 
 -- ---- the later and the earlier mark
 
@@ -106,14 +106,14 @@ both false b e = absurd (false-true e)
     false-true : false ≡ true → ⊥
     false-true e = cc
 
-pub same-bins : (h s : Plain) → same_bins h s ≡ true → (grain h ≡ grain s) × (length h.counts ≡ length s.counts)
+pub same-bins : (h s : Plain) → same_bins h s ≡ true → (resolution h ≡ resolution s) × (length h.counts ≡ length s.counts)
 same-bins h s e =
-    let a = both (eqb (grain h).unit (grain s).unit) (eqb (grain h).digits (grain s).digits && eqb (length h.counts) (length s.counts)) e in
-    let b = both (eqb (grain h).digits (grain s).digits) (eqb (length h.counts) (length s.counts)) a.1 in
-    (grains (grain h) (grain s) (eqb-true (grain h).unit (grain s).unit a.0) (eqb-true (grain h).digits (grain s).digits b.0), eqb-true (length h.counts) (length s.counts) b.1)
+    let a = both (eqb (resolution h).unit (resolution s).unit) (eqb (resolution h).digits (resolution s).digits && eqb (length h.counts) (length s.counts)) e in
+    let b = both (eqb (resolution h).digits (resolution s).digits) (eqb (length h.counts) (length s.counts)) a.1 in
+    (resolutions (resolution h) (resolution s) (eqb-true (resolution h).unit (resolution s).unit a.0) (eqb-true (resolution h).digits (resolution s).digits b.0), eqb-true (length h.counts) (length s.counts) b.1)
   where
-    grains : (f g : Grain) → f.unit ≡ g.unit → f.digits ≡ g.digits → f ≡ g
-    grains f g a b = ap (λ u. record { unit = u; digits = f.digits }) a ∙ ap (λ d. record { unit = g.unit; digits = d }) b
+    resolutions : (f g : Resolution) → f.unit ≡ g.unit → f.digits ≡ g.digits → f ≡ g
+    resolutions f g a b = ap (λ u. record { unit = u; digits = f.digits }) a ∙ ap (λ d. record { unit = g.unit; digits = d }) b
 
 module _ (greatest most : ℕ) (h s : Plain) (one : 1 ≤ greatest) (same : length h.counts ≡ length s.counts) (p : IsPlain greatest h) (q : IsPlain most s) where
   -- into an empty target
@@ -193,12 +193,12 @@ recorded_each-append greatest h [] us = refl
 recorded_each-append greatest h (t ∷ ts) us = recorded_each-append greatest (after_record greatest h t.value t.times) ts us
 
 -- one more class
-pub classes-more-none : (g : Grain) (k : ℕ) (ns : List ℕ) → classes_from g k (ns ++ 0 ∷ []) ≡ classes_from g k ns
+pub classes-more-none : (g : Resolution) (k : ℕ) (ns : List ℕ) → classes_from g k (ns ++ 0 ∷ []) ≡ classes_from g k ns
 classes-more-none g k [] = refl
 classes-more-none g k (zero ∷ ns) = classes-more-none g (suc k) ns
 classes-more-none g k (suc n ∷ ns) = ap (λ ts. record { value = value_of g k; times = suc n } ∷ ts) (classes-more-none g (suc k) ns)
 
-pub classes-more-some : (g : Grain) (k n : ℕ) (ns : List ℕ) → 0 < n → classes_from g k (ns ++ n ∷ []) ≡ classes_from g k ns ++ record { value = value_of g (k + length ns); times = n } ∷ []
+pub classes-more-some : (g : Resolution) (k n : ℕ) (ns : List ℕ) → 0 < n → classes_from g k (ns ++ n ∷ []) ≡ classes_from g k ns ++ record { value = value_of g (k + length ns); times = n } ∷ []
 classes-more-some g k zero [] pos = absurd (omega arith)
 classes-more-some g k (suc n) [] pos = ap (λ i. record { value = value_of g i; times = suc n } ∷ []) (let e : k ≡ k + 0 = omega arith in e)
 classes-more-some g k n (zero ∷ ns) pos =
@@ -209,11 +209,11 @@ classes-more-some g k n (suc m ∷ ns) pos =
 
 pub reach-recorded : (greatest : ℕ) (h : Plain) (v n : ℕ) → v ≤ reach h → reach (after_record greatest h v n) ≡ reach h
 unfolding after_record after_add_to_bin reach
-reach-recorded greatest h v n le = ap (λ (w : Plain). reach_of (grain w) w.high) (widened-same h v le)
+reach-recorded greatest h v n le = ap (λ (w : Plain). reach_of (resolution w) w.high) (widened-same h v le)
 
-pub recorded-inside : (greatest : ℕ) (h : Plain) (v n : ℕ) → v ≤ reach h → after_add_to_bin greatest h (bin_of (grain h) v) n ≡ after_record greatest h v n
+pub recorded-inside : (greatest : ℕ) (h : Plain) (v n : ℕ) → v ≤ reach h → after_add_to_bin greatest h (bin_of (resolution h) v) n ≡ after_record greatest h v n
 unfolding after_record
-recorded-inside greatest h v n le = ap (λ (w : Plain). after_add_to_bin greatest w (bin_of (grain h) v) n) (sym (widened-same h v le))
+recorded-inside greatest h v n le = ap (λ (w : Plain). after_add_to_bin greatest w (bin_of (resolution h) v) n) (sym (widened-same h v le))
 
 -- ---- bins for a source
 
@@ -228,7 +228,7 @@ with_room-more h x lt = rw (leb-no x (reach h) lt) refl
 pub with_room-reach : (h : Plain) (x : ℕ) → x ≤ reach (with_room h x)
 unfolding reach with_bins_to
 with_room-reach h x = elim (cases_lt (reach h) x) [
-  | inl lt ↦ rw (with_room-more h x lt) (reach-holds (grain h) x)
+  | inl lt ↦ rw (with_room-more h x lt) (reach-holds (resolution h) x)
   | inr le ↦ rw (with_room-same h x le) le
 ]
 
@@ -242,7 +242,7 @@ merged-some greatest h s n = rw (eqb-no s.total 0 n) refl
 
 -- ---- the classes of a source, one more at a time
 
-module _ (greatest : ℕ) (h : Plain) (g : Grain) (ns : List ℕ) (i : ℕ) where
+module _ (greatest : ℕ) (h : Plain) (g : Resolution) (ns : List ℕ) (i : ℕ) where
   pub classes-next : i < length ns → 0 < get_or ns i 0
       → after_record greatest (after_records greatest h (classes_from g 0 (take i ns))) (value_of g i) (get_or ns i 0) ≡ after_records greatest h (classes_from g 0 (take (i + 1) ns))
   classes-next lt pos =
@@ -258,7 +258,7 @@ module _ (greatest : ℕ) (h : Plain) (g : Grain) (ns : List ℕ) (i : ℕ) wher
   classes-same lt none =
       sym (ap (λ l. classes_from g 0 l) (take_more ns i 0 lt ∙ ap (λ n. take i ns ++ n ∷ []) none) ∙ classes-more-none g 0 (take i ns))
 
-pub classes-end : (greatest : ℕ) (h : Plain) (g : Grain) (ns : List ℕ) (mark : Option ℕ) (i : ℕ) → mark ≡ Some i
+pub classes-end : (greatest : ℕ) (h : Plain) (g : Resolution) (ns : List ℕ) (mark : Option ℕ) (i : ℕ) → mark ≡ Some i
     → after_record greatest (after_records greatest h (classes_from g 0 ns)) (value_of g i) 0 ≡ after_records greatest h (classes_from g 0 ns ++ top_class g mark)
 classes-end greatest h g ns mark i e =
     sym (ap (λ o. after_records greatest h (classes_from g 0 ns ++ top_class g o)) e ∙ recorded_each-append greatest h (classes_from g 0 ns) (top_class g (Some i)))
@@ -268,6 +268,6 @@ unfolding after_add_within
 taken-same greatest h s e = rw e refl
 
 pub taken-other : (greatest : ℕ) (h s : Plain) → same_bins h s ≡ false
-    → after_records greatest h (classes_from (grain s) 0 s.counts ++ top_class (grain s) s.top_mark) ≡ after_add_within greatest h s
+    → after_records greatest h (classes_from (resolution s) 0 s.counts ++ top_class (resolution s) s.top_mark) ≡ after_add_within greatest h s
 unfolding after_add_within
 taken-other greatest h s e = rw e refl

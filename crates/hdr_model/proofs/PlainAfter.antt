@@ -3,8 +3,8 @@ use Rattle.std.proofs.Common.{◌≡◌, ℕ, ◌^◌, ◌<◌, ◌≤◌, Bool,
 use Rattle.std.specs.List.{All}
 use Rattle.std.proofs.lemmas.Bool.{cases_lt}
 use Rattle.std.proofs.lemmas.List.Elements.{All-cons}
-use Rattle.hdr_base.specs.Classes.{Grain, bin_of}
-use Rattle.hdr_model.specs.Plain.{Plain, IsPlain, grain, reach, max_of}
+use Rattle.hdr_base.specs.Classes.{Resolution, bin_of}
+use Rattle.hdr_model.specs.Plain.{Plain, IsPlain, resolution, reach, max_of}
 use Rattle.hdr_model.specs.Recording.{with_bins_for, after_record, after_records, after_clear, after_reset}
 use Rattle.hdr_model.specs.Correction.{missing, each_times, after_correct}
 use Rattle.hdr_model.specs.Merging.{highest_top, after_add_correct, corrections_from, same_bins, after_add_same_bins, after_add_within, with_room, after_add, classes_from, top_class}
@@ -14,7 +14,7 @@ use Rattle.hdr_model.proofs.MergingStands.{classes-inside}
 use Rattle.hdr_model.proofs.MergingKeeps.{same-bins, IsPlain-taken, IsPlain-summed, joined-empty, joined-some, taken-same, taken-other, merged-none, merged-some, with_room-reach}
 use Rattle.hdr_model.proofs.CorrectionByClass.{each-within}
 use Rattle.hdr_model.proofs.RecordingClears.{IsPlain-cleared, IsPlain-unmarked, restarted-parts}
-use Rattle.hdr_model.proofs.MergingCorrects.{IsPlain-widened, grain-widened, widened-holds, recorded-from, corrected-inside}
+use Rattle.hdr_model.proofs.MergingCorrects.{IsPlain-widened, resolution-widened, widened-holds, recorded-from, corrected-inside}
 use Rattle.hdr_model.proofs.MergingOrder.{IsPlain-each, IsPlain-room, max-small, highest-small}
 
 pub IsPlain-recorded : (greatest : ℕ) (h : Plain) (v n : ℕ) → 1 ≤ greatest → v < 2 ^ 64 → IsPlain greatest h → IsPlain greatest (after_record greatest h v n)
@@ -22,8 +22,8 @@ unfolding after_record
 IsPlain-recorded greatest h v n one small p =
     let w = with_bins_for h v in
     let q = IsPlain-widened greatest h v small p in
-    let room : bin_of (grain h) v < length w.counts = subst (λ (g : Grain). bin_of g v < length w.counts) (grain-widened h v) (room-in greatest w v q (widened-holds h v)) in
-    IsPlain-added greatest w (bin_of (grain h) v) n one room q
+    let room : bin_of (resolution h) v < length w.counts = subst (λ (g : Resolution). bin_of g v < length w.counts) (resolution-widened h v) (room-in greatest w v q (widened-holds h v)) in
+    IsPlain-added greatest w (bin_of (resolution h) v) n one room q
 
 pub IsPlain-corrected : (greatest : ℕ) (h : Plain) (v n i : ℕ) → 1 ≤ greatest → v < 2 ^ 64 → IsPlain greatest h → IsPlain greatest (after_correct greatest h v n i)
 unfolding after_correct
@@ -51,7 +51,7 @@ IsPlain-taken_in greatest most h s one p q room = go (same_bins h s) refl
     go true e = subst (λ (w : Plain). IsPlain greatest w) (taken-same greatest h s e) (IsPlain-joined greatest most h s one p q (same-bins h s e).1)
     go false e =
         subst (λ (w : Plain). IsPlain greatest w) (taken-other greatest h s e)
-        (IsPlain-each greatest h (classes_from (grain s) 0 s.counts ++ top_class (grain s) s.top_mark) one p (classes-inside most s (reach h) q room))
+        (IsPlain-each greatest h (classes_from (resolution s) 0 s.counts ++ top_class (resolution s) s.top_mark) one p (classes-inside most s (reach h) q room))
 
 pub IsPlain-merged : (greatest most : ℕ) (h s : Plain) → 1 ≤ greatest → IsPlain greatest h → IsPlain most s → IsPlain greatest (after_add greatest h s)
 IsPlain-merged greatest most h s one p q = elim (cases_lt 0 s.total) [
@@ -67,5 +67,5 @@ pub IsPlain-merged_corrected : (greatest most : ℕ) (h s : Plain) (i : ℕ) →
 unfolding after_add_correct
 IsPlain-merged_corrected greatest most h s i one p q =
     let w = with_bins_for h (highest_top s) in
-    IsPlain-each greatest w (corrections_from (grain s) i 0 s.counts) one (IsPlain-widened greatest h (highest_top s) (highest-small most s q) p)
+    IsPlain-each greatest w (corrections_from (resolution s) i 0 s.counts) one (IsPlain-widened greatest h (highest_top s) (highest-small most s q) p)
     (corrected-inside s i (reach w) (widened-holds h (highest_top s)))

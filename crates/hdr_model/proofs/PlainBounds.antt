@@ -1,7 +1,7 @@
 -- No call changes the bounds that classes are made of, or whether the bins may grow.
 use Rattle.std.proofs.Common.{◌≡◌, ◌∙◌, ℕ, List, [], ◌∷◌, ◌++◌, Bool, true, false, cond, eqb, refl, ap, inl, inr}
 use Rattle.std.proofs.lemmas.Bool.{cases_lt}
-use Rattle.hdr_model.specs.Plain.{Plain, grain, reach, max_of}
+use Rattle.hdr_model.specs.Plain.{Plain, resolution, reach, max_of}
 use Rattle.hdr_model.specs.Recording.{with_bins_to, with_bins_for, after_add_to_bin, after_record, Times, after_records, after_clear, after_reset}
 use Rattle.hdr_model.specs.Correction.{each_times, missing, after_correct}
 use Rattle.hdr_model.specs.Merging.{corrections_from, highest_top, after_add_correct, after_add_same_bins, after_add_within, with_room, after_add, same_bins, classes_from, top_class}
@@ -49,15 +49,15 @@ bounds-corrected greatest h v n i = bounds-each greatest h (each_times n (v ∷ 
 pub bounds-merged_corrected : (greatest : ℕ) (h s : Plain) (i : ℕ) → bounds (after_add_correct greatest h s i) ≡ bounds h
 unfolding after_add_correct
 bounds-merged_corrected greatest h s i =
-    bounds-each greatest (with_bins_for h (highest_top s)) (corrections_from (grain s) i 0 s.counts) ∙ bounds-widened h (highest_top s)
+    bounds-each greatest (with_bins_for h (highest_top s)) (corrections_from (resolution s) i 0 s.counts) ∙ bounds-widened h (highest_top s)
 
 bounds-taken_in : (greatest : ℕ) (h s : Plain) → bounds (after_add_within greatest h s) ≡ bounds h
 unfolding bounds after_add_within after_add_same_bins
 bounds-taken_in greatest h s = told (same_bins h s)
   where
-    told : (b : Bool) → bounds (cond b (after_add_same_bins greatest h s) (after_records greatest h (classes_from (grain s) 0 s.counts ++ top_class (grain s) s.top_mark))) ≡ bounds h
+    told : (b : Bool) → bounds (cond b (after_add_same_bins greatest h s) (after_records greatest h (classes_from (resolution s) 0 s.counts ++ top_class (resolution s) s.top_mark))) ≡ bounds h
     told true = refl
-    told false = bounds-each greatest h (classes_from (grain s) 0 s.counts ++ top_class (grain s) s.top_mark)
+    told false = bounds-each greatest h (classes_from (resolution s) 0 s.counts ++ top_class (resolution s) s.top_mark)
 
 pub bounds-merged : (greatest : ℕ) (h s : Plain) → bounds (after_add greatest h s) ≡ bounds h
 unfolding after_add

@@ -4,12 +4,12 @@ use Rattle.std.proofs.lemmas.Bool.Decides.{nat_tests}
 use Rattle.std.proofs.lemmas.Bool.{cases_lt}
 use Rattle.std.proofs.lemmas.List.{length-set, length-replicate, length-append, get_or-set_other, get_or-set_same, get_or-replicate, get_or_past}
 use Rattle.std.proofs.lemmas.List.Elements.{All-set, All-append, All-replicate}
-use Rattle.hdr_base.specs.Classes.{Grain, bucket, bin_of, reach_of, HasScale, grain_of, bins_to}
+use Rattle.hdr_base.specs.Classes.{Resolution, bucket, bin_of, reach_of, HasScale, resolution_of, bins_to}
 use Rattle.std.proofs.lemmas.List.Sums.{sum_by-set, get_or-le-sum_by, sum_by-append}
 use Rattle.std.proofs.lemmas.List.Folds.{sum_by-replicate}
 use Rattle.hdr_base.proofs.ClassesLaws.{bin-mono}
 use Rattle.hdr_counts.specs.Blocks.{Blocks}
-use Rattle.hdr_model.specs.Plain.{Plain, IsPlain, grain, reach, empty_plain}
+use Rattle.hdr_model.specs.Plain.{Plain, IsPlain, resolution, reach, empty_plain}
 use Rattle.hdr_model.specs.Marks.{IsAbove, IsBelow, later_mark, earlier_mark}
 use Rattle.hdr_model.specs.Recording.{with_bins_to, with_bins_for, after_add_to_bin, after_record}
 use Rattle.hdr_base.proofs.ClassesReach.{reach-holds, reach-reach, reach-fits, bins-blocks, within-bins, past-bins, bins-mono}
@@ -130,43 +130,43 @@ pub widened-same : (h : Plain) (v : ℕ) → v ≤ reach h → with_bins_for h v
 unfolding with_bins_for
 widened-same h v le = rw (leb-yes v (reach h) le) refl
 
-pub widened-more : (h : Plain) (v : ℕ) → reach h < v → with_bins_for h v ≡ with_bins_to h (reach_of (grain h) v)
+pub widened-more : (h : Plain) (v : ℕ) → reach h < v → with_bins_for h v ≡ with_bins_to h (reach_of (resolution h) v)
 unfolding with_bins_for
 widened-more h v lt = rw (leb-no v (reach h) lt) refl
 
 -- the digits of a histogram's classes
-pub grain-digits : (greatest : ℕ) (h : Plain) → IsPlain greatest h → 0 < (grain h).digits
-unfolding grain_of
-grain-digits greatest h p = digits-pos h.sigfig
+pub resolution-digits : (greatest : ℕ) (h : Plain) → IsPlain greatest h → 0 < (resolution h).digits
+unfolding resolution_of
+resolution-digits greatest h p = digits-pos h.sigfig
 
-pub grain-fits : (greatest : ℕ) (h : Plain) → IsPlain greatest h → (grain h).unit + (grain h).digits ≤ 63
-unfolding grain_of
-grain-fits greatest h p = p.scale.fits
+pub resolution-fits : (greatest : ℕ) (h : Plain) → IsPlain greatest h → (resolution h).unit + (resolution h).digits ≤ 63
+unfolding resolution_of
+resolution-fits greatest h p = p.scale.fits
 
-pub grows : (greatest : ℕ) (h : Plain) (v : ℕ) → IsPlain greatest h → reach h < v → length h.counts ≤ bins_to (grain h) v
+pub grows : (greatest : ℕ) (h : Plain) (v : ℕ) → IsPlain greatest h → reach h < v → length h.counts ≤ bins_to (resolution h) v
 unfolding reach
-grows greatest h v p lt = omega (arith, p.bins, bins-mono (grain h) h.high v (grain-digits greatest h p) lt)
+grows greatest h v p lt = omega (arith, p.bins, bins-mono (resolution h) h.high v (resolution-digits greatest h p) lt)
 
-pub bins-of-reach : (g : Grain) (v : ℕ) → bins_to g (reach_of g v) ≡ bins_to g v
+pub bins-of-reach : (g : Resolution) (v : ℕ) → bins_to g (reach_of g v) ≡ bins_to g v
 unfolding bins_to
 bins-of-reach g v = ap (λ r. bin_of g r + 1) (reach-reach g v)
 
-pub length-grown : (greatest : ℕ) (h : Plain) (x : ℕ) → IsPlain greatest h → reach h < x → length (with_bins_to h x).counts ≡ bins_to (grain h) x
+pub length-grown : (greatest : ℕ) (h : Plain) (x : ℕ) → IsPlain greatest h → reach h < x → length (with_bins_to h x).counts ≡ bins_to (resolution h) x
 unfolding with_bins_to
 length-grown greatest h x p lt =
-    length-append h.counts (replicate (bins_to (grain h) x - length h.counts) 0)
-    ∙ ap (λ n. length h.counts + n) (length-replicate (bins_to (grain h) x - length h.counts) 0)
-    ∙ (let e : length h.counts + (bins_to (grain h) x - length h.counts) ≡ bins_to (grain h) x = omega (arith, grows greatest h x p lt) in e)
+    length-append h.counts (replicate (bins_to (resolution h) x - length h.counts) 0)
+    ∙ ap (λ n. length h.counts + n) (length-replicate (bins_to (resolution h) x - length h.counts) 0)
+    ∙ (let e : length h.counts + (bins_to (resolution h) x - length h.counts) ≡ bins_to (resolution h) x = omega (arith, grows greatest h x p lt) in e)
 
 wide-past : (h : Plain) (x : ℕ) → 2 * h.low ≤ h.high → reach h < x → 2 * h.low ≤ x
 unfolding reach
-wide-past h x wide lt = omega (arith, wide, lt, reach-holds (grain h) h.high)
+wide-past h x wide lt = omega (arith, wide, lt, reach-holds (resolution h) h.high)
 
 pub IsPlain-grown : (greatest : ℕ) (h : Plain) (x : ℕ) → IsPlain greatest h → x < 2 ^ 64 → reach h < x → IsPlain greatest (with_bins_to h x)
 unfolding with_bins_to
 IsPlain-grown greatest h x p small lt =
     let len = length-grown greatest h x p lt in
-    let more : length h.counts ≤ length (h.counts ++ replicate (bins_to (grain h) x - length h.counts) 0) = omega (arith, len, grows greatest h x p lt) in
+    let more : length h.counts ≤ length (h.counts ++ replicate (bins_to (resolution h) x - length h.counts) 0) = omega (arith, len, grows greatest h x p lt) in
     record {
       scale = p.scale;
       high_fits = small;
@@ -174,46 +174,46 @@ IsPlain-grown greatest h x p small lt =
       bins = len;
       numbers_fit = All-append (λ n. n ≤ greatest) h.counts _ p.numbers_fit (All-replicate (λ n. n ≤ greatest) _ 0 (omega arith));
       total_fits = p.total_fits;
-      total_covers = omega (arith, zeros-sum h.counts (bins_to (grain h) x - length h.counts), p.total_covers);
-      empty = λ e. zeros-sum h.counts (bins_to (grain h) x - length h.counts) ∙ p.empty e;
-      nothing = λ e. p.nothing (sym (zeros-sum h.counts (bins_to (grain h) x - length h.counts)) ∙ e);
+      total_covers = omega (arith, zeros-sum h.counts (bins_to (resolution h) x - length h.counts), p.total_covers);
+      empty = λ e. zeros-sum h.counts (bins_to (resolution h) x - length h.counts) ∙ p.empty e;
+      nothing = λ e. p.nothing (sym (zeros-sum h.counts (bins_to (resolution h) x - length h.counts)) ∙ e);
       top_in_bins = top-more h.top_mark (length h.counts) _ more p.top_in_bins;
       lower_in_bins = lower-more h.lower_mark (length h.counts) _ more p.lower_in_bins;
-      none_above = λ i above. zeros-behind h.counts (bins_to (grain h) x - length h.counts) i ∙ p.none_above i above;
-      none_below = λ i below. zeros-behind h.counts (bins_to (grain h) x - length h.counts) i ∙ p.none_below i below;
+      none_above = λ i above. zeros-behind h.counts (bins_to (resolution h) x - length h.counts) i ∙ p.none_above i above;
+      none_below = λ i below. zeros-behind h.counts (bins_to (resolution h) x - length h.counts) i ∙ p.none_below i below;
     }
 
 -- a value is within the reach if and only if its class has a bin
-pub room-in : (greatest : ℕ) (h : Plain) (v : ℕ) → IsPlain greatest h → v ≤ reach h → bin_of (grain h) v < length h.counts
+pub room-in : (greatest : ℕ) (h : Plain) (v : ℕ) → IsPlain greatest h → v ≤ reach h → bin_of (resolution h) v < length h.counts
 unfolding reach
-room-in greatest h v p le = omega (arith, p.bins, within-bins (grain h) h.high v (grain-digits greatest h p) le)
+room-in greatest h v p le = omega (arith, p.bins, within-bins (resolution h) h.high v (resolution-digits greatest h p) le)
 
-pub room-of : (greatest : ℕ) (h : Plain) (v : ℕ) → IsPlain greatest h → bin_of (grain h) v < length h.counts → v ≤ reach h
+pub room-of : (greatest : ℕ) (h : Plain) (v : ℕ) → IsPlain greatest h → bin_of (resolution h) v < length h.counts → v ≤ reach h
 unfolding reach
 room-of greatest h v p lt =
-    elim (cases_lt (reach_of (grain h) h.high) v) [
-      | inl past ↦ absurd (omega (arith, p.bins, past-bins (grain h) h.high v (grain-digits greatest h p) past))
+    elim (cases_lt (reach_of (resolution h) h.high) v) [
+      | inl past ↦ absurd (omega (arith, p.bins, past-bins (resolution h) h.high v (resolution-digits greatest h p) past))
       | inr le ↦ le
     ]
 
 -- the bins of a value's reach
-pub bins-enough : (greatest : ℕ) (h : Plain) (v : ℕ) → IsPlain greatest h → bin_of (grain h) v < bins_to (grain h) v
-bins-enough greatest h v p = within-bins (grain h) v v (grain-digits greatest h p) (reach-holds (grain h) v)
+pub bins-enough : (greatest : ℕ) (h : Plain) (v : ℕ) → IsPlain greatest h → bin_of (resolution h) v < bins_to (resolution h) v
+bins-enough greatest h v p = within-bins (resolution h) v v (resolution-digits greatest h p) (reach-holds (resolution h) v)
 
-pub past-reach : (greatest : ℕ) (h : Plain) (v : ℕ) → IsPlain greatest h → reach h < v → reach h < reach_of (grain h) v
-past-reach greatest h v p past = omega (arith, reach-holds (grain h) v)
+pub past-reach : (greatest : ℕ) (h : Plain) (v : ℕ) → IsPlain greatest h → reach h < v → reach h < reach_of (resolution h) v
+past-reach greatest h v p past = omega (arith, reach-holds (resolution h) v)
 
-pub room-widened : (greatest : ℕ) (h : Plain) (v : ℕ) → IsPlain greatest h → v < 2 ^ 64 → reach h < v → bin_of (grain h) v < length (with_bins_to h (reach_of (grain h) v)).counts
+pub room-widened : (greatest : ℕ) (h : Plain) (v : ℕ) → IsPlain greatest h → v < 2 ^ 64 → reach h < v → bin_of (resolution h) v < length (with_bins_to h (reach_of (resolution h) v)).counts
 room-widened greatest h v p small past =
-    omega (arith, length-grown greatest h (reach_of (grain h) v) p (past-reach greatest h v p past), bins-enough greatest h v p, bins-of-reach (grain h) v)
+    omega (arith, length-grown greatest h (reach_of (resolution h) v) p (past-reach greatest h v p past), bins-enough greatest h v p, bins-of-reach (resolution h) v)
 
 -- recording keeps the classes
-pub grain-recorded : (greatest : ℕ) (h : Plain) (v n : ℕ) → grain (after_record greatest h v n) ≡ grain h
+pub resolution-recorded : (greatest : ℕ) (h : Plain) (v n : ℕ) → resolution (after_record greatest h v n) ≡ resolution h
 unfolding after_record after_add_to_bin with_bins_to
-grain-recorded greatest h v n =
+resolution-recorded greatest h v n =
     elim (cases_lt (reach h) v) [
-      | inl past ↦ ap (λ (w : Plain). grain w) (widened-more h v past)
-      | inr le ↦ ap (λ (w : Plain). grain w) (widened-same h v le)
+      | inl past ↦ ap (λ (w : Plain). resolution w) (widened-more h v past)
+      | inr le ↦ ap (λ (w : Plain). resolution w) (widened-same h v le)
     ]
 
 -- a histogram that was just made
@@ -223,50 +223,50 @@ IsPlain-empty greatest low high sigfig auto_resize scale fits wide = record {
   scale = scale;
   high_fits = fits;
   wide = wide;
-  bins = length-replicate (bins_to (grain_of low sigfig) high) 0;
-  numbers_fit = All-replicate (λ n. n ≤ greatest) (bins_to (grain_of low sigfig) high) 0 (omega arith);
+  bins = length-replicate (bins_to (resolution_of low sigfig) high) 0;
+  numbers_fit = All-replicate (λ n. n ≤ greatest) (bins_to (resolution_of low sigfig) high) 0 (omega arith);
   total_fits = omega arith;
-  total_covers = omega (arith, sum_by-replicate (λ x. x) (bins_to (grain_of low sigfig) high) 0);
-  empty = λ e. omega (arith, sum_by-replicate (λ x. x) (bins_to (grain_of low sigfig) high) 0);
+  total_covers = omega (arith, sum_by-replicate (λ x. x) (bins_to (resolution_of low sigfig) high) 0);
+  empty = λ e. omega (arith, sum_by-replicate (λ x. x) (bins_to (resolution_of low sigfig) high) 0);
   nothing = λ e. refl;
   top_in_bins = tt;
   lower_in_bins = tt;
-  none_above = λ i above. zeros-behind [] (bins_to (grain_of low sigfig) high) i;
-  none_below = λ i below. zeros-behind [] (bins_to (grain_of low sigfig) high) i;
+  none_above = λ i above. zeros-behind [] (bins_to (resolution_of low sigfig) high) i;
+  none_below = λ i below. zeros-behind [] (bins_to (resolution_of low sigfig) high) i;
 }
 
 -- blocks up to a value's bucket hold its bins
-empty-by : (low high sigfig blocks block : ℕ) (auto_resize : Bool) (numbers : List ℕ) → numbers ≡ replicate (blocks * block) 0 → blocks * block ≡ bins_to (grain_of low sigfig) high
+empty-by : (low high sigfig blocks block : ℕ) (auto_resize : Bool) (numbers : List ℕ) → numbers ≡ replicate (blocks * block) 0 → blocks * block ≡ bins_to (resolution_of low sigfig) high
     → record { low = low; high = high; sigfig = sigfig; auto_resize = auto_resize; counts = numbers; total = 0; top_mark = None; lower_mark = None } ≡ empty_plain low high sigfig auto_resize
 unfolding empty_plain
 empty-by low high sigfig blocks block auto_resize numbers e n = rw (e, n) refl
 
 -- the blocks up to a value's bucket are its bins
-pub blocks-are : (scale g : Grain) (x blocks block : ℕ) → scale ≡ g → blocks ≡ bucket scale x + 2 → block ≡ 2 ^ (g.digits - 1) → 0 < g.digits → blocks * block ≡ bins_to g x
+pub blocks-are : (scale g : Resolution) (x blocks block : ℕ) → scale ≡ g → blocks ≡ bucket scale x + 2 → block ≡ 2 ^ (g.digits - 1) → 0 < g.digits → blocks * block ≡ bins_to g x
 blocks-are scale g x blocks block same n width m =
     let two : bucket g x + 2 ≡ bucket g x + 1 + 1 = omega arith in
-    ap (λ k. blocks * k) width ∙ ap (λ k. k * 2 ^ (g.digits - 1)) (n ∙ ap (λ (s : Grain). bucket s x + 2) same ∙ two) ∙ sym (bins-blocks g x m)
+    ap (λ k. blocks * k) width ∙ ap (λ k. k * 2 ^ (g.digits - 1)) (n ∙ ap (λ (s : Resolution). bucket s x + 2) same ∙ two) ∙ sym (bins-blocks g x m)
 
-pub grown-parts : (h : Plain) (x n : ℕ) (counts : List ℕ) → n ≡ bins_to (grain h) x → counts ≡ h.counts ++ replicate (n - length h.counts) 0
+pub grown-parts : (h : Plain) (x n : ℕ) (counts : List ℕ) → n ≡ bins_to (resolution h) x → counts ≡ h.counts ++ replicate (n - length h.counts) 0
     → record h { high = x; counts = counts } ≡ with_bins_to h x
 unfolding with_bins_to
 grown-parts h x n counts a b = rw (b, a) refl
 
-pub digits-pos-of : (low sigfig : ℕ) → 0 < (grain_of low sigfig).digits
-unfolding grain_of
+pub digits-pos-of : (low sigfig : ℕ) → 0 < (resolution_of low sigfig).digits
+unfolding resolution_of
 digits-pos-of low sigfig = digits-pos sigfig
 
 -- the bins that are made for the bounds of a histogram
 pub record AreMade (low high sigfig : ℕ) (auto_resize : Bool) (counts : Blocks) : Type 0 where
-  pub block : counts.block ≡ 2 ^ ((grain_of low sigfig).digits - 1)
-  pub bins : length counts.numbers ≡ bins_to (grain_of low sigfig) high
+  pub block : counts.block ≡ 2 ^ ((resolution_of low sigfig).digits - 1)
+  pub bins : length counts.numbers ≡ bins_to (resolution_of low sigfig) high
   pub empty : record { low = low; high = high; sigfig = sigfig; auto_resize = auto_resize; counts = counts.numbers; total = 0; top_mark = None; lower_mark = None } ≡ empty_plain low high sigfig auto_resize
 
-pub made : (scale : Grain) (low high sigfig blocks block : ℕ) (auto_resize : Bool) (counts : Blocks) → scale ≡ grain_of low sigfig → block ≡ 2 ^ (scale.digits - 1)
+pub made : (scale : Resolution) (low high sigfig blocks block : ℕ) (auto_resize : Bool) (counts : Blocks) → scale ≡ resolution_of low sigfig → block ≡ 2 ^ (scale.digits - 1)
     → blocks ≡ bucket scale high + 2 → counts ≡ record { block = block; numbers = replicate (blocks * block) 0 } → AreMade low high sigfig auto_resize counts
 made scale low high sigfig blocks block auto_resize counts same width number is =
-    let wide : block ≡ 2 ^ ((grain_of low sigfig).digits - 1) = width ∙ ap (λ (s : Grain). 2 ^ (s.digits - 1)) same in
-    let whole = blocks-are scale (grain_of low sigfig) high blocks block same number wide (digits-pos-of low sigfig) in
+    let wide : block ≡ 2 ^ ((resolution_of low sigfig).digits - 1) = width ∙ ap (λ (s : Resolution). 2 ^ (s.digits - 1)) same in
+    let whole = blocks-are scale (resolution_of low sigfig) high blocks block same number wide (digits-pos-of low sigfig) in
     record {
       block = ap (λ (b : Blocks). b.block) is ∙ wide;
       bins = ap (λ (b : Blocks). length b.numbers) is ∙ length-replicate (blocks * block) 0 ∙ whole;
@@ -274,10 +274,10 @@ made scale low high sigfig blocks block auto_resize counts same width number is 
     }
 
 -- each bin has a lowest value
-pub index-inside : (greatest : ℕ) (h : Plain) (i : ℕ) → IsPlain greatest h → i < length h.counts → bin_of (grain h) (2 ^ 64 - 1) < i → ⊥
+pub index-inside : (greatest : ℕ) (h : Plain) (i : ℕ) → IsPlain greatest h → i < length h.counts → bin_of (resolution h) (2 ^ 64 - 1) < i → ⊥
 unfolding bins_to
 index-inside greatest h i p lt past =
-    omega (arith, p.bins, bin-mono (grain h) (reach_of (grain h) h.high) (2 ^ 64 - 1) (grain-digits greatest h p) (omega (arith, reach-fits (grain h) h.high p.high_fits (grain-fits greatest h p))))
+    omega (arith, p.bins, bin-mono (resolution h) (reach_of (resolution h) h.high) (2 ^ 64 - 1) (resolution-digits greatest h p) (omega (arith, reach-fits (resolution h) h.high p.high_fits (resolution-fits greatest h p))))
 
 pub bins-pos : (greatest : ℕ) (h : Plain) → IsPlain greatest h → 0 < length h.counts
 unfolding bins_to

@@ -8,14 +8,14 @@ use Rattle.std.proofs.lemmas.List.Elements.{All-weaker}
 use Rattle.std.proofs.Math.Nat.{one-le-pow}
 use Rattle.std.proofs.lemmas.Nat.{div-add-mod', mod_below, div_below, mul-le}
 use Rattle.hdr_base.specs.Fractions.{Ratio}
-use Rattle.hdr_base.specs.Classes.{Grain, bin_of, lowest_of, top_of, width_of, grain_of}
+use Rattle.hdr_base.specs.Classes.{Resolution, bin_of, lowest_of, top_of, width_of, resolution_of}
 use Rattle.hdr_base.proofs.ClassesLaws.{bin-top, top-of-value, lowest-le, width-of-units, width-bound, width-pos}
 use Rattle.hdr_counts.specs.Blocks.{IsFirstToReach, looks}
-use Rattle.hdr_model.specs.Plain.{Plain, IsPlain, grain, reach}
+use Rattle.hdr_model.specs.Plain.{Plain, IsPlain, resolution, reach}
 use Rattle.hdr_model.specs.Samples.{StandsFor}
 use Rattle.hdr_model.specs.Quantiles.{sorted, rank, ranked_sample, IsTopNear}
 use Rattle.hdr_base.proofs.ClassesDigits.{digits-enough}
-use Rattle.hdr_model.proofs.PlainKept.{grain-digits, room-in}
+use Rattle.hdr_model.proofs.PlainKept.{resolution-digits, room-in}
 use Rattle.hdr_model.proofs.QuantilesOrder.{FirstReaching, class-of-rank, in_first-all, running}
 
 -- a rank is between 1 and the number of samples
@@ -64,34 +64,34 @@ first-one counts r i j a b =
       | inr ge ↦ elim (cases_lt j i) [ inl lt ↦ absurd (not-later counts r j i b a lt) | inr le ↦ omega arith ]
     ]
 
-top-below : (g : Grain) (s : ℕ) → top_of g s + 1 ≤ s + width_of g s
+top-below : (g : Resolution) (s : ℕ) → top_of g s + 1 ≤ s + width_of g s
 unfolding top_of
 top-below g s = omega (arith, lowest-le g s, width-pos g s)
 
-parts : (greatest : ℕ) (h : Plain) (s : ℕ) → IsPlain greatest h → 2 ^ ((grain h).unit + (grain h).digits) ≤ s → width_of (grain h) s * 10 ^ h.sigfig ≤ lowest_of (grain h) s
-unfolding grain_of
-parts greatest h s p large = width-bound (grain h) s (10 ^ h.sigfig) (grain-digits greatest h p) (digits-enough h.sigfig) large
+parts : (greatest : ℕ) (h : Plain) (s : ℕ) → IsPlain greatest h → 2 ^ ((resolution h).unit + (resolution h).digits) ≤ s → width_of (resolution h) s * 10 ^ h.sigfig ≤ lowest_of (resolution h) s
+unfolding resolution_of
+parts greatest h s p large = width-bound (resolution h) s (10 ^ h.sigfig) (resolution-digits greatest h p) (digits-enough h.sigfig) large
 
 -- the top of a class is near each of its values
-pub top-near : (greatest : ℕ) (h : Plain) (s answer : ℕ) → IsPlain greatest h → answer ≡ top_of (grain h) s → IsTopNear h s answer
+pub top-near : (greatest : ℕ) (h : Plain) (s answer : ℕ) → IsPlain greatest h → answer ≡ top_of (resolution h) s → IsTopNear h s answer
 top-near greatest h s answer p e = record {
   is_top = e;
-  at_least = omega (arith, top-of-value (grain h) s);
-  close = elim (cases_lt s (2 ^ ((grain h).unit + (grain h).digits))) [
-    | inl small ↦ inl (omega (arith, top-below (grain h) s, width-of-units (grain h) s small, width-pos (grain h) s))
+  at_least = omega (arith, top-of-value (resolution h) s);
+  close = elim (cases_lt s (2 ^ ((resolution h).unit + (resolution h).digits))) [
+    | inl small ↦ inl (omega (arith, top-below (resolution h) s, width-of-units (resolution h) s small, width-pos (resolution h) s))
     | inr large ↦ inr (
-        let part : width_of (grain h) s * 10 ^ h.sigfig ≤ lowest_of (grain h) s = parts greatest h s p large in
-        let gap : answer - s + 1 ≤ width_of (grain h) s = omega (arith, top-below (grain h) s, width-pos (grain h) s) in
-        let row : (answer - s + 1) * 10 ^ h.sigfig ≤ width_of (grain h) s * 10 ^ h.sigfig = mul-le (answer - s + 1) (10 ^ h.sigfig) (width_of (grain h) s) (10 ^ h.sigfig) gap (omega arith) in
-        omega (arith, lowest-le (grain h) s, one-le-pow h.sigfig 10 (omega arith))
+        let part : width_of (resolution h) s * 10 ^ h.sigfig ≤ lowest_of (resolution h) s = parts greatest h s p large in
+        let gap : answer - s + 1 ≤ width_of (resolution h) s = omega (arith, top-below (resolution h) s, width-pos (resolution h) s) in
+        let row : (answer - s + 1) * 10 ^ h.sigfig ≤ width_of (resolution h) s * 10 ^ h.sigfig = mul-le (answer - s + 1) (10 ^ h.sigfig) (width_of (resolution h) s) (10 ^ h.sigfig) gap (omega arith) in
+        omega (arith, lowest-le (resolution h) s, one-le-pow h.sigfig 10 (omega arith))
         )
   ];
 }
 
 module _ (greatest : ℕ) (h : Plain) (q : Ratio) (p : IsPlain greatest h) (pos : 0 < q.den) where
   -- the class of the rank has the ranked sample
-  pub answer-ranked : (S : List ℕ) (i lowest : ℕ) → StandsFor h S → 0 < length S → FirstReaching h.counts (rank q h.total) i → bin_of (grain h) lowest ≡ i
-      → IsTopNear h (ranked_sample q S) (top_of (grain h) lowest)
+  pub answer-ranked : (S : List ℕ) (i lowest : ℕ) → StandsFor h S → 0 < length S → FirstReaching h.counts (rank q h.total) i → bin_of (resolution h) lowest ≡ i
+      → IsTopNear h (ranked_sample q S) (top_of (resolution h) lowest)
   unfolding ranked_sample
   answer-ranked S i lowest s some first is =
       let r = rank q (length S) in
@@ -99,15 +99,15 @@ module _ (greatest : ℕ) (h : Plain) (q : Ratio) (p : IsPlain greatest h) (pos 
       let in_range : k < length S = omega (arith, rank-bound q (length S) pos some, rank-pos q (length S)) in
       let here : FirstReaching h.counts (k + 1) i =
       subst (λ n. FirstReaching h.counts n i) (ap (λ n. rank q n) s.total ∙ (let e : r ≡ k + 1 = omega (arith, rank-pos q (length S)) in e)) first in
-      let class = class-of-rank h S k i (grain-digits greatest h p) s in_range here in
-      top-near greatest h (get_or (sorted S) k 0) (top_of (grain h) lowest) p (bin-top (grain h) lowest (get_or (sorted S) k 0) (grain-digits greatest h p) (is ∙ sym class))
+      let class = class-of-rank h S k i (resolution-digits greatest h p) s in_range here in
+      top-near greatest h (get_or (sorted S) k 0) (top_of (resolution h) lowest) p (bin-top (resolution h) lowest (get_or (sorted S) k 0) (resolution-digits greatest h p) (is ∙ sym class))
 
   -- some class reaches the rank
   pub answer-some : (S : List ℕ) → StandsFor h S → 0 < length S → sum h.counts < rank q h.total → ⊥
   answer-some S s some none =
       let all = running h S (length h.counts) s (omega arith) in
       let whole : take (length h.counts) h.counts ≡ h.counts = take_all (length h.counts) h.counts (omega arith) in
-      let every = in_first-all (grain h) (length h.counts) S (All-weaker (λ x. x ≤ reach h) (λ x. bin_of (grain h) x < length h.counts) (λ x le. room-in greatest h x p le) S s.within) in
+      let every = in_first-all (resolution h) (length h.counts) S (All-weaker (λ x. x ≤ reach h) (λ x. bin_of (resolution h) x < length h.counts) (λ x le. room-in greatest h x p le) S s.within) in
       let total : rank q h.total ≡ rank q (length S) = ap (λ n. rank q n) s.total in
       omega (arith, rank-bound q (length S) pos some, ap sum whole)
 

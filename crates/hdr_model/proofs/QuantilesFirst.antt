@@ -9,11 +9,11 @@ use Rattle.hdr_base.specs.Fractions.{Ratio}
 use Rattle.hdr_base.specs.Classes.{value_of}
 use Rattle.hdr_base.proofs.ClassesFiner.{bin-value_of}
 use Rattle.hdr_counts.specs.Blocks.{IsFirstToReach}
-use Rattle.hdr_model.specs.Plain.{Plain, IsPlain, grain}
+use Rattle.hdr_model.specs.Plain.{Plain, IsPlain, resolution}
 use Rattle.hdr_model.specs.Samples.{StandsFor}
 use Rattle.hdr_model.proofs.QuantilesOrder.{FirstReaching}
-use Rattle.hdr_model.specs.Quantiles.{rank, ranked_sample, first_reaching, answer_at, quantile_of, IsTopNear}
-use Rattle.hdr_model.proofs.PlainKept.{grain-digits}
+use Rattle.hdr_model.specs.Quantiles.{rank, ranked_sample, position_of_rank, value_at_bin, value_at_quantile, IsTopNear}
+use Rattle.hdr_model.proofs.PlainKept.{resolution-digits}
 use Rattle.hdr_model.proofs.RecordingStands.{eqb-other}
 use Rattle.hdr_model.proofs.QuantilesAnswers.{first-one, first-by, rank-pos, answer-ranked, answer-some}
 
@@ -44,9 +44,9 @@ found-in-range p a (suc n) =
         (omega (arith, f.0), omega (arith, f.1), f.2, λ k from to. elim (cases_eq k a) [ inl same ↦ ap p same ∙ e | inr other ↦ f.3 k (omega arith) to ])
 
 -- the first class that reaches a rank of at least 1, and that none does
-pub first_reaching-found : (counts : List ℕ) (r : ℕ) → 0 < r → MatchOption (first_reaching counts r) (sum counts < r) (FirstReaching counts r)
-unfolding first_reaching
-first_reaching-found counts r pos =
+pub position_of_rank-found : (counts : List ℕ) (r : ℕ) → 0 < r → MatchOption (position_of_rank counts r) (sum counts < r) (FirstReaching counts r)
+unfolding position_of_rank
+position_of_rank-found counts r pos =
     let p : ℕ → Bool = λ i. leb r (sum (take (i + 1) counts)) in
     told (find p (range_with_len 0 (length counts))) (found-in-range p 0 (length counts))
   where
@@ -79,15 +79,15 @@ first_reaching-found counts r pos =
     }
 
 -- what a search by blocks finds
-pub first-class : (counts : List ℕ) (r : ℕ) → 0 < r → MatchOption (first_reaching counts r) (sum counts < r) (IsFirstToReach counts r)
-first-class counts r pos = told (first_reaching counts r) (first_reaching-found counts r pos)
+pub first-class : (counts : List ℕ) (r : ℕ) → 0 < r → MatchOption (position_of_rank counts r) (sum counts < r) (IsFirstToReach counts r)
+first-class counts r pos = told (position_of_rank counts r) (position_of_rank-found counts r pos)
   where
     told : (o : Option ℕ) → MatchOption o (sum counts < r) (FirstReaching counts r) → MatchOption o (sum counts < r) (IsFirstToReach counts r)
     told None none = none
     told (Some i) first = (first.in_bins, first.before, first.reached)
 
-pub found-by-blocks : (counts : List ℕ) (r : ℕ) (place : Option ℕ) → 0 < r → MatchOption place (sum counts < r) (IsFirstToReach counts r) → place ≡ first_reaching counts r
-found-by-blocks counts r place pos found = both place (first_reaching counts r) found (first_reaching-found counts r pos)
+pub found-by-blocks : (counts : List ℕ) (r : ℕ) (place : Option ℕ) → 0 < r → MatchOption place (sum counts < r) (IsFirstToReach counts r) → place ≡ position_of_rank counts r
+found-by-blocks counts r place pos found = both place (position_of_rank counts r) found (position_of_rank-found counts r pos)
   where
     whole-below : (i : ℕ) → sum counts < r → FirstReaching counts r i → ⊥
     whole-below i none first =
@@ -109,12 +109,12 @@ found-by-blocks counts r place pos found = both place (first_reaching counts r) 
     both (Some i) (Some j) f g = ap Some (first-one counts r i j (first-by counts r i f) g)
 
 -- the value at a quantile of a histogram that stands for samples is near the ranked sample
-pub quantile-ranked : (greatest : ℕ) (h : Plain) (q : Ratio) (S : List ℕ) → IsPlain greatest h → 0 < q.den → StandsFor h S → 0 < length S → 0 < q.num → IsTopNear h (ranked_sample q S) (quantile_of h q)
-unfolding quantile_of
-quantile-ranked greatest h q S p pos stands some share = go (first_reaching h.counts (rank q h.total)) (first_reaching-found h.counts (rank q h.total) (rank-pos q h.total))
+pub quantile-ranked : (greatest : ℕ) (h : Plain) (q : Ratio) (S : List ℕ) → IsPlain greatest h → 0 < q.den → StandsFor h S → 0 < length S → 0 < q.num → IsTopNear h (ranked_sample q S) (value_at_quantile h q)
+unfolding value_at_quantile
+quantile-ranked greatest h q S p pos stands some share = go (position_of_rank h.counts (rank q h.total)) (position_of_rank-found h.counts (rank q h.total) (rank-pos q h.total))
   where
-    go : (o : Option ℕ) → MatchOption o (sum h.counts < rank q h.total) (FirstReaching h.counts (rank q h.total)) → IsTopNear h (ranked_sample q S) (answer_at (grain h) q.num o)
+    go : (o : Option ℕ) → MatchOption o (sum h.counts < rank q h.total) (FirstReaching h.counts (rank q h.total)) → IsTopNear h (ranked_sample q S) (value_at_bin (resolution h) q.num o)
     go None none = absurd (answer-some greatest h q p pos S stands some none)
     go (Some i) first =
         rw (eqb-other q.num 0 (λ e. omega arith))
-        (answer-ranked greatest h q p pos S i (value_of (grain h) i) stands some first (bin-value_of (grain h) i (grain-digits greatest h p)))
+        (answer-ranked greatest h q p pos S i (value_of (resolution h) i) stands some first (bin-value_of (resolution h) i (resolution-digits greatest h p)))

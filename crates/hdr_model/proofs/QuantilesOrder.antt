@@ -5,9 +5,9 @@ use Rattle.std.proofs.lemmas.Bool.Decides.{nat_tests}
 use Rattle.std.proofs.lemmas.Bool.{cases_lt}
 use Rattle.std.proofs.lemmas.List.Sums.{sum_by-cons, sum_by_more, sum_by-le-sum_by}
 use Rattle.std.proofs.lemmas.List.Elements.{All-cons, All-head, All-tail, All-weaker}
-use Rattle.hdr_base.specs.Classes.{Grain, bin_of}
+use Rattle.hdr_base.specs.Classes.{Resolution, bin_of}
 use Rattle.hdr_base.proofs.ClassesLaws.{bin-mono}
-use Rattle.hdr_model.specs.Plain.{Plain, grain}
+use Rattle.hdr_model.specs.Plain.{Plain, resolution}
 use Rattle.hdr_model.specs.Samples.{in_class, StandsFor}
 use Rattle.hdr_model.specs.Quantiles.{put_in_order, sorted}
 
@@ -36,7 +36,7 @@ at_most_one : (b : Bool) → cond b 1 0 ≤ 1
 at_most_one true = omega arith
 at_most_one false = omega arith
 
-later : (g : Grain) (x y i : ℕ) → 0 < g.digits → i < bin_of g x → bin_of g y < i + 1 → ltb y x ≡ true
+later : (g : Resolution) (x y i : ℕ) → 0 < g.digits → i < bin_of g x → bin_of g y < i + 1 → ltb y x ≡ true
 later g x y i m late t = elim (cases_lt y x) [
   | inl lt ↦ ltb-yes y x lt
   | inr ge ↦ absurd (omega (arith, bin-mono g x y m ge))
@@ -141,10 +141,10 @@ below (x ∷ xs) (suc k) a h =
 -- ---- the classes below one
 
 -- how many samples lie in the first k classes
-abbrev pub in_first : Grain → ℕ → List ℕ → ℕ
+abbrev pub in_first : Resolution → ℕ → List ℕ → ℕ
 in_first g k S = count_by (λ s. ltb (bin_of g s) k) S
 
-pub in_first-none : (g : Grain) (S : List ℕ) → in_first g 0 S ≡ 0
+pub in_first-none : (g : Resolution) (S : List ℕ) → in_first g 0 S ≡ 0
 in_first-none g [] = refl
 in_first-none g (s ∷ S) =
     let e : ltb (bin_of g s) 0 ≡ false = ltb-no (bin_of g s) 0 (omega arith) in
@@ -153,7 +153,7 @@ in_first-none g (s ∷ S) =
 one-more : (b k : ℕ) → cond (ltb b (k + 1)) 1 0 ≡ cond (ltb b k) 1 0 + cond (eqb b k) 1 0
 one-more b k = grind (arith, nat_tests)
 
-in_first-more : (g : Grain) (k : ℕ) (S : List ℕ) → in_first g (k + 1) S ≡ in_first g k S + in_class g k S
+in_first-more : (g : Resolution) (k : ℕ) (S : List ℕ) → in_first g (k + 1) S ≡ in_first g k S + in_class g k S
 in_first-more g k [] = omega arith
 in_first-more g k (s ∷ S) =
     omega (
@@ -166,10 +166,10 @@ in_first-more g k (s ∷ S) =
     )
 
 -- the running sum of the numbers counts the samples of the first classes
-pub running : (h : Plain) (S : List ℕ) (k : ℕ) → StandsFor h S → k ≤ length h.counts → sum (take k h.counts) ≡ in_first (grain h) k S
-running h S zero s le = sym (in_first-none (grain h) S)
+pub running : (h : Plain) (S : List ℕ) (k : ℕ) → StandsFor h S → k ≤ length h.counts → sum (take k h.counts) ≡ in_first (resolution h) k S
+running h S zero s le = sym (in_first-none (resolution h) S)
 running h S (suc k) s le =
-    rw (← add-one) (omega (arith, sum_by_more (λ x. x) h.counts k 0 (omega arith), s.numbers k (omega arith), in_first-more (grain h) k S, running h S k s (omega arith)))
+    rw (← add-one) (omega (arith, sum_by_more (λ x. x) h.counts k 0 (omega arith), s.numbers k (omega arith), in_first-more (resolution h) k S, running h S k s (omega arith)))
 
 -- i is the first class where the sum of the numbers up to it reaches the rank
 pub record FirstReaching (counts : List ℕ) (r i : ℕ) : Type 0 where
@@ -178,10 +178,10 @@ pub record FirstReaching (counts : List ℕ) (r i : ℕ) : Type 0 where
   pub before : sum (take i counts) < r
 
 -- the class where the running sum reaches a rank is that of the sample of the rank
-pub class-of-rank : (h : Plain) (S : List ℕ) (k i : ℕ) → 0 < (grain h).digits → StandsFor h S → k < length S → FirstReaching h.counts (k + 1) i
-    → bin_of (grain h) (get_or (sorted S) k 0) ≡ i
+pub class-of-rank : (h : Plain) (S : List ℕ) (k i : ℕ) → 0 < (resolution h).digits → StandsFor h S → k < length S → FirstReaching h.counts (k + 1) i
+    → bin_of (resolution h) (get_or (sorted S) k 0) ≡ i
 class-of-rank h S k i m s in_range first =
-    let g = grain h in
+    let g = resolution h in
     let x : ℕ = get_or (sorted S) k 0 in
     let within : k < length (sorted S) = rw sorted-length in_range in
     let many : k < count_by (λ y. leb y x) S = rw (sym (sorted-count (λ y. leb y x) S)) (at-or-below (sorted S) k (sorted-Ascends S) within) in
@@ -198,7 +198,7 @@ class-of-rank h S k i m s in_range first =
       ]
     ]
 
-pub in_first-all : (g : Grain) (k : ℕ) (S : List ℕ) → All (λ s. bin_of g s < k) S → in_first g k S ≡ length S
+pub in_first-all : (g : Resolution) (k : ℕ) (S : List ℕ) → All (λ s. bin_of g s < k) S → in_first g k S ≡ length S
 in_first-all g k [] h = refl
 in_first-all g k (s ∷ S) h =
     let e : ltb (bin_of g s) k ≡ true = ltb-yes (bin_of g s) k (All-head (λ s. bin_of g s < k) s S h) in

@@ -7,9 +7,9 @@ use Rattle.std.proofs.lemmas.List.{length-replicate, length-append}
 use Rattle.std.proofs.lemmas.List.Elements.{All-replicate, All-nil}
 use Rattle.std.proofs.lemmas.List.Folds.{sum_by-replicate}
 use Rattle.std.proofs.lemmas.List.Sums.{sum_by-cons}
-use Rattle.hdr_base.specs.Classes.{grain_of, top_of, value_of, bins_to}
+use Rattle.hdr_base.specs.Classes.{resolution_of, top_of, value_of, bins_to}
 use Rattle.hdr_base.proofs.ClassesReach.{reach-holds}
-use Rattle.hdr_model.specs.Plain.{Plain, IsPlain, grain, reach, empty_plain, max_of, min_nz_of, min_of}
+use Rattle.hdr_model.specs.Plain.{Plain, IsPlain, resolution, reach, empty_plain, max_of, min_nz_of, min_of}
 use Rattle.hdr_model.specs.Marks.{top_of_mark, value_of_mark}
 use Rattle.hdr_model.specs.Recording.{with_bins_to, with_bins_for, after_add_to_bin, after_record, clamp_to_bins, after_clear, after_reset, clamp}
 use Rattle.hdr_model.specs.Merging.{with_room}
@@ -84,7 +84,7 @@ clamped-past h v lt = rw (leb-no v (reach h) lt) refl
 
 pub high-within : (h : Plain) → h.high ≤ reach h
 unfolding reach
-high-within h = reach-holds (grain h) h.high
+high-within h = reach-holds (resolution h) h.high
 
 pub clamped-small : (greatest : ℕ) (h : Plain) (v : ℕ) → v < 2 ^ 64 → IsPlain greatest h → clamp_to_bins h v < 2 ^ 64
 clamped-small greatest h v small p =
@@ -100,7 +100,7 @@ clamped-within h v =
       | inr le ↦ omega (arith, clamped-same h v le)
     ]
 
-pub clamped-is : (h : Plain) (v : ℕ) → clamp_to_bins h v ≡ clamp (grain h) h.high v
+pub clamped-is : (h : Plain) (v : ℕ) → clamp_to_bins h v ≡ clamp (resolution h) h.high v
 unfolding clamp_to_bins reach clamp
 clamped-is h v = refl
 
@@ -120,15 +120,15 @@ stands-restarted h = record { numbers = λ i lt. zeros-behind [] (length h.count
 pub stands-made : (low high sigfig : ℕ) (auto_resize : Bool) → StandsFor (empty_plain low high sigfig auto_resize) []
 unfolding empty_plain
 stands-made low high sigfig auto_resize =
-    record { numbers = λ i lt. zeros-behind [] (bins_to (grain_of low sigfig) high) i; within = All-nil (λ s. s ≤ reach (empty_plain low high sigfig auto_resize)); total = refl }
+    record { numbers = λ i lt. zeros-behind [] (bins_to (resolution_of low sigfig) high) i; within = All-nil (λ s. s ≤ reach (empty_plain low high sigfig auto_resize)); total = refl }
 
-pub grain-cleared : (h : Plain) → grain (after_clear h) ≡ grain h
+pub resolution-cleared : (h : Plain) → resolution (after_clear h) ≡ resolution h
 unfolding after_clear
-grain-cleared h = refl
+resolution-cleared h = refl
 
-pub grain-restarted : (h : Plain) → grain (after_reset h) ≡ grain h
+pub resolution-restarted : (h : Plain) → resolution (after_reset h) ≡ resolution h
 unfolding after_reset
-grain-restarted h = refl
+resolution-restarted h = refl
 
 pub high-cleared : (h : Plain) → (after_clear h).high ≡ h.high
 unfolding after_clear
@@ -143,21 +143,21 @@ unfolding after_reset reach
 reach-restarted h = refl
 
 -- the values of marks
-pub max-marked : (h : Plain) (i : ℕ) → h.top_mark ≡ Some i → top_of (grain h) (value_of (grain h) i) ≡ max_of h
+pub max-marked : (h : Plain) (i : ℕ) → h.top_mark ≡ Some i → top_of (resolution h) (value_of (resolution h) i) ≡ max_of h
 unfolding max_of
-max-marked h i e = sym (ap (λ o. top_of_mark (grain h) o) e)
+max-marked h i e = sym (ap (λ o. top_of_mark (resolution h) o) e)
 
 pub max-unmarked : (h : Plain) → h.top_mark ≡ None → 0 ≡ max_of h
 unfolding max_of
-max-unmarked h e = sym (ap (λ o. top_of_mark (grain h) o) e)
+max-unmarked h e = sym (ap (λ o. top_of_mark (resolution h) o) e)
 
-pub min_nz-marked : (h : Plain) (i : ℕ) → h.lower_mark ≡ Some i → value_of (grain h) i ≡ min_nz_of h
+pub min_nz-marked : (h : Plain) (i : ℕ) → h.lower_mark ≡ Some i → value_of (resolution h) i ≡ min_nz_of h
 unfolding min_nz_of
-min_nz-marked h i e = sym (ap (λ o. value_of_mark (grain h) o) e)
+min_nz-marked h i e = sym (ap (λ o. value_of_mark (resolution h) o) e)
 
 pub min_nz-unmarked : (h : Plain) → h.lower_mark ≡ None → 2 ^ 64 - 1 ≡ min_nz_of h
 unfolding min_nz_of
-min_nz-unmarked h e = sym (ap (λ o. value_of_mark (grain h) o) e)
+min_nz-unmarked h e = sym (ap (λ o. value_of_mark (resolution h) o) e)
 
 pub min-empty : (h : Plain) → h.total ≡ 0 → 0 ≡ min_of h
 unfolding min_of
@@ -197,7 +197,7 @@ grown-zeros xs b =
 
 pub restarted-grown : (h : Plain) (x : ℕ) → after_reset (with_bins_to h x) ≡ with_bins_to (after_reset h) x
 unfolding after_reset with_bins_to
-restarted-grown h x = ap (λ ns. record (after_reset h) { high = x; counts = ns }) (grown-zeros h.counts (bins_to (grain h) x))
+restarted-grown h x = ap (λ ns. record (after_reset h) { high = x; counts = ns }) (grown-zeros h.counts (bins_to (resolution h) x))
 
 pub restarted-room : (h : Plain) (x : ℕ) → after_reset (with_room h x) ≡ with_room (after_reset h) x
 unfolding with_room

@@ -4,7 +4,7 @@ use Rattle.std.specs.List.{All}
 use Rattle.std.proofs.lemmas.List.{set-set, length-set, get_or-set_same}
 use Rattle.std.proofs.lemmas.List.Elements.{All-head, All-tail}
 use Rattle.hdr_base.specs.Classes.{bin_of}
-use Rattle.hdr_model.specs.Plain.{Plain, grain, reach}
+use Rattle.hdr_model.specs.Plain.{Plain, resolution, reach}
 use Rattle.hdr_model.specs.Recording.{after_add_to_bin, after_record, after_records}
 use Rattle.hdr_model.specs.Marks.{later_mark, earlier_mark}
 use Rattle.hdr_model.specs.Correction.{each_times}
@@ -40,9 +40,9 @@ added-twice greatest h b m n room =
     rw (read, number, set-set, total, later-twice, earlier-twice) refl
 
 -- adding to a bin keeps the classes
-pub grain-added : (greatest : ℕ) (h : Plain) (b n : ℕ) → grain (after_add_to_bin greatest h b n) ≡ grain h
+pub resolution-added : (greatest : ℕ) (h : Plain) (b n : ℕ) → resolution (after_add_to_bin greatest h b n) ≡ resolution h
 unfolding after_add_to_bin
-grain-added greatest h b n = refl
+resolution-added greatest h b n = refl
 
 pub reach-added : (greatest : ℕ) (h : Plain) (b n : ℕ) → reach (after_add_to_bin greatest h b n) ≡ reach h
 unfolding after_add_to_bin reach
@@ -53,23 +53,23 @@ unfolding after_add_to_bin
 bins-added greatest h b n = length-set h.counts b _
 
 -- a value within the reach is added to its bin
-pub recorded-within : (greatest : ℕ) (h : Plain) (v n : ℕ) → v ≤ reach h → after_record greatest h v n ≡ after_add_to_bin greatest h (bin_of (grain h) v) n
+pub recorded-within : (greatest : ℕ) (h : Plain) (v n : ℕ) → v ≤ reach h → after_record greatest h v n ≡ after_add_to_bin greatest h (bin_of (resolution h) v) n
 unfolding after_record
-recorded-within greatest h v n le = ap (λ k. after_add_to_bin greatest k (bin_of (grain h) v) n) (widened-same h v le)
+recorded-within greatest h v n le = ap (λ k. after_add_to_bin greatest k (bin_of (resolution h) v) n) (widened-same h v le)
 
 -- the values of one class, one by one, are one addition
 pub one-class : (greatest : ℕ) (h : Plain) (b n : ℕ) (values : List ℕ) → 0 < length values → b < length h.counts
-    → All (λ y. (bin_of (grain h) y ≡ b) × (y ≤ reach h)) values → after_records greatest h (each_times n values) ≡ after_add_to_bin greatest h b (length values * n)
+    → All (λ y. (bin_of (resolution h) y ≡ b) × (y ≤ reach h)) values → after_records greatest h (each_times n values) ≡ after_add_to_bin greatest h b (length values * n)
 one-class greatest h b n [] some room inside = absurd (omega arith)
 one-class greatest h b n (x ∷ []) some room inside =
-    let here = All-head (λ y. (bin_of (grain h) y ≡ b) × (y ≤ reach h)) x [] inside in
+    let here = All-head (λ y. (bin_of (resolution h) y ≡ b) × (y ≤ reach h)) x [] inside in
     recorded-within greatest h x n here.1 ∙ ap (λ c. after_add_to_bin greatest h c n) here.0 ∙ ap (λ m. after_add_to_bin greatest h b m) (let e : n ≡ 1 * n = omega arith in e)
 one-class greatest h b n (x ∷ y ∷ ys) some room inside =
-    let here = All-head (λ y. (bin_of (grain h) y ≡ b) × (y ≤ reach h)) x (y ∷ ys) inside in
-    let rest = All-tail (λ y. (bin_of (grain h) y ≡ b) × (y ≤ reach h)) x (y ∷ ys) inside in
+    let here = All-head (λ y. (bin_of (resolution h) y ≡ b) × (y ≤ reach h)) x (y ∷ ys) inside in
+    let rest = All-tail (λ y. (bin_of (resolution h) y ≡ b) × (y ≤ reach h)) x (y ∷ ys) inside in
     let first : after_record greatest h x n ≡ after_add_to_bin greatest h b n = recorded-within greatest h x n here.1 ∙ ap (λ c. after_add_to_bin greatest h c n) here.0 in
     let k = after_add_to_bin greatest h b n in
-    let kept : All (λ z. (bin_of (grain k) z ≡ b) × (z ≤ reach k)) (y ∷ ys) = rw (grain-added greatest h b n, reach-added greatest h b n) rest in
+    let kept : All (λ z. (bin_of (resolution k) z ≡ b) × (z ≤ reach k)) (y ∷ ys) = rw (resolution-added greatest h b n, reach-added greatest h b n) rest in
     let others : after_records greatest k (each_times n (y ∷ ys)) ≡ after_add_to_bin greatest k b (length (y ∷ ys) * n) =
     one-class greatest k b n (y ∷ ys) (omega arith) (omega (arith, bins-added greatest h b n)) kept in
     ap (λ s. after_records greatest s (each_times n (y ∷ ys))) first ∙ others ∙ added-twice greatest h b n (length (y ∷ ys) * n) room

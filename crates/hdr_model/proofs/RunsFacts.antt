@@ -2,7 +2,7 @@
 use Rattle.std.proofs.Common.{◌≡◌, ◌∙◌, ℕ, ◌<◌, List, [], ◌∷◌, ◌++◌, length, get_or, slice_get, IfSome, refl, ap, sym, subst}
 use Rattle.std.proofs.lemmas.Option.{slice_get_read}
 use Rattle.hdr_model.specs.Plain.{Plain}
-use Rattle.hdr_model.specs.Runs.{State, after_each, EachIsTaken, EachTo, StandsAt}
+use Rattle.hdr_model.specs.Runs.{State, after_each, EachIsAccepted, EachTo, StandsAt}
 
 -- the last call of a run
 EachTo-push : {C : Type 0} (To : C → State → State → Type 0) (fits : List ℕ → Type 0) (calls : List C) (call : C) (s t : State)
@@ -13,11 +13,11 @@ EachTo-push To fits (first ∷ calls) call s t r =
     let rest = EachTo-push To fits calls call r.0 t r.3 in
     (rest.0, (r.0, r.1, r.2, rest.1), rest.2, rest.3)
 
-EachIsTaken-push : {C : Type 0} (after : C → Plain → Plain) (Taken : Plain → C → Type 0) (calls : List C) (call : C) (h : Plain)
-    → EachIsTaken after Taken calls h → Taken (after_each after calls h) call → EachIsTaken after Taken (calls ++ call ∷ []) h
-EachIsTaken-push after Taken [] call h taken last = (last, tt)
-EachIsTaken-push after Taken (first ∷ calls) call h taken last =
-    (taken.0, EachIsTaken-push after Taken calls call (after first h) taken.1 last)
+EachIsAccepted-push : {C : Type 0} (after : C → Plain → Plain) (Taken : Plain → C → Type 0) (calls : List C) (call : C) (h : Plain)
+    → EachIsAccepted after Taken calls h → Taken (after_each after calls h) call → EachIsAccepted after Taken (calls ++ call ∷ []) h
+EachIsAccepted-push after Taken [] call h taken last = (last, tt)
+EachIsAccepted-push after Taken (first ∷ calls) call h taken last =
+    (taken.0, EachIsAccepted-push after Taken calls call (after first h) taken.1 last)
 
 after_each-push : {C : Type 0} (after : C → Plain → Plain) (calls : List C) (call : C) (h : Plain)
     → after_each after (calls ++ call ∷ []) h ≡ after call (after_each after calls h)
@@ -26,7 +26,7 @@ after_each-push after (first ∷ calls) call h = after_each-push after calls cal
 
 -- calls took a histogram from h to k, one after another
 pub record WasRun {C : Type 0} (after : C → Plain → Plain) (Taken : Plain → C → Type 0) (To : C → State → State → Type 0) (fits : List ℕ → Type 0) (calls : List C) (h k : Plain) : Type 0 where
-  pub taken : EachIsTaken after Taken calls h
+  pub taken : EachIsAccepted after Taken calls h
   pub done : k ≡ after_each after calls h
   pub samples : (s t : State) → StandsAt h s → EachTo To fits calls s t → StandsAt k t
 
@@ -36,7 +36,7 @@ pub WasRun-push : {C : Type 0} (after : C → Plain → Plain) (Taken : Plain �
     → ((s t : State) → StandsAt k s → To call s t → fits t.samples → StandsAt new t)
     → WasRun after Taken To fits (calls ++ call ∷ []) h new
 WasRun-push after Taken To fits calls call h k new run taken made stands = record {
-  taken = EachIsTaken-push after Taken calls call h run.taken (subst (λ (x : Plain). Taken x call) run.done taken);
+  taken = EachIsAccepted-push after Taken calls call h run.taken (subst (λ (x : Plain). Taken x call) run.done taken);
   done = made ∙ ap (after call) run.done ∙ sym (after_each-push after calls call h);
   samples = λ s t at to.
       let last = EachTo-push To fits calls call s t to in

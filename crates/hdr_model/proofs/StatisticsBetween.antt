@@ -6,12 +6,12 @@ use Rattle.std.proofs.lemmas.Bool.Decides.{nat_tests}
 use Rattle.std.proofs.lemmas.Bool.{cases_lt}
 use Rattle.std.proofs.lemmas.List.Sums.{sum_by-cons, sum_by-append, sum_by-take-drop, count_by-le-length}
 use Rattle.std.proofs.lemmas.List.Folds.{drop_split}
-use Rattle.hdr_base.specs.Classes.{Grain, bin_of, lowest_of, top_of, width_of}
+use Rattle.hdr_base.specs.Classes.{Resolution, bin_of, lowest_of, top_of, width_of}
 use Rattle.hdr_base.proofs.ClassesLaws.{bin-mono, bin-lowest, bin-top, same-bin, lowest-le, width-pos, top-of-value}
-use Rattle.hdr_model.specs.Plain.{Plain, IsPlain, grain, reach}
+use Rattle.hdr_model.specs.Plain.{Plain, IsPlain, resolution, reach}
 use Rattle.hdr_model.specs.Samples.{StandsFor}
 use Rattle.hdr_model.specs.Statistics.{held_bin, sum_between, samples_between}
-use Rattle.hdr_model.proofs.PlainKept.{grain-digits, room-in}
+use Rattle.hdr_model.proofs.PlainKept.{resolution-digits, room-in}
 use Rattle.hdr_model.proofs.QuantilesOrder.{in_first, running}
 
 leb-yes : (a b : ℕ) → a ≤ b → leb a b ≡ true
@@ -26,7 +26,7 @@ ltb-yes a b h = grind (arith, nat_tests)
 ltb-no : (a b : ℕ) → b ≤ a → ltb a b ≡ false
 ltb-no a b h = grind (arith, nat_tests)
 
-module _ (g : Grain) (m : 0 < g.digits) where
+module _ (g : Resolution) (m : 0 < g.digits) where
   bin-of-lowest : (v : ℕ) → bin_of g (lowest_of g v) ≡ bin_of g v
   bin-of-lowest v = same-bin g v (lowest_of g v) m (omega arith) (omega (arith, width-pos g v))
 
@@ -92,15 +92,15 @@ part-sum xs a e le =
     let split : sum (drop a xs) ≡ sum (slice_range xs a e) + sum (drop e xs) = ap sum (drop_split xs a e le) ∙ sum_by-append (λ x. x) (slice_range xs a e) (drop e xs) in
     omega (arith, sum_by-take-drop (λ x. x) xs a, sum_by-take-drop (λ x. x) xs e)
 
-pub held-is : (greatest : ℕ) (h : Plain) (v : ℕ) → IsPlain greatest h → v ≤ reach h → held_bin h v ≡ bin_of (grain h) v
+pub held-is : (greatest : ℕ) (h : Plain) (v : ℕ) → IsPlain greatest h → v ≤ reach h → held_bin h v ≡ bin_of (resolution h) v
 unfolding held_bin
 held-is greatest h v p le = omega (arith, room-in greatest h v p le)
 
 pub between-samples : (greatest : ℕ) (h : Plain) (a b : ℕ) (S : List ℕ) → IsPlain greatest h → StandsFor h S → a ≤ b → b ≤ reach h
-    → min (sum_between h a b) (2 ^ 64 - 1) ≡ samples_between (lowest_of (grain h) a) (top_of (grain h) b) S
+    → min (sum_between h a b) (2 ^ 64 - 1) ≡ samples_between (lowest_of (resolution h) a) (top_of (resolution h) b) S
 between-samples greatest h a b S p stands le within =
-    let g = grain h in
-    let m = grain-digits greatest h p in
+    let g = resolution h in
+    let m = resolution-digits greatest h p in
     let first : held_bin h a ≡ bin_of g a = held-is greatest h a p (omega arith) in
     let last : held_bin h b ≡ bin_of g b = held-is greatest h b p within in
     let order : bin_of g a ≤ bin_of g b = bin-mono g a b m le in
@@ -120,4 +120,4 @@ between-samples greatest h a b S p stands le within =
 
 pub held-order : (greatest : ℕ) (h : Plain) (a b : ℕ) → IsPlain greatest h → a ≤ b → b ≤ reach h → held_bin h a ≤ held_bin h b
 held-order greatest h a b p le within =
-    omega (arith, held-is greatest h a p (omega arith), held-is greatest h b p within, bin-mono (grain h) a b (grain-digits greatest h p) le)
+    omega (arith, held-is greatest h a p (omega arith), held-is greatest h b p within, bin-mono (resolution h) a b (resolution-digits greatest h p) le)

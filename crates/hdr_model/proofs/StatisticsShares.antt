@@ -8,30 +8,30 @@ use Rattle.std.proofs.lemmas.List.Sums.{count_by-le-length}
 use Rattle.std.proofs.lemmas.Grind.{div_ceil_times}
 use Rattle.std.proofs.Math.Nat.{mul-le-mul_right}
 use Rattle.hdr_base.specs.Fractions.{Ratio}
-use Rattle.hdr_base.specs.Classes.{Grain, bin_of, value_of, top_of, lowest_of}
+use Rattle.hdr_base.specs.Classes.{Resolution, bin_of, value_of, top_of, lowest_of}
 use Rattle.hdr_base.proofs.ClassesLaws.{bin-mono, bin-top}
 use Rattle.hdr_base.proofs.ClassesFiner.{bin-value_of}
 use Rattle.hdr_base.proofs.ClassesIntervals.{bin-first, lowest-first}
 use Rattle.hdr_base.proofs.ClassesReach.{past-bins}
 use Rattle.hdr_counts.proofs.BlocksSums.{sum_below-le, sum_below-le-sum}
-use Rattle.hdr_model.specs.Plain.{Plain, IsPlain, grain, reach}
+use Rattle.hdr_model.specs.Plain.{Plain, IsPlain, resolution, reach}
 use Rattle.hdr_model.specs.Samples.{StandsFor}
-use Rattle.hdr_model.specs.Statistics.{held_bin, samples_between, share_below, IsAtMost}
-use Rattle.hdr_model.specs.Quantiles.{rank, first_reaching, answer_at, quantile_of}
+use Rattle.hdr_model.specs.Statistics.{held_bin, samples_between, quantile_below, IsAtMost}
+use Rattle.hdr_model.specs.Quantiles.{rank, position_of_rank, value_at_bin, value_at_quantile}
 use Rattle.hdr_model.proofs.StatisticsBetween.{all, held-is}
 use Rattle.hdr_model.proofs.PlainBins.{bin-of-top}
-use Rattle.hdr_model.proofs.PlainKept.{grain-digits, room-in}
+use Rattle.hdr_model.proofs.PlainKept.{resolution-digits, room-in}
 use Rattle.hdr_model.proofs.QuantilesOrder.{FirstReaching, in_first, in_first-none, in_first-all, running}
 use Rattle.hdr_model.proofs.QuantilesAnswers.{ceil-le, rank-pos, answer-some}
-use Rattle.hdr_model.proofs.QuantilesFirst.{first_reaching-found}
+use Rattle.hdr_model.proofs.QuantilesFirst.{position_of_rank-found}
 use Rattle.hdr_model.proofs.RecordingStands.{eqb-other}
 
-pub share-of-none : (h : Plain) (v : ℕ) → h.total ≡ 0 → share_below h v ≡ record { num = 1; den = 1 }
-unfolding share_below
+pub share-of-none : (h : Plain) (v : ℕ) → h.total ≡ 0 → quantile_below h v ≡ record { num = 1; den = 1 }
+unfolding quantile_below
 share-of-none h v e = rw (eq-eqb h.total 0 e) refl
 
-pub share-of-some : (h : Plain) (v : ℕ) → 0 < h.total → share_below h v ≡ record { num = min (sum (take (held_bin h v + 1) h.counts)) (2 ^ 64 - 1); den = h.total }
-unfolding share_below
+pub share-of-some : (h : Plain) (v : ℕ) → 0 < h.total → quantile_below h v ≡ record { num = min (sum (take (held_bin h v + 1) h.counts)) (2 ^ 64 - 1); den = h.total }
+unfolding quantile_below
 share-of-some h v some = rw (eqb-other h.total 0 (λ z. omega (arith, z))) refl
 
 -- a part of the numbers, capped, is at most the total
@@ -39,14 +39,14 @@ pub part-covered : (greatest : ℕ) (h : Plain) (k : ℕ) → IsPlain greatest h
 part-covered greatest h k p = omega (arith, p.total_covers, sum_below-le-sum h.counts k)
 
 -- a fraction of the samples is at most 1, and 1 without samples
-pub share-at-most : (greatest : ℕ) (h : Plain) (v : ℕ) → IsPlain greatest h → ((share_below h v).num ≤ (share_below h v).den) × (0 < (share_below h v).den)
+pub share-at-most : (greatest : ℕ) (h : Plain) (v : ℕ) → IsPlain greatest h → ((quantile_below h v).num ≤ (quantile_below h v).den) × (0 < (quantile_below h v).den)
 share-at-most greatest h v p = elim (cases_lt 0 h.total) [
   | inl some ↦ rw (share-of-some h v some) (part-covered greatest h (held_bin h v + 1) p, some)
   | inr none ↦ rw (share-of-none h v (omega arith)) (omega arith, omega arith)
 ]
 
 -- the samples of the classes up to that of a value are those from 0 to its top
-up-to-class : (g : Grain) (m : 0 < g.digits) (v : ℕ) (S : List ℕ) → in_first g (bin_of g v + 1) S ≡ samples_between 0 (top_of g v) S
+up-to-class : (g : Resolution) (m : 0 < g.digits) (v : ℕ) (S : List ℕ) → in_first g (bin_of g v + 1) S ≡ samples_between 0 (top_of g v) S
 up-to-class g m v S =
     let first : bin_of g 0 ≡ 0 = bin-first g in
     let counted = all g m 0 v S (omega (arith, first)) in
@@ -54,16 +54,16 @@ up-to-class g m v S =
     let from : samples_between (lowest_of g 0) (top_of g v) S ≡ samples_between 0 (top_of g v) S = ap (λ l. samples_between l (top_of g v) S) (lowest-first g) in
     omega (arith, counted, none, from)
 
-beyond-bins : (greatest : ℕ) (h : Plain) (v : ℕ) → IsPlain greatest h → reach h < v → length h.counts ≤ bin_of (grain h) v
+beyond-bins : (greatest : ℕ) (h : Plain) (v : ℕ) → IsPlain greatest h → reach h < v → length h.counts ≤ bin_of (resolution h) v
 unfolding reach
-beyond-bins greatest h v p past = omega (arith, p.bins, past-bins (grain h) h.high v (grain-digits greatest h p) past)
+beyond-bins greatest h v p past = omega (arith, p.bins, past-bins (resolution h) h.high v (resolution-digits greatest h p) past)
 
 pub up-to-samples : (greatest : ℕ) (h : Plain) (v : ℕ) (S : List ℕ) → IsPlain greatest h → StandsFor h S
-    → sum (take (held_bin h v + 1) h.counts) ≡ samples_between 0 (top_of (grain h) v) S
+    → sum (take (held_bin h v + 1) h.counts) ≡ samples_between 0 (top_of (resolution h) v) S
 unfolding held_bin
 up-to-samples greatest h v S p stands =
-    let g = grain h in
-    let m = grain-digits greatest h p in
+    let g = resolution h in
+    let m = resolution-digits greatest h p in
     elim (cases_lt (reach h) v) [
       | inr within ↦ (
           let room = room-in greatest h v p within in
@@ -82,13 +82,13 @@ up-to-samples greatest h v S p stands =
 
 pub samples-fit : (greatest : ℕ) (h : Plain) (v : ℕ) (S : List ℕ) → IsPlain greatest h → StandsFor h S → sum (take (held_bin h v + 1) h.counts) ≤ h.total
 samples-fit greatest h v S p stands =
-    omega (arith, up-to-samples greatest h v S p stands, count_by-le-length (λ s. leb 0 s && leb s (top_of (grain h) v)) S, stands.total)
+    omega (arith, up-to-samples greatest h v S p stands, count_by-le-length (λ s. leb 0 s && leb s (top_of (resolution h) v)) S, stands.total)
 
 pub share-of-samples : (greatest : ℕ) (h : Plain) (v : ℕ) (S : List ℕ) → IsPlain greatest h → StandsFor h S → 0 < length S
-    → share_below h v ≡ record { num = samples_between 0 (top_of (grain h) v) S; den = length S }
+    → quantile_below h v ≡ record { num = samples_between 0 (top_of (resolution h) v) S; den = length S }
 share-of-samples greatest h v S p stands some =
     let fits = samples-fit greatest h v S p stands in
-    let capped : min (sum (take (held_bin h v + 1) h.counts)) (2 ^ 64 - 1) ≡ samples_between 0 (top_of (grain h) v) S = omega (arith, fits, p.total_fits, up-to-samples greatest h v S p stands) in
+    let capped : min (sum (take (held_bin h v + 1) h.counts)) (2 ^ 64 - 1) ≡ samples_between 0 (top_of (resolution h) v) S = omega (arith, fits, p.total_fits, up-to-samples greatest h v S p stands) in
     share-of-some h v (omega (arith, stands.total, some)) ∙ rw (capped, stands.total) refl
 
 -- a rank is at most a number of samples if and only if its quantile is at most their fraction
@@ -115,7 +115,7 @@ rank-within q n c pos one some =
     )
 
 -- the top of a class is at most that of a value's if and only if its number is
-pub top-order : (g : Grain) (i v : ℕ) → 0 < g.digits → (top_of g (value_of g i) ≤ top_of g v) ↔ (i ≤ bin_of g v)
+pub top-order : (g : Resolution) (i v : ℕ) → 0 < g.digits → (top_of g (value_of g i) ≤ top_of g v) ↔ (i ≤ bin_of g v)
 top-order g i v m =
     let here : bin_of g (top_of g (value_of g i)) ≡ i = bin-of-top g (value_of g i) m ∙ bin-value_of g i m in
     let there = bin-of-top g v m in (
@@ -142,10 +142,10 @@ first-order counts r i b first = (
 
 -- the value at a quantile lies in the classes up to a value's if and only if the quantile is at most that of the class
 pub quantile-below : (greatest : ℕ) (h : Plain) (q : Ratio) (v : ℕ) (S : List ℕ) → IsPlain greatest h → StandsFor h S → 0 < length S → 0 < q.num → q.num ≤ q.den
-    → (quantile_of h q ≤ top_of (grain h) v) ↔ IsAtMost q (share_below h v)
-unfolding quantile_of held_bin
+    → (value_at_quantile h q ≤ top_of (resolution h) v) ↔ IsAtMost q (quantile_below h v)
+unfolding value_at_quantile held_bin
 quantile-below greatest h q v S p stands some pos one =
-    told (first_reaching h.counts (rank q h.total)) (first_reaching-found h.counts (rank q h.total) (rank-pos q h.total))
+    told (position_of_rank h.counts (rank q h.total)) (position_of_rank-found h.counts (rank q h.total) (rank-pos q h.total))
   where
     c : ℕ
     c = sum (take (held_bin h v + 1) h.counts)
@@ -153,21 +153,21 @@ quantile-below greatest h q v S p stands some pos one =
     n-pos : 0 < h.total
     n-pos = omega (arith, stands.total, some)
 
-    share : share_below h v ≡ record { num = c; den = h.total }
+    share : quantile_below h v ≡ record { num = c; den = h.total }
     share =
         let fits = samples-fit greatest h v S p stands in
         let capped : min (sum (take (held_bin h v + 1) h.counts)) (2 ^ 64 - 1) ≡ c = omega (arith, fits, p.total_fits) in
         share-of-some h v n-pos ∙ rw capped refl
 
-    held-order : (i : ℕ) → i < length h.counts → (i ≤ bin_of (grain h) v) ↔ (i ≤ min (bin_of (grain h) v) (length h.counts - 1))
+    held-order : (i : ℕ) → i < length h.counts → (i ≤ bin_of (resolution h) v) ↔ (i ≤ min (bin_of (resolution h) v) (length h.counts - 1))
     held-order i lt = (λ le. omega arith, λ le. omega arith)
 
     told : (o : Option ℕ) → MatchOption o (sum h.counts < rank q h.total) (FirstReaching h.counts (rank q h.total))
-        → (answer_at (grain h) q.num o ≤ top_of (grain h) v) ↔ IsAtMost q (share_below h v)
+        → (value_at_bin (resolution h) q.num o ≤ top_of (resolution h) v) ↔ IsAtMost q (quantile_below h v)
     told None none = absurd (answer-some greatest h q p (omega arith) S stands some none)
     told (Some i) first =
-        let m = grain-digits greatest h p in
-        let tops = top-order (grain h) i v m in
+        let m = resolution-digits greatest h p in
+        let tops = top-order (resolution h) i v m in
         let held = held-order i first.in_bins in
         let order = first-order h.counts (rank q h.total) i (held_bin h v) first in
         let ranks = rank-within q h.total c pos one n-pos in

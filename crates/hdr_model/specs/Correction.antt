@@ -2,7 +2,7 @@
 -- the Rust crate records them one by one.)
 use Rattle.std.specs.Prelude.{◌≡◌, ℕ, ◌+◌, ◌-◌, ◌*◌, ◌/◌, ◌<◌, ◌≤◌, nat_lt, List, [], ◌∷◌, map, count_by}
 use Rattle.std.specs.List.{range_with_len}
-use Rattle.hdr_base.specs.Classes.{Grain}
+use Rattle.hdr_base.specs.Classes.{Resolution}
 use Rattle.hdr_model.specs.Plain.{Plain}
 use Rattle.hdr_model.specs.Recording.{Times, after_records}
 use Rattle.hdr_model.specs.Samples.{in_class}
@@ -29,7 +29,7 @@ unfoldable pub after_correct : ℕ → Plain → ℕ → ℕ → ℕ → Plain
 after_correct greatest h v n i = after_records greatest h (each_times n (v ∷ missing v i))
 
 -- how many of the classes hold at least one of the values
-unfoldable pub classes_held : Grain → ℕ → List ℕ → ℕ
+unfoldable pub classes_held : Resolution → ℕ → List ℕ → ℕ
 classes_held g classes values = count_by (λ b. nat_lt 0 (in_class g b values)) (range_with_len 0 classes)
 
 -- the values x, x - i, .. that are at least i

@@ -2,12 +2,12 @@
 -- of histograms: no item of the Rust crate, but what merging those of several hosts asks for.)
 use Rattle.std.specs.Prelude.{ℕ, ◌<◌, List, [], ◌∷◌, length}
 use Rattle.std.specs.List.{flat_map}
-use Rattle.hdr_base.specs.Classes.{Grain, IsFiner}
+use Rattle.hdr_base.specs.Classes.{Resolution, IsFiner}
 use Rattle.hdr_base.specs.Fractions.{Ratio}
-use Rattle.hdr_model.specs.Plain.{Plain, IsPlain, grain}
+use Rattle.hdr_model.specs.Plain.{Plain, IsPlain, resolution}
 use Rattle.hdr_model.specs.Merging.{after_add}
 use Rattle.hdr_model.specs.Samples.{StandsFor}
-use Rattle.hdr_model.specs.Quantiles.{ranked_sample, quantile_of, IsTopNear}
+use Rattle.hdr_model.specs.Quantiles.{ranked_sample, value_at_quantile, IsTopNear}
 
 -- histograms added to one, in order
 abbrev pub after_adds : ℕ → Plain → List Plain → Plain
@@ -15,12 +15,12 @@ after_adds greatest h [] = h
 after_adds greatest h (k ∷ ks) = after_adds greatest (after_add greatest h k) ks
 
 -- a histogram for counters up to `most` stands for samples, by classes that are no coarser than these
-pub record IsPart (most : ℕ) (g : Grain) (k : Plain) (L : List ℕ) : Type 0 where
+pub record IsPart (most : ℕ) (g : Resolution) (k : Plain) (L : List ℕ) : Type 0 where
   pub plain : IsPlain most k
   pub stands : StandsFor k L
-  pub finer : IsFiner (grain k) g
+  pub finer : IsFiner (resolution k) g
 
-abbrev pub AreParts : ℕ → Grain → List Plain → List (List ℕ) → Type 0
+abbrev pub AreParts : ℕ → Resolution → List Plain → List (List ℕ) → Type 0
 AreParts most g [] [] = Unit {0}
 AreParts most g (k ∷ ks) (L ∷ Ls) = IsPart most g k L × AreParts most g ks Ls
 AreParts most g _ _ = ⊥
@@ -30,4 +30,4 @@ joined_samples Ls = flat_map (λ L. L) Ls
 
 -- the value at each quantile above 0 is the top of the class of the ranked sample, and near that sample
 abbrev pub AnswersRanked : Plain → List ℕ → Type 0
-AnswersRanked h S = (q : Ratio) → 0 < q.den → 0 < length S → 0 < q.num → IsTopNear h (ranked_sample q S) (quantile_of h q)
+AnswersRanked h S = (q : Ratio) → 0 < q.den → 0 < length S → 0 < q.num → IsTopNear h (ranked_sample q S) (value_at_quantile h q)

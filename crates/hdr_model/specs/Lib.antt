@@ -10,5 +10,5 @@ pub mod Quantiles
 pub mod Statistics
 pub mod Equality
 pub mod Joining
-pub mod Filling
+pub mod Unfinished
 pub mod Runs

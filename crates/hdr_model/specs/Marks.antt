@@ -1,6 +1,6 @@
 -- The two marks of a histogram. (`max` and `min_nz`: the Rust crate keeps values, and here marks are classes or none.)
 use Rattle.std.specs.Prelude.{ℕ, ◌+◌, ◌-◌, ◌^◌, ◌==◌, Option, Some, None, if◌then◌else◌, ◌<◌, ◌≡◌, List, slice_index, max, min}
-use Rattle.hdr_base.specs.Classes.{Grain, value_of, top_of}
+use Rattle.hdr_base.specs.Classes.{Resolution, value_of, top_of}
 
 pub record MarkPair : Type 0 where
   pub top : Option ℕ
@@ -35,12 +35,12 @@ IsLowerMark counts None = (i : ℕ) → 0 < i → slice_index counts i ≡ 0
 IsLowerMark counts (Some m) = (0 < m) × (0 < slice_index counts m) × ((i : ℕ) → 0 < i → i < m → slice_index counts i ≡ 0)
 
 -- the greatest value of a mark's class, 0 for no mark
-abbrev pub top_of_mark : Grain → Option ℕ → ℕ
+abbrev pub top_of_mark : Resolution → Option ℕ → ℕ
 top_of_mark g None = 0
 top_of_mark g (Some i) = top_of g (value_of g i)
 
 -- the lowest value of a mark's class, `u64::MAX` for no mark
-abbrev pub value_of_mark : Grain → Option ℕ → ℕ
+abbrev pub value_of_mark : Resolution → Option ℕ → ℕ
 value_of_mark g None = 2 ^ 64 - 1
 value_of_mark g (Some i) = value_of g i
 

@@ -1,27 +1,27 @@
 -- The histogram after another was added to it. The source may have another counter type: its numbers are added in full.
 -- (`add`; the code has two loops over bins.)
 use Rattle.std.specs.Prelude.{◌==◌, ◌&&◌, ℕ, zero, suc, ◌+◌, ◌-◌, ◌^◌, Bool, if◌then◌else◌, nat_le, min, Option, Some, None, List, [], ◌∷◌, ◌++◌, length, sum, max}
-use Rattle.hdr_base.specs.Classes.{Grain, value_of, top_of}
+use Rattle.hdr_base.specs.Classes.{Resolution, value_of, top_of}
 use Rattle.hdr_counts.specs.Blocks.{capped_sums}
-use Rattle.hdr_model.specs.Plain.{Plain, grain, reach, max_of}
+use Rattle.hdr_model.specs.Plain.{Plain, resolution, reach, max_of}
 use Rattle.hdr_model.specs.Recording.{with_bins_to, Times, after_records, samples_of, with_bins_for}
 use Rattle.hdr_model.specs.Marks.{earlier_of, later_of}
 use Rattle.hdr_model.specs.Correction.{each_times, missing}
 
 -- the nonempty classes of numbers that start at class i: the lowest value of each, as often as its number says
-abbrev pub classes_from : Grain → ℕ → List ℕ → List Times
+abbrev pub classes_from : Resolution → ℕ → List ℕ → List Times
 classes_from g i [] = []
 classes_from g i (zero ∷ ns) = classes_from g (suc i) ns
 classes_from g i (suc n ∷ ns) = record { value = value_of g i; times = suc n } ∷ classes_from g (suc i) ns
 
 -- the lowest value of the top mark's class, no times
-abbrev pub top_class : Grain → Option ℕ → List Times
+abbrev pub top_class : Resolution → Option ℕ → List Times
 top_class g None = []
 top_class g (Some i) = record { value = value_of g i; times = 0 } ∷ []
 
 -- two histograms whose bins are the same classes
 abbrev pub same_bins : Plain → Plain → Bool
-same_bins h s = ((grain h).unit == (grain s).unit) && (((grain h).digits == (grain s).digits) && (length h.counts == length s.counts))
+same_bins h s = ((resolution h).unit == (resolution s).unit) && (((resolution h).digits == (resolution s).digits) && (length h.counts == length s.counts))
 
 -- a source of the same bins added: an empty target takes its total and marks
 unfoldable pub after_add_same_bins : ℕ → Plain → Plain → Plain
@@ -36,7 +36,7 @@ after_add_same_bins greatest h s = record h {
 unfoldable pub after_add_within : ℕ → Plain → Plain → Plain
 after_add_within greatest h s =
     if same_bins h s then after_add_same_bins greatest h s
-    else after_records greatest h (classes_from (grain s) 0 s.counts ++ top_class (grain s) s.top_mark)
+    else after_records greatest h (classes_from (resolution s) 0 s.counts ++ top_class (resolution s) s.top_mark)
 
 -- the histogram with bins up to a value, which is its `high` if they had to grow
 unfoldable pub with_room : Plain → ℕ → Plain
@@ -48,29 +48,29 @@ after_add greatest h s = if s.total == 0 then h else after_add_within greatest (
 
 -- the lowest values of a histogram's classes, each as often as its number says
 abbrev pub lowest_values : Plain → List ℕ
-lowest_values h = samples_of (classes_from (grain h) 0 h.counts)
+lowest_values h = samples_of (classes_from (resolution h) 0 h.counts)
 
 -- the nonempty classes of numbers that start at class k, each at its top, and the missing values of that (`add_correct`)
-abbrev pub corrections_from : Grain → ℕ → ℕ → List ℕ → List Times
+abbrev pub corrections_from : Resolution → ℕ → ℕ → List ℕ → List Times
 corrections_from g i k [] = []
 corrections_from g i k (zero ∷ ns) = corrections_from g i (suc k) ns
 corrections_from g i k (suc n ∷ ns) = each_times (suc n) (top_of g (value_of g k) ∷ missing (top_of g (value_of g k)) i) ++ corrections_from g i (suc k) ns
 
 -- the top of the last nonempty class of numbers that start at class k, 0 for none
-abbrev pub last_top : Grain → ℕ → List ℕ → ℕ
+abbrev pub last_top : Resolution → ℕ → List ℕ → ℕ
 last_top g k [] = 0
 last_top g k (zero ∷ ns) = last_top g (suc k) ns
 last_top g k (suc n ∷ ns) = max (top_of g (value_of g k)) (last_top g (suc k) ns)
 
 -- the top of a histogram's last nonempty class
 unfoldable pub highest_top : Plain → ℕ
-highest_top h = last_top (grain h) 0 h.counts
+highest_top h = last_top (resolution h) 0 h.counts
 
 -- the histogram with bins up to the source's last nonempty class, after each nonempty class of the source was corrected
 unfoldable pub after_add_correct : ℕ → Plain → Plain → ℕ → Plain
-after_add_correct greatest h s i = after_records greatest (with_bins_for h (highest_top s)) (corrections_from (grain s) i 0 s.counts)
+after_add_correct greatest h s i = after_records greatest (with_bins_for h (highest_top s)) (corrections_from (resolution s) i 0 s.counts)
 
 -- for each sample the top of its class, and the missing values of that
-abbrev pub corrected_samples : Grain → ℕ → List ℕ → List ℕ
+abbrev pub corrected_samples : Resolution → ℕ → List ℕ → List ℕ
 corrected_samples g i [] = []
 corrected_samples g i (s ∷ S) = (top_of g s ∷ missing (top_of g s) i) ++ corrected_samples g i S

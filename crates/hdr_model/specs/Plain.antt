@@ -1,7 +1,7 @@
 -- A histogram as numbers alone. (Fields and read-outs of the Rust crate's `Histogram`: a vector of counters, a total and two
 -- marks; here are only the numbers of the counters.)
 use Rattle.std.specs.Prelude.{◌≡◌, ◌==◌, ℕ, ◌-◌, ◌*◌, ◌^◌, ◌<◌, ◌≤◌, Bool, ◌||◌, nat_lt, if◌then◌else◌, min, Option, None, IfSome, List, length, replicate, slice_index, All, sum}
-use Rattle.hdr_base.specs.Classes.{Grain, grain_of, reach_of, bins_to, HasScale}
+use Rattle.hdr_base.specs.Classes.{Resolution, resolution_of, reach_of, bins_to, HasScale}
 use Rattle.hdr_model.specs.Marks.{IsAbove, IsBelow, top_of_mark, value_of_mark}
 
 -- the bounds; a number for each bin; the number of samples; the top mark: no class above it holds samples; the lower mark: no
@@ -17,23 +17,23 @@ pub record Plain : Type 0 where
   pub lower_mark : Option ℕ
 
 -- the unit and the digits of the classes
-abbrev pub grain : Plain → Grain
-grain h = grain_of h.low h.sigfig
+abbrev pub resolution : Plain → Resolution
+resolution h = resolution_of h.low h.sigfig
 
 -- the greatest value that has a bin
 unfoldable pub reach : Plain → ℕ
-reach h = reach_of (grain h) h.high
+reach h = reach_of (resolution h) h.high
 
 -- how many bins a block holds: half as many as the first bucket
 abbrev pub block_of : Plain → ℕ
-block_of h = 2 ^ ((grain h).digits - 1)
+block_of h = 2 ^ ((resolution h).digits - 1)
 
 -- what is true of every histogram, for counters that go up to the greatest
 pub record IsPlain (greatest : ℕ) (h : Plain) : Type 0 where
   pub scale : HasScale h.low h.sigfig
   pub high_fits : h.high < 2 ^ 64
   pub wide : 2 * h.low ≤ h.high
-  pub bins : length h.counts ≡ bins_to (grain h) h.high
+  pub bins : length h.counts ≡ bins_to (resolution h) h.high
   pub numbers_fit : All (λ n. n ≤ greatest) h.counts
   pub total_fits : h.total < 2 ^ 64
   pub total_covers : min (sum h.counts) (2 ^ 64 - 1) ≤ h.total
@@ -46,11 +46,11 @@ pub record IsPlain (greatest : ℕ) (h : Plain) : Type 0 where
 
 -- the greatest value that counts as recorded (`max`)
 unfoldable pub max_of : Plain → ℕ
-max_of h = top_of_mark (grain h) h.top_mark
+max_of h = top_of_mark (resolution h) h.top_mark
 
 -- the lowest value of the lower mark's class: the first of the recorded classes other than class 0; `u64::MAX` for none (`min_nz`)
 unfoldable pub min_nz_of : Plain → ℕ
-min_nz_of h = value_of_mark (grain h) h.lower_mark
+min_nz_of h = value_of_mark (resolution h) h.lower_mark
 
 -- the lowest value that counts as recorded (`min`)
 unfoldable pub min_of : Plain → ℕ
@@ -63,7 +63,7 @@ empty_plain low high sigfig auto_resize = record {
   high = high;
   sigfig = sigfig;
   auto_resize = auto_resize;
-  counts = replicate (bins_to (grain_of low sigfig) high) 0;
+  counts = replicate (bins_to (resolution_of low sigfig) high) 0;
   total = 0;
   top_mark = None;
   lower_mark = None;

@@ -4,8 +4,8 @@ use Rattle.std.specs.Prelude.{◌≡◌, ℕ, ◌+◌, ◌-◌, ◌*◌, ◌^◌
 use Rattle.std.specs.Int.{div_ceil}
 use Rattle.std.specs.List.{range_with_len}
 use Rattle.hdr_base.specs.Fractions.{Ratio}
-use Rattle.hdr_base.specs.Classes.{Grain, top_of, value_of}
-use Rattle.hdr_model.specs.Plain.{Plain, grain}
+use Rattle.hdr_base.specs.Classes.{Resolution, top_of, value_of}
+use Rattle.hdr_model.specs.Plain.{Plain, resolution}
 
 -- a number inserted before the first that is not below it
 abbrev pub put_in_order : ℕ → List ℕ → List ℕ
@@ -28,22 +28,22 @@ ranked_sample q S = slice_index (sorted S) (rank q (length S) - 1)
 -- a value is the top of the sample's class: at least the sample, and above it by less than one unit, or by less than one
 -- part in 10^sigfig of the sample
 pub record IsTopNear (h : Plain) (s answer : ℕ) : Type 0 where
-  pub is_top : answer ≡ top_of (grain h) s
+  pub is_top : answer ≡ top_of (resolution h) s
   pub at_least : s ≤ answer
-  pub close : (answer - s < 2 ^ (grain h).unit) ⊎ ((answer - s) * 10 ^ h.sigfig < s)
+  pub close : (answer - s < 2 ^ (resolution h).unit) ⊎ ((answer - s) * 10 ^ h.sigfig < s)
 
 -- the first class where the sum of the numbers up to it reaches the rank
-unfoldable pub first_reaching : List ℕ → ℕ → Option ℕ
-first_reaching counts r = find (λ i. nat_le r (sum (take (i + 1) counts))) (range_with_len 0 (length counts))
+unfoldable pub position_of_rank : List ℕ → ℕ → Option ℕ
+position_of_rank counts r = find (λ i. nat_le r (sum (take (i + 1) counts))) (range_with_len 0 (length counts))
 
 -- the value of a class for a quantile of this numerator: its top, or its lowest value for the numerator 0; 0 without a class
-abbrev pub answer_at : Grain → ℕ → Option ℕ → ℕ
-answer_at g num None = 0
-answer_at g num (Some i) = if num == 0 then value_of g i else top_of g (value_of g i)
+abbrev pub value_at_bin : Resolution → ℕ → Option ℕ → ℕ
+value_at_bin g num None = 0
+value_at_bin g num (Some i) = if num == 0 then value_of g i else top_of g (value_of g i)
 
 -- the value at a quantile (`value_at_quantile`)
-unfoldable pub quantile_of : Plain → Ratio → ℕ
-quantile_of h q = answer_at (grain h) q.num (first_reaching h.counts (rank q h.total))
+unfoldable pub value_at_quantile : Plain → Ratio → ℕ
+value_at_quantile h q = value_at_bin (resolution h) q.num (position_of_rank h.counts (rank q h.total))
 
 -- a fraction of n, as a fraction of 1
 abbrev pub per : ℕ → Ratio → Ratio
@@ -73,10 +73,10 @@ asked_from h p qs = if h.total == 0 then qs else rising_from p qs
 -- the values at quantiles, up to the first that is below the one before (`value_at_quantiles`; the Rust crate takes any
 -- iterator, and may continue after such a quantile)
 abbrev pub quantiles_from : Plain → Ratio → List Ratio → List ℕ
-quantiles_from h p qs = map (quantile_of h) (asked_from h p qs)
+quantiles_from h p qs = map (value_at_quantile h) (asked_from h p qs)
 
-abbrev pub quantiles_of : Plain → List Ratio → List ℕ
-quantiles_of h qs = quantiles_from h nothing_of_it qs
+abbrev pub value_at_quantiles : Plain → List Ratio → List ℕ
+value_at_quantiles h qs = quantiles_from h nothing_of_it qs
 
 -- none is below the one before
 abbrev pub IsAscending : List Ratio → Type 0

@@ -1,16 +1,16 @@
 -- What recording makes of a histogram. (`record_n`, `saturating_record_n`, `clear`, `reset`.)
 use Rattle.std.specs.Prelude.{ℕ, ◌+◌, ◌-◌, ◌^◌, if◌then◌else◌, nat_le, min, None, List, [], ◌∷◌, ◌++◌, length, replicate, slice_index, slice_set}
-use Rattle.hdr_base.specs.Classes.{bin_of, reach_of, bins_to, Grain}
-use Rattle.hdr_model.specs.Plain.{Plain, grain, reach}
+use Rattle.hdr_base.specs.Classes.{bin_of, reach_of, bins_to, Resolution}
+use Rattle.hdr_model.specs.Plain.{Plain, resolution, reach}
 use Rattle.hdr_model.specs.Marks.{earlier_mark, later_mark}
 
 -- the histogram with bins up to the reach of x, and x itself as its `high`
 unfoldable pub with_bins_to : Plain → ℕ → Plain
-with_bins_to h x = record h { high = x; counts = h.counts ++ replicate (bins_to (grain h) x - length h.counts) 0 }
+with_bins_to h x = record h { high = x; counts = h.counts ++ replicate (bins_to (resolution h) x - length h.counts) 0 }
 
 -- the histogram with bins up to a value, if it has none for it
 unfoldable pub with_bins_for : Plain → ℕ → Plain
-with_bins_for h v = if nat_le v (reach h) then h else with_bins_to h (reach_of (grain h) v)
+with_bins_for h v = if nat_le v (reach h) then h else with_bins_to h (reach_of (resolution h) v)
 
 -- n added to a bin's number and to the total, each up to its greatest, and the marks widened by the bin
 unfoldable pub after_add_to_bin : ℕ → Plain → ℕ → ℕ → Plain
@@ -24,7 +24,7 @@ after_add_to_bin greatest h i n =
 
 -- the histogram after a value was recorded n times
 unfoldable pub after_record : ℕ → Plain → ℕ → ℕ → Plain
-after_record greatest h v n = after_add_to_bin greatest (with_bins_for h v) (bin_of (grain h) v) n
+after_record greatest h v n = after_add_to_bin greatest (with_bins_for h v) (bin_of (resolution h) v) n
 
 -- a value, and how many times it is recorded
 pub record Times : Type 0 where
@@ -54,9 +54,9 @@ unfoldable pub after_reset : Plain → Plain
 after_reset h = record h { counts = replicate (length h.counts) 0; total = 0; top_mark = None; lower_mark = None }
 
 -- `high` once there is a bin for x: `new` if the bins had to grow
-unfoldable pub high_with : Grain → ℕ → ℕ → ℕ → ℕ
+unfoldable pub high_with : Resolution → ℕ → ℕ → ℕ → ℕ
 high_with g high x new = if nat_le x (reach_of g high) then high else new
 
 -- the value that clamping records for v
-unfoldable pub clamp : Grain → ℕ → ℕ → ℕ
+unfoldable pub clamp : Resolution → ℕ → ℕ → ℕ
 clamp g high v = if nat_le v (reach_of g high) then v else high

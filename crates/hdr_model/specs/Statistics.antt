@@ -3,12 +3,12 @@
 use Rattle.std.specs.Prelude.{◌==◌, ℕ, suc, ◌+◌, ◌-◌, ◌*◌, ◌/◌, ◌^◌, ◌≤◌, ◌&&◌, nat_le, if◌then◌else◌, min, Option, Some, None, List, [], ◌∷◌, length, take, sum, count_by}
 use Rattle.std.specs.List.{slice_range}
 use Rattle.hdr_base.specs.Fractions.{Ratio}
-use Rattle.hdr_base.specs.Classes.{Grain, bin_of, lowest_of, width_of, value_of}
-use Rattle.hdr_model.specs.Plain.{Plain, grain}
+use Rattle.hdr_base.specs.Classes.{Resolution, bin_of, lowest_of, width_of, value_of}
+use Rattle.hdr_model.specs.Plain.{Plain, resolution}
 
 -- the class that holds a value, or the last one if the value lies past the bins
 unfoldable pub held_bin : Plain → ℕ → ℕ
-held_bin h v = min (bin_of (grain h) v) (length h.counts - 1)
+held_bin h v = min (bin_of (resolution h) v) (length h.counts - 1)
 
 -- the sum of the numbers from a value's class to another's
 abbrev pub sum_between : Plain → ℕ → ℕ → ℕ
@@ -19,8 +19,8 @@ abbrev pub samples_between : ℕ → ℕ → List ℕ → ℕ
 samples_between a b S = count_by (λ s. nat_le a s && nat_le s b) S
 
 -- the fraction of the samples that lie in a value's class or below it, and 1 in an empty histogram (`quantile_below`)
-unfoldable pub share_below : Plain → ℕ → Ratio
-share_below h v =
+unfoldable pub quantile_below : Plain → ℕ → Ratio
+quantile_below h v =
     if h.total == 0 then record { num = 1; den = 1 }
     else record { num = min (sum (take (held_bin h v + 1) h.counts)) (2 ^ 64 - 1); den = h.total }
 
@@ -33,16 +33,16 @@ abbrev pub IsAtMost : Ratio → Ratio → Type 0
 IsAtMost p q = p.num * q.den ≤ q.num * p.den
 
 -- the value half a width above the lowest of the class of v (`median_equivalent`)
-abbrev pub median_of : Grain → ℕ → ℕ
+abbrev pub median_of : Resolution → ℕ → ℕ
 median_of g v = lowest_of g v + width_of g v / 2
 
 -- the sum of numbers that start at class k, each times the median value of its class
-abbrev pub weight_from : Grain → ℕ → List ℕ → ℕ
+abbrev pub weight_from : Resolution → ℕ → List ℕ → ℕ
 weight_from g k [] = 0
 weight_from g k (n ∷ ns) = median_of g (value_of g k) * n + weight_from g (suc k) ns
 
 -- the mean of the samples, each taken as the median of its class: 0 without samples, and none if the total is `u64::MAX`
-unfoldable pub mean_of : Plain → Option Ratio
-mean_of h =
+unfoldable pub mean : Plain → Option Ratio
+mean h =
     if h.total == 2 ^ 64 - 1 then None
-    else (if h.total == 0 then Some (record { num = 0; den = 1 }) else Some (record { num = weight_from (grain h) 0 h.counts; den = h.total }))
+    else (if h.total == 0 then Some (record { num = 0; den = 1 }) else Some (record { num = weight_from (resolution h) 0 h.counts; den = h.total }))

@@ -30,13 +30,13 @@ impl Counted {
 
 impl Serializer for Counted {
     ghost use Rattle.hdrhistogram.specs.V2.{IsV2};
-    ghost use Rattle.hdrhistogram.specs.SerializeRefusals.{RefusesNamed};
+    ghost use Rattle.hdrhistogram.specs.SerializeRefusals.{IsSerializeError};
 
     type SerializeError = V2SerializeError;
 
     ghost writes = { IsV2 };
 
-    ghost refuses = { RefusesNamed };
+    ghost may_fail_with = { IsSerializeError };
 
     fn serialize<T: Counter, W: Write>(
         &mut self,

@@ -1,7 +1,7 @@
 -- The names of the libraries and of specs/ that the proofs of this crate use.
-pub use Rattle.hdr_base.specs.Classes.{Grain, IsFiner}
+pub use Rattle.hdr_base.specs.Classes.{Resolution, IsFiner}
 pub use Rattle.hdr_base.specs.Fractions.{Ratio}
-pub use Rattle.hdr_core.specs.Calls.{after_call, CallTo, IsCallOf, RefusesCall}
+pub use Rattle.hdr_core.specs.Calls.{after_call, CallTo, IsCallOf, IsCallError}
 pub use Rattle.hdr_core.specs.declared.call.Call.{Call}
 pub use Rattle.hdr_core.specs.declared.call.Call.TheVariants.{Reset, Record, Clamp, Correct, Clear}
 pub use Rattle.hdr_log.proofs.PartsNumbers.{Reads, Reads-more}
@@ -11,19 +11,19 @@ pub use Rattle.hdr_log.specs.Pieces.{Piece, IsPiece, piece_text, text_of, said_b
 pub use Rattle.hdr_log.specs.Tags.{tag_text}
 pub use Rattle.hdr_log.specs.Texts.{thousandths, to_thousandths, max_thousandths, base64_of, base64_bytes}
 pub use Rattle.hdr_model.specs.Joining.{after_adds, IsPart, AreParts, joined_samples, AnswersRanked}
-pub use Rattle.hdr_model.specs.Plain.{Plain, empty_plain, IsPlain, grain, max_of}
+pub use Rattle.hdr_model.specs.Plain.{Plain, empty_plain, IsPlain, resolution, max_of}
 pub use Rattle.hdr_model.specs.Recording.{after_reset}
 pub use Rattle.hdr_model.specs.Runs.{StandsWhereFits, State}
 pub use Rattle.hdr_tool.specs.Arguments.{Task, Report, Log, Merge, greatest_into, filter_of, task_of, sigfig_of, fraction_of, are_fractions, figures_of, log_of, Options, no_options, options_of, view_of_options, view_of_task}
 pub use Rattle.hdr_tool.specs.Commands.{Command, Apply, End, command_of, number_lines, first_number, alone, count_of, record_of, correct_of, end_tag_of, end_of, command_of_fields, BeginsWith, AreNumbers, FirstLine, parts_of_rest}
 pub use Rattle.hdr_tool.specs.LogMerges.{at_command, ends_of, AfterCommand, EndsWith, AreEnds, chosen_of, AreReadBack, LogThenMerge}
-pub use Rattle.hdr_tool.specs.Outcomes.{Cause, Shortage, Output, Input, Usage, cause_of, Goes, Fails, Answers, ReadsTo, ReadsAll, CommandNeeds, LinesNeed, Needs}
+pub use Rattle.hdr_tool.specs.Outcomes.{Cause, Shortage, Output, Input, Misuse, cause_of, Goes, Fails, Answers, ReadsTo, ReadsAll, CommandNeeds, LinesNeed, Needs}
 pub use Rattle.hdr_tool.specs.Program.{Interval, Run, ended_by, run_command, run_lines, IsLogText, Logged, LoggedFirst, merge_fault, prepend, run_input, fault_in, Reported, TaskDone, TaskStands, TaskWrites, MergeReported, merged_histogram, Unread, told, OneOutcome, Outcome, has_too_great_count, IsReport, quantile_line}
 pub use Rattle.hdr_tool.specs.declared.fault.Fault.{Fault}
-pub use Rattle.hdr_tool.specs.declared.fault.Fault.TheVariants.{WrongWords, NotACommand, NotWritten, NoMemory, CannotRead, CannotWrite}
+pub use Rattle.hdr_tool.specs.declared.fault.Fault.TheVariants.{Usage, NotACommand, NotWritten, NoMemory, CannotRead, CannotWrite}
 pub use Rattle.hdrhistogram.specs.Chosen.{Filter, is_chosen, Every, view_of_filter}
 pub use Rattle.hdrhistogram.specs.LogLeaving.{interval_piece, IsIntervalText}
-pub use Rattle.hdrhistogram.specs.LogMerging.{RefusesMerge, Merging, new_merging, past_interval, with_interval, BytesMerge, FieldMerges, IntervalMerges, MergesOn, EntriesMerge, EntryMerges, AreChosen}
+pub use Rattle.hdrhistogram.specs.LogMerging.{IsMergeError, Merging, new_merging, past_interval, with_interval, BytesMerge, FieldMerges, IntervalMerges, MergesOn, EntriesMerge, EntryMerges, AreChosen}
 pub use Rattle.hdrhistogram.specs.LogWriters.{sink, IsSameLog}
 pub use Rattle.hdrhistogram.specs.Streams.{AppendsFront}
 pub use Rattle.hdrhistogram.specs.V2.{IsV2, IsWrittenAlike, HasTooGreatCount, written_counts}

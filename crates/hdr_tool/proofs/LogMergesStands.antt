@@ -1,6 +1,6 @@
 -- What a log's lines recorded is what a merge of the written log reports.
-use Rattle.hdr_tool.proofs.Common.{◌≡◌, ℕ, zero, suc, ◌+◌, ◌-◌, ◌*◌, ◌^◌, ◌<◌, ◌≤◌, Bool, true, false, cond, leb, ◌&&◌, List, [], ◌∷◌, ◌++◌, Option, Some, None, IfSome, refl, sym, ap₂, ◌∙◌, subst, arith, lit<, lit≤, option_map, codes, filter_map, AllByRecursion, enumerate_from, bytes_eq, leb-true, Grain, IsFiner, Ratio, Plain, IsPlain, grain, StandsWhereFits, State, after_adds, IsPart, AreParts, joined_samples, AnswersRanked, Filter, is_chosen, IsReadBack, Fault, ◌>>=◌, parts, sigfig_of, fraction_of, are_fractions, Task, Report, Log, Merge, figures_of, log_of, Options, no_options, options_of, greatest_into, filter_of, IsReport, Outcome, Interval, chosen_of, ends_of, AreReadBack, EndsWith, AreEnds}
-use Rattle.hdr_base.specs.Classes.{least_from, unit_of, digits_of, grain_of}
+use Rattle.hdr_tool.proofs.Common.{◌≡◌, ℕ, zero, suc, ◌+◌, ◌-◌, ◌*◌, ◌^◌, ◌<◌, ◌≤◌, Bool, true, false, cond, leb, ◌&&◌, List, [], ◌∷◌, ◌++◌, Option, Some, None, IfSome, refl, sym, ap₂, ◌∙◌, subst, arith, lit<, lit≤, option_map, codes, filter_map, AllByRecursion, enumerate_from, bytes_eq, leb-true, Resolution, IsFiner, Ratio, Plain, IsPlain, resolution, StandsWhereFits, State, after_adds, IsPart, AreParts, joined_samples, AnswersRanked, Filter, is_chosen, IsReadBack, Fault, ◌>>=◌, parts, sigfig_of, fraction_of, are_fractions, Task, Report, Log, Merge, figures_of, log_of, Options, no_options, options_of, greatest_into, filter_of, IsReport, Outcome, Interval, chosen_of, ends_of, AreReadBack, EndsWith, AreEnds}
+use Rattle.hdr_base.specs.Classes.{least_from, unit_of, digits_of, resolution_of}
 use Rattle.hdr_model.specs.Plain.{empty_plain}
 use Rattle.hdr_model.specs.Samples.{StandsFor, Fits}
 use Rattle.hdr_model.specs.Refusals.{IsBounds}
@@ -83,16 +83,16 @@ empty_is_plain new greatest n few =
     let bounds : IsBounds 1 2 n = record { low_fits = lit< tt; wide = omega arith; scale = record { not_zero = omega arith; digits = few; fits = narrow n few } } in
     new greatest 1 2 n true bounds (lit< tt)
 
-empty_grain : (n : ℕ) → grain (empty_plain 1 2 n true) ≡ grain_of 1 n
+empty_resolution : (n : ℕ) → resolution (empty_plain 1 2 n true) ≡ resolution_of 1 n
 unfolding empty_plain
-empty_grain n = refl
+empty_resolution n = refl
 
 empty_high : (n : ℕ) → (empty_plain 1 2 n true).high ≡ 2
 unfolding empty_plain
 empty_high n = refl
 
-pub same_unit : (n m : ℕ) → (grain_of 1 n).unit ≤ (grain_of 1 m).unit
-unfolding grain_of
+pub same_unit : (n m : ℕ) → (resolution_of 1 n).unit ≤ (resolution_of 1 m).unit
+unfolding resolution_of
 same_unit n m = omega arith
 
 -- ---- histograms read back
@@ -100,33 +100,33 @@ same_unit n m = omega arith
 -- what the library's law on what was read back says
 pub record ReadsStand : Type 0 where
   pub plain : (greatest : ℕ) (h k : Plain) → IsPlain greatest h → IsReadBack h k → IsPlain greatest k
-  pub classes : (h k : Plain) → IsReadBack h k → grain k ≡ grain h
+  pub classes : (h k : Plain) → IsReadBack h k → resolution k ≡ resolution h
   pub samples : (greatest : ℕ) (h k : Plain) (S : List ℕ) → IsPlain greatest h → IsReadBack h k → StandsFor h S → StandsFor k S
 
-ends_plain : (g : Grain) (hs : List (Interval Plain)) (Ls : List (Interval (List ℕ))) → AreEnds g hs Ls → AllByRecursion (λ (e : Interval Plain). IsPlain (2 ^ 64 - 1) e.holds) hs
+ends_plain : (g : Resolution) (hs : List (Interval Plain)) (Ls : List (Interval (List ℕ))) → AreEnds g hs Ls → AllByRecursion (λ (e : Interval Plain). IsPlain (2 ^ 64 - 1) e.holds) hs
 ends_plain g [] [] e = tt
 ends_plain g [] (L ∷ Ls) e = absurd e
 ends_plain g (h ∷ hs) [] e = absurd e
 ends_plain g (h ∷ hs) (L ∷ Ls) e = (e.0.plain, ends_plain g hs Ls e.1)
 
 -- the histograms of chosen intervals, by the samples of the same intervals
-record Holds (g : Grain) (h : Plain) (L : List ℕ) : Type 0 where
+record Holds (g : Resolution) (h : Plain) (L : List ℕ) : Type 0 where
   plain : IsPlain (2 ^ 64 - 1) h
   stands : StandsFor h L
-  classes : grain h ≡ g
+  classes : resolution h ≡ g
 
-abbrev AllHold : Grain → List Plain → List (List ℕ) → Type 0
+abbrev AllHold : Resolution → List Plain → List (List ℕ) → Type 0
 AllHold g [] [] = Unit {0}
 AllHold g (h ∷ hs) (L ∷ Ls) = Holds g h L × AllHold g hs Ls
 AllHold g _ _ = ⊥
 
-chosen_one : (g : Grain) (b c : Bool) (h : Plain) (L : List ℕ) (hs : List Plain) (Ls : List (List ℕ)) → b ≡ c → Holds g h L → AllHold g hs Ls → AllHold g (cond b (h ∷ hs) hs) (cond c (L ∷ Ls) Ls)
+chosen_one : (g : Resolution) (b c : Bool) (h : Plain) (L : List ℕ) (hs : List Plain) (Ls : List (List ℕ)) → b ≡ c → Holds g h L → AllHold g hs Ls → AllHold g (cond b (h ∷ hs) hs) (cond c (L ∷ Ls) Ls)
 chosen_one g true true h L hs Ls e one all = (one, all)
 chosen_one g false false h L hs Ls e one all = all
 chosen_one g true false h L hs Ls e one all = absurd (let f = e in cc)
 chosen_one g false true h L hs Ls e one all = absurd (let f = e in cc)
 
-chosen_hold : (filter : Filter) (g : Grain) (hs : List (Interval Plain)) (Ls : List (Interval (List ℕ))) → AreEnds g hs Ls → AllHold g (chosen_of filter hs) (chosen_of filter Ls)
+chosen_hold : (filter : Filter) (g : Resolution) (hs : List (Interval Plain)) (Ls : List (Interval (List ℕ))) → AreEnds g hs Ls → AllHold g (chosen_of filter hs) (chosen_of filter Ls)
 chosen_hold filter g [] [] e = tt
 chosen_hold filter g [] (L ∷ Ls) e = absurd e
 chosen_hold filter g (h ∷ hs) [] e = absurd e
@@ -135,7 +135,7 @@ chosen_hold filter g (h ∷ hs) (L ∷ Ls) e =
     chosen_one g (is_chosen filter h.tag (h.start * 1_000_000)) (is_chosen filter L.tag (L.start * 1_000_000)) h.holds L.holds (chosen_of filter hs) (chosen_of filter Ls) same
     (record { plain = e.0.plain; stands = e.0.stands; classes = e.0.classes }) (chosen_hold filter g hs Ls e.1)
 
-read_parts : (f g : Grain) (hs ks : List Plain) (Ls : List (List ℕ)) → ReadsStand → IsFiner g f → AllHold g hs Ls → AreReadBack hs ks → AreParts (2 ^ 64 - 1) f ks Ls
+read_parts : (f g : Resolution) (hs ks : List Plain) (Ls : List (List ℕ)) → ReadsStand → IsFiner g f → AllHold g hs Ls → AreReadBack hs ks → AreParts (2 ^ 64 - 1) f ks Ls
 read_parts f g [] [] [] back fine e r = tt
 read_parts f g [] [] (L ∷ Ls) back fine e r = absurd e
 read_parts f g [] (k ∷ ks) Ls back fine e r = absurd r
@@ -145,7 +145,7 @@ read_parts f g (h ∷ hs) (k ∷ ks) (L ∷ Ls) back fine e r =
     let one : IsPart (2 ^ 64 - 1) f k L = record {
       plain = back.plain (2 ^ 64 - 1) h k e.0.plain r.0;
       stands = back.samples (2 ^ 64 - 1) h k L e.0.plain r.0 e.0.stands;
-      finer = subst (λ (x : Grain). IsFiner x f) (sym (back.classes h k r.0 ∙ e.0.classes)) fine;
+      finer = subst (λ (x : Resolution). IsFiner x f) (sym (back.classes h k r.0 ∙ e.0.classes)) fine;
     } in
     (one, read_parts f g hs ks Ls back fine e.1 r.1)
 
@@ -154,9 +154,9 @@ read_parts f g (h ∷ hs) (k ∷ ks) (L ∷ Ls) back fine e r =
 -- what the core's law on histograms that are added in order says
 pub record JoinedStand : Type 0 where
   pub sum : (greatest most : ℕ) (h : Plain) (ks : List Plain) (S : List ℕ) (Ls : List (List ℕ)) → 1 ≤ greatest → IsPlain greatest h → StandsFor h S
-      → AreParts most (grain h) ks Ls → Fits greatest (grain h) (S ++ joined_samples Ls) → StandsFor (after_adds greatest h ks) (S ++ joined_samples Ls) × IsPlain greatest (after_adds greatest h ks)
+      → AreParts most (resolution h) ks Ls → Fits greatest (resolution h) (S ++ joined_samples Ls) → StandsFor (after_adds greatest h ks) (S ++ joined_samples Ls) × IsPlain greatest (after_adds greatest h ks)
   pub ranked : (greatest most : ℕ) (h : Plain) (ks : List Plain) (S : List ℕ) (Ls : List (List ℕ)) → 1 ≤ greatest → IsPlain greatest h → StandsFor h S
-      → AreParts most (grain h) ks Ls → Fits greatest (grain h) (S ++ joined_samples Ls) → AnswersRanked (after_adds greatest h ks) (S ++ joined_samples Ls)
+      → AreParts most (resolution h) ks Ls → Fits greatest (resolution h) (S ++ joined_samples Ls) → AnswersRanked (after_adds greatest h ks) (S ++ joined_samples Ls)
 
 some_greatest : (into : Option CounterType) → 1 ≤ greatest_into into
 some_greatest None = lit≤ tt
@@ -174,9 +174,9 @@ pub record IsMerged (fewer : ℕ) (quantiles : List Ratio) (text samples : List 
   pub ranked : AnswersRanked histogram samples
 
 pub whole_way : (log merge : List (List ℕ)) (sigfig fewer : ℕ) (options : Options) (quantiles : List Ratio) (input written text : List ℕ) (fault : Option Fault) (Ls : List (Interval (List ℕ)))
-    → NewIsPlain → CallsStand → JoinedStand → ReadsBack → ReadsStand → ((n : ℕ) → StandsFor (empty_plain 1 2 n true) []) → IsFiner (grain_of 1 sigfig) (grain_of 1 fewer)
+    → NewIsPlain → CallsStand → JoinedStand → ReadsBack → ReadsStand → ((n : ℕ) → StandsFor (empty_plain 1 2 n true) []) → IsFiner (resolution_of 1 sigfig) (resolution_of 1 fewer)
     → task_of log ≡ Some (Log sigfig) → task_of merge ≡ Some (Merge options fewer quantiles)
-    → EndsWith (grain_of 1 sigfig) (record { samples = []; high = 2 }) (enumerate_from 1 (parts 10 input)) Ls → Fits (greatest_into options.into) (grain_of 1 fewer) (joined_samples (chosen_of (filter_of options) Ls))
+    → EndsWith (resolution_of 1 sigfig) (record { samples = []; high = 2 }) (enumerate_from 1 (parts 10 input)) Ls → Fits (greatest_into options.into) (resolution_of 1 fewer) (joined_samples (chosen_of (filter_of options) Ls))
     → Outcome log input written None → Outcome merge written text fault → (fault ≡ None) × IsMerged fewer quantiles text (joined_samples (chosen_of (filter_of options) Ls))
 whole_way log merge sigfig fewer options quantiles input written text fault Ls new calls joined back stand made fine tl tm ends fits wrote merged =
     let h = empty_plain 1 2 sigfig true in
@@ -188,12 +188,12 @@ whole_way log merge sigfig fewer options quantiles input written text fault Ls n
     let few : sigfig ≤ 5 = subst (λ o. IfSome o HasFew) tl (task_few log) in
     let few_merged : fewer ≤ 5 = subst (λ o. IfSome o HasFew) tm (task_few merge) in
     let stands : StandsWhereFits (2 ^ 64 - 1) h start = ((λ fits. made sigfig), empty_high sigfig) in
-    let ended : AreEnds (grain h) (ends_of h lines) Ls = ends_stand calls h start lines Ls (empty_is_plain new (2 ^ 64 - 1) sigfig few) stands (subst (λ (g : Grain). EndsWith g start lines Ls) (sym (empty_grain sigfig)) ends) in
-    let m = log_then_merge back log merge sigfig fewer options quantiles input written text fault tl tm (ends_plain (grain h) (ends_of h lines) Ls ended) wrote merged in
-    let finer : IsFiner (grain h) (grain k) = subst (λ (g : Grain). IsFiner g (grain k)) (sym (empty_grain sigfig)) (subst (λ (g : Grain). IsFiner (grain_of 1 sigfig) g) (sym (empty_grain fewer)) fine) in
-    let parted : AreParts (2 ^ 64 - 1) (grain k) m.1.0 (chosen_of filter Ls) = read_parts (grain k) (grain h) (chosen_of filter (ends_of h lines)) m.1.0 (chosen_of filter Ls) stand finer (chosen_hold filter (grain h) (ends_of h lines) Ls ended) m.1.1 in
+    let ended : AreEnds (resolution h) (ends_of h lines) Ls = ends_stand calls h start lines Ls (empty_is_plain new (2 ^ 64 - 1) sigfig few) stands (subst (λ (g : Resolution). EndsWith g start lines Ls) (sym (empty_resolution sigfig)) ends) in
+    let m = log_then_merge back log merge sigfig fewer options quantiles input written text fault tl tm (ends_plain (resolution h) (ends_of h lines) Ls ended) wrote merged in
+    let finer : IsFiner (resolution h) (resolution k) = subst (λ (g : Resolution). IsFiner g (resolution k)) (sym (empty_resolution sigfig)) (subst (λ (g : Resolution). IsFiner (resolution_of 1 sigfig) g) (sym (empty_resolution fewer)) fine) in
+    let parted : AreParts (2 ^ 64 - 1) (resolution k) m.1.0 (chosen_of filter Ls) = read_parts (resolution k) (resolution h) (chosen_of filter (ends_of h lines)) m.1.0 (chosen_of filter Ls) stand finer (chosen_hold filter (resolution h) (ends_of h lines) Ls ended) m.1.1 in
     let plain : IsPlain greatest k = empty_is_plain new greatest fewer few_merged in
-    let fit = subst (λ (g : Grain). Fits greatest g (joined_samples (chosen_of filter Ls))) (sym (empty_grain fewer)) fits in
+    let fit = subst (λ (g : Resolution). Fits greatest g (joined_samples (chosen_of filter Ls))) (sym (empty_resolution fewer)) fits in
     let digits = added_digits greatest fewer (after_adds greatest k m.1.0) m.1.0 refl in
     let one = some_greatest options.into in (
       m.0,

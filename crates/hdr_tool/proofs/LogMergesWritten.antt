@@ -1,5 +1,5 @@
 -- The histograms of a log that `log` wrote: what they stand for, and the result of merging them.
-use Rattle.hdr_tool.proofs.Common.{◌≡◌, ℕ, ◌-◌, ◌^◌, List, [], ◌∷◌, Option, Some, None, IfSome, refl, sym, subst, ◌+◌, ◌*◌, ◌<◌, Bool, true, false, cond, arith, length, slice_index, ◌++◌, MatchOption, Result, Ok, Err, map, ap, ◌∙◌, Grain, Plain, IsPlain, grain, empty_plain, max_of, after_reset, after_call, CallTo, IsCallOf, StandsWhereFits, State, Call, Reset, Command, Apply, End, command_of, at_command, ends_of, AfterCommand, EndsWith, AreEnds, chosen_of, AreReadBack, LogThenMerge, AllByRecursion, enumerate_from, Ratio, after_adds, Entry, Span, reading, thousandths, to_thousandths, max_thousandths, base64_of, base64_bytes, Piece, IsPiece, piece_text, text_of, said_by, is_read, IsV2, interval_piece, IsIntervalText, told_of, v2_at, IsReadAs, IsReadBack, ReadsV2, Filter, is_chosen, Merging, new_merging, past_interval, with_interval, BytesMerge, FieldMerges, IntervalMerges, MergesOn, EntriesMerge, DeserializeError, MergeError, Fault, WrongWords, parts, Run, ended_by, prepend, run_command, run_lines, IsLogText, has_too_great_count, IsReport, Task, greatest_into, filter_of, fault_in, Reported, merged_histogram, MergeReported, TaskDone, append-nil}
+use Rattle.hdr_tool.proofs.Common.{◌≡◌, ℕ, ◌-◌, ◌^◌, List, [], ◌∷◌, Option, Some, None, IfSome, refl, sym, subst, ◌+◌, ◌*◌, ◌<◌, Bool, true, false, cond, arith, length, slice_index, ◌++◌, MatchOption, Result, Ok, Err, map, ap, ◌∙◌, Resolution, Plain, IsPlain, resolution, empty_plain, max_of, after_reset, after_call, CallTo, IsCallOf, StandsWhereFits, State, Call, Reset, Command, Apply, End, command_of, at_command, ends_of, AfterCommand, EndsWith, AreEnds, chosen_of, AreReadBack, LogThenMerge, AllByRecursion, enumerate_from, Ratio, after_adds, Entry, Span, reading, thousandths, to_thousandths, max_thousandths, base64_of, base64_bytes, Piece, IsPiece, piece_text, text_of, said_by, is_read, IsV2, interval_piece, IsIntervalText, told_of, v2_at, IsReadAs, IsReadBack, ReadsV2, Filter, is_chosen, Merging, new_merging, past_interval, with_interval, BytesMerge, FieldMerges, IntervalMerges, MergesOn, EntriesMerge, DeserializeError, MergeError, Fault, Usage, parts, Run, ended_by, prepend, run_command, run_lines, IsLogText, has_too_great_count, IsReport, Task, greatest_into, filter_of, fault_in, Reported, merged_histogram, MergeReported, TaskDone, append-nil}
 use Rattle.hdr_tool.proofs.CommandsLines.{IsLineCommand, command_fine}
 use Rattle.std.specs.List.{flat_map}
 use Rattle.hdr_log.specs.Grammar.{Interval}
@@ -12,32 +12,32 @@ use Rattle.hdr_tool.specs.Program as run
 -- what a call makes of a histogram, by the library's law
 pub record CallsStand : Type 0 where
   pub plain : (most : ℕ) (h : Plain) (call : Call ℕ) → IsCallOf most call → IsPlain (2 ^ 64 - 1) h → IsPlain (2 ^ 64 - 1) (after_call (2 ^ 64 - 1) (λ n. n) call h)
-  pub classes : (most : ℕ) (h : Plain) (call : Call ℕ) → IsCallOf most call → grain (after_call (2 ^ 64 - 1) (λ n. n) call h) ≡ grain h
+  pub classes : (most : ℕ) (h : Plain) (call : Call ℕ) → IsCallOf most call → resolution (after_call (2 ^ 64 - 1) (λ n. n) call h) ≡ resolution h
   pub wherever : (most : ℕ) (h : Plain) (call : Call ℕ) (s t : State) → IsCallOf most call → IsPlain (2 ^ 64 - 1) h → StandsWhereFits (2 ^ 64 - 1) h s
-      → CallTo (λ n. n) (grain h) call s t → StandsWhereFits (2 ^ 64 - 1) (after_call (2 ^ 64 - 1) (λ n. n) call h) t
+      → CallTo (λ n. n) (resolution h) call s t → StandsWhereFits (2 ^ 64 - 1) (after_call (2 ^ 64 - 1) (λ n. n) call h) t
 
-command_stands : (c : Option Command) (h : Plain) (s : State) (lines : List (ℕ × List ℕ)) (Ls : List (run.Interval (List ℕ))) → CallsStand → IsPlain (2 ^ 64 - 1) h → StandsWhereFits (2 ^ 64 - 1) h s → IfSome c IsLineCommand → AfterCommand (grain h) s c (λ t rest. EndsWith (grain h) t lines rest) Ls
-    → ((g : Plain) (t : State) (rest : List (run.Interval (List ℕ))) → IsPlain (2 ^ 64 - 1) g → StandsWhereFits (2 ^ 64 - 1) g t → EndsWith (grain g) t lines rest → AreEnds (grain g) (ends_of g lines) rest)
-    → AreEnds (grain h) (at_command h c (λ g. ends_of g lines)) Ls
-command_stands None h s lines Ls calls p st fine a tail = let A : List (run.Interval (List ℕ)) → Type 0 = λ x. AreEnds (grain h) [] x in subst A (sym a) tt
+command_stands : (c : Option Command) (h : Plain) (s : State) (lines : List (ℕ × List ℕ)) (Ls : List (run.Interval (List ℕ))) → CallsStand → IsPlain (2 ^ 64 - 1) h → StandsWhereFits (2 ^ 64 - 1) h s → IfSome c IsLineCommand → AfterCommand (resolution h) s c (λ t rest. EndsWith (resolution h) t lines rest) Ls
+    → ((g : Plain) (t : State) (rest : List (run.Interval (List ℕ))) → IsPlain (2 ^ 64 - 1) g → StandsWhereFits (2 ^ 64 - 1) g t → EndsWith (resolution g) t lines rest → AreEnds (resolution g) (ends_of g lines) rest)
+    → AreEnds (resolution h) (at_command h c (λ g. ends_of g lines)) Ls
+command_stands None h s lines Ls calls p st fine a tail = let A : List (run.Interval (List ℕ)) → Type 0 = λ x. AreEnds (resolution h) [] x in subst A (sym a) tt
 command_stands (Some (Apply call)) h s lines Ls calls p st fine a tail =
     let next = after_call (2 ^ 64 - 1) (λ (n : ℕ). n) call h in
-    let same : grain next ≡ grain h = calls.classes (2 ^ 64 - 1) h call fine in
-    let W : Grain → Type 0 = λ g. EndsWith g a.0 lines Ls in
-    let E : Grain → Type 0 = λ g. AreEnds g (ends_of next lines) Ls in
+    let same : resolution next ≡ resolution h = calls.classes (2 ^ 64 - 1) h call fine in
+    let W : Resolution → Type 0 = λ g. EndsWith g a.0 lines Ls in
+    let E : Resolution → Type 0 = λ g. AreEnds g (ends_of next lines) Ls in
     subst E same (tail next a.0 Ls (calls.plain (2 ^ 64 - 1) h call fine p) (calls.wherever (2 ^ 64 - 1) h call s a.0 fine p st a.1) (subst W (sym same) a.2))
 command_stands (Some (End start duration tag)) h s lines Ls calls p st fine a tail =
     let t : State = record { samples = []; high = s.high } in
-    let same : grain (after_reset h) ≡ grain h = calls.classes (2 ^ 64 - 1) h Reset tt in
-    let W : Grain → Type 0 = λ g. EndsWith g t lines a.0 in
-    let E : Grain → Type 0 = λ g. AreEnds g (ends_of (after_reset h) lines) a.0 in
-    let A : List (run.Interval (List ℕ)) → Type 0 = λ x. AreEnds (grain h) (record { holds = h; tag = tag; start = start; duration = duration } ∷ ends_of (after_reset h) lines) x in
+    let same : resolution (after_reset h) ≡ resolution h = calls.classes (2 ^ 64 - 1) h Reset tt in
+    let W : Resolution → Type 0 = λ g. EndsWith g t lines a.0 in
+    let E : Resolution → Type 0 = λ g. AreEnds g (ends_of (after_reset h) lines) a.0 in
+    let A : List (run.Interval (List ℕ)) → Type 0 = λ x. AreEnds (resolution h) (record { holds = h; tag = tag; start = start; duration = duration } ∷ ends_of (after_reset h) lines) x in
     let rest = tail (after_reset h) t a.0 (calls.plain (2 ^ 64 - 1) h Reset tt p) (calls.wherever (2 ^ 64 - 1) h Reset s t tt p st (refl, refl)) (subst W (sym same) a.3) in
     subst A (sym a.1) (record { plain = p; stands = st.0 a.2; classes = refl; tag = refl; start = refl; duration = refl }, subst E same rest)
 
-pub ends_stand : CallsStand → (h : Plain) (s : State) (lines : List (ℕ × List ℕ)) (Ls : List (run.Interval (List ℕ))) → IsPlain (2 ^ 64 - 1) h → StandsWhereFits (2 ^ 64 - 1) h s → EndsWith (grain h) s lines Ls
-    → AreEnds (grain h) (ends_of h lines) Ls
-ends_stand calls h s [] Ls p st w = let A : List (run.Interval (List ℕ)) → Type 0 = λ x. AreEnds (grain h) [] x in subst A (sym w) tt
+pub ends_stand : CallsStand → (h : Plain) (s : State) (lines : List (ℕ × List ℕ)) (Ls : List (run.Interval (List ℕ))) → IsPlain (2 ^ 64 - 1) h → StandsWhereFits (2 ^ 64 - 1) h s → EndsWith (resolution h) s lines Ls
+    → AreEnds (resolution h) (ends_of h lines) Ls
+ends_stand calls h s [] Ls p st w = let A : List (run.Interval (List ℕ)) → Type 0 = λ x. AreEnds (resolution h) [] x in subst A (sym w) tt
 ends_stand calls h s ((k, []) ∷ lines) Ls p st w = ends_stand calls h s lines Ls p st w
 ends_stand calls h s ((k, b ∷ line) ∷ lines) Ls p st w = command_stands (command_of (b ∷ line)) h s lines Ls calls p st (command_fine (b ∷ line)) w (λ g t rest q u v. ends_stand calls g t lines rest q u v)
 
@@ -206,6 +206,6 @@ merged_log h lines fewer greatest filter quantiles written text fault back plain
 pub log_then_merge : ReadsBack → LogThenMerge
 unfolding Outcome
 log_then_merge back log merge sigfig fewer options quantiles input written text fault tl tm plain p q =
-    let L : Option Task → Type 0 = λ o. MatchOption o ((written ≡ []) × (None ≡ Some WrongWords)) (λ task. TaskDone task input written None) in
-    let M : Option Task → Type 0 = λ o. MatchOption o ((text ≡ []) × (fault ≡ Some WrongWords)) (λ task. TaskDone task written text fault) in
+    let L : Option Task → Type 0 = λ o. MatchOption o ((written ≡ []) × (None ≡ Some Usage)) (λ task. TaskDone task input written None) in
+    let M : Option Task → Type 0 = λ o. MatchOption o ((text ≡ []) × (fault ≡ Some Usage)) (λ task. TaskDone task written text fault) in
     merged_log (empty_plain 1 2 sigfig true) (enumerate_from 1 (parts 10 input)) fewer (greatest_into options.into) (filter_of options) quantiles written text fault back plain (subst L tl p) (subst M tm q)

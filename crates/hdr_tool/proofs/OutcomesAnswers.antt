@@ -1,5 +1,5 @@
 -- What a task returns, by the result of its lines or its log.
-use Rattle.hdr_tool.proofs.Common.{◌≡◌, ℕ, List, [], ◌∷◌, ◌++◌, length, true, false, Option, Some, None, IfSome, Result, Ok, Err, refl, sym, ap, ◌∙◌, subst, arith, Appends, IsAtEnd, append-nil, Ratio, Plain, empty_plain, AppendsFront, Fault, Run, ended_by, run_command, run_lines, IsLogText, Cause, Shortage, Output, Input, Usage, cause_of, Goes, Fails, LoggedFirst, Answers, ReadsTo, merge_fault, Command, Apply, End, command_of, number_lines, Task, Report, Log, Merge, run_input, fault_in, Reported, TaskDone, TaskStands, TaskWrites, MergeReported, Filter, RefusesMerge, MergeError}
+use Rattle.hdr_tool.proofs.Common.{◌≡◌, ℕ, List, [], ◌∷◌, ◌++◌, length, true, false, Option, Some, None, IfSome, Result, Ok, Err, refl, sym, ap, ◌∙◌, subst, arith, Appends, IsAtEnd, append-nil, Ratio, Plain, empty_plain, AppendsFront, Fault, Run, ended_by, run_command, run_lines, IsLogText, Cause, Shortage, Output, Input, Misuse, cause_of, Goes, Fails, LoggedFirst, Answers, ReadsTo, merge_fault, Command, Apply, End, command_of, number_lines, Task, Report, Log, Merge, run_input, fault_in, Reported, TaskDone, TaskStands, TaskWrites, MergeReported, Filter, IsMergeError, MergeError}
 use Rattle.hdr_tool.specs.Program.{Interval}
 use Rattle.hdr_tool.proofs.OutcomesRuns.{LogsAll, LogsFirst, Stops, fails_on, appends_nothing, appends_both, some_input}
 use Rattle.hdrhistogram.specs.declared.serialization.interval_log.merge.MergeError.TheVariants.{Creation, Parse, Base64, Decode, OutOfMemory}
@@ -56,7 +56,7 @@ module _ (sigfig : ℕ) (quantiles : List Ratio) (input : List ℕ) (o n : Optio
   reads_by f m Shortage a e = tt
   reads_by f m Output a e = absurd (no_front o n a.0 (nothing a.0 (a.1 tt)) a.2)
   reads_by f m Input a e = e
-  reads_by f m Usage a e = tt
+  reads_by f m Misuse a e = tt
 
   pub report_reads : (f : Fault) (m : Option (List ℕ)) → Stops {M = Unit {0}} (λ _. run_input false sigfig input) o n (cause_of f) f → ReadsTo (λ _. Unit {0}) m (cause_of f) → ReadsTo IsAtEnd m (cause_of f)
   report_reads f m a e = reads_by f m (cause_of f) a e
@@ -108,7 +108,7 @@ unread task i o f e =
     let none : (t : List ℕ) × TaskStands task x.0 t × Appends o o t = ([], stands_nothing task x.0, appends_nothing o) in
     (x.0, x.1, rw e none)
 
-pub merge_refused : (greatest : ℕ) (filter : Filter) (sigfig : ℕ) (quantiles : List Ratio) (input : List ℕ) (o : Option (List ℕ)) (e : MergeError) → RefusesMerge greatest filter sigfig input e
+pub merge_refused : (greatest : ℕ) (filter : Filter) (sigfig : ℕ) (quantiles : List Ratio) (input : List ℕ) (o : Option (List ℕ)) (e : MergeError) → IsMergeError greatest filter sigfig input e
     → Answers (MergeReported greatest filter sigfig quantiles input) (λ text. text ≡ []) (λ text. MergeReported greatest filter sigfig quantiles input text None) o o (Err (merge_fault e))
 merge_refused greatest filter sigfig quantiles input o (Creation e) r = ([], refl, appends_nothing o)
 merge_refused greatest filter sigfig quantiles input o (Parse at) r = ([], (Err (Parse at), r.1, (refl, refl)), appends_nothing o)

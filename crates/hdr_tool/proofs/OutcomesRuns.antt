@@ -1,5 +1,5 @@
 -- What running lines leaves in the writer: one line, one part after another, and lines that are run while the input is read.
-use Rattle.hdr_tool.proofs.Common.{◌≡◌, ℕ, ◌+◌, ◌-◌, List, [], ◌++◌, length, take, drop, Option, Some, None, Result, Ok, Err, IsErrAnd, refl, sym, ap, ◌∙◌, append_assoc, suc, ◌^◌, Bool, ◌∷◌, subst, length-append, zero-add, arith, ◌*◌, true, inl, inr, IfSome, ◌⊎◌, Fault, Appends, Keeps, Consumes, IsAtEnd, take_rest, append-nil, Plain, IsPlain, after_call, RefusesCall, Call, AppendsFront, Command, Apply, command_of, End, number_lines, Run, prepend, run_command, run_lines, IsLogText, Cause, Shortage, Output, Input, Usage, cause_of, Goes, Fails, Logged, LoggedFirst, ended_by, CommandNeeds, LinesNeed, Needs, ReadsTo, after_reset, IsV2, HasTooGreatCount, IsIntervalText, NotACommand, NotWritten, NoMemory, Consumes-trans}
+use Rattle.hdr_tool.proofs.Common.{◌≡◌, ℕ, ◌+◌, ◌-◌, List, [], ◌++◌, length, take, drop, Option, Some, None, Result, Ok, Err, IsErrAnd, refl, sym, ap, ◌∙◌, append_assoc, suc, ◌^◌, Bool, ◌∷◌, subst, length-append, zero-add, arith, ◌*◌, true, inl, inr, IfSome, ◌⊎◌, Fault, Appends, Keeps, Consumes, IsAtEnd, take_rest, append-nil, Plain, IsPlain, after_call, IsCallError, Call, AppendsFront, Command, Apply, command_of, End, number_lines, Run, prepend, run_command, run_lines, IsLogText, Cause, Shortage, Output, Input, Misuse, cause_of, Goes, Fails, Logged, LoggedFirst, ended_by, CommandNeeds, LinesNeed, Needs, ReadsTo, after_reset, IsV2, HasTooGreatCount, IsIntervalText, NotACommand, NotWritten, NoMemory, Consumes-trans}
 use Rattle.std.proofs.Math.Seq.{take-add}
 use Rattle.hdr_tool.specs.Commands.{command_of_name}
 use Rattle.hdr_tool.specs.Program.{Interval}
@@ -78,7 +78,7 @@ pub fails_on : (E F : List ℕ → Option Fault → Type 0) (S T U V : List ℕ 
 fails_on E F S T U V o m n done f Shortage a ends stands writes x = (done ++ x.0, stands x.0 x.1, appends_both o m n done x.0 a x.2)
 fails_on E F S T U V o m n done f Output a ends stands writes x = (done ++ x.0, writes x.0 x.1 x.2, front_behind o m n done x.0 a x.2)
 fails_on E F S T U V o m n done f Input a ends stands writes x = (done ++ x.0, ends x.0 x.1, appends_both o m n done x.0 a x.2)
-fails_on E F S T U V o m n done f Usage a ends stands writes x = x
+fails_on E F S T U V o m n done f Misuse a ends stands writes x = x
 
 prepend_both : (is js : List (Interval Plain)) (r : Run) → prepend is (prepend js r) ≡ prepend (is ++ js) r
 prepend_both is js r = ap (λ x. record { intervals = x; ended = r.ended }) (sym (append_assoc is js r.intervals))
@@ -163,7 +163,7 @@ command_needs is_log h k [] more c e n = absurd (let f : None ≡ Some c = e in 
 command_needs is_log h k (b ∷ line) more c e n = rw e n
 
 -- a call that returned an error, and one after which more is needed
-pub call_refused : (is_log : Bool) (h : Plain) (k : ℕ) (line : List ℕ) (more : List (ℕ × List ℕ)) (call : Call ℕ) (e : CallError) → command_of line ≡ Some (Apply call) → h.auto_resize ≡ true → RefusesCall h call e → LinesNeed is_log h ((k, line) ∷ more)
+pub call_refused : (is_log : Bool) (h : Plain) (k : ℕ) (line : List ℕ) (more : List (ℕ × List ℕ)) (call : Call ℕ) (e : CallError) → command_of line ≡ Some (Apply call) → h.auto_resize ≡ true → IsCallError h call e → LinesNeed is_log h ((k, line) ∷ more)
 call_refused is_log h k line more call e c g r = command_needs is_log h k line more (Apply call) c (inl (e, r, g))
 
 pub call_passed : (is_log : Bool) (h new : Plain) (k : ℕ) (line : List ℕ) (more : List (ℕ × List ℕ)) (call : Call ℕ) → command_of line ≡ Some (Apply call) → new ≡ after_call (2 ^ 64 - 1) (λ n. n) call h → LinesNeed is_log new more → LinesNeed is_log h ((k, line) ∷ more)
@@ -215,7 +215,7 @@ read_by : (m : Option (List ℕ)) (c : Cause) → IsAtEnd m → ReadsTo (λ _. U
 read_by m Shortage e = tt
 read_by m Output e = tt
 read_by m Input e = e
-read_by m Usage e = tt
+read_by m Misuse e = tt
 
 pub read_all : (m : Option (List ℕ)) (f : Fault) → IsAtEnd m → ReadsTo (λ _. Unit {0}) m (cause_of f)
 read_all m f e = read_by m (cause_of f) e

@@ -1,9 +1,9 @@
 -- What a merge of a written log adds.
-use Rattle.hdr_tool.specs.Common.{◌≡◌, ℕ, ◌-◌, ◌*◌, ◌^◌, ◌≤◌, if◌then◌else◌, List, [], ◌∷◌, Option, Some, None, true, AllByRecursion, enumerate_from, Ratio, Plain, IsPlain, grain, empty_plain, after_reset, after_call, CallTo, Filter, is_chosen, Fault, parts}
+use Rattle.hdr_tool.specs.Common.{◌≡◌, ℕ, ◌-◌, ◌*◌, ◌^◌, ◌≤◌, if◌then◌else◌, List, [], ◌∷◌, Option, Some, None, true, AllByRecursion, enumerate_from, Ratio, Plain, IsPlain, resolution, empty_plain, after_reset, after_call, CallTo, Filter, is_chosen, Fault, parts}
 use Rattle.hdr_model.specs.Runs.{StandsWhereFits, State}
 use Rattle.hdr_model.specs.Samples.{StandsFor, Fits}
 use Rattle.hdr_model.specs.Joining.{after_adds, joined_samples, AnswersRanked}
-use Rattle.hdr_base.specs.Classes.{Grain, grain_of}
+use Rattle.hdr_base.specs.Classes.{Resolution, resolution_of}
 use Rattle.hdrhistogram.specs.V2Read.{IsReadBack}
 use Rattle.hdr_tool.specs.Commands.{Command, Apply, End, command_of}
 use Rattle.hdr_tool.specs.Arguments.{Options, greatest_into, filter_of, Log, Merge, task_of}
@@ -46,7 +46,7 @@ LogThenMerge =
 
 -- a command changes the samples, or ends an interval with them, if they fit, and starts one with
 -- none
-abbrev pub AfterCommand : Grain → State → Option Command → (State → List (Interval (List ℕ)) → Type 0) → List (Interval (List ℕ)) → Type 0
+abbrev pub AfterCommand : Resolution → State → Option Command → (State → List (Interval (List ℕ)) → Type 0) → List (Interval (List ℕ)) → Type 0
 AfterCommand g s None Onward Ls = Ls ≡ []
 AfterCommand g s (Some (Apply call)) Onward Ls = (t : State) × CallTo (λ n. n) g call s t × Onward t Ls
 AfterCommand g s (Some (End start duration tag)) Onward Ls =
@@ -54,21 +54,21 @@ AfterCommand g s (Some (End start duration tag)) Onward Ls =
     × Fits (2 ^ 64 - 1) g s.samples × Onward (record { samples = []; high = s.high }) rest
 
 -- the samples before the ends of the lines of a log's input, which fit at each end
-abbrev pub EndsWith : Grain → State → List (ℕ × List ℕ) → List (Interval (List ℕ)) → Type 0
+abbrev pub EndsWith : Resolution → State → List (ℕ × List ℕ) → List (Interval (List ℕ)) → Type 0
 EndsWith g s [] Ls = Ls ≡ []
 EndsWith g s ((k, []) ∷ lines) Ls = EndsWith g s lines Ls
 EndsWith g s ((k, b ∷ line) ∷ lines) Ls = AfterCommand g s (command_of (b ∷ line)) (λ t rest. EndsWith g t lines rest) Ls
 
 -- a histogram with these classes stands for samples, in an interval of the same tag and times
-pub record IsEnd (g : Grain) (h : Interval Plain) (L : Interval (List ℕ)) : Type 0 where
+pub record IsEnd (g : Resolution) (h : Interval Plain) (L : Interval (List ℕ)) : Type 0 where
   pub plain : IsPlain (2 ^ 64 - 1) h.holds
   pub stands : StandsFor h.holds L.holds
-  pub classes : grain h.holds ≡ g
+  pub classes : resolution h.holds ≡ g
   pub tag : h.tag ≡ L.tag
   pub start : h.start ≡ L.start
   pub duration : h.duration ≡ L.duration
 
-abbrev pub AreEnds : Grain → List (Interval Plain) → List (Interval (List ℕ)) → Type 0
+abbrev pub AreEnds : Resolution → List (Interval Plain) → List (Interval (List ℕ)) → Type 0
 AreEnds g [] [] = Unit {0}
 AreEnds g (h ∷ hs) (L ∷ Ls) = IsEnd g h L × AreEnds g hs Ls
 AreEnds g _ _ = ⊥
@@ -76,8 +76,8 @@ AreEnds g _ _ = ⊥
 -- the histograms of a log's intervals stand for the samples of these intervals
 abbrev pub EndsStand : Type 0
 EndsStand =
-    (h : Plain) (s : State) (lines : List (ℕ × List ℕ)) (Ls : List (Interval (List ℕ))) → IsPlain (2 ^ 64 - 1) h → StandsWhereFits (2 ^ 64 - 1) h s → EndsWith (grain h) s lines Ls
-    → AreEnds (grain h) (ends_of h lines) Ls
+    (h : Plain) (s : State) (lines : List (ℕ × List ℕ)) (Ls : List (Interval (List ℕ))) → IsPlain (2 ^ 64 - 1) h → StandsWhereFits (2 ^ 64 - 1) h s → EndsWith (resolution h) s lines Ls
+    → AreEnds (resolution h) (ends_of h lines) Ls
 
 -- Samples that are logged and merged again. A merge of the written log, with as many digits or
 -- fewer, has no `Fault`. Its histogram stands for the samples of the chosen intervals, joined. The
@@ -86,8 +86,8 @@ abbrev pub LogMergeStands : Type 0
 LogMergeStands =
     (log merge : List (List ℕ)) (sigfig fewer : ℕ) (options : Options) (quantiles : List Ratio) (input written text : List ℕ) (fault : Option Fault) (Ls : List (Interval (List ℕ)))
     → task_of log ≡ Some (Log sigfig) → task_of merge ≡ Some (Merge options fewer quantiles) → fewer ≤ sigfig
-    → EndsWith (grain_of 1 sigfig) (record { samples = []; high = 2 }) (enumerate_from 1 (parts 10 input)) Ls
-    → Fits (greatest_into options.into) (grain_of 1 fewer) (joined_samples (chosen_of (filter_of options) Ls))
+    → EndsWith (resolution_of 1 sigfig) (record { samples = []; high = 2 }) (enumerate_from 1 (parts 10 input)) Ls
+    → Fits (greatest_into options.into) (resolution_of 1 fewer) (joined_samples (chosen_of (filter_of options) Ls))
     → Outcome log input written None → Outcome merge written text fault
     → (fault ≡ None) × ((h : Plain) × (h.low ≡ 1) × (h.sigfig ≡ fewer) × IsReport h quantiles text × StandsFor h (joined_samples (chosen_of (filter_of options) Ls))
     × AnswersRanked h (joined_samples (chosen_of (filter_of options) Ls)))

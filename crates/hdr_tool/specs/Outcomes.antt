@@ -1,5 +1,5 @@
 -- The errors of a run, the memory that lines need, and what a call leaves in the streams.
-use Rattle.hdr_tool.specs.Common.{◌≡◌, ◌⊎◌, ℕ, ◌-◌, ◌^◌, List, ◌∷◌, [], ◌++◌, Option, Some, None, Result, Ok, Err, Bool, true, codes, decimal, Appends, IsAtEnd, Plain, after_call, RefusesCall, Fault, WrongWords, NotACommand, NotALog, NotBase64, NoMemory, CannotRead, CannotWrite}
+use Rattle.hdr_tool.specs.Common.{◌≡◌, ◌⊎◌, ℕ, ◌-◌, ◌^◌, List, ◌∷◌, [], ◌++◌, Option, Some, None, Result, Ok, Err, Bool, true, codes, decimal, Appends, IsAtEnd, Plain, after_call, IsCallError, Fault, Usage, NotACommand, NotALog, NotBase64, NoMemory, CannotRead, CannotWrite}
 use Rattle.hdr_core.specs.declared.call.CallError.{CallError}
 use Rattle.hdrhistogram.specs.Streams.{AppendsFront}
 use Rattle.hdr_tool.specs.Commands.{Command, Apply, End, command_of}
@@ -8,7 +8,7 @@ use Rattle.hdr_tool.specs.Program.{Interval, Run, prepend, IsLogText, Logged, Lo
 -- the fault line on standard error; `None` if its text is partly the library's: for a histogram
 -- that is not written, and for bytes that are not a histogram
 abbrev pub fault_text : Fault → Option (List ℕ)
-fault_text WrongWords = Some (codes "hdr: usage: hdr report SIGFIG Q.. | hdr log SIGFIG | hdr merge [--into COUNTER] [--tag T] [--from MS] [--to MS] SIGFIG Q..")
+fault_text Usage = Some (codes "hdr: usage: hdr report SIGFIG Q.. | hdr log SIGFIG | hdr merge [--into COUNTER] [--tag T] [--from MS] [--to MS] SIGFIG Q..")
 fault_text (NotACommand k) = Some (codes "hdr: line " ++ decimal k ++ codes ": not a command")
 fault_text (NotALog at) = Some (codes "hdr: log: parse error at byte " ++ decimal at)
 fault_text (NotBase64 k) = Some (codes "hdr: interval " ++ decimal k ++ codes ": not base64")
@@ -19,13 +19,13 @@ fault_text _ = None
 
 -- the exit status
 abbrev pub status_of : Fault → ℕ
-status_of WrongWords = 2
+status_of Usage = 2
 status_of _ = 1
 
 -- memory is needed for a call that returns an error although the histogram grows, for an interval,
 -- or for what follows
 abbrev pub CommandNeeds : Bool → Plain → Option Command → (Plain → Type 0) → Type 0
-CommandNeeds is_log h (Some (Apply call)) Onward = ((e : CallError) × RefusesCall h call e × (h.auto_resize ≡ true)) ⊎ Onward (after_call (2 ^ 64 - 1) (λ n. n) call h)
+CommandNeeds is_log h (Some (Apply call)) Onward = ((e : CallError) × IsCallError h call e × (h.auto_resize ≡ true)) ⊎ Onward (after_call (2 ^ 64 - 1) (λ n. n) call h)
 CommandNeeds true h (Some (End start duration tag)) Onward = Unit
 CommandNeeds is_log h c Onward = ⊥
 
@@ -47,13 +47,13 @@ pub data Cause : Type 0 where
   Shortage : Cause
   Output : Cause
   Input : Cause
-  Usage : Cause
+  Misuse : Cause
 
 abbrev pub cause_of : Fault → Cause
 cause_of NoMemory = Shortage
 cause_of CannotRead = Shortage
 cause_of CannotWrite = Output
-cause_of WrongWords = Usage
+cause_of Usage = Misuse
 cause_of f = Input
 
 -- `Ok` and a `Fault` of the input are how a run ends (Ends), and all of its output is written.
@@ -63,7 +63,7 @@ abbrev pub Fails : (List ℕ → Option Fault → Type 0) → (List ℕ → Type
 Fails Ends Stands IsWriting old new Shortage f = (text : List ℕ) × Stands text × Appends old new text
 Fails Ends Stands IsWriting old new Output f = (text : List ℕ) × IsWriting text × AppendsFront old new text
 Fails Ends Stands IsWriting old new Input f = (text : List ℕ) × Ends text (Some f) × Appends old new text
-Fails Ends Stands IsWriting old new Usage f = ⊥
+Fails Ends Stands IsWriting old new Misuse f = ⊥
 
 abbrev pub Answers : (List ℕ → Option Fault → Type 0) → (List ℕ → Type 0) → (List ℕ → Type 0) → Option (List ℕ) → Option (List ℕ) → Result (Unit {0}) Fault → Type 0
 Answers Ends Stands IsWriting old new (Ok u) = (text : List ℕ) × Ends text None × Appends old new text

@@ -1,8 +1,8 @@
 -- The program: its arguments, its input, its output, and the `Fault` that ends it. A stream that
 -- fails is not part of it, nor is running out of memory.
-use Rattle.hdr_tool.specs.Common.{◌≡◌, ℕ, nat_le, ◌-◌, ◌*◌, ◌^◌, List, [], ◌∷◌, ◌++◌, Option, Some, None, MatchOption, Result, Ok, Err, Bool, true, false, if◌then◌else◌, MatchBool, codes, option_map, flat_map, list_any, decimal, IsAtEnd, Ratio, Plain, empty_plain, after_reset, after_call, Filter, Fault, WrongWords, NotACommand, NotWritten, NotALog, NotBase64, NotRead, NoMemory}
+use Rattle.hdr_tool.specs.Common.{◌≡◌, ℕ, nat_le, ◌-◌, ◌*◌, ◌^◌, List, [], ◌∷◌, ◌++◌, Option, Some, None, MatchOption, Result, Ok, Err, Bool, true, false, if◌then◌else◌, MatchBool, codes, option_map, flat_map, list_any, decimal, IsAtEnd, Ratio, Plain, empty_plain, after_reset, after_call, Filter, Fault, Usage, NotACommand, NotWritten, NotALog, NotBase64, NotRead, NoMemory}
 use Rattle.hex.specs.Hex.{encode_lower}
-use Rattle.hdr_model.specs.Quantiles.{quantile_of}
+use Rattle.hdr_model.specs.Quantiles.{value_at_quantile}
 use Rattle.hdrhistogram.specs.Defects.{Defect, defect_of_error}
 use Rattle.hdrhistogram.specs.V2.{IsV2}
 use Rattle.hdrhistogram.specs.LogLeaving.{IsIntervalText}
@@ -16,7 +16,7 @@ use Rattle.hdr_tool.specs.Commands.{Command, Apply, End, command_of, number_line
 
 -- `NUM/DEN VALUE`, and an LF
 abbrev pub quantile_line : Plain → Ratio → List ℕ
-quantile_line h q = decimal q.num ++ 47 ∷ [] ++ decimal q.den ++ 32 ∷ [] ++ decimal (quantile_of h q) ++ 10 ∷ []
+quantile_line h q = decimal q.num ++ 47 ∷ [] ++ decimal q.den ++ 32 ∷ [] ++ decimal (value_at_quantile h q) ++ 10 ∷ []
 
 -- some count is too great for bytes
 unfoldable pub has_too_great_count : Plain → Bool
@@ -140,7 +140,7 @@ TaskLeaves task left = IsAtEnd left
 
 -- the outcome of arguments and an input. The arguments are parsed first
 unfoldable pub Outcome : List (List ℕ) → List ℕ → List ℕ → Option Fault → Type 0
-Outcome arguments input text fault = MatchOption (task_of arguments) ((text ≡ []) × (fault ≡ Some WrongWords)) (λ task. TaskDone task input text fault)
+Outcome arguments input text fault = MatchOption (task_of arguments) ((text ≡ []) × (fault ≡ Some Usage)) (λ task. TaskDone task input text fault)
 
 -- a `Fault`; of bytes that are not a histogram only the defect counts
 pub data Told : Type 0 where

@@ -39,7 +39,7 @@ fn end<W: Write>(
     log: &mut IntervalLogWriter<'_, '_, W, V2Serializer>,
 ) -> Result<(), Fault>
     requires { divisor_of log.old ≡ 1 }
-    ensures same { IsSameLog log.old log.new }
+    ensures same_log { IsSameLog log.old log.new }
     ensures goes { Goes (run_command true line histogram.old
         (Some (End start duration (option_map tag_text tag.entry))))
         (λ (onward : Plain → Run). onward histogram.new)
@@ -79,7 +79,7 @@ fn run_line<W: Write>(
     requires divisor { divisor_of log.old ≡ 1 }
     requires grows { histogram.old.auto_resize ≡ true }
     // What is written, and when memory may run out.
-    ensures same { IsSameLog log.old log.new }
+    ensures same_log { IsSameLog log.old log.new }
     ensures goes { Goes (λ more. run_lines is_log histogram.old ((number, line.now) ∷ more))
         (run_lines is_log histogram.new)
         (W.contents (sink log.old).now) (W.contents (sink log.new).now) result }
@@ -116,7 +116,7 @@ fn run_lines<W: Write>(
     requires divisor { divisor_of log.old ≡ 1 }
     requires grows { histogram.old.auto_resize ≡ true }
     // What is written, and when memory may run out.
-    ensures same { IsSameLog log.old log.new }
+    ensures same_log { IsSameLog log.old log.new }
     ensures goes { Goes (λ more. run_lines is_log histogram.old
         (number_lines number (Some text.now) ++ more)) (run_lines is_log histogram.new)
         (W.contents (sink log.old).now) (W.contents (sink log.new).now) result }
@@ -161,9 +161,9 @@ fn run_input<R: Read, W: Write>(
     // Greatest values are not divided, the histogram grows, and `piece` is not empty.
     requires divisor { divisor_of log.old ≡ 1 }
     requires grows { histogram.old.auto_resize ≡ true }
-    requires room { 0 < length piece.old }
+    requires nonempty { 0 < length piece.old }
     // What is written.
-    ensures same { IsSameLog log.old log.new }
+    ensures same_log { IsSameLog log.old log.new }
     ensures goes { (input : List ℕ) × IfSome (R.remaining reader.old) (λ bytes. input ≡ bytes)
         × Goes {M = Unit {0}} (λ _. run_lines is_log histogram.old (number_lines 1 (Some input)))
         (λ _. ended_by (Ok histogram.new))

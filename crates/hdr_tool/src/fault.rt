@@ -11,7 +11,7 @@ use std::fmt;
 #[derive(Debug, Drop)]
 pub enum Fault {
     /// The arguments are not a command of the program: a usage error.
-    WrongWords,
+    Usage,
     /// The line of this number, from 1, is not a command.
     NotACommand(u64),
     /// The interval that ends at the line of this number was not written.
@@ -38,7 +38,7 @@ impl Fault {
         ensures { result ≡ status_of self.now }
     {
         match self {
-            Fault::WrongWords => 2,
+            Fault::Usage => 2,
             _ => 1,
         }
     }
@@ -62,7 +62,7 @@ impl fmt::Display for Fault {
 
     fn fmt<W: fmt::Write>(&self, f: &mut fmt::Formatter<W>) -> fmt::Result {
         match self {
-            Fault::WrongWords => write!(
+            Fault::Usage => write!(
                 f,
                 "hdr: usage: hdr report SIGFIG Q.. | hdr log SIGFIG | hdr merge [--into COUNTER] [--tag T] [--from MS] [--to MS] SIGFIG Q.."
             ),

@@ -16,4 +16,4 @@ mod stream;
 
 pub use fault::Fault;
 pub use program::run;
-pub use stream::Patient;
+pub use stream::RetryWriter;

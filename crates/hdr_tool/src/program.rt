@@ -11,7 +11,7 @@ use crate::driver::run_task;
 use crate::fault::Fault;
 use crate::merge::report_log;
 use crate::report::write_report;
-use crate::stream::read_whole;
+use crate::stream::read_to_end;
 use std::alloc::Global;
 use std::io::{Read, Write};
 
@@ -22,7 +22,7 @@ fn do_task<R: Read, W: Write>(
     reader: &mut R,
     writer: &mut W,
 ) -> Result<(), Fault>
-    ensures answers { (input : List ℕ) × IfSome (R.remaining reader.old) (λ bytes. input ≡ bytes)
+    ensures output { (input : List ℕ) × IfSome (R.remaining reader.old) (λ bytes. input ≡ bytes)
         × Answers (TaskDone (view_of_task task.now) input) (TaskStands (view_of_task task.now) input)
         (TaskWrites (view_of_task task.now) input) (W.contents writer.old)
         (W.contents writer.new) result }
@@ -40,7 +40,7 @@ fn do_task<R: Read, W: Write>(
         }
         Task::Merge(options, sigfig, arguments) => {
             let quantiles = quantiles(alloc, arguments)?;
-            let input = read_whole(alloc, reader)?;
+            let input = read_to_end(alloc, reader)?;
             report_log(alloc, options, *sigfig, &quantiles, &input, writer)
         }
     }
@@ -51,7 +51,7 @@ fn do_task<R: Read, W: Write>(
 /// the lines of the input in order as they are read, and `merge` reads all of its input first.
 ///
 /// # Errors
-/// Returns `WrongWords` exactly for a usage error; nothing is then read or written. An error of the
+/// Returns `Usage` exactly for a usage error; nothing is then read or written. An error of the
 /// input's contents is returned once all of the input is read, and `log` has then written the
 /// intervals before it. If the reader or an allocation fails, `report` and `merge` have written
 /// nothing, and `log` some of its first intervals. If the writer fails, a proper prefix of the
@@ -62,11 +62,11 @@ pub fn run<R: Read, W: Write>(
     reader: &mut R,
     writer: &mut W,
 ) -> Result<(), Fault>
-    ensures wrong_words { task_of (map string_bytes arguments.now) ≡ None → (result ≡ Err Fault.WrongWords)
+    ensures usage_error { task_of (map string_bytes arguments.now) ≡ None → (result ≡ Err Fault.Usage)
         × Keeps (R.remaining reader.old) (R.remaining reader.new)
         × Keeps (W.contents writer.old) (W.contents writer.new) }
-    ensures usage { result ≡ Err Fault.WrongWords → task_of (map string_bytes arguments.now) ≡ None }
-    ensures answers { IfSome (task_of (map string_bytes arguments.now)) (λ task. (input : List ℕ)
+    ensures usage { result ≡ Err Fault.Usage → task_of (map string_bytes arguments.now) ≡ None }
+    ensures output { IfSome (task_of (map string_bytes arguments.now)) (λ task. (input : List ℕ)
         × IfSome (R.remaining reader.old) (λ bytes. input ≡ bytes)
         × Answers (TaskDone task input) (TaskStands task input) (TaskWrites task input)
         (W.contents writer.old) (W.contents writer.new) result) }
@@ -74,7 +74,7 @@ pub fn run<R: Read, W: Write>(
         (λ task. ReadsAll (TaskLeaves task) (R.remaining reader.new) result) }
 {
     let Some(task) = parse(arguments) else {
-        return Err(Fault::WrongWords);
+        return Err(Fault::Usage);
     };
     do_task(alloc, &task, reader, writer)
 }

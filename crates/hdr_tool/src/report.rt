@@ -6,7 +6,7 @@ ghost use Rattle.hdr_tool.specs.Outcomes.{Answers};
 ghost use Rattle.hdr_tool.specs.Program.{Reported, quantile_line, IsBytesField, IsReport};
 
 use crate::fault::Fault;
-use crate::stream::write_whole;
+use crate::stream::write_all;
 use hdrhistogram::serialization::{V2SerializeError, V2Serializer};
 use hdrhistogram::{Counter, Histogram, Quantile};
 use std::alloc::{AllocError, Global};
@@ -83,5 +83,5 @@ pub(crate) fn write_report<T: Counter, W: Write>(
         (W.contents writer.new) result }
 {
     let text = report(alloc, histogram, quantiles)?;
-    write_whole(writer, text.as_bytes())
+    write_all(writer, text.as_bytes())
 }

@@ -14,7 +14,7 @@ use std::io::{self, ErrorKind, Read, Write};
 /// # Errors
 /// Returns `CannotRead` if the reader fails with another error, and `NoMemory` if the input can't
 /// be allocated.
-pub(crate) fn read_whole<R: Read>(alloc: Global, reader: &mut R) -> Result<Vec<u8>, Fault>
+pub(crate) fn read_to_end<R: Read>(alloc: Global, reader: &mut R) -> Result<Vec<u8>, Fault>
     ensures ok { IfOk result (λ input. IfSome (R.remaining reader.old)
         (λ bytes. input.items ≡ bytes)) }
     ensures end { OnOk result (IsAtEnd (R.remaining reader.new)) }
@@ -28,7 +28,7 @@ pub(crate) fn read_whole<R: Read>(alloc: Global, reader: &mut R) -> Result<Vec<u
 
 /// Reads all of the input into an empty buffer, piece by piece.
 fn read_pieces<R: Read>(reader: &mut R, piece: &mut [u8], input: &mut Vec<u8>) -> Result<(), Fault>
-    requires room { 0 < length piece.old }
+    requires nonempty { 0 < length piece.old }
     requires empty { input.old.items ≡ [] }
     ensures ok { OnOk result
         (Consumes (R.remaining reader.old) (R.remaining reader.new) input.new.items) }
@@ -78,7 +78,7 @@ pub(crate) fn told_at_end<R: Read>(reader: &mut R, piece: &mut [u8], fault: Faul
 {
     if matches!(
         fault,
-        Fault::NoMemory | Fault::CannotRead | Fault::CannotWrite | Fault::WrongWords
+        Fault::NoMemory | Fault::CannotRead | Fault::CannotWrite | Fault::Usage
     ) {
         return fault;
     }
@@ -94,13 +94,13 @@ pub(crate) fn told_at_end<R: Read>(reader: &mut R, piece: &mut [u8], fault: Faul
 
 /// A writer that retries interrupted writes. The program's output is one.
 #[derive(Drop)]
-pub struct Patient<W> {
+pub struct RetryWriter<W> {
     /// The underlying writer.
     pub writer: W,
 }
 
-impl<W: Write> Write for Patient<W> {
-    ghost contents = { λ patient. W.contents patient.writer };
+impl<W: Write> Write for RetryWriter<W> {
+    ghost contents = { λ retry. W.contents retry.writer };
 
     fn write(&mut self, buf: &[u8]) -> io::Result<usize> {
         for _ in 0..u64::MAX {
@@ -118,7 +118,7 @@ impl<W: Write> Write for Patient<W> {
 }
 
 /// Writes all of `text`. On error a proper prefix of it is written.
-pub(crate) fn write_whole<W: Write>(writer: &mut W, text: &[u8]) -> Result<(), Fault>
+pub(crate) fn write_all<W: Write>(writer: &mut W, text: &[u8]) -> Result<(), Fault>
     ensures { MatchResult result
         (λ _. Appends (W.contents writer.old) (W.contents writer.new) text.now)
         (λ f. (f ≡ Fault.CannotWrite)

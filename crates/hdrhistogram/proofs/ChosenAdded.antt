@@ -1,7 +1,7 @@
 -- What a merge of a log adds.
 use Rattle.std.proofs.Common.{◌≡◌, ◌∙◌, ℕ, ◌+◌, Bool, true, false, List, [], ◌∷◌, length, min, sum, Option, Some, None, Result, Ok, Err, refl, sym, ap, subst, arith}
-use Rattle.hdr_base.specs.Classes.{Grain, grain_of}
-use Rattle.hdr_model.specs.Plain.{Plain, grain, empty_plain}
+use Rattle.hdr_base.specs.Classes.{Resolution, resolution_of}
+use Rattle.hdr_model.specs.Plain.{Plain, resolution, empty_plain}
 use Rattle.hdr_model.specs.Marks.{IsTopMark, IsLowerMark}
 use Rattle.hdr_model.specs.Joining.{after_adds}
 use Rattle.hdr_model.specs.Merging.{after_add}
@@ -15,14 +15,14 @@ use Rattle.hdrhistogram.specs.V2Read.{Contents, told_of, IsReadAs, ReadsV2}
 use Rattle.hdrhistogram.specs.Defects.{Defect}
 use Rattle.hdrhistogram.specs.declared.serialization.errors.DeserializeError.{DeserializeError}
 use Rattle.hdrhistogram.specs.declared.serialization.interval_log.merge.MergeError.{MergeError}
-use Rattle.hdrhistogram.proofs.FinerCounted.{grain-added}
+use Rattle.hdrhistogram.proofs.FinerCounted.{resolution-added}
 use Rattle.hdrhistogram.proofs.V2ReadBack.{top-unique, lower-unique}
 
 -- what is added from a state on
 abbrev Adds : ℕ → Filter → Merging → List (Result Entry ℕ) → Merging → Type 0
 Adds greatest filter m entries last =
     (hs : List Plain) × AreChosen filter m.base entries hs × (last.histogram ≡ after_adds greatest m.histogram hs) × (last.chosen ≡ m.chosen + length hs)
-    × (last.coarser ≡ m.coarser + coarser_of (grain m.histogram) hs)
+    × (last.coarser ≡ m.coarser + coarser_of (resolution m.histogram) hs)
 
 same_Ok : (m n : Merging) → (λ (r : Result Merging MergeError). r) (Ok m) ≡ Ok n → m ≡ n
 same_Ok m n e = cc
@@ -60,13 +60,13 @@ interval_added : (greatest : ℕ) (filter : Filter) (m last : Merging) (entries 
     → IntervalMerges greatest m b interval step → MergesOn (EntriesMerge greatest filter entries) step (Ok last)
     → ((next : Merging) → EntriesMerge greatest filter entries next (Ok last) → Adds greatest filter next entries last)
     → (hs : List Plain) × ChosenFirst b interval (AreChosen filter m.base entries) hs × (last.histogram ≡ after_adds greatest m.histogram hs) × (last.chosen ≡ m.chosen + length hs)
-    × (last.coarser ≡ m.coarser + coarser_of (grain m.histogram) hs)
+    × (last.coarser ≡ m.coarser + coarser_of (resolution m.histogram) hs)
 interval_added greatest filter m last entries interval true step i on rest =
     let f = field_added greatest filter m last entries interval step (base64_bytes interval.field) refl i on in
     let r = rest (with_interval greatest m f.0) f.2 in
-    let g = grain m.histogram in
-    let S : Grain → Type 0 = λ g. last.coarser ≡ (m.coarser + one_if_coarser (grain m.histogram) f.0) + coarser_of g r.0 in
-    let coarser : last.coarser ≡ (m.coarser + one_if_coarser g f.0) + coarser_of g r.0 = subst S (grain-added greatest m.histogram f.0) r.4 in
+    let g = resolution m.histogram in
+    let S : Resolution → Type 0 = λ g. last.coarser ≡ (m.coarser + one_if_coarser (resolution m.histogram) f.0) + coarser_of g r.0 in
+    let coarser : last.coarser ≡ (m.coarser + one_if_coarser g f.0) + coarser_of g r.0 = subst S (resolution-added greatest m.histogram f.0) r.4 in
     (f.0 ∷ r.0, (f.0, r.0, refl, f.1, r.1), r.2, omega (arith, r.3), omega (arith, coarser))
 interval_added greatest filter m last entries interval false step i on rest =
     rest (past_interval m) (stepped greatest filter m (past_interval m) last entries step i on)
@@ -132,9 +132,9 @@ chosen_once filter base (Ok (Span interval) ∷ entries) hs ks p q =
     first_once (is_chosen filter interval.tag (base + interval.start)) interval (AreChosen filter base entries) hs ks (λ xs ys r s. chosen_once filter base entries xs ys r s) p q
 chosen_once filter base (Err at ∷ entries) hs ks p q = absurd p
 
-pub empty_grain : (n : ℕ) → grain (empty_plain 1 2 n true) ≡ grain_of 1 n
+pub empty_resolution : (n : ℕ) → resolution (empty_plain 1 2 n true) ≡ resolution_of 1 n
 unfolding empty_plain
-empty_grain n = refl
+empty_resolution n = refl
 
 -- ---- if the chosen intervals hold histograms, a merge has no error
 

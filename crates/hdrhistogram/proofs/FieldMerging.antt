@@ -2,8 +2,8 @@
 use Rattle.std.proofs.Common.{ℕ, ◌+◌, List, Option, Ok, Err, refl, sym, subst}
 use Rattle.hdr_model.specs.Plain.{Plain}
 use Rattle.hdr_log.specs.Texts.{base64_bytes}
-use Rattle.hdrhistogram.specs.FieldRead.{IsHeldIn, RefusesDecoding}
-use Rattle.hdrhistogram.specs.LogMerging.{Merging, with_interval, FieldMerges, RefusesStep, field_error}
+use Rattle.hdrhistogram.specs.FieldRead.{IsHeldIn, IsFieldDecodeError}
+use Rattle.hdrhistogram.specs.LogMerging.{Merging, with_interval, FieldMerges, IsStepError, field_error}
 use Rattle.hdrhistogram.specs.declared.serialization.errors.FieldDecodeError.{FieldDecodeError}
 use Rattle.hdrhistogram.specs.declared.serialization.errors.FieldDecodeError.TheVariants.{NotBase64, Decode, OutOfMemory}
 
@@ -12,8 +12,8 @@ pub held_merges : (greatest : ℕ) (m : Merging) (field : List ℕ) (h : Plain) 
 held_merges greatest m field h held =
     subst (λ (o : Option (List ℕ)). FieldMerges greatest m o (Ok (with_interval greatest m h))) (sym held.1) (Ok (h, held.2), held.3, refl)
 
-pub refused_merges : (greatest : ℕ) (m : Merging) (field : List ℕ) (e : FieldDecodeError) → RefusesDecoding 18446744073709551615 field e
-    → RefusesStep (λ r. FieldMerges greatest m (base64_bytes field) (Err r)) (field_error (m.intervals + 1) e)
+pub refused_merges : (greatest : ℕ) (m : Merging) (field : List ℕ) (e : FieldDecodeError) → IsFieldDecodeError 18446744073709551615 field e
+    → IsStepError (λ r. FieldMerges greatest m (base64_bytes field) (Err r)) (field_error (m.intervals + 1) e)
 refused_merges greatest m field NotBase64 none =
     subst (λ (o : Option (List ℕ)). FieldMerges greatest m o (Err (field_error (m.intervals + 1) NotBase64))) (sym none) refl
 refused_merges greatest m field (Decode e) refused =

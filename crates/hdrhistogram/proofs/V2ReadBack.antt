@@ -6,7 +6,7 @@ use Rattle.std.proofs.lemmas.List.{length-replicate, get_or-take, get_or_past, e
 use Rattle.std.proofs.lemmas.List.Elements.{recursion_from_All}
 use Rattle.byteorder.specs.Endian.{big_number}
 use Rattle.byteorder.specs.Numbers.{big_number-reads_back}
-use Rattle.hdr_base.specs.Classes.{grain_of}
+use Rattle.hdr_base.specs.Classes.{resolution_of}
 use Rattle.hdr_model.specs.Plain.{Plain, IsPlain, max_of, min_nz_of}
 use Rattle.hdr_model.specs.Marks.{IsTopMark, IsLowerMark, top_of_mark, value_of_mark}
 use Rattle.hdr_model.specs.Equality.{same_plain}
@@ -267,11 +267,11 @@ read_back greatest taken h k bytes more p v r =
 
 max-by : (h k : Plain) → h.low ≡ k.low → h.sigfig ≡ k.sigfig → h.top_mark ≡ k.top_mark → max_of h ≡ max_of k
 unfolding max_of
-max-by h k low sigfig top = ap (λ l. top_of_mark (grain_of l h.sigfig) h.top_mark) low ∙ ap (λ s. top_of_mark (grain_of k.low s) h.top_mark) sigfig ∙ ap (top_of_mark (grain_of k.low k.sigfig)) top
+max-by h k low sigfig top = ap (λ l. top_of_mark (resolution_of l h.sigfig) h.top_mark) low ∙ ap (λ s. top_of_mark (resolution_of k.low s) h.top_mark) sigfig ∙ ap (top_of_mark (resolution_of k.low k.sigfig)) top
 
 min-by : (h k : Plain) → h.low ≡ k.low → h.sigfig ≡ k.sigfig → h.lower_mark ≡ k.lower_mark → min_nz_of h ≡ min_nz_of k
 unfolding min_nz_of
-min-by h k low sigfig lower = ap (λ l. value_of_mark (grain_of l h.sigfig) h.lower_mark) low ∙ ap (λ s. value_of_mark (grain_of k.low s) h.lower_mark) sigfig ∙ ap (value_of_mark (grain_of k.low k.sigfig)) lower
+min-by h k low sigfig lower = ap (λ l. value_of_mark (resolution_of l h.sigfig) h.lower_mark) low ∙ ap (λ s. value_of_mark (resolution_of k.low s) h.lower_mark) sigfig ∙ ap (value_of_mark (resolution_of k.low k.sigfig)) lower
 
 -- if the marks and the total are those of the numbers, it is equal to what was written
 pub equal_back : (h k : Plain) → IsRestated h → HasContents (told_of h) k → same_plain k h ≡ true

@@ -4,10 +4,10 @@ use Rattle.std.specs.Io.KnownBytes.{Consumes}
 use Rattle.std.proofs.KnownBytes.{Consumes-trans}
 use Rattle.std.proofs.lemmas.Bool.{ltb-false, le-ltb, lt-ltb, le-leb, lt-leb}
 use Rattle.std.proofs.lemmas.List.{take_at, length-replicate}
-use Rattle.hdr_base.specs.Classes.{unit_of, digits_of, grain_of, bins_to}
+use Rattle.hdr_base.specs.Classes.{unit_of, digits_of, resolution_of, bins_to}
 use Rattle.hdr_model.specs.Plain.{Plain, empty_plain}
-use Rattle.hdr_model.specs.Filling.{Open, open_of}
-use Rattle.hdr_model.specs.Refusals.{IsBounds, RefusesBounds}
+use Rattle.hdr_model.specs.Unfinished.{Unfinished, unfinished_of}
+use Rattle.hdr_model.specs.Refusals.{IsBounds, IsCreationError}
 use Rattle.hdr_model.specs.declared.errors.CreationError.{CreationError}
 use Rattle.hdr_model.specs.declared.errors.CreationError.TheVariants as make
 use Rattle.hdrhistogram.specs.declared.serialization.errors.DeserializeError.{DeserializeError}
@@ -42,7 +42,7 @@ no_second : (a b c d : Bool) → (a && false && b && c && d) ≡ false
 no_second true b c d = refl
 no_second false b c d = refl
 
-bounds-no : (low high sigfig : ℕ) (e : CreationError) (f : Defect) → RefusesBounds low high sigfig e → creation_defect e ≡ Some f → are_bounds low high sigfig ≡ false
+bounds-no : (low high sigfig : ℕ) (e : CreationError) (f : Defect) → IsCreationError low high sigfig e → creation_defect e ≡ Some f → are_bounds low high sigfig ≡ false
 unfolding are_bounds
 bounds-no low high sigfig make.LowIsZero f r n = rw (le-ltb 0 low (omega arith)) refl
 bounds-no low high sigfig make.LowExceedsMax f r n = rw (le-ltb low (2 ^ 63) r) (no_second _ _ _ _)
@@ -70,14 +70,14 @@ named_bad make.UsizeTypeTooSmall f n = cc
 named_bad make.OutOfMemory f n = absurd cc
 
 -- bounds that no histogram has are the defect of the header
-pub bounds-refused : (h : Header) (e : CreationError) (o : Option Defect) → RefusesBounds h.low h.high h.sigfig e → o ≡ creation_defect e → FailsBy {A = ℕ} o (unless (bounds_defect h) 0)
+pub bounds-refused : (h : Header) (e : CreationError) (o : Option Defect) → IsCreationError h.low h.high h.sigfig e → o ≡ creation_defect e → FailsBy {A = ℕ} o (unless (bounds_defect h) 0)
 bounds-refused h e None r n = tt
 bounds-refused h e (Some f) r n =
     let bad : f ≡ bad_bounds = named_bad e f (sym n) in
     ap (λ (p : Option Defect). unless p 0) (defect-some h (bounds-no h.low h.high h.sigfig e f r (sym n))) ∙ ap Err (sym bad)
 
 -- if memory for the bins runs out, the bounds have no defect
-pub bounds-memory : (h : Header) (e : CreationError) (r : DeserializeError) → RefusesBounds h.low h.high h.sigfig e → defect_of_error r ≡ creation_defect e → RunsOutOnly (bounds_defect h ≡ None) r
+pub bounds-memory : (h : Header) (e : CreationError) (r : DeserializeError) → IsCreationError h.low h.high h.sigfig e → defect_of_error r ≡ creation_defect e → RunsOutOnly (bounds_defect h ≡ None) r
 bounds-memory h make.OutOfMemory r b n = runs_out (bounds_defect h ≡ None) r (defect-none h (bounds-yes h.low h.high h.sigfig b))
 bounds-memory h make.LowIsZero r b n = names_out (bounds_defect h ≡ None) r n
 bounds-memory h make.LowExceedsMax r b n = names_out (bounds_defect h ≡ None) r n
@@ -87,25 +87,25 @@ bounds-memory h make.CannotRepresentSigFigBeyondLow r b n = names_out (bounds_de
 bounds-memory h make.UsizeTypeTooSmall r b n = names_out (bounds_defect h ≡ None) r n
 
 -- the contents of empty bins
-pub record IsMade (f : Open) (low high sigfig : ℕ) : Type 0 where
+pub record IsMade (f : Unfinished) (low high sigfig : ℕ) : Type 0 where
   pub empty : f.counts ≡ replicate (length f.counts) 0
   pub fixed : f.auto_resize ≡ false
   pub told : told_by f ≡ record { low = low; high = high; sigfig = sigfig; counts = f.counts }
-  pub bins : length f.counts ≡ bins_to (grain_of low sigfig) high
+  pub bins : length f.counts ≡ bins_to (resolution_of low sigfig) high
 
-made : (low high sigfig : ℕ) → IsMade (open_of (empty_plain low high sigfig false)) low high sigfig
+made : (low high sigfig : ℕ) → IsMade (unfinished_of (empty_plain low high sigfig false)) low high sigfig
 unfolding empty_plain
 made low high sigfig =
-    let size = length-replicate {A = ℕ} (bins_to (grain_of low sigfig) high) 0 in
+    let size = length-replicate {A = ℕ} (bins_to (resolution_of low sigfig) high) 0 in
     record { empty = ap (λ n. replicate n 0) (sym size); fixed = refl; told = refl; bins = size }
 
-pub is-made : (f : Open) (low high sigfig : ℕ) → f ≡ open_of (empty_plain low high sigfig false) → IsMade f low high sigfig
+pub is-made : (f : Unfinished) (low high sigfig : ℕ) → f ≡ unfinished_of (empty_plain low high sigfig false) → IsMade f low high sigfig
 is-made f low high sigfig e = subst (λ g. IsMade g low high sigfig) (sym e) (made low high sigfig)
 
 -- the same of the bins of a histogram of those bounds
-pub is-spare : (f : Open) (a b d low high sigfig : ℕ) → f ≡ open_of (empty_plain a b d false) → a ≡ low → b ≡ high → d ≡ sigfig → IsMade f low high sigfig
+pub is-spare : (f : Unfinished) (a b d low high sigfig : ℕ) → f ≡ unfinished_of (empty_plain a b d false) → a ≡ low → b ≡ high → d ≡ sigfig → IsMade f low high sigfig
 is-spare f a b d low high sigfig e x y z =
-    is-made f low high sigfig (e ∙ ap (λ l. open_of (empty_plain l b d false)) x ∙ ap (λ h. open_of (empty_plain low h d false)) y ∙ ap (λ n. open_of (empty_plain low high n false)) z)
+    is-made f low high sigfig (e ∙ ap (λ l. unfinished_of (empty_plain l b d false)) x ∙ ap (λ h. unfinished_of (empty_plain low h d false)) y ∙ ap (λ n. unfinished_of (empty_plain low high n false)) z)
 
 -- ---- the steps
 

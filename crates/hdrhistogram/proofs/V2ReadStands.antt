@@ -1,9 +1,9 @@
 -- A histogram that was written and read again.
 use Rattle.std.proofs.Common.{◌≡◌, ℕ, zero, suc, ◌-◌, ◌^◌, ◌<◌, ◌≤◌, min, List, [], ◌∷◌, length, sum, slice_index, All, Option, Some, None, IfSome, refl, sym, ap, ap₂, ◌∙◌, subst, arith}
-use Rattle.hdr_base.specs.Classes.{grain_of, reach_of, bins_to}
+use Rattle.hdr_base.specs.Classes.{resolution_of, reach_of, bins_to}
 use Rattle.hdr_base.specs.Fractions.{Ratio}
-use Rattle.hdr_model.specs.Quantiles.{quantile_of}
-use Rattle.hdr_model.specs.Plain.{Plain, IsPlain, grain, reach}
+use Rattle.hdr_model.specs.Quantiles.{value_at_quantile}
+use Rattle.hdr_model.specs.Plain.{Plain, IsPlain, resolution, reach}
 use Rattle.hdr_model.specs.Marks.{IsAbove, IsBelow, IsTopMark, IsLowerMark}
 use Rattle.hdr_model.specs.Samples.{StandsFor, in_class}
 use Rattle.hdrhistogram.specs.V2Read.{Contents, IsReadBack}
@@ -41,8 +41,8 @@ same_sigfig h k r = ap (λ (c : Contents). c.sigfig) r.told
 same_counts : (h k : Plain) → IsReadBack h k → k.counts ≡ h.counts
 same_counts h k r = ap (λ (c : Contents). c.counts) r.told
 
-pub same_classes : (h k : Plain) → IsReadBack h k → grain k ≡ grain h
-same_classes h k r = ap₂ grain_of (same_low h k r) (same_sigfig h k r)
+pub same_classes : (h k : Plain) → IsReadBack h k → resolution k ≡ resolution h
+same_classes h k r = ap₂ resolution_of (same_low h k r) (same_sigfig h k r)
 
 pub read_plain : (greatest : ℕ) (h k : Plain) → IsPlain greatest h → IsReadBack h k → IsPlain greatest k
 read_plain greatest h k p r =
@@ -51,7 +51,7 @@ read_plain greatest h k p r =
     let sigfig : k.sigfig ≡ h.sigfig = same_sigfig h k r in
     let counts : k.counts ≡ h.counts = same_counts h k r in
     let total : k.total ≡ min (sum k.counts) (2 ^ 64 - 1) = r.restated.total in
-    let bins : length k.counts ≡ bins_to (grain k) k.high = ap (length {A = ℕ}) counts ∙ p.bins ∙ ap₂ bins_to (sym (same_classes h k r)) (sym high) in
+    let bins : length k.counts ≡ bins_to (resolution k) k.high = ap (length {A = ℕ}) counts ∙ p.bins ∙ ap₂ bins_to (sym (same_classes h k r)) (sym high) in
     record {
       scale = rw (low, sigfig) p.scale;
       high_fits = rw high p.high_fits;
@@ -75,7 +75,7 @@ read_stands h k S r s whole few =
     let counts : k.counts ≡ h.counts = same_counts h k r in
     let total : k.total ≡ min (sum h.counts) (2 ^ 64 - 1) = r.restated.total ∙ ap (λ c. min (sum c) (2 ^ 64 - 1)) counts in
     let reached : reach h ≡ reach k = ap₂ reach_of (sym g) (sym (same_high h k r)) in
-    let L : List ℕ → Type 0 = λ c. (i : ℕ) → i < length c → slice_index c i ≡ in_class (grain k) i S in
+    let L : List ℕ → Type 0 = λ c. (i : ℕ) → i < length c → slice_index c i ≡ in_class (resolution k) i S in
     let W : ℕ → Type 0 = λ m. All (λ x. x ≤ m) S in
     record {
       numbers = subst L (sym counts) (λ i lt. s.numbers i lt ∙ ap (λ f. in_class f i S) (sym g));
@@ -85,11 +85,11 @@ read_stands h k S r s whole few =
 
 -- ---- what is read back has the same quantiles
 
-same_answers : (h k : Plain) (q : Ratio) → k.counts ≡ h.counts → k.total ≡ h.total → grain k ≡ grain h → quantile_of k q ≡ quantile_of h q
-unfolding quantile_of
+same_answers : (h k : Plain) (q : Ratio) → k.counts ≡ h.counts → k.total ≡ h.total → resolution k ≡ resolution h → value_at_quantile k q ≡ value_at_quantile h q
+unfolding value_at_quantile
 same_answers h k q counts total classes = rw (counts, total, classes) refl
 
-pub read_answers : (h k : Plain) (S : List ℕ) → IsReadBack h k → StandsFor h S → StandsFor k S → (k.total ≡ h.total) × ((q : Ratio) → quantile_of k q ≡ quantile_of h q)
+pub read_answers : (h k : Plain) (S : List ℕ) → IsReadBack h k → StandsFor h S → StandsFor k S → (k.total ≡ h.total) × ((q : Ratio) → value_at_quantile k q ≡ value_at_quantile h q)
 read_answers h k S r s t =
     let total : k.total ≡ h.total = t.total ∙ sym s.total in
     (total, λ q. same_answers h k q (same_counts h k r) total (same_classes h k r))

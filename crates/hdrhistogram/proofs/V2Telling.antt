@@ -4,7 +4,7 @@ use Rattle.std.proofs.lemmas.Bool.{cases_lt, eq-eqb, ne_eqb}
 use Rattle.std.proofs.lemmas.List.{get_or-take, ext_get_or}
 use Rattle.byteorder.specs.Endian.{big_from}
 use Rattle.byteorder.specs.Numbers.{big_number-reads_back}
-use Rattle.hdr_base.specs.Classes.{grain_of, bins_to, unit_of}
+use Rattle.hdr_base.specs.Classes.{resolution_of, bins_to, unit_of}
 use Rattle.hdr_base.proofs.ClassesLeast.{least_from-passes}
 use Rattle.hdr_base.proofs.ClassesLaws.{below_own_power, ltb-from, ltb-to, pow_mono_le}
 use Rattle.hdr_base.proofs.ClassesDigits.{digits-pos}
@@ -145,7 +145,7 @@ low-fits greatest h p = omega (arith, low-below h.low, pow_mono_le (unit_of h.lo
 
 same_length : (f g : ℕ) (h k : Plain) → IsPlain f h → IsPlain g k → h.low ≡ k.low → h.high ≡ k.high → h.sigfig ≡ k.sigfig → length h.counts ≡ length k.counts
 same_length f g h k p q low high sigfig =
-    p.bins ∙ ap (λ l. bins_to (grain_of l h.sigfig) h.high) low ∙ ap (λ s. bins_to (grain_of k.low s) h.high) sigfig ∙ ap (bins_to (grain_of k.low k.sigfig)) high ∙ sym q.bins
+    p.bins ∙ ap (λ l. bins_to (resolution_of l h.sigfig) h.high) low ∙ ap (λ s. bins_to (resolution_of k.low s) h.high) sigfig ∙ ap (bins_to (resolution_of k.low k.sigfig)) high ∙ sym q.bins
 
 length_written : (greatest : ℕ) (h : Plain) → IsPlain greatest h → length (written_counts h) ≡ written_bins h
 length_written greatest h p = length-take-le (written_bins h) h.counts (omega (arith, mark-inside greatest h p))

@@ -11,7 +11,7 @@ abbrev pub IsHeldIn : ℕ → List ℕ → Plain → Type 0
 IsHeldIn greatest field h = (bytes : List ℕ) × (base64_bytes field ≡ Some bytes) × (taken : ℕ) × IsReadAs greatest bytes h taken
 
 -- the field is not valid Base64, or its bytes have a defect, or memory ran out
-abbrev pub RefusesDecoding : ℕ → List ℕ → FieldDecodeError → Type 0
-RefusesDecoding greatest field NotBase64 = base64_bytes field ≡ None
-RefusesDecoding greatest field (Decode e) = (bytes : List ℕ) × (base64_bytes field ≡ Some bytes) × ReadsV2 greatest bytes (Err e)
-RefusesDecoding greatest field OutOfMemory = Unit {0}
+abbrev pub IsFieldDecodeError : ℕ → List ℕ → FieldDecodeError → Type 0
+IsFieldDecodeError greatest field NotBase64 = base64_bytes field ≡ None
+IsFieldDecodeError greatest field (Decode e) = (bytes : List ℕ) × (base64_bytes field ≡ Some bytes) × ReadsV2 greatest bytes (Err e)
+IsFieldDecodeError greatest field OutOfMemory = Unit {0}

@@ -10,16 +10,16 @@ use Rattle.hdrhistogram.specs.declared.serialization.interval_log.errors.Interva
 
 -- Output of which P holds is not written: after an i/o error a proper prefix of it is, and after
 -- any other error nothing. Q holds of the serializer's error.
-abbrev pub RefusesText : {E : Type 0} → (List ℕ → Type 0) → (E → Type 0) → Option (List ℕ) → Option (List ℕ) → IntervalLogWriterError E → Type 0
-RefusesText P Q old new (SerializeError e) = Q e × Keeps old new
-RefusesText P Q old new (IoError e) = (text : List ℕ) × P text × AppendsFront old new text
-RefusesText P Q old new TimeOutOfRange = Keeps old new
-RefusesText P Q old new OutOfMemory = Keeps old new
+abbrev pub WriteFails : {E : Type 0} → (List ℕ → Type 0) → (E → Type 0) → Option (List ℕ) → Option (List ℕ) → IntervalLogWriterError E → Type 0
+WriteFails P Q old new (SerializeError e) = Q e × Keeps old new
+WriteFails P Q old new (IoError e) = (text : List ℕ) × P text × AppendsFront old new text
+WriteFails P Q old new TimeOutOfRange = Keeps old new
+WriteFails P Q old new OutOfMemory = Keeps old new
 
 -- all of an output of which P holds is written, or there is an error
 abbrev pub WritesText : {E : Type 0} → (List ℕ → Type 0) → (E → Type 0) → Option (List ℕ) → Option (List ℕ) → Result (Unit {0}) (IntervalLogWriterError E) → Type 0
 WritesText P Q old new (Ok u) = (text : List ℕ) × P text × Appends old new text
-WritesText P Q old new (Err e) = RefusesText P Q old new e
+WritesText P Q old new (Err e) = WriteFails P Q old new e
 
 -- the error is `TimeOutOfRange`
 abbrev pub is_time_error : {A E : Type 0} → Result A (IntervalLogWriterError E) → Bool
@@ -40,11 +40,11 @@ IsNoSerializeError (SerializeError e) = ⊥
 IsNoSerializeError e = Unit {0}
 
 -- why a histogram is not serialized: the serializer returned an error, or the buffer could not grow
-abbrev pub RefusesSerialized : {E : Type 0} → (E → Type 0) → IntervalLogWriterError E → Type 0
-RefusesSerialized Q (SerializeError e) = Q e
-RefusesSerialized Q (IoError e) = ⊥
-RefusesSerialized Q TimeOutOfRange = ⊥
-RefusesSerialized Q OutOfMemory = Unit {0}
+abbrev pub IsSerializerError : {E : Type 0} → (E → Type 0) → IntervalLogWriterError E → Type 0
+IsSerializerError Q (SerializeError e) = Q e
+IsSerializerError Q (IoError e) = ⊥
+IsSerializerError Q TimeOutOfRange = ⊥
+IsSerializerError Q OutOfMemory = Unit {0}
 
 -- a histogram's interval by its bytes; times are in nanoseconds
 abbrev pub interval_piece : Plain → Option (List ℕ) → ℕ → ℕ → ℕ → List ℕ → Piece

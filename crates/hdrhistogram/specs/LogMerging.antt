@@ -1,10 +1,10 @@
 -- The result of merging a log: the histograms of its chosen intervals are added in order, up to the
 -- first error.
 use Rattle.std.specs.Prelude.{◌≡◌, ℕ, ◌+◌, ◌<◌, Bool, true, false, ◌&&◌, nat_le, if◌then◌else◌, List, [], ◌∷◌, Option, Some, None, Result, Ok, Err}
-use Rattle.hdr_base.specs.Classes.{Grain}
-use Rattle.hdr_model.specs.Plain.{Plain, grain, empty_plain}
+use Rattle.hdr_base.specs.Classes.{Resolution}
+use Rattle.hdr_model.specs.Plain.{Plain, resolution, empty_plain}
 use Rattle.hdr_model.specs.Merging.{after_add}
-use Rattle.hdr_model.specs.Refusals.{IsBounds, RefusesBounds}
+use Rattle.hdr_model.specs.Refusals.{IsBounds, IsCreationError}
 use Rattle.hdr_model.specs.declared.errors.CreationError.{CreationError}
 use Rattle.hdr_model.specs.declared.errors.CreationError.TheVariants as make
 use Rattle.hdr_log.specs.Grammar.{Entry, Start, Base, Span, Interval, reading}
@@ -31,12 +31,12 @@ pub record Merging : Type 0 where
 abbrev pub new_merging : ℕ → Merging
 new_merging sigfig = record { histogram = empty_plain 1 2 sigfig true; base = 0; intervals = 0; chosen = 0; coarser = 0 }
 
--- 1 if the classes of a histogram do not all lie in classes of the grain (`IsFiner`), and 0
+-- 1 if the classes of a histogram do not all lie in classes of the resolution (`IsFiner`), and 0
 -- otherwise; the sum of that
-unfoldable pub one_if_coarser : Grain → Plain → ℕ
-one_if_coarser g h = if nat_le (grain h).unit g.unit && nat_le g.digits (grain h).digits then 0 else 1
+unfoldable pub one_if_coarser : Resolution → Plain → ℕ
+one_if_coarser g h = if nat_le (resolution h).unit g.unit && nat_le g.digits (resolution h).digits then 0 else 1
 
-abbrev pub coarser_of : Grain → List Plain → ℕ
+abbrev pub coarser_of : Resolution → List Plain → ℕ
 coarser_of g [] = 0
 coarser_of g (h ∷ hs) = one_if_coarser g h + coarser_of g hs
 
@@ -55,7 +55,7 @@ with_interval greatest m source =
       base = m.base;
       intervals = m.intervals + 1;
       chosen = m.chosen + 1;
-      coarser = m.coarser + one_if_coarser (grain m.histogram) source;
+      coarser = m.coarser + one_if_coarser (resolution m.histogram) source;
     }
 
 -- the histogram that an interval's bytes decode to is added, whatever follows it
@@ -106,18 +106,18 @@ field_error interval (field.Decode e) = Decode interval e
 field_error interval field.OutOfMemory = OutOfMemory
 
 -- the error of a step is one of `Ends`, or memory ran out
-abbrev pub RefusesStep : (MergeError → Type 0) → MergeError → Type 0
-RefusesStep Ends (Creation e) = ⊥
-RefusesStep Ends OutOfMemory = Unit {0}
-RefusesStep Ends e = Ends e
+abbrev pub IsStepError : (MergeError → Type 0) → MergeError → Type 0
+IsStepError Ends (Creation e) = ⊥
+IsStepError Ends OutOfMemory = Unit {0}
+IsStepError Ends e = Ends e
 
 -- a merge fails if no histogram has these digits, and otherwise with the first error of the log, or
 -- memory ran out
-abbrev pub RefusesMerge : ℕ → Filter → ℕ → List ℕ → MergeError → Type 0
-RefusesMerge greatest filter sigfig log (Creation make.OutOfMemory) = ⊥
-RefusesMerge greatest filter sigfig log (Creation e) = RefusesBounds 1 2 sigfig e
-RefusesMerge greatest filter sigfig log OutOfMemory = IsBounds 1 2 sigfig
-RefusesMerge greatest filter sigfig log e = IsBounds 1 2 sigfig × Merges greatest filter sigfig log (Err e)
+abbrev pub IsMergeError : ℕ → Filter → ℕ → List ℕ → MergeError → Type 0
+IsMergeError greatest filter sigfig log (Creation make.OutOfMemory) = ⊥
+IsMergeError greatest filter sigfig log (Creation e) = IsCreationError 1 2 sigfig e
+IsMergeError greatest filter sigfig log OutOfMemory = IsBounds 1 2 sigfig
+IsMergeError greatest filter sigfig log e = IsBounds 1 2 sigfig × Merges greatest filter sigfig log (Err e)
 
 -- a histogram and the numbers of chosen and of coarser intervals are the result of a merge
 abbrev pub IsMergedBy : (Result Merging MergeError → Type 0) → Plain → ℕ → ℕ → Type 0

@@ -8,23 +8,23 @@ use Rattle.hdrhistogram.specs.declared.serialization.errors.V2SerializeError.{V2
 use Rattle.hdrhistogram.specs.declared.serialization.errors.V2SerializeError.TheVariants.{CountNotSerializable, UsizeTypeTooSmall, IoError, OutOfMemory}
 
 -- encoding the histogram fails only if a count is too great or memory runs out
-abbrev pub RefusesBytes : Plain → V2SerializeError → Type 0
-RefusesBytes h CountNotSerializable = HasTooGreatCount h
-RefusesBytes h UsizeTypeTooSmall = ⊥
-RefusesBytes h (IoError e) = ⊥
-RefusesBytes h OutOfMemory = Unit {0}
+abbrev pub IsToBytesError : Plain → V2SerializeError → Type 0
+IsToBytesError h CountNotSerializable = HasTooGreatCount h
+IsToBytesError h UsizeTypeTooSmall = ⊥
+IsToBytesError h (IoError e) = ⊥
+IsToBytesError h OutOfMemory = Unit {0}
 
 -- the same, or the writer failed, whatever it holds
-abbrev pub RefusesNamed : Plain → V2SerializeError → Type 0
-RefusesNamed h CountNotSerializable = HasTooGreatCount h
-RefusesNamed h UsizeTypeTooSmall = ⊥
-RefusesNamed h (IoError e) = Unit {0}
-RefusesNamed h OutOfMemory = Unit {0}
+abbrev pub IsSerializeError : Plain → V2SerializeError → Type 0
+IsSerializeError h CountNotSerializable = HasTooGreatCount h
+IsSerializeError h UsizeTypeTooSmall = ⊥
+IsSerializeError h (IoError e) = Unit {0}
+IsSerializeError h OutOfMemory = Unit {0}
 
 -- the histogram is not written: after an i/o error a proper prefix of its bytes is, and after any
 -- other error nothing
-abbrev pub RefusesWriting : Plain → Option (List ℕ) → Option (List ℕ) → V2SerializeError → Type 0
-RefusesWriting h old new CountNotSerializable = HasTooGreatCount h × Keeps old new
-RefusesWriting h old new UsizeTypeTooSmall = ⊥
-RefusesWriting h old new (IoError e) = (bytes : List ℕ) × IsV2 h bytes × AppendsFront old new bytes
-RefusesWriting h old new OutOfMemory = Keeps old new
+abbrev pub SerializeFails : Plain → Option (List ℕ) → Option (List ℕ) → V2SerializeError → Type 0
+SerializeFails h old new CountNotSerializable = HasTooGreatCount h × Keeps old new
+SerializeFails h old new UsizeTypeTooSmall = ⊥
+SerializeFails h old new (IoError e) = (bytes : List ℕ) × IsV2 h bytes × AppendsFront old new bytes
+SerializeFails h old new OutOfMemory = Keeps old new

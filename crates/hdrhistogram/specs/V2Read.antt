@@ -2,10 +2,10 @@
 -- before the next one is read.
 use Rattle.std.specs.Prelude.{◌≡◌, ◌==◌, ℕ, ◌+◌, ◌-◌, ◌*◌, ◌^◌, ◌≤◌, Bool, ◌&&◌, nat_lt, nat_le, if◌then◌else◌, min, Option, Some, None, List, length, take, drop, sum, false, Result, Ok, Err}
 use Rattle.byteorder.specs.Endian.{big_number}
-use Rattle.hdr_base.specs.Classes.{unit_of, digits_of, grain_of, bins_to}
+use Rattle.hdr_base.specs.Classes.{unit_of, digits_of, resolution_of, bins_to}
 use Rattle.hdr_model.specs.Plain.{Plain}
 use Rattle.hdr_model.specs.Marks.{IsTopMark, IsLowerMark}
-use Rattle.hdr_model.specs.Filling.{Open}
+use Rattle.hdr_model.specs.Unfinished.{Unfinished}
 use Rattle.hdr_model.specs.declared.errors.CreationError.{CreationError}
 use Rattle.hdr_model.specs.declared.errors.CreationError.TheVariants.{LowIsZero, LowExceedsMax, HighLessThanTwiceLow, SigFigExceedsMax, CannotRepresentSigFigBeyondLow, UsizeTypeTooSmall, OutOfMemory}
 use Rattle.hdrhistogram.specs.declared.serialization.errors.DeserializeError.{DeserializeError}
@@ -92,7 +92,7 @@ creation_defect UsizeTypeTooSmall = Some bad_bounds
 
 -- the number of bins of a histogram with these bounds
 abbrev pub bins_for : Header → ℕ
-bins_for h = bins_to (grain_of h.low h.sigfig) h.high
+bins_for h = bins_to (resolution_of h.low h.sigfig) h.high
 
 -- what the bytes hold of a histogram
 pub record Contents : Type 0 where
@@ -117,7 +117,7 @@ abbrev pub told_of : Plain → Contents
 told_of h = record { low = h.low; high = h.high; sigfig = h.sigfig; counts = h.counts }
 
 -- the same of a histogram that is being built
-abbrev pub told_by : Open → Contents
+abbrev pub told_by : Unfinished → Contents
 told_by f = record { low = f.low; high = f.high; sigfig = f.sigfig; counts = f.counts }
 
 -- the total is the saturating sum of the counts, and the marks are those of the nonempty classes

@@ -4,11 +4,11 @@
 ghost use Rattle.hdr_model.specs.Equality.{same_plain};
 ghost use Rattle.std.specs.Prelude.{◌≡◌, ◌↔◌, ℕ, ◌^◌, ◌<◌, ◌≤◌, ◌++◌, List, length, slice_index, All, sum, ℤ, true, Result, Ok};
 ghost use Rattle.std.specs.List.{AllByRecursion};
-ghost use Rattle.hdr_base.specs.Classes.{Grain, IsFiner, grain_of};
-ghost use Rattle.hdr_model.specs.Plain.{Plain, IsPlain, grain, empty_plain};
+ghost use Rattle.hdr_base.specs.Classes.{Resolution, IsFiner, resolution_of};
+ghost use Rattle.hdr_model.specs.Plain.{Plain, IsPlain, resolution, empty_plain};
 ghost use Rattle.hdr_model.specs.Samples.{StandsFor, Fits};
 ghost use Rattle.hdr_base.specs.Fractions.{Ratio};
-ghost use Rattle.hdr_model.specs.Quantiles.{quantile_of};
+ghost use Rattle.hdr_model.specs.Quantiles.{value_at_quantile};
 ghost use Rattle.hdr_model.specs.Joining.{after_adds, AreParts, joined_samples, AnswersRanked};
 ghost use Rattle.hdr_model.specs.Refusals.{IsBounds};
 ghost use Rattle.hdr_log.specs.Grammar.{Entry, reading};
@@ -64,7 +64,7 @@ pub fn payload_tells_counts()
 /// top mark's class are equal; no mark counts as the first class. Their counter types, totals,
 /// lower marks and auto-resize may differ.
 pub fn bytes_agree()
-    ensures same { (h k : Plain) (a b : List ℕ) → IsV2 h a → IsV2 k b → IsWrittenAlike h k → a ≡ b }
+    ensures equal { (h k : Plain) (a b : List ℕ) → IsV2 h a → IsV2 k b → IsWrittenAlike h k → a ≡ b }
     ensures alike { (f g : ℕ) (h k : Plain) (a b : List ℕ) → IsPlain f h → IsPlain g k
         → IsV2 h a → IsV2 k b → a ≡ b → IsWrittenAlike h k }
 {}
@@ -105,13 +105,13 @@ pub fn bytes_read_back()
 pub fn read_back_stands()
     ensures plain { (greatest : ℕ) (h k : Plain) → IsPlain greatest h → IsReadBack h k
         → IsPlain greatest k }
-    ensures classes { (h k : Plain) → IsReadBack h k → grain k ≡ grain h }
+    ensures classes { (h k : Plain) → IsReadBack h k → resolution k ≡ resolution h }
     ensures samples { (greatest : ℕ) (h k : Plain) (S : List ℕ) → IsPlain greatest h
         → IsReadBack h k → StandsFor h S
         → StandsFor k S }
-    ensures answers { (greatest : ℕ) (h k : Plain) (S : List ℕ) → IsPlain greatest h
+    ensures quantiles { (greatest : ℕ) (h k : Plain) (S : List ℕ) → IsPlain greatest h
         → IsReadBack h k → StandsFor h S
-        → (k.total ≡ h.total) × ((q : Ratio) → quantile_of k q ≡ quantile_of h q) }
+        → (k.total ≡ h.total) × ((q : Ratio) → value_at_quantile k q ≡ value_at_quantile h q) }
 {
     samples_are_counted();
 }
@@ -126,9 +126,9 @@ pub fn merging_adds_the_chosen()
         → (hs : List Plain) × AreChosen filter 0 (reading log) hs
         × (m.histogram ≡ after_adds greatest (empty_plain 1 2 sigfig true) hs)
         × (m.chosen ≡ length hs)
-        × (m.coarser ≡ coarser_of (grain_of 1 sigfig) hs) }
-    ensures finer { (g : Grain) (hs : List Plain)
-        → (coarser_of g hs ≡ 0) ↔ AllByRecursion (λ (h : Plain). IsFiner (grain h) g) hs }
+        × (m.coarser ≡ coarser_of (resolution_of 1 sigfig) hs) }
+    ensures finer { (g : Resolution) (hs : List Plain)
+        → (coarser_of g hs ≡ 0) ↔ AllByRecursion (λ (h : Plain). IsFiner (resolution h) g) hs }
     ensures only { (filter : Filter) (base : ℕ) (entries : List (Result Entry ℕ))
         (hs others : List Plain) → AreChosen filter base entries hs
         → AreChosen filter base entries others → hs ≡ others }
@@ -147,15 +147,15 @@ pub fn merged_log_stands()
         (hs : List Plain) (Ls : List (List ℕ)) → 1 ≤ greatest
         → IsBounds 1 2 sigfig → Merges greatest filter sigfig log (Ok m)
         → AreChosen filter 0 (reading log) hs
-        → AreParts 18446744073709551615 (grain_of 1 sigfig) hs Ls
-        → Fits greatest (grain_of 1 sigfig) (joined_samples Ls)
+        → AreParts 18446744073709551615 (resolution_of 1 sigfig) hs Ls
+        → Fits greatest (resolution_of 1 sigfig) (joined_samples Ls)
         → StandsFor m.histogram (joined_samples Ls) }
     ensures ranked { (greatest sigfig : ℕ) (filter : Filter) (log : List ℕ) (m : Merging)
         (hs : List Plain) (Ls : List (List ℕ)) → 1 ≤ greatest
         → IsBounds 1 2 sigfig → Merges greatest filter sigfig log (Ok m)
         → AreChosen filter 0 (reading log) hs
-        → AreParts 18446744073709551615 (grain_of 1 sigfig) hs Ls
-        → Fits greatest (grain_of 1 sigfig) (joined_samples Ls)
+        → AreParts 18446744073709551615 (resolution_of 1 sigfig) hs Ls
+        → Fits greatest (resolution_of 1 sigfig) (joined_samples Ls)
         → AnswersRanked m.histogram (joined_samples Ls) }
 {
     new_is_plain();

@@ -8,7 +8,7 @@ pub mod laws;
 pub mod serialization;
 
 pub use hdr_core::{
-    AdditionError, Call, CallError, CallFrom, Counter, CreationError, Filling, Fraction, Histogram,
-    IterationValue, Quantile, RecordError, RunError, SubtractionError, Ticks, UsizeTypeTooSmall,
-    Values, errors, iterators,
+    AdditionError, Call, CallError, CallFrom, Counter, CreationError, Fraction, Histogram,
+    HistogramBuilder, IterationValue, Quantile, RecordError, RunError, SubtractionError, Ticks,
+    UsizeTypeTooSmall, Values, errors, iterators,
 };

@@ -3,10 +3,10 @@
 pub mod deserializer;
 mod errors;
 mod fields;
-mod filling;
 mod header;
 pub mod interval_log;
 mod payload;
+mod payload_decoder;
 mod serializer;
 mod streams;
 pub mod v2_serializer;

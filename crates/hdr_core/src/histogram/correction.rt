@@ -2,10 +2,10 @@
 
 ghost use Rattle.std.specs.Prelude.{◌≡◌, ℕ, List, ◌∷◌, ◌++◌, ◌+◌, ◌-◌, ◌*◌, ◌/◌, ◌%◌, ◌^◌, ◌<◌, ◌≤◌, OnOk, IfErr, true, false, [], length, min};
 ghost use Rattle.hdr_base.specs.Classes.{bucket, reach_of, most_bins};
-ghost use Rattle.hdr_model.specs.Plain.{grain, reach};
+ghost use Rattle.hdr_model.specs.Plain.{resolution, reach};
 ghost use Rattle.hdr_model.specs.Recording.{after_add_to_bin, after_records, samples_of, high_with};
 ghost use Rattle.hdr_model.specs.Samples.{GainsSamples};
-ghost use Rattle.hdr_model.specs.Refusals.{HasRoom, RefusesRecord};
+ghost use Rattle.hdr_model.specs.Refusals.{IsRecordable, IsRecordError};
 ghost use Rattle.hdr_model.specs.Correction.{missing, each_times, after_correct, classes_held, down_to};
 
 use super::Histogram;
@@ -22,10 +22,10 @@ impl<T: Counter> Histogram<T> {
         ensures ok { OnOk result (self.new ≡ after_correct T.greatest self.old value 1 interval) }
         ensures samples { OnOk result (GainsSamples T.greatest self.old self.new
             (samples_of (each_times 1 (value ∷ missing value interval)))) }
-        ensures high { OnOk result (self.new.high ≡ high_with (grain self.old) self.old.high value
-            (reach_of (grain self.old) value)) }
-        ensures can { OnOk result (HasRoom self.old value) }
-        ensures refused { IfErr result (λ e. RefusesRecord self.old value e
+        ensures high { OnOk result (self.new.high ≡ high_with (resolution self.old) self.old.high value
+            (reach_of (resolution self.old) value)) }
+        ensures accepted { OnOk result (IsRecordable self.old value) }
+        ensures err { IfErr result (λ e. IsRecordError self.old value e
             × (self.new ≡ self.old)) }
     {
         self.record_n_correct(value, T::one(), interval)
@@ -46,10 +46,10 @@ impl<T: Counter> Histogram<T> {
             (T.number count) interval) }
         ensures samples { OnOk result (GainsSamples T.greatest self.old self.new
             (samples_of (each_times (T.number count) (value ∷ missing value interval)))) }
-        ensures high { OnOk result (self.new.high ≡ high_with (grain self.old) self.old.high value
-            (reach_of (grain self.old) value)) }
-        ensures can { OnOk result (HasRoom self.old value) }
-        ensures refused { IfErr result (λ e. RefusesRecord self.old value e
+        ensures high { OnOk result (self.new.high ≡ high_with (resolution self.old) self.old.high value
+            (reach_of (resolution self.old) value)) }
+        ensures accepted { OnOk result (IsRecordable self.old value) }
+        ensures err { IfErr result (λ e. IsRecordError self.old value e
             × (self.new ≡ self.old)) }
     {
         self.record_n_correct_counted(value, count, interval, &mut Ticks::new())
@@ -69,16 +69,16 @@ impl<T: Counter> Histogram<T> {
         requires { ticks.old ≤ 2 ^ 63 }
         ensures ok { OnOk result (self.new ≡ after_correct T.greatest self.old value
             (T.number count) interval) }
-        ensures ticks { OnOk result (ticks.new ≡ ticks.old + classes_held (grain self.new)
+        ensures ticks { OnOk result (ticks.new ≡ ticks.old + classes_held (resolution self.new)
             (length self.new.counts) (missing value interval)) }
         ensures at_most_bins { OnOk result (ticks.new ≤ ticks.old + length self.new.counts) }
-        ensures few { OnOk result (ticks.new ≤ ticks.old + most_bins) }
+        ensures at_most { OnOk result (ticks.new ≤ ticks.old + most_bins) }
         ensures samples { OnOk result (GainsSamples T.greatest self.old self.new
             (samples_of (each_times (T.number count) (value ∷ missing value interval)))) }
-        ensures high { OnOk result (self.new.high ≡ high_with (grain self.old) self.old.high value
-            (reach_of (grain self.old) value)) }
-        ensures can { OnOk result (HasRoom self.old value) }
-        ensures refused { IfErr result (λ e. RefusesRecord self.old value e × (self.new ≡ self.old)
+        ensures high { OnOk result (self.new.high ≡ high_with (resolution self.old) self.old.high value
+            (reach_of (resolution self.old) value)) }
+        ensures accepted { OnOk result (IsRecordable self.old value) }
+        ensures err { IfErr result (λ e. IsRecordError self.old value e × (self.new ≡ self.old)
             × (ticks.new ≡ ticks.old)) }
     {
         self.record_n(value, count)?;
@@ -97,16 +97,16 @@ impl<T: Counter> Histogram<T> {
     pub(super) fn add_missing(&mut self, first: u64, count: u64, interval: u64, ticks: &mut Ticks)
         requires step { 0 < interval }
         requires within { first ≤ reach self.old }
-        requires room { ticks.old ≤ 2 ^ 63 }
+        requires ticks_fit { ticks.old ≤ 2 ^ 63 }
         ensures state { self.new ≡ after_records T.greatest self.old
             (each_times count (down_to first interval)) }
-        ensures ticks { ticks.new ≡ ticks.old + classes_held (grain self.old)
+        ensures ticks { ticks.new ≡ ticks.old + classes_held (resolution self.old)
             (length self.old.counts) (down_to first interval) }
         ensures samples { GainsSamples T.greatest self.old self.new
             (samples_of (each_times count (down_to first interval))) }
-        ensures same_classes { grain self.new ≡ grain self.old }
+        ensures same_classes { resolution self.new ≡ resolution self.old }
         ensures same_bins { length self.new.counts ≡ length self.old.counts }
-        ensures few { length self.new.counts ≤ most_bins }
+        ensures at_most { length self.new.counts ≤ most_bins }
     {
         let scale = self.scale;
         let mut next = first;
@@ -127,21 +127,21 @@ impl<T: Counter> Histogram<T> {
         ticks: &mut Ticks,
     ) -> u64
         requires step { 0 < interval }
-        requires some { (interval ≤ start) × (start ≤ first) }
+        requires start { (interval ≤ start) × (start ≤ first) }
         requires one_bucket { (x : ℕ) → start ≤ x → x ≤ first
-            → bucket (grain self.old) x ≡ bucket (grain self.old) first }
+            → bucket (resolution self.old) x ≡ bucket (resolution self.old) first }
         requires within { first ≤ reach self.old }
-        requires room { ticks.old + classes_held (grain self.old) (length self.old.counts)
+        requires ticks_fit { ticks.old + classes_held (resolution self.old) (length self.old.counts)
             (down_to first interval) < 2 ^ 64 }
         ensures less { result < first }
         ensures state { after_records T.greatest self.new
             (each_times count (down_to result interval)) ≡ after_records T.greatest self.old
             (each_times count (down_to first interval)) }
-        ensures ticks { ticks.new + classes_held (grain self.old) (length self.old.counts)
+        ensures ticks { ticks.new + classes_held (resolution self.old) (length self.old.counts)
             (down_to result interval)
-            ≡ ticks.old + classes_held (grain self.old) (length self.old.counts)
+            ≡ ticks.old + classes_held (resolution self.old) (length self.old.counts)
             (down_to first interval) }
-        ensures same_classes { grain self.new ≡ grain self.old }
+        ensures same_classes { resolution self.new ≡ resolution self.old }
         ensures same_bins { length self.new.counts ≡ length self.old.counts }
         ensures same_reach { reach self.new ≡ reach self.old }
     {
@@ -161,7 +161,7 @@ impl<T: Counter> Histogram<T> {
     /// Adds `members` of a class, `count` times each, to its bin, and counts one tick.
     fn add_counted(&mut self, bin: usize, members: u64, count: u64, ticks: &mut Ticks)
         requires bin { bin < length self.old.counts }
-        requires room { ticks.old < 2 ^ 64 - 1 }
+        requires ticks_fit { ticks.old < 2 ^ 64 - 1 }
         ensures state { self.new ≡ after_add_to_bin T.greatest self.old bin (members * count) }
         ensures ticks { ticks.new ≡ ticks.old + 1 }
     {
@@ -194,7 +194,7 @@ pub(super) fn hides(value: u64, interval: u64) -> bool
 /// Returns the number of values in the class of `next`, from it on down to the interval, an
 /// interval apart.
 fn members(next: u64, width: u64, interval: u64, few: u64) -> u64
-    requires some { (0 < interval) × (interval ≤ next) × (0 < width) }
+    requires nonzero { (0 < interval) × (interval ≤ next) × (0 < width) }
     requires fits { few * interval < 2 ^ 64 }
     ensures { result ≡ min (next % width) (next - interval) / interval + 1 }
 {
@@ -206,7 +206,7 @@ fn members(next: u64, width: u64, interval: u64, few: u64) -> u64
 
 /// Returns the number of intervals in `span`. Tries `few` and `few + 1` before it divides.
 fn steps(span: u64, interval: u64, few: u64) -> u64
-    requires some { 0 < interval }
+    requires nonzero { 0 < interval }
     requires fits { few * interval < 2 ^ 64 }
     ensures { result ≡ span / interval }
 {

@@ -82,7 +82,7 @@ fn number_at<T: Counter>(counts: &Counts<T>, index: usize) -> u64
 /// Whether two slices of one length hold the same numbers; compares `FEW` at once.
 fn same_front<T: Counter, F: Counter>(left: &[T], right: &[F]) -> bool
     requires { length left.now ≡ length right.now }
-    ensures same { result ≡ true → (i : ℕ) → i < length left.now
+    ensures equal { result ≡ true → (i : ℕ) → i < length left.now
         → slice_index (map T.number left.now) i ≡ slice_index (map F.number right.now) i }
     ensures other { result ≡ false → (i : ℕ) × (i < length left.now)
         × (slice_index (map T.number left.now) i ≢ slice_index (map F.number right.now) i) }
@@ -102,7 +102,7 @@ fn same_front<T: Counter, F: Counter>(left: &[T], right: &[F]) -> bool
 /// As `same_front`. Each counter is read, so that several can be compared at once.
 fn same_few<T: Counter, F: Counter>(left: &[T], right: &[F]) -> bool
     requires { length left.now ≡ length right.now }
-    ensures same { result ≡ true → (i : ℕ) → i < length left.now
+    ensures equal { result ≡ true → (i : ℕ) → i < length left.now
         → slice_index (map T.number left.now) i ≡ slice_index (map F.number right.now) i }
     ensures other { result ≡ false → (i : ℕ) × (i < length left.now)
         × (slice_index (map T.number left.now) i ≢ slice_index (map F.number right.now) i) }

@@ -4,7 +4,7 @@ ghost use Rattle.std.specs.Prelude.{◌≡◌, ◌<◌, ◌≤◌, ◌⊎◌, Ma
 ghost use Rattle.hdr_model.specs.Plain.{IsPlain, reach};
 ghost use Rattle.hdr_model.specs.Recording.{with_bins_to, with_bins_for};
 ghost use Rattle.hdr_model.specs.Merging.{with_room};
-ghost use Rattle.hdr_model.specs.Refusals.{HasRoom, RefusesRecord, RefusesRoom};
+ghost use Rattle.hdr_model.specs.Refusals.{IsRecordable, IsRecordError, IsResizeError};
 
 use super::Histogram;
 use hdr_base::Counter;
@@ -16,9 +16,9 @@ impl<T: Counter> Histogram<T> {
     /// unchanged.
     pub(super) fn cover(&mut self, value: u64) -> Result<(), RecordError>
         ensures ok { OnOk result (self.new ≡ with_bins_for self.old value) }
-        ensures kept { IsPlain T.greatest self.old }
-        ensures can { OnOk result (HasRoom self.old value) }
-        ensures refused { IfErr result (λ e. RefusesRecord self.old value e
+        ensures plain { IsPlain T.greatest self.old }
+        ensures accepted { OnOk result (IsRecordable self.old value) }
+        ensures err { IfErr result (λ e. IsRecordError self.old value e
             × (self.new ≡ self.old)) }
     {
         let high = self.scale.reach(value);
@@ -30,9 +30,9 @@ impl<T: Counter> Histogram<T> {
     /// unchanged.
     pub(super) fn make_room(&mut self, value: u64) -> Result<(), AdditionError>
         ensures ok { OnOk result (self.new ≡ with_room self.old value) }
-        ensures kept { IsPlain T.greatest self.old }
-        ensures can { OnOk result (HasRoom self.old value) }
-        ensures refused { IfErr result (λ e. RefusesRoom self.old value e × (self.new ≡ self.old)) }
+        ensures plain { IsPlain T.greatest self.old }
+        ensures accepted { OnOk result (IsRecordable self.old value) }
+        ensures err { IfErr result (λ e. IsResizeError self.old value e × (self.new ≡ self.old)) }
     {
         match self.cover_to(value, value) {
             Ok(()) => Ok(()),
@@ -47,9 +47,9 @@ impl<T: Counter> Histogram<T> {
         requires { value ≤ high }
         ensures ok { OnOk result (((value ≤ reach self.old) × (self.new ≡ self.old))
             ⊎ ((reach self.old < value) × (self.new ≡ with_bins_to self.old high))) }
-        ensures kept { IsPlain T.greatest self.old }
-        ensures can { OnOk result (HasRoom self.old value) }
-        ensures refused { IfErr result (λ e. RefusesRecord self.old value e
+        ensures plain { IsPlain T.greatest self.old }
+        ensures accepted { OnOk result (IsRecordable self.old value) }
+        ensures err { IfErr result (λ e. IsRecordError self.old value e
             × (self.new ≡ self.old)) }
     {
         if value <= self.reach() {

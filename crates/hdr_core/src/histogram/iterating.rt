@@ -63,7 +63,7 @@ impl<T: Counter> Histogram<T> {
     /// `start * base - 1`, `start * base ^ 2 - 1`, .. below the top mark's class, and for the next
     /// one. `start` is at least 1, and `base` at least 2.
     pub fn iter_log(&self, start: u64, base: u64) -> HistogramIterator<'_, T, log::Iter<'_, T>>
-        requires some { 1 ≤ start }
+        requires nonzero { 1 ≤ start }
         requires wide { 2 ≤ base }
         ensures { result ≡ items_of (bins_seen self.now)
             (log_picks (bins_seen self.now) start base) }

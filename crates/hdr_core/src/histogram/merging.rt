@@ -2,10 +2,10 @@
 
 ghost use Rattle.std.specs.Prelude.{◌==◌, ◌&&◌, if◌then◌else◌, ◌≡◌, ℕ, ◌+◌, ◌-◌, ◌^◌, ◌<◌, ◌≤◌, ◌⊎◌, ◌++◌, List, OnOk, IfErr, true, min, length, slice_index, sum};
 ghost use Rattle.hdr_base.specs.Classes.{value_of, IsFiner};
-ghost use Rattle.hdr_model.specs.Plain.{IsPlain, grain, reach, max_of};
+ghost use Rattle.hdr_model.specs.Plain.{IsPlain, resolution, reach, max_of};
 ghost use Rattle.hdr_model.specs.Recording.{after_record, after_records, after_reset, high_with};
 ghost use Rattle.hdr_model.specs.Merging.{classes_from, top_class, same_bins, after_add_same_bins, after_add_within, with_room, after_add};
-ghost use Rattle.hdr_model.specs.Refusals.{LeavesSet, HasRoom, RefusesAddition, RefusesRoom};
+ghost use Rattle.hdr_model.specs.Refusals.{LeavesSet, IsRecordable, IsAdditionError, IsResizeError};
 ghost use Rattle.hdr_model.specs.Samples.{StandsFor, GainsSamples};
 
 use super::Histogram;
@@ -24,14 +24,14 @@ impl<T: Counter> Histogram<T> {
     pub fn add(&mut self, source: &Histogram<T>) -> Result<(), AdditionError>
         ensures ok { OnOk result (self.new ≡ after_add T.greatest self.old source.now) }
         ensures samples { OnOk result ((L : List ℕ) → StandsFor source.now L → IsFiner
-            (grain source.now) (grain self.old)
+            (resolution source.now) (resolution self.old)
             → GainsSamples T.greatest self.old self.new L) }
-        ensures same_classes { grain self.new ≡ grain self.old }
+        ensures same_classes { resolution self.new ≡ resolution self.old }
         ensures high { OnOk result (self.new.high
             ≡ (if source.now.total == 0 then self.old.high else high_with
-            (grain self.old) self.old.high (max_of source.now) (max_of source.now))) }
-        ensures can { OnOk result ((source.now.total ≡ 0) ⊎ HasRoom self.old (max_of source.now)) }
-        ensures refused { IfErr result (λ e. RefusesAddition self.old source.now e
+            (resolution self.old) self.old.high (max_of source.now) (max_of source.now))) }
+        ensures accepted { OnOk result ((source.now.total ≡ 0) ⊎ IsRecordable self.old (max_of source.now)) }
+        ensures err { IfErr result (λ e. IsAdditionError self.old source.now e
             × (self.new ≡ self.old)) }
     {
         self.add_from(source)
@@ -42,14 +42,14 @@ impl<T: Counter> Histogram<T> {
     pub fn add_from<F: Counter>(&mut self, source: &Histogram<F>) -> Result<(), AdditionError>
         ensures ok { OnOk result (self.new ≡ after_add T.greatest self.old source.now) }
         ensures samples { OnOk result ((L : List ℕ) → StandsFor source.now L → IsFiner
-            (grain source.now) (grain self.old)
+            (resolution source.now) (resolution self.old)
             → GainsSamples T.greatest self.old self.new L) }
-        ensures same_classes { grain self.new ≡ grain self.old }
+        ensures same_classes { resolution self.new ≡ resolution self.old }
         ensures high { OnOk result (self.new.high
             ≡ (if source.now.total == 0 then self.old.high else high_with
-            (grain self.old) self.old.high (max_of source.now) (max_of source.now))) }
-        ensures can { OnOk result ((source.now.total ≡ 0) ⊎ HasRoom self.old (max_of source.now)) }
-        ensures refused { IfErr result (λ e. RefusesAddition self.old source.now e
+            (resolution self.old) self.old.high (max_of source.now) (max_of source.now))) }
+        ensures accepted { OnOk result ((source.now.total ≡ 0) ⊎ IsRecordable self.old (max_of source.now)) }
+        ensures err { IfErr result (λ e. IsAdditionError self.old source.now e
             × (self.new ≡ self.old)) }
     {
         if source.total == 0 {
@@ -66,8 +66,8 @@ impl<T: Counter> Histogram<T> {
     pub fn set_to(&mut self, source: &Histogram<T>) -> Result<(), AdditionError>
         ensures ok { OnOk result (self.new ≡ after_add T.greatest
             (after_reset self.old) source.now) }
-        ensures can { OnOk result ((source.now.total ≡ 0) ⊎ HasRoom self.old (max_of source.now)) }
-        ensures refused { IfErr result (λ e. RefusesAddition self.old source.now e
+        ensures accepted { OnOk result ((source.now.total ≡ 0) ⊎ IsRecordable self.old (max_of source.now)) }
+        ensures err { IfErr result (λ e. IsAdditionError self.old source.now e
             × LeavesSet self.old self.new e) }
     {
         if source.total == 0 {
@@ -103,8 +103,8 @@ impl<T: Counter> Histogram<T> {
     }
 
     fn same_classes<F: Counter>(&self, other: &Histogram<F>) -> bool
-        ensures { result ≡ (((grain self.now).unit == (grain other.now).unit)
-            && ((grain self.now).digits == (grain other.now).digits)) }
+        ensures { result ≡ (((resolution self.now).unit == (resolution other.now).unit)
+            && ((resolution self.now).digits == (resolution other.now).digits)) }
     {
         self.scale.unit() == other.scale.unit() && self.scale.digits() == other.scale.digits()
     }
@@ -132,11 +132,11 @@ impl<T: Counter> Histogram<T> {
 
     /// Adds a source of the same classes in another number of bins, section by section.
     fn join_front<F: Counter>(&mut self, source: &Histogram<F>)
-        requires same { grain source.now ≡ grain self.old }
-        requires room { max_of source.now ≤ reach self.old }
+        requires same_classes { resolution source.now ≡ resolution self.old }
+        requires in_range { max_of source.now ≤ reach self.old }
         ensures { self.new ≡ after_records T.greatest self.old
-            (classes_from (grain source.now) 0 source.now.counts ++ top_class
-            (grain source.now) source.now.top_mark) }
+            (classes_from (resolution source.now) 0 source.now.counts ++ top_class
+            (resolution source.now) source.now.top_mark) }
     {
         let counts = &source.counts;
         self.counts.add_capped(counts);
@@ -160,8 +160,8 @@ impl<T: Counter> Histogram<T> {
     fn record_classes<F: Counter>(&mut self, source: &Histogram<F>)
         requires { max_of source.now ≤ reach self.old }
         ensures { self.new ≡ after_records T.greatest self.old
-            (classes_from (grain source.now) 0 source.now.counts ++ top_class
-            (grain source.now) source.now.top_mark) }
+            (classes_from (resolution source.now) 0 source.now.counts ++ top_class
+            (resolution source.now) source.now.top_mark) }
     {
         for bin in 0..source.used_bins() {
             let count = source.counts.get(bin).as_u64();

@@ -2,10 +2,10 @@
 
 ghost use Rattle.std.specs.Prelude.{◌≡◌, ℕ, List, ◌∷◌, ◌++◌, ◌+◌, ◌≤◌, OnOk, IfErr};
 ghost use Rattle.hdr_base.specs.Classes.{reach_of};
-ghost use Rattle.hdr_model.specs.Plain.{IsPlain, grain, reach};
+ghost use Rattle.hdr_model.specs.Plain.{IsPlain, resolution, reach};
 ghost use Rattle.hdr_model.specs.Recording.{after_records, with_bins_for, after_reset, high_with};
 ghost use Rattle.hdr_model.specs.Samples.{StandsFor, GainsSamples};
-ghost use Rattle.hdr_model.specs.Refusals.{HasRoom, RefusesRecord, RefusesCorrected, LeavesCorrected};
+ghost use Rattle.hdr_model.specs.Refusals.{IsRecordable, IsRecordError, IsCorrectionError, LeavesCorrected};
 ghost use Rattle.hdr_model.specs.Correction.{missing, each_times};
 ghost use Rattle.hdr_model.specs.Merging.{corrections_from, highest_top, after_add_correct, corrected_samples};
 
@@ -24,12 +24,12 @@ impl<T: Counter> Histogram<T> {
             ≡ after_add_correct T.greatest self.old source.now interval) }
         ensures samples { OnOk result ((L : List ℕ) → StandsFor source.now L
             → GainsSamples T.greatest self.old self.new
-            (corrected_samples (grain source.now) interval L)) }
-        ensures same_classes { grain self.new ≡ grain self.old }
-        ensures high { OnOk result (self.new.high ≡ high_with (grain self.old) self.old.high
-            (highest_top source.now) (reach_of (grain self.old) (highest_top source.now))) }
-        ensures can { OnOk result (HasRoom self.old (highest_top source.now)) }
-        ensures refused { IfErr result (λ e. RefusesCorrected self.old source.now e
+            (corrected_samples (resolution source.now) interval L)) }
+        ensures same_classes { resolution self.new ≡ resolution self.old }
+        ensures high { OnOk result (self.new.high ≡ high_with (resolution self.old) self.old.high
+            (highest_top source.now) (reach_of (resolution self.old) (highest_top source.now))) }
+        ensures accepted { OnOk result (IsRecordable self.old (highest_top source.now)) }
+        ensures err { IfErr result (λ e. IsCorrectionError self.old source.now e
             × (self.new ≡ self.old)) }
     {
         self.add_correct_from(source, interval)
@@ -46,12 +46,12 @@ impl<T: Counter> Histogram<T> {
             ≡ after_add_correct T.greatest self.old source.now interval) }
         ensures samples { OnOk result ((L : List ℕ) → StandsFor source.now L
             → GainsSamples T.greatest self.old self.new
-            (corrected_samples (grain source.now) interval L)) }
-        ensures same_classes { grain self.new ≡ grain self.old }
-        ensures high { OnOk result (self.new.high ≡ high_with (grain self.old) self.old.high
-            (highest_top source.now) (reach_of (grain self.old) (highest_top source.now))) }
-        ensures can { OnOk result (HasRoom self.old (highest_top source.now)) }
-        ensures refused { IfErr result (λ e. RefusesCorrected self.old source.now e
+            (corrected_samples (resolution source.now) interval L)) }
+        ensures same_classes { resolution self.new ≡ resolution self.old }
+        ensures high { OnOk result (self.new.high ≡ high_with (resolution self.old) self.old.high
+            (highest_top source.now) (reach_of (resolution self.old) (highest_top source.now))) }
+        ensures accepted { OnOk result (IsRecordable self.old (highest_top source.now)) }
+        ensures err { IfErr result (λ e. IsCorrectionError self.old source.now e
             × (self.new ≡ self.old)) }
     {
         self.cover(source.highest_top())?;
@@ -69,8 +69,8 @@ impl<T: Counter> Histogram<T> {
     ) -> Result<(), RecordError>
         ensures ok { OnOk result (self.new ≡ after_add_correct T.greatest
             (after_reset self.old) source.now interval) }
-        ensures can { OnOk result (HasRoom self.old (highest_top source.now)) }
-        ensures refused { IfErr result (λ e. RefusesCorrected self.old source.now e
+        ensures accepted { OnOk result (IsRecordable self.old (highest_top source.now)) }
+        ensures err { IfErr result (λ e. IsCorrectionError self.old source.now e
             × LeavesCorrected self.old self.new e) }
     {
         match self.cover(source.highest_top()) {
@@ -101,7 +101,7 @@ impl<T: Counter> Histogram<T> {
     pub(super) fn correct_classes<F: Counter>(&mut self, source: &Histogram<F>, interval: u64)
         requires { highest_top source.now ≤ reach self.old }
         ensures made { self.new ≡ after_records T.greatest self.old
-            (corrections_from (grain source.now) interval 0 source.now.counts) }
+            (corrections_from (resolution source.now) interval 0 source.now.counts) }
         ensures source { IsPlain F.greatest source.now }
     {
         for bin in 0..source.used_bins() {

@@ -4,9 +4,9 @@ ghost use Rattle.std.specs.Prelude.{◌≡◌, ℕ, ◌+◌, ◌^◌, ◌<◌, �
 ghost use Rattle.std.specs.Int.{div_ceil};
 ghost use Rattle.hdr_base.specs.Classes.{bucket, most_bins};
 ghost use Rattle.hdr_counts.specs.Blocks.{looks, IsFirstToReach};
-ghost use Rattle.hdr_model.specs.Plain.{grain, block_of};
+ghost use Rattle.hdr_model.specs.Plain.{resolution, block_of};
 ghost use Rattle.hdr_model.specs.Samples.{StandsFor};
-ghost use Rattle.hdr_model.specs.Quantiles.{rank, ranked_sample, first_reaching, answer_at, quantile_of, IsTopNear, hundredth};
+ghost use Rattle.hdr_model.specs.Quantiles.{rank, ranked_sample, position_of_rank, value_at_bin, value_at_quantile, IsTopNear, hundredth};
 
 use super::Histogram;
 use hdr_base::{Counter, Quantile, Ticks};
@@ -17,12 +17,12 @@ impl<T: Counter> Histogram<T> {
     /// the lowest value of that class. Returns 0 if the counters, saturated ones among them, do not
     /// reach the rank. A quantile above 1 counts as 1.
     pub fn value_at_quantile(&self, quantile: Quantile) -> u64
-        ensures value { result ≡ quantile_of self.now quantile }
+        ensures value { result ≡ value_at_quantile self.now quantile }
         ensures ranked { (S : List ℕ) → StandsFor self.now S → 0 < length S → 0 < quantile.num
             → IsTopNear self.now (ranked_sample quantile S) result }
     {
         let rank = rank_of(quantile.num(), u128::from(quantile.den()), self.total);
-        self.answer(quantile.num(), self.first_reaching(rank))
+        self.value_at_bin(quantile.num(), self.position_of_rank(rank))
     }
 
     /// As `value_at_quantile`. `ticks` grows by one for each read of a block's sum or of a counter.
@@ -31,23 +31,23 @@ impl<T: Counter> Histogram<T> {
     /// sections, and costs one tick.
     pub fn value_at_quantile_counted(&self, quantile: Quantile, ticks: &mut Ticks) -> u64
         requires { ticks.old ≤ 2 ^ 63 }
-        ensures value { result ≡ quantile_of self.now quantile }
+        ensures value { result ≡ value_at_quantile self.now quantile }
         ensures ranked { (S : List ℕ) → StandsFor self.now S → 0 < length S → 0 < quantile.num
             → IsTopNear self.now (ranked_sample quantile S) result }
         ensures looks { ticks.new ≡ ticks.old + looks (block_of self.now) (length self.now.counts)
-            (first_reaching self.now.counts (rank quantile self.now.total)) }
+            (position_of_rank self.now.counts (rank quantile self.now.total)) }
         ensures at_most { ticks.new ≤ ticks.old +
-            (bucket (grain self.now) self.now.high + 2 + block_of self.now) }
-        ensures few { ticks.new ≤ ticks.old + most_bins }
+            (bucket (resolution self.now) self.now.high + 2 + block_of self.now) }
+        ensures bounded { ticks.new ≤ ticks.old + most_bins }
     {
         let rank = rank_of(quantile.num(), u128::from(quantile.den()), self.total);
         let place = self.find(rank, ticks);
-        self.answer(quantile.num(), place)
+        self.value_at_bin(quantile.num(), place)
     }
 
     /// As `value_at_quantile`, for a hundredth of `percentile`: 999/10 is 99.9 %.
     pub fn value_at_percentile(&self, percentile: Quantile) -> u64
-        ensures value { result ≡ quantile_of self.now (hundredth percentile) }
+        ensures value { result ≡ value_at_quantile self.now (hundredth percentile) }
         ensures ranked { (S : List ℕ) → StandsFor self.now S → 0 < length S → 0 < percentile.num
             → IsTopNear self.now (ranked_sample (hundredth percentile) S) result }
     {
@@ -56,23 +56,23 @@ impl<T: Counter> Histogram<T> {
             u128::from(percentile.den()) * 100,
             self.total,
         );
-        self.answer(percentile.num(), self.first_reaching(rank))
+        self.value_at_bin(percentile.num(), self.position_of_rank(rank))
     }
 
     /// Returns the first bin at which the sum of the counters up to it reaches `rank`.
-    fn first_reaching(&self, rank: u64) -> Option<usize>
+    fn position_of_rank(&self, rank: u64) -> Option<usize>
         requires { 1 ≤ rank }
-        ensures place { result ≡ first_reaching self.now.counts rank }
+        ensures index { result ≡ position_of_rank self.now.counts rank }
         ensures within { IfSome result (λ i. i < length self.now.counts) }
     {
-        self.counts.first_reaching(rank)
+        self.counts.position_of_rank(rank)
     }
 
-    /// As `first_reaching`, and counts a tick for each read.
+    /// As `position_of_rank`, and counts a tick for each read.
     fn find(&self, rank: u64, ticks: &mut Ticks) -> Option<usize>
-        requires some { 1 ≤ rank }
-        requires room { ticks.old ≤ 2 ^ 63 }
-        ensures place { result ≡ first_reaching self.now.counts rank }
+        requires nonzero { 1 ≤ rank }
+        requires ticks_fit { ticks.old ≤ 2 ^ 63 }
+        ensures index { result ≡ position_of_rank self.now.counts rank }
         ensures within { IfSome result (λ i. i < length self.now.counts) }
         ensures looks { ticks.new ≡ ticks.old + looks (block_of self.now)
             (length self.now.counts) result }
@@ -80,20 +80,20 @@ impl<T: Counter> Histogram<T> {
         self.counts.find(rank, ticks)
     }
 
-    /// As `answer`, for the first bin at which the running sum reaches `rank`.
-    pub(super) fn answer_found(&self, num: u64, rank: u64, place: Option<usize>) -> u64
-        requires some { 1 ≤ rank }
+    /// As `value_at_bin`, for the first bin at which the running sum reaches `rank`.
+    pub(super) fn value_at_rank(&self, num: u64, rank: u64, place: Option<usize>) -> u64
+        requires nonzero { 1 ≤ rank }
         requires first { MatchOption place (sum self.now.counts < rank)
             (IsFirstToReach self.now.counts rank) }
-        ensures { result ≡ answer_at (grain self.now) num (first_reaching self.now.counts rank) }
+        ensures { result ≡ value_at_bin (resolution self.now) num (position_of_rank self.now.counts rank) }
     {
-        self.answer(num, place)
+        self.value_at_bin(num, place)
     }
 
     /// Returns the top of bin `place`, or its lowest value if `num` is 0. Returns 0 for `None`.
-    fn answer(&self, num: u64, place: Option<usize>) -> u64
+    fn value_at_bin(&self, num: u64, place: Option<usize>) -> u64
         requires { IfSome place (λ i. i < length self.now.counts) }
-        ensures { result ≡ answer_at (grain self.now) num place }
+        ensures { result ≡ value_at_bin (resolution self.now) num place }
     {
         match place {
             Some(bin) if num == 0 => self.class_value(bin),

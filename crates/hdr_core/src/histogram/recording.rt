@@ -2,10 +2,10 @@
 
 ghost use Rattle.std.specs.Prelude.{◌≡◌, ℕ, List, ◌+◌, ◌-◌, ◌^◌, ◌<◌, ◌≤◌, ◌++◌, true, OnOk, IfErr, min, length, replicate};
 ghost use Rattle.hdr_base.specs.Classes.{reach_of};
-ghost use Rattle.hdr_model.specs.Plain.{grain, reach};
+ghost use Rattle.hdr_model.specs.Plain.{resolution, reach};
 ghost use Rattle.hdr_model.specs.Recording.{after_add_to_bin, after_record, clamp_to_bins, after_clear, after_reset, high_with};
 ghost use Rattle.hdr_model.specs.Samples.{GainsSamples};
-ghost use Rattle.hdr_model.specs.Refusals.{HasRoom, RefusesRecord};
+ghost use Rattle.hdr_model.specs.Refusals.{IsRecordable, IsRecordError};
 
 use super::Histogram;
 use crate::marks::Marks;
@@ -20,10 +20,10 @@ impl<T: Counter> Histogram<T> {
         ensures ok { OnOk result (self.new ≡ after_record T.greatest self.old value 1) }
         ensures samples { OnOk result (GainsSamples T.greatest self.old self.new
             (replicate 1 value)) }
-        ensures high { OnOk result (self.new.high ≡ high_with (grain self.old) self.old.high value
-            (reach_of (grain self.old) value)) }
-        ensures can { OnOk result (HasRoom self.old value) }
-        ensures refused { IfErr result (λ e. RefusesRecord self.old value e
+        ensures high { OnOk result (self.new.high ≡ high_with (resolution self.old) self.old.high value
+            (reach_of (resolution self.old) value)) }
+        ensures accepted { OnOk result (IsRecordable self.old value) }
+        ensures err { IfErr result (λ e. IsRecordError self.old value e
             × (self.new ≡ self.old)) }
     {
         self.record_n(value, T::one())
@@ -41,10 +41,10 @@ impl<T: Counter> Histogram<T> {
             (T.number count)) }
         ensures samples { OnOk result (GainsSamples T.greatest self.old self.new
             (replicate (T.number count) value)) }
-        ensures high { OnOk result (self.new.high ≡ high_with (grain self.old) self.old.high value
-            (reach_of (grain self.old) value)) }
-        ensures can { OnOk result (HasRoom self.old value) }
-        ensures refused { IfErr result (λ e. RefusesRecord self.old value e
+        ensures high { OnOk result (self.new.high ≡ high_with (resolution self.old) self.old.high value
+            (reach_of (resolution self.old) value)) }
+        ensures accepted { OnOk result (IsRecordable self.old value) }
+        ensures err { IfErr result (λ e. IsRecordError self.old value e
             × (self.new ≡ self.old)) }
     {
         match self.bin_of(value) {
@@ -63,8 +63,8 @@ impl<T: Counter> Histogram<T> {
         requires { reach self.old < value }
         ensures ok { OnOk result (self.new ≡ after_record T.greatest self.old value
             (T.number count)) }
-        ensures can { OnOk result (self.old.auto_resize ≡ true) }
-        ensures refused { IfErr result (λ e. RefusesRecord self.old value e
+        ensures accepted { OnOk result (self.old.auto_resize ≡ true) }
+        ensures err { IfErr result (λ e. IsRecordError self.old value e
             × (self.new ≡ self.old)) }
     {
         self.cover(value)?;

@@ -2,9 +2,9 @@
 
 ghost use Rattle.std.specs.Prelude.{◌≡◌, ℕ, ◌+◌, ◌-◌, ◌*◌, ◌^◌, ◌<◌, ◌≤◌, min, slice_index, length, List, IfSome};
 ghost use Rattle.hdr_base.specs.Classes.{lowest_of, top_of, value_of, bin_of};
-ghost use Rattle.hdr_model.specs.Plain.{IsPlain, grain, reach};
+ghost use Rattle.hdr_model.specs.Plain.{IsPlain, resolution, reach};
 ghost use Rattle.hdr_model.specs.Samples.{StandsFor};
-ghost use Rattle.hdr_model.specs.Statistics.{held_bin, sum_between, samples_between, share_below, in_hundredths, median_of, weight_from, mean_of};
+ghost use Rattle.hdr_model.specs.Statistics.{held_bin, sum_between, samples_between, quantile_below, in_hundredths, median_of, weight_from, mean};
 
 use super::Histogram;
 use super::recording::capped_total;
@@ -24,8 +24,8 @@ impl<T: Counter> Histogram<T> {
     pub fn count_between(&self, low: u64, high: u64) -> u64
         ensures value { result ≡ min (sum_between self.now low high) (2 ^ 64 - 1) }
         ensures samples { (S : List ℕ) → StandsFor self.now S → low ≤ high → high ≤ reach self.now
-            → result ≡ samples_between (lowest_of (grain self.now) low)
-            (top_of (grain self.now) high) S }
+            → result ≡ samples_between (lowest_of (resolution self.now) low)
+            (top_of (resolution self.now) high) S }
         ensures at_most { result ≤ self.now.total }
     {
         let from = self.held_bin(low);
@@ -45,11 +45,11 @@ impl<T: Counter> Histogram<T> {
     /// the counters up to its bin, over `len`. A value past the bins counts as one of the last bin.
     /// Returns 1/1 if `len` is 0.
     pub fn quantile_below(&self, value: u64) -> Fraction
-        ensures value { result ≡ share_below self.now value }
+        ensures value { result ≡ quantile_below self.now value }
         ensures samples { (S : List ℕ) → StandsFor self.now S → 0 < length S
             → result ≡ record {
               num = samples_between 0
-                  (top_of (grain self.now) value) S;
+                  (top_of (resolution self.now) value) S;
               den = length S;
             } }
         ensures fits { result.num < 2 ^ 64 }
@@ -68,7 +68,7 @@ impl<T: Counter> Histogram<T> {
 
     /// As `quantile_below`, times 100.
     pub fn percentile_below(&self, value: u64) -> Fraction
-        ensures value { result ≡ in_hundredths (share_below self.now value) }
+        ensures value { result ≡ in_hundredths (quantile_below self.now value) }
         ensures share { result.num ≤ 100 * result.den }
         ensures den { 0 < result.den }
     {
@@ -83,8 +83,8 @@ impl<T: Counter> Histogram<T> {
     /// exact sum over `len`. Returns 0/1 if `len` is 0. Returns `None` if `len` is `u64::MAX`,
     /// which may be a saturated total.
     pub fn mean(&self) -> Option<Fraction>
-        ensures value { result ≡ mean_of self.now }
-        ensures den { IfSome result (λ mean. 0 < mean.den) }
+        ensures value { result ≡ mean self.now }
+        ensures den { IfSome result (λ m. 0 < m.den) }
     {
         if self.total == u64::MAX {
             return None;
@@ -101,7 +101,7 @@ impl<T: Counter> Histogram<T> {
     /// Returns the sum of the counters, each times the value in the middle of its class.
     fn weighed(&self) -> u128
         requires { self.now.total < 2 ^ 64 - 1 }
-        ensures { result ≡ weight_from (grain self.now) 0 self.now.counts }
+        ensures { result ≡ weight_from (resolution self.now) 0 self.now.counts }
     {
         let mut sum: u128 = 0;
         let mut bin = self.counts.next_filled(0);

@@ -3,11 +3,11 @@
 ghost use Rattle.std.specs.Prelude.{◌≡◌, ℕ, ◌+◌, ◌-◌, ◌<◌, ◌≤◌, OnOk, IfErr, All, true, false, slice_index, slice_set, length};
 ghost use Rattle.hdr_base.specs.Classes.{bin_of, value_of};
 ghost use Rattle.hdr_model.specs.Marks.{IsTopMark, IsLowerMark};
-ghost use Rattle.hdr_model.specs.Plain.{grain, reach, max_of};
+ghost use Rattle.hdr_model.specs.Plain.{resolution, reach, max_of};
 ghost use Rattle.hdr_model.specs.Merging.{lowest_values};
 ghost use Rattle.hdr_model.specs.Samples.{in_class};
 ghost use Rattle.hdr_model.specs.Subtracting.{IsDifference};
-ghost use Rattle.hdr_model.specs.Refusals.{RefusesSubtraction};
+ghost use Rattle.hdr_model.specs.Refusals.{IsSubtractionError};
 
 use super::Histogram;
 use super::merging::capped_sum;
@@ -26,8 +26,8 @@ impl<T: Counter> Histogram<T> {
     pub fn subtract(&mut self, other: &Histogram<T>) -> Result<(), SubtractionError>
         ensures none { other.now.total ≡ 0 → OnOk result (self.new ≡ self.old) }
         ensures ok { OnOk result (0 < other.now.total → IsDifference self.old other.now self.new) }
-        ensures can { OnOk result (0 < other.now.total → max_of other.now ≤ reach self.old) }
-        ensures refused { IfErr result (λ e. RefusesSubtraction self.old other.now e
+        ensures accepted { OnOk result (0 < other.now.total → max_of other.now ≤ reach self.old) }
+        ensures err { IfErr result (λ e. IsSubtractionError self.old other.now e
             × (self.new ≡ self.old)) }
     {
         if other.total == 0 {
@@ -48,10 +48,10 @@ impl<T: Counter> Histogram<T> {
     fn holds(&self, other: &Histogram<T>) -> bool
         requires { max_of other.now ≤ reach self.now }
         ensures yes { result ≡ true → (j : ℕ)
-            → in_class (grain self.now) j (lowest_values other.now)
+            → in_class (resolution self.now) j (lowest_values other.now)
             ≤ slice_index self.now.counts j }
         ensures no { result ≡ false → (j : ℕ)
-            × (slice_index self.now.counts j < in_class (grain self.now) j
+            × (slice_index self.now.counts j < in_class (resolution self.now) j
             (lowest_values other.now)) }
     {
         let mut at: usize = 0;
@@ -74,8 +74,8 @@ impl<T: Counter> Histogram<T> {
     /// Returns the bin of the lowest value of a class of `other`.
     fn bin_of_class(&self, other: &Histogram<T>, bin: usize) -> usize
         requires inside { bin < length other.now.counts }
-        requires reached { value_of (grain other.now) bin ≤ reach self.now }
-        ensures value { result ≡ bin_of (grain self.now) (value_of (grain other.now) bin) }
+        requires reached { value_of (resolution other.now) bin ≤ reach self.now }
+        ensures value { result ≡ bin_of (resolution self.now) (value_of (resolution other.now) bin) }
         ensures bound { result < length self.now.counts }
     {
         self.scale.bin(other.class_value(bin))
@@ -83,7 +83,7 @@ impl<T: Counter> Histogram<T> {
 
     /// Subtracts what `other` holds, if each bin has enough.
     fn take_out(&mut self, other: &Histogram<T>)
-        requires { (j : ℕ) → in_class (grain self.old) j (lowest_values other.now)
+        requires { (j : ℕ) → in_class (resolution self.old) j (lowest_values other.now)
             ≤ slice_index self.old.counts j }
         ensures { IsDifference self.old other.now self.new }
     {

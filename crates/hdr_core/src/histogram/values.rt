@@ -3,7 +3,7 @@
 ghost use Rattle.std.specs.Prelude.{◌≡◌, ℕ, ◌*◌, ◌^◌, ◌<◌, ◌≤◌, List, map, length};
 ghost use Rattle.std.specs.Iterator.{YieldsFirst, item_count};
 ghost use Rattle.hdr_model.specs.Samples.{StandsFor};
-ghost use Rattle.hdr_model.specs.Quantiles.{per, hundredth, is_below, nothing_of_it, asked_from, quantiles_of, AreTopsNear};
+ghost use Rattle.hdr_model.specs.Quantiles.{per, hundredth, is_below, nothing_of_it, asked_from, value_at_quantiles, AreTopsNear};
 
 use super::Histogram;
 use super::quantiles::rank_of;
@@ -40,7 +40,7 @@ impl<T: Counter> Histogram<T> {
     /// order, by one pass. It ends before the first quantile that is below the one before it. If
     /// `len` is 0, it yields 0 for each of them, in any order.
     pub fn value_at_quantiles<'a>(&'a self, quantiles: &'a [Quantile]) -> Values<'a, T>
-        ensures value { result ≡ quantiles_of self.now quantiles.now }
+        ensures value { result ≡ value_at_quantiles self.now quantiles.now }
         ensures ranked { (S : List ℕ) → StandsFor self.now S → 0 < length S
             → AreTopsNear self.now S (asked_from self.now nothing_of_it quantiles.now) result }
     {
@@ -49,7 +49,7 @@ impl<T: Counter> Histogram<T> {
 
     /// As `value_at_quantiles`, for percentiles.
     pub fn value_at_percentiles<'a>(&'a self, percentiles: &'a [Quantile]) -> Values<'a, T>
-        ensures value { result ≡ quantiles_of self.now (map hundredth percentiles.now) }
+        ensures value { result ≡ value_at_quantiles self.now (map hundredth percentiles.now) }
         ensures ranked { (S : List ℕ) → StandsFor self.now S → 0 < length S
             → AreTopsNear self.now S (asked_from self.now nothing_of_it
             (map hundredth percentiles.now)) result }
@@ -59,9 +59,9 @@ impl<T: Counter> Histogram<T> {
 
     /// Returns an iterator over the values at fractions of 1 or 100.
     fn values<'a>(&'a self, shares: &'a [Quantile], whole: u64) -> Values<'a, T>
-        requires some { 0 < whole }
-        requires few { whole ≤ 100 }
-        ensures value { result ≡ quantiles_of self.now (map (per whole) shares.now) }
+        requires nonzero { 0 < whole }
+        requires at_most { whole ≤ 100 }
+        ensures value { result ≡ value_at_quantiles self.now (map (per whole) shares.now) }
         ensures ranked { (S : List ℕ) → StandsFor self.now S → 0 < length S
             → AreTopsNear self.now S (asked_from self.now nothing_of_it
             (map (per whole) shares.now)) result }
@@ -95,13 +95,13 @@ impl<'a, T: Counter> Iterator for Values<'a, T> {
         let num = share.num();
         let den = share.den();
         let rank = rank_of(num, u128::from(den) * u128::from(self.whole), total);
-        let place = self.search.first_reaching(rank);
+        let place = self.search.next_position(rank);
         self.rest = rest;
         self.last = Fraction {
             num: u128::from(num),
             den: u128::from(den),
         };
-        Some(histogram.answer_found(num, rank, place))
+        Some(histogram.value_at_rank(num, rank, place))
     }
 }
 

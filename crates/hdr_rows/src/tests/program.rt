@@ -1,7 +1,7 @@
 //! The program over readers and writers that read or write few bytes a call, and that fail.
 
 use crate::tests::failing::{KINDS, Sink, Source};
-use hdr_tool::{Fault, Patient, run};
+use hdr_tool::{Fault, RetryWriter, run};
 use std::alloc::{AllocError, Global};
 use std::io::ErrorKind;
 use std::process::Abort;
@@ -168,11 +168,11 @@ fn each_write_fails(rt: HostRuntime) -> Result<(), Fail> {
 fn passes(alloc: Global, line: &str, input: &[u8], output: &str) -> Result<bool, AllocError> {
     let words = words_of(alloc, line)?;
     let mut source = Source::new(input, 7, 2, ErrorKind::Interrupted);
-    let mut patient = Patient {
+    let mut retry = RetryWriter {
         writer: Sink::new(10, 2, Some(ErrorKind::Interrupted)),
     };
-    let ran = run(alloc, words.as_slice(), &mut source, &mut patient);
-    Ok(ran.is_ok() && patient.writer.text() == output.as_bytes())
+    let ran = run(alloc, words.as_slice(), &mut source, &mut retry);
+    Ok(ran.is_ok() && retry.writer.text() == output.as_bytes())
 }
 
 /// An output that does not retry ends each command alike: `writes_fail` has that.

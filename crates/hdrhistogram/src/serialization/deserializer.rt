@@ -5,17 +5,17 @@ ghost use Rattle.std.specs.Io.KnownBytes.{Consumes};
 ghost use Rattle.hdrhistogram.specs.Defects.{Gives, TakesAs, Checks, FailsBy, TakesNoMore, RunsOutOnly, defect_of_error};
 ghost use Rattle.hdrhistogram.specs.V2Read.{HasBounds, creation_defect, bounds_defect, bins_for, bytes_at, v2_at, told_by, told_of, IsRestated, IsReadAs};
 ghost use Rattle.hdrhistogram.specs.HeaderView.{header_of};
-ghost use Rattle.hdrhistogram.specs.FieldRead.{IsHeldIn, RefusesDecoding};
+ghost use Rattle.hdrhistogram.specs.FieldRead.{IsHeldIn, IsFieldDecodeError};
 
 pub use crate::serialization::errors::{DeserializeError, FieldDecodeError};
 use crate::serialization::fields::{Header, ended, header_at, read_header};
-use crate::serialization::filling::filled;
 use crate::serialization::header::HEADER_LEN;
+use crate::serialization::payload_decoder::decode_payload;
 use crate::serialization::streams::read_piece;
 pub use crate::serialization::varint::{varint_read, varint_read_slice};
 pub use crate::serialization::zig_zag::zig_zag_decode;
 use hdr_base::Counter;
-use hdr_core::{CreationError, Filling, Histogram};
+use hdr_core::{CreationError, Histogram, HistogramBuilder};
 use hdr_log::field::{FieldError, decode_into};
 use std::alloc::Global;
 use std::io::Read;
@@ -63,10 +63,10 @@ impl Deserializer {
         text: &[u8],
     ) -> Result<(Histogram<T>, usize), DeserializeError>
         ensures read { IfOk result (λ found. IsReadAs T.greatest text.now found.0 found.1) }
-        ensures refused { IfErr result (λ e. FailsBy (defect_of_error e)
+        ensures err { IfErr result (λ e. FailsBy (defect_of_error e)
             (v2_at T.greatest text.now)) }
         ensures memory { IfErr result (RunsOutOnly (HasBounds text.now)) }
-        ensures kept { self.new ≡ self.old }
+        ensures unchanged { self.new ≡ self.old }
     {
         decode_front(*self.payload.allocator(), text, None)
     }
@@ -86,7 +86,7 @@ impl Deserializer {
         ensures read { IfOk result (λ h. (taken : List ℕ)
             × Consumes (R.remaining reader.old) (R.remaining reader.new) taken
             × IsReadAs T.greatest taken h (length taken)) }
-        ensures refused { IfErr result (λ e. (taken : List ℕ)
+        ensures err { IfErr result (λ e. (taken : List ℕ)
             × Consumes (R.remaining reader.old) (R.remaining reader.new) taken
             × FailsBy (defect_of_error e) (v2_at T.greatest taken)
             × TakesNoMore (v2_at T.greatest) taken) }
@@ -113,7 +113,7 @@ impl Deserializer {
         field: &str,
     ) -> Result<Histogram<T>, FieldDecodeError>
         ensures read { MatchResult result (IsHeldIn T.greatest field.now)
-            (RefusesDecoding T.greatest field.now) }
+            (IsFieldDecodeError T.greatest field.now) }
         ensures as_new { self.new ≡ [] }
     {
         self.decode_field_into(field, None)
@@ -126,7 +126,7 @@ impl Deserializer {
         spare: Option<Histogram<T>>,
     ) -> Result<Histogram<T>, FieldDecodeError>
         ensures read { MatchResult result (IsHeldIn T.greatest field.now)
-            (RefusesDecoding T.greatest field.now) }
+            (IsFieldDecodeError T.greatest field.now) }
         ensures as_new { self.new ≡ [] }
     {
         let read = read_field(field, &mut self.payload, spare);
@@ -142,7 +142,7 @@ fn read_field<T: Counter>(
     spare: Option<Histogram<T>>,
 ) -> Result<Histogram<T>, FieldDecodeError>
     ensures { MatchResult result (IsHeldIn T.greatest field.now)
-        (RefusesDecoding T.greatest field.now) }
+        (IsFieldDecodeError T.greatest field.now) }
 {
     match decode_into(field, buffer) {
         Ok(()) => {}
@@ -162,7 +162,7 @@ fn empty_for<T: Counter>(
     alloc: Global,
     header: Header,
     spare: Option<Histogram<T>>,
-) -> Result<Filling<T>, DeserializeError>
+) -> Result<HistogramBuilder<T>, DeserializeError>
     // The error.
     ensures bounds { Checks result (bounds_defect (header_of header)) }
     ensures memory { IfErr result (RunsOutOnly (bounds_defect (header_of header) ≡ None)) }
@@ -180,11 +180,11 @@ fn empty_for<T: Counter>(
 {
     if let Some(histogram) = spare {
         if has_bounds(&histogram, header) {
-            return Ok(Filling::emptied(histogram));
+            return Ok(HistogramBuilder::emptied(histogram));
         }
     }
-    match Filling::new_with_bounds(alloc, header.low, header.high, header.sigfig) {
-        Ok(filling) => Ok(filling),
+    match HistogramBuilder::new_with_bounds(alloc, header.low, header.high, header.sigfig) {
+        Ok(builder) => Ok(builder),
         Err(error) => Err(refused(error)),
     }
 }
@@ -228,7 +228,7 @@ fn decode_front<T: Counter>(
     spare: Option<Histogram<T>>,
 ) -> Result<(Histogram<T>, usize), DeserializeError>
     ensures read { IfOk result (λ found. IsReadAs T.greatest text.now found.0 found.1) }
-    ensures refused { IfErr result (λ e. FailsBy (defect_of_error e) (v2_at T.greatest text.now)) }
+    ensures err { IfErr result (λ e. FailsBy (defect_of_error e) (v2_at T.greatest text.now)) }
     ensures memory { IfErr result (RunsOutOnly (HasBounds text.now)) }
 {
     let (h, rest) = decode(alloc, text, spare)?;
@@ -250,7 +250,7 @@ fn decode<T: Counter>(
     let (header, rest) = header_at(text)?;
     let empty = empty_for(alloc, header, spare)?;
     let (payload, rest) = bytes_at(rest, header.payload_len as usize)?;
-    let h = filled(empty, payload)?;
+    let h = decode_payload(empty, payload)?;
     Ok((h, rest))
 }
 
@@ -271,7 +271,7 @@ fn read_v2<T: Counter, R: Read>(
     let header = read_header(reader)?;
     let empty = empty_for(*buffer.allocator(), header, None)?;
     read_payload(reader, buffer, header.payload_len as usize)?;
-    let h = filled(empty, buffer)?;
+    let h = decode_payload(empty, buffer)?;
     Ok(h)
 }
 

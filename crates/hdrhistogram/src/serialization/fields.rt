@@ -7,7 +7,7 @@ ghost use Rattle.hdrhistogram.specs.HeaderView.{header_of};
 
 use crate::serialization::errors::DeserializeError;
 use crate::serialization::header::{COOKIE, RATIO};
-use crate::serialization::streams::read_whole;
+use crate::serialization::streams::read_exact;
 use byteorder::{BigEndian, ByteOrder};
 use std::io::{self, ErrorKind, Read};
 
@@ -26,7 +26,7 @@ pub(crate) struct Header {
 /// Returns the error of bytes that end too soon.
 pub(crate) fn ended() -> DeserializeError
     ensures defect { defect_of_error result ≡ Some cut }
-    ensures named { RunsOutOnly ⊥ result }
+    ensures no_out_of_memory { RunsOutOnly ⊥ result }
 {
     DeserializeError::IoError(io::Error::from(ErrorKind::UnexpectedEof))
 }
@@ -34,7 +34,7 @@ pub(crate) fn ended() -> DeserializeError
 #[tactic(auto, unfolding(crate::specs::V2Read::cookie_defect))]
 fn check_cookie(cookie: u32) -> Result<(), DeserializeError>
     ensures defect { Checks result (cookie_defect cookie) }
-    ensures named { IfErr result (RunsOutOnly ⊥) }
+    ensures no_out_of_memory { IfErr result (RunsOutOnly ⊥) }
 {
     if cookie == COOKIE {
         Ok(())
@@ -48,7 +48,7 @@ fn check_cookie(cookie: u32) -> Result<(), DeserializeError>
 #[tactic(auto, unfolding(crate::specs::V2Read::offset_defect))]
 fn check_offset(offset: u32) -> Result<(), DeserializeError>
     ensures defect { Checks result (offset_defect offset) }
-    ensures named { IfErr result (RunsOutOnly ⊥) }
+    ensures no_out_of_memory { IfErr result (RunsOutOnly ⊥) }
 {
     if offset == 0 {
         Ok(())
@@ -60,7 +60,7 @@ fn check_offset(offset: u32) -> Result<(), DeserializeError>
 #[tactic(auto, unfolding(crate::specs::V2Read::sigfig_defect))]
 fn check_sigfig(sigfig: u32) -> Result<u8, DeserializeError>
     ensures defect { Checks result (sigfig_defect sigfig) }
-    ensures named { IfErr result (RunsOutOnly ⊥) }
+    ensures no_out_of_memory { IfErr result (RunsOutOnly ⊥) }
     ensures value { IfOk result (λ n. n ≡ sigfig) }
 {
     if sigfig > 255 {
@@ -73,7 +73,7 @@ fn check_sigfig(sigfig: u32) -> Result<u8, DeserializeError>
 #[tactic(auto, unfolding(crate::specs::V2Read::ratio_defect))]
 fn check_ratio(ratio: u64) -> Result<(), DeserializeError>
     ensures defect { Checks result (ratio_defect ratio) }
-    ensures named { IfErr result (RunsOutOnly ⊥) }
+    ensures no_out_of_memory { IfErr result (RunsOutOnly ⊥) }
 {
     if ratio == RATIO {
         Ok(())
@@ -86,7 +86,7 @@ fn check_ratio(ratio: u64) -> Result<(), DeserializeError>
 #[tactic(auto, unfolding(crate::specs::V2Read::four_at, crate::specs::V2Read::four_of))]
 fn four_at(text: &[u8]) -> Result<(u32, &[u8]), DeserializeError>
     ensures read { Gives (λ x. (x.0, x.1.now)) result (four_at text.now) }
-    ensures named { IfErr result (RunsOutOnly ⊥) }
+    ensures no_out_of_memory { IfErr result (RunsOutOnly ⊥) }
 {
     if text.len() < 4 {
         return Err(ended());
@@ -98,7 +98,7 @@ fn four_at(text: &[u8]) -> Result<(u32, &[u8]), DeserializeError>
 #[tactic(auto, unfolding(crate::specs::V2Read::eight_at, crate::specs::V2Read::eight_of))]
 fn eight_at(text: &[u8]) -> Result<(u64, &[u8]), DeserializeError>
     ensures read { Gives (λ x. (x.0, x.1.now)) result (eight_at text.now) }
-    ensures named { IfErr result (RunsOutOnly ⊥) }
+    ensures no_out_of_memory { IfErr result (RunsOutOnly ⊥) }
 {
     if text.len() < 8 {
         return Err(ended());
@@ -110,7 +110,7 @@ fn eight_at(text: &[u8]) -> Result<(u64, &[u8]), DeserializeError>
 #[tactic(auto, unfolding(crate::specs::V2Read::header_at))]
 pub(crate) fn header_at(text: &[u8]) -> Result<(Header, &[u8]), DeserializeError>
     ensures read { Gives (λ x. (header_of x.0, x.1.now)) result (header_at text.now) }
-    ensures named { IfErr result (RunsOutOnly ⊥) }
+    ensures no_out_of_memory { IfErr result (RunsOutOnly ⊥) }
 {
     let (cookie, text) = four_at(text)?;
     check_cookie(cookie)?;
@@ -135,27 +135,27 @@ pub(crate) fn header_at(text: &[u8]) -> Result<(Header, &[u8]), DeserializeError
 /// Reads a field of four bytes.
 fn read_four<R: Read>(reader: &mut R) -> Result<u32, DeserializeError>
     ensures read { TakesAs (R.remaining reader.old) (R.remaining reader.new) (λ n. n) four_at result }
-    ensures named { IfErr result (RunsOutOnly ⊥) }
+    ensures no_out_of_memory { IfErr result (RunsOutOnly ⊥) }
 {
     let mut bytes = [0u8; 4];
-    read_whole(reader, &mut bytes)?;
+    read_exact(reader, &mut bytes)?;
     Ok(BigEndian::read_u32(&bytes))
 }
 
 /// Reads a field of eight bytes.
 fn read_eight<R: Read>(reader: &mut R) -> Result<u64, DeserializeError>
     ensures read { TakesAs (R.remaining reader.old) (R.remaining reader.new) (λ n. n) eight_at result }
-    ensures named { IfErr result (RunsOutOnly ⊥) }
+    ensures no_out_of_memory { IfErr result (RunsOutOnly ⊥) }
 {
     let mut bytes = [0u8; 8];
-    read_whole(reader, &mut bytes)?;
+    read_exact(reader, &mut bytes)?;
     Ok(BigEndian::read_u64(&bytes))
 }
 
 /// Reads a header, and consumes no byte after it.
 pub(crate) fn read_header<R: Read>(reader: &mut R) -> Result<Header, DeserializeError>
     ensures read { TakesAs (R.remaining reader.old) (R.remaining reader.new) header_of header_at result }
-    ensures named { IfErr result (RunsOutOnly ⊥) }
+    ensures no_out_of_memory { IfErr result (RunsOutOnly ⊥) }
 {
     let cookie = read_four(reader)?;
     check_cookie(cookie)?;

@@ -20,7 +20,7 @@ pub(crate) const RATIO: u64 = 0x3ff0_0000_0000_0000;
 fn put_u32(buf: &mut [u8], at: usize, number: u32)
     requires { at + 4 ≤ length buf.old }
     ensures front { take (at + 4) buf.new ≡ take at buf.old ++ four number }
-    ensures kept { (k : ℕ) → at + 4 ≤ k → drop k buf.new ≡ drop k buf.old }
+    ensures unchanged { (k : ℕ) → at + 4 ≤ k → drop k buf.new ≡ drop k buf.old }
 {
     BigEndian::write_u32(&mut buf[at..], number);
 }
@@ -29,7 +29,7 @@ fn put_u32(buf: &mut [u8], at: usize, number: u32)
 fn put_u64(buf: &mut [u8], at: usize, number: u64)
     requires { at + 8 ≤ length buf.old }
     ensures front { take (at + 8) buf.new ≡ take at buf.old ++ eight number }
-    ensures kept { (k : ℕ) → at + 8 ≤ k → drop k buf.new ≡ drop k buf.old }
+    ensures unchanged { (k : ℕ) → at + 8 ≤ k → drop k buf.new ≡ drop k buf.old }
 {
     BigEndian::write_u64(&mut buf[at..], number);
 }

@@ -32,7 +32,7 @@ pub fn counts_array_max_encoded_size(length: usize) -> Option<usize>
 pub(crate) fn written_bins<T: Counter>(h: &Histogram<T>) -> usize
     ensures value { result ≡ written_bins h.now }
     ensures within { result ≤ length h.now.counts }
-    ensures few { result ≤ most_bins }
+    ensures at_most { result ≤ most_bins }
     ensures plain { IsPlain T.greatest h.now }
 {
     let bins = h.distinct_values();
@@ -47,7 +47,7 @@ pub(crate) fn written_bins<T: Counter>(h: &Histogram<T>) -> usize
 pub(crate) fn payload_room<T: Counter>(h: &Histogram<T>) -> usize
     ensures enough { enough_bytes (written_counts h.now) ≤ result }
     ensures near { result ≤ max 1048576 (enough_bytes (written_counts h.now)) }
-    ensures few { result ≤ 9 * most_bins }
+    ensures at_most { result ≤ 9 * most_bins }
 {
     let bins = written_bins(h);
     if 9 * bins <= SMALL_ROOM {
@@ -59,7 +59,7 @@ pub(crate) fn payload_room<T: Counter>(h: &Histogram<T>) -> usize
 /// Returns the number of nonzero counters.
 fn nonempty<T: Counter>(counters: &[T]) -> usize
     ensures value { result ≡ nonempty (map T.number counters.now) }
-    ensures few { result ≤ length counters.now }
+    ensures at_most { result ≤ length counters.now }
 {
     let mut full = 0;
     for counter in counters {
@@ -83,11 +83,11 @@ fn count_of<T: Counter>(counters: &[T], bin: usize) -> u64
 #[inline]
 fn put_number(buf: &mut [u8], at: usize, number: u64) -> usize
     requires { at + 9 ≤ length buf.old }
-    ensures few { result ≤ at + 9 }
+    ensures at_most { result ≤ at + 9 }
     ensures further { at ≤ result }
     ensures front { (text : List ℕ) × IsShortest text number
         × (take result buf.new ≡ take at buf.old ++ text) }
-    ensures kept { drop result buf.new ≡ drop result buf.old }
+    ensures unchanged { drop result buf.new ≡ drop result buf.old }
 {
     at + varint_write(number, &mut buf[at..])
 }
@@ -97,16 +97,16 @@ fn put_number(buf: &mut [u8], at: usize, number: u64) -> usize
 #[inline]
 fn put_run(buf: &mut [u8], at: usize, empty: u64) -> usize
     // A run that is not empty, nine bytes for it, and a number that zig-zag encodes.
-    requires some { 1 ≤ empty }
-    requires room { at + 9 ≤ length buf.old }
+    requires nonzero { 1 ≤ empty }
+    requires capacity { at + 9 ≤ length buf.old }
     requires fits { empty < 2 ^ 63 }
     // The offset after it.
-    ensures few { result ≤ at + 9 }
+    ensures at_most { result ≤ at + 9 }
     ensures further { at ≤ result }
     // The bytes that are written, and those after them.
     ensures front { (text : List ℕ) × IsRunText empty text
         × (take result buf.new ≡ take at buf.old ++ text) }
-    ensures kept { drop result buf.new ≡ drop result buf.old }
+    ensures unchanged { drop result buf.new ≡ drop result buf.old }
 {
     match empty {
         1 => put_number(buf, at, 0),
@@ -130,9 +130,9 @@ pub fn encode_counts<T: Counter>(
 ) -> Result<usize, V2SerializeError>
     requires { 9 * written_bins h.now ≤ length buf.old }
     ensures written { IfOk result (WritesFront (IsPayload (written_counts h.now)) buf.old buf.new) }
-    ensures few { IfOk result (λ n. (n ≤ 9 * written_bins h.now) × (n ≤ 9 * most_bins)) }
+    ensures at_most { IfOk result (λ n. (n ≤ 9 * written_bins h.now) × (n ≤ 9 * most_bins)) }
     ensures ok { OnOk result (All (λ n. n < 2 ^ 63) h.now.counts) }
-    ensures refused { IfErr result (λ e. (e ≡ V2SerializeError.CountNotSerializable)
+    ensures err { IfErr result (λ e. (e ≡ V2SerializeError.CountNotSerializable)
         × HasTooGreatCount h.now) }
 {
     encode_within(h, buf)
@@ -145,9 +145,9 @@ pub(crate) fn encode_within<T: Counter>(
 ) -> Result<usize, V2SerializeError>
     requires { enough_bytes (written_counts h.now) ≤ length buf.old }
     ensures written { IfOk result (WritesFront (IsPayload (written_counts h.now)) buf.old buf.new) }
-    ensures few { IfOk result (λ n. (n ≤ 9 * written_bins h.now) × (n ≤ 9 * most_bins)) }
+    ensures at_most { IfOk result (λ n. (n ≤ 9 * written_bins h.now) × (n ≤ 9 * most_bins)) }
     ensures ok { OnOk result (All (λ n. n < 2 ^ 63) h.now.counts) }
-    ensures refused { IfErr result (λ e. (e ≡ V2SerializeError.CountNotSerializable)
+    ensures err { IfErr result (λ e. (e ≡ V2SerializeError.CountNotSerializable)
         × HasTooGreatCount h.now) }
 {
     let bins = written_bins(h);

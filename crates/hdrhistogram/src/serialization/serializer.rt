@@ -19,12 +19,12 @@ pub trait Serializer {
 
     /// Whether writing a histogram may fail with this error, whatever the writer holds; any error
     /// if it is left out.
-    ghost refuses: { Plain → Self.SerializeError → Type 0 } = { λ _ _. Unit {0} };
+    ghost may_fail_with: { Plain → Self.SerializeError → Type 0 } = { λ _ _. Unit {0} };
 
     /// Writes all of the histogram to `writer`, and returns the number of bytes written.
     ///
     /// # Errors
-    /// Returns an error that `refuses` allows. What is then written is unspecified.
+    /// Returns an error that `may_fail_with` allows. What is then written is unspecified.
     fn serialize<T: Counter, W: Write>(
         &mut self,
         h: &Histogram<T>,
@@ -33,5 +33,5 @@ pub trait Serializer {
         ensures written { IfOk result (λ n. (bytes : List ℕ)
             × writes h.now bytes × (n ≡ length bytes)
             × Appends (W.contents writer.old) (W.contents writer.new) bytes) }
-        ensures why { IfErr result (refuses h.now) };
+        ensures cause { IfErr result (may_fail_with h.now) };
 }

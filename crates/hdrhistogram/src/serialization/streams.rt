@@ -10,7 +10,7 @@ use std::io::{self, ErrorKind, Read, Write};
 
 /// As `Write::write_all`, but an interrupted write is an error. On error a proper prefix of `text`
 /// is written.
-pub(crate) fn write_whole<W: Write>(writer: &mut W, text: &[u8]) -> io::Result<()>
+pub(crate) fn write_all<W: Write>(writer: &mut W, text: &[u8]) -> io::Result<()>
     ensures ok { OnOk result (Appends (W.contents writer.old) (W.contents writer.new) text.now) }
     ensures err { OnErr result
         (AppendsFront (W.contents writer.old) (W.contents writer.new) text.now) }
@@ -28,7 +28,7 @@ pub(crate) fn write_whole<W: Write>(writer: &mut W, text: &[u8]) -> io::Result<(
 
 /// As `Read::read_exact`, but an interrupted read is an error. On error fewer bytes are consumed
 /// than `buffer` has.
-pub(crate) fn read_whole<R: Read>(reader: &mut R, buffer: &mut [u8]) -> io::Result<()>
+pub(crate) fn read_exact<R: Read>(reader: &mut R, buffer: &mut [u8]) -> io::Result<()>
     ensures ok { OnOk result
         (Consumes (R.remaining reader.old) (R.remaining reader.new) buffer.new) }
     ensures err { OnErr result
@@ -62,7 +62,7 @@ pub(crate) fn read_piece<R: Read>(
     ensures err { IfErr result (λ e. IsStreamError e
         × ConsumesFewer (R.remaining reader.old) (R.remaining reader.new) left) }
     ensures bounded { vec_len buffer.new ≤ vec_len buffer.old + 4096 }
-    ensures room { vec_capacity buffer.new ≤ max (vec_capacity buffer.old)
+    ensures capacity { vec_capacity buffer.new ≤ max (vec_capacity buffer.old)
         (vec_len buffer.old + 4096) }
 {
     let start = buffer.len();
@@ -70,7 +70,7 @@ pub(crate) fn read_piece<R: Read>(
     let Ok(()) = push_zeros(buffer, piece) else {
         return Err(DeserializeError::OutOfMemory);
     };
-    read_whole(reader, &mut buffer[start..])?;
+    read_exact(reader, &mut buffer[start..])?;
     Ok(())
 }
 
@@ -80,7 +80,7 @@ fn push_zeros(buffer: &mut Vec<u8>, count: usize) -> Result<(), AllocError>
     ensures ok { OnOk result (buffer.new.items ≡ buffer.old.items ++ replicate count 0) }
     ensures len { OnOk result (vec_len buffer.new ≡ vec_len buffer.old + count) }
     ensures err { OnErr result (vec_len buffer.new ≡ vec_len buffer.old) }
-    ensures room { vec_capacity buffer.new ≤ max (vec_capacity buffer.old)
+    ensures capacity { vec_capacity buffer.new ≤ max (vec_capacity buffer.old)
         (vec_len buffer.old + count) }
 {
     buffer.reserve_exact(count)?;

@@ -5,14 +5,14 @@ ghost use Rattle.std.specs.Io.KnownBytes.{Appends};
 ghost use Rattle.hdr_base.specs.Classes.{most_bins};
 ghost use Rattle.hdrhistogram.specs.Payload.{enough_bytes};
 ghost use Rattle.hdrhistogram.specs.V2.{IsV2, HasTooGreatCount, written_bins, written_counts};
-ghost use Rattle.hdrhistogram.specs.SerializeRefusals.{RefusesBytes, RefusesNamed, RefusesWriting};
+ghost use Rattle.hdrhistogram.specs.SerializeRefusals.{IsToBytesError, IsSerializeError, SerializeFails};
 
 pub use crate::serialization::errors::V2SerializeError;
 use crate::serialization::header::{HEADER_LEN, write_header};
 use crate::serialization::payload::{encode_within, payload_room};
 pub use crate::serialization::payload::{counts_array_max_encoded_size, encode_counts};
 use crate::serialization::serializer::Serializer;
-use crate::serialization::streams::write_whole;
+use crate::serialization::streams::write_all;
 pub use crate::serialization::varint::varint_write;
 pub use crate::serialization::zig_zag::{zig_zag_decode, zig_zag_encode};
 use hdr_base::Counter;
@@ -59,10 +59,10 @@ impl V2Serializer {
     /// bytes.
     fn fill<T: Counter>(&mut self, h: &Histogram<T>) -> Result<(), V2SerializeError>
         ensures bytes { OnOk result (IsV2 h.now self.new) }
-        ensures few { OnOk result ((length self.new ≤ 40 + 9 * written_bins h.now)
+        ensures at_most { OnOk result ((length self.new ≤ 40 + 9 * written_bins h.now)
             × (length self.new ≤ 40 + 9 * most_bins)) }
         ensures ok { OnOk result (All (λ n. n < 2 ^ 63) h.now.counts) }
-        ensures refused { IfErr result (λ e. RefusesBytes h.now e × (self.new ≡ [])) }
+        ensures err { IfErr result (λ e. IsToBytesError h.now e × (self.new ≡ [])) }
     {
         self.len = 0;
         if make_room(&mut self.buffer, HEADER_LEN + payload_room(h)).is_err() {
@@ -84,10 +84,10 @@ impl V2Serializer {
     /// says so is starred, for proofs of borrows alone.
     pub fn to_bytes<T: Counter>(&mut self, h: &Histogram<T>) -> Result<&[u8], V2SerializeError>
         ensures bytes { IfOk result (λ bytes. IsV2 h.now bytes.now) }
-        ensures few { IfOk result (λ bytes. (length bytes.now ≤ 40 + 9 * written_bins h.now)
+        ensures at_most { IfOk result (λ bytes. (length bytes.now ≤ 40 + 9 * written_bins h.now)
             × (length bytes.now ≤ 40 + 9 * most_bins)) }
         ensures ok { OnOk result (All (λ n. n < 2 ^ 63) h.now.counts) }
-        ensures refused { IfErr result (RefusesBytes h.now) }
+        ensures err { IfErr result (IsToBytesError h.now) }
         ensures* after { sem 𝓛 (ends_lending self.entry result) }
     {
         self.fill(h)?;
@@ -100,7 +100,7 @@ impl Serializer for V2Serializer {
 
     ghost writes = { IsV2 };
 
-    ghost refuses = { RefusesNamed };
+    ghost may_fail_with = { IsSerializeError };
 
     /// Writes the V2 bytes of a histogram, and returns their number. All of them are in the buffer
     /// before the first is written, by single calls of `write`.
@@ -116,16 +116,16 @@ impl Serializer for V2Serializer {
     ) -> Result<usize, V2SerializeError>
         ensures written { IfOk result (λ n. (bytes : List ℕ) × IsV2 h.now bytes × (n ≡ length bytes)
             × Appends (W.contents writer.old) (W.contents writer.new) bytes) }
-        ensures few { IfOk result
+        ensures at_most { IfOk result
             (λ n. (n ≤ 40 + 9 * written_bins h.now) × (n ≤ 40 + 9 * most_bins)) }
         ensures ok { OnOk result (All (λ n. n < 2 ^ 63) h.now.counts) }
         ensures held { OnOk result (IsV2 h.now self.new) }
-        ensures refused { IfErr result (λ e. (self.new ≡ [])
-            × RefusesWriting h.now (W.contents writer.old) (W.contents writer.new) e) }
-        ensures why { IfErr result (RefusesNamed h.now) }
+        ensures err { IfErr result (λ e. (self.new ≡ [])
+            × SerializeFails h.now (W.contents writer.old) (W.contents writer.new) e) }
+        ensures cause { IfErr result (IsSerializeError h.now) }
     {
         self.fill(h)?;
-        match write_whole(writer, &self.buffer[..self.len]) {
+        match write_all(writer, &self.buffer[..self.len]) {
             Ok(()) => Ok(self.len),
             Err(cause) => {
                 self.len = 0;
@@ -149,9 +149,9 @@ fn make_room(buffer: &mut Vec<u8>, room: usize) -> Result<(), AllocError>
 fn write_v2<T: Counter>(h: &Histogram<T>, buf: &mut [u8]) -> Result<usize, V2SerializeError>
     requires { 40 + enough_bytes (written_counts h.now) ≤ length buf.old }
     ensures written { IfOk result (λ n. (n ≤ length buf.new) × IsV2 h.now (take n buf.new)) }
-    ensures few { IfOk result (λ n. (n ≤ 40 + 9 * written_bins h.now) × (n ≤ 40 + 9 * most_bins)) }
+    ensures at_most { IfOk result (λ n. (n ≤ 40 + 9 * written_bins h.now) × (n ≤ 40 + 9 * most_bins)) }
     ensures ok { OnOk result (All (λ n. n < 2 ^ 63) h.now.counts) }
-    ensures refused { IfErr result (λ e. (e ≡ V2SerializeError.CountNotSerializable)
+    ensures err { IfErr result (λ e. (e ≡ V2SerializeError.CountNotSerializable)
         × HasTooGreatCount h.now) }
 {
     let payload_len = encode_within(h, &mut buf[HEADER_LEN..])?;

@@ -7,7 +7,7 @@ ghost use Rattle.hdrhistogram.specs.Streams.{WritesFront};
 ghost use Rattle.hdrhistogram.specs.Varint.{IsShortest, Spells};
 ghost use Rattle.hdrhistogram.specs.PayloadRead.{IsCut};
 
-use crate::serialization::streams::read_whole;
+use crate::serialization::streams::read_exact;
 use byteorder::{ByteOrder, LittleEndian};
 use std::io::{self, Read};
 
@@ -24,7 +24,7 @@ const SHORT_BELOW: u64 = 128 * 128;
 pub fn varint_write(n: u64, buf: &mut [u8]) -> usize
     requires { length buf.old < 9 → (text : List ℕ) → IsShortest text n → length text ≤ length buf.old }
     ensures written { WritesFront (λ text. IsShortest text n) buf.old buf.new result }
-    ensures few { result ≤ 9 }
+    ensures at_most { result ≤ 9 }
 {
     if n >= LAST_BELOW && n < SHORT_BELOW {
         LittleEndian::write_u16(buf, (n % 128 + 128 + n / 128 * 256) as u16);
@@ -43,7 +43,7 @@ pub fn varint_write(n: u64, buf: &mut [u8]) -> usize
 fn write_long(n: u64, buf: &mut [u8]) -> usize
     requires { (text : List ℕ) → IsShortest text n → length text ≤ length buf.old }
     ensures written { WritesFront (λ text. IsShortest text n) buf.old buf.new result }
-    ensures few { result ≤ 9 }
+    ensures at_most { result ≤ 9 }
 {
     let mut rest = n;
     for place in 0..8 {
@@ -62,7 +62,7 @@ fn write_long(n: u64, buf: &mut [u8]) -> usize
 /// varint's length. Returns `None` if `bytes` ends inside it.
 pub(crate) fn varint_at(bytes: &[u8]) -> Option<(u64, usize)>
     ensures within { IfSome result (λ found. found.1 ≤ length bytes.now) }
-    ensures few { IfSome result (λ found. found.1 ≤ 9) }
+    ensures at_most { IfSome result (λ found. found.1 ≤ 9) }
     ensures found { IfSome result (λ found. Spells (take found.1 bytes.now) found.0) }
     ensures cut { IfNone result (IsCut bytes.now) }
 {
@@ -77,7 +77,7 @@ pub(crate) fn varint_at(bytes: &[u8]) -> Option<(u64, usize)>
 #[inline(always)]
 pub(crate) fn short_varint_at(bytes: &[u8]) -> Option<(u64, usize)>
     ensures within { IfSome result (λ found. found.1 ≤ length bytes.now) }
-    ensures few { IfSome result (λ found. found.1 ≤ 2) }
+    ensures at_most { IfSome result (λ found. found.1 ≤ 2) }
     ensures found { IfSome result (λ found. Spells (take found.1 bytes.now) found.0) }
 {
     if bytes.len() < 2 {
@@ -97,7 +97,7 @@ pub(crate) fn short_varint_at(bytes: &[u8]) -> Option<(u64, usize)>
 #[inline(never)]
 fn read_long(bytes: &[u8]) -> Option<(u64, usize)>
     ensures within { IfSome result (λ found. found.1 ≤ length bytes.now) }
-    ensures few { IfSome result (λ found. found.1 ≤ 9) }
+    ensures at_most { IfSome result (λ found. found.1 ≤ 9) }
     ensures found { IfSome result (λ found. Spells (take found.1 bytes.now) found.0) }
     ensures cut { IfNone result (IsCut bytes.now) }
 {
@@ -121,7 +121,7 @@ fn read_long(bytes: &[u8]) -> Option<(u64, usize)>
 /// varint's length. `slice` must have nine bytes or more.
 pub fn varint_read_slice(slice: &[u8]) -> (u64, usize)
     requires { 9 ≤ length slice.now }
-    ensures few { result.1 ≤ 9 }
+    ensures at_most { result.1 ≤ 9 }
     ensures found { Spells (take result.1 slice.now) result.0 }
 {
     match varint_at(slice) {
@@ -147,7 +147,7 @@ pub fn varint_read<R: Read>(reader: &mut R) -> io::Result<u64>
     let mut place = 0usize;
     'bytes: loop {
         let mut one = [0u8; 1];
-        read_whole(reader, &mut one)?;
+        read_exact(reader, &mut one)?;
         let byte = u64::from(one[0]);
         if place == 8 {
             return Ok(value + weight * byte);

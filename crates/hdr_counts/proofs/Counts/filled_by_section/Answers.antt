@@ -19,17 +19,17 @@ first_of-requires g c =
 pub returns-in-Some-clause-empty : goal.returns-in-Some-clause-empty
 returns-in-Some-clause-empty g c =
     let own = rest g (goal.at.returns-in-Some-clause-empty g c).After-quotient-k in
-    let found = own.some c.deref.result.now c.in-Some.i c.deref.ensures.value c.in-Some.ensures.within c.in-Some.ensures.place in
+    let found = own.some c.deref.result.now c.in-Some.i c.deref.ensures.value c.in-Some.ensures.within c.in-Some.ensures.index in
     rw (← c.self.view_is) (zeros-join (map g.T.Counter.number c.self.inside.counters.items) c.args.from c.loop-place.place (c.loop-place.place + c.in-Some.i) c.loop-place.invariant.2 found.2)
 
 pub returns-in-Some-clause-filled : goal.returns-in-Some-clause-filled
 returns-in-Some-clause-filled g c =
     let own = rest g (goal.at.returns-in-Some-clause-filled g c).After-quotient-k in
-    rw (← c.self.view_is) (λ _. (own.some c.deref.result.now c.in-Some.i c.deref.ensures.value c.in-Some.ensures.within c.in-Some.ensures.place).1)
+    rw (← c.self.view_is) (λ _. (own.some c.deref.result.now c.in-Some.i c.deref.ensures.value c.in-Some.ensures.within c.in-Some.ensures.index).1)
 
 pub loop-place-preserved : goal.loop-place-preserved
 loop-place-preserved g c =
     let own = rest g (goal.at.loop-place-preserved g c).After-quotient-k in
     let ns = map g.T.Counter.number c.self.inside.counters.items in
     let end = (c.quotient-k.result + 1) * c.self.inside.section in
-    (omega (arith, own.inside, c.loop-place.invariant.0), omega (arith, own.within, length-map c.self.inside.counters.items g.T.Counter.number), zeros-join ns c.args.from c.loop-place.place end c.loop-place.invariant.2 (own.none c.deref.result.now c.deref.ensures.value c.in-None.ensures.place))
+    (omega (arith, own.inside, c.loop-place.invariant.0), omega (arith, own.within, length-map c.self.inside.counters.items g.T.Counter.number), zeros-join ns c.args.from c.loop-place.place end c.loop-place.invariant.2 (own.none c.deref.result.now c.deref.ensures.value c.in-None.ensures.index))

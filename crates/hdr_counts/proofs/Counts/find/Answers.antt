@@ -28,8 +28,8 @@ read g c =
 found : (g : given.Over) (c : After-from_residual g) → ⊥
 found g c =
     none-found g.T.Counter.number c.self.inside.counters.items c.deref-then-sum-from.result.now c.self.inside.sums.items (c.self.inside.block / c.self.inside.section) c.self.inside.block c.loop-k.k _ _ _
-    (block g (goal.at.returns-in_err-place-clause-place g c).In-loop-k) c.deref-then-sum-from.ensures.value (c.look_block-sum.ensures.value ∙ read g (goal.at.returns-in_err-place-clause-place g c).After-deref) refl
-    (omega (arith, c.if-sum-from.true, c.from.ensures)) c.in_err-place.ensures.place
+    (block g (goal.at.returns-in_err-place-clause-index g c).In-loop-k) c.deref-then-sum-from.ensures.value (c.look_block-sum.ensures.value ∙ read g (goal.at.returns-in_err-place-clause-index g c).After-deref) refl
+    (omega (arith, c.if-sum-from.true, c.from.ensures)) c.in_err-place.ensures.index
 
 pub look_block-sum-requires-clause-fits : goal.look_block-sum-requires-clause-fits
 look_block-sum-requires-clause-fits g c =
@@ -55,14 +55,14 @@ pub slice_bounds-counters-end : goal.slice_bounds-counters-end
 slice_bounds-counters-end g c =
     le_as _ _ _ (block g (goal.at.slice_bounds-counters-end g c).In-loop-k).within (ap length c.deref-then-sum-from.ensures.value)
 
-pub returns-in_err-place-clause-place : goal.returns-in_err-place-clause-place
-returns-in_err-place-clause-place g c = absurd (found g c)
+pub returns-in_err-place-clause-index : goal.returns-in_err-place-clause-index
+returns-in_err-place-clause-index g c = absurd (found g c)
 
 pub returns-in_err-place-clause-ticks : goal.returns-in_err-place-clause-ticks
 returns-in_err-place-clause-ticks g c = absurd (found g c)
 
-pub returns-then-sum-from-clause-place : goal.returns-then-sum-from-clause-place
-returns-then-sum-from-clause-place g c =
+pub returns-then-sum-from-clause-index : goal.returns-then-sum-from-clause-index
+returns-then-sum-from-clause-index g c =
     let n = g.T.Counter.number in
     let s = c.self.inside in
     let w = s.block in
@@ -71,7 +71,7 @@ returns-then-sum-from-clause-place g c =
     (subst (λ l. IsFirstToReach (map n l) c.args.rank (a + c.in_ok-place.place)) c.deref-then-sum-from.ensures.value
     (first-in-part n c.deref-then-sum-from.result.now a (a + w - a) c.in_ok-place.place c.args.rank c.loop-k.rest
     (subst (λ l. c.loop-k.rest + sum_below (map n l) a ≡ c.args.rank) (sym c.deref-then-sum-from.ensures.value) c.loop-k.invariant.0)
-    c.in_ok-place.ensures.place))
+    c.in_ok-place.ensures.index))
 
 -- a part is no longer than what is asked for
 part-short : {X : Type 0} (a w : ℕ) (xs : List X) → length (take (a + w - a) xs) ≤ w
@@ -84,7 +84,7 @@ returns-then-sum-from-clause-ticks g c =
     let w = s.block in
     let p = c.in_ok-place.place in
     let from = drop (k * w) c.deref-then-sum-from.result.now in
-    let inside : p < w = omega (arith, c.in_ok-place.ensures.place.0, length-map (take (k * w + w - k * w) from) g.T.Counter.number, part-short (k * w) w from) in
+    let inside : p < w = omega (arith, c.in_ok-place.ensures.index.0, length-map (take (k * w + w - k * w) from) g.T.Counter.number, part-short (k * w) w from) in
     rw (← c.self.view_is, div-mul-add k w p inside, mod-mul-add k w p inside) (omega (arith, c.in_ok-place.ensures.ticks, c.look_block-sum.ensures.counted, c.loop-k.invariant.2))
 
 pub loop-k-preserved : goal.loop-k-preserved
@@ -111,8 +111,8 @@ end g c =
     let p = AreParted-of s.block s.section 0 c.self.invariant.sections.some c.self.invariant.sections.section_is in
     groups-end s.section (s.block / s.section) s.block c.loop-k.k c.len.result (map g.T.Counter.number s.counters.items) s.sums.items c.self.invariant.sums_are p.in_block p.block c.self.invariant.sections.whole (omega (arith, c.len.ensures, s.sums.ok.0)) c.loop-k.auto.k-end c.loop-k-test.false
 
-pub returns-clause-place : goal.returns-clause-place
-returns-clause-place g c = rw (← c.self.view_is) (omega (arith, (end g c).0, c.loop-k.invariant.0, c.loop-k.invariant.1))
+pub returns-clause-index : goal.returns-clause-index
+returns-clause-index g c = rw (← c.self.view_is) (omega (arith, (end g c).0, c.loop-k.invariant.0, c.loop-k.invariant.1))
 
 pub returns-clause-ticks : goal.returns-clause-ticks
 returns-clause-ticks g c = rw (← c.self.view_is) (omega (arith, (end g c).1, c.loop-k.invariant.2))

@@ -26,7 +26,7 @@ invariant_of-self-2 g c =
     let at_sections : length (map n s.counters.items) ≤ sections * s.section = omega (arith, at, whole) in
     let sums_room : vec_len s.sums ≡ length s.sums.items = omega (arith, s.sums.ok.0) in
     let sums_is : c.resize.new.self.items ≡ s.sums.items ++ replicate (sections - length s.sums.items) 0 = sums_grown s.section (map n s.counters.items) s.sums.items c.resize.new.self.items sections (vec_len s.sums) c.self.invariant.sums_are at_sections sums_room c.in_ok-resize.ensures.items in
-    let few : sections * s.section ≤ most_bins = omega (arith, blocks, whole, c.requires.few) in
+    let few : sections * s.section ≤ most_bins = omega (arith, blocks, whole, c.requires.at_most) in
     let size : length (map n s.counters.items ++ replicate (len - length (map n s.counters.items)) 0) ≡ len = simp (length-append, length-replicate) (omega (arith, at)) in
     record {
       sections = rw (map_is, size) (AreSections-made s.block s.section c.args.blocks c.self.invariant.sections.some c.self.invariant.sections.section_is);

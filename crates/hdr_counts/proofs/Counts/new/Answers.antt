@@ -17,8 +17,8 @@ invariant_of-result g c =
     let sections = c.sections_in-sections.result in
     let sums = none-resized c.in_ok-sums.sums.items c.resize-2.new.self.items sections _ c.in_ok-sums.ensures.items c.in_ok-sums.ensures.len c.in_ok-resize-2.ensures.items in
     rw (numbers g (goal.at.invariant_of-result g c).In_ok-resize, sums) (record {
-      sections = rw length-replicate (AreSections-made c.args.block section c.args.blocks c.requires.some c.section_len-section.ensures.value);
-      sums_are = subst (λ m. AreSums section (replicate m 0) (replicate sections 0)) c.sections_in-sections.ensures (zeros-made section sections c.section_len-section.ensures.some (omega (arith, c.sections_in-sections.ensures, c.requires.few)));
+      sections = rw length-replicate (AreSections-made c.args.block section c.args.blocks c.requires.nonzero c.section_len-section.ensures.value);
+      sums_are = subst (λ m. AreSums section (replicate m 0) (replicate sections 0)) c.sections_in-sections.ensures (zeros-made section sections c.section_len-section.ensures.nonzero (omega (arith, c.sections_in-sections.ensures, c.requires.at_most)));
       shift_is = c.exponent.ensures;
       fit = All-replicate (λ n. n ≤ g.T.Counter.greatest) (c.args.blocks * c.args.block) 0 (omega arith);
     })

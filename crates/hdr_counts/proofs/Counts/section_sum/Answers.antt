@@ -33,8 +33,8 @@ returns-then-k-len-clause-inside g c =
     let wide : (k + 1) * 1 ≤ (k + 1) * s.section = mul-le-mul_left (k + 1) some in
     rw (← c.self.view_is) (omega (arith, row, wide, sums.whole))
 
-pub returns-then-k-len-clause-few : goal.returns-then-k-len-clause-few
-returns-then-k-len-clause-few g c = rw (← c.self.view_is) c.self.invariant.sums_are.few
+pub returns-then-k-len-clause-at_most : goal.returns-then-k-len-clause-at_most
+returns-then-k-len-clause-at_most g c = rw (← c.self.view_is) c.self.invariant.sums_are.few
 
-pub returns-else-k-len-clause-few : goal.returns-else-k-len-clause-few
-returns-else-k-len-clause-few g c = rw (← c.self.view_is) c.self.invariant.sums_are.few
+pub returns-else-k-len-clause-at_most : goal.returns-else-k-len-clause-at_most
+returns-else-k-len-clause-at_most g c = rw (← c.self.view_is) c.self.invariant.sums_are.few

@@ -155,8 +155,8 @@ add_section-requires-clause-len g c =
     let first : k * b + b ≤ length c.loop-k.counters = le_as _ _ _ (block-within g.T.Counter.number c.args.counters.now b k c.args.sums.now c.requires.sums (own g at)) c.loop-k.auto.counters in
     parts-same c.loop-k.counters c.args.source.now (k * b) (k * b + b - k * b) (omega (arith, first)) (omega (arith, block-within g.F.Counter.number c.args.source.now b k c.args.more.now c.requires.more (other g at)))
 
-pub add_section-requires-clause-few : goal.add_section-requires-clause-few
-add_section-requires-clause-few g c = part-few g.T.Counter.number c.args.counters.now c.loop-k.counters c.args.section _ _ c.args.sums.now c.requires.sums c.loop-k.auto.counters
+pub add_section-requires-clause-at_most : goal.add_section-requires-clause-at_most
+add_section-requires-clause-at_most g c = part-few g.T.Counter.number c.args.counters.now c.loop-k.counters c.args.section _ _ c.args.sums.now c.requires.sums c.loop-k.auto.counters
 
 pub bounds-sums-k-in-loop-k : goal.bounds-sums-k-in-loop-k
 bounds-sums-k-in-loop-k g c = lt_as _ _ _ (own g (goal.at.bounds-sums-k-in-loop-k g c).In-loop-k) c.loop-k.auto.sums

@@ -11,8 +11,8 @@ last_of-requires g c =
     let a = k * c.args.section in
     part-at-most g.T.Counter.number c.args.counters.now c.args.sums.now c.args.section k a (a + c.args.section - a) c.requires (omega arith) (omega arith) (omega arith)
 
-pub returns-in-Some-clause-place : goal.returns-in-Some-clause-place
-returns-in-Some-clause-place g c =
+pub returns-in-Some-clause-index : goal.returns-in-Some-clause-index
+returns-in-Some-clause-index g c =
     let b = c.args.section in
     let k = length c.args.sums.now - 1 - c.loop-passed.passed in
     let a = k * b in
@@ -20,7 +20,7 @@ returns-in-Some-clause-place g c =
     let next : length c.args.sums.now - c.loop-passed.passed ≡ k + 1 = omega arith in
     let end : (length c.args.sums.now - c.loop-passed.passed) * b ≡ a + w = omega (arith, ap (λ n. n * b) next) in
     let inside : c.in-Some.i < w = omega (arith, c.in-Some.ensures.within, length-take w (drop a c.args.counters.now)) in
-    last-before g.T.Counter.number c.args.counters.now a w _ c.in-Some.i end inside c.in-Some.ensures.place c.loop-passed.invariant
+    last-before g.T.Counter.number c.args.counters.now a w _ c.in-Some.i end inside c.in-Some.ensures.index c.loop-passed.invariant
 
 pub loop-passed-preserved : goal.loop-passed-preserved
 loop-passed-preserved g c = λ j ge.
@@ -31,7 +31,7 @@ loop-passed-preserved g c = λ j ge.
     let next : length c.args.sums.now - c.loop-passed.passed ≡ k + 1 = omega arith in
     let end : (length c.args.sums.now - c.loop-passed.passed) * b ≡ a + w = omega (arith, ap (λ n. n * b) next) in
     let same : length c.args.sums.now - (c.loop-passed.passed + 1) ≡ k = omega arith in
-    zeros-before g.T.Counter.number c.args.counters.now a w _ end c.in_default.ensures.place c.loop-passed.invariant j (omega (arith, ge, ap (λ n. n * b) same))
+    zeros-before g.T.Counter.number c.args.counters.now a w _ end c.in_default.ensures.index c.loop-passed.invariant j (omega (arith, ge, ap (λ n. n * b) same))
 
 pub overflow_sub-k : goal.overflow_sub-k
 overflow_sub-k g c = back-some (length c.args.sums.now) c.loop-passed.passed c.loop-passed-test.true

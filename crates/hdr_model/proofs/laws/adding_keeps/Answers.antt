@@ -1,5 +1,5 @@
-use Rattle.hdr_model.proofs.MergingStands.{grain-merged}
-use Rattle.hdr_model.proofs.MergingCorrects.{grain-merged_corrected}
+use Rattle.hdr_model.proofs.MergingStands.{resolution-merged}
+use Rattle.hdr_model.proofs.MergingCorrects.{resolution-merged_corrected}
 use Rattle.hdr_model.proofs.PlainAfter.{IsPlain-merged, IsPlain-merged_corrected}
 use Rattle.hdr_model.proofs.laws.adding_keeps.Goals as goal
 
@@ -7,10 +7,10 @@ pub returns-clause-merged : goal.returns-clause-merged
 returns-clause-merged c = IsPlain-merged
 
 pub returns-clause-merged_classes : goal.returns-clause-merged_classes
-returns-clause-merged_classes c = grain-merged
+returns-clause-merged_classes c = resolution-merged
 
 pub returns-clause-corrected : goal.returns-clause-corrected
 returns-clause-corrected c = IsPlain-merged_corrected
 
 pub returns-clause-corrected_classes : goal.returns-clause-corrected_classes
-returns-clause-corrected_classes c = grain-merged_corrected
+returns-clause-corrected_classes c = resolution-merged_corrected

@@ -78,9 +78,9 @@ loop-preserved g c =
       grows = c.run_lines-in-loop.ensures.grows;
       room = omega (arith, c.read_piece.auto.piece, c.loop.invariant.room);
       same = record {
-        writer = c.run_lines-in-loop.ensures.same.writer ∙ c.loop.invariant.same.writer;
-        serializer = c.run_lines-in-loop.ensures.same.serializer ∙ c.loop.invariant.same.serializer;
-        divisor = c.run_lines-in-loop.ensures.same.divisor ∙ c.loop.invariant.same.divisor;
+        writer = c.run_lines-in-loop.ensures.same_log.writer ∙ c.loop.invariant.same.writer;
+        serializer = c.run_lines-in-loop.ensures.same_log.serializer ∙ c.loop.invariant.same.serializer;
+        divisor = c.run_lines-in-loop.ensures.same_log.divisor ∙ c.loop.invariant.same.divisor;
       };
       streamed = (s.0 ++ p, Consumes-trans (g.R.Read.remaining c.args.reader.now) (g.R.Read.remaining c.loop.reader) (g.R.Read.remaining c.read_piece.new.reader) s.0 p s.1 c.in_ok-count.ensures.ok, subst F (sym c.in_ok-replace.ensures) (further c.args.is_log c.args.histogram.now s.0 c.loop.number c.loop.carry.items c.loop.histogram (g.W.Write.contents (sink c.args.log.now).now) (g.W.Write.contents (sink c.loop.log).now) s.2 p t.0 c.in-Some.tail.now c.deref-in-loop.result.now (g.W.Write.contents (sink c.run_lines-in-loop.new.log).now) t.1 (c.deref-in-loop.ensures.value ∙ t.2) {A = Unit {0}} (Ok tt) then c.in-Ok.next c.in-Ok.ensures.next c.in-Ok.ensures.goes));
     }

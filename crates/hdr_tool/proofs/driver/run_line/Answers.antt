@@ -35,7 +35,7 @@ returns-in-Ok-clause-memory g c = λ more n.
 
 pub returns-in-Err-clause-memory : goal.returns-in-Err-clause-memory
 returns-in-Err-clause-memory g c = λ more.
-    call_refused c.args.is_log c.args.histogram.now c.args.number c.args.line.now more c.in-Some-Apply.call _ (sym (rw c.in-Some-Apply.field-0-is at c.in-Some-Apply.ensures)) c.requires.grows c.in-Err.ensures.refused.0
+    call_refused c.args.is_log c.args.histogram.now c.args.number c.args.line.now more c.in-Some-Apply.call _ (sym (rw c.in-Some-Apply.field-0-is at c.in-Some-Apply.ensures)) c.requires.grows c.in-Err.ensures.err.0
 
 pub returns-in-Some-End-clause-memory : goal.returns-in-Some-End-clause-memory
 returns-in-Some-End-clause-memory g c =

@@ -15,7 +15,7 @@ returns-in_default-apply-clause-memory g c = λ more.
     let line = c.in-Some-value_line.ensures in
     let e = ap (λ o. number_lines c.loop-left.next (option_map (λ t. t.now) o)) c.in-Some.is ∙ ap (enumerate_from c.loop-left.next) line.lines in
     c.loop-left.invariant.memory more (subst (λ l. LinesNeed c.args.is_log c.loop-left.histogram (l ++ more)) (sym e)
-    (call_refused c.args.is_log c.loop-left.histogram c.loop-left.next line.line (number_lines (c.loop-left.next + 1) (Some c.in-Some-value_line.after.now) ++ more) c.in-Some-value_line.call _ line.fits c.loop-left.invariant.grows c.in_default-apply.ensures.refused.0))
+    (call_refused c.args.is_log c.loop-left.histogram c.loop-left.next line.line (number_lines (c.loop-left.next + 1) (Some c.in-Some-value_line.after.now) ++ more) c.in-Some-value_line.call _ line.fits c.loop-left.invariant.grows c.in_default-apply.ensures.err.0))
 
 pub loop-left-preserved-in-Some-value_line : goal.loop-left-preserved-in-Some-value_line
 loop-left-preserved-in-Some-value_line g c =
@@ -56,9 +56,9 @@ loop-left-preserved g c =
     let e = ap (λ o. number_lines c.loop-left.next (option_map (λ t. t.now) o)) c.in-Some.is ∙ ap (enumerate_from c.loop-left.next) c.split_first.ensures.parts in
     record {
       same = record {
-        writer = c.in_ok-run_line.ensures.same.writer ∙ c.loop-left.invariant.same.writer;
-        serializer = c.in_ok-run_line.ensures.same.serializer ∙ c.loop-left.invariant.same.serializer;
-        divisor = c.in_ok-run_line.ensures.same.divisor ∙ c.loop-left.invariant.same.divisor;
+        writer = c.in_ok-run_line.ensures.same_log.writer ∙ c.loop-left.invariant.same.writer;
+        serializer = c.in_ok-run_line.ensures.same_log.serializer ∙ c.loop-left.invariant.same.serializer;
+        divisor = c.in_ok-run_line.ensures.same_log.divisor ∙ c.loop-left.invariant.same.divisor;
       };
       goes = rw next (one_line {A = Unit {0}} c.args.is_log (λ more. run_lines c.args.is_log c.args.histogram.now (number_lines c.args.number (Some c.args.text.now) ++ more)) c.loop-left.histogram c.run_line.new.histogram (number_lines c.loop-left.next (option_map (λ t. t.now) c.loop-left.left)) (number_lines (c.loop-left.next + 1) (option_map (λ t. t.now) c.split_first.result.1)) (c.loop-left.next, c.split_first.result.0.now)
           (g.W.Write.contents (sink c.args.log.now).now) (g.W.Write.contents (sink c.loop-left.log).now) (g.W.Write.contents (sink c.run_line.new.log).now) (Ok tt) c.loop-left.invariant.goes e c.in_ok-run_line.ensures.goes);

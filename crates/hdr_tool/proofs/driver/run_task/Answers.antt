@@ -22,7 +22,7 @@ returns-in_err-run_input-clause-goes g c =
       a.0,
       a.1,
       moved (λ h o n. Stops {M = Unit {0}} (λ _. run_lines c.args.is_log h (number_lines 1 (Some a.0))) o n (cause_of fault) fault) c.in-Ok.histogram (empty_plain 1 2 c.args.sigfig true) (g.W.Write.contents (sink c.new-log.result).now) (g.W.Write.contents c.args.writer.now) (g.W.Write.contents (sink c.run_input.new.log).now) _
-          c.in-Ok.ensures.made.0 (ap g.W.Write.contents c.new-log.ensures.holds) (ap g.W.Write.contents (sym (c.writer-1.given.1 (sym (c.run_input.ensures.same.writer ∙ c.new-log.ensures.writer)) ∙ c.drop-log.ensures.writer))) a.2,
+          c.in-Ok.ensures.made.0 (ap g.W.Write.contents c.new-log.ensures.holds) (ap g.W.Write.contents (sym (c.writer-1.given.1 (sym (c.run_input.ensures.same_log.writer ∙ c.new-log.ensures.writer)) ∙ c.drop-log.ensures.writer))) a.2,
     )
 
 pub returns-clause-goes : goal.returns-clause-goes
@@ -31,7 +31,7 @@ returns-clause-goes g c =
       a.0,
       a.1,
       moved (λ h o n. Goes {M = Unit {0}} {A = Unit {0}} (λ _. run_lines c.args.is_log h (number_lines 1 (Some a.0))) (λ _. ended_by (Ok c.run_input.new.histogram)) o n (Ok tt)) c.in-Ok.histogram (empty_plain 1 2 c.args.sigfig true) (g.W.Write.contents (sink c.new-log.result).now) (g.W.Write.contents c.args.writer.now) (g.W.Write.contents (sink c.run_input.new.log).now) _
-          c.in-Ok.ensures.made.0 (ap g.W.Write.contents c.new-log.ensures.holds) (ap g.W.Write.contents (sym (c.writer-2-1.given.1 (sym (c.run_input.ensures.same.writer ∙ c.new-log.ensures.writer)) ∙ c.drop-log-2.ensures.writer))) a.2,
+          c.in-Ok.ensures.made.0 (ap g.W.Write.contents c.new-log.ensures.holds) (ap g.W.Write.contents (sym (c.writer-2-1.given.1 (sym (c.run_input.ensures.same_log.writer ∙ c.new-log.ensures.writer)) ∙ c.drop-log-2.ensures.writer))) a.2,
     )
 
 pub run_input-requires-clause-grows : goal.run_input-requires-clause-grows

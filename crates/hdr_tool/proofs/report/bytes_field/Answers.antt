@@ -7,4 +7,4 @@ returns-in-Ok g c = rw (none_too_great c.args.histogram.now c.in-Ok.ensures.ok) 
 
 pub returns-in-Err-CountNotSerializable : goal.returns-in-Err-CountNotSerializable
 returns-in-Err-CountNotSerializable g c =
-    rw (one_too_great c.args.histogram.now (rw c.in-Err-CountNotSerializable.field-0-is at c.in-Err-CountNotSerializable.ensures.refused)) (search rules)
+    rw (one_too_great c.args.histogram.now (rw c.in-Err-CountNotSerializable.field-0-is at c.in-Err-CountNotSerializable.ensures.err)) (search rules)

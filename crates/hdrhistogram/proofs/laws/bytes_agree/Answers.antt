@@ -1,8 +1,8 @@
 use Rattle.hdrhistogram.proofs.V2Telling.{told, alike}
 use Rattle.hdrhistogram.proofs.laws.bytes_agree.Goals as goal
 
-pub returns-clause-same : goal.returns-clause-same
-returns-clause-same c = alike
+pub returns-clause-equal : goal.returns-clause-equal
+returns-clause-equal c = alike
 
 pub returns-clause-alike : goal.returns-clause-alike
 returns-clause-alike c = told

@@ -1,15 +1,15 @@
 use Rattle.std.proofs.Common.{◌≡◌, arith, subst}
-use Rattle.hdr_base.specs.Classes.{Grain}
+use Rattle.hdr_base.specs.Classes.{Resolution}
 use Rattle.hdr_log.specs.Grammar.{reading}
 use Rattle.hdrhistogram.specs.LogMerging.{new_merging, coarser_of}
-use Rattle.hdrhistogram.proofs.ChosenAdded.{all_added, chosen_once, all_taken, added_digits, empty_grain}
+use Rattle.hdrhistogram.proofs.ChosenAdded.{all_added, chosen_once, all_taken, added_digits, empty_resolution}
 use Rattle.hdrhistogram.proofs.FinerCounted.{none_is_coarser}
 use Rattle.hdrhistogram.proofs.laws.merging_adds_the_chosen.Goals as goal
 
 pub returns-clause-added : goal.returns-clause-added
 returns-clause-added c = λ greatest sigfig filter log m merges.
     let a = all_added greatest filter (reading log) (new_merging sigfig) m merges in
-    (a.0, a.1, a.2, omega (arith, a.3), subst (λ (g : Grain). m.coarser ≡ coarser_of g a.0) (empty_grain sigfig) (omega (arith, a.4)))
+    (a.0, a.1, a.2, omega (arith, a.3), subst (λ (g : Resolution). m.coarser ≡ coarser_of g a.0) (empty_resolution sigfig) (omega (arith, a.4)))
 
 pub returns-clause-only : goal.returns-clause-only
 returns-clause-only c = λ filter base entries hs others p q. chosen_once filter base entries hs others p q

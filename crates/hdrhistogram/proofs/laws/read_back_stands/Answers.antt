@@ -7,5 +7,5 @@ returns c = record {
   plain = read_plain;
   classes = same_classes;
   samples = λ greatest h k S p r s. read_stands h k S r s (c.samples_are_counted.ensures greatest h S p s) (omega (arith, s.total, p.total_fits));
-  answers = λ greatest h k S p r s. read_answers h k S r s (read_stands h k S r s (c.samples_are_counted.ensures greatest h S p s) (omega (arith, s.total, p.total_fits)));
+  quantiles = λ greatest h k S p r s. read_answers h k S r s (read_stands h k S r s (c.samples_are_counted.ensures greatest h S p s) (omega (arith, s.total, p.total_fits)));
 }

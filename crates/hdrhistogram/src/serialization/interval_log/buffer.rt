@@ -1,7 +1,7 @@
 //! The bytes of a histogram, before they are written in Base64.
 
 ghost use Rattle.std.specs.Prelude.{MatchResult};
-ghost use Rattle.hdrhistogram.specs.LogLeaving.{RefusesSerialized};
+ghost use Rattle.hdrhistogram.specs.LogLeaving.{IsSerializerError};
 
 use crate::serialization::interval_log::errors::IntervalLogWriterError;
 use crate::serialization::serializer::Serializer;
@@ -45,7 +45,7 @@ pub(crate) fn serialized<T: Counter, S: Serializer>(
     h: &Histogram<T>,
 ) -> Result<Vec<u8>, IntervalLogWriterError<S::SerializeError>>
     ensures { MatchResult result (λ bytes. S.writes h.now bytes.items)
-        (RefusesSerialized (S.refuses h.now)) }
+        (IsSerializerError (S.may_fail_with h.now)) }
 {
     let mut buffer = Buffer {
         bytes: Vec::new(alloc),

@@ -83,7 +83,7 @@ impl IntervalLogWriterBuilder {
 
     /// Sets the start time, since the epoch. The last call counts.
     pub fn with_start_time(&mut self, time: Duration) -> &mut Self
-        ensures same { result.ghost_name ≡ self.entry.ghost_name }
+        ensures same_borrow { result.ghost_name ≡ self.entry.ghost_name }
         ensures set { result.now ≡ record self.old { start_time = Some (as_nanos time) } }
     {
         self.start_time = Some(time);
@@ -92,7 +92,7 @@ impl IntervalLogWriterBuilder {
 
     /// Sets the base time, since the epoch, from which the times of intervals count. The last call counts.
     pub fn with_base_time(&mut self, time: Duration) -> &mut Self
-        ensures same { result.ghost_name ≡ self.entry.ghost_name }
+        ensures same_borrow { result.ghost_name ≡ self.entry.ghost_name }
         ensures set { result.now ≡ record self.old { base_time = Some (as_nanos time) } }
     {
         self.base_time = Some(time);
@@ -103,7 +103,7 @@ impl IntervalLogWriterBuilder {
     /// not set. The last call counts.
     pub fn with_max_value_divisor(&mut self, divisor: u64) -> &mut Self
         requires { 0 < divisor }
-        ensures same { result.ghost_name ≡ self.entry.ghost_name }
+        ensures same_borrow { result.ghost_name ≡ self.entry.ghost_name }
         ensures set { result.now ≡ record self.old { divisor = divisor } }
     {
         self.max_value_divisor = divisor;
@@ -166,7 +166,7 @@ impl IntervalLogWriterBuilder {
             × (divisor_of log ≡ self.now.divisor)) }
         ensures time { (is_time_error result ≡ false) ↔ AreTimesInRange self.now }
         ensures plain { self.now ≡ new_start → IfErr result (λ _. ⊥) }
-        ensures named { IfErr result IsNoSerializeError }
+        ensures no_serialize_error { IfErr result IsNoSerializeError }
     {
         match self.write_headers(writer) {
             Ok(()) => Ok(IntervalLogWriter::new(

@@ -3,13 +3,13 @@
 ghost use Rattle.std.specs.Prelude.{◌≡◌, ◌+◌, ◌<◌, ◌≤◌, ◌^◌, ℕ, length, MatchResult, IfErr, Ok, Err};
 ghost use Rattle.std.specs.Option.{option_map};
 ghost use Rattle.std.specs.Duration.{as_nanos};
-ghost use Rattle.hdr_model.specs.Plain.{grain};
-ghost use Rattle.hdr_model.specs.Refusals.{IsBounds, RefusesBounds};
+ghost use Rattle.hdr_model.specs.Plain.{resolution};
+ghost use Rattle.hdr_model.specs.Refusals.{IsBounds, IsCreationError};
 ghost use Rattle.hdr_log.specs.Tags.{tag_text};
 ghost use Rattle.hdr_log.specs.Texts.{base64_bytes};
 ghost use Rattle.hdr_log.specs.Reading.{view_of_interval, view_of_item};
 ghost use Rattle.hdrhistogram.specs.Chosen.{chooses_tag, begins_from, begins_before, is_chosen, view_of_choice, view_of_filter, view_of_interval_choice};
-ghost use Rattle.hdrhistogram.specs.LogMerging.{one_if_coarser, FieldMerges, EntryMerges, Merges, RefusesStep, RefusesMerge, IsMergedBy, IsMerged, IsOfDigits, creation_error, field_error};
+ghost use Rattle.hdrhistogram.specs.LogMerging.{one_if_coarser, FieldMerges, EntryMerges, Merges, IsStepError, IsMergeError, IsMergedBy, IsMerged, IsOfDigits, creation_error, field_error};
 ghost use Rattle.hdrhistogram.specs.MergeView.{view_of_merging};
 
 use crate::serialization::deserializer::Deserializer;
@@ -126,7 +126,7 @@ pub fn merge_log<T: Counter>(
     ensures merged { MatchResult result
         (λ m. IsBounds 1 2 sigfig × IsMerged (λ r. Merges T.greatest
         (view_of_filter filter.now) sigfig log.now r) m.histogram m.chosen)
-        (RefusesMerge T.greatest (view_of_filter filter.now) sigfig log.now) }
+        (IsMergeError T.greatest (view_of_filter filter.now) sigfig log.now) }
     ensures digits { IfErr result (IsOfDigits sigfig) }
 {
     match merge_chosen(alloc, log, &filter.choice(), sigfig) {
@@ -149,7 +149,7 @@ pub fn merge_chosen<T: Counter>(
     ensures merged { MatchResult result
         (λ m. IsBounds 1 2 sigfig × IsMergedBy (λ r. Merges T.greatest
         (view_of_interval_choice choice.now) sigfig log.now r) m.histogram m.chosen m.coarser)
-        (RefusesMerge T.greatest (view_of_interval_choice choice.now) sigfig log.now) }
+        (IsMergeError T.greatest (view_of_interval_choice choice.now) sigfig log.now) }
     ensures digits { IfErr result (IsOfDigits sigfig) }
 {
     let histogram = match Histogram::new(alloc, sigfig) {
@@ -211,18 +211,18 @@ fn merge_entry<T: Counter>(
     entry: &Result<LogEntry<'_>, LogIteratorError>,
 ) -> Result<(), MergeError>
     // The numbers of intervals do not overflow.
-    requires room { merging.old.intervals + 1 < 2 ^ 64 }
+    requires fits { merging.old.intervals + 1 < 2 ^ 64 }
     requires chosen { merging.old.chosen ≤ merging.old.intervals }
     requires coarser { merging.old.coarser ≤ merging.old.intervals }
     // They grow by 1 at most.
-    ensures few { merging.new.intervals ≤ merging.old.intervals + 1 }
+    ensures at_most { merging.new.intervals ≤ merging.old.intervals + 1 }
     ensures chosen { merging.new.chosen ≤ merging.new.intervals }
     ensures coarser { merging.new.coarser ≤ merging.new.intervals }
     // The state after the entry, or its error.
     ensures done { MatchResult result
         (λ _. EntryMerges T.greatest (view_of_interval_choice choice.now) (view_of_merging merging.old)
         (view_of_item entry.now) (Ok (view_of_merging merging.new)))
-        (RefusesStep (λ e. EntryMerges T.greatest (view_of_interval_choice choice.now)
+        (IsStepError (λ e. EntryMerges T.greatest (view_of_interval_choice choice.now)
         (view_of_merging merging.old) (view_of_item entry.now) (Err e))) }
 {
     match entry {
@@ -246,18 +246,18 @@ fn merge_entry<T: Counter>(
 /// Decodes a chosen interval's field, and adds its histogram.
 fn merge_field<T: Counter>(merging: &mut Merging<T>, field: &str) -> Result<(), MergeError>
     // The numbers of intervals do not overflow.
-    requires room { merging.old.intervals + 1 < 2 ^ 64 }
+    requires fits { merging.old.intervals + 1 < 2 ^ 64 }
     requires chosen { merging.old.chosen ≤ merging.old.intervals }
     requires coarser { merging.old.coarser ≤ merging.old.intervals }
     // They grow by 1 at most.
-    ensures few { merging.new.intervals ≤ merging.old.intervals + 1 }
+    ensures at_most { merging.new.intervals ≤ merging.old.intervals + 1 }
     ensures chosen { merging.new.chosen ≤ merging.new.intervals }
     ensures coarser { merging.new.coarser ≤ merging.new.intervals }
     // The state after the interval, or its error.
     ensures done { MatchResult result
         (λ _. FieldMerges T.greatest (view_of_merging merging.old) (base64_bytes field.now)
         (Ok (view_of_merging merging.new)))
-        (RefusesStep (λ e. FieldMerges T.greatest (view_of_merging merging.old)
+        (IsStepError (λ e. FieldMerges T.greatest (view_of_merging merging.old)
         (base64_bytes field.now) (Err e))) }
 {
     let interval = merging.intervals + 1;
@@ -281,8 +281,8 @@ fn merge_field<T: Counter>(merging: &mut Merging<T>, field: &str) -> Result<(), 
 
 /// Returns 1 if the classes of `source` do not all lie in classes of `sum`, and 0 otherwise.
 fn one_if_coarser<T: Counter, F: Counter>(sum: &Histogram<T>, source: &Histogram<F>) -> u64
-    ensures value { result ≡ one_if_coarser (grain sum.now) source.now }
-    ensures few { result ≤ 1 }
+    ensures value { result ≡ one_if_coarser (resolution sum.now) source.now }
+    ensures at_most { result ≤ 1 }
 {
     if source.refines(sum) { 0 } else { 1 }
 }

@@ -11,7 +11,7 @@ ghost use Rattle.hdrhistogram.specs.LogLeaving.{WritesText, IsIoError, IsInterva
 use crate::serialization::interval_log::buffer::serialized;
 use crate::serialization::interval_log::errors::IntervalLogWriterError;
 use crate::serialization::serializer::Serializer;
-use crate::serialization::streams::write_whole;
+use crate::serialization::streams::write_all;
 use hdr_base::Counter;
 use hdr_core::Histogram;
 use hdr_log::Tag;
@@ -40,7 +40,7 @@ pub(crate) fn write_text<W: Write, E>(
     ensures failed { IfErr result IsIoError }
     ensures time { is_time_error result ≡ false }
 {
-    match write_whole(writer, text) {
+    match write_all(writer, text) {
         Ok(()) => Ok(()),
         Err(e) => Err(IntervalLogWriterError::IoError(e)),
     }
@@ -83,8 +83,8 @@ impl<'a, 'b, W: Write, S: Serializer> IntervalLogWriter<'a, 'b, W, S> {
         &mut self,
         comment: &str,
     ) -> Result<(), IntervalLogWriterError<S::SerializeError>>
-        ensures same { IsSameLog self.old self.new }
-        ensures kept { (maker self.new).now ≡ (maker self.old).now }
+        ensures same_log { IsSameLog self.old self.new }
+        ensures unchanged { (maker self.new).now ≡ (maker self.old).now }
         ensures leaves { WritesText (λ text. text ≡ piece_text (Comment comment.now)) (λ _. ⊥)
             (W.contents (sink self.old).now) (W.contents (sink self.new).now) result }
         ensures time { is_time_error result ≡ false }
@@ -113,9 +113,9 @@ impl<'a, 'b, W: Write, S: Serializer> IntervalLogWriter<'a, 'b, W, S> {
         duration: Duration,
         tag: Option<Tag<'_>>,
     ) -> Result<(), IntervalLogWriterError<S::SerializeError>>
-        ensures same { IsSameLog self.old self.new }
+        ensures same_log { IsSameLog self.old self.new }
         ensures leaves { WritesText (IsIntervalText S.writes h.now (option_map tag_text tag.entry)
-            (as_nanos start_timestamp) (as_nanos duration) (divisor_of self.old)) (S.refuses h.now)
+            (as_nanos start_timestamp) (as_nanos duration) (divisor_of self.old)) (S.may_fail_with h.now)
             (W.contents (sink self.old).now) (W.contents (sink self.new).now) result }
         ensures early { is_time_error result ≡ true → (maker self.new).now ≡ (maker self.old).now }
         ensures time { (is_time_error result ≡ false)

@@ -1,11 +1,11 @@
 use Rattle.std.proofs.Common.{◌≡◌, arith}
-use Rattle.hdr_base.specs.Classes.{Grain, bin_of, value_of}
+use Rattle.hdr_base.specs.Classes.{Resolution, bin_of, value_of}
 use Rattle.hdr_base.proofs.ClassesTops.{TopParts-of}
 use Rattle.hdr_base.proofs.scale.Scale.bin_top.Goals as goal
 
 pub overflow_cast-width : goal.overflow_cast-width
 overflow_cast-width c =
-    let g : Grain = record { unit = c.self.inside.unit; digits = c.self.inside.digits } in
+    let g : Resolution = record { unit = c.self.inside.unit; digits = c.self.inside.digits } in
     let v = c.in_ok-lowest.lowest in
     let bin : bin_of g v ≡ c.args.index = rw c.self.view_is c.in_ok-lowest.ensures.value.0 in
     let value : v ≡ value_of g c.args.index = rw c.self.view_is c.in_ok-lowest.ensures.formula in
@@ -14,7 +14,7 @@ overflow_cast-width c =
 
 pub overflow_add-width : goal.overflow_add-width
 overflow_add-width c =
-    let g : Grain = record { unit = c.self.inside.unit; digits = c.self.inside.digits } in
+    let g : Resolution = record { unit = c.self.inside.unit; digits = c.self.inside.digits } in
     let v = c.in_ok-lowest.lowest in
     let bin : bin_of g v ≡ c.args.index = rw c.self.view_is c.in_ok-lowest.ensures.value.0 in
     let value : v ≡ value_of g c.args.index = rw c.self.view_is c.in_ok-lowest.ensures.formula in
@@ -23,7 +23,7 @@ overflow_add-width c =
 
 pub overflow_shl-width : goal.overflow_shl-width
 overflow_shl-width c =
-    let g : Grain = record { unit = c.self.inside.unit; digits = c.self.inside.digits } in
+    let g : Resolution = record { unit = c.self.inside.unit; digits = c.self.inside.digits } in
     let v = c.in_ok-lowest.lowest in
     let bin : bin_of g v ≡ c.args.index = rw c.self.view_is c.in_ok-lowest.ensures.value.0 in
     let value : v ≡ value_of g c.args.index = rw c.self.view_is c.in_ok-lowest.ensures.formula in
@@ -32,7 +32,7 @@ overflow_shl-width c =
 
 pub overflow_sub-result : goal.overflow_sub-result
 overflow_sub-result c =
-    let g : Grain = record { unit = c.self.inside.unit; digits = c.self.inside.digits } in
+    let g : Resolution = record { unit = c.self.inside.unit; digits = c.self.inside.digits } in
     let v = c.in_ok-lowest.lowest in
     let bin : bin_of g v ≡ c.args.index = rw c.self.view_is c.in_ok-lowest.ensures.value.0 in
     let value : v ≡ value_of g c.args.index = rw c.self.view_is c.in_ok-lowest.ensures.formula in
@@ -41,7 +41,7 @@ overflow_sub-result c =
 
 pub overflow_add-result : goal.overflow_add-result
 overflow_add-result c =
-    let g : Grain = record { unit = c.self.inside.unit; digits = c.self.inside.digits } in
+    let g : Resolution = record { unit = c.self.inside.unit; digits = c.self.inside.digits } in
     let v = c.in_ok-lowest.lowest in
     let bin : bin_of g v ≡ c.args.index = rw c.self.view_is c.in_ok-lowest.ensures.value.0 in
     let value : v ≡ value_of g c.args.index = rw c.self.view_is c.in_ok-lowest.ensures.formula in
@@ -50,7 +50,7 @@ overflow_add-result c =
 
 pub returns : goal.returns
 returns c =
-    let g : Grain = record { unit = c.self.inside.unit; digits = c.self.inside.digits } in
+    let g : Resolution = record { unit = c.self.inside.unit; digits = c.self.inside.digits } in
     let v = c.in_ok-lowest.lowest in
     let bin : bin_of g v ≡ c.args.index = rw c.self.view_is c.in_ok-lowest.ensures.value.0 in
     let value : v ≡ value_of g c.args.index = rw c.self.view_is c.in_ok-lowest.ensures.formula in
@@ -59,7 +59,7 @@ returns c =
 
 pub overflow_cast-width-2 : goal.overflow_cast-width-2
 overflow_cast-width-2 c =
-    let g : Grain = record { unit = c.self.inside.unit; digits = c.self.inside.digits } in
+    let g : Resolution = record { unit = c.self.inside.unit; digits = c.self.inside.digits } in
     let v = c.in_ok-lowest.lowest in
     let bin : bin_of g v ≡ c.args.index = rw c.self.view_is c.in_ok-lowest.ensures.value.0 in
     let value : v ≡ value_of g c.args.index = rw c.self.view_is c.in_ok-lowest.ensures.formula in

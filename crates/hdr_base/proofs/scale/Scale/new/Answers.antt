@@ -1,5 +1,5 @@
 use Rattle.std.proofs.Common.{◌≡◌, refl, arith}
-use Rattle.hdr_base.specs.Classes.{grain_of, unit_of}
+use Rattle.hdr_base.specs.Classes.{resolution_of, unit_of}
 use Rattle.hdr_base.proofs.ClassesScale.{unit-is}
 use Rattle.hdr_base.proofs.ClassesDigits.{digits-IsLeast}
 use Rattle.hdr_base.proofs.ClassesIntervals.{unit-IsLeast, unit-small}
@@ -10,7 +10,7 @@ returns-then-unit-digits-gt63-clause-scale c = λ h.
     omega (arith, unit-is c.args.low c.ilog2-unit.result c.ilog2-unit.ensures.power_le c.ilog2-unit.ensures.next_power_gt, c.in_ok-digits.ensures.value.1)
 
 pub returns-clause-scale : goal.returns-clause-scale
-unfolding grain_of
+unfolding resolution_of
 returns-clause-scale c =
     let unit : unit_of c.args.low ≡ c.ilog2-unit.result = unit-is c.args.low c.ilog2-unit.result c.ilog2-unit.ensures.power_le c.ilog2-unit.ensures.next_power_gt in
     let digits = c.in_ok-digits.ensures.value in (

@@ -1,9 +1,9 @@
 use Rattle.std.proofs.Common.{◌≡◌, ◌∙◌, ◌≤◌, ◌++◌, ap, sym, subst, arith}
-use Rattle.hdr_model.specs.Plain.{Plain, grain, reach}
+use Rattle.hdr_model.specs.Plain.{Plain, resolution, reach}
 use Rattle.hdr_model.specs.Recording.{after_records, with_bins_for}
 use Rattle.hdr_model.specs.Merging.{corrections_from, corrected_samples, highest_top, after_add_correct}
 use Rattle.hdr_model.specs.Samples.{StandsFor}
-use Rattle.hdr_model.proofs.MergingCorrects.{widened-holds, StandsFor-merged_corrected, merged_corrected-high, grain-merged_corrected}
+use Rattle.hdr_model.proofs.MergingCorrects.{widened-holds, StandsFor-merged_corrected, merged_corrected-high, resolution-merged_corrected}
 use Rattle.hdr_core.proofs.histogram.Histogram.add_correct_from.Goals as goal
 
 pub correct_classes-requires : goal.correct_classes-requires
@@ -16,18 +16,18 @@ unfolding after_add_correct
 returns-clause-ok g c =
     let s = c.args.source.now in
     let new : c.cover.new.self ≡ with_bins_for c.args.self.now (highest_top s) = c.in_ok-cover.ensures.ok ∙ ap (λ x. with_bins_for c.args.self.now x) c.highest_top.ensures in
-    c.correct_classes.ensures.made ∙ ap (λ w. after_records g.T.Counter.greatest w (corrections_from (grain s) c.args.interval 0 s.counts)) new
+    c.correct_classes.ensures.made ∙ ap (λ w. after_records g.T.Counter.greatest w (corrections_from (resolution s) c.args.interval 0 s.counts)) new
 
 pub returns-clause-samples : goal.returns-clause-samples
 returns-clause-samples g c = λ L source S stands fits.
     let s = c.args.source.now in
-    subst (λ w. StandsFor w (S ++ corrected_samples (grain s) c.args.interval L)) (sym (returns-clause-ok g c))
-    (StandsFor-merged_corrected g.T.Counter.greatest g.F.Counter.greatest c.args.self.now s c.args.interval S L g.met.T.Counter.one_fits c.cover.ensures.kept c.correct_classes.ensures.source
+    subst (λ w. StandsFor w (S ++ corrected_samples (resolution s) c.args.interval L)) (sym (returns-clause-ok g c))
+    (StandsFor-merged_corrected g.T.Counter.greatest g.F.Counter.greatest c.args.self.now s c.args.interval S L g.met.T.Counter.one_fits c.cover.ensures.plain c.correct_classes.ensures.source
     (omega (arith, c.highest_top.ensures, c.highest_top.type_inv)) stands source fits)
 
 pub returns-clause-same_classes : goal.returns-clause-same_classes
 returns-clause-same_classes g c =
-    ap (λ (p : Plain). grain p) (returns-clause-ok g c) ∙ grain-merged_corrected g.T.Counter.greatest c.args.self.now c.args.source.now c.args.interval
+    ap (λ (p : Plain). resolution p) (returns-clause-ok g c) ∙ resolution-merged_corrected g.T.Counter.greatest c.args.self.now c.args.source.now c.args.interval
 
 pub returns-clause-high : goal.returns-clause-high
 returns-clause-high g c =

@@ -1,9 +1,9 @@
 use Rattle.std.proofs.Common.{◌≡◌, ◌∙◌, ◌≤◌, ◌++◌, ap, sym, subst, arith}
-use Rattle.hdr_model.specs.Plain.{Plain, grain, reach, max_of}
+use Rattle.hdr_model.specs.Plain.{Plain, resolution, reach, max_of}
 use Rattle.hdr_model.specs.Merging.{after_add_within, with_room}
 use Rattle.hdr_model.specs.Samples.{StandsFor}
 use Rattle.hdr_model.proofs.MergingKeeps.{merged-none, merged-some, with_room-reach}
-use Rattle.hdr_model.proofs.MergingStands.{StandsFor-merged, merged-high, grain-merged, stands-none}
+use Rattle.hdr_model.proofs.MergingStands.{StandsFor-merged, merged-high, resolution-merged, stands-none}
 use Rattle.hdr_core.proofs.histogram.Histogram.add_from.Goals as goal
 
 pub returns-then-source-eq0-clause-ok : goal.returns-then-source-eq0-clause-ok
@@ -32,14 +32,14 @@ returns-clause-ok g c =
 
 pub returns-clause-same_classes : goal.returns-clause-same_classes
 returns-clause-same_classes g c =
-    ap (λ (p : Plain). grain p) (returns-clause-ok g c) ∙ grain-merged g.T.Counter.greatest g.F.Counter.greatest c.args.self.now c.args.source.now (rw c.source.view_is at c.source.invariant.plain)
+    ap (λ (p : Plain). resolution p) (returns-clause-ok g c) ∙ resolution-merged g.T.Counter.greatest g.F.Counter.greatest c.args.self.now c.args.source.now (rw c.source.view_is at c.source.invariant.plain)
 
 pub returns-clause-samples : goal.returns-clause-samples
 returns-clause-samples g c = λ L source fine S stands fits.
     let greatest = g.T.Counter.greatest in
     let s = c.args.source.now in
     subst (λ w. StandsFor w (S ++ L)) (sym (returns-clause-ok g c))
-    (StandsFor-merged greatest g.F.Counter.greatest c.args.self.now s S L g.met.T.Counter.one_fits c.make_room.ensures.kept (rw c.source.view_is at c.source.invariant.plain)
+    (StandsFor-merged greatest g.F.Counter.greatest c.args.self.now s S L g.met.T.Counter.one_fits c.make_room.ensures.plain (rw c.source.view_is at c.source.invariant.plain)
     (omega (arith, c.max.ensures.value, c.max.type_inv)) stands source fine fits)
 
 pub returns-clause-high : goal.returns-clause-high

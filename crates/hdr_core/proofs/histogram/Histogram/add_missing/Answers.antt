@@ -1,6 +1,6 @@
 use Rattle.std.proofs.Common.{◌≡◌, ◌∙◌, ◌≤◌, [], length, ap, sym, arith}
 use Rattle.std.proofs.lemmas.List.Elements.{All-weaker}
-use Rattle.hdr_model.specs.Plain.{grain, reach}
+use Rattle.hdr_model.specs.Plain.{resolution, reach}
 use Rattle.hdr_model.specs.Recording.{after_records}
 use Rattle.hdr_model.specs.Correction.{each_times, classes_held, down_to}
 use Rattle.hdr_model.proofs.CorrectionFacts.{down_to-end, down_to-within}
@@ -10,11 +10,11 @@ use Rattle.hdr_model.proofs.PlainBins.{few-bins}
 use Rattle.hdr_model.proofs.CorrectionByClass.{bins-few, each-within}
 use Rattle.hdr_core.proofs.histogram.Histogram.add_missing.Goals as goal
 
-pub add_in_bucket-next-requires-clause-room : goal.add_in_bucket-next-requires-clause-room
-add_in_bucket-next-requires-clause-room g c =
+pub add_in_bucket-next-requires-clause-ticks_fit : goal.add_in_bucket-next-requires-clause-ticks_fit
+add_in_bucket-next-requires-clause-ticks_fit g c =
     let h = c.args.self.now in
     rw (c.loop-next.invariant.same_classes, c.loop-next.invariant.same_bins)
-    (omega (arith, c.requires.room, c.loop-next.invariant.ticks, held-le (grain h) (length h.counts) (down_to c.args.first c.args.interval), bins-few g.T.Counter.greatest h (rw c.self.view_is at c.self.invariant.plain)))
+    (omega (arith, c.requires.ticks_fit, c.loop-next.invariant.ticks, held-le (resolution h) (length h.counts) (down_to c.args.first c.args.interval), bins-few g.T.Counter.greatest h (rw c.self.view_is at c.self.invariant.plain)))
 
 pub returns-clause-state : goal.returns-clause-state
 returns-clause-state g c =
@@ -27,8 +27,8 @@ pub returns-clause-ticks : goal.returns-clause-ticks
 returns-clause-ticks g c =
     let h = c.args.self.now in
     let end : down_to c.loop-next.next c.args.interval ≡ [] = down_to-end c.loop-next.next c.args.interval (omega arith) in
-    let none : classes_held (grain h) (length h.counts) (down_to c.loop-next.next c.args.interval) ≡ 0 =
-    ap (λ ys. classes_held (grain h) (length h.counts) ys) end ∙ held-none (grain h) (length h.counts) in
+    let none : classes_held (resolution h) (length h.counts) (down_to c.loop-next.next c.args.interval) ≡ 0 =
+    ap (λ ys. classes_held (resolution h) (length h.counts) ys) end ∙ held-none (resolution h) (length h.counts) in
     omega (arith, c.loop-next.invariant.ticks)
 
 pub returns-clause-samples : goal.returns-clause-samples
@@ -39,5 +39,5 @@ returns-clause-samples g c = λ S stands fits.
     rw (returns-clause-state g c)
     (StandsFor-each g.T.Counter.greatest h (each_times c.args.count values) S g.met.T.Counter.one_fits (rw c.self.view_is at c.self.invariant.plain) (each-within (reach h) c.args.count values within) stands fits)
 
-pub returns-clause-few : goal.returns-clause-few
-returns-clause-few g c = omega (arith, c.loop-next.invariant.same_bins, few-bins g.T.Counter.greatest c.args.self.now (rw c.self.view_is at c.self.invariant.plain))
+pub returns-clause-at_most : goal.returns-clause-at_most
+returns-clause-at_most g c = omega (arith, c.loop-next.invariant.same_bins, few-bins g.T.Counter.greatest c.args.self.now (rw c.self.view_is at c.self.invariant.plain))

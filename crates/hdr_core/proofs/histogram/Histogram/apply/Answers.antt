@@ -1,31 +1,31 @@
 use Rattle.std.proofs.Common.{◌∙◌, ◌++◌, [], cond, eqb, length, ap, sym, subst, replicate}
 use Rattle.hdr_base.specs.Classes.{reach_of}
-use Rattle.hdr_model.specs.Plain.{Plain, grain, max_of}
+use Rattle.hdr_model.specs.Plain.{Plain, resolution, max_of}
 use Rattle.hdr_model.specs.Samples.{StandsFor, Fits}
 use Rattle.hdr_model.specs.Merging.{highest_top}
 use Rattle.hdr_model.specs.Recording.{high_with, clamp}
 use Rattle.hdr_model.proofs.PlainBounds.{bounds, same-bounds, bounds-recorded, bounds-corrected, bounds-cleared, bounds-restarted, bounds-merged, bounds-merged_corrected}
-use Rattle.hdr_model.proofs.PlainKept.{grain-recorded}
-use Rattle.hdr_model.proofs.RecordingClears.{grain-cleared, grain-restarted, high-cleared, high-restarted, high-clamped, clamped-is, stands-cleared, stands-restarted}
-use Rattle.hdr_model.proofs.CorrectionByClass.{grain-corrected}
+use Rattle.hdr_model.proofs.PlainKept.{resolution-recorded}
+use Rattle.hdr_model.proofs.RecordingClears.{resolution-cleared, resolution-restarted, high-cleared, high-restarted, high-clamped, clamped-is, stands-cleared, stands-restarted}
+use Rattle.hdr_model.proofs.CorrectionByClass.{resolution-corrected}
 use Rattle.hdr_core.proofs.histogram.Histogram.apply.Goals as goal
 
 pub returns-in-Ok-clause-same_classes : goal.returns-in-Ok-clause-same_classes
 returns-in-Ok-clause-same_classes g c =
-    ap (λ (h : Plain). grain h) c.in-Ok.ensures.ok ∙ grain-recorded _ _ _ _
+    ap (λ (h : Plain). resolution h) c.in-Ok.ensures.ok ∙ resolution-recorded _ _ _ _
 
 pub returns-in-Ok-clause-samples : goal.returns-in-Ok-clause-samples
 returns-in-Ok-clause-samples g c = λ s t stands to fits.
     let h = c.args.self.now in
     let v = c.in-Record.value in
     let to = rw c.in-Record.is at to in (
-      subst (λ N. StandsFor c.record_n.new.self N) (sym to.0) (c.in-Ok.ensures.samples s.samples stands.0 (subst (λ N. Fits g.T.Counter.greatest (grain h) N) to.0 fits)),
-      c.in-Ok.ensures.high ∙ ap (λ x. high_with (grain h) x v (reach_of (grain h) v)) stands.1 ∙ sym to.1,
+      subst (λ N. StandsFor c.record_n.new.self N) (sym to.0) (c.in-Ok.ensures.samples s.samples stands.0 (subst (λ N. Fits g.T.Counter.greatest (resolution h) N) to.0 fits)),
+      c.in-Ok.ensures.high ∙ ap (λ x. high_with (resolution h) x v (reach_of (resolution h) v)) stands.1 ∙ sym to.1,
     )
 
 pub returns-in-Clamp-clause-same_classes : goal.returns-in-Clamp-clause-same_classes
 returns-in-Clamp-clause-same_classes g c =
-    ap (λ (h : Plain). grain h) c.saturating_record_n.ensures.state ∙ grain-recorded _ _ _ _
+    ap (λ (h : Plain). resolution h) c.saturating_record_n.ensures.state ∙ resolution-recorded _ _ _ _
 
 pub returns-in-Clamp-clause-samples : goal.returns-in-Clamp-clause-samples
 returns-in-Clamp-clause-samples g c = λ s t stands to fits.
@@ -33,27 +33,27 @@ returns-in-Clamp-clause-samples g c = λ s t stands to fits.
     let v = c.in-Clamp.value in
     let n = g.T.Counter.number c.in-Clamp.count in
     let to = rw c.in-Clamp.is at to in
-    let list = to.0 ∙ ap (λ k. s.samples ++ replicate n (clamp (grain h) k v)) (sym stands.1) ∙ ap (λ x. s.samples ++ replicate n x) (sym (clamped-is h v)) in (
-      subst (λ N. StandsFor c.saturating_record_n.new.self N) (sym list) (c.saturating_record_n.ensures.samples s.samples stands.0 (subst (λ N. Fits g.T.Counter.greatest (grain h) N) list fits)),
+    let list = to.0 ∙ ap (λ k. s.samples ++ replicate n (clamp (resolution h) k v)) (sym stands.1) ∙ ap (λ x. s.samples ++ replicate n x) (sym (clamped-is h v)) in (
+      subst (λ N. StandsFor c.saturating_record_n.new.self N) (sym list) (c.saturating_record_n.ensures.samples s.samples stands.0 (subst (λ N. Fits g.T.Counter.greatest (resolution h) N) list fits)),
       ap (λ (k : Plain). k.high) c.saturating_record_n.ensures.state ∙ high-clamped _ _ _ _ ∙ stands.1 ∙ sym to.1,
     )
 
 pub returns-in-Ok-record_n_correct-clause-same_classes : goal.returns-in-Ok-record_n_correct-clause-same_classes
 returns-in-Ok-record_n_correct-clause-same_classes g c =
-    ap (λ (h : Plain). grain h) c.in-Ok-record_n_correct.ensures.ok
-    ∙ grain-corrected g.T.Counter.greatest c.args.self.now c.in-Correct.value (g.T.Counter.number c.in-Correct.count) c.in-Correct.interval
+    ap (λ (h : Plain). resolution h) c.in-Ok-record_n_correct.ensures.ok
+    ∙ resolution-corrected g.T.Counter.greatest c.args.self.now c.in-Correct.value (g.T.Counter.number c.in-Correct.count) c.in-Correct.interval
 
 pub returns-in-Ok-record_n_correct-clause-samples : goal.returns-in-Ok-record_n_correct-clause-samples
 returns-in-Ok-record_n_correct-clause-samples g c = λ s t stands to fits.
     let h = c.args.self.now in
     let v = c.in-Correct.value in
     let to = rw c.in-Correct.is at to in (
-      subst (λ N. StandsFor c.record_n_correct.new.self N) (sym to.0) (c.in-Ok-record_n_correct.ensures.samples s.samples stands.0 (subst (λ N. Fits g.T.Counter.greatest (grain h) N) to.0 fits)),
-      c.in-Ok-record_n_correct.ensures.high ∙ ap (λ x. high_with (grain h) x v (reach_of (grain h) v)) stands.1 ∙ sym to.1,
+      subst (λ N. StandsFor c.record_n_correct.new.self N) (sym to.0) (c.in-Ok-record_n_correct.ensures.samples s.samples stands.0 (subst (λ N. Fits g.T.Counter.greatest (resolution h) N) to.0 fits)),
+      c.in-Ok-record_n_correct.ensures.high ∙ ap (λ x. high_with (resolution h) x v (reach_of (resolution h) v)) stands.1 ∙ sym to.1,
     )
 
 pub returns-in-Clear-clause-same_classes : goal.returns-in-Clear-clause-same_classes
-returns-in-Clear-clause-same_classes g c = ap (λ (h : Plain). grain h) c.clear.ensures ∙ grain-cleared c.args.self.now
+returns-in-Clear-clause-same_classes g c = ap (λ (h : Plain). resolution h) c.clear.ensures ∙ resolution-cleared c.args.self.now
 
 pub returns-in-Clear-clause-samples : goal.returns-in-Clear-clause-samples
 returns-in-Clear-clause-samples g c = λ s t stands to fits.
@@ -64,7 +64,7 @@ returns-in-Clear-clause-samples g c = λ s t stands to fits.
     )
 
 pub returns-in-Reset-clause-same_classes : goal.returns-in-Reset-clause-same_classes
-returns-in-Reset-clause-same_classes g c = ap (λ (h : Plain). grain h) c.reset.ensures ∙ grain-restarted c.args.self.now
+returns-in-Reset-clause-same_classes g c = ap (λ (h : Plain). resolution h) c.reset.ensures ∙ resolution-restarted c.args.self.now
 
 pub returns-in-Reset-clause-samples : goal.returns-in-Reset-clause-samples
 returns-in-Reset-clause-samples g c = λ s t stands to fits.
@@ -80,8 +80,8 @@ returns-in-Ok-add-clause-samples g c = λ s t stands to fits.
     let to = rw c.in-Add.is at to in
     let L = to.0 in
     let m = max_of c.in-Add.source.now in (
-      subst (λ N. StandsFor c.add.new.self N) (sym to.3) (c.in-Ok-add.ensures.samples L to.1 to.2 s.samples stands.0 (subst (λ N. Fits g.T.Counter.greatest (grain h) N) to.3 fits)),
-      c.in-Ok-add.ensures.high ∙ ap (λ n. cond (eqb n 0) h.high (high_with (grain h) h.high m m)) to.1.total ∙ ap (λ x. cond (eqb (length L) 0) x (high_with (grain h) x m m)) stands.1 ∙ sym to.4,
+      subst (λ N. StandsFor c.add.new.self N) (sym to.3) (c.in-Ok-add.ensures.samples L to.1 to.2 s.samples stands.0 (subst (λ N. Fits g.T.Counter.greatest (resolution h) N) to.3 fits)),
+      c.in-Ok-add.ensures.high ∙ ap (λ n. cond (eqb n 0) h.high (high_with (resolution h) h.high m m)) to.1.total ∙ ap (λ x. cond (eqb (length L) 0) x (high_with (resolution h) x m m)) stands.1 ∙ sym to.4,
     )
 
 pub returns-in-Ok-add_correct-clause-samples : goal.returns-in-Ok-add_correct-clause-samples
@@ -90,8 +90,8 @@ returns-in-Ok-add_correct-clause-samples g c = λ s t stands to fits.
     let to = rw c.in-AddCorrect.is at to in
     let L = to.0 in
     let m = highest_top c.in-AddCorrect.source.now in (
-      subst (λ N. StandsFor c.add_correct.new.self N) (sym to.2) (c.in-Ok-add_correct.ensures.samples L to.1 s.samples stands.0 (subst (λ N. Fits g.T.Counter.greatest (grain h) N) to.2 fits)),
-      c.in-Ok-add_correct.ensures.high ∙ ap (λ x. high_with (grain h) x m (reach_of (grain h) m)) stands.1 ∙ sym to.3,
+      subst (λ N. StandsFor c.add_correct.new.self N) (sym to.2) (c.in-Ok-add_correct.ensures.samples L to.1 s.samples stands.0 (subst (λ N. Fits g.T.Counter.greatest (resolution h) N) to.2 fits)),
+      c.in-Ok-add_correct.ensures.high ∙ ap (λ x. high_with (resolution h) x m (reach_of (resolution h) m)) stands.1 ∙ sym to.3,
     )
 
 pub returns-in-Ok-clause-same_bounds : goal.returns-in-Ok-clause-same_bounds

@@ -2,14 +2,14 @@ use Rattle.std.proofs.Common.{◌∙◌, ◌≤◌, ap, sym, subst, length, rule
 use Rattle.hdr_base.specs.Classes.{bin_of}
 use Rattle.hdr_base.proofs.ClassesDigits.{digits-pos-of}
 use Rattle.hdr_base.proofs.ClassesFiner.{bin-value_of}
-use Rattle.hdr_model.specs.Plain.{grain, reach}
+use Rattle.hdr_model.specs.Plain.{resolution, reach}
 use Rattle.hdr_model.proofs.PlainBins.{value-has-bin}
 use Rattle.hdr_core.proofs.histogram.Histogram.bin_value.Goals as goal
 
 pub returns-then-index-len-clause-bin : goal.returns-then-index-len-clause-bin
 returns-then-index-len-clause-bin g c =
     let h = c.args.self.now in
-    ap (bin_of (grain h)) c.class_value.ensures ∙ bin-value_of (grain h) c.args.index (digits-pos-of h.low h.sigfig)
+    ap (bin_of (resolution h)) c.class_value.ensures ∙ bin-value_of (resolution h) c.args.index (digits-pos-of h.low h.sigfig)
 
 pub returns-then-index-len-clause-within : goal.returns-then-index-len-clause-within
 returns-then-index-len-clause-within g c =

@@ -1,11 +1,11 @@
 use Rattle.std.proofs.Common.{◌≡◌, take}
-use Rattle.hdr_model.specs.Plain.{grain, reach}
+use Rattle.hdr_model.specs.Plain.{resolution, reach}
 use Rattle.hdr_model.specs.Recording.{after_records}
 use Rattle.hdr_model.specs.Merging.{corrections_from}
 use Rattle.hdr_core.proofs.histogram.Histogram.correct_classes.Given as goal
 
 abbrev pub invariant-loop-bin : goal.invariant-loop-bin
 invariant-loop-bin g l = record {
-  made : l.self ≡ after_records g.T.Counter.greatest l.initial.self (corrections_from (grain l.source) l.interval 0 (take l.bin l.source.counts));
+  made : l.self ≡ after_records g.T.Counter.greatest l.initial.self (corrections_from (resolution l.source) l.interval 0 (take l.bin l.source.counts));
   same_reach : reach l.self ≡ reach l.initial.self;
 }

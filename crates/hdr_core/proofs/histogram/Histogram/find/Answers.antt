@@ -1,13 +1,13 @@
 use Rattle.std.proofs.Common.{◌∙◌, ◌+◌, length, ap, arith}
 use Rattle.hdr_counts.specs.Blocks.{looks}
 use Rattle.hdr_model.specs.Plain.{Plain, block_of}
-use Rattle.hdr_model.specs.Quantiles.{first_reaching}
+use Rattle.hdr_model.specs.Quantiles.{position_of_rank}
 use Rattle.hdr_model.proofs.QuantilesFirst.{found-by-blocks}
 use Rattle.hdr_core.proofs.histogram.Histogram.find.Goals as goal
 
-pub returns-clause-place : goal.returns-clause-place
-returns-clause-place g c =
-    found-by-blocks c.self.inside.counts.numbers c.args.rank c.find.result (omega (arith, c.requires.some)) c.find.ensures.place ∙ ap (λ (p : Plain). first_reaching p.counts c.args.rank) c.self.view_is
+pub returns-clause-index : goal.returns-clause-index
+returns-clause-index g c =
+    found-by-blocks c.self.inside.counts.numbers c.args.rank c.find.result (omega (arith, c.requires.nonzero)) c.find.ensures.index ∙ ap (λ (p : Plain). position_of_rank p.counts c.args.rank) c.self.view_is
 
 pub returns-clause-looks : goal.returns-clause-looks
 returns-clause-looks g c =

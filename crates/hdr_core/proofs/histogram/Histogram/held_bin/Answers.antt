@@ -1,7 +1,7 @@
 use Rattle.std.proofs.Common.{◌≡◌, ◌∙◌, ◌-◌, min, ap, arith}
-use Rattle.hdr_base.specs.Classes.{Grain, bin_of}
+use Rattle.hdr_base.specs.Classes.{Resolution, bin_of}
 use Rattle.hdr_core.specs.Shown.{plain_of}
-use Rattle.hdr_model.specs.Plain.{grain}
+use Rattle.hdr_model.specs.Plain.{resolution}
 use Rattle.hdr_model.specs.Statistics.{held_bin}
 use Rattle.hdr_model.proofs.PlainKept.{bins-pos}
 use Rattle.hdr_core.proofs.histogram.Histogram.held_bin.Goals as goal
@@ -13,9 +13,9 @@ pub returns-clause-value : goal.returns-clause-value
 unfolding held_bin
 returns-clause-value g c =
     let h = plain_of c.self.inside in
-    let bin : c.bin.result ≡ bin_of (grain h) c.args.value = c.bin.ensures.value ∙ ap (λ (k : Grain). bin_of k c.args.value) c.self.invariant.scale in
+    let bin : c.bin.result ≡ bin_of (resolution h) c.args.value = c.bin.ensures.value ∙ ap (λ (k : Resolution). bin_of k c.args.value) c.self.invariant.scale in
     rw (← c.self.view_is)
-    (c.min.ensures ∙ ap (λ k. min k (c.len.result - 1)) bin ∙ ap (λ n. min (bin_of (grain h) c.args.value) (n - 1)) c.len.ensures.value)
+    (c.min.ensures ∙ ap (λ k. min k (c.len.result - 1)) bin ∙ ap (λ n. min (bin_of (resolution h) c.args.value) (n - 1)) c.len.ensures.value)
 
 pub returns-clause-within : goal.returns-clause-within
 returns-clause-within g c =

@@ -1,6 +1,6 @@
 use Rattle.std.proofs.Common.{◌∙◌, ◌≤◌, ap, sym, subst}
 use Rattle.hdr_base.specs.Classes.{bin_of}
-use Rattle.hdr_model.specs.Plain.{Plain, grain, reach}
+use Rattle.hdr_model.specs.Plain.{Plain, resolution, reach}
 use Rattle.hdr_model.proofs.PlainBins.{bin-of-max, max-has-bin}
 use Rattle.hdr_model.proofs.RecordingClears.{max-marked, max-unmarked}
 use Rattle.hdr_model.proofs.MergingCopies.{highest-max}
@@ -13,7 +13,7 @@ returns-in-Some-clause-value g c =
 
 pub returns-in-Some-clause-bin : goal.returns-in-Some-clause-bin
 returns-in-Some-clause-bin g c =
-    ap (bin_of (grain c.args.self.now)) (returns-in-Some-clause-value g c) ∙ bin-of-max g.T.Counter.greatest c.args.self.now (rw c.self.view_is at c.self.invariant.plain)
+    ap (bin_of (resolution c.args.self.now)) (returns-in-Some-clause-value g c) ∙ bin-of-max g.T.Counter.greatest c.args.self.now (rw c.self.view_is at c.self.invariant.plain)
 
 pub returns-in-Some-clause-within : goal.returns-in-Some-clause-within
 returns-in-Some-clause-within g c =
@@ -24,7 +24,7 @@ returns-in-None-clause-value g c = max-unmarked c.args.self.now (sym (ap (λ (p 
 
 pub returns-in-None-clause-bin : goal.returns-in-None-clause-bin
 returns-in-None-clause-bin g c =
-    ap (bin_of (grain c.args.self.now)) (returns-in-None-clause-value g c) ∙ bin-of-max g.T.Counter.greatest c.args.self.now (rw c.self.view_is at c.self.invariant.plain)
+    ap (bin_of (resolution c.args.self.now)) (returns-in-None-clause-value g c) ∙ bin-of-max g.T.Counter.greatest c.args.self.now (rw c.self.view_is at c.self.invariant.plain)
 
 pub returns-in-None-clause-within : goal.returns-in-None-clause-within
 returns-in-None-clause-within g c =

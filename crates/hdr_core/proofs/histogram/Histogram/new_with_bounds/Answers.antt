@@ -2,8 +2,8 @@ use Rattle.std.proofs.Common.{false, arith}
 use Rattle.hdr_model.proofs.PlainKept.{IsPlain-empty, made}
 use Rattle.hdr_core.proofs.histogram.Histogram.new_with_bounds.Goals as goal
 
-pub new-requires-clause-few : goal.new-requires-clause-few
-new-requires-clause-few g c = rw (c.block.ensures.value) c.blocks-2.ensures.few
+pub new-requires-clause-at_most : goal.new-requires-clause-at_most
+new-requires-clause-at_most g c = rw (c.block.ensures.value) c.blocks-2.ensures.fits
 
 pub invariant_of-result : goal.invariant_of-result
 invariant_of-result g c =

@@ -1,10 +1,10 @@
 use Rattle.std.proofs.Common.{◌≡◌, ◌∙◌, ◌+◌, ◌++◌, ◌∷◌, [], length, replicate, ap, sym, subst, arith, append_assoc, append-nil}
-use Rattle.hdr_base.specs.Classes.{Grain}
-use Rattle.hdr_model.specs.Plain.{Plain, grain}
+use Rattle.hdr_base.specs.Classes.{Resolution}
+use Rattle.hdr_model.specs.Plain.{Plain, resolution}
 use Rattle.hdr_model.specs.Recording.{after_record, after_records, samples_of}
 use Rattle.hdr_model.specs.Samples.{StandsFor, Fits}
 use Rattle.hdr_model.specs.Correction.{missing, down_to, each_times, after_correct, classes_held}
-use Rattle.hdr_model.proofs.PlainKept.{grain-recorded}
+use Rattle.hdr_model.proofs.PlainKept.{resolution-recorded}
 use Rattle.hdr_model.proofs.CorrectionFacts.{missing-down}
 use Rattle.hdr_model.proofs.CorrectionClasses.{held-none, held-le}
 use Rattle.hdr_model.proofs.MergingStands.{Fits-front}
@@ -43,14 +43,14 @@ returns-then-hides-clause-ticks g c =
     let mid = c.record_n.new.self in
     let new = c.add_missing.new.self in
     c.add_missing.ensures.ticks
-    ∙ ap (λ xs. c.args.ticks.now + classes_held (grain mid) (length mid.counts) xs) (list g c)
-    ∙ ap (λ (k : Grain). c.args.ticks.now + classes_held k (length mid.counts) (missing v i)) (sym c.add_missing.ensures.same_classes)
-    ∙ ap (λ m. c.args.ticks.now + classes_held (grain new) m (missing v i)) (sym c.add_missing.ensures.same_bins)
+    ∙ ap (λ xs. c.args.ticks.now + classes_held (resolution mid) (length mid.counts) xs) (list g c)
+    ∙ ap (λ (k : Resolution). c.args.ticks.now + classes_held k (length mid.counts) (missing v i)) (sym c.add_missing.ensures.same_classes)
+    ∙ ap (λ m. c.args.ticks.now + classes_held (resolution new) m (missing v i)) (sym c.add_missing.ensures.same_bins)
 
 pub returns-then-hides-clause-at_most_bins : goal.returns-then-hides-clause-at_most_bins
 returns-then-hides-clause-at_most_bins g c =
     let new = c.add_missing.new.self in
-    omega (arith, returns-then-hides-clause-ticks g c, held-le (grain new) (length new.counts) (missing c.args.value c.args.interval))
+    omega (arith, returns-then-hides-clause-ticks g c, held-le (resolution new) (length new.counts) (missing c.args.value c.args.interval))
 
 pub returns-then-hides-clause-samples : goal.returns-then-hides-clause-samples
 returns-then-hides-clause-samples g c = λ S stands fits.
@@ -61,11 +61,11 @@ returns-then-hides-clause-samples g c = λ S stands fits.
     let joined : S ++ samples_of (each_times n (v ∷ missing v i)) ≡ (S ++ replicate n v) ++ samples_of (each_times c.as_u64.result (down_to c.saturating_sub.result i)) =
     sym (append_assoc S (replicate n v) (samples_of (each_times n (missing v i)))) ∙ ap (λ xs. (S ++ replicate n v) ++ samples_of (each_times n xs)) (sym (list g c))
     ∙ ap (λ k. (S ++ replicate n v) ++ samples_of (each_times k (down_to c.saturating_sub.result i))) (sym c.as_u64.ensures.value) in
-    let all = subst (λ xs. Fits greatest (grain c.args.self.now) xs) joined fits in
-    let first = c.in_ok-record_n.ensures.samples S stands (Fits-front greatest (grain c.args.self.now) (S ++ replicate n v) _ all) in
-    let same : grain c.record_n.new.self ≡ grain c.args.self.now = ap (λ (h : Plain). grain h) c.in_ok-record_n.ensures.ok ∙ grain-recorded greatest c.args.self.now v n in
+    let all = subst (λ xs. Fits greatest (resolution c.args.self.now) xs) joined fits in
+    let first = c.in_ok-record_n.ensures.samples S stands (Fits-front greatest (resolution c.args.self.now) (S ++ replicate n v) _ all) in
+    let same : resolution c.record_n.new.self ≡ resolution c.args.self.now = ap (λ (h : Plain). resolution h) c.in_ok-record_n.ensures.ok ∙ resolution-recorded greatest c.args.self.now v n in
     subst (λ xs. StandsFor c.add_missing.new.self xs) (sym joined)
-    (c.add_missing.ensures.samples (S ++ replicate n v) first (subst (λ (k : Grain). Fits greatest k ((S ++ replicate n v) ++ samples_of (each_times c.as_u64.result (down_to c.saturating_sub.result i)))) (sym same) all))
+    (c.add_missing.ensures.samples (S ++ replicate n v) first (subst (λ (k : Resolution). Fits greatest k ((S ++ replicate n v) ++ samples_of (each_times c.as_u64.result (down_to c.saturating_sub.result i)))) (sym same) all))
 
 pub returns-then-hides-clause-high : goal.returns-then-hides-clause-high
 returns-then-hides-clause-high g c =
@@ -81,8 +81,8 @@ returns-else-hides-clause-ok g c =
 pub returns-else-hides-clause-ticks : goal.returns-else-hides-clause-ticks
 returns-else-hides-clause-ticks g c =
     let h = c.record_n.new.self in
-    let no_class : classes_held (grain h) (length h.counts) (missing c.args.value c.args.interval) ≡ 0 =
-    ap (λ xs. classes_held (grain h) (length h.counts) xs) (none g c) ∙ held-none (grain h) (length h.counts) in
+    let no_class : classes_held (resolution h) (length h.counts) (missing c.args.value c.args.interval) ≡ 0 =
+    ap (λ xs. classes_held (resolution h) (length h.counts) xs) (none g c) ∙ held-none (resolution h) (length h.counts) in
     omega arith
 
 pub returns-else-hides-clause-samples : goal.returns-else-hides-clause-samples
@@ -92,7 +92,7 @@ returns-else-hides-clause-samples g c = λ S stands fits.
     let list : S ++ samples_of (each_times n (v ∷ missing v c.args.interval)) ≡ S ++ replicate n v =
     ap (λ xs. S ++ (replicate n v ++ samples_of (each_times n xs))) (none g c) ∙ ap (λ xs. S ++ xs) (append-nil (replicate n v)) in
     subst (λ xs. StandsFor c.record_n.new.self xs) (sym list)
-    (c.in_ok-record_n.ensures.samples S stands (subst (λ xs. Fits g.T.Counter.greatest (grain c.args.self.now) xs) list fits))
+    (c.in_ok-record_n.ensures.samples S stands (subst (λ xs. Fits g.T.Counter.greatest (resolution c.args.self.now) xs) list fits))
 
-pub returns-then-hides-clause-few : goal.returns-then-hides-clause-few
-returns-then-hides-clause-few g c = omega (arith, returns-then-hides-clause-at_most_bins g c, c.add_missing.ensures.few)
+pub returns-then-hides-clause-at_most : goal.returns-then-hides-clause-at_most
+returns-then-hides-clause-at_most g c = omega (arith, returns-then-hides-clause-at_most_bins g c, c.add_missing.ensures.at_most)

@@ -1,6 +1,6 @@
 use Rattle.std.proofs.Common.{◌≡◌, ◌∙◌, ap, arith}
-use Rattle.hdr_base.specs.Classes.{Grain, bin_of}
-use Rattle.hdr_model.specs.Plain.{Plain, grain}
+use Rattle.hdr_base.specs.Classes.{Resolution, bin_of}
+use Rattle.hdr_model.specs.Plain.{Plain, resolution}
 use Rattle.hdr_model.specs.Recording.{clamp_to_bins, after_add_to_bin, after_record}
 use Rattle.hdr_model.proofs.PlainKept.{room-in}
 use Rattle.hdr_model.proofs.RecordingClears.{clamped-small}
@@ -11,8 +11,8 @@ use Rattle.hdr_core.proofs.histogram.Histogram.saturating_record_n.Goals as goal
 pub add_to_bin-requires : goal.add_to_bin-requires
 add_to_bin-requires g c =
     let h = c.args.self.now in
-    let same : c.self.inside.scale ≡ grain h = c.self.invariant.scale ∙ ap (λ (p : Plain). grain p) c.self.view_is in
-    let bin : c.bin-bin.result ≡ bin_of (grain h) c.clamped-value.result = c.bin-bin.ensures.value ∙ ap (λ (s : Grain). bin_of s c.clamped-value.result) same in
+    let same : c.self.inside.scale ≡ resolution h = c.self.invariant.scale ∙ ap (λ (p : Plain). resolution p) c.self.view_is in
+    let bin : c.bin-bin.result ≡ bin_of (resolution h) c.clamped-value.result = c.bin-bin.ensures.value ∙ ap (λ (s : Resolution). bin_of s c.clamped-value.result) same in
     omega (arith, room-in g.T.Counter.greatest h c.clamped-value.result (rw c.self.view_is at c.self.invariant.plain) c.clamped-value.ensures.within)
 
 pub returns-clause-state : goal.returns-clause-state
@@ -21,9 +21,9 @@ returns-clause-state g c =
     let greatest = g.T.Counter.greatest in
     let n = g.T.Counter.number c.args.count in
     let v = c.clamped-value.result in
-    let same : c.self.inside.scale ≡ grain h = c.self.invariant.scale ∙ ap (λ (p : Plain). grain p) c.self.view_is in
-    let bin : c.bin-bin.result ≡ bin_of (grain h) v = c.bin-bin.ensures.value ∙ ap (λ (s : Grain). bin_of s v) same in
-    c.add_to_bin.ensures ∙ ap (λ b. after_add_to_bin greatest h b c.as_u64.result) bin ∙ ap (λ k. after_add_to_bin greatest h (bin_of (grain h) v) k) c.as_u64.ensures.value
+    let same : c.self.inside.scale ≡ resolution h = c.self.invariant.scale ∙ ap (λ (p : Plain). resolution p) c.self.view_is in
+    let bin : c.bin-bin.result ≡ bin_of (resolution h) v = c.bin-bin.ensures.value ∙ ap (λ (s : Resolution). bin_of s v) same in
+    c.add_to_bin.ensures ∙ ap (λ b. after_add_to_bin greatest h b c.as_u64.result) bin ∙ ap (λ k. after_add_to_bin greatest h (bin_of (resolution h) v) k) c.as_u64.ensures.value
     ∙ recorded-inside greatest h v n c.clamped-value.ensures.within ∙ ap (λ x. after_record greatest h x n) c.clamped-value.ensures.value
 
 pub returns-clause-samples : goal.returns-clause-samples

@@ -19,8 +19,8 @@ returns-clause-ranked g c = λ S stands some.
 pub invariant_of-result : goal.invariant_of-result
 invariant_of-result g c = (
   ap (λ (s : Searched). s.numbers) c.new.ensures ∙ ap (λ (p : Plain). p.counts) c.self.view_is,
-  c.requires.some,
-  c.requires.few,
+  c.requires.nonzero,
+  c.requires.at_most,
   omega arith,
   omega arith,
   omega arith,

@@ -1,7 +1,7 @@
 use Rattle.std.proofs.Common.{◌≡◌, ◌+◌, ◌*◌, ◌<◌, length, get_or, ap, ◌∙◌, sym, arith}
-use Rattle.hdr_base.specs.Classes.{Grain, value_of}
+use Rattle.hdr_base.specs.Classes.{Resolution, value_of}
 use Rattle.hdr_counts.proofs.BlocksSums.{sum_below_more, sum_below-le-sum}
-use Rattle.hdr_model.specs.Plain.{Plain, grain}
+use Rattle.hdr_model.specs.Plain.{Plain, resolution}
 use Rattle.hdr_core.specs.Shown.{plain_of}
 use Rattle.hdr_model.specs.Statistics.{median_of}
 use Rattle.hdr_core.proofs.IteratingFacts.{AreBins-binned}
@@ -37,11 +37,11 @@ loop-bin-preserved g c =
     let held = number g (goal.at.loop-bin-preserved g c).After-as_u64 in
     let place : i ≡ 0 + i = omega arith in
     let on = c.next_filled-bin-in-loop-bin.ensures in
-    let weight_is : c.weight-sum.result ≡ median_of (grain h) (value_of (grain h) (0 + i)) * get_or h.counts i 0 =
-    c.weight-sum.ensures.value ∙ ap (λ (s : Grain). median_of s (value_of s i) * c.as_u64.result) c.self.invariant.scale
-    ∙ ap (λ k. median_of (grain h) (value_of (grain h) i) * k) held ∙ ap (λ j. median_of (grain h) (value_of (grain h) j) * get_or h.counts i 0) place in (
+    let weight_is : c.weight-sum.result ≡ median_of (resolution h) (value_of (resolution h) (0 + i)) * get_or h.counts i 0 =
+    c.weight-sum.ensures.value ∙ ap (λ (s : Resolution). median_of s (value_of s i) * c.as_u64.result) c.self.invariant.scale
+    ∙ ap (λ k. median_of (resolution h) (value_of (resolution h) i) * k) held ∙ ap (λ j. median_of (resolution h) (value_of (resolution h) j) * get_or h.counts i 0) place in (
       on.within,
-      omega (arith, c.loop-bin.invariant.1, weighed-more (grain h) 0 h.counts i inside, weight_is, weight-zeros (grain h) 0 (i + 1) c.next_filled-bin-in-loop-bin.result h.counts on.onward on.empty),
+      omega (arith, c.loop-bin.invariant.1, weighed-more (resolution h) 0 h.counts i inside, weight_is, weight-zeros (resolution h) 0 (i + 1) c.next_filled-bin-in-loop-bin.result h.counts on.onward on.empty),
       omega (arith, c.loop-bin.invariant.2, c.weight-sum.ensures.bound, held, sum_below_more h.counts i inside, sum-zeros (i + 1) c.next_filled-bin-in-loop-bin.result h.counts on.onward on.empty),
     )
 
@@ -49,4 +49,4 @@ pub loop-bin-init : goal.loop-bin-init
 loop-bin-init g c =
     let h = plain_of c.self.inside in
     let on = c.next_filled-bin.ensures in
-    (on.within, sym (weight-zeros (grain h) 0 0 c.next_filled-bin.result h.counts on.onward on.empty), omega arith)
+    (on.within, sym (weight-zeros (resolution h) 0 0 c.next_filled-bin.result h.counts on.onward on.empty), omega arith)

@@ -1,5 +1,5 @@
 use Rattle.std.proofs.Common.{◌≡◌, ◌*◌, ◌^◌, ◌-◌, ◌≤◌, length, take, sum}
-use Rattle.hdr_model.specs.Plain.{grain}
+use Rattle.hdr_model.specs.Plain.{resolution}
 use Rattle.hdr_model.specs.Statistics.{weight_from}
 use Rattle.hdr_core.specs.Shown.{plain_of}
 use Rattle.hdr_core.proofs.histogram.Histogram.weighed.Given as goal
@@ -7,7 +7,7 @@ use Rattle.hdr_core.proofs.histogram.Histogram.weighed.Given as goal
 abbrev pub invariant-loop-bin : goal.invariant-loop-bin
 invariant-loop-bin g l =
     let h = plain_of l.self-inside in
-    (l.bin ≤ length h.counts) × (l.sum ≡ weight_from (grain h) 0 (take l.bin h.counts)) × (l.sum ≤ 2 ^ 64 * sum (take l.bin h.counts))
+    (l.bin ≤ length h.counts) × (l.sum ≡ weight_from (resolution h) 0 (take l.bin h.counts)) × (l.sum ≤ 2 ^ 64 * sum (take l.bin h.counts))
 
 abbrev pub decreases-loop-bin : goal.decreases-loop-bin
 decreases-loop-bin g l = length l.self-inside.counts.numbers - l.bin

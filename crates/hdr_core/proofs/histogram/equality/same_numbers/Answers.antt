@@ -30,5 +30,5 @@ loop-i-init g c = λ k lt.
     let xs = c.as_slice.result.now in
     let ys = c.as_slice-2.result.now in
     let inside : k < length (take both xs) = omega (arith, lt, length-take both xs, length-map xs g.T.Counter.number, ap (length {A = ℕ}) c.as_slice.ensures, c.min-both.ensures, c.min.ensures, c.len.ensures.value) in
-    sym (front-at g.T.Counter.number xs both k lt ∙ ap (λ l. get_or l k 0) c.as_slice.ensures) ∙ c.same_front.ensures.same c.if-not-same_front.false k inside
+    sym (front-at g.T.Counter.number xs both k lt ∙ ap (λ l. get_or l k 0) c.as_slice.ensures) ∙ c.same_front.ensures.equal c.if-not-same_front.false k inside
     ∙ (front-at g.F.Counter.number ys both k lt ∙ ap (λ l. get_or l k 0) c.as_slice-2.ensures)

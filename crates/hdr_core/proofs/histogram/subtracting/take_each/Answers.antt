@@ -4,7 +4,7 @@ use Rattle.std.proofs.lemmas.List.{length-set}
 use Rattle.std.proofs.lemmas.List.Elements.{All-set}
 use Rattle.hdr_base.specs.Classes.{bin_of}
 use Rattle.hdr_counts.specs.Blocks.{Blocks}
-use Rattle.hdr_model.specs.Plain.{Plain, grain}
+use Rattle.hdr_model.specs.Plain.{Plain, resolution}
 use Rattle.hdr_model.proofs.MergingHolds.{held, held-none, held-same, enough-left, taken-next}
 use Rattle.hdr_core.proofs.UsedBins.{held-used}
 use Rattle.hdr_core.proofs.histogram.subtracting.take_each.Given as given
@@ -16,7 +16,7 @@ loop-bin-init g c = record {
   block = refl;
   bins = refl;
   fit = c.requires.fit;
-  taken = λ j. omega (arith, held-none c.args.scale (grain c.args.other.now) c.args.other.now.counts j);
+  taken = λ j. omega (arith, held-none c.args.scale (resolution c.args.other.now) c.args.other.now.counts j);
 }
 
 -- the class that is read is one of the other's, and its number
@@ -30,13 +30,13 @@ pub take_from-requires : goal.take_from-requires
 take_from-requires g c =
     let s = c.args.other.now in
     let (inside, at) = looked_at g (goal.at.take_from-requires g c).After-get-count in
-    let left = enough-left c.args.scale (grain s) s.counts c.args.counts.now.numbers c.loop-bin.counts.numbers c.loop-bin.bin c.bin-target.result inside (omega (arith, at, c.as_u64.ensures.value, c.if-as_u64-gt0.true))
+    let left = enough-left c.args.scale (resolution s) s.counts c.args.counts.now.numbers c.loop-bin.counts.numbers c.loop-bin.bin c.bin-target.result inside (omega (arith, at, c.as_u64.ensures.value, c.if-as_u64-gt0.true))
     (c.bin-target.ensures.value ∙ ap (λ v. bin_of c.args.scale v) c.class_value.ensures) c.requires.enough c.loop-bin.invariant.taken in
     record { inside = left.0; enough = omega (arith, at, left.1) }
 
 pub loop-bin-preserved : goal.loop-bin-preserved
 loop-bin-preserved g c =
-    let f = grain c.args.other.now in
+    let f = resolution c.args.other.now in
     let k = c.args.scale in
     let s = c.args.other.now in
     let i = c.loop-bin.bin in
@@ -78,4 +78,4 @@ returns-clause-numbers g c =
     let s = c.args.other.now in
     let i = c.loop-bin.bin in
     let rest : (k : ℕ) → i ≤ k → get_or s.counts k 0 ≡ 0 = λ k le. c.used_bins-bin-end.ensures.rest k (omega (arith, le, c.loop-bin-test.false, c.loop-bin.auto.bin-end)) in
-    λ j. omega (arith, c.loop-bin.invariant.taken j, held-used c.args.scale (grain s) s.counts i j rest)
+    λ j. omega (arith, c.loop-bin.invariant.taken j, held-used c.args.scale (resolution s) s.counts i j rest)

@@ -1,6 +1,6 @@
 use Rattle.std.proofs.Common.{◌≡◌, ℕ, ◌+◌, ◌≤◌, length, get_or}
 use Rattle.std.specs.List.{All}
-use Rattle.hdr_model.specs.Plain.{grain}
+use Rattle.hdr_model.specs.Plain.{resolution}
 use Rattle.hdr_model.proofs.MergingHolds.{held}
 use Rattle.hdr_core.proofs.histogram.subtracting.take_each.Given as goal
 
@@ -9,5 +9,5 @@ invariant-loop-bin g l = record {
   block : l.counts.block ≡ l.initial.counts.block;
   bins : length l.counts.numbers ≡ length l.initial.counts.numbers;
   fit : All (λ n. n ≤ g.T.Counter.greatest) l.counts.numbers;
-  taken : (j : ℕ) → get_or l.counts.numbers j 0 + held l.scale (grain l.other) l.other.counts l.bin j ≡ get_or l.initial.counts.numbers j 0;
+  taken : (j : ℕ) → get_or l.counts.numbers j 0 + held l.scale (resolution l.other) l.other.counts l.bin j ≡ get_or l.initial.counts.numbers j 0;
 }

@@ -3,8 +3,8 @@ use Rattle.hdr_iterators.specs.Places.{is_within}
 use Rattle.hdr_iterators.proofs.TicksHalves.{within_few}
 use Rattle.hdr_iterators.proofs.quantile.NextTick.is_within.Goals as goal
 
-pub returns-clause-few : goal.returns-clause-few
-returns-clause-few c = λ yes.
+pub returns-clause-below : goal.returns-clause-below
+returns-clause-below c = λ yes.
     let s = c.self.inside in
     let below : c.args.count < s.total = rw (← c.self.view_is) at c.requires in
     let le : c.args.count ≤ s.total = omega (arith, below) in

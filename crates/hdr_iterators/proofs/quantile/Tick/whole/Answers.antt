@@ -15,8 +15,8 @@ returns-clause-value c =
     let value : c.from.result * 2 ^ (q + 1) % 2 ^ 128 ≡ t * 2 ^ (q + 1) = ap (λ n. n * 2 ^ (q + 1) % 2 ^ 128) c.from.ensures ∙ whole_mod t q fits c.self.invariant.1 in
     value ∙ sym den
 
-pub returns-clause-some : goal.returns-clause-some
-returns-clause-some c =
+pub returns-clause-nonzero : goal.returns-clause-nonzero
+returns-clause-nonzero c =
     let t = c.self.inside.per_half in
     let q = c.self.inside.half in
     let fits : t < 2 ^ 32 = omega (arith, c.self.ranges) in

@@ -7,16 +7,16 @@ pub returns-in-Ok-clause-bounds : goal.returns-in-Ok-clause-bounds
 returns-in-Ok-clause-bounds g c = defect-none (header_of c.args.header) (bounds-yes c.args.header.low c.args.header.high c.args.header.sigfig c.in-Ok.ensures.1)
 
 pub returns-in-Ok-clause-empty : goal.returns-in-Ok-clause-empty
-returns-in-Ok-clause-empty g c = (is-made c.in-Ok.filling c.args.header.low c.args.header.high c.args.header.sigfig c.in-Ok.ensures.0).empty
+returns-in-Ok-clause-empty g c = (is-made c.in-Ok.builder c.args.header.low c.args.header.high c.args.header.sigfig c.in-Ok.ensures.0).empty
 
 pub returns-in-Ok-clause-fixed : goal.returns-in-Ok-clause-fixed
-returns-in-Ok-clause-fixed g c = (is-made c.in-Ok.filling c.args.header.low c.args.header.high c.args.header.sigfig c.in-Ok.ensures.0).fixed
+returns-in-Ok-clause-fixed g c = (is-made c.in-Ok.builder c.args.header.low c.args.header.high c.args.header.sigfig c.in-Ok.ensures.0).fixed
 
 pub returns-in-Ok-clause-told : goal.returns-in-Ok-clause-told
-returns-in-Ok-clause-told g c = (is-made c.in-Ok.filling c.args.header.low c.args.header.high c.args.header.sigfig c.in-Ok.ensures.0).told
+returns-in-Ok-clause-told g c = (is-made c.in-Ok.builder c.args.header.low c.args.header.high c.args.header.sigfig c.in-Ok.ensures.0).told
 
 pub returns-in-Ok-clause-bins : goal.returns-in-Ok-clause-bins
-returns-in-Ok-clause-bins g c = (is-made c.in-Ok.filling c.args.header.low c.args.header.high c.args.header.sigfig c.in-Ok.ensures.0).bins
+returns-in-Ok-clause-bins g c = (is-made c.in-Ok.builder c.args.header.low c.args.header.high c.args.header.sigfig c.in-Ok.ensures.0).bins
 
 pub returns-in-Err-clause-bounds : goal.returns-in-Err-clause-bounds
 returns-in-Err-clause-bounds g c = bounds-refused (header_of c.args.header) c.in-Err.error (defect_of_error c.refused.result) c.in-Err.ensures c.refused.ensures

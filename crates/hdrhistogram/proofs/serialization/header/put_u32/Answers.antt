@@ -9,7 +9,7 @@ unfolding four
 returns-clause-front c = put_front c.args.buf.now c.write_u32.new.buf (four c.args.number) c.args.at 4 (omega arith) refl
     (c.write_u32.ensures ∙ ap (λ l. four c.args.number ++ drop 4 l) (take_rest c.args.buf.now c.args.at))
 
-pub returns-clause-kept : goal.returns-clause-kept
+pub returns-clause-unchanged : goal.returns-clause-unchanged
 unfolding four
-returns-clause-kept c k h = drop_past _ _ (c.args.at + 4) k h (put_behind c.args.buf.now c.write_u32.new.buf (four c.args.number) c.args.at 4 (omega arith) refl
+returns-clause-unchanged c k h = drop_past _ _ (c.args.at + 4) k h (put_behind c.args.buf.now c.write_u32.new.buf (four c.args.number) c.args.at 4 (omega arith) refl
     (c.write_u32.ensures ∙ ap (λ l. four c.args.number ++ drop 4 l) (take_rest c.args.buf.now c.args.at)))

@@ -9,7 +9,7 @@ unfolding eight
 returns-clause-front c = put_front c.args.buf.now c.write_u64.new.buf (eight c.args.number) c.args.at 8 (omega arith) refl
     (c.write_u64.ensures ∙ ap (λ l. eight c.args.number ++ drop 8 l) (take_rest c.args.buf.now c.args.at))
 
-pub returns-clause-kept : goal.returns-clause-kept
+pub returns-clause-unchanged : goal.returns-clause-unchanged
 unfolding eight
-returns-clause-kept c k h = drop_past _ _ (c.args.at + 8) k h (put_behind c.args.buf.now c.write_u64.new.buf (eight c.args.number) c.args.at 8 (omega arith) refl
+returns-clause-unchanged c k h = drop_past _ _ (c.args.at + 8) k h (put_behind c.args.buf.now c.write_u64.new.buf (eight c.args.number) c.args.at 8 (omega arith) refl
     (c.write_u64.ensures ∙ ap (λ l. eight c.args.number ++ drop 8 l) (take_rest c.args.buf.now c.args.at)))

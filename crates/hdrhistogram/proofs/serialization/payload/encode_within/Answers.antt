@@ -8,8 +8,8 @@ use Rattle.hdrhistogram.proofs.serialization.payload.encode_within.Goals as goal
 pub loop-bin-init : goal.loop-bin-init
 loop-bin-init g c = record { encoded = encode_start (take c.written_bins-bins.result c.args.h.now.counts) c.args.buf.now; within = omega arith }
 
-pub put_run-written-requires-clause-room : goal.put_run-written-requires-clause-room
-put_run-written-requires-clause-room g c =
+pub put_run-written-requires-clause-capacity : goal.put_run-written-requires-clause-capacity
+put_run-written-requires-clause-capacity g c =
     let h = c.args.h.now in
     let bins = c.written_bins-bins.result in
     let counts = take bins h.counts in
@@ -56,8 +56,8 @@ loop-bin-preserved-then-count-eq0 g c =
             get_or-take bins h.counts filled 0 (omega (arith, before, size)),
             none,
           )))
-          c.put_run-written.ensures.further c.put_run-written.ensures.few
-          (run_is _ _ _ (omega (arith, c.min-filled.ensures, c.written_bins-bins.ensures.few)) c.put_run-written.ensures.front) c.put_run-written.ensures.kept;
+          c.put_run-written.ensures.further c.put_run-written.ensures.at_most
+          (run_is _ _ _ (omega (arith, c.min-filled.ensures, c.written_bins-bins.ensures.at_most)) c.put_run-written.ensures.front) c.put_run-written.ensures.unchanged;
       within = omega (arith, c.min-filled.ensures);
     }
 
@@ -73,8 +73,8 @@ loop-bin-preserved g c =
     record {
       encoded = encode_full counts _ c.put_number-written.new.buf c.args.buf.now bin _ c.put_number-written.result c.loop-bin.invariant.encoded (omega (arith, size, c.loop-bin-test.true))
           (λ none. c.if-count-eq0.false (here ∙ none)) (omega (arith, here, small))
-          c.put_number-written.ensures.further c.put_number-written.ensures.few
-          (count_is c.count_of-count.result (get_or counts bin 0) _ _ here (omega (arith, here, small)) c.put_number-written.ensures.front) c.put_number-written.ensures.kept;
+          c.put_number-written.ensures.further c.put_number-written.ensures.at_most
+          (count_is c.count_of-count.result (get_or counts bin 0) _ _ here (omega (arith, here, small)) c.put_number-written.ensures.front) c.put_number-written.ensures.unchanged;
       within = omega (arith, c.loop-bin-test.true);
     }
 
@@ -86,7 +86,7 @@ returns-clause-written g c =
     let size : length counts ≡ bins = length-take-le bins h.counts c.written_bins-bins.ensures.within in
     let enough : enough_bytes counts ≤ length c.args.buf.now = subst (λ n. enough_bytes (take n h.counts) ≤ length c.args.buf.now) (sym c.written_bins-bins.ensures.value) c.requires in
     let fits = room_for_all counts c.loop-bin.buf c.args.buf.now c.loop-bin.bin c.loop-bin.written (length c.args.buf.now) c.loop-bin.invariant.encoded (omega (arith, size, c.loop-bin.invariant.within)) enough in
-    let all = encode_end counts c.loop-bin.buf c.args.buf.now c.loop-bin.bin c.loop-bin.written c.loop-bin.invariant.encoded (omega (arith, size, c.loop-bin-test.false)) (omega (arith, size, c.written_bins-bins.ensures.few))
+    let all = encode_end counts c.loop-bin.buf c.args.buf.now c.loop-bin.bin c.loop-bin.written c.loop-bin.invariant.encoded (omega (arith, size, c.loop-bin-test.false)) (omega (arith, size, c.written_bins-bins.ensures.at_most))
     (omega (arith, fits, c.loop-bin.auto.buf)) in
     subst (λ n. (text : List ℕ) × IsPayload (take n h.counts) text × (c.loop-bin.written ≡ length text) × (c.loop-bin.buf ≡ text ++ drop c.loop-bin.written c.args.buf.now)) c.written_bins-bins.ensures.value all
 

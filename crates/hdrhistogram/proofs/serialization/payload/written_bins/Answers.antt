@@ -8,9 +8,9 @@ returns-in-Some-clause-value g c =
     c.in-Some.ensures.value.1 ∙ c.max.ensures.bin in
     ap (λ n. n + 1) is
 
-pub returns-in-Some-clause-few : goal.returns-in-Some-clause-few
-returns-in-Some-clause-few g c =
-    omega (arith, c.distinct_values-bins.ensures.few, c.distinct_values-bins.ensures.value, c.in-Some.ensures.within)
+pub returns-in-Some-clause-at_most : goal.returns-in-Some-clause-at_most
+returns-in-Some-clause-at_most g c =
+    omega (arith, c.distinct_values-bins.ensures.at_most, c.distinct_values-bins.ensures.value, c.in-Some.ensures.within)
 
 pub returns-in-None-clause-value : goal.returns-in-None-clause-value
 returns-in-None-clause-value g c =

@@ -1,6 +1,6 @@
 use Rattle.std.proofs.Common.{◌≡◌, ◌<◌, false, ◌∷◌, length, map, sym, ap, ◌∙◌, subst, arith}
-use Rattle.hdr_model.specs.Plain.{grain}
-use Rattle.hdr_model.specs.Quantiles.{rank, is_below, per, first_reaching, answer_at, quantile_of, quantiles_from}
+use Rattle.hdr_model.specs.Plain.{resolution}
+use Rattle.hdr_model.specs.Quantiles.{rank, is_below, per, position_of_rank, value_at_bin, value_at_quantile, quantiles_from}
 use Rattle.hdr_model.proofs.QuantilesAscend.{rank-per-rises, answers-more, answers-end, answers-none}
 use Rattle.hdr_core.proofs.histogram.values.ValuesIterator.next.Given as given
 use Rattle.hdr_core.proofs.histogram.values.ValuesIterator.next.Goals as goal
@@ -13,11 +13,11 @@ rising g c some = elim c.else-total-gt0.branch [
   | else-total-gt0-via-else-total-gt0 w ↦ absurd (omega (arith, some, w.if-total-gt0.false, c.len-total.ensures))
 ]
 
-pub first_reaching-place-requires : goal.first_reaching-place-requires
-first_reaching-place-requires g c =
+pub next_position-place-requires : goal.next_position-place-requires
+next_position-place-requires g c =
     let s = c.self.inside in
     let rank_is : c.rank_of-rank.result ≡ rank (per s.whole c.in_ok-first.first.now) s.histogram.now.total = rw (c.num-num.ensures, c.from.ensures, c.den-den.ensures.value, c.from-2.ensures, c.len-total.ensures) at c.rank_of-rank.ensures.value in
-    omega (arith, c.self.invariant.6, rank-per-rises s.histogram.now s.whole s.last c.in_ok-first.first.now c.self.invariant.1 c.self.invariant.3 c.den-den.ensures.not_zero (rising g (goal.at.first_reaching-place-requires g c).Joined-else-total-gt0), rank_is)
+    omega (arith, c.self.invariant.6, rank-per-rises s.histogram.now s.whole s.last c.in_ok-first.first.now c.self.invariant.1 c.self.invariant.3 c.den-den.ensures.not_zero (rising g (goal.at.next_position-place-requires g c).Joined-else-total-gt0), rank_is)
 
 pub returns-then-is_below-clause-steps : goal.returns-then-is_below-clause-steps
 returns-then-is_below-clause-steps g c =
@@ -31,7 +31,7 @@ returns-then-is_below-clause-steps g c =
     )
 
 pub returns-clause-steps : goal.returns-clause-steps
-unfolding quantile_of
+unfolding value_at_quantile
 returns-clause-steps g c =
     let s = c.self.inside in
     let h = s.histogram.now in
@@ -39,7 +39,7 @@ returns-clause-steps g c =
     let w = s.whole in
     let qs = map (per w) c.in_ok-first.rest.now in
     let rank_is : c.rank_of-rank.result ≡ rank (per w q) h.total = rw (c.num-num.ensures, c.from.ensures, c.den-den.ensures.value, c.from-2.ensures, c.len-total.ensures) at c.rank_of-rank.ensures.value in
-    let answer_is : c.answer_found.result ≡ quantile_of h (per w q) = c.answer_found.ensures ∙ ap (λ n. answer_at (grain h) n (first_reaching h.counts c.rank_of-rank.result)) c.num-num.ensures ∙ ap (λ r. answer_at (grain h) q.num (first_reaching h.counts r)) rank_is in
+    let answer_is : c.value_at_rank.result ≡ value_at_quantile h (per w q) = c.value_at_rank.ensures ∙ ap (λ n. value_at_bin (resolution h) n (position_of_rank h.counts c.rank_of-rank.result)) c.num-num.ensures ∙ ap (λ r. value_at_bin (resolution h) q.num (position_of_rank h.counts r)) rank_is in
     rw (c.from-3.ensures, c.from-4.ensures, c.num-num.ensures, c.den-den.ensures.value)
     (sym c.self.view_is ∙ (ap (λ rs. quantiles_from h (per w s.last) (map (per w) rs)) c.in_ok-first.ensures.cases.0
     ∙ (answers-more h w s.last q qs c.self.invariant.1 (rising g (goal.at.returns-clause-steps g c).Joined-else-total-gt0) ∙ ap (λ x. x ∷ quantiles_from h (per w q) qs) (sym answer_is))))
