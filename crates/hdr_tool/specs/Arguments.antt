@@ -1,5 +1,6 @@
 -- The task of the arguments.
-use Rattle.hdr_tool.specs.Common.{ℕ, ◌-◌, ◌*◌, ◌^◌, ◌==◌, Bool, ◌&&◌, nat_le, List, [], ◌∷◌, Option, Some, None, is_some, is_none, if◌then◌else◌, codes, map, string_bytes, option_map, list_all, filter_map, bytes_eq, Ratio, is_tag, only_if, ◌>>=◌, split_at_byte, number_of, tag_text, choice_of, Filter}
+use Rattle.std.specs.Prelude.{◌-◌, ◌*◌, ◌^◌, ◌==◌, ◌&&◌, ◌∷◌, if◌then◌else◌, ℕ, Bool, nat_le, List, [], Option, Some, None, is_some, is_none, codes, map, string_bytes}
+use Rattle.hdr_tool.specs.Common.{option_map, list_all, filter_map, bytes_eq, Ratio, is_tag, only_if, ◌>>=◌, split_at_byte, number_of, tag_text, choice_of, Filter}
 use Rattle.hdr_tool.specs.declared.arguments.CounterType.{CounterType}
 use Rattle.hdr_tool.specs.declared.arguments.CounterType.TheVariants as counter
 use Rattle.hdr_tool.specs.declared.arguments.Task.TheVariants as code_task

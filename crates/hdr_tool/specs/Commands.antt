@@ -1,6 +1,7 @@
 -- The lines of an input with their numbers, and the command of a line. A text is a list of bytes,
 -- and a line has no LF.
-use Rattle.hdr_tool.specs.Common.{ℕ, List, [], ◌∷◌, Option, Some, None, ◌≡◌, ◌<◌, true, take, ◌==◌, ◌&&◌, not, length, if◌then◌else◌, codes, option_map, enumerate_from, list_all, parts, number_of, ◌>>=◌, bytes_eq, is_tag, tag_text}
+use Rattle.std.specs.Prelude.{◌∷◌, ◌≡◌, ◌<◌, ◌==◌, ◌&&◌, if◌then◌else◌, ℕ, List, [], Option, Some, None, true, take, not, length, codes}
+use Rattle.hdr_tool.specs.Common.{option_map, enumerate_from, list_all, parts, number_of, ◌>>=◌, bytes_eq, is_tag, tag_text}
 use Rattle.std.specs.Char.{is_ascii_digit}
 use Rattle.hdr_core.specs.declared.call.Call.{Call}
 use Rattle.hdr_core.specs.declared.call.Call.TheVariants.{Record, Clamp, Correct, Clear, Reset}

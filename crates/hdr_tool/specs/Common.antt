@@ -13,5 +13,4 @@ pub use Rattle.std.specs.Fmt.{decimal}
 pub use Rattle.std.specs.Io.KnownBytes.{IsAtEnd, Appends}
 pub use Rattle.std.specs.List.{list_all, filter_map, flat_map, list_any, enumerate_from, AllByRecursion}
 pub use Rattle.std.specs.Option.{option_map}
-pub use Rattle.std.specs.Prelude.{ℕ, ◌-◌, ◌*◌, ◌^◌, ◌==◌, Bool, ◌&&◌, nat_le, List, [], ◌∷◌, Option, Some, None, is_some, is_none, if◌then◌else◌, codes, map, string_bytes, ◌≡◌, ◌++◌, MatchOption, Result, Ok, Err, true, false, MatchBool, ◌⊎◌, ◌<◌, take, not, length, ◌≤◌}
 pub use Rattle.std.specs.Str.{bytes_eq}

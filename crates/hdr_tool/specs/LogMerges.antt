@@ -1,5 +1,6 @@
 -- What a merge of a written log adds.
-use Rattle.hdr_tool.specs.Common.{◌≡◌, ℕ, ◌-◌, ◌*◌, ◌^◌, ◌≤◌, if◌then◌else◌, List, [], ◌∷◌, Option, Some, None, true, AllByRecursion, enumerate_from, Ratio, Plain, IsPlain, resolution, empty_plain, after_reset, after_call, CallTo, Filter, is_chosen, Fault, parts}
+use Rattle.std.specs.Prelude.{◌≡◌, ◌-◌, ◌*◌, ◌^◌, ◌≤◌, if◌then◌else◌, ◌∷◌, ℕ, List, [], Option, Some, None, true}
+use Rattle.hdr_tool.specs.Common.{AllByRecursion, enumerate_from, Ratio, Plain, IsPlain, resolution, empty_plain, after_reset, after_call, CallTo, Filter, is_chosen, Fault, parts}
 use Rattle.hdr_model.specs.Runs.{StandsWhereFits, State}
 use Rattle.hdr_model.specs.Samples.{StandsFor, Fits}
 use Rattle.hdr_model.specs.Joining.{after_adds, joined_samples, AnswersRanked}

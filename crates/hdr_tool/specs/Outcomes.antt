@@ -1,5 +1,6 @@
 -- The errors of a run, the memory that lines need, and what a call leaves in the streams.
-use Rattle.hdr_tool.specs.Common.{◌≡◌, ◌⊎◌, ℕ, ◌-◌, ◌^◌, List, ◌∷◌, [], ◌++◌, Option, Some, None, Result, Ok, Err, Bool, true, codes, decimal, Appends, IsAtEnd, Plain, after_call, IsCallError, Fault, Usage, NotACommand, NotALog, NotBase64, NoMemory, CannotRead, CannotWrite}
+use Rattle.std.specs.Prelude.{◌≡◌, ◌⊎◌, ◌-◌, ◌^◌, ◌∷◌, ◌++◌, ℕ, List, [], Option, Some, None, Result, Ok, Err, Bool, true, codes}
+use Rattle.hdr_tool.specs.Common.{decimal, Appends, IsAtEnd, Plain, after_call, IsCallError, Fault, Usage, NotACommand, NotALog, NotBase64, NoMemory, CannotRead, CannotWrite}
 use Rattle.hdr_core.specs.declared.call.CallError.{CallError}
 use Rattle.hdrhistogram.specs.Streams.{AppendsFront}
 use Rattle.hdr_tool.specs.Commands.{Command, Apply, End, command_of}

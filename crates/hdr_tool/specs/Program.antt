@@ -1,6 +1,7 @@
 -- The program: its arguments, its input, its output, and the `Fault` that ends it. A stream that
 -- fails is not part of it, nor is running out of memory.
-use Rattle.hdr_tool.specs.Common.{◌≡◌, ℕ, nat_le, ◌-◌, ◌*◌, ◌^◌, List, [], ◌∷◌, ◌++◌, Option, Some, None, MatchOption, Result, Ok, Err, Bool, true, false, if◌then◌else◌, MatchBool, codes, option_map, flat_map, list_any, decimal, IsAtEnd, Ratio, Plain, empty_plain, after_reset, after_call, Filter, Fault, Usage, NotACommand, NotWritten, NotALog, NotBase64, NotRead, NoMemory}
+use Rattle.std.specs.Prelude.{◌≡◌, ◌-◌, ◌*◌, ◌^◌, ◌∷◌, ◌++◌, if◌then◌else◌, ℕ, nat_le, List, [], Option, Some, None, MatchOption, Result, Ok, Err, Bool, true, false, MatchBool, codes}
+use Rattle.hdr_tool.specs.Common.{option_map, flat_map, list_any, decimal, IsAtEnd, Ratio, Plain, empty_plain, after_reset, after_call, Filter, Fault, Usage, NotACommand, NotWritten, NotALog, NotBase64, NotRead, NoMemory}
 use Rattle.hex.specs.Hex.{encode_lower}
 use Rattle.hdr_model.specs.Quantiles.{value_at_quantile}
 use Rattle.hdrhistogram.specs.Defects.{Defect, defect_of_error}
