@@ -13,7 +13,8 @@ install: all
 	install -Dm755 target/hdr $(DESTDIR)$(PREFIX)/bin/hdr
 	install -Dm644 man/hdr.1 $(DESTDIR)$(PREFIX)/share/man/man1/hdr.1
 
-# The edits are tried in a copy of the repository meanwhile, and what comes of them is printed last.
+# The edits are tried in a copy of the repository meanwhile, on what the proofs leave of the processors. What comes of them is
+# printed last.
 check:
 	tools/edits --control
 	$(MAKE) --no-print-directory -j2 proofs-and-runs trials || { cat target/edits.log; exit 1; }
@@ -21,7 +22,7 @@ check:
 
 trials:
 	mkdir -p target
-	tools/edits --fresh >target/edits.log
+	nice tools/edits --fresh >target/edits.log
 
 # What the gate does beside the edits.
 proofs-and-runs:
