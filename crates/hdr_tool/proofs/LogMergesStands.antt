@@ -6,6 +6,7 @@ use Rattle.hdr_model.specs.Samples.{StandsFor, Fits}
 use Rattle.hdr_model.specs.Refusals.{IsBounds}
 use Rattle.hdrhistogram.proofs.ChosenAdded.{added_digits}
 use Rattle.hdr_tool.specs.Arguments.{merge_of, task_of}
+use Rattle.std.specs.List.{cons_option}
 use Rattle.hdr_tool.specs.declared.arguments.CounterType.{CounterType}
 use Rattle.hdr_tool.proofs.LogMergesWritten.{CallsStand, ends_stand, ReadsBack, log_then_merge}
 use Rattle.hdr_tool.proofs.CommandsLines.{one_of, tail, any, if_both, mapped}
@@ -105,7 +106,7 @@ record Holds (g : Resolution) (h : Plain) (L : List ℕ) : Type 0 where
   stands : StandsFor h L
   classes : resolution h ≡ g
 
-chosen_one : (g : Resolution) (b c : Bool) (h : Plain) (L : List ℕ) (hs : List Plain) (Ls : List (List ℕ)) → b ≡ c → Holds g h L → AllZip (Holds g) hs Ls → AllZip (Holds g) (cond b (h ∷ hs) hs) (cond c (L ∷ Ls) Ls)
+chosen_one : (g : Resolution) (b c : Bool) (h : Plain) (L : List ℕ) (hs : List Plain) (Ls : List (List ℕ)) → b ≡ c → Holds g h L → AllZip (Holds g) hs Ls → AllZip (Holds g) (cons_option (cond b (Some h) None) hs) (cons_option (cond c (Some L) None) Ls)
 chosen_one g true true h L hs Ls e one all = (one, all)
 chosen_one g false false h L hs Ls e one all = all
 chosen_one g true false h L hs Ls e one all = absurd (let f = e in cc)

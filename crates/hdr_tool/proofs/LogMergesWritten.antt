@@ -1,7 +1,7 @@
 -- The histograms of a log that `log` wrote: what they stand for, and the result of merging them.
 use Rattle.hdr_tool.proofs.Common.{◌≡◌, ℕ, ◌-◌, ◌^◌, List, [], ◌∷◌, Option, Some, None, IfSome, refl, sym, subst, ◌+◌, ◌*◌, ◌<◌, Bool, true, false, cond, arith, length, slice_index, ◌++◌, MatchOption, Result, Ok, Err, map, ap, ◌∙◌, Resolution, Plain, IsPlain, resolution, empty_plain, max_of, after_reset, after_call, CallTo, IsCallOf, StandsWhereFits, State, Call, Reset, Command, Apply, End, command_of, at_command, ends_of, AfterCommand, EndsWith, IsEnd, AllZip, chosen_of, LogThenMerge, AllByRecursion, enumerate_from, Ratio, after_adds, Entry, Span, reading, thousandths, to_thousandths, max_thousandths, base64_of, base64_bytes, Piece, IsPiece, piece_text, text_of, said_by, is_read, IsV2, interval_piece, IsIntervalText, told_of, v2_at, IsReadAs, IsReadBack, ReadsV2, Filter, is_chosen, Merging, new_merging, past_interval, with_interval, BytesMerge, FieldMerges, IntervalMerges, MergesOn, EntriesMerge, DeserializeError, MergeError, Fault, Usage, parts, Run, ended_by, prepend, run_command, run_lines, IsLogText, has_too_great_count, IsReport, Task, greatest_into, filter_of, result_err, result_map_both, merge_fault, Reported, MergeReported, outputs_of, append-nil}
 use Rattle.hdr_tool.proofs.CommandsLines.{IsLineCommand, command_fine}
-use Rattle.std.specs.List.{flat_map}
+use Rattle.std.specs.List.{cons_option, flat_map}
 use Rattle.hdr_log.specs.Grammar.{Interval}
 use Rattle.hdr_log.proofs.GrammarWhole.{pieces_read}
 use Rattle.hdr_log.proofs.TextsBase64.{base64_decoded}
@@ -157,7 +157,7 @@ Added greatest m hs r = (ks : List Plain) × AllZip IsReadBack hs ks × ((last :
 -- an interval, chosen or not
 interval_merges : (greatest : ℕ) (filter : Filter) (i : Logged) (m : Merging) (entries : List (Result Entry ℕ)) (b : Bool) (hs : List Plain) (step r : Result Merging MergeError)
     → ReadsBack → IsPlain (2 ^ 64 - 1) i.histogram → IsV2 i.histogram i.bytes → m.base ≡ 0 → IntervalMerges greatest m b (interval_of i) step → MergesOn (EntriesMerge greatest filter entries) step r
-    → ((n : Merging) → n.base ≡ 0 → EntriesMerge greatest filter entries n r → Added greatest n hs r) → Added greatest m (cond b (i.histogram ∷ hs) hs) r
+    → ((n : Merging) → n.base ≡ 0 → EntriesMerge greatest filter entries n r → Added greatest n hs r) → Added greatest m (cons_option (cond b (Some i.histogram) None) hs) r
 interval_merges greatest filter i m entries true hs step r back p v base d on rest =
     let f = field_added greatest i m step back p v d in
     let O : Result Merging MergeError → Type 0 = λ x. MergesOn (EntriesMerge greatest filter entries) x r in

@@ -35,9 +35,7 @@ alone x _ = None
 -- `[N]`: a count, or 1 if there is none
 abbrev pub count_of : List (List ℕ) → Option ℕ
 count_of [] = Some 1
-count_of fields = do
-  (count, rest) ← first_number fields
-  alone count rest
+count_of fields = first_number fields >>= λ p. alone p.0 p.1
 
 -- `V [N]`, `V I [N]`
 abbrev pub record_of : (ℕ → ℕ → Call ℕ) → List (List ℕ) → Option Command

@@ -1,6 +1,6 @@
 -- What a merge of a written log adds.
 use Rattle.std.specs.Prelude.{◌≡◌, ◌-◌, ◌*◌, ◌^◌, ◌≤◌, if◌then◌else◌, ◌∷◌, ℕ, List, [], Option, Some, None, true}
-use Rattle.hdr_tool.specs.Common.{AllByRecursion, AllZip, enumerate_from, Ratio, Plain, IsPlain, resolution, empty_plain, after_reset, after_call, CallTo, Filter, is_chosen, Fault, parts}
+use Rattle.hdr_tool.specs.Common.{filter_map, AllByRecursion, AllZip, enumerate_from, Ratio, Plain, IsPlain, resolution, empty_plain, after_reset, after_call, CallTo, Filter, is_chosen, Fault, parts}
 use Rattle.hdr_model.specs.Runs.{StandsWhereFits, State}
 use Rattle.hdr_model.specs.Samples.{StandsFor, Fits}
 use Rattle.hdr_model.specs.Joining.{after_adds, joined_samples, AnswersRanked}
@@ -12,9 +12,7 @@ use Rattle.hdr_tool.specs.Program.{IsReport, Interval, Outcome}
 
 -- what the chosen ones of a log's intervals hold; a written log has no base time
 abbrev pub chosen_of : {A : Type 0} → Filter → List (Interval A) → List A
-chosen_of filter [] = []
-chosen_of filter (e ∷ ends) =
-    if is_chosen filter e.tag (e.start * 1_000_000) then e.holds ∷ chosen_of filter ends else chosen_of filter ends
+chosen_of filter ends = filter_map (λ e. if is_chosen filter e.tag (e.start * 1_000_000) then Some e.holds else None) ends
 
 -- the intervals that commands end: what a command adds to those that come after it
 abbrev pub at_command : Plain → Option Command → (Plain → List (Interval Plain)) → List (Interval Plain)

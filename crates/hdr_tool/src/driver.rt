@@ -40,7 +40,7 @@ fn end<W: Write>(
     requires { divisor_of log.old ≡ 1 }
     ensures same_log { IsSameLog log.old log.new }
     ensures goes { Goes (run_end line histogram.old start duration (option_map tag_text tag.entry))
-        (λ onward. onward histogram.new)
+        (λ next. next histogram.new)
         (W.contents (sink log.old).now) (W.contents (sink log.new).now) result }
     ensures grows { histogram.new.auto_resize ≡ histogram.old.auto_resize }
 {

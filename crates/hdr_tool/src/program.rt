@@ -1,8 +1,8 @@
 //! The program, over any reader and writer.
 
-ghost use Rattle.std.specs.Prelude.{◌≡◌, ◌↔◌, map, Err, None, IfSome, string_bytes};
+ghost use Rattle.std.specs.Prelude.{◌≡◌, ◌↔◌, Err, None, IfSome};
 ghost use Rattle.std.specs.Io.KnownBytes.{Keeps};
-ghost use Rattle.hdr_tool.specs.Arguments.{task_of, view_of_task};
+ghost use Rattle.hdr_tool.specs.Arguments.{requested, view_of_task};
 ghost use Rattle.hdr_tool.specs.Outcomes.{OnInput, Writes, ReadsAll};
 ghost use Rattle.hdr_tool.specs.Program.{outputs_of, TaskLeaves};
 
@@ -61,14 +61,14 @@ pub fn run<R: Read, W: Write>(
     reader: &mut R,
     writer: &mut W,
 ) -> Result<(), Fault>
-    ensures usage { (result ≡ Err Fault.Usage) ↔ (task_of (map string_bytes arguments.now) ≡ None) }
-    ensures unused { task_of (map string_bytes arguments.now) ≡ None
+    ensures usage { (result ≡ Err Fault.Usage) ↔ (requested arguments.now ≡ None) }
+    ensures unused { requested arguments.now ≡ None
         → Keeps (R.remaining reader.old) (R.remaining reader.new)
         × Keeps (W.contents writer.old) (W.contents writer.new) }
-    ensures output { IfSome (task_of (map string_bytes arguments.now)) (λ task.
+    ensures output { IfSome (requested arguments.now) (λ task.
         OnInput (R.remaining reader.old) (λ input. Writes (outputs_of task input)
         (W.contents writer.old) (W.contents writer.new) result)) }
-    ensures reads { IfSome (task_of (map string_bytes arguments.now))
+    ensures reads { IfSome (requested arguments.now)
         (λ task. ReadsAll (TaskLeaves task) (R.remaining reader.new) result) }
 {
     let Some(task) = parse(arguments) else {
