@@ -112,8 +112,8 @@ abbrev pub MergeReported : ℕ → Filter → ℕ → List Ratio → List ℕ �
 MergeReported greatest filter sigfig quantiles input text fault =
     (r : Result Merging MergeError) × Merges greatest filter sigfig input r × Reported quantiles (result_map_both (λ m. m.histogram) merge_fault r) text fault
 
--- what a run may have written: all of its output, with the `Fault` that ends it (whole); what memory
--- that runs out or a reader that fails leaves (early); and what is being written if the writer fails,
+-- what a run may have written: all of its output, with the `Fault` that ends it; what memory that
+-- runs out or a reader that fails leaves (early); and what is being written if the writer fails,
 -- which then has a proper prefix of it (begun)
 pub record Outputs : Type 1 where
   pub whole : List ℕ → Option Fault → Type 0
