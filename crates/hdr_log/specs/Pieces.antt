@@ -4,7 +4,7 @@ use Rattle.std.specs.List.{flat_map, list_all}
 use Rattle.std.specs.Option.{option_map, option_or}
 use Rattle.std.specs.Str.{is_utf8}
 use Rattle.hdr_log.specs.Parts.{parts}
-use Rattle.hdr_log.specs.Grammar.{Entry, Start, Base, Span, header_of, without_crs}
+use Rattle.hdr_log.specs.Grammar.{Entry, Start, Base, Span, Interval, interval_of, header_of, without_crs}
 use Rattle.hdr_log.specs.Texts.{thousandths, lines_text, comment_line, start_line, base_line, divisor_line, interval_line, AreTags}
 
 -- a comment, a start time, a base time, a divisor of greatest values, or an interval: tag, start, duration, greatest
@@ -43,13 +43,21 @@ abbrev pub headers_said : List (List ℕ) → List Entry
 headers_said [] = []
 headers_said (part ∷ parts) = and_entry (header_said part) (headers_said parts)
 
+-- what is read of an interval
+abbrev pub interval_said : Option (List ℕ) → ℕ → ℕ → ℕ → List ℕ → Interval
+interval_said tag start duration max field = record { tag = tag; start = start * 1_000_000; duration = duration * 1_000_000; max = thousandths max; field = field }
+
+-- the line of an interval is parsed as this
+abbrev pub IsIntervalRead : Option (List ℕ) → ℕ → ℕ → ℕ → List ℕ → Type 0
+IsIntervalRead tag start duration max field = interval_of (interval_line tag start duration max field) ≡ Some (interval_said tag start duration max field)
+
 -- what is read of a piece: of a comment the headers that its lines contain, and of a divisor nothing
 abbrev pub said_by : Piece → List Entry
 said_by (Comment text) = headers_said (parts 10 text)
 said_by (StartsAt t) = Start (t * 1_000_000) ∷ []
 said_by (BasedAt t) = Base (t * 1_000_000) ∷ []
 said_by (Divided d) = []
-said_by (Measured tag start duration max field) = Span (record { tag = tag; start = start * 1_000_000; duration = duration * 1_000_000; max = thousandths max; field = field }) ∷ []
+said_by (Measured tag start duration max field) = Span (interval_said tag start duration max field) ∷ []
 
 -- a field as it may be written: text without LF, and with no CR at its end
 pub record IsField (field : List ℕ) : Type 0 where

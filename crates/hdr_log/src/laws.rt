@@ -1,11 +1,11 @@
 //! The laws of logs, each the contract of an empty function.
 
-ghost use Rattle.std.specs.Prelude.{◌≡◌, ℕ, ◌*◌, ◌/◌, ◌<◌, ◌^◌, ◌++◌, Some, Option, List, map};
+ghost use Rattle.std.specs.Prelude.{◌≡◌, ℕ, ◌*◌, ◌/◌, ◌<◌, ◌^◌, Some, Option, List, map};
 ghost use Rattle.std.specs.List.{AllByRecursion, flat_map};
 ghost use Rattle.base64.specs.GeneralPurpose.{IsBytes};
-ghost use Rattle.hdr_log.specs.Grammar.{Interval, reading, time_of, interval_of};
-ghost use Rattle.hdr_log.specs.Texts.{thousandths, interval_line, AreTags, base64_of, base64_bytes};
-ghost use Rattle.hdr_log.specs.Pieces.{Piece, IsField, IsPiece, text_of, said_by, is_read};
+ghost use Rattle.hdr_log.specs.Grammar.{reading, time_of};
+ghost use Rattle.hdr_log.specs.Texts.{thousandths, base64_of, base64_bytes};
+ghost use Rattle.hdr_log.specs.Pieces.{Piece, Measured, IsField, IsPiece, IsIntervalRead, text_of, said_by, is_read};
 
 /// A time that is printed is read back to the thousandth of a second.
 pub fn time_is_read()
@@ -14,15 +14,8 @@ pub fn time_is_read()
 
 /// Reading the line of an interval returns its tag, its times, its greatest value and its field.
 pub fn interval_is_read()
-    ensures { (tag : Option (List ℕ)) (start duration max : ℕ) (field : List ℕ) → AreTags tag
-        → start / 1000 < 2 ^ 64 → duration / 1000 < 2 ^ 64 → max / 1000 < 2 ^ 64 → IsField field
-        → interval_of (interval_line tag start duration max field) ≡ Some (record {
-          tag = tag;
-          start = start * 1_000_000;
-          duration = duration * 1_000_000;
-          max = thousandths max;
-          field = field;
-        }) }
+    ensures { (tag : Option (List ℕ)) (start time max : ℕ) (field : List ℕ)
+        → IsPiece (Measured tag start time max field) → IsIntervalRead tag start time max field }
 {}
 
 /// The Base64 encoding of bytes is a valid field, and decodes to the same bytes.
@@ -32,8 +25,9 @@ pub fn base64_is_read()
         → base64_bytes (base64_of bytes) ≡ Some bytes }
 {}
 
-/// Everything written to a log is read back, in order: headers and intervals, each time and greatest value to the
-/// thousandth, and the headers that comments contain. Nothing else is read, and no line is invalid.
+/// Everything written to a log is read back, in order: headers and intervals, each time and
+/// greatest value to the thousandth, and the headers that comments contain. Nothing else is read,
+/// and no line is invalid.
 pub fn written_is_read()
     ensures { (pieces : List Piece) → AllByRecursion IsPiece pieces
         → reading (text_of pieces) ≡ map is_read (flat_map said_by pieces) }

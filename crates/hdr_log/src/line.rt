@@ -120,10 +120,7 @@ pub(crate) fn entry(line: &[u8]) -> Option<LogEntry<'_>>
     if let Some(base) = header(line, b"#[BaseTime: ") {
         return Some(LogEntry::BaseTime(base));
     }
-    match interval(line) {
-        Some(interval) => Some(LogEntry::Interval(interval)),
-        None => None,
-    }
+    Some(LogEntry::Interval(interval(line)?))
 }
 
 /// Whether a line is a comment or another line without an entry, which is skipped.

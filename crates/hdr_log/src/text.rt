@@ -24,11 +24,7 @@ pub fn thousandths(time: Duration) -> Option<u128>
     ensures small { IfSome result (λ t. t / 1000 < 2 ^ 64) }
 {
     let rounded = (time.as_nanos() + 500_000) / 1_000_000;
-    if rounded / 1000 < 1 << 64 {
-        Some(rounded)
-    } else {
-        None
-    }
+    (rounded / 1000 < 1 << 64).then_some(rounded)
 }
 
 /// Returns a greatest value in units of the divisor, to the nearest thousandth.
@@ -150,12 +146,8 @@ fn push_base64(text: &mut Vec<u8>, bytes: &[u8]) -> Result<(), AllocError>
     ensures { OnOk result (text.new.items ≡ text.old.items ++ base64_of bytes.now) }
 {
     let from = text.len();
-    let Some(room) = encoded_len(bytes.len(), true) else {
-        return Err(AllocError);
-    };
-    let Some(end) = from.checked_add(room) else {
-        return Err(AllocError);
-    };
+    let room = encoded_len(bytes.len(), true).ok_or(AllocError)?;
+    let end = from.checked_add(room).ok_or(AllocError)?;
     text.resize(end, 0)?;
     match STANDARD.encode_slice(bytes, &mut text[from..]) {
         Ok(_) => Ok(()),

@@ -1,6 +1,7 @@
 -- The commands of lines: their values are u64. Value lines of few digits.
-use Rattle.hdr_tool.proofs.Common.{◌≡◌, ℕ, ◌-◌, ◌^◌, ◌<◌, Bool, true, false, cond, ◌&&◌, nat_lt, List, [], ◌∷◌, Option, Some, None, IfSome, refl, zero, suc, ◌+◌, ◌*◌, ◌≤◌, ◌==◌, ◌++◌, length, take, drop, get_or, unwrap_or, sym, ap, ◌∙◌, arith, lit<, option_map, codes, bytes_eq, ltb-true, lt-ltb, ne_eqb, IsCallOf, Call, Record, Clamp, Correct, Clear, Reset, ◌>>=◌, parts, is_digits, first_number, Command, Apply, End, alone, count_of, record_of, correct_of, end_tag_of, end_of, command_of_fields, command_of, BeginsWith, AreNumbers, FirstLine, list_all, onto_first, is_ascii_digit, digit_value, pow-suc, pow-le-pow_right, length-drop, append-nil, Reads}
+use Rattle.hdr_tool.proofs.Common.{◌≡◌, ℕ, ◌-◌, ◌^◌, ◌<◌, Bool, true, false, cond, ◌&&◌, nat_lt, List, [], ◌∷◌, Option, Some, None, IfSome, refl, zero, suc, ◌+◌, ◌*◌, ◌≤◌, ◌==◌, ◌++◌, length, take, drop, get_or, unwrap_or, sym, ap, ◌∙◌, arith, lit<, option_map, codes, bytes_eq, ap₂, length-append, ltb-true, lt-ltb, ne_eqb, IsCallOf, Call, Record, Clamp, Correct, Clear, Reset, ◌>>=◌, parts, is_digits, first_number, Command, Apply, End, alone, count_of, record_of, correct_of, end_tag_of, end_of, command_of_fields, command_of, BeginsWith, AreNumbers, FirstLine, list_all, onto_first, is_ascii_digit, digit_value, pow-suc, pow-le-pow_right, append-nil, Reads}
 use Rattle.std.specs.Str.Parse.{digits_value}
+use Rattle.std.proofs.Common.{length-take}
 use Rattle.hdr_log.specs.Parts.{number_of}
 use Rattle.hdr_tool.specs.Commands.{command_of_name}
 
@@ -20,25 +21,25 @@ any Q (Some x) f q = q x
 abbrev Small : ℕ → Type 0
 Small n = n < 2 ^ 64
 
-small_if : (a b : Bool) (v : ℕ) → (b ≡ true → Small v) → IfSome (cond (a && b) (Some v) None) Small
-small_if true true v h = h refl
-small_if true false v h = tt
-small_if false true v h = tt
-small_if false false v h = tt
+pub if_both : (P : ℕ → Type 0) (a b : Bool) (n : ℕ) → (b ≡ true → P n) → IfSome (cond (a && b) (Some n) None) P
+if_both P true true n h = h refl
+if_both P true false n h = tt
+if_both P false true n h = tt
+if_both P false false n h = tt
+
+pub mapped : {A B : Type 0} (P : A → Type 0) (Q : B → Type 0) (f : A → B) (o : Option A) → IfSome o P → ((x : A) → P x → Q (f x)) → IfSome (option_map f o) Q
+mapped P Q f None p q = tt
+mapped P Q f (Some x) p q = q x p
 
 number_small : (text : List ℕ) → IfSome (number_of text) Small
 unfolding number_of
 number_small text =
     let v = digits_value 10 text in
-    small_if (is_digits text) (nat_lt v (2 ^ 64)) v (λ e. ltb-true v (2 ^ 64) e)
-
-first_of : (o : Option ℕ) (fields : List (List ℕ)) → IfSome o Small → IfSome (option_map {U = ℕ × List (List ℕ)} (λ n. (n, fields)) o) (λ p. Small p.0)
-first_of None fields s = tt
-first_of (Some n) fields s = s
+    if_both Small (is_digits text) (nat_lt v (2 ^ 64)) v (λ e. ltb-true v (2 ^ 64) e)
 
 first_small : (fields : List (List ℕ)) → IfSome (first_number fields) (λ p. Small p.0)
 first_small [] = tt
-first_small (field ∷ fields) = first_of (number_of field) fields (number_small field)
+first_small (field ∷ fields) = mapped Small (λ (p : ℕ × List (List ℕ)). Small p.0) (λ n. (n, fields)) (number_of field) (number_small field) (λ n small. small)
 
 abbrev pub IsLineCommand : Command → Type 0
 IsLineCommand (Apply call) = IsCallOf (2 ^ 64 - 1) call
@@ -110,89 +111,67 @@ cut (suc at) (x ∷ text) l =
     let rest : text ≡ take at text ++ get_or text at 0 ∷ drop (at + 1) text = cut at text (omega (arith, l)) in
     rw n (ap (λ t. x ∷ t) rest)
 
-some_digits : (at : ℕ) (ds : List ℕ) → 0 < at → at < length ds → (length (take at ds) == 0) ≡ false
-some_digits zero ds p l = absurd (omega (arith, p))
-some_digits (suc at) [] p l = absurd (omega (arith, l))
-some_digits (suc at) (x ∷ ds) p l = ne_eqb (length (x ∷ take at ds)) 0 (λ e. absurd (omega (arith, e)))
-
-spelled : (xs : List ℕ) (value : ℕ) → (length xs == 0) ≡ false → list_all is_ascii_digit xs ≡ true → value ≡ digits_value 10 xs → value < 2 ^ 64 → number_of xs ≡ Some value
+spelled : (xs : List ℕ) (value : ℕ) → 0 < length xs → list_all is_ascii_digit xs ≡ true → value ≡ digits_value 10 xs → value < 2 ^ 64 → number_of xs ≡ Some value
 unfolding number_of
-spelled xs value n d s f = let fits : nat_lt value (2 ^ 64) ≡ true = lt-ltb value (2 ^ 64) f in rw (n, d, ← s, fits) refl
+spelled xs value n d s f =
+    let fits : nat_lt value (2 ^ 64) ≡ true = lt-ltb value (2 ^ 64) f in rw (ne_eqb (length xs) 0 (λ e. absurd (omega (arith, e, n))), d, ← s, fits) refl
 
-pub front : (b : ℕ) (text : List ℕ) → 2 ≤ length text → get_or text 0 0 ≡ b → get_or text 1 0 ≡ 32 → text ≡ b ∷ 32 ∷ drop 2 text
-front n [] l a b = absurd (omega (arith, l))
-front n (x ∷ []) l a b = absurd (omega (arith, l))
-front n (x ∷ y ∷ text) l a b = let p : x ≡ n = a in let q : y ≡ 32 = b in rw (p, q) refl
+-- digits that were read, and what follows them
+pub begins : (text rest : List ℕ) (value byte at : ℕ) → 0 < at → at < length text → Reads text at value → byte ≡ get_or text at 0 → rest ≡ drop (at + 1) text → BeginsWith text value byte rest
+begins text rest value byte at p l r e f = record {
+  digits = take at text;
+  are_digits = r.digits;
+  number = spelled (take at text) value (omega (arith, length-take at text)) r.digits r.spelled r.fits;
+  text_is = cut at text l ∙ ap₂ (λ b t. take at text ++ b ∷ t) (sym e) (sym f);
+}
 
--- a text's first line is these numbers, or this call
+-- a text's first line is these numbers
 abbrev pub HasNumbers : List ℕ → ℕ → Option ℕ → List ℕ → Type 0
 HasNumbers text n m after = FirstLine text (λ line. AreNumbers (parts 32 line) n m) after
 
-abbrev pub IsCallLine : List ℕ → Call ℕ → List ℕ → Type 0
-IsCallLine text call after = FirstLine text (λ line. command_of line ≡ Some (Apply call)) after
-
 -- a line of one number, and of two
-one_line : (xs ds after : List ℕ) (n : ℕ) → list_all is_ascii_digit xs ≡ true → number_of xs ≡ Some n → ds ≡ xs ++ 10 ∷ after → length after < length ds → HasNumbers ds n None after
-one_line xs ds after n d e t s = record {
-  line = xs ++ [];
-  lines = ap (parts 10) t ∙ digits_then 10 not_end xs (10 ∷ after) [] (parts 10 after) d refl;
-  shorter = s;
-  fits = rw (digits_then 32 not_space xs [] [] [] d refl) (ap number_of (append-nil xs) ∙ e);
+pub one : (text after : List ℕ) (n : ℕ) → BeginsWith text n 10 after → HasNumbers text n None after
+one text after n b = record {
+  line = b.digits ++ [];
+  lines = ap (parts 10) b.text_is ∙ digits_then 10 not_end b.digits (10 ∷ after) [] (parts 10 after) b.are_digits refl;
+  shorter = omega (arith, ap length b.text_is ∙ length-append b.digits (10 ∷ after));
+  fits = rw (digits_then 32 not_space b.digits [] [] [] b.are_digits refl) (rw (append-nil, b.number) refl);
 }
 
-two_lines : (fields : List (List ℕ)) (f : List ℕ) (n m : ℕ) → number_of f ≡ Some n → AreNumbers fields m None → AreNumbers (f ∷ fields) n (Some m)
-two_lines [] f n m e a = absurd a
-two_lines (g ∷ []) f n m e a = (e, a)
-two_lines (g ∷ h ∷ []) f n m e a = absurd a
-two_lines (g ∷ h ∷ i ∷ fields) f n m e a = absurd a
-
-two_line : (xs ds rest after : List ℕ) (n m : ℕ) → list_all is_ascii_digit xs ≡ true → number_of xs ≡ Some n → ds ≡ xs ++ 32 ∷ rest → HasNumbers rest m None after → length rest < length ds → HasNumbers ds n (Some m) after
-two_line xs ds rest after n m d e t h s = record {
-  line = xs ++ 32 ∷ h.line;
-  lines = ap (parts 10) t ∙ digits_then 10 not_end xs (32 ∷ rest) (32 ∷ h.line) (parts 10 after) d (ap (onto_first 32) h.lines);
-  shorter = omega (arith, s, h.shorter);
-  fits = rw (digits_then 32 not_space xs (32 ∷ h.line) [] (parts 32 h.line) d refl) (two_lines (parts 32 h.line) (xs ++ []) n m (ap number_of (append-nil xs) ∙ e) h.fits);
+pub two : (text rest after : List ℕ) (n m : ℕ) → BeginsWith text n 32 rest → HasNumbers rest m None after → HasNumbers text n (Some m) after
+two text rest after n m b h = record {
+  line = b.digits ++ 32 ∷ h.line;
+  lines = ap (parts 10) b.text_is ∙ digits_then 10 not_end b.digits (32 ∷ rest) (32 ∷ h.line) (parts 10 after) b.are_digits (ap (onto_first 32) h.lines);
+  shorter = omega (arith, ap length b.text_is ∙ length-append b.digits (32 ∷ rest), h.shorter);
+  fits = (parts 32 h.line, rw (digits_then 32 not_space b.digits (32 ∷ h.line) [] (parts 32 h.line) b.are_digits refl) (rw (append-nil, b.number) refl), h.fits);
 }
-
-behind : (text rest : List ℕ) (at b : ℕ) → at < length text → get_or text at 0 ≡ b → rest ≡ drop (at + 1) text → (text ≡ take at text ++ b ∷ rest) × (length rest < length text)
-behind text rest at b l e r = (cut at text l ∙ ap (λ x. take at text ++ x ∷ drop (at + 1) text) e ∙ ap (λ x. take at text ++ b ∷ x) (sym r), omega (arith, ap length r ∙ length-drop (at + 1) text, l))
-
-pub one : (text after : List ℕ) (n at : ℕ) → BeginsWith text n at → get_or text at 0 ≡ 10 → after ≡ drop (at + 1) text → HasNumbers text n None after
-one text after n at b e r = let t = behind text after at 10 b.within e r in one_line (take at text) text after n b.digits b.number t.0 t.1
-
-pub two : (text rest after : List ℕ) (n m at : ℕ) → BeginsWith text n at → get_or text at 0 ≡ 32 → rest ≡ drop (at + 1) text → HasNumbers rest m None after → HasNumbers text n (Some m) after
-two text rest after n m at b e r h = let t = behind text rest at 32 b.within e r in two_line (take at text) text rest after n m b.digits b.number t.0 h t.1
-
-pub begins : (text : List ℕ) (n at : ℕ) → 0 < at → at < length text → Reads text at n → BeginsWith text n at
-begins text n at p l r = record { some = p; within = l; digits = r.digits; number = spelled (take at text) n (some_digits at text p l) r.digits r.spelled r.fits }
 
 -- the call of a name and of numbers
-asks_record : (call : ℕ → ℕ → Call ℕ) (fields : List (List ℕ)) (n : ℕ) (m : Option ℕ) → AreNumbers fields n m → record_of call fields ≡ Some (Apply (call n (unwrap_or m 1)))
-asks_record call [] n m a = absurd a
-asks_record call (f ∷ []) n None a = rw a refl
-asks_record call (f ∷ []) n (Some m) a = absurd a
-asks_record call (f ∷ g ∷ []) n None a = absurd a
-asks_record call (f ∷ g ∷ []) n (Some m) a = rw (a.0, a.1) refl
-asks_record call (f ∷ g ∷ h ∷ fields) n m a = absurd a
+one_count : (fields : List (List ℕ)) (m : ℕ) → first_number fields ≡ Some (m, []) → count_of fields ≡ Some m
+one_count [] m e = absurd (let f : None ≡ Some (m, []) = e in cc)
+one_count (f ∷ fields) m e = rw e refl
 
-asks_correct : (fields : List (List ℕ)) (n m : ℕ) → AreNumbers fields n (Some m) → correct_of fields ≡ Some (Apply (Correct n 1 m))
-asks_correct [] n m a = absurd a
-asks_correct (f ∷ []) n m a = absurd a
-asks_correct (f ∷ g ∷ []) n m a = rw (a.0, a.1) refl
-asks_correct (f ∷ g ∷ h ∷ fields) n m a = absurd a
+pub record_asked : (call : ℕ → ℕ → Call ℕ) (fields : List (List ℕ)) (n : ℕ) (m : Option ℕ) → AreNumbers fields n m → record_of call fields ≡ Some (Apply (call n (unwrap_or m 1)))
+record_asked call fields n None a = rw a refl
+record_asked call fields n (Some m) (rest, a, b) = rw (a, one_count rest m b) refl
 
-module _ (text rest after : List ℕ) (n : ℕ) where
-  pub record_line : (m : Option ℕ) → text ≡ 114 ∷ 32 ∷ rest → HasNumbers rest n m after → IsCallLine text (Record n (unwrap_or m 1)) after
-  unfolding command_of_name
-  record_line m t h = record { line = 114 ∷ 32 ∷ h.line; lines = rw (t, h.lines) refl; shorter = omega (arith, ap length t, h.shorter); fits = asks_record Record (parts 32 h.line) n m h.fits }
+pub correct_asked : (fields : List (List ℕ)) (n m : ℕ) → AreNumbers fields n (Some m) → correct_of fields ≡ Some (Apply (Correct n 1 m))
+correct_asked fields n m (rest, a, b) = rw (a, b) refl
 
-  pub clamp_line : (m : Option ℕ) → text ≡ 115 ∷ 32 ∷ rest → HasNumbers rest n m after → IsCallLine text (Clamp n (unwrap_or m 1)) after
-  unfolding command_of_name
-  clamp_line m t h = record { line = 115 ∷ 32 ∷ h.line; lines = rw (t, h.lines) refl; shorter = omega (arith, ap length t, h.shorter); fits = asks_record Clamp (parts 32 h.line) n m h.fits }
+pub front : (text rest : List ℕ) (b : ℕ) → 2 ≤ length text → get_or text 0 0 ≡ b → get_or text 1 0 ≡ 32 → rest ≡ drop 2 text → text ≡ b ∷ 32 ∷ rest
+front [] rest b l e f r = absurd (omega (arith, l))
+front (x ∷ []) rest b l e f r = absurd (omega (arith, l))
+front (x ∷ y ∷ text) rest b l e f r = let p : x ≡ b = e in let q : y ≡ 32 = f in rw (p, q, r) refl
 
-  pub correct_line : (m : ℕ) → text ≡ 99 ∷ 32 ∷ rest → HasNumbers rest n (Some m) after → IsCallLine text (Correct n 1 m) after
-  unfolding command_of_name
-  correct_line m t h = record { line = 99 ∷ 32 ∷ h.line; lines = rw (t, h.lines) refl; shorter = omega (arith, ap length t, h.shorter); fits = asks_correct (parts 32 h.line) n m h.fits }
+-- the line of a name of one byte, and of numbers
+pub value_line : (text rest after : List ℕ) (b n : ℕ) (m : Option ℕ) (call : Call ℕ) → (b == 10) ≡ false → (b == 32) ≡ false → text ≡ b ∷ 32 ∷ rest → HasNumbers rest n m after
+    → ((fields : List (List ℕ)) → AreNumbers fields n m → command_of_fields ((b ∷ []) ∷ fields) ≡ Some (Apply call)) → FirstLine text (λ line. command_of line ≡ Some (Apply call)) after
+value_line text rest after b n m call ten space t h asked = record {
+  line = b ∷ 32 ∷ h.line;
+  lines = rw (t, ten, h.lines) refl;
+  shorter = omega (arith, ap length t, h.shorter);
+  fits = rw space (asked (parts 32 h.line) h.fits);
+}
 
 -- one more digit of few
 pub few_more : (at value digit : ℕ) → at < 19 → value < 10 ^ at → digit < 10 → (value * 10 + digit < 10 ^ (at + 1)) × (value * 10 + digit < 2 ^ 64)

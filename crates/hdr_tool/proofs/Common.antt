@@ -16,9 +16,9 @@ pub use Rattle.hdr_model.specs.Recording.{after_reset}
 pub use Rattle.hdr_model.specs.Runs.{StandsWhereFits, State}
 pub use Rattle.hdr_tool.specs.Arguments.{Task, Report, Log, Merge, greatest_into, filter_of, task_of, sigfig_of, fraction_of, are_fractions, figures_of, log_of, Options, no_options, options_of, view_of_options, view_of_task}
 pub use Rattle.hdr_tool.specs.Commands.{Command, Apply, End, command_of, number_lines, first_number, alone, count_of, record_of, correct_of, end_tag_of, end_of, command_of_fields, BeginsWith, AreNumbers, FirstLine, parts_of_rest}
-pub use Rattle.hdr_tool.specs.LogMerges.{at_command, ends_of, AfterCommand, EndsWith, AreEnds, chosen_of, AreReadBack, LogThenMerge}
-pub use Rattle.hdr_tool.specs.Outcomes.{Cause, Shortage, Output, Input, Misuse, cause_of, Goes, Fails, Answers, ReadsTo, ReadsAll, CommandNeeds, LinesNeed, Needs}
-pub use Rattle.hdr_tool.specs.Program.{Interval, Run, ended_by, run_command, run_lines, IsLogText, Logged, LoggedFirst, merge_fault, prepend, run_input, fault_in, Reported, TaskDone, TaskStands, TaskWrites, MergeReported, merged_histogram, Unread, told, OneOutcome, Outcome, has_too_great_count, IsReport, quantile_line}
+pub use Rattle.hdr_tool.specs.LogMerges.{at_command, ends_of, AfterCommand, EndsWith, IsEnd, chosen_of, LogThenMerge}
+pub use Rattle.hdr_tool.specs.Outcomes.{Cause, Shortage, Output, Input, Misuse, cause_of, Goes, RunsAll, OnInput, whatever, Fails, Writes, ReadsTo, ReadsAll, CommandNeeds, LinesNeed, Needs}
+pub use Rattle.hdr_tool.specs.Program.{Interval, Run, ended_by, run_command, run_end, run_lines, run_rest, IsLogText, Logged, LoggedFirst, merge_fault, prepend, run_input, Reported, Outputs, at_end, as_reached, outputs_of, MergeReported, Unread, told, OneOutcome, Outcome, has_too_great_count, IsReport, quantile_line}
 pub use Rattle.hdr_tool.specs.declared.fault.Fault.{Fault}
 pub use Rattle.hdr_tool.specs.declared.fault.Fault.TheVariants.{Usage, NotACommand, NotWritten, NoMemory, CannotRead, CannotWrite}
 pub use Rattle.hdrhistogram.specs.Chosen.{Filter, is_chosen, Every, view_of_filter}
@@ -37,7 +37,8 @@ pub use Rattle.std.proofs.lemmas.Bool.{ltb-true, lt-ltb, ne_eqb, le-leb, lt-leb,
 pub use Rattle.std.proofs.lemmas.List.{append-nil, length-drop, take_rest, take_all, get_or_default}
 pub use Rattle.std.specs.Char.{is_ascii_digit, digit_value}
 pub use Rattle.std.specs.Io.KnownBytes.{Appends, IsAtEnd, Keeps, Consumes}
-pub use Rattle.std.specs.List.{AllByRecursion, enumerate_from, list_all, onto_first, slice_split, position_or_len, filter_map}
-pub use Rattle.std.specs.Option.{option_map}
+pub use Rattle.std.specs.List.{AllByRecursion, AllZip, enumerate_from, list_all, onto_first, slice_split, position_or_len, filter_map}
+pub use Rattle.std.specs.Option.{option_map, option_map_or}
+pub use Rattle.std.specs.Result.{result_err, result_map_both}
 pub use Rattle.std.specs.Prelude.{MatchBool, codes, nat_le, All}
 pub use Rattle.std.specs.Str.{bytes_eq}

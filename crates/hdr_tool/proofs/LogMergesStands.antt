@@ -1,14 +1,15 @@
 -- What a log's lines recorded is what a merge of the written log reports.
-use Rattle.hdr_tool.proofs.Common.{◌≡◌, ℕ, zero, suc, ◌+◌, ◌-◌, ◌*◌, ◌^◌, ◌<◌, ◌≤◌, Bool, true, false, cond, leb, ◌&&◌, List, [], ◌∷◌, ◌++◌, Option, Some, None, IfSome, refl, sym, ap₂, ◌∙◌, subst, arith, lit<, lit≤, option_map, codes, filter_map, AllByRecursion, enumerate_from, bytes_eq, leb-true, Resolution, IsFiner, Ratio, Plain, IsPlain, resolution, StandsWhereFits, State, after_adds, IsPart, AreParts, joined_samples, AnswersRanked, Filter, is_chosen, IsReadBack, Fault, ◌>>=◌, parts, sigfig_of, fraction_of, are_fractions, Task, Report, Log, Merge, figures_of, log_of, Options, no_options, options_of, greatest_into, filter_of, IsReport, Outcome, Interval, chosen_of, ends_of, AreReadBack, EndsWith, AreEnds}
+use Rattle.hdr_tool.proofs.Common.{◌≡◌, ℕ, zero, suc, ◌+◌, ◌-◌, ◌*◌, ◌^◌, ◌<◌, ◌≤◌, Bool, true, false, cond, leb, List, [], ◌∷◌, ◌++◌, Option, Some, None, IfSome, refl, sym, ap₂, ◌∙◌, subst, arith, lit<, lit≤, codes, filter_map, AllByRecursion, enumerate_from, bytes_eq, leb-true, Resolution, IsFiner, Ratio, Plain, IsPlain, resolution, StandsWhereFits, State, after_adds, IsPart, AreParts, joined_samples, AnswersRanked, Filter, is_chosen, IsReadBack, Fault, ◌>>=◌, parts, sigfig_of, fraction_of, are_fractions, Task, Report, Log, Merge, figures_of, log_of, Options, no_options, options_of, greatest_into, filter_of, IsReport, Outcome, Interval, chosen_of, ends_of, EndsWith, IsEnd, AllZip}
 use Rattle.hdr_base.specs.Classes.{least_from, unit_of, digits_of, resolution_of}
 use Rattle.hdr_model.specs.Plain.{empty_plain}
 use Rattle.hdr_model.specs.Samples.{StandsFor, Fits}
 use Rattle.hdr_model.specs.Refusals.{IsBounds}
 use Rattle.hdrhistogram.proofs.ChosenAdded.{added_digits}
 use Rattle.hdr_tool.specs.Arguments.{merge_of, task_of}
+use Rattle.std.specs.List.{cons_option}
 use Rattle.hdr_tool.specs.declared.arguments.CounterType.{CounterType}
 use Rattle.hdr_tool.proofs.LogMergesWritten.{CallsStand, ends_stand, ReadsBack, log_then_merge}
-use Rattle.hdr_tool.proofs.CommandsLines.{one_of, tail, any}
+use Rattle.hdr_tool.proofs.CommandsLines.{one_of, tail, any, if_both, mapped}
 use Rattle.hdr_tool.specs.declared.arguments.CounterType.TheVariants as counter
 
 -- ---- digits are at most five
@@ -16,15 +17,9 @@ use Rattle.hdr_tool.specs.declared.arguments.CounterType.TheVariants as counter
 abbrev Few : ℕ → Type 0
 Few n = n ≤ 5
 
-few_if : (a b : Bool) (digit : ℕ) → (b ≡ true → digit ≤ 53) → IfSome (cond (a && b) (Some (digit - 48)) None) Few
-few_if true true digit h = omega (arith, h refl)
-few_if true false digit h = tt
-few_if false true digit h = tt
-few_if false false digit h = tt
-
 sigfig_few : (word : List ℕ) → IfSome (sigfig_of word) Few
 sigfig_few [] = tt
-sigfig_few (digit ∷ []) = few_if (leb 48 digit) (leb digit 53) digit (λ e. leb-true digit 53 e)
+sigfig_few (digit ∷ []) = if_both Few (leb 48 digit) (leb digit 53) (digit - 48) (λ e. omega (arith, leb-true digit 53 e))
 sigfig_few (digit ∷ more ∷ rest) = tt
 
 abbrev HasFew : Task → Type 0
@@ -40,13 +35,9 @@ figures_few (digit ∷ q ∷ qs) =
     tail Few P (sigfig_of digit) (λ n. cond (are_fractions (q ∷ qs)) (Some (n, filter_map fraction_of (q ∷ qs))) None) (sigfig_few digit)
     (λ n few. one_of P (are_fractions (q ∷ qs)) (Some (n, filter_map fraction_of (q ∷ qs))) None few tt)
 
-mapped : {A : Type 0} (P : A → Type 0) (f : A → Task) (o : Option A) → IfSome o P → ((x : A) → P x → HasFew (f x)) → IfSome (option_map f o) HasFew
-mapped P f None p h = tt
-mapped P f (Some x) p h = h x p
-
 log_few : (words : List (List ℕ)) → IfSome (log_of words) HasFew
 log_few [] = tt
-log_few (digit ∷ []) = mapped Few Log (sigfig_of digit) (sigfig_few digit) (λ n few. few)
+log_few (digit ∷ []) = mapped Few HasFew Log (sigfig_of digit) (sigfig_few digit) (λ n few. few)
 log_few (digit ∷ more ∷ rest) = tt
 
 merge_few : (words : List (List ℕ)) → IfSome (merge_of words) HasFew
@@ -59,7 +50,7 @@ task_few : (words : List (List ℕ)) → IfSome (task_of words) HasFew
 unfolding task_of
 task_few [] = tt
 task_few (name ∷ words) =
-    one_of HasFew (bytes_eq name (codes "report")) _ _ (mapped (λ (f : ℕ × List Ratio). Few f.0) (λ f. Report f.0 f.1) (figures_of words) (figures_few words) (λ f few. few))
+    one_of HasFew (bytes_eq name (codes "report")) _ _ (mapped (λ (f : ℕ × List Ratio). Few f.0) HasFew (λ f. Report f.0 f.1) (figures_of words) (figures_few words) (λ f few. few))
     (one_of HasFew (bytes_eq name (codes "log")) _ _ (log_few words) (one_of HasFew (bytes_eq name (codes "merge")) _ None (merge_few words) tt))
 
 -- ---- an empty histogram of these digits
@@ -103,7 +94,7 @@ pub record ReadsStand : Type 0 where
   pub classes : (h k : Plain) → IsReadBack h k → resolution k ≡ resolution h
   pub samples : (greatest : ℕ) (h k : Plain) (S : List ℕ) → IsPlain greatest h → IsReadBack h k → StandsFor h S → StandsFor k S
 
-ends_plain : (g : Resolution) (hs : List (Interval Plain)) (Ls : List (Interval (List ℕ))) → AreEnds g hs Ls → AllByRecursion (λ (e : Interval Plain). IsPlain (2 ^ 64 - 1) e.holds) hs
+ends_plain : (g : Resolution) (hs : List (Interval Plain)) (Ls : List (Interval (List ℕ))) → AllZip (IsEnd g) hs Ls → AllByRecursion (λ (e : Interval Plain). IsPlain (2 ^ 64 - 1) e.holds) hs
 ends_plain g [] [] e = tt
 ends_plain g [] (L ∷ Ls) e = absurd e
 ends_plain g (h ∷ hs) [] e = absurd e
@@ -115,18 +106,13 @@ record Holds (g : Resolution) (h : Plain) (L : List ℕ) : Type 0 where
   stands : StandsFor h L
   classes : resolution h ≡ g
 
-abbrev AllHold : Resolution → List Plain → List (List ℕ) → Type 0
-AllHold g [] [] = Unit {0}
-AllHold g (h ∷ hs) (L ∷ Ls) = Holds g h L × AllHold g hs Ls
-AllHold g _ _ = ⊥
-
-chosen_one : (g : Resolution) (b c : Bool) (h : Plain) (L : List ℕ) (hs : List Plain) (Ls : List (List ℕ)) → b ≡ c → Holds g h L → AllHold g hs Ls → AllHold g (cond b (h ∷ hs) hs) (cond c (L ∷ Ls) Ls)
+chosen_one : (g : Resolution) (b c : Bool) (h : Plain) (L : List ℕ) (hs : List Plain) (Ls : List (List ℕ)) → b ≡ c → Holds g h L → AllZip (Holds g) hs Ls → AllZip (Holds g) (cons_option (cond b (Some h) None) hs) (cons_option (cond c (Some L) None) Ls)
 chosen_one g true true h L hs Ls e one all = (one, all)
 chosen_one g false false h L hs Ls e one all = all
 chosen_one g true false h L hs Ls e one all = absurd (let f = e in cc)
 chosen_one g false true h L hs Ls e one all = absurd (let f = e in cc)
 
-chosen_hold : (filter : Filter) (g : Resolution) (hs : List (Interval Plain)) (Ls : List (Interval (List ℕ))) → AreEnds g hs Ls → AllHold g (chosen_of filter hs) (chosen_of filter Ls)
+chosen_hold : (filter : Filter) (g : Resolution) (hs : List (Interval Plain)) (Ls : List (Interval (List ℕ))) → AllZip (IsEnd g) hs Ls → AllZip (Holds g) (chosen_of filter hs) (chosen_of filter Ls)
 chosen_hold filter g [] [] e = tt
 chosen_hold filter g [] (L ∷ Ls) e = absurd e
 chosen_hold filter g (h ∷ hs) [] e = absurd e
@@ -135,7 +121,7 @@ chosen_hold filter g (h ∷ hs) (L ∷ Ls) e =
     chosen_one g (is_chosen filter h.tag (h.start * 1_000_000)) (is_chosen filter L.tag (L.start * 1_000_000)) h.holds L.holds (chosen_of filter hs) (chosen_of filter Ls) same
     (record { plain = e.0.plain; stands = e.0.stands; classes = e.0.classes }) (chosen_hold filter g hs Ls e.1)
 
-read_parts : (f g : Resolution) (hs ks : List Plain) (Ls : List (List ℕ)) → ReadsStand → IsFiner g f → AllHold g hs Ls → AreReadBack hs ks → AreParts (2 ^ 64 - 1) f ks Ls
+read_parts : (f g : Resolution) (hs ks : List Plain) (Ls : List (List ℕ)) → ReadsStand → IsFiner g f → AllZip (Holds g) hs Ls → AllZip IsReadBack hs ks → AreParts (2 ^ 64 - 1) f ks Ls
 read_parts f g [] [] [] back fine e r = tt
 read_parts f g [] [] (L ∷ Ls) back fine e r = absurd e
 read_parts f g [] (k ∷ ks) Ls back fine e r = absurd r
@@ -188,7 +174,7 @@ whole_way log merge sigfig fewer options quantiles input written text fault Ls n
     let few : sigfig ≤ 5 = subst (λ o. IfSome o HasFew) tl (task_few log) in
     let few_merged : fewer ≤ 5 = subst (λ o. IfSome o HasFew) tm (task_few merge) in
     let stands : StandsWhereFits (2 ^ 64 - 1) h start = ((λ fits. made sigfig), empty_high sigfig) in
-    let ended : AreEnds (resolution h) (ends_of h lines) Ls = ends_stand calls h start lines Ls (empty_is_plain new (2 ^ 64 - 1) sigfig few) stands (subst (λ (g : Resolution). EndsWith g start lines Ls) (sym (empty_resolution sigfig)) ends) in
+    let ended : AllZip (IsEnd (resolution h)) (ends_of h lines) Ls = ends_stand calls h start lines Ls (empty_is_plain new (2 ^ 64 - 1) sigfig few) stands (subst (λ (g : Resolution). EndsWith g start lines Ls) (sym (empty_resolution sigfig)) ends) in
     let m = log_then_merge back log merge sigfig fewer options quantiles input written text fault tl tm (ends_plain (resolution h) (ends_of h lines) Ls ended) wrote merged in
     let finer : IsFiner (resolution h) (resolution k) = subst (λ (g : Resolution). IsFiner g (resolution k)) (sym (empty_resolution sigfig)) (subst (λ (g : Resolution). IsFiner (resolution_of 1 sigfig) g) (sym (empty_resolution fewer)) fine) in
     let parted : AreParts (2 ^ 64 - 1) (resolution k) m.1.0 (chosen_of filter Ls) = read_parts (resolution k) (resolution h) (chosen_of filter (ends_of h lines)) m.1.0 (chosen_of filter Ls) stand finer (chosen_hold filter (resolution h) (ends_of h lines) Ls ended) m.1.1 in

@@ -1,7 +1,7 @@
 -- The histograms of a log that `log` wrote: what they stand for, and the result of merging them.
-use Rattle.hdr_tool.proofs.Common.{◌≡◌, ℕ, ◌-◌, ◌^◌, List, [], ◌∷◌, Option, Some, None, IfSome, refl, sym, subst, ◌+◌, ◌*◌, ◌<◌, Bool, true, false, cond, arith, length, slice_index, ◌++◌, MatchOption, Result, Ok, Err, map, ap, ◌∙◌, Resolution, Plain, IsPlain, resolution, empty_plain, max_of, after_reset, after_call, CallTo, IsCallOf, StandsWhereFits, State, Call, Reset, Command, Apply, End, command_of, at_command, ends_of, AfterCommand, EndsWith, AreEnds, chosen_of, AreReadBack, LogThenMerge, AllByRecursion, enumerate_from, Ratio, after_adds, Entry, Span, reading, thousandths, to_thousandths, max_thousandths, base64_of, base64_bytes, Piece, IsPiece, piece_text, text_of, said_by, is_read, IsV2, interval_piece, IsIntervalText, told_of, v2_at, IsReadAs, IsReadBack, ReadsV2, Filter, is_chosen, Merging, new_merging, past_interval, with_interval, BytesMerge, FieldMerges, IntervalMerges, MergesOn, EntriesMerge, DeserializeError, MergeError, Fault, Usage, parts, Run, ended_by, prepend, run_command, run_lines, IsLogText, has_too_great_count, IsReport, Task, greatest_into, filter_of, fault_in, Reported, merged_histogram, MergeReported, TaskDone, append-nil}
+use Rattle.hdr_tool.proofs.Common.{◌≡◌, ℕ, ◌-◌, ◌^◌, List, [], ◌∷◌, Option, Some, None, IfSome, refl, sym, subst, ◌+◌, ◌*◌, ◌<◌, Bool, true, false, cond, arith, length, slice_index, ◌++◌, MatchOption, Result, Ok, Err, map, ap, ◌∙◌, Resolution, Plain, IsPlain, resolution, empty_plain, max_of, after_reset, after_call, CallTo, IsCallOf, StandsWhereFits, State, Call, Reset, Command, Apply, End, command_of, at_command, ends_of, AfterCommand, EndsWith, IsEnd, AllZip, chosen_of, LogThenMerge, AllByRecursion, enumerate_from, Ratio, after_adds, Entry, Span, reading, thousandths, to_thousandths, max_thousandths, base64_of, base64_bytes, Piece, IsPiece, piece_text, text_of, said_by, is_read, IsV2, interval_piece, IsIntervalText, told_of, v2_at, IsReadAs, IsReadBack, ReadsV2, Filter, is_chosen, Merging, new_merging, past_interval, with_interval, BytesMerge, FieldMerges, IntervalMerges, MergesOn, EntriesMerge, DeserializeError, MergeError, Fault, Usage, parts, Run, ended_by, prepend, run_command, run_lines, IsLogText, has_too_great_count, IsReport, Task, greatest_into, filter_of, result_err, result_map_both, merge_fault, Reported, MergeReported, outputs_of, append-nil}
 use Rattle.hdr_tool.proofs.CommandsLines.{IsLineCommand, command_fine}
-use Rattle.std.specs.List.{flat_map}
+use Rattle.std.specs.List.{cons_option, flat_map}
 use Rattle.hdr_log.specs.Grammar.{Interval}
 use Rattle.hdr_log.proofs.GrammarWhole.{pieces_read}
 use Rattle.hdr_log.proofs.TextsBase64.{base64_decoded}
@@ -17,27 +17,27 @@ pub record CallsStand : Type 0 where
       → CallTo (λ n. n) (resolution h) call s t → StandsWhereFits (2 ^ 64 - 1) (after_call (2 ^ 64 - 1) (λ n. n) call h) t
 
 command_stands : (c : Option Command) (h : Plain) (s : State) (lines : List (ℕ × List ℕ)) (Ls : List (run.Interval (List ℕ))) → CallsStand → IsPlain (2 ^ 64 - 1) h → StandsWhereFits (2 ^ 64 - 1) h s → IfSome c IsLineCommand → AfterCommand (resolution h) s c (λ t rest. EndsWith (resolution h) t lines rest) Ls
-    → ((g : Plain) (t : State) (rest : List (run.Interval (List ℕ))) → IsPlain (2 ^ 64 - 1) g → StandsWhereFits (2 ^ 64 - 1) g t → EndsWith (resolution g) t lines rest → AreEnds (resolution g) (ends_of g lines) rest)
-    → AreEnds (resolution h) (at_command h c (λ g. ends_of g lines)) Ls
-command_stands None h s lines Ls calls p st fine a tail = let A : List (run.Interval (List ℕ)) → Type 0 = λ x. AreEnds (resolution h) [] x in subst A (sym a) tt
+    → ((g : Plain) (t : State) (rest : List (run.Interval (List ℕ))) → IsPlain (2 ^ 64 - 1) g → StandsWhereFits (2 ^ 64 - 1) g t → EndsWith (resolution g) t lines rest → AllZip (IsEnd (resolution g)) (ends_of g lines) rest)
+    → AllZip (IsEnd (resolution h)) (at_command h c (λ g. ends_of g lines)) Ls
+command_stands None h s lines Ls calls p st fine a tail = let A : List (run.Interval (List ℕ)) → Type 0 = λ x. AllZip (IsEnd (resolution h)) [] x in subst A (sym a) tt
 command_stands (Some (Apply call)) h s lines Ls calls p st fine a tail =
     let next = after_call (2 ^ 64 - 1) (λ (n : ℕ). n) call h in
     let same : resolution next ≡ resolution h = calls.classes (2 ^ 64 - 1) h call fine in
     let W : Resolution → Type 0 = λ g. EndsWith g a.0 lines Ls in
-    let E : Resolution → Type 0 = λ g. AreEnds g (ends_of next lines) Ls in
+    let E : Resolution → Type 0 = λ g. AllZip (IsEnd g) (ends_of next lines) Ls in
     subst E same (tail next a.0 Ls (calls.plain (2 ^ 64 - 1) h call fine p) (calls.wherever (2 ^ 64 - 1) h call s a.0 fine p st a.1) (subst W (sym same) a.2))
 command_stands (Some (End start duration tag)) h s lines Ls calls p st fine a tail =
     let t : State = record { samples = []; high = s.high } in
     let same : resolution (after_reset h) ≡ resolution h = calls.classes (2 ^ 64 - 1) h Reset tt in
     let W : Resolution → Type 0 = λ g. EndsWith g t lines a.0 in
-    let E : Resolution → Type 0 = λ g. AreEnds g (ends_of (after_reset h) lines) a.0 in
-    let A : List (run.Interval (List ℕ)) → Type 0 = λ x. AreEnds (resolution h) (record { holds = h; tag = tag; start = start; duration = duration } ∷ ends_of (after_reset h) lines) x in
+    let E : Resolution → Type 0 = λ g. AllZip (IsEnd g) (ends_of (after_reset h) lines) a.0 in
+    let A : List (run.Interval (List ℕ)) → Type 0 = λ x. AllZip (IsEnd (resolution h)) (record { holds = h; tag = tag; start = start; duration = duration } ∷ ends_of (after_reset h) lines) x in
     let rest = tail (after_reset h) t a.0 (calls.plain (2 ^ 64 - 1) h Reset tt p) (calls.wherever (2 ^ 64 - 1) h Reset s t tt p st (refl, refl)) (subst W (sym same) a.3) in
     subst A (sym a.1) (record { plain = p; stands = st.0 a.2; classes = refl; tag = refl; start = refl; duration = refl }, subst E same rest)
 
 pub ends_stand : CallsStand → (h : Plain) (s : State) (lines : List (ℕ × List ℕ)) (Ls : List (run.Interval (List ℕ))) → IsPlain (2 ^ 64 - 1) h → StandsWhereFits (2 ^ 64 - 1) h s → EndsWith (resolution h) s lines Ls
-    → AreEnds (resolution h) (ends_of h lines) Ls
-ends_stand calls h s [] Ls p st w = let A : List (run.Interval (List ℕ)) → Type 0 = λ x. AreEnds (resolution h) [] x in subst A (sym w) tt
+    → AllZip (IsEnd (resolution h)) (ends_of h lines) Ls
+ends_stand calls h s [] Ls p st w = let A : List (run.Interval (List ℕ)) → Type 0 = λ x. AllZip (IsEnd (resolution h)) [] x in subst A (sym w) tt
 ends_stand calls h s ((k, []) ∷ lines) Ls p st w = ends_stand calls h s lines Ls p st w
 ends_stand calls h s ((k, b ∷ line) ∷ lines) Ls p st w = command_stands (command_of (b ∷ line)) h s lines Ls calls p st (command_fine (b ∷ line)) w (λ g t rest q u v. ends_stand calls g t lines rest q u v)
 
@@ -152,12 +152,12 @@ field_added greatest i m r back p v d =
 
 -- the merge has no error, and what was added is what these histograms were read as
 abbrev Added : ℕ → Merging → List Plain → Result Merging MergeError → Type 0
-Added greatest m hs r = (ks : List Plain) × AreReadBack hs ks × ((last : Merging) × (r ≡ Ok last) × (last.histogram ≡ after_adds greatest m.histogram ks))
+Added greatest m hs r = (ks : List Plain) × AllZip IsReadBack hs ks × ((last : Merging) × (r ≡ Ok last) × (last.histogram ≡ after_adds greatest m.histogram ks))
 
 -- an interval, chosen or not
 interval_merges : (greatest : ℕ) (filter : Filter) (i : Logged) (m : Merging) (entries : List (Result Entry ℕ)) (b : Bool) (hs : List Plain) (step r : Result Merging MergeError)
     → ReadsBack → IsPlain (2 ^ 64 - 1) i.histogram → IsV2 i.histogram i.bytes → m.base ≡ 0 → IntervalMerges greatest m b (interval_of i) step → MergesOn (EntriesMerge greatest filter entries) step r
-    → ((n : Merging) → n.base ≡ 0 → EntriesMerge greatest filter entries n r → Added greatest n hs r) → Added greatest m (cond b (i.histogram ∷ hs) hs) r
+    → ((n : Merging) → n.base ≡ 0 → EntriesMerge greatest filter entries n r → Added greatest n hs r) → Added greatest m (cons_option (cond b (Some i.histogram) None) hs) r
 interval_merges greatest filter i m entries true hs step r back p v base d on rest =
     let f = field_added greatest i m step back p v d in
     let O : Result Merging MergeError → Type 0 = λ x. MergesOn (EntriesMerge greatest filter entries) x r in
@@ -181,14 +181,14 @@ merges greatest filter (i ∷ is) m r back h p base e =
     (subst I (ap (is_chosen filter i.tag) (begins_at m.base i.start base)) e.1) e.2
     (λ n b f. merges greatest filter is n r back h.1 p.1 b f)
 
-no_fault : (ended : Result Plain Fault) → None ≡ fault_in ended → (last : Plain) × (ended ≡ Ok last)
+no_fault : (ended : Result Plain Fault) → None ≡ result_err ended → (last : Plain) × (ended ≡ Ok last)
 no_fault (Ok h) e = (h, refl)
 no_fault (Err f) e = absurd (let g = e in cc)
 
 -- the parts joined
 merged_log : (h : Plain) (lines : List (ℕ × List ℕ)) (fewer greatest : ℕ) (filter : Filter) (quantiles : List Ratio) (written text : List ℕ) (fault : Option Fault) → ReadsBack → AllByRecursion (λ (e : run.Interval Plain). IsPlain (2 ^ 64 - 1) e.holds) (ends_of h lines)
-    → IsLogText (run_lines true h lines).intervals written × (None ≡ fault_in (run_lines true h lines).ended) → MergeReported greatest filter fewer quantiles written text fault
-    → (fault ≡ None) × ((ks : List Plain) × AreReadBack (chosen_of filter (ends_of h lines)) ks × IsReport (after_adds greatest (empty_plain 1 2 fewer true) ks) quantiles text)
+    → IsLogText (run_lines true h lines).intervals written × (None ≡ result_err (run_lines true h lines).ended) → MergeReported greatest filter fewer quantiles written text fault
+    → (fault ≡ None) × ((ks : List Plain) × AllZip IsReadBack (chosen_of filter (ends_of h lines)) ks × IsReport (after_adds greatest (empty_plain 1 2 fewer true) ks) quantiles text)
 merged_log h lines fewer greatest filter quantiles written text fault back plain d t =
     let ok = no_fault (run_lines true h lines).ended d.1 in
     let L : List (run.Interval Plain) → Type 0 = λ es. Logs es written in
@@ -197,15 +197,15 @@ merged_log h lines fewer greatest filter quantiles written text fault back plain
     let R : List (Result Entry ℕ) → Type 0 = λ xs. EntriesMerge greatest filter xs (new_merging fewer) t.0 in
     let read : reading written ≡ map is_read (map span_of l.intervals) = ap reading l.text_is ∙ log_read l.intervals l.each in
     let m = merges greatest filter l.intervals (new_merging fewer) t.0 back l.each (subst P (sym l.ends) plain) refl (subst R read t.1) in
-    let E : Result Merging MergeError → Type 0 = λ e. Reported quantiles (merged_histogram e) text fault in
+    let E : Result Merging MergeError → Type 0 = λ e. Reported quantiles (result_map_both (λ (x : Merging). x.histogram) merge_fault e) text fault in
     let reported = subst E m.2.1 t.2 in
-    let B : List (run.Interval Plain) → Type 0 = λ es. AreReadBack (chosen_of filter es) m.0 in
+    let B : List (run.Interval Plain) → Type 0 = λ es. AllZip IsReadBack (chosen_of filter es) m.0 in
     let I : Plain → Type 0 = λ k. IsReport k quantiles text in
     (reported.1, (m.0, subst B l.ends m.1, subst I m.2.2 reported.0))
 
 pub log_then_merge : ReadsBack → LogThenMerge
 unfolding Outcome
 log_then_merge back log merge sigfig fewer options quantiles input written text fault tl tm plain p q =
-    let L : Option Task → Type 0 = λ o. MatchOption o ((written ≡ []) × (None ≡ Some Usage)) (λ task. TaskDone task input written None) in
-    let M : Option Task → Type 0 = λ o. MatchOption o ((text ≡ []) × (fault ≡ Some Usage)) (λ task. TaskDone task written text fault) in
+    let L : Option Task → Type 0 = λ o. MatchOption o ((written ≡ []) × (None ≡ Some Usage)) (λ task. (outputs_of task input).whole written None) in
+    let M : Option Task → Type 0 = λ o. MatchOption o ((text ≡ []) × (fault ≡ Some Usage)) (λ task. (outputs_of task written).whole text fault) in
     merged_log (empty_plain 1 2 sigfig true) (enumerate_from 1 (parts 10 input)) fewer (greatest_into options.into) (filter_of options) quantiles written text fault back plain (subst L tl p) (subst M tm q)

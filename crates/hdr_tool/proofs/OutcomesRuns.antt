@@ -1,5 +1,5 @@
 -- What running lines leaves in the writer: one line, one part after another, and lines that are run while the input is read.
-use Rattle.hdr_tool.proofs.Common.{◌≡◌, ℕ, ◌+◌, ◌-◌, List, [], ◌++◌, length, take, drop, Option, Some, None, Result, Ok, Err, IsErrAnd, refl, sym, ap, ◌∙◌, append_assoc, suc, ◌^◌, Bool, ◌∷◌, subst, length-append, zero-add, arith, ◌*◌, true, inl, inr, IfSome, ◌⊎◌, Fault, Appends, Keeps, Consumes, IsAtEnd, take_rest, append-nil, Plain, IsPlain, after_call, IsCallError, Call, AppendsFront, Command, Apply, command_of, End, number_lines, Run, prepend, run_command, run_lines, IsLogText, Cause, Shortage, Output, Input, Misuse, cause_of, Goes, Fails, Logged, LoggedFirst, ended_by, CommandNeeds, LinesNeed, Needs, ReadsTo, after_reset, IsV2, HasTooGreatCount, IsIntervalText, NotACommand, NotWritten, NoMemory, Consumes-trans}
+use Rattle.hdr_tool.proofs.Common.{◌≡◌, ℕ, ◌+◌, ◌-◌, List, [], ◌++◌, length, take, drop, Option, Some, None, Result, Ok, Err, IsErrAnd, refl, sym, ap, ◌∙◌, append_assoc, suc, ◌^◌, Bool, ◌∷◌, subst, length-append, zero-add, arith, ◌*◌, true, false, ◌==◌, inl, inr, IfSome, ◌⊎◌, Fault, Appends, Keeps, Consumes, IsAtEnd, take_rest, append-nil, Plain, IsPlain, after_call, IsCallError, Call, AppendsFront, Command, Apply, command_of, number_lines, Run, prepend, run_command, run_end, run_lines, run_rest, IsLogText, Outputs, as_reached, Cause, Shortage, Output, Input, Misuse, cause_of, Goes, RunsAll, OnInput, whatever, Fails, Logged, LoggedFirst, ended_by, result_map_both, CommandNeeds, LinesNeed, Needs, ReadsTo, after_reset, IsV2, HasTooGreatCount, IsIntervalText, NotACommand, NotWritten, NoMemory, Consumes-trans, Consumes-nil}
 use Rattle.std.proofs.Math.Seq.{take-add}
 use Rattle.hdr_tool.specs.Commands.{command_of_name}
 use Rattle.hdr_tool.specs.Program.{Interval}
@@ -62,23 +62,17 @@ wrote_both : (is js : List (Interval Plain)) (o m n : Option (List ℕ)) → Wro
 wrote_both is js o m n p q = (p.0 ++ q.0, text_both is js p.0 q.0 p.1 q.1, appends_both o m n p.0 q.0 p.2 q.2)
 
 -- a run fails, whatever follows
-abbrev pub LogsAll : {M : Type 0} → (M → Run) → List ℕ → Option Fault → Type 0
-LogsAll {M = M} whole text fault = (more : M) → Logged (whole more) text fault
-
-abbrev pub LogsFirst : {M : Type 0} → (M → Run) → List ℕ → Type 0
-LogsFirst {M = M} whole text = (more : M) → LoggedFirst (whole more) text
-
 abbrev pub Stops : {M : Type 0} → (M → Run) → Option (List ℕ) → Option (List ℕ) → Cause → Fault → Type 0
-Stops whole old new c f = Fails (LogsAll whole) (LogsFirst whole) (LogsFirst whole) old new c f
+Stops whole old new c f = Fails (whatever (λ more. as_reached (whole more))) old new c f
 
 -- what fails after some text that is written
-pub fails_on : (E F : List ℕ → Option Fault → Type 0) (S T U V : List ℕ → Type 0) (o m n : Option (List ℕ)) (done : List ℕ) (f : Fault) (c : Cause) → Appends o m done
-    → ((text : List ℕ) → E text (Some f) → F (done ++ text) (Some f)) → ((text : List ℕ) → S text → T (done ++ text))
-    → ((text : List ℕ) → U text → AppendsFront m n text → V (done ++ text)) → Fails E S U m n c f → Fails F T V o n c f
-fails_on E F S T U V o m n done f Shortage a ends stands writes x = (done ++ x.0, stands x.0 x.1, appends_both o m n done x.0 a x.2)
-fails_on E F S T U V o m n done f Output a ends stands writes x = (done ++ x.0, writes x.0 x.1 x.2, front_behind o m n done x.0 a x.2)
-fails_on E F S T U V o m n done f Input a ends stands writes x = (done ++ x.0, ends x.0 x.1, appends_both o m n done x.0 a x.2)
-fails_on E F S T U V o m n done f Misuse a ends stands writes x = x
+pub fails_on : (A B : Outputs) (o m n : Option (List ℕ)) (done : List ℕ) (f : Fault) (c : Cause) → Appends o m done
+    → ((text : List ℕ) → A.whole text (Some f) → B.whole (done ++ text) (Some f)) → ((text : List ℕ) → A.early text → B.early (done ++ text))
+    → ((text : List ℕ) → A.begun text → AppendsFront m n text → B.begun (done ++ text)) → Fails A m n c f → Fails B o n c f
+fails_on A B o m n done f Shortage a whole early begun x = (done ++ x.0, early x.0 x.1, appends_both o m n done x.0 a x.2)
+fails_on A B o m n done f Output a whole early begun x = (done ++ x.0, begun x.0 x.1 x.2, front_behind o m n done x.0 a x.2)
+fails_on A B o m n done f Input a whole early begun x = (done ++ x.0, whole x.0 x.1, appends_both o m n done x.0 a x.2)
+fails_on A B o m n done f Misuse a whole early begun x = x
 
 prepend_both : (is js : List (Interval Plain)) (r : Run) → prepend is (prepend js r) ≡ prepend (is ++ js) r
 prepend_both is js r = ap (λ x. record { intervals = x; ended = r.ended }) (sym (append_assoc is js r.intervals))
@@ -102,7 +96,8 @@ module _ {M N : Type 0} (whole : M → Run) (middle onward : N → Run) (pre : M
 
   pub and_then : {A : Type 0} (r : Result A Fault) → Goes middle onward m n r → Goes whole (λ x. onward (pre x)) o n r
   and_then (Ok a) q = (p.0 ++ q.0, wrote_both p.0 q.0 o m n p.1 q.1, λ x. p.2 x ∙ ap (prepend p.0) (q.2 (pre x)) ∙ prepend_both p.0 q.0 (onward (pre x)))
-  and_then (Err f) q = fails_on (LogsAll middle) (LogsAll whole) (LogsFirst middle) (LogsFirst whole) (LogsFirst middle) (LogsFirst whole) o m n p.1.0 f (cause_of f) p.1.2 (ends (Some f)) first (λ text l _. first text l) q
+  and_then (Err f) q =
+      fails_on (whatever (λ y. as_reached (middle y))) (whatever (λ x. as_reached (whole x))) o m n p.1.0 f (cause_of f) p.1.2 (ends (Some f)) first (λ text l _. first text l) q
 
 -- what goes on stops if memory runs out or the reader fails
 pub cut_short : {M : Type 0} (whole onward : M → Run) (o m : Option (List ℕ)) (f : Fault) → cause_of f ≡ Shortage → Goes {A = Unit {0}} whole onward o m (Ok tt) → Stops whole o m (cause_of f) f
@@ -121,6 +116,11 @@ unfolding command_of_name
 command_line is_log h k [] more c e = absurd (let f : None ≡ Some c = e in cc)
 command_line is_log h k (b ∷ line) more c e = rw e refl
 
+-- a line without a command
+pub other_line : (is_log : Bool) (h : Plain) (k : ℕ) (line : List ℕ) (more : List (ℕ × List ℕ)) → (length line == 0) ≡ false → command_of line ≡ None → run_lines is_log h ((k, line) ∷ more) ≡ ended_by (Err (NotACommand k))
+other_line is_log h k [] more n e = absurd (let f : true ≡ false = n in cc)
+other_line is_log h k (b ∷ line) more n e = rw e refl
+
 -- the line of a call
 pub call_line : (is_log : Bool) (h new : Plain) (k : ℕ) (line : List ℕ) (more : List (ℕ × List ℕ)) (call : Call ℕ) → command_of line ≡ Some (Apply call) → new ≡ after_call (2 ^ 64 - 1) (λ n. n) call h
     → run_lines is_log h ((k, line) ∷ more) ≡ run_lines is_log new more
@@ -128,7 +128,7 @@ call_line is_log h new k line more call e d = command_line is_log h k line more 
 
 module _ (k : ℕ) (h : Plain) (start duration : ℕ) (tag : Option (List ℕ)) (o n : Option (List ℕ)) where
   abbrev Whole : (Plain → Run) → Run
-  Whole = run_command true k h (Some (End start duration tag))
+  Whole = run_end k h start duration tag
 
   abbrev this : Interval Plain
   this = record { holds = h; tag = tag; start = start; duration = duration }
@@ -211,6 +211,10 @@ pub some_input : (o : Option (List ℕ)) → (x : List ℕ) × IfSome o (λ byte
 some_input None = ([], tt)
 some_input (Some xs) = (xs, refl)
 
+-- no line is run yet, and memory runs out
+pub unstarted : (run : List ℕ → Run) (i o : Option (List ℕ)) → OnInput i (λ input. RunsAll (run input) o o (Err NoMemory))
+unstarted run i o = let x = some_input i in (x.0, x.1, (([], ([], (run x.0).intervals, refl, refl), appends_nothing o), tt))
+
 read_by : (m : Option (List ℕ)) (c : Cause) → IsAtEnd m → ReadsTo (λ _. Unit {0}) m c
 read_by m Shortage e = tt
 read_by m Output e = tt
@@ -223,76 +227,95 @@ read_all m f e = read_by m (cause_of f) e
 pub read_to : (m : Option (List ℕ)) (f : Fault) → cause_of f ≡ Shortage → ReadsTo (λ _. Unit {0}) m (cause_of f)
 read_to m f e = rw e tt
 
--- what follows is known
-pub at_rest : {M : Type 0} (whole : M → Run) (x : M) (o m : Option (List ℕ)) (c : Cause) (f : Fault) → Stops whole o m c f → Stops {M = Unit {0}} (λ _. whole x) o m c f
+-- a run that failed whatever follows, and one that went on to its end
+pub at_rest : {M : Type 0} (whole : M → Run) (x : M) (o m : Option (List ℕ)) (c : Cause) (f : Fault) → Stops whole o m c f → Fails (as_reached (whole x)) o m c f
 at_rest whole x o m c f p =
-    let then : Unit {0} → Run = λ _. whole x in
-    fails_on (LogsAll whole) (LogsAll then) (LogsFirst whole) (LogsFirst then) (LogsFirst whole) (LogsFirst then) o o m [] f c (appends_nothing o) (λ text l _. l x) (λ text l _. l x) (λ text l _ _. l x) p
+    fails_on (whatever (λ y. as_reached (whole y))) (as_reached (whole x)) o o m [] f c (appends_nothing o) (λ text l. l x) (λ text l. l x) (λ text l _. l x) p
 
-module _ (log : Bool) (begins : Plain) where
-  -- the lines of an input that begins with what was read
-  abbrev pub whole : List ℕ → List ℕ → Run
-  whole read rest = run_lines log begins (number_lines 1 (Some (read ++ rest)))
+at_end : {A : Type 0} (run : Run) (last : Plain) (o m : Option (List ℕ)) (r : Result A Fault) → Goes {M = Unit {0}} (λ _. run) (λ _. ended_by (Ok last)) o m r → RunsAll run o m (result_map_both (λ _. last) (λ f. f) r)
+at_end run last o m (Ok a) (is, wrote, e) =
+    let R : Run → Type 0 = λ r. RunsAll r o m (Ok last) in
+    let I : List (Interval Plain) → Type 0 = λ is. IsLogText is wrote.0 in subst R (sym (e tt)) ((wrote.0, (subst I (sym (append-nil is)) wrote.1, refl), wrote.2), refl)
+at_end run last o m (Err f) p = (at_rest (λ _. run) tt o m (cause_of f) f p, tt)
 
-  -- the lines that are still to come: those of what is carried on and of what follows
-  abbrev pub onward : Plain → ℕ → List ℕ → List ℕ → Run
-  onward now number carry rest = run_lines log now (number_lines number (Some (carry ++ rest)))
+-- a `Fault` that is returned, or one of the reader in place of one of the input
+told_at : (run : Run) (o n : Option (List ℕ)) (f g : Fault) → (g ≡ f) ⊎ ((cause_of f ≡ Input) × (cause_of g ≡ Shortage)) → Fails (as_reached run) o n (cause_of f) f → Fails (as_reached run) o n (cause_of g) g
+told_at run o n f g (inl e) a = let F : Fault → Type 0 = λ x. Fails (as_reached run) o n (cause_of x) x in subst F (sym e) a
+told_at run o n f g (inr (p, q)) a =
+    let F : Cause → Type 0 = λ c. Fails (as_reached run) o n c f in
+    let b = subst F p a in
+    let s : Fails (as_reached run) o n Shortage g = (b.0, (run.intervals, [], sym (append-nil run.intervals), b.1.0), b.2) in rw q s
 
-  abbrev pub Streamed : List ℕ → ℕ → List ℕ → Plain → Option (List ℕ) → Option (List ℕ) → Type 0
-  Streamed read number carry now o m = Goes {A = Unit {0}} (whole read) (onward now number carry) o m (Ok tt)
+-- the lines of what was read were run, but for what is carried on: i and j are what the reader had and has, o and m what the writer had and has
+pub record Streamed (log : Bool) (begins now : Plain) (number : ℕ) (carry : List ℕ) (i j o m : Option (List ℕ)) : Type 0 where
+  pub read : List ℕ
+  pub consumed : Consumes i j read
+  pub goes : Goes {A = Unit {0}} (λ rest. run_lines log begins (number_lines 1 (Some (read ++ rest)))) (λ rest. run_lines log now (number_lines number (Some (carry ++ rest)))) o m (Ok tt)
 
-  module _ (read : List ℕ) (number : ℕ) (carry : List ℕ) (now : Plain) (o m : Option (List ℕ)) (s : Streamed read number carry now o m) where
-    -- a piece without an LF
-    pub carried : (piece lines : List ℕ) → lines ≡ carry ++ piece → Streamed (read ++ piece) number lines now o m
-    carried piece lines e = (
-      s.0,
-      s.1,
+pub started : (log : Bool) (begins : Plain) (i o : Option (List ℕ)) (carry : List ℕ) → carry ≡ [] → Streamed log begins begins 1 carry i i o o
+started log begins i o carry e =
+    let S : List ℕ → Type 0 = λ t. Streamed log begins begins 1 t i i o o in
+    subst S (sym e) (record { read = []; consumed = Consumes-nil i; goes = begin (λ rest. run_lines log begins (number_lines 1 (Some rest))) o })
+
+module _ {log : Bool} {begins now : Plain} {number : ℕ} {carry : List ℕ} {i j o m : Option (List ℕ)} (s : Streamed log begins now number carry i j o m) where
+  abbrev run : List ℕ → Run
+  run input = run_lines log begins (number_lines 1 (Some input))
+
+  -- a piece without an LF
+  pub carried : (k : Option (List ℕ)) (piece lines : List ℕ) → Consumes j k piece → carry ++ piece ≡ lines ++ [] → Streamed log begins now number lines i k o m
+  carried k piece lines c e = record {
+    read = s.read ++ piece;
+    consumed = Consumes-trans i j k s.read piece s.consumed c;
+    goes = (
+      s.goes.0,
+      s.goes.1,
       λ rest.
-          ap (λ t. run_lines log begins (number_lines 1 (Some t))) (append_assoc read piece rest) ∙ s.2 (piece ++ rest)
-          ∙ ap (λ t. prepend s.0 (run_lines log now (number_lines number (Some t)))) (sym (ap (λ t. t ++ rest) e ∙ append_assoc carry piece rest)),
-    )
+          ap run (append_assoc s.read piece rest) ∙ s.goes.2 (piece ++ rest)
+          ∙ ap (λ t. prepend s.goes.0 (run_lines log now (number_lines number (Some t)))) (sym (append_assoc carry piece rest) ∙ ap (λ t. t ++ rest) (e ∙ append-nil lines)),
+    );
+  }
 
-    -- a piece with an LF: the lines up to there, and then those after it
-    module _ (piece front tail lines : List ℕ) (n : Option (List ℕ)) (e : piece ≡ front ++ 10 ∷ tail) (f : lines ≡ carry ++ front) where
-      split : (k : ℕ) → k ≡ number + length (number_lines number (Some lines))
-          → Goes {A = Unit {0}} (whole (read ++ piece)) (λ rest. run_lines log now (number_lines number (Some lines) ++ number_lines k (Some (tail ++ rest)))) o m (Ok tt)
-      split k c = (
-        s.0,
-        s.1,
-        λ rest.
-            let p : piece ++ rest ≡ front ++ (10 ∷ (tail ++ rest)) = ap (λ t. t ++ rest) e ∙ append_assoc front (10 ∷ tail) rest in
-            let q : carry ++ (piece ++ rest) ≡ lines ++ (10 ∷ (tail ++ rest)) = ap (λ t. carry ++ t) p ∙ sym (append_assoc carry front (10 ∷ (tail ++ rest))) ∙ ap (λ t. t ++ (10 ∷ (tail ++ rest))) (sym f) in
-            let l : number_lines number (Some (carry ++ (piece ++ rest))) ≡ number_lines number (Some lines) ++ number_lines k (Some (tail ++ rest)) =
-            ap (λ t. number_lines number (Some t)) q ∙ numbered_end number lines (tail ++ rest) ∙ ap (λ j. number_lines number (Some lines) ++ number_lines j (Some (tail ++ rest))) (sym c) in
-            ap (λ t. run_lines log begins (number_lines 1 (Some t))) (append_assoc read piece rest) ∙ s.2 (piece ++ rest) ∙ ap (λ x. prepend s.0 (run_lines log now x)) l,
-      )
+  -- a piece with an LF: the lines up to there, and then those after it
+  module _ (k n : Option (List ℕ)) (piece lines tail : List ℕ) (c : Consumes j k piece) (e : carry ++ piece ≡ lines ++ 10 ∷ tail) where
+    abbrev next : ℕ
+    next = number + length (number_lines number (Some lines))
 
-      pub further : {A : Type 0} (r : Result A Fault) (then : Plain) (k : ℕ) → k ≡ number + length (number_lines number (Some lines))
-          → Goes (λ more. run_lines log now (number_lines number (Some lines) ++ more)) (run_lines log then) m n r
-          → Goes (whole (read ++ piece)) (λ rest. run_lines log then (number_lines k (Some (tail ++ rest)))) o n r
-      further r then k c q =
-          and_then (whole (read ++ piece)) (λ more. run_lines log now (number_lines number (Some lines) ++ more)) (run_lines log then) (λ rest. number_lines k (Some (tail ++ rest))) o m n (split k c) r q
+    further : {A : Type 0} (r : Result A Fault) (then : Plain) → Goes (run_rest log now number (Some lines)) (run_lines log then) m n r
+        → Goes (λ rest. run ((s.read ++ piece) ++ rest)) (λ rest. run_lines log then (number_lines next (Some (tail ++ rest)))) o n r
+    further r then q =
+        let numbered : (rest : List ℕ) → number_lines number (Some (carry ++ (piece ++ rest))) ≡ number_lines number (Some lines) ++ number_lines next (Some (tail ++ rest)) =
+        λ rest. ap (λ t. number_lines number (Some t)) (sym (append_assoc carry piece rest) ∙ ap (λ t. t ++ rest) e ∙ append_assoc lines (10 ∷ tail) rest) ∙ numbered_end number lines (tail ++ rest) in
+        and_then (λ rest. run ((s.read ++ piece) ++ rest)) (run_rest log now number (Some lines)) (run_lines log then) (λ rest. number_lines next (Some (tail ++ rest))) o m n
+        (s.goes.0, s.goes.1, λ rest. ap run (append_assoc s.read piece rest) ∙ s.goes.2 (piece ++ rest) ∙ ap (λ t. prepend s.goes.0 (run_lines log now t)) (numbered rest)) r q
 
-    -- the last lines: the input ends with what is carried on
-    pub finish : {A : Type 0} (r : Result A Fault) (then : Plain) (lines : List ℕ) (i j n : Option (List ℕ)) → lines ≡ carry → Consumes i j read → IsAtEnd j
-        → Goes (λ more. run_lines log now (number_lines number (Some lines) ++ more)) (run_lines log then) m n r
-        → (input : List ℕ) × IfSome i (λ bytes. input ≡ bytes) × Goes {M = Unit {0}} (λ _. run_lines log begins (number_lines 1 (Some input))) (λ _. ended_by (Ok then)) o n r
-    finish r then lines i j n e c d g =
-        let l : number_lines number (Some (carry ++ [])) ≡ number_lines number (Some lines) ++ [] = ap (λ t. number_lines number (Some t)) (append-nil carry ∙ sym e) ∙ sym (append-nil (number_lines number (Some lines))) in
-        let p : Goes {M = Unit {0}} {A = Unit {0}} (λ _. whole read []) (λ _. run_lines log now (number_lines number (Some lines) ++ [])) o m (Ok tt) = (s.0, s.1, λ x. s.2 [] ∙ ap (λ x. prepend s.0 (run_lines log now x)) l) in
-        (read ++ [], all_of i j read c d, and_then {M = Unit {0}} (λ _. whole read []) (λ more. run_lines log now (number_lines number (Some lines) ++ more)) (run_lines log then) (λ _. []) o m n p r g)
+    pub passed : (then : Plain) (k' : ℕ) → k' ≡ next → Goes {A = ℕ} (run_rest log now number (Some lines)) (run_lines log then) m n (Ok k') → Streamed log begins then k' tail i k o n
+    passed then k' f q = record {
+      read = s.read ++ piece;
+      consumed = Consumes-trans i j k s.read piece s.consumed c;
+      goes = let G : ℕ → Type 0 = λ x. Goes {A = Unit {0}} (λ rest. run ((s.read ++ piece) ++ rest)) (λ rest. run_lines log then (number_lines x (Some (tail ++ rest)))) o n (Ok tt) in subst G (sym f) (further {A = Unit {0}} (Ok tt) then q);
+    }
 
-    -- the reader has no more bytes, or memory runs out
-    pub unread_rest : (f : Fault) (i j : Option (List ℕ)) → Consumes i j read → cause_of f ≡ Shortage
-        → (input : List ℕ) × IfSome i (λ bytes. input ≡ bytes) × Stops {M = Unit {0}} (λ _. run_lines log begins (number_lines 1 (Some input))) o m (cause_of f) f
-    unread_rest f i j c e =
-        let t = rest_of i j read c in
-        (read ++ t.0, t.1, at_rest (whole read) t.0 o m (cause_of f) f (cut_short (whole read) (onward now number carry) o m f e s))
+    pub stopped : (f g : Fault) (then : Plain) → (g ≡ f) ⊎ ((cause_of f ≡ Input) × (cause_of g ≡ Shortage)) → Goes {A = ℕ} (run_rest log now number (Some lines)) (run_lines log then) m n (Err f)
+        → OnInput i (λ input. RunsAll (run input) o n (Err g))
+    stopped f g then t q =
+        let r = rest_of i k (s.read ++ piece) (Consumes-trans i j k s.read piece s.consumed c) in
+        let input = (s.read ++ piece) ++ r.0 in
+        (input, r.1, (told_at (run input) o n f g t (at_rest (λ rest. run ((s.read ++ piece) ++ rest)) r.0 o n (cause_of f) f (further {A = ℕ} (Err f) then q)), tt))
 
-  -- what was read is a prefix of the input
-  pub of_input : {A : Type 0} (read : List ℕ) (on : List ℕ → Run) (i j o m : Option (List ℕ)) (r : Result A Fault) (t : (rest : List ℕ) × IfSome i (λ all. read ++ rest ≡ all)) → Goes (whole read) on o m r
-      → (input : List ℕ) × IfSome i (λ bytes. input ≡ bytes) × Goes {M = Unit {0}} (λ _. run_lines log begins (number_lines 1 (Some input))) (λ _. on t.0) o m r
-  of_input read on i j o m r t g = (read ++ t.0, t.1, and_then {M = Unit {0}} (λ _. whole read t.0) (whole read) on (λ _. t.0) o o m (begin (λ _. whole read t.0) o) r g)
+  -- the last lines: the input ends with what is carried on
+  pub finish : {A : Type 0} (r : Result A Fault) (then : Plain) (lines : List ℕ) (k n : Option (List ℕ)) (count : ℕ) (bytes : List ℕ) → lines ≡ carry → Consumes j k (take count bytes) → count ≡ 0 → IsAtEnd k
+      → Goes (run_rest log now number (Some lines)) (run_lines log then) m n r → OnInput i (λ input. RunsAll (run input) o n (result_map_both (λ _. then) (λ f. f) r))
+  finish r then lines k n count bytes e c none d g =
+      let l : number_lines number (Some (carry ++ [])) ≡ number_lines number (Some lines) ++ [] = ap (λ t. number_lines number (Some t)) (append-nil carry ∙ sym e) ∙ sym (append-nil (number_lines number (Some lines))) in
+      let p : Goes {M = Unit {0}} {A = Unit {0}} (λ _. run (s.read ++ [])) (λ _. run_rest log now number (Some lines) []) o m (Ok tt) = (s.goes.0, s.goes.1, λ x. s.goes.2 [] ∙ ap (λ t. prepend s.goes.0 (run_lines log now t)) l) in
+      (s.read ++ [], all_of i k s.read (none_read i j k s.read bytes count s.consumed c none) d, at_end (run (s.read ++ [])) then o n r (and_then {M = Unit {0}} (λ _. run (s.read ++ [])) (run_rest log now number (Some lines)) (run_lines log then) (λ _. []) o m n p r g))
+
+  -- the reader has no more bytes, or memory runs out
+  pub unread_rest : (f : Fault) → cause_of f ≡ Shortage → OnInput i (λ input. RunsAll (run input) o m (Err f))
+  unread_rest f e =
+      let r = rest_of i j s.read s.consumed in
+      let whole : List ℕ → Run = λ rest. run (s.read ++ rest) in
+      (s.read ++ r.0, r.1, (at_rest whole r.0 o m (cause_of f) f (cut_short whole (λ rest. run_lines log now (number_lines number (Some (carry ++ rest)))) o m f e s.goes), tt))
 
 -- the same of an equal histogram, and of equal contents of the writer
 pub moved : (P : Plain → Option (List ℕ) → Option (List ℕ) → Type 0) (h k : Plain) (o p n q : Option (List ℕ)) → h ≡ k → o ≡ p → n ≡ q → P h o n → P k p q
@@ -301,12 +324,3 @@ moved P h k o p n q d e f a =
     let O : Option (List ℕ) → Type 0 = λ x. P k x n in
     let N : Option (List ℕ) → Type 0 = λ x. P k p x in
     subst N f (subst O e (subst H d a))
-
--- a `Fault` that is returned in place of one of the input
-pub told_at : {M : Type 0} (whole : M → Run) (o n : Option (List ℕ)) (f g : Fault) → (g ≡ f) ⊎ ((cause_of f ≡ Input) × (cause_of g ≡ Shortage)) → Stops whole o n (cause_of f) f → Stops whole o n (cause_of g) g
-told_at whole o n f g (inl e) a = let F : Fault → Type 0 = λ x. Stops whole o n (cause_of x) x in subst F (sym e) a
-told_at whole o n f g (inr (p, q)) a =
-    let F : Cause → Type 0 = λ c. Stops whole o n c f in
-    let b = subst F p a in
-    let s : Stops whole o n Shortage g = (b.0, (λ x. ((whole x).intervals, [], sym (append-nil (whole x).intervals), (b.1 x).0)), b.2) in
-    rw q s

@@ -1,5 +1,5 @@
 -- The task of the arguments.
-use Rattle.std.specs.Prelude.{◌-◌, ◌*◌, ◌^◌, ◌==◌, ◌&&◌, ◌∷◌, if◌then◌else◌, ℕ, Bool, nat_le, List, [], Option, Some, None, is_some, is_none, codes, map, string_bytes}
+use Rattle.std.specs.Prelude.{◌-◌, ◌*◌, ◌^◌, ◌==◌, ◌&&◌, ◌∷◌, if◌then◌else◌, ℕ, Bool, nat_le, List, [], Option, Some, None, is_some, is_none, codes, map, String, string_bytes}
 use Rattle.hdr_tool.specs.Common.{option_map, list_all, filter_map, bytes_eq, Ratio, is_tag, only_if, ◌>>=◌, split_at_byte, number_of, tag_text, choice_of, Filter}
 use Rattle.hdr_tool.specs.declared.arguments.CounterType.{CounterType}
 use Rattle.hdr_tool.specs.declared.arguments.CounterType.TheVariants as counter
@@ -87,6 +87,10 @@ task_of (name ∷ arguments) =
     else if bytes_eq name (codes "log") then log_of arguments
     else if bytes_eq name (codes "merge") then merge_of arguments
     else None
+
+-- the task that the program's arguments request
+abbrev pub requested : {Z : Type 0} → List (String Z) → Option Task
+requested arguments = task_of (map string_bytes arguments)
 
 -- the greatest number of the sum's counters: that of `u64` if no type is named
 abbrev pub greatest_into : Option CounterType → ℕ

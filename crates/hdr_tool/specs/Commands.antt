@@ -1,6 +1,6 @@
 -- The lines of an input with their numbers, and the command of a line. A text is a list of bytes,
 -- and a line has no LF.
-use Rattle.std.specs.Prelude.{◌∷◌, ◌≡◌, ◌<◌, ◌==◌, ◌&&◌, if◌then◌else◌, ℕ, List, [], Option, Some, None, true, take, not, length, codes}
+use Rattle.std.specs.Prelude.{◌∷◌, ◌++◌, ◌≡◌, ◌<◌, ◌==◌, ◌&&◌, if◌then◌else◌, ℕ, List, [], Option, Some, None, true, not, length, codes}
 use Rattle.hdr_tool.specs.Common.{option_map, enumerate_from, list_all, parts, number_of, ◌>>=◌, bytes_eq, is_tag, tag_text}
 use Rattle.std.specs.Char.{is_ascii_digit}
 use Rattle.hdr_core.specs.declared.call.Call.{Call}
@@ -35,9 +35,7 @@ alone x _ = None
 -- `[N]`: a count, or 1 if there is none
 abbrev pub count_of : List (List ℕ) → Option ℕ
 count_of [] = Some 1
-count_of fields = do
-  (count, rest) ← first_number fields
-  alone count rest
+count_of fields = first_number fields >>= λ p. alone p.0 p.1
 
 -- `V [N]`, `V I [N]`
 abbrev pub record_of : (ℕ → ℕ → Call ℕ) → List (List ℕ) → Option Command
@@ -95,18 +93,17 @@ abbrev pub view_of_command : code.Command → Command
 view_of_command (code_command.Apply call) = Apply call
 view_of_command (code_command.End start duration tag) = End start duration (option_map tag_text tag)
 
--- a text starts with digits up to an index, and they are this number
-pub record BeginsWith (text : List ℕ) (value at : ℕ) : Type 0 where
-  pub some : 0 < at
-  pub within : at < length text
-  pub digits : list_all is_ascii_digit (take at text) ≡ true
-  pub number : number_of (take at text) ≡ Some value
+-- a text starts with the digits of a number, and goes on with this byte and the rest
+pub record BeginsWith (text : List ℕ) (value byte : ℕ) (rest : List ℕ) : Type 0 where
+  pub digits : List ℕ
+  pub are_digits : list_all is_ascii_digit digits ≡ true
+  pub number : number_of digits ≡ Some value
+  pub text_is : text ≡ digits ++ byte ∷ rest
 
 -- fields are one number, or two
 abbrev pub AreNumbers : List (List ℕ) → ℕ → Option ℕ → Type 0
-AreNumbers (f ∷ []) n None = number_of f ≡ Some n
-AreNumbers (f ∷ g ∷ []) n (Some m) = (number_of f ≡ Some n) × (number_of g ≡ Some m)
-AreNumbers _ _ _ = ⊥
+AreNumbers fields n None = first_number fields ≡ Some (n, [])
+AreNumbers fields n (Some m) = (rest : List (List ℕ)) × (first_number fields ≡ Some (n, rest)) × (first_number rest ≡ Some (m, []))
 
 -- P holds of a text's first line, and this is the text after it
 pub record FirstLine (text : List ℕ) (P : List ℕ → Type 0) (after : List ℕ) : Type 0 where

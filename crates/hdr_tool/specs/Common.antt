@@ -11,6 +11,7 @@ pub use Rattle.hdr_tool.specs.declared.fault.Fault.TheVariants.{Usage, NotAComma
 pub use Rattle.hdrhistogram.specs.Chosen.{choice_of, Filter, is_chosen}
 pub use Rattle.std.specs.Fmt.{decimal}
 pub use Rattle.std.specs.Io.KnownBytes.{IsAtEnd, Appends}
-pub use Rattle.std.specs.List.{list_all, filter_map, flat_map, list_any, enumerate_from, AllByRecursion}
+pub use Rattle.std.specs.List.{list_all, filter_map, flat_map, list_any, enumerate_from, AllByRecursion, AllZip}
+pub use Rattle.std.specs.Result.{result_err, result_map_both}
 pub use Rattle.std.specs.Option.{option_map}
 pub use Rattle.std.specs.Str.{bytes_eq}

@@ -1,6 +1,6 @@
 -- What a merge of a written log adds.
 use Rattle.std.specs.Prelude.{◌≡◌, ◌-◌, ◌*◌, ◌^◌, ◌≤◌, if◌then◌else◌, ◌∷◌, ℕ, List, [], Option, Some, None, true}
-use Rattle.hdr_tool.specs.Common.{AllByRecursion, enumerate_from, Ratio, Plain, IsPlain, resolution, empty_plain, after_reset, after_call, CallTo, Filter, is_chosen, Fault, parts}
+use Rattle.hdr_tool.specs.Common.{filter_map, AllByRecursion, AllZip, enumerate_from, Ratio, Plain, IsPlain, resolution, empty_plain, after_reset, after_call, CallTo, Filter, is_chosen, Fault, parts}
 use Rattle.hdr_model.specs.Runs.{StandsWhereFits, State}
 use Rattle.hdr_model.specs.Samples.{StandsFor, Fits}
 use Rattle.hdr_model.specs.Joining.{after_adds, joined_samples, AnswersRanked}
@@ -12,9 +12,7 @@ use Rattle.hdr_tool.specs.Program.{IsReport, Interval, Outcome}
 
 -- what the chosen ones of a log's intervals hold; a written log has no base time
 abbrev pub chosen_of : {A : Type 0} → Filter → List (Interval A) → List A
-chosen_of filter [] = []
-chosen_of filter (e ∷ ends) =
-    if is_chosen filter e.tag (e.start * 1_000_000) then e.holds ∷ chosen_of filter ends else chosen_of filter ends
+chosen_of filter ends = filter_map (λ e. if is_chosen filter e.tag (e.start * 1_000_000) then Some e.holds else None) ends
 
 -- the intervals that commands end: what a command adds to those that come after it
 abbrev pub at_command : Plain → Option Command → (Plain → List (Interval Plain)) → List (Interval Plain)
@@ -28,12 +26,6 @@ ends_of h [] = []
 ends_of h ((k, []) ∷ lines) = ends_of h lines
 ends_of h ((k, b ∷ line) ∷ lines) = at_command h (command_of (b ∷ line)) (λ g. ends_of g lines)
 
--- each histogram was written and read again
-abbrev pub AreReadBack : List Plain → List Plain → Type 0
-AreReadBack [] [] = Unit {0}
-AreReadBack (h ∷ hs) (k ∷ ks) = IsReadBack h k × AreReadBack hs ks
-AreReadBack _ _ = ⊥
-
 -- A log that was written without a `Fault` is merged without one. The report is that of its chosen
 -- intervals, each written and read again, added in order to an empty histogram.
 abbrev pub LogThenMerge : Type 0
@@ -42,7 +34,7 @@ LogThenMerge =
     → task_of log ≡ Some (Log sigfig) → task_of merge ≡ Some (Merge options fewer quantiles)
     → AllByRecursion (λ (e : Interval Plain). IsPlain (2 ^ 64 - 1) e.holds) (ends_of (empty_plain 1 2 sigfig true) (enumerate_from 1 (parts 10 input)))
     → Outcome log input written None → Outcome merge written text fault
-    → (fault ≡ None) × ((ks : List Plain) × AreReadBack (chosen_of (filter_of options) (ends_of (empty_plain 1 2 sigfig true) (enumerate_from 1 (parts 10 input)))) ks
+    → (fault ≡ None) × ((ks : List Plain) × AllZip IsReadBack (chosen_of (filter_of options) (ends_of (empty_plain 1 2 sigfig true) (enumerate_from 1 (parts 10 input)))) ks
     × IsReport (after_adds (greatest_into options.into) (empty_plain 1 2 fewer true) ks) quantiles text)
 
 -- a command changes the samples, or ends an interval with them, if they fit, and starts one with
@@ -69,16 +61,11 @@ pub record IsEnd (g : Resolution) (h : Interval Plain) (L : Interval (List ℕ))
   pub start : h.start ≡ L.start
   pub duration : h.duration ≡ L.duration
 
-abbrev pub AreEnds : Resolution → List (Interval Plain) → List (Interval (List ℕ)) → Type 0
-AreEnds g [] [] = Unit {0}
-AreEnds g (h ∷ hs) (L ∷ Ls) = IsEnd g h L × AreEnds g hs Ls
-AreEnds g _ _ = ⊥
-
 -- the histograms of a log's intervals stand for the samples of these intervals
 abbrev pub EndsStand : Type 0
 EndsStand =
     (h : Plain) (s : State) (lines : List (ℕ × List ℕ)) (Ls : List (Interval (List ℕ))) → IsPlain (2 ^ 64 - 1) h → StandsWhereFits (2 ^ 64 - 1) h s → EndsWith (resolution h) s lines Ls
-    → AreEnds (resolution h) (ends_of h lines) Ls
+    → AllZip (IsEnd (resolution h)) (ends_of h lines) Ls
 
 -- Samples that are logged and merged again. A merge of the written log, with as many digits or
 -- fewer, has no `Fault`. Its histogram stands for the samples of the chosen intervals, joined. The

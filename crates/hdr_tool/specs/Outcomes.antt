@@ -1,10 +1,10 @@
 -- The errors of a run, the memory that lines need, and what a call leaves in the streams.
-use Rattle.std.specs.Prelude.{◌≡◌, ◌⊎◌, ◌-◌, ◌^◌, ◌∷◌, ◌++◌, ℕ, List, [], Option, Some, None, Result, Ok, Err, Bool, true, codes}
+use Rattle.std.specs.Prelude.{◌≡◌, ◌⊎◌, ◌-◌, ◌^◌, ◌∷◌, ◌++◌, ℕ, List, [], Option, Some, None, IfSome, Result, Ok, Err, IfOk, Bool, true, codes}
 use Rattle.hdr_tool.specs.Common.{decimal, Appends, IsAtEnd, Plain, after_call, IsCallError, Fault, Usage, NotACommand, NotALog, NotBase64, NoMemory, CannotRead, CannotWrite}
 use Rattle.hdr_core.specs.declared.call.CallError.{CallError}
 use Rattle.hdrhistogram.specs.Streams.{AppendsFront}
 use Rattle.hdr_tool.specs.Commands.{Command, Apply, End, command_of}
-use Rattle.hdr_tool.specs.Program.{Interval, Run, prepend, IsLogText, Logged, LoggedFirst}
+use Rattle.hdr_tool.specs.Program.{Interval, Run, prepend, IsLogText, Outputs, as_reached}
 
 -- the fault line on standard error; `None` if its text is partly the library's: for a histogram
 -- that is not written, and for bytes that are not a histogram
@@ -57,26 +57,37 @@ cause_of CannotWrite = Output
 cause_of Usage = Misuse
 cause_of f = Input
 
--- `Ok` and a `Fault` of the input are how a run ends (Ends), and all of its output is written.
--- Instead, memory may run out or the reader fail at any point, and what was written so far remains
--- (Stands). If the writer fails, it has a proper prefix of what the run was writing (IsWriting).
-abbrev pub Fails : (List ℕ → Option Fault → Type 0) → (List ℕ → Type 0) → (List ℕ → Type 0) → Option (List ℕ) → Option (List ℕ) → Cause → Fault → Type 0
-Fails Ends Stands IsWriting old new Shortage f = (text : List ℕ) × Stands text × Appends old new text
-Fails Ends Stands IsWriting old new Output f = (text : List ℕ) × IsWriting text × AppendsFront old new text
-Fails Ends Stands IsWriting old new Input f = (text : List ℕ) × Ends text (Some f) × Appends old new text
-Fails Ends Stands IsWriting old new Misuse f = ⊥
+-- what a run that fails has written
+abbrev pub Fails : Outputs → Option (List ℕ) → Option (List ℕ) → Cause → Fault → Type 0
+Fails outputs old new Shortage f = (text : List ℕ) × outputs.early text × Appends old new text
+Fails outputs old new Output f = (text : List ℕ) × outputs.begun text × AppendsFront old new text
+Fails outputs old new Input f = (text : List ℕ) × outputs.whole text (Some f) × Appends old new text
+Fails outputs old new Misuse f = ⊥
 
-abbrev pub Answers : (List ℕ → Option Fault → Type 0) → (List ℕ → Type 0) → (List ℕ → Type 0) → Option (List ℕ) → Option (List ℕ) → Result (Unit {0}) Fault → Type 0
-Answers Ends Stands IsWriting old new (Ok u) = (text : List ℕ) × Ends text None × Appends old new text
-Answers Ends Stands IsWriting old new (Err f) = Fails Ends Stands IsWriting old new (cause_of f) f
+-- what a run has written
+abbrev pub Writes : {A : Type 0} → Outputs → Option (List ℕ) → Option (List ℕ) → Result A Fault → Type 0
+Writes outputs old new (Ok a) = (text : List ℕ) × outputs.whole text None × Appends old new text
+Writes outputs old new (Err f) = Fails outputs old new (cause_of f) f
+
+-- the intervals of all lines are written, and their histogram is returned
+abbrev pub RunsAll : Run → Option (List ℕ) → Option (List ℕ) → Result Plain Fault → Type 0
+RunsAll run old new result = Writes (as_reached run) old new result × IfOk result (λ h. run.ended ≡ Ok h)
+
+-- P holds of all of an input, whose bytes may be known
+abbrev pub OnInput : Option (List ℕ) → (List ℕ → Type 0) → Type 0
+OnInput known P = (input : List ℕ) × IfSome known (λ bytes. input ≡ bytes) × P input
+
+-- outputs, whatever follows
+abbrev pub whatever : {M : Type 0} → (M → Outputs) → Outputs
+whatever {M = M} outputs =
+    record { whole = λ text fault. (more : M) → (outputs more).whole text fault; early = λ text. (more : M) → (outputs more).early text; begun = λ text. (more : M) → (outputs more).begun text }
 
 -- whatever follows, the run is the intervals that are written, and then what is still to come; or
 -- it fails, and its first intervals are written
 abbrev pub Goes : {M A : Type 0} → (M → Run) → (M → Run) → Option (List ℕ) → Option (List ℕ) → Result A Fault → Type 0
 Goes {M = M} whole onward old new (Ok a) =
     (is : List (Interval Plain)) × ((text : List ℕ) × IsLogText is text × Appends old new text) × ((more : M) → whole more ≡ prepend is (onward more))
-Goes {M = M} whole onward old new (Err f) =
-    let First : List ℕ → Type 0 = λ text. (more : M) → LoggedFirst (whole more) text in Fails (λ text fault. (more : M) → Logged (whole more) text fault) First First old new (cause_of f) f
+Goes whole onward old new (Err f) = Fails (whatever (λ more. as_reached (whole more))) old new (cause_of f) f
 
 -- all of the input is read before a `Fault` of it is returned. Leaves holds of the rest of the
 -- input if the writer fails.
@@ -86,6 +97,6 @@ ReadsTo Leaves new Input = IsAtEnd new
 ReadsTo Leaves new c = Unit {0}
 
 -- all of the input is read, unless memory or a stream fails
-abbrev pub ReadsAll : (Option (List ℕ) → Type 0) → Option (List ℕ) → Result (Unit {0}) Fault → Type 0
-ReadsAll Leaves new (Ok u) = IsAtEnd new
+abbrev pub ReadsAll : {A : Type 0} → (Option (List ℕ) → Type 0) → Option (List ℕ) → Result A Fault → Type 0
+ReadsAll Leaves new (Ok a) = IsAtEnd new
 ReadsAll Leaves new (Err f) = ReadsTo Leaves new (cause_of f)

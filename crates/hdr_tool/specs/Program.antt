@@ -1,7 +1,7 @@
 -- The program: its arguments, its input, its output, and the `Fault` that ends it. A stream that
 -- fails is not part of it, nor is running out of memory.
 use Rattle.std.specs.Prelude.{◌≡◌, ◌-◌, ◌*◌, ◌^◌, ◌∷◌, ◌++◌, if◌then◌else◌, ℕ, nat_le, List, [], Option, Some, None, MatchOption, Result, Ok, Err, Bool, true, false, MatchBool, codes}
-use Rattle.hdr_tool.specs.Common.{option_map, flat_map, list_any, decimal, IsAtEnd, Ratio, Plain, empty_plain, after_reset, after_call, Filter, Fault, Usage, NotACommand, NotWritten, NotALog, NotBase64, NotRead, NoMemory}
+use Rattle.hdr_tool.specs.Common.{option_map, result_err, result_map_both, flat_map, list_any, decimal, IsAtEnd, Ratio, Plain, empty_plain, after_reset, after_call, Filter, Fault, Usage, NotACommand, NotWritten, NotALog, NotBase64, NotRead, NoMemory}
 use Rattle.hex.specs.Hex.{encode_lower}
 use Rattle.hdr_model.specs.Quantiles.{value_at_quantile}
 use Rattle.hdrhistogram.specs.Defects.{Defect, defect_of_error}
@@ -54,12 +54,16 @@ ended_by ended = record { intervals = []; ended = ended }
 abbrev pub prepend : List (Interval Plain) → Run → Run
 prepend is run = record { intervals = is ++ run.intervals; ended = run.ended }
 
+-- the interval that ends at line k, and then what follows
+abbrev pub run_end : ℕ → Plain → ℕ → ℕ → Option (List ℕ) → (Plain → Run) → Run
+run_end k h start duration tag onward =
+    if has_too_great_count h then ended_by (Err (NotWritten k (SerializeError CountNotSerializable)))
+    else prepend (record { holds = h; tag = tag; start = start; duration = duration } ∷ []) (onward (after_reset h))
+
 -- the command of line k, and then what follows; `end` is a command of a log only
 abbrev pub run_command : Bool → ℕ → Plain → Option Command → (Plain → Run) → Run
 run_command is_log k h (Some (Apply call)) onward = onward (after_call (2 ^ 64 - 1) (λ n. n) call h)
-run_command true k h (Some (End start duration tag)) onward =
-    if has_too_great_count h then ended_by (Err (NotWritten k (SerializeError CountNotSerializable)))
-    else prepend (record { holds = h; tag = tag; start = start; duration = duration } ∷ []) (onward (after_reset h))
+run_command true k h (Some (End start duration tag)) onward = run_end k h start duration tag onward
 run_command is_log k h c onward = ended_by (Err (NotACommand k))
 
 -- numbered lines in order, up to the first `Fault`; an empty one changes nothing
@@ -68,14 +72,13 @@ run_lines is_log h [] = ended_by (Ok h)
 run_lines is_log h ((k, []) ∷ lines) = run_lines is_log h lines
 run_lines is_log h ((k, b ∷ line) ∷ lines) = run_command is_log k h (command_of (b ∷ line)) (λ g. run_lines is_log g lines)
 
+-- the lines of the rest of a text, the first of which has this number, and then more lines
+abbrev pub run_rest : Bool → Plain → ℕ → Option (List ℕ) → List (ℕ × List ℕ) → Run
+run_rest is_log h number left more = run_lines is_log h (number_lines number left ++ more)
+
 -- the lines of an input, run on an empty histogram that grows: those of a report, and those of a log
 abbrev pub run_input : Bool → ℕ → List ℕ → Run
 run_input is_log sigfig input = run_lines is_log (empty_plain 1 2 sigfig true) (number_lines 1 (Some input))
-
--- the `Fault` that ended a run, if one did
-abbrev pub fault_in : {A : Type 0} → Result A Fault → Option Fault
-fault_in (Ok a) = None
-fault_in (Err f) = Some f
 
 -- the text of intervals, one after another
 abbrev pub IsLogText : List (Interval Plain) → List ℕ → Type 0
@@ -85,7 +88,7 @@ IsLogText (i ∷ is) text =
 
 -- the intervals of a log are written up to the first `Fault`
 abbrev pub Logged : Run → List ℕ → Option Fault → Type 0
-Logged run text fault = IsLogText run.intervals text × (fault ≡ fault_in run.ended)
+Logged run text fault = IsLogText run.intervals text × (fault ≡ result_err run.ended)
 
 -- only the first intervals of a log are written
 abbrev pub LoggedFirst : Run → List ℕ → Type 0
@@ -103,35 +106,33 @@ merge_fault (merging.Base64 k) = NotBase64 k
 merge_fault (merging.Decode k e) = NotRead k e
 merge_fault e = NoMemory
 
--- the histogram of a merge, or the `Fault` of its error
-abbrev pub merged_histogram : Result Merging MergeError → Result Plain Fault
-merged_histogram (Ok m) = Ok m.histogram
-merged_histogram (Err e) = Err (merge_fault e)
-
 -- a report of a log's chosen intervals, added in order with counters up to the greatest, up to the
 -- first error
 abbrev pub MergeReported : ℕ → Filter → ℕ → List Ratio → List ℕ → List ℕ → Option Fault → Type 0
 MergeReported greatest filter sigfig quantiles input text fault =
-    (r : Result Merging MergeError) × Merges greatest filter sigfig input r × Reported quantiles (merged_histogram r) text fault
+    (r : Result Merging MergeError) × Merges greatest filter sigfig input r × Reported quantiles (result_map_both (λ m. m.histogram) merge_fault r) text fault
 
--- a report of the histogram after the lines; a log, whose intervals are written as they are reached; a report of a merged log
-abbrev pub TaskDone : Task → List ℕ → List ℕ → Option Fault → Type 0
-TaskDone (Report sigfig quantiles) input text fault = Reported quantiles (run_input false sigfig input).ended text fault
-TaskDone (Log sigfig) input text fault = Logged (run_input true sigfig input) text fault
-TaskDone (Merge options sigfig quantiles) input text fault =
-    MergeReported (greatest_into options.into) (filter_of options) sigfig quantiles input text fault
+-- what a run may have written: all of its output, with the `Fault` that ends it; what memory that
+-- runs out or a reader that fails leaves (early); and what is being written if the writer fails,
+-- which then has a proper prefix of it (begun)
+pub record Outputs : Type 1 where
+  pub whole : List ℕ → Option Fault → Type 0
+  pub early : List ℕ → Type 0
+  pub begun : List ℕ → Type 0
 
--- what is written if memory runs out or the reader fails: the first intervals of a log, and
--- otherwise nothing
-abbrev pub TaskStands : Task → List ℕ → List ℕ → Type 0
-TaskStands (Log sigfig) input text = LoggedFirst (run_input true sigfig input) text
-TaskStands task input text = text ≡ []
+-- a report is written at the end
+abbrev pub at_end : (List ℕ → Option Fault → Type 0) → Outputs
+at_end whole = record { whole = whole; early = λ text. text ≡ []; begun = λ text. whole text None }
 
--- what is being written if the writer fails: the first intervals of a log, and otherwise all of the
--- report
-abbrev pub TaskWrites : Task → List ℕ → List ℕ → Type 0
-TaskWrites (Log sigfig) input text = TaskStands (Log sigfig) input text
-TaskWrites task input text = TaskDone task input text None
+-- the intervals of a log are written as they are reached
+abbrev pub as_reached : Run → Outputs
+as_reached run = record { whole = Logged run; early = LoggedFirst run; begun = LoggedFirst run }
+
+-- the outputs of a task: a report of the histogram after the lines, a log, or a report of a merged log
+abbrev pub outputs_of : Task → List ℕ → Outputs
+outputs_of (Report sigfig quantiles) input = at_end (Reported quantiles (run_input false sigfig input).ended)
+outputs_of (Log sigfig) input = as_reached (run_input true sigfig input)
+outputs_of (Merge options sigfig quantiles) input = at_end (MergeReported (greatest_into options.into) (filter_of options) sigfig quantiles input)
 
 -- what is left of the input if the writer fails: a log is written while its input is read, and ends
 -- there
@@ -141,7 +142,7 @@ TaskLeaves task left = IsAtEnd left
 
 -- the outcome of arguments and an input. The arguments are parsed first
 unfoldable pub Outcome : List (List ℕ) → List ℕ → List ℕ → Option Fault → Type 0
-Outcome arguments input text fault = MatchOption (task_of arguments) ((text ≡ []) × (fault ≡ Some Usage)) (λ task. TaskDone task input text fault)
+Outcome arguments input text fault = MatchOption (task_of arguments) ((text ≡ []) × (fault ≡ Some Usage)) (λ task. (outputs_of task input).whole text fault)
 
 -- a `Fault`; of bytes that are not a histogram only the defect counts
 pub data Told : Type 0 where

@@ -4,7 +4,7 @@ ghost use Rattle.std.specs.Prelude.{◌≡◌, ◌∷◌, ◌<◌, length, map, 
 ghost use Rattle.std.specs.Option.{option_map};
 ghost use Rattle.std.specs.List.{filter_map};
 ghost use Rattle.hdrhistogram.specs.Chosen.{view_of_filter};
-ghost use Rattle.hdr_tool.specs.Arguments.{sigfig_of, fraction_of, are_fractions, figures_of, counter_of, with_option, no_options, options_of, task_of, view_of_options, filter_of, view_of_task};
+ghost use Rattle.hdr_tool.specs.Arguments.{sigfig_of, fraction_of, are_fractions, figures_of, counter_of, with_option, no_options, options_of, requested, view_of_options, filter_of, view_of_task};
 
 use hdr_log::parts::{number, split_once};
 use hdrhistogram::Quantile;
@@ -57,7 +57,7 @@ impl<'a> Options<'a> {
 /// Parses the arguments. Returns `None` for a usage error.
 #[tactic(auto, unfolding(crate::specs::Arguments::task_of, crate::specs::Arguments::merge_of))]
 pub(crate) fn parse(arguments: &[String]) -> Option<Task<'_>>
-    ensures { option_map view_of_task result ≡ task_of (map string_bytes arguments.now) }
+    ensures { option_map view_of_task result ≡ requested arguments.now }
 {
     let (name, arguments) = arguments.split_first()?;
     let name = name.as_bytes();

@@ -102,20 +102,21 @@ pub(crate) fn parse(line: &[u8]) -> Option<Command<'_>>
 }
 
 /// Fast path: parses the number of 18 digits or fewer that `text` starts with, and returns it with
-/// the index after it, which is less than the length.
+/// the byte after it and the rest.
 #[inline(always)]
-fn digits(text: &[u8]) -> Option<(u64, usize)>
-    ensures { IfSome result (λ p. BeginsWith text.now p.0 p.1) }
+fn digits(text: &[u8]) -> Option<(u64, u8, &[u8])>
+    ensures { IfSome result (λ p. BeginsWith text.now p.0 p.1 p.2.now) }
 {
     let mut value = 0;
     for at in 0..text.len().min(19) {
-        if !text[at].is_ascii_digit() {
+        let byte = text[at];
+        if !byte.is_ascii_digit() {
             if at == 0 {
                 return None;
             }
-            return Some((value, at));
+            return Some((value, byte, &text[at + 1..]));
         }
-        value = value * 10 + u64::from(text[at] - b'0');
+        value = value * 10 + u64::from(byte - b'0');
     }
     None
 }
@@ -126,14 +127,14 @@ fn numbers(text: &[u8]) -> Option<(u64, Option<u64>, &[u8])>
     ensures { IfSome result (λ p. FirstLine text.now
         (λ line. AreNumbers (parts 32 line) p.0 p.1) p.2.now) }
 {
-    let (first, at) = digits(text)?;
-    if text[at] == b'\n' {
-        return Some((first, None, &text[at + 1..]));
+    let (first, byte, rest) = digits(text)?;
+    if byte == b'\n' {
+        return Some((first, None, rest));
     }
-    if text[at] != b' ' {
+    if byte != b' ' {
         return None;
     }
-    let (second, after) = last_number(&text[at + 1..])?;
+    let (second, after) = last_number(rest)?;
     Some((first, Some(second), after))
 }
 
@@ -144,11 +145,11 @@ fn last_number(text: &[u8]) -> Option<(u64, &[u8])>
     ensures { IfSome result (λ p. FirstLine text.now
         (λ line. AreNumbers (parts 32 line) p.0 None) p.1.now) }
 {
-    let (value, at) = digits(text)?;
-    if text[at] != b'\n' {
+    let (value, byte, rest) = digits(text)?;
+    if byte != b'\n' {
         return None;
     }
-    Some((value, &text[at + 1..]))
+    Some((value, rest))
 }
 
 /// Fast path: parses a first line `r V [N]`, `s V [N]` or `c V I` that an LF ends, and returns its
@@ -158,19 +159,14 @@ pub(crate) fn value_line(text: &[u8]) -> Option<(Call<'static, u64>, &[u8])>
     ensures { IfSome result (λ p. FirstLine text.now
         (λ line. command_of line ≡ Some (Apply p.0)) p.1.now) }
 {
-    match text {
-        [b'r', b' ', text @ ..] => {
-            let (value, count, after) = numbers(text)?;
-            Some((Call::Record(value, count.unwrap_or(1)), after))
-        }
-        [b's', b' ', text @ ..] => {
-            let (value, count, after) = numbers(text)?;
-            Some((Call::Clamp(value, count.unwrap_or(1)), after))
-        }
-        [b'c', b' ', text @ ..] => {
-            let (value, interval, after) = numbers(text)?;
-            Some((Call::Correct(value, 1, interval?), after))
-        }
+    let [name, b' ', fields @ ..] = text else {
+        return None;
+    };
+    let (value, second, after) = numbers(fields)?;
+    match *name {
+        b'r' => Some((Call::Record(value, second.unwrap_or(1)), after)),
+        b's' => Some((Call::Clamp(value, second.unwrap_or(1)), after)),
+        b'c' => Some((Call::Correct(value, 1, second?), after)),
         _ => None,
     }
 }

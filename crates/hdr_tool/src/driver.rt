@@ -1,14 +1,13 @@
 //! Runs the lines of an input, in order. A report is a log without `end`: one driver runs both.
 
-ghost use Rattle.std.specs.Prelude.{◌≡◌, ◌+◌, ◌-◌, ◌^◌, ◌<◌, ◌∷◌, ◌++◌, ℕ, List, length, MatchResult, IfOk, IfSome, Ok, Err, Some, true};
+ghost use Rattle.std.specs.Prelude.{◌≡◌, ◌+◌, ◌-◌, ◌^◌, ◌<◌, ◌∷◌, ◌++◌, length, IfOk, Ok, Err, Some, true};
 ghost use Rattle.std.specs.Option.{option_map};
-ghost use Rattle.std.specs.Io.KnownBytes.{IsAtEnd};
-ghost use Rattle.hdr_model.specs.Plain.{Plain, IsPlain};
+ghost use Rattle.hdr_model.specs.Plain.{IsPlain};
 ghost use Rattle.hdr_log.specs.Tags.{tag_text};
 ghost use Rattle.hdrhistogram.specs.LogWriters.{sink, divisor_of, IsSameLog};
-ghost use Rattle.hdr_tool.specs.Commands.{End, number_lines};
-ghost use Rattle.hdr_tool.specs.Outcomes.{LinesNeed, Needs, Goes, ReadsTo, cause_of};
-ghost use Rattle.hdr_tool.specs.Program.{Run, ended_by, run_command, run_lines, run_input};
+ghost use Rattle.hdr_tool.specs.Commands.{number_lines};
+ghost use Rattle.hdr_tool.specs.Outcomes.{LinesNeed, Needs, Goes, RunsAll, OnInput, ReadsAll};
+ghost use Rattle.hdr_tool.specs.Program.{run_end, run_lines, run_rest, run_input};
 
 use crate::command::{Command, parse, value_line};
 use crate::fault::Fault;
@@ -40,9 +39,8 @@ fn end<W: Write>(
 ) -> Result<(), Fault>
     requires { divisor_of log.old ≡ 1 }
     ensures same_log { IsSameLog log.old log.new }
-    ensures goes { Goes (run_command true line histogram.old
-        (Some (End start duration (option_map tag_text tag.entry))))
-        (λ (onward : Plain → Run). onward histogram.new)
+    ensures goes { Goes (run_end line histogram.old start duration (option_map tag_text tag.entry))
+        (λ next. next histogram.new)
         (W.contents (sink log.old).now) (W.contents (sink log.new).now) result }
     ensures grows { histogram.new.auto_resize ≡ histogram.old.auto_resize }
 {
@@ -117,8 +115,8 @@ fn run_lines<W: Write>(
     requires grows { histogram.old.auto_resize ≡ true }
     // What is written, and when memory may run out.
     ensures same_log { IsSameLog log.old log.new }
-    ensures goes { Goes (λ more. run_lines is_log histogram.old
-        (number_lines number (Some text.now) ++ more)) (run_lines is_log histogram.new)
+    ensures goes { Goes (run_rest is_log histogram.old number (Some text.now))
+        (run_lines is_log histogram.new)
         (W.contents (sink log.old).now) (W.contents (sink log.new).now) result }
     ensures memory { Needs (λ more. LinesNeed is_log histogram.old
         (number_lines number (Some text.now) ++ more)) (LinesNeed is_log histogram.new) result }
@@ -149,41 +147,40 @@ fn run_lines<W: Write>(
     Ok(next)
 }
 
-/// Runs the lines of all of the input as they are read, up to the first error.
+/// Runs the lines of all of the input as they are read, up to the first error, and returns the
+/// histogram after them.
 fn run_input<R: Read, W: Write>(
     alloc: Global,
     is_log: bool,
-    histogram: &mut Histogram<u64>,
+    mut histogram: Histogram<u64>,
     reader: &mut R,
     piece: &mut [u8],
     log: &mut IntervalLogWriter<'_, '_, W, V2Serializer>,
-) -> Result<(), Fault>
+) -> Result<Histogram<u64>, Fault>
     // Greatest values are not divided, the histogram grows, and `piece` is not empty.
     requires divisor { divisor_of log.old ≡ 1 }
-    requires grows { histogram.old.auto_resize ≡ true }
+    requires grows { histogram.auto_resize ≡ true }
     requires nonempty { 0 < length piece.old }
     // What is written.
     ensures same_log { IsSameLog log.old log.new }
-    ensures goes { (input : List ℕ) × IfSome (R.remaining reader.old) (λ bytes. input ≡ bytes)
-        × Goes {M = Unit {0}} (λ _. run_lines is_log histogram.old (number_lines 1 (Some input)))
-        (λ _. ended_by (Ok histogram.new))
-        (W.contents (sink log.old).now) (W.contents (sink log.new).now) result }
+    ensures runs { OnInput (R.remaining reader.old) (λ input. RunsAll
+        (run_lines is_log histogram (number_lines 1 (Some input)))
+        (W.contents (sink log.old).now) (W.contents (sink log.new).now) result) }
     // What is read.
-    ensures read { MatchResult result (λ _. IsAtEnd (R.remaining reader.new))
-        (λ f. ReadsTo (λ _. Unit {0}) (R.remaining reader.new) (cause_of f)) }
+    ensures reads { ReadsAll (λ _. Unit {0}) (R.remaining reader.new) result }
 {
     let mut carry = Vec::new(alloc);
     let mut number = 1;
     for _ in 0..u64::MAX {
         let count = read_piece(reader, piece)?;
         if count == 0 {
-            run_lines(is_log, histogram, number, &carry, log)?;
-            return Ok(());
+            run_lines(is_log, &mut histogram, number, &carry, log)?;
+            return Ok(histogram);
         }
         let Some(tail) = take_lines(&mut carry, &piece[..count])? else {
             continue;
         };
-        number = match run_lines(is_log, histogram, number, &carry, log) {
+        number = match run_lines(is_log, &mut histogram, number, &carry, log) {
             Ok(next) => next,
             Err(fault) => return Err(told_at_end(reader, piece, fault)),
         };
@@ -192,8 +189,8 @@ fn run_input<R: Read, W: Write>(
     Err(Fault::CannotRead)
 }
 
-/// Runs the lines of the input on a new histogram, and returns it. The intervals of a log are written as their lines are
-/// reached.
+/// Runs the lines of the input on a new histogram, and returns it. The intervals of a log are
+/// written as their lines are reached.
 pub(crate) fn run_task<R: Read, W: Write>(
     alloc: Global,
     is_log: bool,
@@ -201,20 +198,16 @@ pub(crate) fn run_task<R: Read, W: Write>(
     reader: &mut R,
     writer: &mut W,
 ) -> Result<Histogram<u64>, Fault>
-    ensures goes { (input : List ℕ) × IfSome (R.remaining reader.old) (λ bytes. input ≡ bytes)
-        × Goes {M = Unit {0}} (λ _. run_input is_log sigfig input)
-        (λ _. ended_by result)
-        (W.contents writer.old) (W.contents writer.new) result }
-    ensures read { MatchResult result (λ _. IsAtEnd (R.remaining reader.new))
-        (λ f. ReadsTo (λ _. Unit {0}) (R.remaining reader.new) (cause_of f)) }
+    ensures runs { OnInput (R.remaining reader.old) (λ input. RunsAll (run_input is_log sigfig input)
+        (W.contents writer.old) (W.contents writer.new) result) }
+    ensures reads { ReadsAll (λ _. Unit {0}) (R.remaining reader.new) result }
 {
     // Each `sigfig` from 0 to 5 is valid, so this fails only if memory runs out.
-    let Ok(mut histogram) = Histogram::new(alloc, sigfig) else {
+    let Ok(histogram) = Histogram::new(alloc, sigfig) else {
         return Err(Fault::NoMemory);
     };
     let mut piece = vec![in alloc; 0; PIECE]?;
     let mut serializer = V2Serializer::new(alloc);
     let mut log = IntervalLogWriter::new(alloc, writer, &mut serializer, 1);
-    run_input(alloc, is_log, &mut histogram, reader, &mut piece, &mut log)?;
-    Ok(histogram)
+    run_input(alloc, is_log, histogram, reader, &mut piece, &mut log)
 }

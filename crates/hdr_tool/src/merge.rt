@@ -1,10 +1,10 @@
 //! Merges a log, and reports the result.
 
-ghost use Rattle.std.specs.Prelude.{◌≡◌, [], Some, None};
+ghost use Rattle.std.specs.Prelude.{◌≡◌};
 ghost use Rattle.hdrhistogram.specs.Chosen.{view_of_filter};
 ghost use Rattle.hdr_tool.specs.Arguments.{Merge, view_of_options};
-ghost use Rattle.hdr_tool.specs.Outcomes.{Answers};
-ghost use Rattle.hdr_tool.specs.Program.{merge_fault, MergeReported, TaskDone, TaskStands, TaskWrites};
+ghost use Rattle.hdr_tool.specs.Outcomes.{Writes};
+ghost use Rattle.hdr_tool.specs.Program.{merge_fault, MergeReported, at_end, outputs_of};
 
 use crate::arguments::{CounterType, Options};
 use crate::fault::Fault;
@@ -23,9 +23,7 @@ pub(crate) fn report_log<W: Write>(
     input: &[u8],
     writer: &mut W,
 ) -> Result<(), Fault>
-    ensures { Answers (TaskDone (Merge (view_of_options options.now) sigfig quantiles.now) input.now)
-        (TaskStands (Merge (view_of_options options.now) sigfig quantiles.now) input.now)
-        (TaskWrites (Merge (view_of_options options.now) sigfig quantiles.now) input.now)
+    ensures { Writes (outputs_of (Merge (view_of_options options.now) sigfig quantiles.now) input.now)
         (W.contents writer.old) (W.contents writer.new) result }
 {
     let filter = options.filter();
@@ -54,11 +52,8 @@ fn report_merged<T: Counter, W: Write>(
     input: &[u8],
     writer: &mut W,
 ) -> Result<(), Fault>
-    ensures { Answers (MergeReported T.greatest
-        (view_of_filter filter.now) sigfig quantiles.now input.now) (λ text. text ≡ [])
-        (λ text. MergeReported T.greatest
-        (view_of_filter filter.now) sigfig quantiles.now input.now text None)
-        (W.contents writer.old) (W.contents writer.new) result }
+    ensures { Writes (at_end (MergeReported T.greatest (view_of_filter filter.now) sigfig
+        quantiles.now input.now)) (W.contents writer.old) (W.contents writer.new) result }
 {
     match merge_log::<T>(alloc, input, filter, sigfig) {
         Ok(merged) => write_report(alloc, &merged.histogram, quantiles, writer),

@@ -1,6 +1,7 @@
 //! The complete lines of a piece of the input.
 
-ghost use Rattle.std.specs.Prelude.{◌≡◌, ◌≢◌, ◌<◌, ◌∷◌, ◌++◌, ℕ, List, length, slice_index, IfSome, IfNone, IfOk, OnOk, MatchOption};
+ghost use Rattle.std.specs.Prelude.{◌≡◌, ◌≢◌, ◌<◌, ◌∷◌, ◌++◌, [], ℕ, length, slice_index, IfSome, IfNone, IfOk, OnOk, MatchOption};
+ghost use Rattle.std.specs.Option.{option_map_or};
 
 use memchr::memrchr;
 use std::alloc::AllocError;
@@ -22,10 +23,8 @@ pub(crate) fn take_lines<'a>(
     text: &mut Vec<u8>,
     piece: &'a [u8],
 ) -> Result<Option<&'a [u8]>, AllocError>
-    ensures parts { IfOk result (λ tail. MatchOption tail
-        (text.new.items ≡ text.old.items ++ piece.now)
-        (λ rest. (front : List ℕ) × (piece.now ≡ front ++ 10 ∷ rest.now)
-        × (text.new.items ≡ text.old.items ++ front))) }
+    ensures parts { IfOk result (λ tail. text.old.items ++ piece.now
+        ≡ text.new.items ++ option_map_or (λ rest. 10 ∷ rest.now) tail []) }
     ensures whole { IfOk result (λ tail. MatchOption tail
         ((i : ℕ) → i < length piece.now → slice_index piece.now i ≢ 10)
         (λ rest. (i : ℕ) → i < length rest.now → slice_index rest.now i ≢ 10)) }

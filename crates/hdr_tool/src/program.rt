@@ -1,10 +1,10 @@
 //! The program, over any reader and writer.
 
-ghost use Rattle.std.specs.Prelude.{◌≡◌, ℕ, List, map, Err, None, IfSome, string_bytes};
+ghost use Rattle.std.specs.Prelude.{◌≡◌, ◌↔◌, Err, None, IfSome};
 ghost use Rattle.std.specs.Io.KnownBytes.{Keeps};
-ghost use Rattle.hdr_tool.specs.Arguments.{task_of, view_of_task};
-ghost use Rattle.hdr_tool.specs.Outcomes.{Answers, ReadsAll};
-ghost use Rattle.hdr_tool.specs.Program.{TaskDone, TaskStands, TaskWrites, TaskLeaves};
+ghost use Rattle.hdr_tool.specs.Arguments.{requested, view_of_task};
+ghost use Rattle.hdr_tool.specs.Outcomes.{OnInput, Writes, ReadsAll};
+ghost use Rattle.hdr_tool.specs.Program.{outputs_of, TaskLeaves};
 
 use crate::arguments::{Task, parse, quantiles};
 use crate::driver::run_task;
@@ -22,10 +22,9 @@ fn do_task<R: Read, W: Write>(
     reader: &mut R,
     writer: &mut W,
 ) -> Result<(), Fault>
-    ensures output { (input : List ℕ) × IfSome (R.remaining reader.old) (λ bytes. input ≡ bytes)
-        × Answers (TaskDone (view_of_task task.now) input) (TaskStands (view_of_task task.now) input)
-        (TaskWrites (view_of_task task.now) input) (W.contents writer.old)
-        (W.contents writer.new) result }
+    ensures output { OnInput (R.remaining reader.old) (λ input. Writes
+        (outputs_of (view_of_task task.now) input) (W.contents writer.old)
+        (W.contents writer.new) result) }
     ensures reads { ReadsAll (TaskLeaves (view_of_task task.now)) (R.remaining reader.new) result }
 {
     match task {
@@ -62,15 +61,14 @@ pub fn run<R: Read, W: Write>(
     reader: &mut R,
     writer: &mut W,
 ) -> Result<(), Fault>
-    ensures usage_error { task_of (map string_bytes arguments.now) ≡ None → (result ≡ Err Fault.Usage)
-        × Keeps (R.remaining reader.old) (R.remaining reader.new)
+    ensures usage { (result ≡ Err Fault.Usage) ↔ (requested arguments.now ≡ None) }
+    ensures unused { requested arguments.now ≡ None
+        → Keeps (R.remaining reader.old) (R.remaining reader.new)
         × Keeps (W.contents writer.old) (W.contents writer.new) }
-    ensures usage { result ≡ Err Fault.Usage → task_of (map string_bytes arguments.now) ≡ None }
-    ensures output { IfSome (task_of (map string_bytes arguments.now)) (λ task. (input : List ℕ)
-        × IfSome (R.remaining reader.old) (λ bytes. input ≡ bytes)
-        × Answers (TaskDone task input) (TaskStands task input) (TaskWrites task input)
-        (W.contents writer.old) (W.contents writer.new) result) }
-    ensures reads { IfSome (task_of (map string_bytes arguments.now))
+    ensures output { IfSome (requested arguments.now) (λ task.
+        OnInput (R.remaining reader.old) (λ input. Writes (outputs_of task input)
+        (W.contents writer.old) (W.contents writer.new) result)) }
+    ensures reads { IfSome (requested arguments.now)
         (λ task. ReadsAll (TaskLeaves task) (R.remaining reader.new) result) }
 {
     let Some(task) = parse(arguments) else {

@@ -1,9 +1,9 @@
 //! Formats and writes reports.
 
-ghost use Rattle.std.specs.Prelude.{◌≡◌, ◌++◌, [], None, Ok, Err, OnOk, IfOk, string_bytes};
+ghost use Rattle.std.specs.Prelude.{◌≡◌, ◌++◌, Ok, Err, OnOk, IfOk, string_bytes};
 ghost use Rattle.std.specs.List.{flat_map};
-ghost use Rattle.hdr_tool.specs.Outcomes.{Answers};
-ghost use Rattle.hdr_tool.specs.Program.{Reported, quantile_line, IsBytesField, IsReport};
+ghost use Rattle.hdr_tool.specs.Outcomes.{Writes};
+ghost use Rattle.hdr_tool.specs.Program.{Reported, at_end, quantile_line, IsBytesField, IsReport};
 
 use crate::fault::Fault;
 use crate::stream::write_all;
@@ -78,8 +78,7 @@ pub(crate) fn write_report<T: Counter, W: Write>(
     quantiles: &[Quantile],
     writer: &mut W,
 ) -> Result<(), Fault>
-    ensures { Answers (Reported quantiles.now (Ok histogram.now)) (λ text. text ≡ [])
-        (λ text. Reported quantiles.now (Ok histogram.now) text None) (W.contents writer.old)
+    ensures { Writes (at_end (Reported quantiles.now (Ok histogram.now))) (W.contents writer.old)
         (W.contents writer.new) result }
 {
     let text = report(alloc, histogram, quantiles)?;

@@ -1,6 +1,6 @@
 //! Reads inputs and writes outputs. Interrupted reads and writes are retried, whatever the command.
 
-ghost use Rattle.std.specs.Prelude.{◌≡◌, ◌<◌, ◌≤◌, [], length, take, OnOk, IfOk, IfErr, IfSome, MatchResult, ◌⊎◌};
+ghost use Rattle.std.specs.Prelude.{◌≡◌, ◌<◌, ◌≤◌, [], length, take, OnOk, IfOk, IfErr, IfSome, ◌⊎◌};
 ghost use Rattle.std.specs.Io.KnownBytes.{Appends, Consumes, IsAtEnd};
 ghost use Rattle.hdrhistogram.specs.Streams.{AppendsFront};
 ghost use Rattle.hdr_tool.specs.Outcomes.{Shortage, Input, cause_of, ReadsTo};
@@ -119,9 +119,8 @@ impl<W: Write> Write for RetryWriter<W> {
 
 /// Writes all of `text`. On error a proper prefix of it is written.
 pub(crate) fn write_all<W: Write>(writer: &mut W, text: &[u8]) -> Result<(), Fault>
-    ensures { MatchResult result
-        (λ _. Appends (W.contents writer.old) (W.contents writer.new) text.now)
-        (λ f. (f ≡ Fault.CannotWrite)
+    ensures ok { OnOk result (Appends (W.contents writer.old) (W.contents writer.new) text.now) }
+    ensures err { IfErr result (λ f. (f ≡ Fault.CannotWrite)
         × AppendsFront (W.contents writer.old) (W.contents writer.new) text.now) }
 {
     let mut at = 0;

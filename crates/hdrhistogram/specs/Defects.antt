@@ -63,6 +63,11 @@ TakesNoMore read taken = (n : ℕ) → n < length taken → read (take n taken) 
 abbrev pub TakesAs : {X Y : Type 0} → Option (List ℕ) → Option (List ℕ) → (X → Y) → (List ℕ → Result (Y × List ℕ) Defect) → Result X DeserializeError → Type 0
 TakesAs old new view read result = (taken : List ℕ) × Consumes old new taken × Gives (λ x. (view x, [])) result (read taken) × TakesNoMore read taken
 
+-- the bytes that a function took from a reader have the defect of this error, and it took no more
+-- than that
+abbrev pub TakesDefect : {Y : Type 0} → Option (List ℕ) → Option (List ℕ) → (List ℕ → Result Y Defect) → DeserializeError → Type 0
+TakesDefect old new read e = (taken : List ℕ) × Consumes old new taken × FailsBy (defect_of_error e) (read taken) × TakesNoMore read taken
+
 -- a check returns `Ok` only without a defect, and otherwise the error of this one, unless memory
 -- runs out
 abbrev pub Checks : {X : Type 0} → Result X DeserializeError → Option Defect → Type 0

@@ -1,9 +1,11 @@
 -- The result of merging a log: the histograms of its chosen intervals are added in order, up to the
 -- first error.
-use Rattle.std.specs.Prelude.{◌≡◌, ℕ, ◌+◌, ◌<◌, Bool, true, false, ◌&&◌, nat_le, if◌then◌else◌, List, [], ◌∷◌, Option, Some, None, Result, Ok, Err}
-use Rattle.hdr_base.specs.Classes.{Resolution}
+use Rattle.std.specs.Prelude.{◌≡◌, ℕ, ◌+◌, ◌<◌, ◌≤◌, length, Bool, true, false, ◌&&◌, nat_le, if◌then◌else◌, List, [], ◌∷◌, Option, Some, None, Result, Ok, Err}
+use Rattle.hdr_base.specs.Classes.{Resolution, resolution_of}
 use Rattle.hdr_model.specs.Plain.{Plain, resolution, empty_plain}
 use Rattle.hdr_model.specs.Merging.{after_add}
+use Rattle.hdr_model.specs.Joining.{after_adds, AreParts, joined_samples}
+use Rattle.hdr_model.specs.Samples.{Fits}
 use Rattle.hdr_model.specs.Refusals.{IsBounds, IsCreationError}
 use Rattle.hdr_model.specs.declared.errors.CreationError.{CreationError}
 use Rattle.hdr_model.specs.declared.errors.CreationError.TheVariants as make
@@ -145,3 +147,23 @@ AreChosen filter base (Ok (Base time) ∷ entries) hs = AreChosen filter time en
 AreChosen filter base (Ok (Span interval) ∷ entries) hs =
     ChosenFirst (is_chosen filter interval.tag (base + interval.start)) interval (AreChosen filter base entries) hs
 AreChosen filter base (Err at ∷ entries) hs = ⊥
+
+-- the histograms of the chosen intervals of a log
+abbrev pub AreChosenIn : Filter → List ℕ → List Plain → Type 0
+AreChosenIn filter log hs = AreChosen filter 0 (reading log) hs
+
+-- a merge added these histograms in order, and counted them and those that are coarser than the sum
+abbrev pub HasAdded : ℕ → ℕ → Merging → List Plain → Type 0
+HasAdded greatest sigfig m hs =
+    (m.histogram ≡ after_adds greatest (empty_plain 1 2 sigfig true) hs) × (m.chosen ≡ length hs) × (m.coarser ≡ coarser_of (resolution_of 1 sigfig) hs)
+
+-- a log is merged without error, and the samples of its chosen histograms fit the sum, whose classes
+-- are not finer
+pub record MergesSamples (greatest sigfig : ℕ) (filter : Filter) (log : List ℕ) (m : Merging) (Ls : List (List ℕ)) : Type 0 where
+  pub histograms : List Plain
+  pub counts : 1 ≤ greatest
+  pub bounds : IsBounds 1 2 sigfig
+  pub merged : Merges greatest filter sigfig log (Ok m)
+  pub chosen : AreChosenIn filter log histograms
+  pub parts : AreParts 18446744073709551615 (resolution_of 1 sigfig) histograms Ls
+  pub fits : Fits greatest (resolution_of 1 sigfig) (joined_samples Ls)

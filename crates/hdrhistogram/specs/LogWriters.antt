@@ -1,6 +1,13 @@
 -- The writer of a log, by what it holds.
-use Rattle.std.specs.Prelude.{◌≡◌, ℕ}
+use Rattle.std.specs.Prelude.{◌≡◌, ℕ, List, Option}
+use Rattle.std.specs.Option.{option_map}
+use Rattle.std.specs.Duration.{as_nanos}
+use Rattle.std.specs.declared.time.Duration.{Duration}
 use Rattle.std.specs.Borrow.{MutBor}
+use Rattle.hdr_log.specs.Tags.{tag_text}
+use Rattle.hdr_log.specs.declared.tag.Tag.{Tag}
+use Rattle.hdr_model.specs.Plain.{Plain}
+use Rattle.hdrhistogram.specs.LogLeaving.{IsIntervalText}
 use Rattle.hdrhistogram.specs.declared.serialization.interval_log.writer.IntervalLogWriter.{IntervalLogWriter}
 
 -- the writer that the log is written to
@@ -20,3 +27,7 @@ pub record IsSameLog {W S : Type 0} (old new : IntervalLogWriter W S) : Type 0 w
   pub writer : (sink new).ghost_name ≡ (sink old).ghost_name
   pub serializer : (maker new).ghost_name ≡ (maker old).ghost_name
   pub divisor : divisor_of new ≡ divisor_of old
+
+-- the line that a writer writes of a histogram's interval, by the arguments of the call
+abbrev pub IsLineFor : {W S : Type 0} → IntervalLogWriter W S → (Plain → List ℕ → Type 0) → Plain → Option Tag → Duration → Duration → List ℕ → Type 0
+IsLineFor log writes h tag start duration text = IsIntervalText writes h (option_map tag_text tag) (as_nanos start) (as_nanos duration) (divisor_of log) text

@@ -2,18 +2,17 @@
 //! law.
 
 ghost use Rattle.hdr_model.specs.Equality.{same_plain};
-ghost use Rattle.std.specs.Prelude.{◌≡◌, ◌↔◌, ℕ, ◌^◌, ◌<◌, ◌≤◌, ◌++◌, List, length, slice_index, All, sum, ℤ, true, Result, Ok};
+ghost use Rattle.std.specs.Prelude.{◌≡◌, ◌↔◌, ℕ, ◌^◌, ◌<◌, ◌≤◌, ◌++◌, List, length, slice_index, All, ℤ, true, Result, Ok, IsOk};
 ghost use Rattle.std.specs.List.{AllByRecursion};
-ghost use Rattle.hdr_base.specs.Classes.{Resolution, IsFiner, resolution_of};
-ghost use Rattle.hdr_model.specs.Plain.{Plain, IsPlain, resolution, empty_plain};
-ghost use Rattle.hdr_model.specs.Samples.{StandsFor, Fits};
+ghost use Rattle.hdr_base.specs.Classes.{Resolution, IsFiner};
+ghost use Rattle.hdr_model.specs.Plain.{Plain, IsPlain, resolution};
+ghost use Rattle.hdr_model.specs.Samples.{StandsFor};
 ghost use Rattle.hdr_base.specs.Fractions.{Ratio};
 ghost use Rattle.hdr_model.specs.Quantiles.{value_at_quantile};
-ghost use Rattle.hdr_model.specs.Joining.{after_adds, AreParts, joined_samples, AnswersRanked};
-ghost use Rattle.hdr_model.specs.Refusals.{IsBounds};
-ghost use Rattle.hdr_log.specs.Grammar.{Entry, reading};
+ghost use Rattle.hdr_model.specs.Joining.{joined_samples, AnswersRanked};
+ghost use Rattle.hdr_log.specs.Grammar.{Entry};
 ghost use Rattle.hdrhistogram.specs.Chosen.{Filter};
-ghost use Rattle.hdrhistogram.specs.LogMerging.{Merging, Merges, AreChosen, coarser_of};
+ghost use Rattle.hdrhistogram.specs.LogMerging.{Merging, Merges, AreChosen, AreChosenIn, HasAdded, MergesSamples, coarser_of};
 ghost use Rattle.hdrhistogram.specs.declared.serialization.interval_log.merge.MergeError.{MergeError};
 ghost use Rattle.hdrhistogram.specs.Varint.{Spells, IsShortest};
 ghost use Rattle.hdrhistogram.specs.ZigZag.{zig_zag, from_zig_zag};
@@ -80,10 +79,9 @@ pub fn one_parting()
 /// Decoding consumes a prefix of the bytes, and the bytes after that prefix do not change the
 /// result.
 pub fn reading_takes_a_front()
-    ensures { (greatest : ℕ) (text rest : List ℕ) (c : Contents)
-        → v2_at greatest text ≡ Ok (c, rest)
+    ensures { (most : ℕ) (text rest : List ℕ) (c : Contents) → v2_at most text ≡ Ok (c, rest)
         → (front : List ℕ) × (text ≡ front ++ rest)
-        × ((more : List ℕ) → v2_at greatest (front ++ more) ≡ Ok (c, more)) }
+        × ((more : List ℕ) → v2_at most (front ++ more) ≡ Ok (c, more)) }
 {}
 
 /// The V2 bytes of a histogram, followed by any bytes, decode to its bounds, digits and counts for
@@ -109,7 +107,7 @@ pub fn read_back_stands()
     ensures samples { (greatest : ℕ) (h k : Plain) (S : List ℕ) → IsPlain greatest h
         → IsReadBack h k → StandsFor h S
         → StandsFor k S }
-    ensures quantiles { (greatest : ℕ) (h k : Plain) (S : List ℕ) → IsPlain greatest h
+    ensures quantiles { (most : ℕ) (h k : Plain) (S : List ℕ) → IsPlain most h
         → IsReadBack h k → StandsFor h S
         → (k.total ≡ h.total) × ((q : Ratio) → value_at_quantile k q ≡ value_at_quantile h q) }
 {
@@ -121,20 +119,17 @@ pub fn read_back_stands()
 /// the lowest value 1 and `sigfig` digits. If each chosen interval holds a histogram and each line
 /// is valid, the log has no error.
 pub fn merging_adds_the_chosen()
-    ensures added { (greatest sigfig : ℕ) (filter : Filter) (log : List ℕ) (m : Merging)
-        → Merges greatest filter sigfig log (Ok m)
-        → (hs : List Plain) × AreChosen filter 0 (reading log) hs
-        × (m.histogram ≡ after_adds greatest (empty_plain 1 2 sigfig true) hs)
-        × (m.chosen ≡ length hs)
-        × (m.coarser ≡ coarser_of (resolution_of 1 sigfig) hs) }
+    ensures added { (most sigfig : ℕ) (filter : Filter) (log : List ℕ) (m : Merging)
+        → Merges most filter sigfig log (Ok m)
+        → (hs : List Plain) × AreChosenIn filter log hs × HasAdded most sigfig m hs }
     ensures finer { (g : Resolution) (hs : List Plain)
         → (coarser_of g hs ≡ 0) ↔ AllByRecursion (λ (h : Plain). IsFiner (resolution h) g) hs }
     ensures only { (filter : Filter) (base : ℕ) (entries : List (Result Entry ℕ))
         (hs others : List Plain) → AreChosen filter base entries hs
         → AreChosen filter base entries others → hs ≡ others }
     ensures taken { (greatest sigfig : ℕ) (filter : Filter) (log : List ℕ) (hs : List Plain)
-        (r : Result Merging MergeError) → AreChosen filter 0 (reading log) hs
-        → Merges greatest filter sigfig log r → (m : Merging) × (r ≡ Ok m) }
+        (r : Result Merging MergeError) → AreChosenIn filter log hs
+        → Merges greatest filter sigfig log r → IsOk r }
     ensures digits { (greatest sigfig : ℕ) (filter : Filter) (log : List ℕ) (m : Merging)
         → Merges greatest filter sigfig log (Ok m)
         → (m.histogram.low ≡ 1) × (m.histogram.sigfig ≡ sigfig) }
@@ -143,19 +138,11 @@ pub fn merging_adds_the_chosen()
 /// A merge stands for the joined samples of its chosen intervals if they fit, and its quantiles are
 /// theirs. The classes of the intervals must not be coarser than those of the merge.
 pub fn merged_log_stands()
-    ensures sum { (greatest sigfig : ℕ) (filter : Filter) (log : List ℕ) (m : Merging)
-        (hs : List Plain) (Ls : List (List ℕ)) → 1 ≤ greatest
-        → IsBounds 1 2 sigfig → Merges greatest filter sigfig log (Ok m)
-        → AreChosen filter 0 (reading log) hs
-        → AreParts 18446744073709551615 (resolution_of 1 sigfig) hs Ls
-        → Fits greatest (resolution_of 1 sigfig) (joined_samples Ls)
+    ensures sum { (most sigfig : ℕ) (filter : Filter) (log : List ℕ) (m : Merging)
+        (Ls : List (List ℕ)) → MergesSamples most sigfig filter log m Ls
         → StandsFor m.histogram (joined_samples Ls) }
-    ensures ranked { (greatest sigfig : ℕ) (filter : Filter) (log : List ℕ) (m : Merging)
-        (hs : List Plain) (Ls : List (List ℕ)) → 1 ≤ greatest
-        → IsBounds 1 2 sigfig → Merges greatest filter sigfig log (Ok m)
-        → AreChosen filter 0 (reading log) hs
-        → AreParts 18446744073709551615 (resolution_of 1 sigfig) hs Ls
-        → Fits greatest (resolution_of 1 sigfig) (joined_samples Ls)
+    ensures ranked { (most sigfig : ℕ) (filter : Filter) (log : List ℕ) (m : Merging)
+        (Ls : List (List ℕ)) → MergesSamples most sigfig filter log m Ls
         → AnswersRanked m.histogram (joined_samples Ls) }
 {
     new_is_plain();

@@ -2,7 +2,7 @@
 
 ghost use Rattle.std.specs.Prelude.{◌≡◌, ℕ, List, [], length, replicate, true, false, None, IfOk, IfErr, MatchResult};
 ghost use Rattle.std.specs.Io.KnownBytes.{Consumes};
-ghost use Rattle.hdrhistogram.specs.Defects.{Gives, TakesAs, Checks, FailsBy, TakesNoMore, RunsOutOnly, defect_of_error};
+ghost use Rattle.hdrhistogram.specs.Defects.{Gives, TakesAs, Checks, FailsBy, TakesDefect, RunsOutOnly, defect_of_error};
 ghost use Rattle.hdrhistogram.specs.V2Read.{HasBounds, creation_defect, bounds_defect, bins_for, bytes_at, v2_at, told_by, told_of, IsRestated, IsReadAs};
 ghost use Rattle.hdrhistogram.specs.HeaderView.{header_of};
 ghost use Rattle.hdrhistogram.specs.FieldRead.{IsHeldIn, IsFieldDecodeError};
@@ -86,10 +86,8 @@ impl Deserializer {
         ensures read { IfOk result (λ h. (taken : List ℕ)
             × Consumes (R.remaining reader.old) (R.remaining reader.new) taken
             × IsReadAs T.greatest taken h (length taken)) }
-        ensures err { IfErr result (λ e. (taken : List ℕ)
-            × Consumes (R.remaining reader.old) (R.remaining reader.new) taken
-            × FailsBy (defect_of_error e) (v2_at T.greatest taken)
-            × TakesNoMore (v2_at T.greatest) taken) }
+        ensures err { IfErr result (TakesDefect (R.remaining reader.old) (R.remaining reader.new)
+            (v2_at T.greatest)) }
         ensures memory { IfErr result (λ e. (taken : List ℕ)
             × Consumes (R.remaining reader.old) (R.remaining reader.new) taken
             × RunsOutOnly (HasBounds taken) e) }

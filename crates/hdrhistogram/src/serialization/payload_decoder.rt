@@ -82,16 +82,7 @@ fn two_byte_count<T: Counter>(first: u8, second: u8) -> Option<T>
     ensures count { IfSome result (λ c. (0 < T.number c) × (T.number c ≤ T.greatest)
         × (2 * T.number c ≡ first % 128 + 128 * second)) }
 {
-    if first < 128 {
-        return None;
-    }
-    if second >= 128 {
-        return None;
-    }
-    if first % 2 != 0 {
-        return None;
-    }
-    if second == 0 {
+    if first < 128 || first % 2 != 0 || second == 0 || second >= 128 {
         return None;
     }
     let low = u64::from(first % 128 / 2);

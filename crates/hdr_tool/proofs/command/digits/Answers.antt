@@ -1,9 +1,11 @@
-use Rattle.hdr_tool.proofs.Common.{◌≡◌, ◌+◌, ◌*◌, ◌<◌, ◌^◌, true, get_or, length, subst, sym, ◌∙◌, arith, is_ascii_digit, digit_value, Reads, Reads-more}
+use Rattle.hdr_tool.proofs.Common.{◌≡◌, ◌+◌, ◌*◌, ◌<◌, ◌^◌, true, get_or, length, refl, subst, sym, ◌∙◌, arith, is_ascii_digit, digit_value, Reads, Reads-more}
+use Rattle.hdr_tool.proofs.LinesParts.{left_all}
 use Rattle.hdr_tool.proofs.CommandsLines.{digit_small, digit_less, begins, few_more}
 use Rattle.hdr_tool.proofs.command.digits.Goals as goal
 
 pub returns-then-not-is_ascii_digit : goal.returns-then-not-is_ascii_digit
-returns-then-not-is_ascii_digit c = begins c.args.text.now c.loop-at.value c.loop-at.at (omega (arith, c.if-at-eq0.false)) (omega (arith, c.loop-at-test.true, c.min-at-end.ensures)) c.loop-at.invariant.reads
+returns-then-not-is_ascii_digit c =
+    begins c.args.text.now _ c.loop-at.value _ c.loop-at.at (omega (arith, c.if-at-eq0.false)) (omega (arith, c.loop-at-test.true, c.min-at-end.ensures)) c.loop-at.invariant.reads refl (left_all (c.loop-at.at + 1) c.args.text.now)
 
 pub overflow_mul-value : goal.overflow_mul-value
 overflow_mul-value c =

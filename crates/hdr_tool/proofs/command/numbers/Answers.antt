@@ -1,10 +1,8 @@
-use Rattle.hdr_tool.proofs.Common.{◌+◌}
-use Rattle.hdr_tool.proofs.LinesParts.{left_all}
 use Rattle.hdr_tool.proofs.CommandsLines.{one, two}
 use Rattle.hdr_tool.proofs.command.numbers.Goals as goal
 
-pub returns-then-text-at-eq10 : goal.returns-then-text-at-eq10
-returns-then-text-at-eq10 c = one c.args.text.now _ c.in_ok-first.first c.in_ok-first.at c.in_ok-first.ensures c.if-text-at-eq10.true (left_all (c.in_ok-first.at + 1) c.args.text.now)
+pub returns-then-byte-eq10 : goal.returns-then-byte-eq10
+returns-then-byte-eq10 c = one c.args.text.now c.in_ok-first.rest.now c.in_ok-first.first (rw c.if-byte-eq10.true at c.in_ok-first.ensures)
 
 pub returns : goal.returns
-returns c = two c.args.text.now _ _ c.in_ok-first.first c.in_ok-second.second c.in_ok-first.at c.in_ok-first.ensures c.if-text-at-ne32.false (left_all (c.in_ok-first.at + 1) c.args.text.now) c.in_ok-second.ensures
+returns c = two c.args.text.now c.in_ok-first.rest.now _ c.in_ok-first.first c.in_ok-second.second (rw c.if-byte-ne32.false at c.in_ok-first.ensures) c.in_ok-second.ensures

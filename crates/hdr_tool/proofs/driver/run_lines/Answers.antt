@@ -1,14 +1,14 @@
-use Rattle.hdr_tool.proofs.Common.{◌≡◌, ℕ, ◌+◌, ◌++◌, ◌∷◌, Ok, Err, Some, refl, sym, ap, subst, length, arith, ◌∙◌, option_map, enumerate_from, sink, NoMemory, CannotRead, number_lines, run_lines, LinesNeed}
+use Rattle.hdr_tool.proofs.Common.{◌≡◌, ℕ, ◌+◌, ◌++◌, ◌∷◌, Ok, Err, Some, refl, sym, ap, subst, length, arith, ◌∙◌, option_map, enumerate_from, sink, NoMemory, CannotRead, number_lines, run_lines, run_rest, LinesNeed}
 use Rattle.hdr_tool.proofs.OutcomesRuns.{cut_short, one_line, call_line, next_line, call_refused, call_passed, needs_up, handed_on}
 use Rattle.hdr_tool.proofs.driver.run_lines.Goals as goal
 
 pub returns-in_default-checked_add-clause-goes : goal.returns-in_default-checked_add-clause-goes
 returns-in_default-checked_add-clause-goes g c =
-    cut_short (λ more. run_lines c.args.is_log c.args.histogram.now (number_lines c.args.number (Some c.args.text.now) ++ more)) (λ more. run_lines c.args.is_log c.loop-left.histogram (number_lines c.loop-left.next (option_map (λ t. t.now) c.loop-left.left) ++ more)) (g.W.Write.contents (sink c.args.log.now).now) (g.W.Write.contents (sink c.loop-left.log).now) CannotRead refl c.loop-left.invariant.goes
+    cut_short (run_rest c.args.is_log c.args.histogram.now c.args.number (Some c.args.text.now)) (run_rest c.args.is_log c.loop-left.histogram c.loop-left.next (option_map (λ t. t.now) c.loop-left.left)) (g.W.Write.contents (sink c.args.log.now).now) (g.W.Write.contents (sink c.loop-left.log).now) CannotRead refl c.loop-left.invariant.goes
 
 pub returns-in_default-apply-clause-goes : goal.returns-in_default-apply-clause-goes
 returns-in_default-apply-clause-goes g c =
-    cut_short (λ more. run_lines c.args.is_log c.args.histogram.now (number_lines c.args.number (Some c.args.text.now) ++ more)) (λ more. run_lines c.args.is_log c.loop-left.histogram (number_lines c.loop-left.next (option_map (λ t. t.now) c.loop-left.left) ++ more)) (g.W.Write.contents (sink c.args.log.now).now) (g.W.Write.contents (sink c.loop-left.log).now) NoMemory refl c.loop-left.invariant.goes
+    cut_short (run_rest c.args.is_log c.args.histogram.now c.args.number (Some c.args.text.now)) (run_rest c.args.is_log c.loop-left.histogram c.loop-left.next (option_map (λ t. t.now) c.loop-left.left)) (g.W.Write.contents (sink c.args.log.now).now) (g.W.Write.contents (sink c.loop-left.log).now) NoMemory refl c.loop-left.invariant.goes
 
 pub returns-in_default-apply-clause-memory : goal.returns-in_default-apply-clause-memory
 returns-in_default-apply-clause-memory g c = λ more.
@@ -26,7 +26,7 @@ loop-left-preserved-in-Some-value_line g c =
     let m = g.W.Write.contents (sink c.loop-left.log).now in
     record {
       same = c.loop-left.invariant.same;
-      goes = rw next (one_line {A = Unit {0}} c.args.is_log (λ more. run_lines c.args.is_log c.args.histogram.now (number_lines c.args.number (Some c.args.text.now) ++ more)) c.loop-left.histogram c.apply.new.self (number_lines c.loop-left.next (option_map (λ t. t.now) c.loop-left.left)) (number_lines (c.loop-left.next + 1) (Some c.in-Some-value_line.after.now)) (c.loop-left.next, line.line) o m m (Ok tt) c.loop-left.invariant.goes e
+      goes = rw next (one_line {A = Unit {0}} c.args.is_log (run_rest c.args.is_log c.args.histogram.now c.args.number (Some c.args.text.now)) c.loop-left.histogram c.apply.new.self (number_lines c.loop-left.next (option_map (λ t. t.now) c.loop-left.left)) (number_lines (c.loop-left.next + 1) (Some c.in-Some-value_line.after.now)) (c.loop-left.next, line.line) o m m (Ok tt) c.loop-left.invariant.goes e
           (next_line {A = Unit {0}} (λ more. run_lines c.args.is_log c.loop-left.histogram ((c.loop-left.next, line.line) ∷ more)) (run_lines c.args.is_log c.apply.new.self) m tt
           (λ more. call_line c.args.is_log c.loop-left.histogram c.apply.new.self c.loop-left.next line.line more c.in-Some-value_line.call line.fits c.in-Ok.ensures.ok)));
       memory = rw next (λ more n. c.loop-left.invariant.memory more (subst (λ l. LinesNeed c.args.is_log c.loop-left.histogram (l ++ more)) (sym e)
@@ -39,7 +39,7 @@ pub returns-in_err-run_line-clause-goes : goal.returns-in_err-run_line-clause-go
 returns-in_err-run_line-clause-goes g c =
     let e = ap (λ o. number_lines c.loop-left.next (option_map (λ t. t.now) o)) c.in-Some.is ∙ ap (enumerate_from c.loop-left.next) c.split_first.ensures.parts in
     rw (handed_on c.from_residual.result c.in_err-run_line.field-0.0 c.from_residual.ensures.1)
-    (one_line {A = Unit {0}} c.args.is_log (λ more. run_lines c.args.is_log c.args.histogram.now (number_lines c.args.number (Some c.args.text.now) ++ more)) c.loop-left.histogram c.run_line.new.histogram (number_lines c.loop-left.next (option_map (λ t. t.now) c.loop-left.left)) (number_lines (c.loop-left.next + 1) (option_map (λ t. t.now) c.split_first.result.1)) (c.loop-left.next, c.split_first.result.0.now)
+    (one_line {A = Unit {0}} c.args.is_log (run_rest c.args.is_log c.args.histogram.now c.args.number (Some c.args.text.now)) c.loop-left.histogram c.run_line.new.histogram (number_lines c.loop-left.next (option_map (λ t. t.now) c.loop-left.left)) (number_lines (c.loop-left.next + 1) (option_map (λ t. t.now) c.split_first.result.1)) (c.loop-left.next, c.split_first.result.0.now)
     (g.W.Write.contents (sink c.args.log.now).now) (g.W.Write.contents (sink c.loop-left.log).now) (g.W.Write.contents (sink c.run_line.new.log).now) (Err c.in_err-run_line.field-0.0) c.loop-left.invariant.goes e c.in_err-run_line.ensures.goes)
 
 pub returns-in_err-run_line-clause-memory : goal.returns-in_err-run_line-clause-memory
@@ -60,7 +60,7 @@ loop-left-preserved g c =
         serializer = c.in_ok-run_line.ensures.same_log.serializer ∙ c.loop-left.invariant.same.serializer;
         divisor = c.in_ok-run_line.ensures.same_log.divisor ∙ c.loop-left.invariant.same.divisor;
       };
-      goes = rw next (one_line {A = Unit {0}} c.args.is_log (λ more. run_lines c.args.is_log c.args.histogram.now (number_lines c.args.number (Some c.args.text.now) ++ more)) c.loop-left.histogram c.run_line.new.histogram (number_lines c.loop-left.next (option_map (λ t. t.now) c.loop-left.left)) (number_lines (c.loop-left.next + 1) (option_map (λ t. t.now) c.split_first.result.1)) (c.loop-left.next, c.split_first.result.0.now)
+      goes = rw next (one_line {A = Unit {0}} c.args.is_log (run_rest c.args.is_log c.args.histogram.now c.args.number (Some c.args.text.now)) c.loop-left.histogram c.run_line.new.histogram (number_lines c.loop-left.next (option_map (λ t. t.now) c.loop-left.left)) (number_lines (c.loop-left.next + 1) (option_map (λ t. t.now) c.split_first.result.1)) (c.loop-left.next, c.split_first.result.0.now)
           (g.W.Write.contents (sink c.args.log.now).now) (g.W.Write.contents (sink c.loop-left.log).now) (g.W.Write.contents (sink c.run_line.new.log).now) (Ok tt) c.loop-left.invariant.goes e c.in_ok-run_line.ensures.goes);
       memory = rw next (λ more n. c.loop-left.invariant.memory more (subst (λ l. LinesNeed c.args.is_log c.loop-left.histogram (l ++ more)) (sym e)
           (c.in_ok-run_line.ensures.memory (number_lines (c.loop-left.next + 1) (option_map (λ t. t.now) c.split_first.result.1) ++ more) n)));

@@ -1,4 +1,4 @@
-use Rattle.hdr_tool.proofs.Common.{◌≡◌, ℕ, ◌+◌, ◌++◌, List, true, Some, Ok, length, option_map, sink, IsSameLog, number_lines, run_lines, LinesNeed, Goes}
+use Rattle.hdr_tool.proofs.Common.{◌≡◌, ℕ, ◌+◌, ◌++◌, List, true, Some, Ok, length, option_map, sink, IsSameLog, number_lines, run_rest, LinesNeed, Goes}
 use Rattle.hdr_tool.proofs.LinesParts.{left_length}
 use Rattle.hdr_tool.proofs.driver.run_lines.Given as goal
 
@@ -6,7 +6,7 @@ use Rattle.hdr_tool.proofs.driver.run_lines.Given as goal
 abbrev pub invariant-loop-left : goal.invariant-loop-left
 invariant-loop-left g l = record {
   same : IsSameLog l.fn.log l.log;
-  goes : Goes {A = Unit {0}} (λ more. run_lines l.fn.is_log l.fn.histogram (number_lines l.fn.number (Some l.fn.text) ++ more)) (λ more. run_lines l.fn.is_log l.histogram (number_lines l.next (option_map (λ t. t.now) l.left) ++ more))
+  goes : Goes {A = Unit {0}} (run_rest l.fn.is_log l.fn.histogram l.fn.number (Some l.fn.text)) (run_rest l.fn.is_log l.histogram l.next (option_map (λ t. t.now) l.left))
       (g.W.Write.contents (sink l.fn.log).now) (g.W.Write.contents (sink l.log).now) (Ok tt);
   memory : (more : List (ℕ × List ℕ)) → LinesNeed l.fn.is_log l.histogram (number_lines l.next (option_map (λ t. t.now) l.left) ++ more) → LinesNeed l.fn.is_log l.fn.histogram (number_lines l.fn.number (Some l.fn.text) ++ more);
   grows : l.histogram.auto_resize ≡ true;

@@ -1,5 +1,5 @@
 use Rattle.hdr_tool.proofs.Common.{refl, map, string_bytes, ◌∙◌, filter_map, fraction_of, view_of_task, NoMemory}
-use Rattle.hdr_tool.proofs.OutcomesAnswers.{unread, report_refused, report_reads, report_written, log_refused, log_done}
+use Rattle.hdr_tool.proofs.OutcomesAnswers.{unread, report_failed, report_reads, report_written}
 use Rattle.hdr_tool.proofs.OutcomesRuns.{handed_on}
 use Rattle.hdr_tool.proofs.program.do_task.Goals as goal
 
@@ -13,36 +13,31 @@ returns-in_err-quantiles-in-Merge-clause-output g c =
 
 pub returns-in_err-histogram-in-Report-clause-output : goal.returns-in_err-histogram-in-Report-clause-output
 returns-in_err-histogram-in-Report-clause-output g c =
-    let a = c.in_err-histogram-in-Report.ensures.goes in
+    let a = c.in_err-histogram-in-Report.ensures.runs in
     let f = c.in_err-histogram-in-Report.field-0.0 in
-    let refused = report_refused c.in-Report.sigfig (filter_map fraction_of (map string_bytes c.in-Report.arguments.now)) a.0 _ _ f a.2 in
-    rw (c.in-Report.is, handed_on c.from_residual-in_err-histogram-in-Report.result f c.from_residual-in_err-histogram-in-Report.ensures.1) (a.0, a.1, refused)
+    rw (c.in-Report.is, handed_on c.from_residual-in_err-histogram-in-Report.result f c.from_residual-in_err-histogram-in-Report.ensures.1)
+    (a.0, a.1, report_failed c.in-Report.sigfig (filter_map fraction_of (map string_bytes c.in-Report.arguments.now)) a.0 _ _ f a.2)
 
 pub returns-in_err-histogram-in-Report-clause-reads : goal.returns-in_err-histogram-in-Report-clause-reads
 returns-in_err-histogram-in-Report-clause-reads g c =
-    let a = c.in_err-histogram-in-Report.ensures.goes in
+    let a = c.in_err-histogram-in-Report.ensures.runs in
     let f = c.in_err-histogram-in-Report.field-0.0 in
-    let reads = report_reads c.in-Report.sigfig (filter_map fraction_of (map string_bytes c.in-Report.arguments.now)) a.0 _ _ f _ a.2 c.in_err-histogram-in-Report.ensures.read in
-    rw (c.in-Report.is, handed_on c.from_residual-in_err-histogram-in-Report.result f c.from_residual-in_err-histogram-in-Report.ensures.1) reads
+    rw (c.in-Report.is, handed_on c.from_residual-in_err-histogram-in-Report.result f c.from_residual-in_err-histogram-in-Report.ensures.1)
+    (report_reads c.in-Report.sigfig (filter_map fraction_of (map string_bytes c.in-Report.arguments.now)) a.0 _ _ f _ a.2 c.in_err-histogram-in-Report.ensures.reads)
 
 pub returns-in_ok-histogram-in-Report-clause-output : goal.returns-in_ok-histogram-in-Report-clause-output
 returns-in_ok-histogram-in-Report-clause-output g c =
-    let a = c.in_ok-histogram-in-Report.ensures.goes in
+    let a = c.in_ok-histogram-in-Report.ensures.runs in
     let written = rw (c.deref.ensures.value ∙ c.in_ok-quantiles-in-Report.ensures) at c.write_report.ensures in
-    rw c.in-Report.is
-    (a.0, a.1, report_written c.in-Report.sigfig (filter_map fraction_of (map string_bytes c.in-Report.arguments.now)) a.0 _ _ c.in_ok-histogram-in-Report.histogram a.2 _ c.write_report.result written)
+    rw c.in-Report.is (a.0, a.1, report_written c.in-Report.sigfig (filter_map fraction_of (map string_bytes c.in-Report.arguments.now)) a.0 _ _ c.in_ok-histogram-in-Report.histogram _ c.write_report.result a.2 written)
 
 pub returns-in_err-run_task-in-Log-clause-output : goal.returns-in_err-run_task-in-Log-clause-output
 returns-in_err-run_task-in-Log-clause-output g c =
-    let a = c.in_err-run_task-in-Log.ensures.goes in
-    let f = c.in_err-run_task-in-Log.field-0.0 in
-    rw (c.in-Log.is, handed_on c.from_residual-in_err-run_task-in-Log.result f c.from_residual-in_err-run_task-in-Log.ensures.1)
-    (a.0, a.1, log_refused c.in-Log.sigfig a.0 (g.W.Write.contents c.args.writer.now) (g.W.Write.contents c.run_task-in-Log.new.writer) f a.2)
+    let a = c.in_err-run_task-in-Log.ensures.runs in
+    rw (c.in-Log.is, handed_on c.from_residual-in_err-run_task-in-Log.result c.in_err-run_task-in-Log.field-0.0 c.from_residual-in_err-run_task-in-Log.ensures.1) (a.0, a.1, a.2.0)
 
 pub returns-in_ok-run_task-in-Log-clause-output : goal.returns-in_ok-run_task-in-Log-clause-output
-returns-in_ok-run_task-in-Log-clause-output g c =
-    let a = c.in_ok-run_task-in-Log.ensures.goes in
-    rw c.in-Log.is (a.0, a.1, log_done c.in-Log.sigfig a.0 (g.W.Write.contents c.args.writer.now) (g.W.Write.contents c.run_task-in-Log.new.writer) c.in_ok-run_task-in-Log.field-0 a.2)
+returns-in_ok-run_task-in-Log-clause-output g c = let a = c.in_ok-run_task-in-Log.ensures.runs in rw c.in-Log.is (a.0, a.1, a.2.0)
 
 pub returns-in_err-input-in-Merge-clause-output : goal.returns-in_err-input-in-Merge-clause-output
 returns-in_err-input-in-Merge-clause-output g c =

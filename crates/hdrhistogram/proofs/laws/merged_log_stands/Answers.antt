@@ -8,23 +8,25 @@ use Rattle.hdrhistogram.proofs.ChosenAdded.{empty_resolution}
 use Rattle.hdrhistogram.proofs.laws.merged_log_stands.Goals as goal
 
 pub returns-clause-sum : goal.returns-clause-sum
-returns-clause-sum c = λ greatest sigfig filter log m hs Ls one bounds merges chosen parts fits.
+returns-clause-sum c = λ greatest sigfig filter log m Ls given.
+    let hs = given.histograms in
     let h = empty_plain 1 2 sigfig true in
-    let a = c.merging_adds_the_chosen.ensures.added greatest sigfig filter log m merges in
-    let same = a.2 ∙ ap (after_adds greatest h) (c.merging_adds_the_chosen.ensures.only filter 0 (reading log) a.0 hs a.1 chosen) in
+    let a = c.merging_adds_the_chosen.ensures.added greatest sigfig filter log m given.merged in
+    let same = a.2.0 ∙ ap (after_adds greatest h) (c.merging_adds_the_chosen.ensures.only filter 0 (reading log) a.0 hs a.1 given.chosen) in
     let resolution = sym (empty_resolution sigfig) in
-    let sum = c.joined_stands.ensures.sum greatest 18446744073709551615 h hs [] Ls one
-    (c.new_is_plain.ensures greatest 1 2 sigfig true bounds (lit< tt)) (c.clearing_stands.ensures.made 1 2 sigfig true)
-    (subst (λ (g : Resolution). AreParts 18446744073709551615 g hs Ls) resolution parts) (subst (λ (g : Resolution). Fits greatest g (joined_samples Ls)) resolution fits) in
+    let sum = c.joined_stands.ensures.sum greatest 18446744073709551615 h hs [] Ls given.counts
+    (c.new_is_plain.ensures greatest 1 2 sigfig true given.bounds (lit< tt)) (c.clearing_stands.ensures.made 1 2 sigfig true)
+    (subst (λ (g : Resolution). AreParts 18446744073709551615 g hs Ls) resolution given.parts) (subst (λ (g : Resolution). Fits greatest g (joined_samples Ls)) resolution given.fits) in
     subst (λ (k : Plain). StandsFor k (joined_samples Ls)) (sym same) sum.0
 
 pub returns-clause-ranked : goal.returns-clause-ranked
-returns-clause-ranked c = λ greatest sigfig filter log m hs Ls one bounds merges chosen parts fits.
+returns-clause-ranked c = λ greatest sigfig filter log m Ls given.
+    let hs = given.histograms in
     let h = empty_plain 1 2 sigfig true in
-    let a = c.merging_adds_the_chosen.ensures.added greatest sigfig filter log m merges in
-    let same = a.2 ∙ ap (after_adds greatest h) (c.merging_adds_the_chosen.ensures.only filter 0 (reading log) a.0 hs a.1 chosen) in
+    let a = c.merging_adds_the_chosen.ensures.added greatest sigfig filter log m given.merged in
+    let same = a.2.0 ∙ ap (after_adds greatest h) (c.merging_adds_the_chosen.ensures.only filter 0 (reading log) a.0 hs a.1 given.chosen) in
     let resolution = sym (empty_resolution sigfig) in
-    let ranked = c.joined_stands.ensures.ranked greatest 18446744073709551615 h hs [] Ls one
-    (c.new_is_plain.ensures greatest 1 2 sigfig true bounds (lit< tt)) (c.clearing_stands.ensures.made 1 2 sigfig true)
-    (subst (λ (g : Resolution). AreParts 18446744073709551615 g hs Ls) resolution parts) (subst (λ (g : Resolution). Fits greatest g (joined_samples Ls)) resolution fits) in
+    let ranked = c.joined_stands.ensures.ranked greatest 18446744073709551615 h hs [] Ls given.counts
+    (c.new_is_plain.ensures greatest 1 2 sigfig true given.bounds (lit< tt)) (c.clearing_stands.ensures.made 1 2 sigfig true)
+    (subst (λ (g : Resolution). AreParts 18446744073709551615 g hs Ls) resolution given.parts) (subst (λ (g : Resolution). Fits greatest g (joined_samples Ls)) resolution given.fits) in
     subst (λ (k : Plain). AnswersRanked k (joined_samples Ls)) (sym same) ranked

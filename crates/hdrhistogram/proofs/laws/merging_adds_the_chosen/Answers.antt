@@ -1,4 +1,4 @@
-use Rattle.std.proofs.Common.{◌≡◌, arith, subst}
+use Rattle.std.proofs.Common.{◌≡◌, arith, subst, refl}
 use Rattle.hdr_base.specs.Classes.{Resolution}
 use Rattle.hdr_log.specs.Grammar.{reading}
 use Rattle.hdrhistogram.specs.LogMerging.{new_merging, coarser_of}
@@ -9,7 +9,7 @@ use Rattle.hdrhistogram.proofs.laws.merging_adds_the_chosen.Goals as goal
 pub returns-clause-added : goal.returns-clause-added
 returns-clause-added c = λ greatest sigfig filter log m merges.
     let a = all_added greatest filter (reading log) (new_merging sigfig) m merges in
-    (a.0, a.1, a.2, omega (arith, a.3), subst (λ (g : Resolution). m.coarser ≡ coarser_of g a.0) (empty_resolution sigfig) (omega (arith, a.4)))
+    (a.0, a.1, (a.2, omega (arith, a.3), subst (λ (g : Resolution). m.coarser ≡ coarser_of g a.0) (empty_resolution sigfig) (omega (arith, a.4))))
 
 pub returns-clause-only : goal.returns-clause-only
 returns-clause-only c = λ filter base entries hs others p q. chosen_once filter base entries hs others p q
@@ -18,7 +18,7 @@ pub returns-clause-finer : goal.returns-clause-finer
 returns-clause-finer c = none_is_coarser
 
 pub returns-clause-taken : goal.returns-clause-taken
-returns-clause-taken c = λ greatest sigfig filter log hs r chosen merges. all_taken greatest filter (reading log) (new_merging sigfig) r hs chosen merges
+returns-clause-taken c = λ greatest sigfig filter log hs r chosen merges. rw (all_taken greatest filter (reading log) (new_merging sigfig) r hs chosen merges).1 refl
 
 pub returns-clause-digits : goal.returns-clause-digits
 returns-clause-digits c = λ greatest sigfig filter log m merges.

@@ -186,13 +186,10 @@ fn header_time(time: Option<Duration>) -> Option<Option<u128>>
     ensures value { MatchOption result (AreSmall (thousandths_set (option_map as_nanos time)) → ⊥)
         (λ t. (t ≡ thousandths_set (option_map as_nanos time)) × AreSmall t) }
 {
-    match time {
-        None => Some(None),
-        Some(time) => match thousandths(time) {
-            None => None,
-            Some(time) => Some(Some(time)),
-        },
-    }
+    let Some(time) = time else {
+        return Some(None);
+    };
+    Some(Some(thousandths(time)?))
 }
 
 /// Appends comments, in order.

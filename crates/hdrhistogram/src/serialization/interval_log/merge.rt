@@ -1,6 +1,6 @@
 //! Merges the chosen intervals of a log.
 
-ghost use Rattle.std.specs.Prelude.{◌≡◌, ◌+◌, ◌<◌, ◌≤◌, ◌^◌, ℕ, length, MatchResult, IfErr, Ok, Err};
+ghost use Rattle.std.specs.Prelude.{◌≡◌, ◌+◌, ◌<◌, ◌≤◌, ◌^◌, ℕ, length, IfOk, OnOk, IfErr, Ok, Err};
 ghost use Rattle.std.specs.Option.{option_map};
 ghost use Rattle.std.specs.Duration.{as_nanos};
 ghost use Rattle.hdr_model.specs.Plain.{resolution};
@@ -123,9 +123,9 @@ pub fn merge_log<T: Counter>(
     filter: &IntervalFilter<'_>,
     sigfig: u8,
 ) -> Result<Merged<T>, MergeError>
-    ensures merged { MatchResult result
-        (λ m. IsBounds 1 2 sigfig × IsMerged (λ r. Merges T.greatest
-        (view_of_filter filter.now) sigfig log.now r) m.histogram m.chosen)
+    ensures ok { IfOk result (λ m. IsBounds 1 2 sigfig × IsMerged (λ r. Merges T.greatest
+        (view_of_filter filter.now) sigfig log.now r) m.histogram m.chosen) }
+    ensures err { IfErr result
         (IsMergeError T.greatest (view_of_filter filter.now) sigfig log.now) }
     ensures digits { IfErr result (IsOfDigits sigfig) }
 {
@@ -146,9 +146,9 @@ pub fn merge_chosen<T: Counter>(
     choice: &IntervalChoice<'_>,
     sigfig: u8,
 ) -> Result<MergedChoice<T>, MergeError>
-    ensures merged { MatchResult result
-        (λ m. IsBounds 1 2 sigfig × IsMergedBy (λ r. Merges T.greatest
-        (view_of_interval_choice choice.now) sigfig log.now r) m.histogram m.chosen m.coarser)
+    ensures ok { IfOk result (λ m. IsBounds 1 2 sigfig × IsMergedBy (λ r. Merges T.greatest
+        (view_of_interval_choice choice.now) sigfig log.now r) m.histogram m.chosen m.coarser) }
+    ensures err { IfErr result
         (IsMergeError T.greatest (view_of_interval_choice choice.now) sigfig log.now) }
     ensures digits { IfErr result (IsOfDigits sigfig) }
 {
@@ -219,11 +219,11 @@ fn merge_entry<T: Counter>(
     ensures chosen { merging.new.chosen ≤ merging.new.intervals }
     ensures coarser { merging.new.coarser ≤ merging.new.intervals }
     // The state after the entry, or its error.
-    ensures done { MatchResult result
-        (λ _. EntryMerges T.greatest (view_of_interval_choice choice.now) (view_of_merging merging.old)
-        (view_of_item entry.now) (Ok (view_of_merging merging.new)))
-        (IsStepError (λ e. EntryMerges T.greatest (view_of_interval_choice choice.now)
-        (view_of_merging merging.old) (view_of_item entry.now) (Err e))) }
+    ensures ok { OnOk result (EntryMerges T.greatest (view_of_interval_choice choice.now)
+        (view_of_merging merging.old) (view_of_item entry.now) (Ok (view_of_merging merging.new))) }
+    ensures err { IfErr result (IsStepError (λ e. EntryMerges T.greatest
+        (view_of_interval_choice choice.now) (view_of_merging merging.old)
+        (view_of_item entry.now) (Err e))) }
 {
     match entry {
         Ok(LogEntry::StartTime(_)) => Ok(()),
@@ -254,11 +254,10 @@ fn merge_field<T: Counter>(merging: &mut Merging<T>, field: &str) -> Result<(), 
     ensures chosen { merging.new.chosen ≤ merging.new.intervals }
     ensures coarser { merging.new.coarser ≤ merging.new.intervals }
     // The state after the interval, or its error.
-    ensures done { MatchResult result
-        (λ _. FieldMerges T.greatest (view_of_merging merging.old) (base64_bytes field.now)
-        (Ok (view_of_merging merging.new)))
-        (IsStepError (λ e. FieldMerges T.greatest (view_of_merging merging.old)
-        (base64_bytes field.now) (Err e))) }
+    ensures ok { OnOk result (FieldMerges T.greatest (view_of_merging merging.old)
+        (base64_bytes field.now) (Ok (view_of_merging merging.new))) }
+    ensures err { IfErr result (IsStepError (λ e. FieldMerges T.greatest
+        (view_of_merging merging.old) (base64_bytes field.now) (Err e))) }
 {
     let interval = merging.intervals + 1;
     let spare = merging.spare.take();

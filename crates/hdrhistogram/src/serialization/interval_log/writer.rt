@@ -6,7 +6,7 @@ ghost use Rattle.std.specs.Duration.{as_nanos};
 ghost use Rattle.hdr_log.specs.Tags.{tag_text};
 ghost use Rattle.hdr_log.specs.Texts.{IsTimeInRange};
 ghost use Rattle.hdr_log.specs.Pieces.{Comment, piece_text};
-ghost use Rattle.hdrhistogram.specs.LogLeaving.{WritesText, IsIoError, IsIntervalText, is_time_error};
+ghost use Rattle.hdrhistogram.specs.LogLeaving.{WritesText, IsIoError, is_time_error};
 
 use crate::serialization::interval_log::buffer::serialized;
 use crate::serialization::interval_log::errors::IntervalLogWriterError;
@@ -47,7 +47,7 @@ pub(crate) fn write_text<W: Write, E>(
 }
 
 impl<'a, 'b, W: Write, S: Serializer> IntervalLogWriter<'a, 'b, W, S> {
-    ghost use Rattle.hdrhistogram.specs.LogWriters.{sink, maker, divisor_of, IsSameLog};
+    ghost use Rattle.hdrhistogram.specs.LogWriters.{sink, maker, divisor_of, IsSameLog, IsLineFor};
 
     /// Creates a writer that continues a log. Greatest values are divided by `max_value_divisor`,
     /// which is at least 1. The call writes nothing, not even the divisor's header.
@@ -114,9 +114,9 @@ impl<'a, 'b, W: Write, S: Serializer> IntervalLogWriter<'a, 'b, W, S> {
         tag: Option<Tag<'_>>,
     ) -> Result<(), IntervalLogWriterError<S::SerializeError>>
         ensures same_log { IsSameLog self.old self.new }
-        ensures leaves { WritesText (IsIntervalText S.writes h.now (option_map tag_text tag.entry)
-            (as_nanos start_timestamp) (as_nanos duration) (divisor_of self.old)) (S.may_fail_with h.now)
-            (W.contents (sink self.old).now) (W.contents (sink self.new).now) result }
+        ensures leaves { WritesText (IsLineFor self.old S.writes h.now tag.entry start_timestamp
+            duration) (S.may_fail_with h.now) (W.contents (sink self.old).now)
+            (W.contents (sink self.new).now) result }
         ensures early { is_time_error result ≡ true → (maker self.new).now ≡ (maker self.old).now }
         ensures time { (is_time_error result ≡ false)
             ↔ (IsTimeInRange (as_nanos start_timestamp) × IsTimeInRange (as_nanos duration)) }
