@@ -4,7 +4,46 @@ ghost use Rattle.std.specs.Prelude.{◌≡◌, ℕ, ◌+◌, ◌-◌, ◌*◌, �
 ghost use Rattle.hdr_base.specs.Classes.{most_bins};
 ghost use Rattle.hdr_counts.specs.Blocks.{capped_sums, AreSums};
 
+use crate::Counts;
 use hdr_base::Counter;
+
+impl<T: Counter> Counts<T> {
+    /// Adds the counters of `source`, in blocks of the same length, element by element, as far as
+    /// both have them. Each counter saturates at `T::max_value()`. A section of `source` whose sum
+    /// is 0 is skipped.
+    pub fn add_capped<F: Counter>(&mut self, source: &Counts<F>)
+        requires { self.old.block ≡ source.now.block }
+        ensures { self.new ≡ record {
+          block = self.old.block;
+          numbers = capped_sums T.greatest self.old.numbers source.now.numbers;
+        } }
+    {
+        if self.section != source.section {
+            return self.add_one_by_one(source);
+        }
+        add_sections(
+            &mut self.counters,
+            &mut self.sums,
+            &source.counters,
+            &source.sums,
+            self.section,
+        );
+    }
+
+    /// As `add_capped`, for a source whose sections have another length.
+    fn add_one_by_one<F: Counter>(&mut self, source: &Counts<F>)
+        ensures { self.new ≡ record {
+          block = self.old.block;
+          numbers = capped_sums T.greatest self.old.numbers source.now.numbers;
+        } }
+    {
+        for i in 0..self.len().min(source.len()) {
+            let sum = self.get(i).as_u64().saturating_add(source.get(i).as_u64());
+            self.set(i, capped(sum));
+        }
+    }
+}
+
 
 /// Returns the exact sum of the counters.
 pub(crate) fn sum_of<T: Counter>(counters: &[T]) -> u128
@@ -33,7 +72,7 @@ pub(crate) fn short_sum<T: Counter>(counters: &[T]) -> u64
 /// Adds the sections of `source` to those of `counters`, as far as both have them. Each counter
 /// saturates at `T::max_value()`. `sums` and `more` are the sums of their sections; `sums` is
 /// updated.
-pub(crate) fn add_sections<T: Counter, F: Counter>(
+fn add_sections<T: Counter, F: Counter>(
     counters: &mut [T],
     sums: &mut [u128],
     source: &[F],

@@ -5,7 +5,7 @@ ghost use Rattle.hdr_base.specs.Classes.{most_bins};
 ghost use Rattle.hdr_counts.specs.Blocks.{with_zeros};
 
 use crate::ends::{first_nonzero, last_of};
-use crate::{Counts, exchanged, exponent, quotient, section_len, sections_in};
+use crate::{Counts, exchanged, exponent, quotient, section_len};
 use hdr_base::Counter;
 use std::alloc::{AllocError, Global};
 use std::marker::Model;
@@ -64,8 +64,8 @@ impl<T: Counter> CountsBuilder<T> {
             ≡ record { block = block; numbers = replicate (blocks * block) 0 }) }
     {
         let len = blocks * block;
-        let section = section_len(block);
-        let sections = sections_in(blocks, block, section);
+        let section = section_len(block, len);
+        let sections = len / section;
         let mut sums = Vec::with_capacity(alloc, sections)?;
         sums.resize(sections, 0)?;
         Ok(CountsBuilder {
