@@ -210,11 +210,7 @@ impl<T: Counter> Histogram<T> {
         ensures plain { IsPlain T.greatest self.now }
     {
         let bin = self.scale.bin(value);
-        if bin < self.counts.len() {
-            Some(bin)
-        } else {
-            None
-        }
+        (bin < self.counts.len()).then_some(bin)
     }
 
     /// Returns the lowest value of the class of bin `index`, or `None` if `index` is past the bins.
@@ -224,11 +220,10 @@ impl<T: Counter> Histogram<T> {
         ensures bin { IfSome result (λ v. bin_of (resolution self.now) v ≡ index) }
         ensures within { IfSome result (λ v. v ≤ reach self.now) }
     {
-        if index < self.counts.len() {
-            Some(self.class_value(index))
-        } else {
-            None
+        if index >= self.counts.len() {
+            return None;
         }
+        Some(self.class_value(index))
     }
 
     /// Returns the counter of bin `index`, or `None` if `index` is past the bins.
@@ -237,11 +232,7 @@ impl<T: Counter> Histogram<T> {
             (λ c. (index < length self.now.counts)
             × (T.number c ≡ slice_index self.now.counts index)) }
     {
-        if index < self.counts.len() {
-            Some(self.counts.get(index))
-        } else {
-            None
-        }
+        self.counters().get(index).copied()
     }
 
     /// The counters of the bins in their order.
@@ -256,10 +247,7 @@ impl<T: Counter> Histogram<T> {
         requires { bin < length self.now.counts }
         ensures { result ≡ value_of (resolution self.now) bin }
     {
-        match self.scale.bin_value(bin) {
-            Some(value) => value,
-            None => 0,
-        }
+        self.scale.bin_value(bin).unwrap_or(0)
     }
 
     /// Returns the greatest value of the class of `bin`.
@@ -278,10 +266,7 @@ impl<T: Counter> Histogram<T> {
         ensures within { result ≤ reach self.now }
         ensures covers { highest_top self.now ≤ result }
     {
-        match self.marks.top() {
-            Some(bin) => self.class_top(bin),
-            None => 0,
-        }
+        self.marks.top().map_or(0, |bin| self.class_top(bin))
     }
 
     /// Returns the lowest value of the first class other than class 0 that counts as recorded, or
@@ -289,10 +274,7 @@ impl<T: Counter> Histogram<T> {
     pub fn min_nz(&self) -> u64
         ensures { result ≡ min_nz_of self.now }
     {
-        match self.marks.lower() {
-            Some(bin) => self.class_value(bin),
-            None => u64::MAX,
-        }
+        self.marks.lower().map_or(u64::MAX, |bin| self.class_value(bin))
     }
 
     /// Returns 0 if `len` is 0 or the first bin is not empty. Otherwise returns `min_nz`, the

@@ -5,7 +5,7 @@ ghost use Rattle.hdr_base.specs.Classes.{most_bins};
 ghost use Rattle.hdr_counts.specs.Blocks.{capped_sums, AreSums};
 
 use crate::Counts;
-use hdr_base::Counter;
+use hdr_base::{Counter, saturating_from};
 
 impl<T: Counter> Counts<T> {
     /// Adds the counters of `source`, in blocks of the same length, element by element, as far as
@@ -38,8 +38,8 @@ impl<T: Counter> Counts<T> {
         } }
     {
         for i in 0..self.len().min(source.len()) {
-            let sum = self.get(i).as_u64().saturating_add(source.get(i).as_u64());
-            self.set(i, capped(sum));
+            let sum = u128::from(self.get(i).as_u64()) + u128::from(source.get(i).as_u64());
+            self.set(i, saturating_from(sum));
         }
     }
 }
@@ -133,7 +133,8 @@ fn add_plain<T: Counter, F: Counter>(counters: &mut [T], source: &[F])
         (map F.number source.now) }
 {
     for i in 0..counters.len() {
-        counters[i] = capped(counters[i].as_u64() + source[i].as_u64());
+        let sum = counters[i].as_u64() + source[i].as_u64();
+        counters[i] = saturating_from(u128::from(sum));
     }
 }
 
@@ -144,13 +145,7 @@ fn add_each<T: Counter, F: Counter>(counters: &mut [T], source: &[F])
         (map F.number source.now) }
 {
     for i in 0..counters.len() {
-        counters[i] = capped(counters[i].as_u64().saturating_add(source[i].as_u64()));
+        let sum = u128::from(counters[i].as_u64()) + u128::from(source[i].as_u64());
+        counters[i] = saturating_from(sum);
     }
-}
-
-/// Returns the counter of `number`, or `T::max_value()` if `number` is above it.
-fn capped<T: Counter>(number: u64) -> T
-    ensures { T.number result ≡ min number T.greatest }
-{
-    T::from_u64(number).unwrap_or(T::max_value())
 }

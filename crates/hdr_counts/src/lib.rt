@@ -10,7 +10,7 @@ mod sections;
 
 ghost use Rattle.std.specs.Prelude.{◌≡◌, ℕ, ◌+◌, ◌-◌, ◌*◌, ◌/◌, ◌%◌, ◌^◌, ◌<◌, ◌≤◌, length, take, map, sum, replicate, slice_index, slice_set, MatchOption, MatchResult, IfOk, IfSome, [], ◌++◌, All};
 ghost use Rattle.hdr_base.specs.Classes.{most_bins};
-ghost use Rattle.hdr_counts.specs.Blocks.{Blocks, sum_below, IsFirstToReach, looks, capped_sums, parted, own_section, section_of, sum_before, HasSection, IsShift};
+ghost use Rattle.hdr_counts.specs.Blocks.{Blocks, sum_below, IsFirstToReach, looks, capped_sums, parted, own_section, section_of, section_start, sum_before, HasSection, IsShift, zero_blocks, grown_to, cleared, with_number};
 
 use adding::sum_of;
 use clearing::clear_sections;
@@ -53,8 +53,7 @@ impl<T: Counter> Counts<T> {
     pub fn new(alloc: Global, blocks: usize, block: usize) -> Result<Counts<T>, AllocError>
         requires nonzero { 1 ≤ block }
         requires at_most { blocks * block ≤ most_bins }
-        ensures { IfOk result (λ c. c
-            ≡ record { block = block; numbers = replicate (blocks * block) 0 }) }
+        ensures { IfOk result (λ c. c ≡ zero_blocks blocks block) }
     {
         let len = blocks * block;
         let section = section_len(block, len);
@@ -77,12 +76,8 @@ impl<T: Counter> Counts<T> {
     pub fn grow(&mut self, blocks: usize) -> Result<(), AllocError>
         requires more { length self.old.numbers ≤ blocks * self.old.block }
         requires at_most { blocks * self.old.block ≤ most_bins }
-        ensures { MatchResult result (λ _. self.new
-            ≡ record {
-              block = self.old.block;
-              numbers = self.old.numbers ++ replicate
-                  (blocks * self.old.block - length self.old.numbers) 0;
-            }) (λ _. self.new ≡ self.old) }
+        ensures { MatchResult result (λ _. self.new ≡ grown_to self.old blocks)
+            (λ _. self.new ≡ self.old) }
     {
         let len = blocks * self.block;
         self.counters.reserve(len - self.counters.len())?;
@@ -147,11 +142,7 @@ impl<T: Counter> Counts<T> {
     /// Sets the counter at index `i` to `value`.
     pub fn set(&mut self, i: usize, value: T)
         requires { i < length self.old.numbers }
-        ensures { self.new ≡ record {
-          block = self.old.block;
-          numbers = slice_set self.old.numbers i
-              (T.number value);
-        } }
+        ensures { self.new ≡ with_number self.old i (T.number value) }
     {
         let k = quotient(i, self.section, self.shift);
         let old = self.counters[i].as_u64();
@@ -164,14 +155,9 @@ impl<T: Counter> Counts<T> {
     /// `T::max_value()`; `self` is then unchanged.
     pub fn try_add(&mut self, i: usize, number: u64) -> Option<()>
         requires { i < length self.old.numbers }
-        ensures { MatchOption result ((T.greatest < slice_index self.old.numbers i + number)
-            × (self.new ≡ self.old))
-            (λ _. (slice_index self.old.numbers i + number ≤ T.greatest)
-            × (self.new ≡ record {
-              block = self.old.block;
-              numbers = slice_set self.old.numbers i
-                  (slice_index self.old.numbers i + number);
-            })) }
+        ensures { let sum = slice_index self.old.numbers i + number in
+            MatchOption result ((T.greatest < sum) × (self.new ≡ self.old))
+            (λ _. (sum ≤ T.greatest) × (self.new ≡ with_number self.old i sum)) }
     {
         let sum = self.counters[i].as_u64().checked_add(number)?;
         let counter = T::from_u64(sum)?;
@@ -183,11 +169,7 @@ impl<T: Counter> Counts<T> {
 
     /// Sets each counter to 0. A section whose sum is 0 is skipped.
     pub fn clear(&mut self)
-        ensures { self.new ≡ record {
-          block = self.old.block;
-          numbers = replicate
-              (length self.old.numbers) 0;
-        } }
+        ensures { self.new ≡ cleared self.old }
     {
         clear_sections(&mut self.counters, &mut self.sums, self.section);
     }
@@ -262,8 +244,7 @@ impl<T: Counter> Counts<T> {
 
     /// Returns the sum of section `k`, or `None` past the sections.
     fn section_sum(&self, k: usize) -> Option<u128>
-        ensures sum { MatchOption result
-            (length self.now.numbers ≤ k * section_of self.now.block (length self.now.numbers))
+        ensures sum { MatchOption result (length self.now.numbers ≤ section_start self.now k)
             (λ s. (sum_before self.now k + s ≡ sum_before self.now (k + 1)) × HasSection self.now k) }
         ensures inside { IfSome result (λ _. k < length self.now.numbers) }
         ensures at_most { length self.now.numbers ≤ most_bins }

@@ -73,16 +73,6 @@ impl<'a, T: Counter> Search<'a, T> {
 /// The number of counters that are added up at once.
 const FEW: usize = 64;
 
-/// Returns the number of a counter, and counts one tick.
-fn look_counter<T: Counter>(counter: &T, ticks: &mut Ticks) -> u64
-    requires { ticks.old < 2 ^ 64 - 1 }
-    ensures value { result ≡ T.number counter.now }
-    ensures counted { ticks.new ≡ ticks.old + 1 }
-{
-    ticks.tick();
-    counter.as_u64()
-}
-
 /// Returns the sum of the sums of several sections.
 pub(crate) fn sum_of_sums(sums: &[u128]) -> u128
     requires { sum sums.now < 2 ^ 128 }
@@ -110,7 +100,8 @@ pub(crate) fn position_of_rank_counted<T: Counter>(
         (λ i. ticks.new ≡ ticks.old + i + 1) }
 {
     for (i, counter) in counters.iter().enumerate() {
-        let number = look_counter(counter, ticks);
+        ticks.tick();
+        let number = counter.as_u64();
         if number >= rest {
             return Some(i);
         }

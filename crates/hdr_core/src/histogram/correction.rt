@@ -6,7 +6,7 @@ ghost use Rattle.hdr_model.specs.Plain.{resolution, reach};
 ghost use Rattle.hdr_model.specs.Recording.{after_add_to_bin, after_records, samples_of, high_with};
 ghost use Rattle.hdr_model.specs.Samples.{GainsSamples};
 ghost use Rattle.hdr_model.specs.Refusals.{IsRecordable, IsRecordError};
-ghost use Rattle.hdr_model.specs.Correction.{missing, each_times, after_correct, classes_held, down_to};
+ghost use Rattle.hdr_model.specs.Correction.{missing, each_times, after_correct, bins_held, down_to};
 
 use super::Histogram;
 use hdr_base::{Counter, Ticks};
@@ -69,8 +69,7 @@ impl<T: Counter> Histogram<T> {
         requires { ticks.old ≤ 2 ^ 63 }
         ensures ok { OnOk result (self.new ≡ after_correct T.greatest self.old value
             (T.number count) interval) }
-        ensures ticks { OnOk result (ticks.new ≡ ticks.old + classes_held (resolution self.new)
-            (length self.new.counts) (missing value interval)) }
+        ensures ticks { OnOk result (ticks.new ≡ ticks.old + bins_held self.new (missing value interval)) }
         ensures at_most_bins { OnOk result (ticks.new ≤ ticks.old + length self.new.counts) }
         ensures at_most { OnOk result (ticks.new ≤ ticks.old + most_bins) }
         ensures samples { OnOk result (GainsSamples T.greatest self.old self.new
@@ -100,8 +99,7 @@ impl<T: Counter> Histogram<T> {
         requires ticks_fit { ticks.old ≤ 2 ^ 63 }
         ensures state { self.new ≡ after_records T.greatest self.old
             (each_times count (down_to first interval)) }
-        ensures ticks { ticks.new ≡ ticks.old + classes_held (resolution self.old)
-            (length self.old.counts) (down_to first interval) }
+        ensures ticks { ticks.new ≡ ticks.old + bins_held self.old (down_to first interval) }
         ensures samples { GainsSamples T.greatest self.old self.new
             (samples_of (each_times count (down_to first interval))) }
         ensures same_classes { resolution self.new ≡ resolution self.old }
@@ -131,15 +129,15 @@ impl<T: Counter> Histogram<T> {
         requires one_bucket { (x : ℕ) → start ≤ x → x ≤ first
             → bucket (resolution self.old) x ≡ bucket (resolution self.old) first }
         requires within { first ≤ reach self.old }
-        requires ticks_fit { ticks.old + classes_held (resolution self.old) (length self.old.counts)
+        requires ticks_fit { ticks.old + bins_held self.old
             (down_to first interval) < 2 ^ 64 }
         ensures less { result < first }
         ensures state { after_records T.greatest self.new
             (each_times count (down_to result interval)) ≡ after_records T.greatest self.old
             (each_times count (down_to first interval)) }
-        ensures ticks { ticks.new + classes_held (resolution self.old) (length self.old.counts)
+        ensures ticks { ticks.new + bins_held self.old
             (down_to result interval)
-            ≡ ticks.old + classes_held (resolution self.old) (length self.old.counts)
+            ≡ ticks.old + bins_held self.old
             (down_to first interval) }
         ensures same_classes { resolution self.new ≡ resolution self.old }
         ensures same_bins { length self.new.counts ≡ length self.old.counts }
@@ -181,14 +179,7 @@ pub(super) fn hides(value: u64, interval: u64) -> bool
     ensures step { result ≡ true → 0 < interval }
     ensures none { result ≡ false → missing value interval ≡ [] }
 {
-    if interval == 0 {
-        return false;
-    }
-    let half = value / 2;
-    if half < interval {
-        return false;
-    }
-    true
+    interval > 0 && value / 2 >= interval
 }
 
 /// Returns the number of values in the class of `next`, from it on down to the interval, an

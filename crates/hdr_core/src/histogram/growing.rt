@@ -58,10 +58,7 @@ impl<T: Counter> Histogram<T> {
         if !self.auto_resize {
             return Err(RecordError::ValueOutOfRangeResizeDisabled);
         }
-        match self.grow(high) {
-            Ok(()) => Ok(()),
-            Err(_) => Err(RecordError::OutOfMemory),
-        }
+        self.grow(high).map_err(|_| RecordError::OutOfMemory)
     }
 
     /// Makes bins up to the reach of `high`, a value past them, and stores it as `high`. Returns an

@@ -9,7 +9,7 @@ ghost use Rattle.hdr_model.specs.Refusals.{LeavesSet, IsRecordable, IsAdditionEr
 ghost use Rattle.hdr_model.specs.Samples.{StandsFor, GainsSamples};
 
 use super::Histogram;
-use hdr_base::Counter;
+use hdr_base::{Counter, saturating_from};
 use hdr_counts::Counts;
 use hdr_model::AdditionError;
 
@@ -150,10 +150,7 @@ impl<T: Counter> Histogram<T> {
         ensures within { result ≤ length self.now.counts }
         ensures rest { (i : ℕ) → result ≤ i → slice_index self.now.counts i ≡ 0 }
     {
-        match self.marks.top() {
-            Some(bin) => self.counts.len().min(bin + 1),
-            None => 0,
-        }
+        self.marks.top().map_or(0, |bin| self.counts.len().min(bin + 1))
     }
 
     /// Records the classes of a source, each at its lowest value.
@@ -189,6 +186,5 @@ pub(super) fn capped_sum<T: Counter>(counts: &Counts<T>) -> u64
     requires { 0 < length counts.now.numbers }
     ensures { result ≡ min (sum counts.now.numbers) (2 ^ 64 - 1) }
 {
-    let sum = counts.sum_to(counts.len() - 1);
-    sum.min(u128::from(u64::MAX)) as u64
+    saturating_from(counts.sum_to(counts.len() - 1))
 }

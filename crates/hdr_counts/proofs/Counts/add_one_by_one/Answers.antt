@@ -21,10 +21,10 @@ pub loop-i-preserved : goal.loop-i-preserved
 loop-i-preserved g c =
     let same : c.loop-i.self.block ≡ c.args.self.now.block = ap (λ v. v.block) c.loop-i.invariant in
     c.set.ensures
-    ∙ ap (λ b. record { block = b; numbers = set c.loop-i.self.numbers c.loop-i.i (g.T.Counter.number c.capped.result) }) same
+    ∙ ap (λ b. record { block = b; numbers = set c.loop-i.self.numbers c.loop-i.i (g.T.Counter.number c.saturating_from.result) }) same
     ∙ ap (λ l. record { block = c.args.self.now.block; numbers = l })
-    (capped-write g.T.Counter.greatest c.args.self.now.numbers c.args.source.now.numbers c.loop-i.self.numbers c.loop-i.i (g.T.Counter.number c.capped.result) (ap (λ v. v.numbers) c.loop-i.invariant) (omega arith) (omega arith)
-    (omega (arith, c.capped.ensures, c.saturating_add-sum.ensures, c.get.ensures, c.get-in-loop-i.ensures, c.as_u64.ensures.value, c.as_u64-in-loop-i.ensures.value, g.met.T.Counter.fits)))
+    (capped-write g.T.Counter.greatest c.args.self.now.numbers c.args.source.now.numbers c.loop-i.self.numbers c.loop-i.i (g.T.Counter.number c.saturating_from.result) (ap (λ v. v.numbers) c.loop-i.invariant) (omega arith) (omega arith)
+    (omega (arith, c.saturating_from.ensures, c.from.ensures, c.from-in-loop-i.ensures, c.get.ensures, c.get-in-loop-i.ensures, c.as_u64.ensures.value, c.as_u64-in-loop-i.ensures.value, g.met.T.Counter.fits)))
 
 pub returns : goal.returns
 returns g c =
