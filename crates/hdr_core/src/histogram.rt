@@ -210,7 +210,11 @@ impl<T: Counter> Histogram<T> {
         ensures plain { IsPlain T.greatest self.now }
     {
         let bin = self.scale.bin(value);
-        (bin < self.counts.len()).then_some(bin)
+        if bin < self.counts.len() {
+            Some(bin)
+        } else {
+            None
+        }
     }
 
     /// Returns the lowest value of the class of bin `index`, or `None` if `index` is past the bins.
@@ -220,10 +224,11 @@ impl<T: Counter> Histogram<T> {
         ensures bin { IfSome result (λ v. bin_of (resolution self.now) v ≡ index) }
         ensures within { IfSome result (λ v. v ≤ reach self.now) }
     {
-        if index >= self.counts.len() {
-            return None;
+        if index < self.counts.len() {
+            Some(self.class_value(index))
+        } else {
+            None
         }
-        Some(self.class_value(index))
     }
 
     /// Returns the counter of bin `index`, or `None` if `index` is past the bins.
@@ -266,7 +271,10 @@ impl<T: Counter> Histogram<T> {
         ensures within { result ≤ reach self.now }
         ensures covers { highest_top self.now ≤ result }
     {
-        self.marks.top().map_or(0, |bin| self.class_top(bin))
+        match self.marks.top() {
+            Some(bin) => self.class_top(bin),
+            None => 0,
+        }
     }
 
     /// Returns the lowest value of the first class other than class 0 that counts as recorded, or
@@ -274,7 +282,10 @@ impl<T: Counter> Histogram<T> {
     pub fn min_nz(&self) -> u64
         ensures { result ≡ min_nz_of self.now }
     {
-        self.marks.lower().map_or(u64::MAX, |bin| self.class_value(bin))
+        match self.marks.lower() {
+            Some(bin) => self.class_value(bin),
+            None => u64::MAX,
+        }
     }
 
     /// Returns 0 if `len` is 0 or the first bin is not empty. Otherwise returns `min_nz`, the

@@ -150,7 +150,10 @@ impl<T: Counter> Histogram<T> {
         ensures within { result ≤ length self.now.counts }
         ensures rest { (i : ℕ) → result ≤ i → slice_index self.now.counts i ≡ 0 }
     {
-        self.marks.top().map_or(0, |bin| self.counts.len().min(bin + 1))
+        match self.marks.top() {
+            Some(bin) => self.counts.len().min(bin + 1),
+            None => 0,
+        }
     }
 
     /// Records the classes of a source, each at its lowest value.

@@ -91,7 +91,10 @@ impl<T: Counter> Histogram<T> {
     pub(super) fn highest_top(&self) -> u64
         ensures { result ≡ highest_top self.now }
     {
-        self.counts.last_nonzero().map_or(0, |bin| self.class_top(bin))
+        match self.counts.last_nonzero() {
+            Some(bin) => self.class_top(bin),
+            None => 0,
+        }
     }
 
     /// Corrects each nonempty class of a source whose last one has a bin.

@@ -2,7 +2,7 @@
 
 ghost use Rattle.std.specs.Prelude.{◌≡◌, ℕ, List, ◌+◌, ◌-◌, ◌^◌, ◌<◌, ◌≤◌, ◌++◌, true, OnOk, IfErr, min, length, replicate};
 ghost use Rattle.hdr_base.specs.Classes.{reach_of};
-ghost use Rattle.hdr_model.specs.Plain.{resolution, reach};
+ghost use Rattle.hdr_model.specs.Plain.{IsPlain, resolution, reach};
 ghost use Rattle.hdr_model.specs.Recording.{after_add_to_bin, after_record, clamp_to_bins, after_clear, after_reset, high_with};
 ghost use Rattle.hdr_model.specs.Samples.{GainsSamples};
 ghost use Rattle.hdr_model.specs.Refusals.{IsRecordable, IsRecordError};
@@ -97,6 +97,7 @@ impl<T: Counter> Histogram<T> {
     fn clamped(&self, value: u64) -> u64
         ensures value { result ≡ clamp_to_bins self.now value }
         ensures within { result ≤ reach self.now }
+        ensures plain { IsPlain T.greatest self.now }
     {
         match self.bin_of(value) {
             Some(_) => value,
