@@ -1,5 +1,5 @@
 -- The sections of blocks.
-use Rattle.std.proofs.Common.{◌≡◌, ℕ, ◌+◌, ◌-◌, ◌*◌, ◌/◌, ◌%◌, ◌<◌, ◌≤◌, ◌&&◌, ◌++◌, List, [], leb, ltb, eqb, inl, inr, length, get_or, take, replicate, refl, ap, sym, subst, ◌∙◌, ⊎_elim, arith}
+use Rattle.std.proofs.Common.{◌≡◌, ℕ, ◌+◌, ◌-◌, ◌*◌, ◌/◌, ◌%◌, ◌<◌, ◌≤◌, ◌&&◌, ◌++◌, List, leb, ltb, eqb, inl, inr, length, get_or, take, replicate, refl, ap, sym, subst, ◌∙◌, ⊎_elim, arith}
 use Rattle.std.proofs.Math.Nat.{mul_assoc, mul-mod_left, mod_self, mul-le-mul_left, mul-le-mul_right, mul-div_cancel}
 use Rattle.std.proofs.lemmas.Bool.{and_parts, cases_Bool, cases_lt, eqb-true, lt-ltb, le-ltb}
 use Rattle.std.proofs.lemmas.Nat.{div-add-mod'}

@@ -44,7 +44,6 @@ impl<T: Counter> Counts<T> {
     }
 }
 
-
 /// Returns the exact sum of the counters.
 pub(crate) fn sum_of<T: Counter>(counters: &[T]) -> u128
     requires { length counters.now ≤ most_bins }

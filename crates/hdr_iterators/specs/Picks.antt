@@ -85,7 +85,7 @@ abbrev pub PicksAt : (Seen → Option ℕ → Type 0) → (Seen → List Pick) �
 PicksAt goes picks goes' picks' index total count picked =
     (h : Seen) (last : Option ℕ) → goes h last → IsAsked h last index total count → NoneBefore index (picks h)
     → MatchOption picked (goes' h last × (picks' h ≡ picks h) × NoneBefore (index + 1) (picks h))
-      (λ m. goes' h (Some index) × (picks h ≡ record { place = index; tick = m.tick; level = m.level } ∷ picks' h))
+    (λ m. goes' h (Some index) × (picks h ≡ record { place = index; tick = m.tick; level = m.level } ∷ picks' h))
 
 -- the item of a bin that was picked: `total` samples lie in bins up to it, `count` in it, and `since` in those after the last
 abbrev pub item_at : Seen → ℕ → Told → ℕ → ℕ → ℕ → Item

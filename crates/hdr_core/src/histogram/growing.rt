@@ -55,7 +55,7 @@ impl<T: Counter> Histogram<T> {
         if value <= self.reach() {
             return Ok(());
         }
-        if !self.auto_resize {
+        if !self.bounds.auto_resize {
             return Err(RecordError::ValueOutOfRangeResizeDisabled);
         }
         self.grow(high).map_err(|_| RecordError::OutOfMemory)
@@ -69,7 +69,7 @@ impl<T: Counter> Histogram<T> {
             (λ _. self.new ≡ self.old) }
     {
         self.counts.grow(self.scale.blocks(high))?;
-        self.high = high;
+        self.bounds.high = high;
         Ok(())
     }
 }

@@ -101,7 +101,7 @@ impl<T: Counter> Histogram<T> {
     {
         match self.bin_of(value) {
             Some(_) => value,
-            None => self.high,
+            None => self.bounds.high,
         }
     }
 

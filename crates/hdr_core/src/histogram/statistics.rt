@@ -32,7 +32,11 @@ impl<T: Counter> Histogram<T> {
         if from > to {
             return 0;
         }
-        let before = if from == 0 { 0 } else { self.counts.sum_to(from - 1) };
+        let before = if from == 0 {
+            0
+        } else {
+            self.counts.sum_to(from - 1)
+        };
         saturating_from(self.counts.sum_to(to) - before)
     }
 

@@ -1,7 +1,7 @@
 use Rattle.std.proofs.Common.{◌≡◌, ◌<◌, ◌≤◌, length, take, set, ap, ◌∙◌, ⊎_elim, arith}
 use Rattle.std.proofs.lemmas.Bool.{cases_lt}
 use Rattle.std.proofs.lemmas.List.{take_all}
-use Rattle.hdr_counts.specs.Blocks.{Blocks, capped_sums}
+use Rattle.hdr_counts.specs.Blocks.{capped_sums}
 use Rattle.hdr_counts.proofs.BlocksCapped.{capped-length, capped-write, capped-all}
 use Rattle.hdr_counts.proofs.Counts.add_one_by_one.Given as given
 use Rattle.hdr_counts.proofs.Counts.add_one_by_one.Goals as goal

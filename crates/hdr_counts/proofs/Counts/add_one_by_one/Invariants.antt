@@ -1,5 +1,5 @@
 use Rattle.std.proofs.Common.{◌≡◌, take}
-use Rattle.hdr_counts.specs.Blocks.{Blocks, capped_sums}
+use Rattle.hdr_counts.specs.Blocks.{capped_sums}
 use Rattle.hdr_counts.proofs.Counts.add_one_by_one.Given as goal
 
 abbrev pub invariant-loop-i : goal.invariant-loop-i

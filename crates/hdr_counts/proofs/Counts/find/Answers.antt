@@ -1,4 +1,4 @@
-use Rattle.std.proofs.Common.{◌≡◌, ◌+◌, ◌-◌, ◌*◌, ◌<◌, ◌≤◌, length, map, sum, take, drop, sym, ap, ◌∙◌, subst, arith}
+use Rattle.std.proofs.Common.{◌≡◌, ◌+◌, ◌-◌, ◌*◌, map, sum, take, drop, sym, ap, subst, arith}
 use Rattle.hdr_counts.specs.Blocks.{Blocks, sum_below, IsFirstToReach}
 use Rattle.hdr_counts.proofs.BlocksSums.{part_whole}
 use Rattle.hdr_counts.proofs.BlocksPlaces.{first-in-part}

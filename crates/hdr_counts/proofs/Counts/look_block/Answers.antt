@@ -1,5 +1,5 @@
 use Rattle.std.proofs.Common.{◌≡◌, ◌+◌, ◌-◌, ◌*◌, ◌/◌, ◌≤◌, length, map, sum, take, drop, ap, ◌∙◌, arith}
-use Rattle.hdr_counts.specs.Blocks.{Blocks, sum_below}
+use Rattle.hdr_counts.specs.Blocks.{sum_below}
 use Rattle.hdr_counts.proofs.BlocksSums.{part_whole}
 use Rattle.hdr_counts.proofs.BlocksBounds.{le_as}
 use Rattle.hdr_counts.proofs.BlocksSections.{AreParted-of}

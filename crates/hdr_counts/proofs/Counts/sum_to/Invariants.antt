@@ -1,4 +1,4 @@
-use Rattle.std.proofs.Common.{◌≡◌, ◌*◌}
+use Rattle.std.proofs.Common.{◌≡◌}
 use Rattle.hdr_counts.specs.Blocks.{sum_before}
 use Rattle.hdr_counts.proofs.Counts.sum_to.Given as goal
 

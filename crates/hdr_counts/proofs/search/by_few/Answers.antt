@@ -1,4 +1,4 @@
-use Rattle.std.proofs.Common.{◌≡◌, ◌+◌, ◌-◌, length, map, take, drop, ap, arith}
+use Rattle.std.proofs.Common.{◌≡◌, ◌+◌, ◌-◌, length, map, ap, arith}
 use Rattle.hdr_counts.proofs.BlocksSums.{part_whole, sum_below-le-sum, sum_below_all}
 use Rattle.hdr_counts.proofs.BlocksPlaces.{first-in-part}
 use Rattle.hdr_counts.specs.Blocks.{sum_below}

@@ -1,4 +1,4 @@
-use Rattle.std.proofs.Common.{◌≡◌, ◌∙◌, ◌≤◌, ap, sym, subst}
+use Rattle.std.proofs.Common.{◌∙◌, ◌≤◌, ap, sym, subst}
 use Rattle.hdr_base.specs.Classes.{Resolution, bin_of}
 use Rattle.hdr_model.specs.Plain.{Plain, resolution, reach}
 use Rattle.hdr_model.specs.Recording.{after_record, after_add_to_bin, with_bins_for}

@@ -1,4 +1,4 @@
-use Rattle.std.proofs.Common.{◌+◌, arith}
+use Rattle.std.proofs.Common.{arith}
 use Rattle.hdr_model.proofs.MarksWidened.{widened}
 use Rattle.hdr_core.proofs.marks.Marks.widen_to.Goals as goal
 

@@ -1,4 +1,4 @@
-use Rattle.std.proofs.Common.{◌≡◌, ◌+◌, ◌-◌, ◌*◌, ◌<◌, ◌≤◌, length}
+use Rattle.std.proofs.Common.{◌≡◌, ◌+◌, ◌-◌, ◌<◌, ◌≤◌, length}
 use Rattle.hdr_base.specs.Classes.{most_bins}
 use Rattle.hdr_counts.specs.Blocks.{sum_before}
 use Rattle.hdr_counts.proofs.search.Search.next_position.Given as goal
