@@ -181,11 +181,7 @@ impl<T: Counter> Counts<T> {
         ensures { result ≡ sum_below self.now.numbers (i + 1) }
     {
         let k = quotient(i, self.section, self.shift);
-        let mut total: u128 = 0;
-        for sum in &self.sums[..k] {
-            total += *sum;
-        }
-        total + self.sum_in_section(k, i)
+        sum_of_sums(&self.sums[..k]) + self.sum_in_section(k, i)
     }
 
     /// Returns the first index at which the running sum reaches `rank`, or `None` if there is none.

@@ -92,26 +92,13 @@ impl<'a, T: Counter, P: PickyIterator<T>> Model for HistogramIterator<'a, T, P> 
 }
 
 impl<'a, T: Counter, P: PickyIterator<T>> HistogramIterator<'a, T, P> {
-    /// Returns an iterator that calls the picker at each bin.
-    pub(crate) fn new(bins: Bins<'a, T>, picker: P) -> HistogramIterator<'a, T, P>
-        requires made { P.goes_with picker bins None }
-        requires within { AllBefore (bins_in bins) (P.picks picker bins) }
-        ensures { result ≡ items_of bins.entry (P.picks picker bins.entry) }
-    {
-        HistogramIterator::made(bins, picker, false)
-    }
-
-    /// Returns an iterator that calls the picker at the nonempty bins alone. The picker must pick no other.
-    pub(crate) fn of_filled(bins: Bins<'a, T>, picker: P) -> HistogramIterator<'a, T, P>
-        requires made { P.goes_with picker bins None }
-        requires within { AllBefore (bins_in bins) (P.picks picker bins) }
-        requires filled { AllFilled bins (P.picks picker bins) }
-        ensures { result ≡ items_of bins.entry (P.picks picker bins.entry) }
-    {
-        HistogramIterator::made(bins, picker, true)
-    }
-
-    fn made(bins: Bins<'a, T>, picker: P, skips_empty: bool) -> HistogramIterator<'a, T, P>
+    /// Returns an iterator that calls the picker at each bin, or at the nonempty ones alone if it
+    /// skips empty bins. The picker must then pick no other.
+    pub(crate) fn new(
+        bins: Bins<'a, T>,
+        picker: P,
+        skips_empty: bool,
+    ) -> HistogramIterator<'a, T, P>
         requires made { P.goes_with picker bins None }
         requires within { AllBefore (bins_in bins) (P.picks picker bins) }
         requires filled { IsTrue skips_empty → AllFilled bins (P.picks picker bins) }

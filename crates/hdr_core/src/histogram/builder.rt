@@ -72,8 +72,7 @@ impl<T: Counter> HistogramBuilder<T> {
             scale,
             bounds,
             counts,
-            total: _,
-            marks: _,
+            ..
         } = histogram;
         HistogramBuilder {
             scale,
