@@ -57,6 +57,8 @@ impl<T: Counter> Histogram<T> {
         ensures samples { OnOk result ((s t : State) → StandsAt self.old s → CallTo T.number
             (resolution self.old) call.now s t
             → Fits T.greatest (resolution self.old) t.samples → StandsAt self.new t) }
+
+        // What is unchanged, and when which error is returned.
         ensures same_bounds { (self.new.low ≡ self.old.low) × (self.new.sigfig ≡ self.old.sigfig)
             × (self.new.auto_resize ≡ self.old.auto_resize) }
         ensures accepted { OnOk result (IsAccepted self.old call.now) }
@@ -105,6 +107,8 @@ impl<T: Counter> Histogram<T> {
         ensures samples { (s t : State) → StandsAt self.old s
             → CallsTo T.number (resolution self.old) (Fits T.greatest (resolution self.old))
             (calls_applied result calls.now) s t → StandsAt self.new t }
+
+        // What is unchanged, and when which error is returned.
         ensures same_bounds { (self.new.low ≡ self.old.low) × (self.new.sigfig ≡ self.old.sigfig)
             × (self.new.auto_resize ≡ self.old.auto_resize) }
         ensures accepted { AreAccepted T.greatest T.number

@@ -81,6 +81,8 @@ fn add_sections<T: Counter, F: Counter>(
     requires sums { AreSums section (map T.number counters.old) sums.old }
     requires more { AreSums section (map F.number source.now) more.now }
     requires fit { All (λ n. n ≤ T.greatest) (map T.number counters.old) }
+
+    // The counters afterwards, and their sums.
     ensures numbers { map T.number counters.new ≡ capped_sums T.greatest (map T.number counters.old)
         (map F.number source.now) }
     ensures sums { AreSums section (map T.number counters.new) sums.new }
@@ -104,10 +106,14 @@ fn add_section<T: Counter, F: Counter>(
 ) -> u128
     requires len { length counters.old ≡ length source.now }
     requires at_most { length counters.old ≤ most_bins }
+
+    // The sums of both, which fit 128 bits together.
     requires sum { had ≡ sum (map T.number counters.old) }
     requires more { more ≡ sum (map F.number source.now) }
     requires fits { had + more < 2 ^ 128 }
     requires fit { All (λ n. n ≤ T.greatest) (map T.number counters.old) }
+
+    // The counters afterwards, and their sum.
     ensures numbers { map T.number counters.new ≡ capped_sums T.greatest (map T.number counters.old)
         (map F.number source.now) }
     ensures sum { result ≡ sum (map T.number counters.new) }

@@ -280,6 +280,8 @@ fn cover<T: Counter>(counters: &mut Vec<T>, end: usize, len: usize)
     requires at_most { len ≤ most_bins }
     requires within { length counters.old.items ≤ len }
     requires capacity { len ≤ vec_capacity counters.old }
+
+    // Zeros are appended, up to `end` and within `len`.
     ensures numbers { (more : ℕ) × (map T.number counters.new.items
         ≡ map T.number counters.old.items ++ replicate more 0) }
     ensures covered { end ≤ length counters.new.items }

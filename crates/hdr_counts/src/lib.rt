@@ -285,7 +285,7 @@ fn section_len(block: usize, len: usize) -> usize
     own_section(block)
 }
 
-/// Returns the length of the sections of a block that shares no section with others.
+/// Returns the length of the sections of a block that has sections of its own.
 #[tactic(auto, unfolding(crate::specs::Blocks::own_section))]
 fn own_section(block: usize) -> usize
     requires { 1 ≤ block }

@@ -185,6 +185,8 @@ fn next_asked<T: Counter>(bins: &Bins<'_, T>, skips_empty: bool, index: usize) -
     requires fits { index + 1 < 2 ^ 64 }
     ensures onward { index < result }
     ensures within { result ≤ bins_in bins.now }
+
+    // The bins between are empty, or the picker picks none of them.
     ensures empty { AreEmpty bins.now.numbers (index + 1) result }
     ensures unasked { (picks : List Pick) → (IsTrue skips_empty → AllFilled bins.now picks)
         → NoneBefore (index + 1) picks → NoneBefore result picks }

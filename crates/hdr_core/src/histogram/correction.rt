@@ -69,6 +69,8 @@ impl<T: Counter> Histogram<T> {
         requires { ticks.old ≤ 2 ^ 63 }
         ensures ok { OnOk result (self.new ≡ after_correct T.greatest self.old value
             (T.number count) interval) }
+
+        // One tick for each class that holds a missing value.
         ensures ticks { OnOk result (ticks.new ≡ ticks.old + bins_held self.new (missing value interval)) }
         ensures at_most_bins { OnOk result (ticks.new ≤ ticks.old + length self.new.counts) }
         ensures at_most { OnOk result (ticks.new ≤ ticks.old + most_bins) }
@@ -76,6 +78,8 @@ impl<T: Counter> Histogram<T> {
             (samples_of (each_times (T.number count) (value ∷ missing value interval)))) }
         ensures high { OnOk result (self.new.high ≡ high_with (resolution self.old) self.old.high value
             (reach_of (resolution self.old) value)) }
+
+        // When which error is returned.
         ensures accepted { OnOk result (IsRecordable self.old value) }
         ensures err { IfErr result (λ e. IsRecordError self.old value e × (self.new ≡ self.old)
             × (ticks.new ≡ ticks.old)) }
@@ -97,11 +101,15 @@ impl<T: Counter> Histogram<T> {
         requires step { 0 < interval }
         requires within { first ≤ reach self.old }
         requires ticks_fit { ticks.old ≤ 2 ^ 63 }
+
+        // The values are recorded, with one tick for each of their classes.
         ensures state { self.new ≡ after_records T.greatest self.old
             (each_times count (down_to first interval)) }
         ensures ticks { ticks.new ≡ ticks.old + bins_held self.old (down_to first interval) }
         ensures samples { GainsSamples T.greatest self.old self.new
             (samples_of (each_times count (down_to first interval))) }
+
+        // What is unchanged.
         ensures same_classes { resolution self.new ≡ resolution self.old }
         ensures same_bins { length self.new.counts ≡ length self.old.counts }
         ensures at_most { length self.new.counts ≤ most_bins }
@@ -131,6 +139,8 @@ impl<T: Counter> Histogram<T> {
         requires within { first ≤ reach self.old }
         requires ticks_fit { ticks.old + bins_held self.old
             (down_to first interval) < 2 ^ 64 }
+
+        // If the rest is recorded afterwards, all values are recorded, and all ticks counted.
         ensures less { result < first }
         ensures state { after_records T.greatest self.new
             (each_times count (down_to result interval)) ≡ after_records T.greatest self.old
@@ -139,6 +149,8 @@ impl<T: Counter> Histogram<T> {
             (down_to result interval)
             ≡ ticks.old + bins_held self.old
             (down_to first interval) }
+
+        // What is unchanged.
         ensures same_classes { resolution self.new ≡ resolution self.old }
         ensures same_bins { length self.new.counts ≡ length self.old.counts }
         ensures same_reach { reach self.new ≡ reach self.old }

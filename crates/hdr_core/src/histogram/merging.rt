@@ -26,10 +26,14 @@ impl<T: Counter> Histogram<T> {
         ensures samples { OnOk result ((L : List ℕ) → StandsFor source.now L → IsFiner
             (resolution source.now) (resolution self.old)
             → GainsSamples T.greatest self.old self.new L) }
+
+        // The classes stay the same, and the bins may grow.
         ensures same_classes { resolution self.new ≡ resolution self.old }
         ensures high { OnOk result (self.new.high
             ≡ (if source.now.total == 0 then self.old.high else high_with
             (resolution self.old) self.old.high (max_of source.now) (max_of source.now))) }
+
+        // When which error is returned.
         ensures accepted { OnOk result ((source.now.total ≡ 0) ⊎ IsRecordable self.old (max_of source.now)) }
         ensures err { IfErr result (λ e. IsAdditionError self.old source.now e
             × (self.new ≡ self.old)) }
@@ -44,10 +48,14 @@ impl<T: Counter> Histogram<T> {
         ensures samples { OnOk result ((L : List ℕ) → StandsFor source.now L → IsFiner
             (resolution source.now) (resolution self.old)
             → GainsSamples T.greatest self.old self.new L) }
+
+        // The classes stay the same, and the bins may grow.
         ensures same_classes { resolution self.new ≡ resolution self.old }
         ensures high { OnOk result (self.new.high
             ≡ (if source.now.total == 0 then self.old.high else high_with
             (resolution self.old) self.old.high (max_of source.now) (max_of source.now))) }
+
+        // When which error is returned.
         ensures accepted { OnOk result ((source.now.total ≡ 0) ⊎ IsRecordable self.old (max_of source.now)) }
         ensures err { IfErr result (λ e. IsAdditionError self.old source.now e
             × (self.new ≡ self.old)) }
@@ -175,6 +183,7 @@ impl<T: Counter> Histogram<T> {
     }
 
     /// Records a value that has a bin.
+    #[inline(always)]
     pub(super) fn record_inside(&mut self, value: u64, number: u64)
         requires { value ≤ reach self.old }
         ensures { self.new ≡ after_record T.greatest self.old value number }
