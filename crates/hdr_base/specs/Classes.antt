@@ -74,6 +74,10 @@ pub record HasScale (low sigfig : ℕ) : Type 0 where
   pub digits : sigfig ≤ 5
   pub fits : unit_of low + digits_of sigfig ≤ 63
 
+-- what is true of the resolution of every lowest value and number of digits that a scale can keep
+abbrev pub OfEachScale : (Resolution → Type 0) → Type 0
+OfEachScale P = (low sigfig : ℕ) → HasScale low sigfig → P (resolution_of low sigfig)
+
 -- the values of a class of f lie in one class of g, where f's unit is no greater and its digits are no fewer
 pub record IsFiner (f g : Resolution) : Type 0 where
   pub unit : f.unit ≤ g.unit

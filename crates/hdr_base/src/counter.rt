@@ -35,17 +35,27 @@ pub trait Counter: Copy + Ord {
 
     /// Returns the counter of the sum, saturating at the greatest number.
     fn saturating_add(self, other: Self) -> Self
-        ensures { number result ≡ min (number self + number other) greatest };
+        ensures { number result ≡ min (number self + number other) greatest }
+    {
+        let sum = self.as_u64().saturating_add(other.as_u64());
+        Self::from_u64(sum).unwrap_or(Self::max_value())
+    }
 
     /// Returns the counter of the sum, or `None` if the sum is above the greatest number.
     fn checked_add(self, other: Self) -> Option<Self>
         ensures { MatchOption result (greatest < number self + number other)
-            (λ c. number c ≡ number self + number other) };
+            (λ c. number c ≡ number self + number other) }
+    {
+        Self::from_u64(self.as_u64().checked_add(other.as_u64())?)
+    }
 
     /// Returns the counter of the difference, or `None` if `other` is greater.
     fn checked_sub(self, other: Self) -> Option<Self>
         ensures { MatchOption result (number self < number other)
-            (λ c. number c + number other ≡ number self) };
+            (λ c. number c + number other ≡ number self) }
+    {
+        Self::from_u64(self.as_u64().checked_sub(other.as_u64())?)
+    }
 
     /// Every number fits in 64 bits.
     ghost fits: { greatest < 2 ^ 64 };
@@ -94,18 +104,6 @@ impl Counter for u8 {
     fn from_u64(n: u64) -> Option<u8> {
         u8::try_from(n).ok()
     }
-
-    fn saturating_add(self, other: u8) -> u8 {
-        u8::saturating_add(self, other)
-    }
-
-    fn checked_add(self, other: u8) -> Option<u8> {
-        u8::checked_add(self, other)
-    }
-
-    fn checked_sub(self, other: u8) -> Option<u8> {
-        u8::checked_sub(self, other)
-    }
 }
 
 impl Counter for u16 {
@@ -141,18 +139,6 @@ impl Counter for u16 {
 
     fn from_u64(n: u64) -> Option<u16> {
         u16::try_from(n).ok()
-    }
-
-    fn saturating_add(self, other: u16) -> u16 {
-        u16::saturating_add(self, other)
-    }
-
-    fn checked_add(self, other: u16) -> Option<u16> {
-        u16::checked_add(self, other)
-    }
-
-    fn checked_sub(self, other: u16) -> Option<u16> {
-        u16::checked_sub(self, other)
     }
 }
 
@@ -190,18 +176,6 @@ impl Counter for u32 {
     fn from_u64(n: u64) -> Option<u32> {
         u32::try_from(n).ok()
     }
-
-    fn saturating_add(self, other: u32) -> u32 {
-        u32::saturating_add(self, other)
-    }
-
-    fn checked_add(self, other: u32) -> Option<u32> {
-        u32::checked_add(self, other)
-    }
-
-    fn checked_sub(self, other: u32) -> Option<u32> {
-        u32::checked_sub(self, other)
-    }
 }
 
 impl Counter for u64 {
@@ -238,16 +212,14 @@ impl Counter for u64 {
     fn from_u64(n: u64) -> Option<u64> {
         Some(n)
     }
+}
 
-    fn saturating_add(self, other: u64) -> u64 {
-        u64::saturating_add(self, other)
-    }
-
-    fn checked_add(self, other: u64) -> Option<u64> {
-        u64::checked_add(self, other)
-    }
-
-    fn checked_sub(self, other: u64) -> Option<u64> {
-        u64::checked_sub(self, other)
+/// Returns the counter of `number`, or `T::max_value()` if `number` is above it.
+pub fn saturating_from<T: Counter>(number: u128) -> T
+    ensures { T.number result ≡ min number T.greatest }
+{
+    match u64::try_from(number) {
+        Ok(number) => T::from_u64(number).unwrap_or(T::max_value()),
+        Err(_) => T::max_value(),
     }
 }

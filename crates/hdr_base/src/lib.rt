@@ -8,7 +8,7 @@ pub mod laws;
 pub mod scale;
 pub mod ticks;
 
-pub use counter::Counter;
+pub use counter::{Counter, saturating_from};
 pub use fraction::{Fraction, Quantile};
 pub use iteration_value::IterationValue;
 pub use scale::Scale;

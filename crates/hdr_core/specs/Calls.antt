@@ -1,6 +1,6 @@
 -- What calls do, by numbers and by samples. (Each case is the documentation of that call of the Rust crate; calls as values
 -- are our own.)
-use Rattle.std.specs.Prelude.{◌≡◌, ◌⊎◌, ℕ, ◌^◌, ◌<◌, List, [], ◌∷◌, ◌++◌, replicate, Result, Ok, Err}
+use Rattle.std.specs.Prelude.{◌≡◌, ◌⊎◌, ℕ, ◌^◌, ◌<◌, List, [], ◌∷◌, ◌++◌, replicate, length, take, Result, Ok, Err}
 use Rattle.hdr_base.specs.Classes.{Resolution, reach_of}
 use Rattle.hdr_model.specs.Plain.{Plain, IsPlain, max_of}
 use Rattle.hdr_model.specs.Recording.{after_record, clamp_to_bins, after_clear, after_reset, samples_of, clamp, high_with}
@@ -81,3 +81,11 @@ CallsTo number g fits = EachTo (CallTo number g) fits
 abbrev pub calls_done : Result (Unit {0}) RunError → ℕ → ℕ
 calls_done (Ok u) n = n
 calls_done (Err e) n = e.at
+
+-- the calls that were applied: all, or those before the first that failed
+abbrev pub calls_applied : {C : Type 0} → Result (Unit {0}) RunError → List C → List C
+calls_applied result calls = take (calls_done result (length calls)) calls
+
+-- what is true of every call of a histogram, and of every two states
+abbrev pub OfEachCall : {T : Type 0} → ℕ → (Plain → Call T → State → State → Type 0) → Type 0
+OfEachCall greatest P = (most : ℕ) (h : Plain) (call : Call _) (s t : State) → IsCallOf most call → IsPlain greatest h → P h call s t

@@ -4,7 +4,7 @@ ghost use Rattle.std.specs.Prelude.{◌≡◌, ◌<◌, OnOk, IfErr, length, tak
 ghost use Rattle.hdr_model.specs.Plain.{resolution};
 ghost use Rattle.hdr_model.specs.Samples.{Fits};
 ghost use Rattle.hdr_model.specs.Runs.{StandsAt, State};
-ghost use Rattle.hdr_core.specs.Calls.{after_call, after_calls, IsAccepted, AreAccepted, IsCallError, CallTo, CallsTo, calls_done};
+ghost use Rattle.hdr_core.specs.Calls.{after_call, after_calls, IsAccepted, AreAccepted, IsCallError, CallTo, CallsTo, calls_applied};
 
 use crate::histogram::Histogram;
 use hdr_base::Counter;
@@ -57,6 +57,8 @@ impl<T: Counter> Histogram<T> {
         ensures samples { OnOk result ((s t : State) → StandsAt self.old s → CallTo T.number
             (resolution self.old) call.now s t
             → Fits T.greatest (resolution self.old) t.samples → StandsAt self.new t) }
+
+        // What is unchanged, and when which error is returned.
         ensures same_bounds { (self.new.low ≡ self.old.low) × (self.new.sigfig ≡ self.old.sigfig)
             × (self.new.auto_resize ≡ self.old.auto_resize) }
         ensures accepted { OnOk result (IsAccepted self.old call.now) }
@@ -101,14 +103,16 @@ impl<T: Counter> Histogram<T> {
     /// call changes nothing, and the effects of those before it remain.
     pub fn apply_all(&mut self, calls: &[Call<'_, T>]) -> Result<(), RunError>
         ensures done { self.new ≡ after_calls T.greatest T.number
-            (take (calls_done result (length calls.now)) calls.now) self.old }
+            (calls_applied result calls.now) self.old }
         ensures samples { (s t : State) → StandsAt self.old s
             → CallsTo T.number (resolution self.old) (Fits T.greatest (resolution self.old))
-            (take (calls_done result (length calls.now)) calls.now) s t → StandsAt self.new t }
+            (calls_applied result calls.now) s t → StandsAt self.new t }
+
+        // What is unchanged, and when which error is returned.
         ensures same_bounds { (self.new.low ≡ self.old.low) × (self.new.sigfig ≡ self.old.sigfig)
             × (self.new.auto_resize ≡ self.old.auto_resize) }
         ensures accepted { AreAccepted T.greatest T.number
-            (take (calls_done result (length calls.now)) calls.now) self.old }
+            (calls_applied result calls.now) self.old }
         ensures err { IfErr result (λ e. IfSome (slice_get calls.now e.at)
             (λ call. IsCallError self.new call e.cause)) }
         ensures at { IfErr result (λ e. e.at < length calls.now) }

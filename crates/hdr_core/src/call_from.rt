@@ -4,7 +4,7 @@ ghost use Rattle.std.specs.Prelude.{◌≡◌, ◌<◌, OnOk, IfErr, length, tak
 ghost use Rattle.hdr_model.specs.Plain.{resolution};
 ghost use Rattle.hdr_model.specs.Samples.{Fits};
 ghost use Rattle.hdr_model.specs.Runs.{State, StandsAt};
-ghost use Rattle.hdr_core.specs.Calls.{calls_done};
+ghost use Rattle.hdr_core.specs.Calls.{calls_applied};
 ghost use Rattle.hdr_core.specs.CallsFrom.{after_call_from, after_calls_from, IsAcceptedFrom, AreAcceptedFrom, IsCallFromError, CallFromTo, CallsFromTo};
 
 use crate::call::{Call, CallError, RunError};
@@ -31,6 +31,8 @@ impl<T: Counter> Histogram<T> {
         ensures samples { OnOk result ((s t : State) → StandsAt self.old s → CallFromTo T.number
             (resolution self.old) call.now s t
             → Fits T.greatest (resolution self.old) t.samples → StandsAt self.new t) }
+
+        // What is unchanged, and when which error is returned.
         ensures same_bounds { (self.new.low ≡ self.old.low) × (self.new.sigfig ≡ self.old.sigfig)
             × (self.new.auto_resize ≡ self.old.auto_resize) }
         ensures accepted { OnOk result (IsAcceptedFrom self.old call.now) }
@@ -60,14 +62,16 @@ impl<T: Counter> Histogram<T> {
         calls: &[CallFrom<'_, T, F>],
     ) -> Result<(), RunError>
         ensures done { self.new ≡ after_calls_from T.greatest T.number
-            (take (calls_done result (length calls.now)) calls.now) self.old }
+            (calls_applied result calls.now) self.old }
         ensures samples { (s t : State) → StandsAt self.old s
             → CallsFromTo T.number (resolution self.old) (Fits T.greatest (resolution self.old))
-            (take (calls_done result (length calls.now)) calls.now) s t → StandsAt self.new t }
+            (calls_applied result calls.now) s t → StandsAt self.new t }
+
+        // What is unchanged, and when which error is returned.
         ensures same_bounds { (self.new.low ≡ self.old.low) × (self.new.sigfig ≡ self.old.sigfig)
             × (self.new.auto_resize ≡ self.old.auto_resize) }
         ensures accepted { AreAcceptedFrom T.greatest T.number
-            (take (calls_done result (length calls.now)) calls.now) self.old }
+            (calls_applied result calls.now) self.old }
         ensures err { IfErr result (λ e. IfSome (slice_get calls.now e.at)
             (λ call. IsCallFromError self.new call e.cause)) }
         ensures at { IfErr result (λ e. e.at < length calls.now) }

@@ -5,7 +5,9 @@ ghost use Rattle.hdr_base.specs.Classes.{most_bins, bin_of, bucket, resolution_o
 ghost use Rattle.hdr_model.specs.Plain.{IsPlain, resolution, reach, block_of, empty_plain, max_of, min_nz_of, min_of};
 ghost use Rattle.hdr_model.specs.Refusals.{IsCreationError, IsBounds, IsBeyondLow};
 ghost use Rattle.hdr_model.specs.Merging.{highest_top};
+ghost use Rattle.hdr_model.specs.declared.errors.CreationError.TheVariants.{OutOfMemory};
 
+mod bounds;
 mod builder;
 mod classes;
 mod copying;
@@ -22,6 +24,7 @@ mod subtracting;
 mod values;
 
 use crate::marks::Marks;
+use bounds::{Bounds, scale_for};
 pub use builder::HistogramBuilder;
 use hdr_base::{Counter, Scale};
 use hdr_counts::Counts;
@@ -37,10 +40,7 @@ pub use values::Values;
 #[derive(Debug, Drop)]
 pub struct Histogram<T: Counter> {
     scale: Scale,
-    low: u64,
-    high: u64,
-    sigfig: u8,
-    auto_resize: bool,
+    bounds: Bounds,
     counts: Counts<T>,
     total: u64,
     marks: Marks,
@@ -78,15 +78,23 @@ impl<T: Counter> Histogram<T> {
         ensures beyond { IfErr result (IsBeyondLow low) }
     {
         let scale = scale_for(low, high, sigfig)?;
-        let Ok(counts) = Counts::new(alloc, scale.blocks(high), scale.block()) else {
+        Histogram::empty(alloc, scale, Bounds::fixed(low, high, sigfig))
+    }
+
+    /// Returns an empty histogram of these bounds, whose scale is `scale`. Returns an error only if
+    /// an allocation fails.
+    fn empty(alloc: Global, scale: Scale, bounds: Bounds) -> Result<Histogram<T>, CreationError>
+        requires scale { scale ≡ resolution_of bounds.low bounds.sigfig }
+        requires bounds { IsBounds bounds.low bounds.high bounds.sigfig }
+        ensures { MatchResult result (λ h. h
+            ≡ empty_plain bounds.low bounds.high bounds.sigfig bounds.auto_resize) (λ e. e ≡ OutOfMemory) }
+    {
+        let Ok(counts) = Counts::new(alloc, scale.blocks(bounds.high), scale.block()) else {
             return Err(CreationError::OutOfMemory);
         };
         Ok(Histogram {
             scale,
-            low,
-            high,
-            sigfig,
-            auto_resize: false,
+            bounds,
             counts,
             total: 0,
             marks: Marks::none(),
@@ -112,7 +120,7 @@ impl<T: Counter> Histogram<T> {
         ensures beyond { IfErr result (IsBeyondLow 1) }
     {
         let mut histogram = Histogram::new_with_bounds(alloc, 1, 2, sigfig)?;
-        histogram.auto_resize = true;
+        histogram.bounds.auto_resize = true;
         Ok(histogram)
     }
 
@@ -120,7 +128,7 @@ impl<T: Counter> Histogram<T> {
     pub fn auto(&mut self, enabled: bool)
         ensures { self.new ≡ record self.old { auto_resize = enabled } }
     {
-        self.auto_resize = enabled;
+        self.bounds.auto_resize = enabled;
     }
 
     /// The number of bins, one for each class from 0 to the reach.
@@ -137,7 +145,7 @@ impl<T: Counter> Histogram<T> {
     pub fn low(&self) -> u64
         ensures { result ≡ self.now.low }
     {
-        self.low
+        self.bounds.low
     }
 
     /// The highest value that the bins were made for. If the bins grow, it becomes the reach of the
@@ -149,7 +157,7 @@ impl<T: Counter> Histogram<T> {
         ensures wide { self.now.low ≤ self.now.high }
         ensures bounds { IsBounds self.now.low self.now.high self.now.sigfig }
     {
-        self.high
+        self.bounds.high
     }
 
     /// The number of significant digits kept, 0 to 5.
@@ -157,7 +165,7 @@ impl<T: Counter> Histogram<T> {
         ensures value { result ≡ self.now.sigfig }
         ensures bound { self.now.sigfig ≤ 5 }
     {
-        self.sigfig
+        self.bounds.sigfig
     }
 
     /// The number of samples counted; it saturates at `u64::MAX`.
@@ -186,21 +194,21 @@ impl<T: Counter> Histogram<T> {
         ensures value { result ≡ bucket (resolution self.now) self.now.high + 1 }
         ensures bound { result ≤ 64 }
     {
-        self.scale.buckets(self.high) as u8
+        self.scale.buckets(self.bounds.high) as u8
     }
 
     /// Whether the bins grow to values past them.
     pub fn is_auto_resize(&self) -> bool
         ensures { result ≡ self.now.auto_resize }
     {
-        self.auto_resize
+        self.bounds.auto_resize
     }
 
     /// The greatest value that has a bin.
     fn reach(&self) -> u64
         ensures { result ≡ reach self.now }
     {
-        self.scale.reach(self.high)
+        self.scale.reach(self.bounds.high)
     }
 
     /// Returns the index of the bin of `value`, or `None` if `value` is past the bins.
@@ -237,11 +245,7 @@ impl<T: Counter> Histogram<T> {
             (λ c. (index < length self.now.counts)
             × (T.number c ≡ slice_index self.now.counts index)) }
     {
-        if index < self.counts.len() {
-            Some(self.counts.get(index))
-        } else {
-            None
-        }
+        self.counters().get(index).copied()
     }
 
     /// The counters of the bins in their order.
@@ -256,10 +260,7 @@ impl<T: Counter> Histogram<T> {
         requires { bin < length self.now.counts }
         ensures { result ≡ value_of (resolution self.now) bin }
     {
-        match self.scale.bin_value(bin) {
-            Some(value) => value,
-            None => 0,
-        }
+        self.scale.bin_value(bin).unwrap_or(0)
     }
 
     /// Returns the greatest value of the class of `bin`.
@@ -306,28 +307,4 @@ impl<T: Counter> Histogram<T> {
             self.min_nz()
         }
     }
-}
-
-/// Returns the scale of a histogram's bounds, or an error for the first bound that does not hold.
-fn scale_for(low: u64, high: u64, sigfig: u8) -> Result<Scale, CreationError>
-    ensures made { MatchResult result (λ s. (s ≡ resolution_of low sigfig) × IsBounds low high sigfig)
-        (IsCreationError low high sigfig) }
-    ensures beyond { IfErr result (IsBeyondLow low) }
-{
-    if low < 1 {
-        return Err(CreationError::LowIsZero);
-    }
-    if low > u64::MAX / 2 {
-        return Err(CreationError::LowExceedsMax);
-    }
-    if high < 2 * low {
-        return Err(CreationError::HighLessThanTwiceLow);
-    }
-    if sigfig > 5 {
-        return Err(CreationError::SigFigExceedsMax);
-    }
-    let Some(scale) = Scale::new(low, sigfig) else {
-        return Err(CreationError::CannotRepresentSigFigBeyondLow);
-    };
-    Ok(scale)
 }

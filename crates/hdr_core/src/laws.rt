@@ -5,7 +5,7 @@ ghost use Rattle.std.specs.Prelude.{◌≡◌, ℕ};
 ghost use Rattle.hdr_model.specs.Plain.{Plain, IsPlain, resolution};
 ghost use Rattle.hdr_model.specs.Samples.{Fits};
 ghost use Rattle.hdr_model.specs.Runs.{StandsAt, StandsWhereFits, State};
-ghost use Rattle.hdr_core.specs.Calls.{after_call, CallTo, IsCallOf};
+ghost use Rattle.hdr_core.specs.Calls.{after_call, CallTo, IsCallOf, OfEachCall};
 ghost use Rattle.hdr_core.specs.declared.call.Call.{Call};
 
 use hdr_base::Counter;
@@ -24,12 +24,10 @@ pub fn calls_stand<T: Counter>()
         → IsPlain T.greatest h → IsPlain T.greatest (after_call T.greatest T.number call h) }
     ensures classes { (most : ℕ) (h : Plain) (call : Call T) → IsCallOf most call
         → resolution (after_call T.greatest T.number call h) ≡ resolution h }
-    ensures samples { (most : ℕ) (h : Plain) (call : Call T) (s t : State) → IsCallOf most call
-        → IsPlain T.greatest h → StandsAt h s
-        → CallTo T.number (resolution h) call s t → Fits T.greatest (resolution h) t.samples
-        → StandsAt (after_call T.greatest T.number call h) t }
-    ensures wherever { (most : ℕ) (h : Plain) (call : Call T) (s t : State) → IsCallOf most call
-        → IsPlain T.greatest h → StandsWhereFits T.greatest h s
-        → CallTo T.number (resolution h) call s t
-        → StandsWhereFits T.greatest (after_call T.greatest T.number call h) t }
+    ensures samples { OfEachCall T.greatest (λ h c s t. StandsAt h s
+        → CallTo T.number (resolution h) c s t → Fits T.greatest (resolution h) t.samples
+        → StandsAt (after_call T.greatest T.number c h) t) }
+    ensures wherever { OfEachCall T.greatest (λ h c s t. StandsWhereFits T.greatest h s
+        → CallTo T.number (resolution h) c s t
+        → StandsWhereFits T.greatest (after_call T.greatest T.number c h) t) }
 {}

@@ -64,22 +64,14 @@ impl Marks {
     pub(crate) fn top(&self) -> Option<usize>
         ensures { result ≡ self.now.top }
     {
-        if self.classes == 0 {
-            None
-        } else {
-            Some(self.classes - 1)
-        }
+        self.classes.checked_sub(1)
     }
 
     /// The class of the lower mark.
     pub(crate) fn lower(&self) -> Option<usize>
         ensures { result ≡ self.now.lower }
     {
-        if self.before == usize::MAX {
-            None
-        } else {
-            Some(self.before + 1)
-        }
+        self.before.checked_add(1)
     }
 
     /// Widens both marks by a class, which seldom lies outside them. The first class widens no lower mark.
@@ -106,12 +98,8 @@ impl Marks {
           lower = earlier_mark self.old.lower class;
         } }
     {
-        if self.classes <= class {
-            self.classes = class + 1;
-        }
-        if class.wrapping_sub(1) < self.before {
-            self.before = class.wrapping_sub(1);
-        }
+        self.classes = self.classes.max(class + 1);
+        self.before = self.before.min(class.wrapping_sub(1));
     }
 
     /// Widens both marks by a class, if there is one.

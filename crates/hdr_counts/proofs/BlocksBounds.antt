@@ -1,11 +1,11 @@
 -- Where a block lies in a list, over plain variables: proofs of goals about bounds, in place of a
 -- search.
-use Rattle.std.proofs.Common.{◌≡◌, ℕ, ◌+◌, ◌-◌, ◌*◌, ◌^◌, ◌<◌, ◌≤◌, List, length, take, drop, map, min, max, replicate, sym, ap, ◌∙◌, arith}
+use Rattle.std.proofs.Common.{◌≡◌, ℕ, ◌+◌, ◌-◌, ◌*◌, ◌^◌, ◌<◌, ◌≤◌, List, length, take, drop, map, max, replicate, sym, ap, ◌∙◌, arith}
 use Rattle.std.proofs.lemmas.List.{length-map, length-take, length-drop}
 use Rattle.std.proofs.Math.Nat.{mul-le-mul_left}
 use Rattle.hdr_base.specs.Classes.{most_bins}
 use Rattle.hdr_counts.specs.Blocks.{AreSums}
-use Rattle.hdr_counts.proofs.BlocksSums.{block_past, blocks_more}
+use Rattle.hdr_counts.proofs.BlocksSums.{block_past}
 
 -- a bound of one list is that of another that is as long
 pub le_as : (k m n : ℕ) → k ≤ m → n ≡ m → k ≤ n

@@ -60,6 +60,14 @@ pub capped-next : (greatest : ℕ) (ms ns : List ℕ) (i : ℕ) → i < length m
     → set (capped_sums greatest ms (take i ns)) i (min (get_or (capped_sums greatest ms (take i ns)) i 0 + get_or ns i 0) greatest) ≡ capped_sums greatest ms (take (i + 1) ns)
 capped-next greatest ms ns i a b = rw add-one (sym (capped-more greatest ms ns i a b))
 
+-- numbers past the end of the first list count for nothing
+pub capped-all : (greatest : ℕ) (ms ns : List ℕ) (i : ℕ) → length ms ≤ i → capped_sums greatest ms (take i ns) ≡ capped_sums greatest ms ns
+capped-all greatest [] ns i le = refl
+capped-all greatest (m ∷ ms) [] zero le = refl
+capped-all greatest (m ∷ ms) [] (suc i) le = refl
+capped-all greatest (m ∷ ms) (n ∷ ns) zero le = absurd (omega arith)
+capped-all greatest (m ∷ ms) (n ∷ ns) (suc i) le = ap (λ xs. min (m + n) greatest ∷ xs) (capped-all greatest ms ns i (omega arith))
+
 -- a prefix of both lists, and what follows it
 capped-front : (greatest : ℕ) (b : ℕ) (ms ns : List ℕ) → capped_sums greatest (take b ms) (take b ns) ++ drop b ms ≡ capped_sums greatest ms (take b ns)
 capped-front greatest zero ms ns = sym (capped-none greatest ms)

@@ -34,8 +34,8 @@ module _ {X : Type 0} (f : X → ℕ) (xs l : List X) (ss : List ℕ) (b k i : �
   back-le = omega (arith, back-sum, sum_below-le (map f xs) (k * b) (i + 1) (omega (arith, from)))
 
 -- the same of blocks as they are seen, if the sum of a section was read
-module _ {X : Type 0} (f : X → ℕ) (v : Blocks) (xs l : List X) (ss : List ℕ) (b k i whole : ℕ) (b_is : b ≡ section_of v.block) (ns_is : map f xs ≡ v.numbers) (sums : AreSums b (map f xs) ss) (same : l ≡ xs) (read : whole ≡ get_or ss k whole)
-    (from : k * section_of v.block ≤ i) (before : i < (k + 1) * section_of v.block) (within : (k + 1) * section_of v.block ≤ length v.numbers) where
+module _ {X : Type 0} (f : X → ℕ) (v : Blocks) (xs l : List X) (ss : List ℕ) (b k i whole : ℕ) (b_is : b ≡ section_of v.block (length v.numbers)) (ns_is : map f xs ≡ v.numbers) (sums : AreSums b (map f xs) ss) (same : l ≡ xs) (read : whole ≡ get_or ss k whole)
+    (from : k * section_of v.block (length v.numbers) ≤ i) (before : i < (k + 1) * section_of v.block (length v.numbers)) (within : (k + 1) * section_of v.block (length v.numbers) ≤ length v.numbers) where
   its-from : k * b ≤ i
   its-from = rw b_is from
 
@@ -51,11 +51,11 @@ module _ {X : Type 0} (f : X → ℕ) (v : Blocks) (xs l : List X) (ss : List �
   pub front-within : sum (map f (take (i + 1 - k * b) (drop (k * b) l))) ≤ whole
   front-within = omega (arith, front-le f xs l ss b k i sums same its-from its-before its-within, read-is)
 
-  pub front-is : (part : ℕ) → part ≡ sum (map f (take (i + 1 - k * b) (drop (k * b) l))) → sum_below v.numbers (k * section_of v.block) + part ≡ sum_below v.numbers (i + 1)
-  front-is part is = rw (← ns_is, ← b_is) (omega (arith, front-sum f xs l ss b k i sums same its-from its-before its-within, is))
+  pub front-is : (part : ℕ) → part ≡ sum (map f (take (i + 1 - k * b) (drop (k * b) l))) → sum_below v.numbers (k * section_of v.block (length v.numbers)) + part ≡ sum_below v.numbers (i + 1)
+  front-is part is = rw (← b_is, ← ns_is) (omega (arith, front-sum f xs l ss b k i sums same its-from its-before its-within, is))
 
   pub back-within : sum (map f (take (k * b + b - (i + 1)) (drop (i + 1) l))) ≤ whole
   back-within = omega (arith, back-le f xs l ss b k i sums same its-from its-before its-within, read-is)
 
-  pub back-is : (part : ℕ) → part ≡ sum (map f (take (k * b + b - (i + 1)) (drop (i + 1) l))) → sum_below v.numbers (k * section_of v.block) + (whole - part) ≡ sum_below v.numbers (i + 1)
-  back-is part is = rw (← ns_is, ← b_is) (omega (arith, back-sum f xs l ss b k i sums same its-from its-before its-within, back-within, read-is, is))
+  pub back-is : (part : ℕ) → part ≡ sum (map f (take (k * b + b - (i + 1)) (drop (i + 1) l))) → sum_below v.numbers (k * section_of v.block (length v.numbers)) + (whole - part) ≡ sum_below v.numbers (i + 1)
+  back-is part is = rw (← b_is, ← ns_is) (omega (arith, back-sum f xs l ss b k i sums same its-from its-before its-within, back-within, read-is, is))

@@ -1,7 +1,7 @@
 -- A list of numbers in blocks of one length: its sums, the first index at which they reach a rank,
 -- and the capped sums of two lists. (No item of the Rust crate: it keeps its counters in one vector
 -- and adds them up whenever it needs a sum.)
-use Rattle.std.specs.Prelude.{◌≡◌, ℕ, ◌+◌, ◌-◌, ◌*◌, ◌/◌, ◌%◌, ◌^◌, ◌<◌, ◌≤◌, min, List, ◌∷◌, ◌++◌, length, replicate, take, sum, slice_index, All, Option, Some, None, IfSome, nat_le, ◌&&◌, ◌==◌, if◌then◌else◌}
+use Rattle.std.specs.Prelude.{◌≡◌, ℕ, ◌+◌, ◌-◌, ◌*◌, ◌/◌, ◌%◌, ◌^◌, ◌<◌, ◌≤◌, min, List, ◌∷◌, ◌++◌, length, replicate, take, sum, slice_index, slice_set, All, Option, Some, None, IfSome, nat_le, ◌&&◌, ◌==◌, nat_lt, if◌then◌else◌}
 use Rattle.hdr_base.specs.Classes.{most_bins}
 
 -- the length of a block, and all numbers in order
@@ -51,14 +51,30 @@ capped_sums greatest ms ns = ms
 unfoldable pub parted : ℕ → ℕ → ℕ → ℕ → ℕ
 parted block least section otherwise = if nat_le least block && block % section == 0 then section else otherwise
 
--- the length of a block's sections, of each of which a sum is kept: a long block has several
-unfoldable pub section_of : ℕ → ℕ
-section_of block = parted block 131072 4096 (parted block 16384 1024 (parted block 1024 256 block))
+-- the length of the sections of a block that has sections of its own: a long block has several
+unfoldable pub own_section : ℕ → ℕ
+own_section block = parted block 131072 4096 (parted block 16384 1024 (parted block 1024 256 block))
+
+-- the length of the sections of `len` numbers, of each of which a sum is kept: all short blocks together are one section
+unfoldable pub section_of : ℕ → ℕ → ℕ
+section_of block len = if nat_lt block 32 && nat_lt 0 len then len else own_section block
+
+-- the index of the first number of section k
+abbrev pub section_start : Blocks → ℕ → ℕ
+section_start b k = k * section_of b.block (length b.numbers)
+
+-- the sum of the numbers before section k
+abbrev pub sum_before : Blocks → ℕ → ℕ
+sum_before b k = sum_below b.numbers (section_start b k)
+
+-- section k is one of the sections
+abbrev pub HasSection : Blocks → ℕ → Type 0
+HasSection b k = section_start b (k + 1) ≤ length b.numbers
 
 -- blocks of one length, in sections, and the length of a list of complete blocks
 pub record AreSections (block section len : ℕ) : Type 0 where
   pub some : 1 ≤ block
-  pub section_is : section ≡ section_of block
+  pub section_is : section ≡ section_of block len
   pub whole : len % block ≡ 0
 
 -- the sums are those of the numbers' blocks: each one is what its block adds to the sum before it
@@ -84,6 +100,22 @@ pub record AreHeld (greatest block section : ℕ) (numbers sums : List ℕ) (shi
 -- numbers, zero-filled to a length
 abbrev pub with_zeros : List ℕ → ℕ → List ℕ
 with_zeros numbers len = numbers ++ replicate (len - length numbers) 0
+
+-- blocks of zeros
+abbrev pub zero_blocks : ℕ → ℕ → Blocks
+zero_blocks blocks block = record { block = block; numbers = replicate (blocks * block) 0 }
+
+-- the numbers, and zeros up to a number of blocks
+abbrev pub grown_to : Blocks → ℕ → Blocks
+grown_to b blocks = record { block = b.block; numbers = with_zeros b.numbers (blocks * b.block) }
+
+-- the same number of zeros
+abbrev pub cleared : Blocks → Blocks
+cleared b = record { block = b.block; numbers = replicate (length b.numbers) 0 }
+
+-- the numbers, with n at index i
+abbrev pub with_number : Blocks → ℕ → ℕ → Blocks
+with_number b i n = record { block = b.block; numbers = slice_set b.numbers i n }
 
 -- what is true of counters that are being set: the first are in the list, and the others are 0. The
 -- capacity is enough for all, and the sums are those of the blocks

@@ -4,7 +4,45 @@ ghost use Rattle.std.specs.Prelude.{◌≡◌, ℕ, ◌+◌, ◌-◌, ◌*◌, �
 ghost use Rattle.hdr_base.specs.Classes.{most_bins};
 ghost use Rattle.hdr_counts.specs.Blocks.{capped_sums, AreSums};
 
-use hdr_base::Counter;
+use crate::Counts;
+use hdr_base::{Counter, saturating_from};
+
+impl<T: Counter> Counts<T> {
+    /// Adds the counters of `source`, in blocks of the same length, element by element, as far as
+    /// both have them. Each counter saturates at `T::max_value()`. A section of `source` whose sum
+    /// is 0 is skipped.
+    pub fn add_capped<F: Counter>(&mut self, source: &Counts<F>)
+        requires { self.old.block ≡ source.now.block }
+        ensures { self.new ≡ record {
+          block = self.old.block;
+          numbers = capped_sums T.greatest self.old.numbers source.now.numbers;
+        } }
+    {
+        if self.section != source.section {
+            return self.add_one_by_one(source);
+        }
+        add_sections(
+            &mut self.counters,
+            &mut self.sums,
+            &source.counters,
+            &source.sums,
+            self.section,
+        );
+    }
+
+    /// As `add_capped`, for a source whose sections have another length.
+    fn add_one_by_one<F: Counter>(&mut self, source: &Counts<F>)
+        ensures { self.new ≡ record {
+          block = self.old.block;
+          numbers = capped_sums T.greatest self.old.numbers source.now.numbers;
+        } }
+    {
+        for i in 0..self.len().min(source.len()) {
+            let sum = u128::from(self.get(i).as_u64()) + u128::from(source.get(i).as_u64());
+            self.set(i, saturating_from(sum));
+        }
+    }
+}
 
 /// Returns the exact sum of the counters.
 pub(crate) fn sum_of<T: Counter>(counters: &[T]) -> u128
@@ -33,7 +71,7 @@ pub(crate) fn short_sum<T: Counter>(counters: &[T]) -> u64
 /// Adds the sections of `source` to those of `counters`, as far as both have them. Each counter
 /// saturates at `T::max_value()`. `sums` and `more` are the sums of their sections; `sums` is
 /// updated.
-pub(crate) fn add_sections<T: Counter, F: Counter>(
+fn add_sections<T: Counter, F: Counter>(
     counters: &mut [T],
     sums: &mut [u128],
     source: &[F],
@@ -43,6 +81,8 @@ pub(crate) fn add_sections<T: Counter, F: Counter>(
     requires sums { AreSums section (map T.number counters.old) sums.old }
     requires more { AreSums section (map F.number source.now) more.now }
     requires fit { All (λ n. n ≤ T.greatest) (map T.number counters.old) }
+
+    // The counters afterwards, and their sums.
     ensures numbers { map T.number counters.new ≡ capped_sums T.greatest (map T.number counters.old)
         (map F.number source.now) }
     ensures sums { AreSums section (map T.number counters.new) sums.new }
@@ -66,10 +106,14 @@ fn add_section<T: Counter, F: Counter>(
 ) -> u128
     requires len { length counters.old ≡ length source.now }
     requires at_most { length counters.old ≤ most_bins }
+
+    // The sums of both, which fit 128 bits together.
     requires sum { had ≡ sum (map T.number counters.old) }
     requires more { more ≡ sum (map F.number source.now) }
     requires fits { had + more < 2 ^ 128 }
     requires fit { All (λ n. n ≤ T.greatest) (map T.number counters.old) }
+
+    // The counters afterwards, and their sum.
     ensures numbers { map T.number counters.new ≡ capped_sums T.greatest (map T.number counters.old)
         (map F.number source.now) }
     ensures sum { result ≡ sum (map T.number counters.new) }
@@ -94,7 +138,8 @@ fn add_plain<T: Counter, F: Counter>(counters: &mut [T], source: &[F])
         (map F.number source.now) }
 {
     for i in 0..counters.len() {
-        counters[i] = capped(counters[i].as_u64() + source[i].as_u64());
+        let sum = counters[i].as_u64() + source[i].as_u64();
+        counters[i] = saturating_from(u128::from(sum));
     }
 }
 
@@ -105,13 +150,7 @@ fn add_each<T: Counter, F: Counter>(counters: &mut [T], source: &[F])
         (map F.number source.now) }
 {
     for i in 0..counters.len() {
-        counters[i] = capped(counters[i].as_u64().saturating_add(source[i].as_u64()));
+        let sum = u128::from(counters[i].as_u64()) + u128::from(source[i].as_u64());
+        counters[i] = saturating_from(sum);
     }
-}
-
-/// Returns the counter of `number`, or `T::max_value()` if `number` is above it.
-fn capped<T: Counter>(number: u64) -> T
-    ensures { T.number result ≡ min number T.greatest }
-{
-    T::from_u64(number).unwrap_or(T::max_value())
 }

@@ -2,10 +2,10 @@
 
 ghost use Rattle.std.specs.Prelude.{◌≡◌, ℕ, ◌+◌, ◌*◌, ◌<◌, ◌≤◌, ◌++◌, length, map, replicate, slice_index, slice_set, vec_capacity, All, IfOk, IfSome, MatchOption, true, false};
 ghost use Rattle.hdr_base.specs.Classes.{most_bins};
-ghost use Rattle.hdr_counts.specs.Blocks.{with_zeros};
+ghost use Rattle.hdr_counts.specs.Blocks.{with_zeros, zero_blocks, cleared, with_number};
 
 use crate::ends::{first_nonzero, last_of};
-use crate::{Counts, exchanged, exponent, quotient, section_len, sections_in};
+use crate::{Counts, exchanged, exponent, quotient, section_len};
 use hdr_base::Counter;
 use std::alloc::{AllocError, Global};
 use std::marker::Model;
@@ -60,12 +60,11 @@ impl<T: Counter> CountsBuilder<T> {
     pub fn new(alloc: Global, blocks: usize, block: usize) -> Result<CountsBuilder<T>, AllocError>
         requires nonzero { 1 ≤ block }
         requires at_most { blocks * block ≤ most_bins }
-        ensures { IfOk result (λ c. c
-            ≡ record { block = block; numbers = replicate (blocks * block) 0 }) }
+        ensures { IfOk result (λ c. c ≡ zero_blocks blocks block) }
     {
         let len = blocks * block;
-        let section = section_len(block);
-        let sections = sections_in(blocks, block, section);
+        let section = section_len(block, len);
+        let sections = len / section;
         let mut sums = Vec::with_capacity(alloc, sections)?;
         sums.resize(sections, 0)?;
         Ok(CountsBuilder {
@@ -85,10 +84,7 @@ impl<T: Counter> CountsBuilder<T> {
 
     /// Returns the counters of `counts`, each set to 0. A section whose sum is 0 is skipped.
     pub fn cleared(mut counts: Counts<T>) -> CountsBuilder<T>
-        ensures { result ≡ record {
-          block = counts.block;
-          numbers = replicate (length counts.numbers) 0;
-        } }
+        ensures { result ≡ cleared counts }
     {
         counts.clear();
         let Counts {
@@ -127,11 +123,7 @@ impl<T: Counter> CountsBuilder<T> {
     #[inline(always)]
     pub fn set(&mut self, i: usize, value: T)
         requires { i < length self.old.numbers }
-        ensures { self.new ≡ record {
-          block = self.old.block;
-          numbers = slice_set self.old.numbers i
-              (T.number value);
-        } }
+        ensures { self.new ≡ with_number self.old i (T.number value) }
     {
         if i >= self.next && i < self.end {
             self.sum += u128::from(value.as_u64());
@@ -148,11 +140,8 @@ impl<T: Counter> CountsBuilder<T> {
     #[inline(always)]
     pub fn set_pair(&mut self, i: usize, first: T, second: T) -> bool
         ensures set { result ≡ true → (i + 1 < length self.old.numbers)
-            × (self.new ≡ record {
-              block = self.old.block;
-              numbers = slice_set
-                  (slice_set self.old.numbers i (T.number first)) (i + 1) (T.number second);
-            }) }
+            × (self.new ≡ with_number (with_number self.old i (T.number first)) (i + 1)
+            (T.number second)) }
         ensures unchanged { result ≡ false → self.new ≡ self.old }
         ensures at_most { length self.old.numbers ≤ most_bins }
     {
@@ -171,11 +160,7 @@ impl<T: Counter> CountsBuilder<T> {
     #[inline(never)]
     fn set_further(&mut self, i: usize, value: T)
         requires { i < length self.old.numbers }
-        ensures { self.new ≡ record {
-          block = self.old.block;
-          numbers = slice_set self.old.numbers i
-              (T.number value);
-        } }
+        ensures { self.new ≡ with_number self.old i (T.number value) }
     {
         let k = quotient(i, self.section, self.shift);
         let end = (k + 1) * self.section;
@@ -267,10 +252,7 @@ fn keep_sum(sums: &mut Vec<u128>, k: usize, sum: u128)
 fn sum_at(sums: &[u128], k: usize) -> u128
     ensures { result ≡ slice_index sums.now k }
 {
-    if k < sums.len() {
-        return sums[k];
-    }
-    0
+    if k < sums.len() { sums[k] } else { 0 }
 }
 
 /// Returns the lower of `first` and `i`, or `first` if `i` is 0.
@@ -280,10 +262,7 @@ fn lower(first: usize, i: usize) -> usize
     ensures within { result ≤ first }
     ensures own { 0 < i → result ≤ i }
 {
-    if i == 0 {
-        return first;
-    }
-    first.min(i)
+    if i == 0 { first } else { first.min(i) }
 }
 
 /// Returns `end`, up to which the fast path is open after index `i` was set, or 0 if `i` is 0.
@@ -291,10 +270,7 @@ fn end_after(i: usize, end: usize) -> usize
     ensures within { result ≤ end }
     ensures nonzero { 0 < result → 0 < i }
 {
-    if i == 0 {
-        return 0;
-    }
-    end
+    if i == 0 { 0 } else { end }
 }
 
 /// Zero-fills `counters` up to index `end`, and up to `PIECE` further, within `len`. Does nothing
@@ -304,6 +280,8 @@ fn cover<T: Counter>(counters: &mut Vec<T>, end: usize, len: usize)
     requires at_most { len ≤ most_bins }
     requires within { length counters.old.items ≤ len }
     requires capacity { len ≤ vec_capacity counters.old }
+
+    // Zeros are appended, up to `end` and within `len`.
     ensures numbers { (more : ℕ) × (map T.number counters.new.items
         ≡ map T.number counters.old.items ++ replicate more 0) }
     ensures covered { end ≤ length counters.new.items }

@@ -10,21 +10,21 @@ mod sections;
 
 ghost use Rattle.std.specs.Prelude.{◌≡◌, ℕ, ◌+◌, ◌-◌, ◌*◌, ◌/◌, ◌%◌, ◌^◌, ◌<◌, ◌≤◌, length, take, map, sum, replicate, slice_index, slice_set, MatchOption, MatchResult, IfOk, IfSome, [], ◌++◌, All};
 ghost use Rattle.hdr_base.specs.Classes.{most_bins};
-ghost use Rattle.hdr_counts.specs.Blocks.{Blocks, sum_below, IsFirstToReach, looks, capped_sums, parted, section_of, IsShift};
+ghost use Rattle.hdr_counts.specs.Blocks.{Blocks, sum_below, IsFirstToReach, looks, capped_sums, parted, own_section, section_of, section_start, sum_before, HasSection, IsShift, zero_blocks, grown_to, cleared, with_number};
 
-use adding::add_sections;
+use adding::sum_of;
 use clearing::clear_sections;
 pub use counts_builder::CountsBuilder;
 use hdr_base::{Counter, Ticks};
 pub use search::Search;
-use search::{look_block, position_of_rank, position_of_rank_counted};
+use search::{position_of_rank, position_of_rank_counted, sum_of_sums};
 use std::alloc::{AllocError, Global};
 use std::marker::Model;
 
 /// Counters in blocks of one length, seen as that length and the list of their numbers.
 ///
-/// The sum of each section is kept. A short block is one section, and a long one has several of one
-/// length. Each counter takes the memory of a `T`, and each section 16 bytes. There are at most
+/// The sum of each section is kept. Blocks below 32 counters are one section together, and a long
+/// block has several of one length. Each counter takes the memory of a `T`, and each section 16 bytes. There are at most
 /// 6,291,456 counters, as many as the largest histogram has bins.
 #[derive(Debug, Drop)]
 pub struct Counts<T: Counter> {
@@ -53,12 +53,11 @@ impl<T: Counter> Counts<T> {
     pub fn new(alloc: Global, blocks: usize, block: usize) -> Result<Counts<T>, AllocError>
         requires nonzero { 1 ≤ block }
         requires at_most { blocks * block ≤ most_bins }
-        ensures { IfOk result (λ c. c
-            ≡ record { block = block; numbers = replicate (blocks * block) 0 }) }
+        ensures { IfOk result (λ c. c ≡ zero_blocks blocks block) }
     {
         let len = blocks * block;
-        let section = section_len(block);
-        let sections = sections_in(blocks, block, section);
+        let section = section_len(block, len);
+        let sections = len / section;
         let mut counters = Vec::with_capacity(alloc, len)?;
         counters.resize(len, T::zero())?;
         let mut sums = Vec::with_capacity(alloc, sections)?;
@@ -77,17 +76,15 @@ impl<T: Counter> Counts<T> {
     pub fn grow(&mut self, blocks: usize) -> Result<(), AllocError>
         requires more { length self.old.numbers ≤ blocks * self.old.block }
         requires at_most { blocks * self.old.block ≤ most_bins }
-        ensures { MatchResult result (λ _. self.new
-            ≡ record {
-              block = self.old.block;
-              numbers = self.old.numbers ++ replicate
-                  (blocks * self.old.block - length self.old.numbers) 0;
-            }) (λ _. self.new ≡ self.old) }
+        ensures { MatchResult result (λ _. self.new ≡ grown_to self.old blocks)
+            (λ _. self.new ≡ self.old) }
     {
         let len = blocks * self.block;
         self.counters.reserve(len - self.counters.len())?;
-        let sections = sections_in(blocks, self.block, self.section);
-        self.sums.resize(sections, 0)?;
+        let section = section_len(self.block, len);
+        self.sums.resize(len / section, 0)?;
+        self.section = section;
+        self.shift = exponent(section);
         self.counters.resize(len, T::zero())
     }
 
@@ -145,11 +142,7 @@ impl<T: Counter> Counts<T> {
     /// Sets the counter at index `i` to `value`.
     pub fn set(&mut self, i: usize, value: T)
         requires { i < length self.old.numbers }
-        ensures { self.new ≡ record {
-          block = self.old.block;
-          numbers = slice_set self.old.numbers i
-              (T.number value);
-        } }
+        ensures { self.new ≡ with_number self.old i (T.number value) }
     {
         let k = quotient(i, self.section, self.shift);
         let old = self.counters[i].as_u64();
@@ -162,14 +155,9 @@ impl<T: Counter> Counts<T> {
     /// `T::max_value()`; `self` is then unchanged.
     pub fn try_add(&mut self, i: usize, number: u64) -> Option<()>
         requires { i < length self.old.numbers }
-        ensures { MatchOption result ((T.greatest < slice_index self.old.numbers i + number)
-            × (self.new ≡ self.old))
-            (λ _. (slice_index self.old.numbers i + number ≤ T.greatest)
-            × (self.new ≡ record {
-              block = self.old.block;
-              numbers = slice_set self.old.numbers i
-                  (slice_index self.old.numbers i + number);
-            })) }
+        ensures { let sum = slice_index self.old.numbers i + number in
+            MatchOption result ((T.greatest < sum) × (self.new ≡ self.old))
+            (λ _. (sum ≤ T.greatest) × (self.new ≡ with_number self.old i sum)) }
     {
         let sum = self.counters[i].as_u64().checked_add(number)?;
         let counter = T::from_u64(sum)?;
@@ -181,11 +169,7 @@ impl<T: Counter> Counts<T> {
 
     /// Sets each counter to 0. A section whose sum is 0 is skipped.
     pub fn clear(&mut self)
-        ensures { self.new ≡ record {
-          block = self.old.block;
-          numbers = replicate
-              (length self.old.numbers) 0;
-        } }
+        ensures { self.new ≡ cleared self.old }
     {
         clear_sections(&mut self.counters, &mut self.sums, self.section);
     }
@@ -197,17 +181,14 @@ impl<T: Counter> Counts<T> {
         ensures { result ≡ sum_below self.now.numbers (i + 1) }
     {
         let k = quotient(i, self.section, self.shift);
-        let mut total: u128 = 0;
-        for sum in &self.sums[..k] {
-            total += *sum;
-        }
-        total + self.sum_in_section(k, i)
+        sum_of_sums(&self.sums[..k]) + self.sum_in_section(k, i)
     }
 
     /// Returns the first index at which the running sum reaches `rank`, or `None` if there is none.
     /// `ticks` grows by one for each block's sum that is read, up to that of the index's block. It
     /// then grows by one for each counter of that block up to the index. For `None`, each block's
-    /// sum was read. A block's sum is added up from those of its sections, and costs one tick.
+    /// sum was read. A block's sum is added up from those of its sections, or from the counters of
+    /// a short block, and costs one tick.
     pub fn find(&self, rank: u64, ticks: &mut Ticks) -> Option<usize>
         requires nonzero { 1 ≤ rank }
         requires ticks_fit { ticks.old ≤ 2 ^ 63 }
@@ -216,11 +197,9 @@ impl<T: Counter> Counts<T> {
         ensures ticks { ticks.new ≡ ticks.old + looks self.now.block (length self.now.numbers)
             result }
     {
-        let sections = self.block / self.section;
         let mut rest = rank;
-        for k in 0..self.sums.len() / sections {
-            let from = k * sections;
-            let sum = look_block(&self.sums[from..from + sections], ticks);
+        for k in 0..self.counters.len() / self.block {
+            let sum = self.look_block(k, ticks);
             if sum >= u128::from(rest) {
                 let from = k * self.block;
                 let counters = &self.counters[from..from + self.block];
@@ -230,6 +209,24 @@ impl<T: Counter> Counts<T> {
             rest -= sum as u64;
         }
         None
+    }
+
+    /// Returns the sum of block `k`, and counts one tick.
+    fn look_block(&self, k: usize, ticks: &mut Ticks) -> u128
+        requires within { (k + 1) * self.now.block ≤ length self.now.numbers }
+        requires ticks_fit { ticks.old < 2 ^ 64 - 1 }
+        ensures value { sum_below self.now.numbers (k * self.now.block) + result
+            ≡ sum_below self.now.numbers ((k + 1) * self.now.block) }
+        ensures counted { ticks.new ≡ ticks.old + 1 }
+    {
+        ticks.tick();
+        if self.section > self.block {
+            let from = k * self.block;
+            return sum_of(&self.counters[from..from + self.block]);
+        }
+        let sections = self.block / self.section;
+        let from = k * sections;
+        sum_of_sums(&self.sums[from..from + sections])
     }
 
     /// As `find`, without ticks: returns the first index at which the running sum reaches `rank`.
@@ -243,9 +240,8 @@ impl<T: Counter> Counts<T> {
 
     /// Returns the sum of section `k`, or `None` past the sections.
     fn section_sum(&self, k: usize) -> Option<u128>
-        ensures sum { MatchOption result (length self.now.numbers ≤ k * section_of self.now.block)
-            (λ s. (sum_below self.now.numbers (k * section_of self.now.block) + s ≡ sum_below self.now.numbers
-            ((k + 1) * section_of self.now.block)) × ((k + 1) * section_of self.now.block ≤ length self.now.numbers)) }
+        ensures sum { MatchOption result (length self.now.numbers ≤ section_start self.now k)
+            (λ s. (sum_before self.now k + s ≡ sum_before self.now (k + 1)) × HasSection self.now k) }
         ensures inside { IfSome result (λ _. k < length self.now.numbers) }
         ensures at_most { length self.now.numbers ≤ most_bins }
     {
@@ -260,11 +256,9 @@ impl<T: Counter> Counts<T> {
     /// section `k`. It lies in that section.
     fn first_in_section(&self, k: usize, rest: u64) -> usize
         requires nonzero { 1 ≤ rest }
-        requires within { (k + 1) * section_of self.now.block ≤ length self.now.numbers }
-        requires reached { sum_below self.now.numbers (k * section_of self.now.block) + rest
-            ≤ sum_below self.now.numbers ((k + 1) * section_of self.now.block) }
-        ensures { IsFirstToReach self.now.numbers
-            (sum_below self.now.numbers (k * section_of self.now.block) + rest) result }
+        requires within { HasSection self.now k }
+        requires reached { sum_before self.now k + rest ≤ sum_before self.now (k + 1) }
+        ensures { IsFirstToReach self.now.numbers (sum_before self.now k + rest) result }
     {
         let from = k * self.section;
         match position_of_rank(
@@ -276,32 +270,26 @@ impl<T: Counter> Counts<T> {
             None => from,
         }
     }
-
-    /// Adds the counters of `source`, in blocks of the same length, element by element, as far as
-    /// both have them. Each counter saturates at `T::max_value()`. A section of `source` whose sum
-    /// is 0 is skipped.
-    pub fn add_capped<F: Counter>(&mut self, source: &Counts<F>)
-        requires { self.old.block ≡ source.now.block }
-        ensures { self.new ≡ record {
-          block = self.old.block;
-          numbers = capped_sums T.greatest self.old.numbers source.now.numbers;
-        } }
-    {
-        add_sections(
-            &mut self.counters,
-            &mut self.sums,
-            &source.counters,
-            &source.sums,
-            self.section,
-        );
-    }
 }
 
-/// Returns the length of a block's sections.
+/// Returns the length of the sections of `len` counters in blocks.
 #[tactic(auto, unfolding(crate::specs::Blocks::section_of))]
-fn section_len(block: usize) -> usize
+fn section_len(block: usize, len: usize) -> usize
     requires { 1 ≤ block }
-    ensures value { result ≡ section_of block }
+    ensures value { result ≡ section_of block len }
+    ensures nonzero { 1 ≤ result }
+{
+    if block < 32 && len > 0 {
+        return len;
+    }
+    own_section(block)
+}
+
+/// Returns the length of the sections of a block that has sections of its own.
+#[tactic(auto, unfolding(crate::specs::Blocks::own_section))]
+fn own_section(block: usize) -> usize
+    requires { 1 ≤ block }
+    ensures value { result ≡ own_section block }
     ensures nonzero { 1 ≤ result }
 {
     let short = part_len(block, 1024, 256, block);
@@ -320,16 +308,6 @@ fn part_len(block: usize, least: usize, section: usize, otherwise: usize) -> usi
     } else {
         otherwise
     }
-}
-
-/// Returns the number of sections of `blocks` blocks.
-fn sections_in(blocks: usize, block: usize, section: usize) -> usize
-    requires nonzero { 1 ≤ block }
-    requires section { section ≡ section_of block }
-    requires at_most { blocks * block ≤ most_bins }
-    ensures { result * section ≡ blocks * block }
-{
-    blocks * (block / section)
 }
 
 /// Returns the exponent of a power of two, or `None` for any other number.
@@ -366,6 +344,7 @@ fn quotient(place: usize, section: usize, shift: Option<u32>) -> usize
 {
     match shift {
         Some(shift) => place >> shift,
+        None if place < section => 0,
         None => divided(place, section),
     }
 }

@@ -21,14 +21,14 @@ pub struct Search<'a, T: Counter> {
 
 impl<'a, T: Counter> Model for Search<'a, T> {
     ghost use Rattle.std.specs.Prelude.{◌≡◌, ◌*◌, ◌≤◌};
-    ghost use Rattle.hdr_counts.specs.Blocks.{Searched, section_of, sum_below};
+    ghost use Rattle.hdr_counts.specs.Blocks.{Searched, sum_before};
     ghost use Rattle.hdr_base.specs.Classes.{most_bins};
 
     ghost Value = { Searched };
 
     ghost view = { λ s. record { numbers = s.counts.now.numbers; passed = s.before } };
 
-    ghost invariant = { λ s. (s.before ≡ sum_below s.counts.now.numbers (s.section * section_of s.counts.now.block)) × (s.section ≤ most_bins) };
+    ghost invariant = { λ s. (s.before ≡ sum_before s.counts.now s.section) × (s.section ≤ most_bins) };
 }
 
 impl<'a, T: Counter> Search<'a, T> {
@@ -73,29 +73,8 @@ impl<'a, T: Counter> Search<'a, T> {
 /// The number of counters that are added up at once.
 const FEW: usize = 64;
 
-/// Returns the sum of a block, which is that of the sums of its sections, and counts one tick.
-pub(crate) fn look_block(sums: &[u128], ticks: &mut Ticks) -> u128
-    requires fits { sum sums.now < 2 ^ 128 }
-    requires ticks_fit { ticks.old < 2 ^ 64 - 1 }
-    ensures value { result ≡ sum sums.now }
-    ensures counted { ticks.new ≡ ticks.old + 1 }
-{
-    ticks.tick();
-    sum_of_sums(sums)
-}
-
-/// Returns the number of a counter, and counts one tick.
-fn look_counter<T: Counter>(counter: &T, ticks: &mut Ticks) -> u64
-    requires { ticks.old < 2 ^ 64 - 1 }
-    ensures value { result ≡ T.number counter.now }
-    ensures counted { ticks.new ≡ ticks.old + 1 }
-{
-    ticks.tick();
-    counter.as_u64()
-}
-
 /// Returns the sum of the sums of several sections.
-fn sum_of_sums(sums: &[u128]) -> u128
+pub(crate) fn sum_of_sums(sums: &[u128]) -> u128
     requires { sum sums.now < 2 ^ 128 }
     ensures { result ≡ sum sums.now }
 {
@@ -121,7 +100,8 @@ pub(crate) fn position_of_rank_counted<T: Counter>(
         (λ i. ticks.new ≡ ticks.old + i + 1) }
 {
     for (i, counter) in counters.iter().enumerate() {
-        let number = look_counter(counter, ticks);
+        ticks.tick();
+        let number = counter.as_u64();
         if number >= rest {
             return Some(i);
         }
@@ -154,18 +134,16 @@ fn by_few<T: Counter>(counters: &[T], mut rest: u64) -> Option<usize>
         (IsFirstToReach (map T.number counters.now) rest) }
 {
     let mut from = 0usize;
-    while from < counters.len() {
-        let to = counters.len().min(from + FEW);
-        let few = &counters[from..to];
-        let sum = short_sum(few);
+    while counters.len() - from > FEW {
+        let sum = short_sum(&counters[from..from + FEW]);
         if sum >= rest {
-            let place = one_by_one(few, rest)?;
-            return Some(from + place);
+            break;
         }
         rest -= sum;
-        from = to;
+        from += FEW;
     }
-    None
+    let place = one_by_one(&counters[from..], rest)?;
+    Some(from + place)
 }
 
 fn one_by_one<T: Counter>(counters: &[T], mut rest: u64) -> Option<usize>

@@ -2,7 +2,7 @@
 
 ghost use Rattle.std.specs.Prelude.{◌≡◌, ◌+◌, ◌*◌, ◌<◌, ◌≤◌, length, map, sum};
 ghost use Rattle.hdr_base.specs.Classes.{most_bins};
-ghost use Rattle.hdr_counts.specs.Blocks.{section_of, sum_below};
+ghost use Rattle.hdr_counts.specs.Blocks.{section_start, sum_below, sum_before, HasSection};
 
 use crate::Counts;
 use crate::adding::{short_sum, sum_of};
@@ -12,11 +12,10 @@ impl<T: Counter> Counts<T> {
     /// Returns the exact sum of the counters of section `k` up to and including index `i`. It reads
     /// those at the nearer end of the section.
     pub(crate) fn sum_in_section(&self, k: usize, i: usize) -> u128
-        requires from { k * section_of self.now.block ≤ i }
-        requires before { i < (k + 1) * section_of self.now.block }
-        requires within { (k + 1) * section_of self.now.block ≤ length self.now.numbers }
-        ensures { sum_below self.now.numbers (k * section_of self.now.block) + result
-            ≡ sum_below self.now.numbers (i + 1) }
+        requires from { section_start self.now k ≤ i }
+        requires before { i < section_start self.now (k + 1) }
+        requires within { HasSection self.now k }
+        ensures { sum_before self.now k + result ≡ sum_below self.now.numbers (i + 1) }
     {
         let whole = self.sums[k];
         let from = k * self.section;

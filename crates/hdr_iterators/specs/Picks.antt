@@ -1,6 +1,6 @@
 -- What an iterator over a histogram yields: picks of bins, and the items that are made of them. (`PickMetadata` and
 -- `IterationValue`. The Rust crate's `HistogramIterator` yields them step by step; here they are lists.)
-use Rattle.std.specs.Prelude.{◌≡◌, ℕ, ◌+◌, ◌-◌, ◌<◌, ◌≤◌, List, [], ◌∷◌, slice_index, Option, Some, None, unwrap_or}
+use Rattle.std.specs.Prelude.{◌≡◌, ℕ, ◌+◌, ◌-◌, ◌<◌, ◌≤◌, List, [], ◌∷◌, slice_index, Option, Some, None, MatchOption, unwrap_or}
 use Rattle.hdr_base.specs.Fractions.{Ratio}
 use Rattle.hdr_base.specs.Items.{Item}
 use Rattle.hdr_iterators.specs.Seen.{Seen, bins_in, capped, below, running, top_in}
@@ -78,6 +78,26 @@ pub record IsAsked (h : Seen) (last : Option ℕ) (index total count : ℕ) : Ty
   pub inside : index < bins_in h
   pub total_is : total ≡ running h index
   pub count_is : count ≡ slice_index h.numbers index
+
+-- what a picker does at a bin: whatever bins it goes with, it either declines, and picks neither this bin nor another, or
+-- picks the bin. `goes` and `picks` are before the call, and `goes'` and `picks'` after it
+abbrev pub PicksAt : (Seen → Option ℕ → Type 0) → (Seen → List Pick) → (Seen → Option ℕ → Type 0) → (Seen → List Pick) → (index total count : ℕ) → Option Told → Type 0
+PicksAt goes picks goes' picks' index total count picked =
+    (h : Seen) (last : Option ℕ) → goes h last → IsAsked h last index total count → NoneBefore index (picks h)
+    → MatchOption picked (goes' h last × (picks' h ≡ picks h) × NoneBefore (index + 1) (picks h))
+    (λ m. goes' h (Some index) × (picks h ≡ record { place = index; tick = m.tick; level = m.level } ∷ picks' h))
+
+-- the item of a bin that was picked: `total` samples lie in bins up to it, `count` in it, and `since` in those after the last
+abbrev pub item_at : Seen → ℕ → Told → ℕ → ℕ → ℕ → Item
+item_at h index picked total count since =
+    let share : Ratio = record { num = total; den = h.total } in
+    record {
+      value = unwrap_or picked.level (top_in h index);
+      quantile = share;
+      tick = unwrap_or picked.tick share;
+      count = count;
+      since = since;
+    }
 
 -- the state of an iterator: the picks to come, the current bin, and the capped sums up to it
 pub record InStep (h : Seen) (picks : List Pick) (index total since count : ℕ) (last : Option ℕ) : Type 0 where

@@ -62,18 +62,6 @@ impl<'a, T: Counter> Bins<'a, T> {
         }
     }
 
-    /// Returns the same bins once more.
-    pub(crate) fn same(&self) -> Bins<'a, T>
-        ensures { result ≡ self.now }
-    {
-        Bins {
-            scale: self.scale,
-            counts: self.counts,
-            total: self.total,
-            last: self.last,
-        }
-    }
-
     /// The number of bins.
     pub(crate) fn len(&self) -> usize
         ensures { result ≡ bins_in self.now }

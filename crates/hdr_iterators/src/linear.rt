@@ -34,13 +34,13 @@ impl<'a, T: Counter> Iter<'a, T> {
         let bins = histogram.binned();
         let picker = Iter {
             place: bins.place_of(step - 1),
-            bins: bins.same(),
+            bins: histogram.binned(),
             step,
             level: step - 1,
             end: None,
             done: false,
         };
-        HistogramIterator::new(bins, picker)
+        HistogramIterator::new(bins, picker, false)
     }
 }
 

@@ -36,12 +36,12 @@ impl<'a, T: Counter> Iter<'a, T> {
         let bins = histogram.binned();
         let picker = Iter {
             place: bins.place_of(start - 1),
-            bins: bins.same(),
+            bins: histogram.binned(),
             base,
             power: start,
             done: false,
         };
-        HistogramIterator::new(bins, picker)
+        HistogramIterator::new(bins, picker, false)
     }
 }
 

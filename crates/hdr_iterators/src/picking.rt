@@ -1,10 +1,9 @@
 //! The engine of the iterators, and what a picker is.
 
-ghost use Rattle.std.specs.Prelude.{◌≡◌, ℕ, ◌+◌, ◌^◌, ◌<◌, ◌≤◌, List, [], ◌∷◌, Option, Some, None, MatchOption, IsTrue, ◌↔◌, false, unwrap_or};
+ghost use Rattle.std.specs.Prelude.{◌≡◌, ℕ, ◌+◌, ◌^◌, ◌<◌, ◌≤◌, List, [], Option, None, IsTrue, ◌↔◌, false};
 ghost use Rattle.std.specs.Iterator.{YieldsFirst, item_count};
-ghost use Rattle.hdr_base.specs.Fractions.{Ratio};
-ghost use Rattle.hdr_iterators.specs.Seen.{Seen, AreEmpty, bins_in, top_in};
-ghost use Rattle.hdr_iterators.specs.Picks.{Pick, NoneBefore, AllBefore, AllFilled, IsAsked, IsAtEnd, items_of};
+ghost use Rattle.hdr_iterators.specs.Seen.{Seen, AreEmpty, bins_in};
+ghost use Rattle.hdr_iterators.specs.Picks.{Pick, NoneBefore, AllBefore, AllFilled, IsAtEnd, PicksAt, item_at, items_of};
 
 use crate::bins::Bins;
 use hdr_base::{Counter, Fraction, IterationValue};
@@ -49,14 +48,8 @@ pub trait PickyIterator<T: Counter>: Drop {
         total_count_to_index: u64,
         count_at_index: T,
     ) -> Option<PickMetadata>
-        ensures { (h : Seen) (last : Option ℕ) → goes_with self.old h last
-            → IsAsked h last index total_count_to_index (T.number count_at_index)
-            → NoneBefore index (picks self.old h)
-            → MatchOption result (goes_with self.new h last × (picks self.new h ≡ picks self.old h)
-            × NoneBefore (index + 1) (picks self.old h))
-            (λ m. goes_with self.new h (Some index)
-            × (picks self.old h
-            ≡ record { place = index; tick = m.tick; level = m.level } ∷ picks self.new h)) };
+        ensures { PicksAt (goes_with self.old) (picks self.old) (goes_with self.new) (picks self.new)
+            index total_count_to_index (T.number count_at_index) result };
 
     /// Whether more picks may follow after a pick at the last recorded bin or a later one.
     fn more(&mut self, index_to_pick: usize) -> bool
@@ -99,26 +92,13 @@ impl<'a, T: Counter, P: PickyIterator<T>> Model for HistogramIterator<'a, T, P> 
 }
 
 impl<'a, T: Counter, P: PickyIterator<T>> HistogramIterator<'a, T, P> {
-    /// Returns an iterator that calls the picker at each bin.
-    pub(crate) fn new(bins: Bins<'a, T>, picker: P) -> HistogramIterator<'a, T, P>
-        requires made { P.goes_with picker bins None }
-        requires within { AllBefore (bins_in bins) (P.picks picker bins) }
-        ensures { result ≡ items_of bins.entry (P.picks picker bins.entry) }
-    {
-        HistogramIterator::made(bins, picker, false)
-    }
-
-    /// Returns an iterator that calls the picker at the nonempty bins alone. The picker must pick no other.
-    pub(crate) fn of_filled(bins: Bins<'a, T>, picker: P) -> HistogramIterator<'a, T, P>
-        requires made { P.goes_with picker bins None }
-        requires within { AllBefore (bins_in bins) (P.picks picker bins) }
-        requires filled { AllFilled bins (P.picks picker bins) }
-        ensures { result ≡ items_of bins.entry (P.picks picker bins.entry) }
-    {
-        HistogramIterator::made(bins, picker, true)
-    }
-
-    fn made(bins: Bins<'a, T>, picker: P, skips_empty: bool) -> HistogramIterator<'a, T, P>
+    /// Returns an iterator that calls the picker at each bin, or at the nonempty ones alone if it
+    /// skips empty bins. The picker must then pick no other.
+    pub(crate) fn new(
+        bins: Bins<'a, T>,
+        picker: P,
+        skips_empty: bool,
+    ) -> HistogramIterator<'a, T, P>
         requires made { P.goes_with picker bins None }
         requires within { AllBefore (bins_in bins) (P.picks picker bins) }
         requires filled { IsTrue skips_empty → AllFilled bins (P.picks picker bins) }
@@ -205,6 +185,8 @@ fn next_asked<T: Counter>(bins: &Bins<'_, T>, skips_empty: bool, index: usize) -
     requires fits { index + 1 < 2 ^ 64 }
     ensures onward { index < result }
     ensures within { result ≤ bins_in bins.now }
+
+    // The bins between are empty, or the picker picks none of them.
     ensures empty { AreEmpty bins.now.numbers (index + 1) result }
     ensures unasked { (picks : List Pick) → (IsTrue skips_empty → AllFilled bins.now picks)
         → NoneBefore (index + 1) picks → NoneBefore result picks }
@@ -226,15 +208,7 @@ fn value_at<T: Counter>(
     picked: PickMetadata,
 ) -> IterationValue<T>
     requires { index < bins_in bins.now }
-    ensures { let share : Ratio = record { num = total; den = bins.now.total } in
-        result ≡ record {
-          value = unwrap_or picked.level
-              (top_in bins.now index);
-          quantile = share;
-          tick = unwrap_or picked.tick share;
-          count = T.number count_at_index;
-          since = since;
-        } }
+    ensures { result ≡ item_at bins.now index picked total (T.number count_at_index) since }
 {
     let quantile = Fraction {
         num: u128::from(total),

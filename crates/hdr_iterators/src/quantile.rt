@@ -179,12 +179,12 @@ impl<'a, T: Counter> Iter<'a, T> {
     {
         let bins = histogram.binned();
         let picker = Iter {
-            bins: bins.same(),
+            bins: histogram.binned(),
             next: NextTick::first(ticks_per_half_distance, bins.total()),
             closing: false,
             done: false,
         };
-        HistogramIterator::of_filled(bins, picker)
+        HistogramIterator::new(bins, picker, true)
     }
 }
 

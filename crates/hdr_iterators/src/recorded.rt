@@ -19,7 +19,7 @@ impl Iter {
     pub fn new<T: Counter, H: Binned<T>>(histogram: &H) -> HistogramIterator<'_, T, Iter>
         ensures { result ≡ items_of (H.seen histogram.now) (recorded_picks (H.seen histogram.now)) }
     {
-        HistogramIterator::of_filled(histogram.binned(), Iter { visited: None })
+        HistogramIterator::new(histogram.binned(), Iter { visited: None }, true)
     }
 }
 

@@ -1,9 +1,9 @@
 -- Values that were missed while a recorded one lasted, and what recording them too makes of a histogram. (`record_n_correct`:
 -- the Rust crate records them one by one.)
-use Rattle.std.specs.Prelude.{◌≡◌, ℕ, ◌+◌, ◌-◌, ◌*◌, ◌/◌, ◌<◌, ◌≤◌, nat_lt, List, [], ◌∷◌, map, count_by}
+use Rattle.std.specs.Prelude.{◌≡◌, ℕ, ◌+◌, ◌-◌, ◌*◌, ◌/◌, ◌<◌, ◌≤◌, nat_lt, List, [], ◌∷◌, length, map, count_by}
 use Rattle.std.specs.List.{range_with_len}
 use Rattle.hdr_base.specs.Classes.{Resolution}
-use Rattle.hdr_model.specs.Plain.{Plain}
+use Rattle.hdr_model.specs.Plain.{Plain, resolution}
 use Rattle.hdr_model.specs.Recording.{Times, after_records}
 use Rattle.hdr_model.specs.Samples.{in_class}
 
@@ -31,6 +31,10 @@ after_correct greatest h v n i = after_records greatest h (each_times n (v ∷ m
 -- how many of the classes hold at least one of the values
 unfoldable pub classes_held : Resolution → ℕ → List ℕ → ℕ
 classes_held g classes values = count_by (λ b. nat_lt 0 (in_class g b values)) (range_with_len 0 classes)
+
+-- how many bins of a histogram hold at least one of the values
+abbrev pub bins_held : Plain → List ℕ → ℕ
+bins_held h values = classes_held (resolution h) (length h.counts) values
 
 -- the values x, x - i, .. that are at least i
 unfoldable pub down_to : ℕ → ℕ → List ℕ

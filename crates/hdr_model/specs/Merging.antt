@@ -1,9 +1,9 @@
 -- The histogram after another was added to it. The source may have another counter type: its numbers are added in full.
 -- (`add`; the code has two loops over bins.)
-use Rattle.std.specs.Prelude.{◌==◌, ◌&&◌, ℕ, zero, suc, ◌+◌, ◌-◌, ◌^◌, Bool, if◌then◌else◌, nat_le, min, Option, Some, None, List, [], ◌∷◌, ◌++◌, length, sum, max}
+use Rattle.std.specs.Prelude.{◌≡◌, ◌==◌, ◌&&◌, ℕ, zero, suc, ◌+◌, ◌-◌, ◌^◌, ◌≤◌, slice_index, Bool, if◌then◌else◌, nat_le, min, Option, Some, None, List, [], ◌∷◌, ◌++◌, length, sum, max}
 use Rattle.hdr_base.specs.Classes.{Resolution, value_of, top_of}
 use Rattle.hdr_counts.specs.Blocks.{capped_sums}
-use Rattle.hdr_model.specs.Plain.{Plain, resolution, reach, max_of}
+use Rattle.hdr_model.specs.Plain.{Plain, IsPlain, resolution, reach, max_of}
 use Rattle.hdr_model.specs.Recording.{with_bins_to, Times, after_records, samples_of, with_bins_for}
 use Rattle.hdr_model.specs.Marks.{earlier_of, later_of}
 use Rattle.hdr_model.specs.Correction.{each_times, missing}
@@ -45,6 +45,22 @@ with_room h x = if nat_le x (reach h) then h else with_bins_to h x
 -- the histogram after a source was added
 unfoldable pub after_add : ℕ → Plain → Plain → Plain
 after_add greatest h s = if s.total == 0 then h else after_add_within greatest (with_room h (max_of s)) s
+
+-- what is true of every two histograms, of which the second may count in another type, up to `most`
+abbrev pub OfEachTwo : (ℕ → Plain → Plain → Type 0) → Type 0
+OfEachTwo P = (greatest most : ℕ) (h s : Plain) → 1 ≤ greatest → IsPlain greatest h → IsPlain most s → P greatest h s
+
+-- what is true of every two histograms with one counter type and one resolution
+abbrev pub OfEachAlike : (ℕ → Plain → Plain → Type 0) → Type 0
+OfEachAlike P = (greatest : ℕ) (h s : Plain) → 1 ≤ greatest → IsPlain greatest h → IsPlain greatest s → resolution h ≡ resolution s → P greatest h s
+
+-- two histograms have the same number in each bin
+abbrev pub HaveSameNumbers : Plain → Plain → Type 0
+HaveSameNumbers h s = (i : ℕ) → slice_index h.counts i ≡ slice_index s.counts i
+
+-- no counter saturates if two histograms are added
+abbrev pub SumFits : ℕ → Plain → Plain → Type 0
+SumFits greatest h s = (i : ℕ) → slice_index h.counts i + slice_index s.counts i ≤ greatest
 
 -- the lowest values of a histogram's classes, each as often as its number says
 abbrev pub lowest_values : Plain → List ℕ

@@ -68,3 +68,7 @@ empty_plain low high sigfig auto_resize = record {
   top_mark = None;
   lower_mark = None;
 }
+
+-- what is true of every histogram
+abbrev pub OfEachPlain : (ℕ → Plain → Type 0) → Type 0
+OfEachPlain P = (greatest : ℕ) (h : Plain) → IsPlain greatest h → P greatest h

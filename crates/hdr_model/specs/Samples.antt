@@ -2,7 +2,7 @@
 -- precision. As a relation it is our own: no field keeps samples.)
 use Rattle.std.specs.Prelude.{◌≡◌, ◌==◌, ℕ, ◌^◌, ◌<◌, ◌≤◌, List, ◌++◌, length, slice_index, count_by, All}
 use Rattle.hdr_base.specs.Classes.{Resolution, bin_of}
-use Rattle.hdr_model.specs.Plain.{Plain, resolution, reach}
+use Rattle.hdr_model.specs.Plain.{Plain, IsPlain, resolution, reach}
 
 -- how many samples lie in a class
 abbrev pub in_class : Resolution → ℕ → List ℕ → ℕ
@@ -22,3 +22,7 @@ pub record Fits (greatest : ℕ) (g : Resolution) (S : List ℕ) : Type 0 where
 -- of a histogram k that was made of h: if these samples fit beside those that h stands for, k stands for all of them
 abbrev pub GainsSamples : ℕ → Plain → Plain → List ℕ → Type 0
 GainsSamples greatest h k L = (S : List ℕ) → StandsFor h S → Fits greatest (resolution h) (S ++ L) → StandsFor k (S ++ L)
+
+-- what is true of each histogram that stands for at least one sample, and of its samples
+abbrev pub OfEachFilled : (Plain → List ℕ → Type 0) → Type 0
+OfEachFilled P = (greatest : ℕ) (h : Plain) (S : List ℕ) → IsPlain greatest h → StandsFor h S → 0 < length S → P h S

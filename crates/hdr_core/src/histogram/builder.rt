@@ -7,8 +7,9 @@ ghost use Rattle.hdr_model.specs.Marks.{IsTopMark, IsLowerMark};
 ghost use Rattle.hdr_model.specs.Plain.{empty_plain};
 ghost use Rattle.hdr_model.specs.Refusals.{IsCreationError, IsBounds};
 
+use super::Histogram;
+use super::bounds::{Bounds, scale_for};
 use super::merging::capped_sum;
-use super::{Histogram, scale_for};
 use crate::marks::Marks;
 use hdr_base::{Counter, Scale};
 use hdr_counts::CountsBuilder;
@@ -23,10 +24,7 @@ use std::marker::Model;
 #[derive(Debug, Drop)]
 pub struct HistogramBuilder<T: Counter> {
     scale: Scale,
-    low: u64,
-    high: u64,
-    sigfig: u8,
-    auto_resize: bool,
+    bounds: Bounds,
     counts: CountsBuilder<T>,
 }
 
@@ -35,9 +33,9 @@ impl<T: Counter> Model for HistogramBuilder<T> {
 
     ghost Value = { Unfinished };
 
-    ghost view = { λ f. record { low = f.low; high = f.high; sigfig = f.sigfig; auto_resize = f.auto_resize; counts = f.counts.numbers } };
+    ghost view = { λ f. record { low = f.bounds.low; high = f.bounds.high; sigfig = f.bounds.sigfig; auto_resize = f.bounds.auto_resize; counts = f.counts.numbers } };
 
-    ghost invariant = { λ f. AreBinsFor f.low f.high f.sigfig f.scale f.counts };
+    ghost invariant = { λ f. AreBinsFor f.bounds.low f.bounds.high f.bounds.sigfig f.scale f.counts };
 }
 
 impl<T: Counter> HistogramBuilder<T> {
@@ -55,12 +53,10 @@ impl<T: Counter> HistogramBuilder<T> {
         let Ok(counts) = CountsBuilder::new(alloc, scale.blocks(high), scale.block()) else {
             return Err(CreationError::OutOfMemory);
         };
+        let bounds = Bounds::fixed(low, high, sigfig);
         Ok(HistogramBuilder {
             scale,
-            low,
-            high,
-            sigfig,
-            auto_resize: false,
+            bounds,
             counts,
         })
     }
@@ -74,20 +70,13 @@ impl<T: Counter> HistogramBuilder<T> {
     {
         let Histogram {
             scale,
-            low,
-            high,
-            sigfig,
-            auto_resize: _,
+            bounds,
             counts,
-            total: _,
-            marks: _,
+            ..
         } = histogram;
         HistogramBuilder {
             scale,
-            low,
-            high,
-            sigfig,
-            auto_resize: false,
+            bounds: Bounds::fixed(bounds.low, bounds.high, bounds.sigfig),
             counts: CountsBuilder::cleared(counts),
         }
     }
@@ -135,10 +124,7 @@ impl<T: Counter> HistogramBuilder<T> {
     {
         let HistogramBuilder {
             scale,
-            low,
-            high,
-            sigfig,
-            auto_resize,
+            bounds,
             counts,
         } = self;
         let marks = marks_of(&counts);
@@ -146,10 +132,7 @@ impl<T: Counter> HistogramBuilder<T> {
         let total = capped_sum(&counts);
         Histogram {
             scale,
-            low,
-            high,
-            sigfig,
-            auto_resize,
+            bounds,
             counts,
             total,
             marks,

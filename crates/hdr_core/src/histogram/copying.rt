@@ -6,9 +6,7 @@ ghost use Rattle.hdr_model.specs.Merging.{after_add_correct};
 ghost use Rattle.hdr_model.specs.declared.errors.CreationError.TheVariants.{OutOfMemory};
 
 use super::Histogram;
-use crate::marks::Marks;
 use hdr_base::Counter;
-use hdr_counts::Counts;
 use hdr_model::CreationError;
 use std::alloc::Global;
 
@@ -24,20 +22,7 @@ impl<T: Counter> Histogram<T> {
             (λ e. e ≡ OutOfMemory) }
         ensures source { IsPlain F.greatest source.now }
     {
-        let scale = source.scale;
-        let Ok(counts) = Counts::new(alloc, scale.blocks(source.high), scale.block()) else {
-            return Err(CreationError::OutOfMemory);
-        };
-        Ok(Histogram {
-            scale,
-            low: source.low,
-            high: source.high,
-            sigfig: source.sigfig,
-            auto_resize: source.auto_resize,
-            counts,
-            total: 0,
-            marks: Marks::none(),
-        })
+        Histogram::empty(alloc, source.scale, source.bounds)
     }
 
     /// Returns a copy of the histogram. Returns an error only if an allocation fails.
@@ -49,10 +34,7 @@ impl<T: Counter> Histogram<T> {
         };
         Ok(Histogram {
             scale: self.scale,
-            low: self.low,
-            high: self.high,
-            sigfig: self.sigfig,
-            auto_resize: self.auto_resize,
+            bounds: self.bounds,
             counts,
             total: self.total,
             marks: self.marks.same(),

@@ -6,7 +6,7 @@ ghost use Rattle.hdr_model.specs.Plain.{resolution, reach};
 ghost use Rattle.hdr_model.specs.Recording.{after_add_to_bin, after_records, samples_of, high_with};
 ghost use Rattle.hdr_model.specs.Samples.{GainsSamples};
 ghost use Rattle.hdr_model.specs.Refusals.{IsRecordable, IsRecordError};
-ghost use Rattle.hdr_model.specs.Correction.{missing, each_times, after_correct, classes_held, down_to};
+ghost use Rattle.hdr_model.specs.Correction.{missing, each_times, after_correct, bins_held, down_to};
 
 use super::Histogram;
 use hdr_base::{Counter, Ticks};
@@ -69,14 +69,17 @@ impl<T: Counter> Histogram<T> {
         requires { ticks.old ≤ 2 ^ 63 }
         ensures ok { OnOk result (self.new ≡ after_correct T.greatest self.old value
             (T.number count) interval) }
-        ensures ticks { OnOk result (ticks.new ≡ ticks.old + classes_held (resolution self.new)
-            (length self.new.counts) (missing value interval)) }
+
+        // One tick for each class that holds a missing value.
+        ensures ticks { OnOk result (ticks.new ≡ ticks.old + bins_held self.new (missing value interval)) }
         ensures at_most_bins { OnOk result (ticks.new ≤ ticks.old + length self.new.counts) }
         ensures at_most { OnOk result (ticks.new ≤ ticks.old + most_bins) }
         ensures samples { OnOk result (GainsSamples T.greatest self.old self.new
             (samples_of (each_times (T.number count) (value ∷ missing value interval)))) }
         ensures high { OnOk result (self.new.high ≡ high_with (resolution self.old) self.old.high value
             (reach_of (resolution self.old) value)) }
+
+        // When which error is returned.
         ensures accepted { OnOk result (IsRecordable self.old value) }
         ensures err { IfErr result (λ e. IsRecordError self.old value e × (self.new ≡ self.old)
             × (ticks.new ≡ ticks.old)) }
@@ -98,12 +101,15 @@ impl<T: Counter> Histogram<T> {
         requires step { 0 < interval }
         requires within { first ≤ reach self.old }
         requires ticks_fit { ticks.old ≤ 2 ^ 63 }
+
+        // The values are recorded, with one tick for each of their classes.
         ensures state { self.new ≡ after_records T.greatest self.old
             (each_times count (down_to first interval)) }
-        ensures ticks { ticks.new ≡ ticks.old + classes_held (resolution self.old)
-            (length self.old.counts) (down_to first interval) }
+        ensures ticks { ticks.new ≡ ticks.old + bins_held self.old (down_to first interval) }
         ensures samples { GainsSamples T.greatest self.old self.new
             (samples_of (each_times count (down_to first interval))) }
+
+        // What is unchanged.
         ensures same_classes { resolution self.new ≡ resolution self.old }
         ensures same_bins { length self.new.counts ≡ length self.old.counts }
         ensures at_most { length self.new.counts ≤ most_bins }
@@ -131,16 +137,20 @@ impl<T: Counter> Histogram<T> {
         requires one_bucket { (x : ℕ) → start ≤ x → x ≤ first
             → bucket (resolution self.old) x ≡ bucket (resolution self.old) first }
         requires within { first ≤ reach self.old }
-        requires ticks_fit { ticks.old + classes_held (resolution self.old) (length self.old.counts)
+        requires ticks_fit { ticks.old + bins_held self.old
             (down_to first interval) < 2 ^ 64 }
+
+        // If the rest is recorded afterwards, all values are recorded, and all ticks counted.
         ensures less { result < first }
         ensures state { after_records T.greatest self.new
             (each_times count (down_to result interval)) ≡ after_records T.greatest self.old
             (each_times count (down_to first interval)) }
-        ensures ticks { ticks.new + classes_held (resolution self.old) (length self.old.counts)
+        ensures ticks { ticks.new + bins_held self.old
             (down_to result interval)
-            ≡ ticks.old + classes_held (resolution self.old) (length self.old.counts)
+            ≡ ticks.old + bins_held self.old
             (down_to first interval) }
+
+        // What is unchanged.
         ensures same_classes { resolution self.new ≡ resolution self.old }
         ensures same_bins { length self.new.counts ≡ length self.old.counts }
         ensures same_reach { reach self.new ≡ reach self.old }
@@ -181,14 +191,7 @@ pub(super) fn hides(value: u64, interval: u64) -> bool
     ensures step { result ≡ true → 0 < interval }
     ensures none { result ≡ false → missing value interval ≡ [] }
 {
-    if interval == 0 {
-        return false;
-    }
-    let half = value / 2;
-    if half < interval {
-        return false;
-    }
-    true
+    interval > 0 && value / 2 >= interval
 }
 
 /// Returns the number of values in the class of `next`, from it on down to the interval, an

@@ -29,8 +29,8 @@ impl<T: Counter> Histogram<T> {
     pub fn equals<F: Counter>(&self, other: &Histogram<F>) -> bool
         ensures { result ≡ same_plain self.now other.now }
     {
-        self.low == other.low
-            && self.sigfig == other.sigfig
+        self.bounds.low == other.bounds.low
+            && self.bounds.sigfig == other.bounds.sigfig
             && self.total == other.total
             && self.max() == other.max()
             && self.min_nz() == other.min_nz()
@@ -72,11 +72,10 @@ fn same_numbers<T: Counter, F: Counter>(
 fn number_at<T: Counter>(counts: &Counts<T>, index: usize) -> u64
     ensures { result ≡ slice_index counts.now.numbers index }
 {
-    if index < counts.len() {
-        counts.get(index).as_u64()
-    } else {
-        0
-    }
+    counts
+        .as_slice()
+        .get(index)
+        .map_or(0, |counter| counter.as_u64())
 }
 
 /// Whether two slices of one length hold the same numbers; compares `FEW` at once.

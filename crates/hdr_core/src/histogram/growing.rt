@@ -55,13 +55,10 @@ impl<T: Counter> Histogram<T> {
         if value <= self.reach() {
             return Ok(());
         }
-        if !self.auto_resize {
+        if !self.bounds.auto_resize {
             return Err(RecordError::ValueOutOfRangeResizeDisabled);
         }
-        match self.grow(high) {
-            Ok(()) => Ok(()),
-            Err(_) => Err(RecordError::OutOfMemory),
-        }
+        self.grow(high).map_err(|_| RecordError::OutOfMemory)
     }
 
     /// Makes bins up to the reach of `high`, a value past them, and stores it as `high`. Returns an
@@ -72,7 +69,7 @@ impl<T: Counter> Histogram<T> {
             (λ _. self.new ≡ self.old) }
     {
         self.counts.grow(self.scale.blocks(high))?;
-        self.high = high;
+        self.bounds.high = high;
         Ok(())
     }
 }

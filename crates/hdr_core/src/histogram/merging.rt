@@ -9,7 +9,7 @@ ghost use Rattle.hdr_model.specs.Refusals.{LeavesSet, IsRecordable, IsAdditionEr
 ghost use Rattle.hdr_model.specs.Samples.{StandsFor, GainsSamples};
 
 use super::Histogram;
-use hdr_base::Counter;
+use hdr_base::{Counter, saturating_from};
 use hdr_counts::Counts;
 use hdr_model::AdditionError;
 
@@ -26,10 +26,14 @@ impl<T: Counter> Histogram<T> {
         ensures samples { OnOk result ((L : List ℕ) → StandsFor source.now L → IsFiner
             (resolution source.now) (resolution self.old)
             → GainsSamples T.greatest self.old self.new L) }
+
+        // The classes stay the same, and the bins may grow.
         ensures same_classes { resolution self.new ≡ resolution self.old }
         ensures high { OnOk result (self.new.high
             ≡ (if source.now.total == 0 then self.old.high else high_with
             (resolution self.old) self.old.high (max_of source.now) (max_of source.now))) }
+
+        // When which error is returned.
         ensures accepted { OnOk result ((source.now.total ≡ 0) ⊎ IsRecordable self.old (max_of source.now)) }
         ensures err { IfErr result (λ e. IsAdditionError self.old source.now e
             × (self.new ≡ self.old)) }
@@ -44,10 +48,14 @@ impl<T: Counter> Histogram<T> {
         ensures samples { OnOk result ((L : List ℕ) → StandsFor source.now L → IsFiner
             (resolution source.now) (resolution self.old)
             → GainsSamples T.greatest self.old self.new L) }
+
+        // The classes stay the same, and the bins may grow.
         ensures same_classes { resolution self.new ≡ resolution self.old }
         ensures high { OnOk result (self.new.high
             ≡ (if source.now.total == 0 then self.old.high else high_with
             (resolution self.old) self.old.high (max_of source.now) (max_of source.now))) }
+
+        // When which error is returned.
         ensures accepted { OnOk result ((source.now.total ≡ 0) ⊎ IsRecordable self.old (max_of source.now)) }
         ensures err { IfErr result (λ e. IsAdditionError self.old source.now e
             × (self.new ≡ self.old)) }
@@ -175,6 +183,7 @@ impl<T: Counter> Histogram<T> {
     }
 
     /// Records a value that has a bin.
+    #[inline(always)]
     pub(super) fn record_inside(&mut self, value: u64, number: u64)
         requires { value ≤ reach self.old }
         ensures { self.new ≡ after_record T.greatest self.old value number }
@@ -189,6 +198,5 @@ pub(super) fn capped_sum<T: Counter>(counts: &Counts<T>) -> u64
     requires { 0 < length counts.now.numbers }
     ensures { result ≡ min (sum counts.now.numbers) (2 ^ 64 - 1) }
 {
-    let sum = counts.sum_to(counts.len() - 1);
-    sum.min(u128::from(u64::MAX)) as u64
+    saturating_from(counts.sum_to(counts.len() - 1))
 }

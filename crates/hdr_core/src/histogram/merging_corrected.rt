@@ -25,9 +25,13 @@ impl<T: Counter> Histogram<T> {
         ensures samples { OnOk result ((L : List ℕ) → StandsFor source.now L
             → GainsSamples T.greatest self.old self.new
             (corrected_samples (resolution source.now) interval L)) }
+
+        // The classes stay the same, and the bins may grow.
         ensures same_classes { resolution self.new ≡ resolution self.old }
         ensures high { OnOk result (self.new.high ≡ high_with (resolution self.old) self.old.high
             (highest_top source.now) (reach_of (resolution self.old) (highest_top source.now))) }
+
+        // When which error is returned.
         ensures accepted { OnOk result (IsRecordable self.old (highest_top source.now)) }
         ensures err { IfErr result (λ e. IsCorrectionError self.old source.now e
             × (self.new ≡ self.old)) }
@@ -47,9 +51,13 @@ impl<T: Counter> Histogram<T> {
         ensures samples { OnOk result ((L : List ℕ) → StandsFor source.now L
             → GainsSamples T.greatest self.old self.new
             (corrected_samples (resolution source.now) interval L)) }
+
+        // The classes stay the same, and the bins may grow.
         ensures same_classes { resolution self.new ≡ resolution self.old }
         ensures high { OnOk result (self.new.high ≡ high_with (resolution self.old) self.old.high
             (highest_top source.now) (reach_of (resolution self.old) (highest_top source.now))) }
+
+        // When which error is returned.
         ensures accepted { OnOk result (IsRecordable self.old (highest_top source.now)) }
         ensures err { IfErr result (λ e. IsCorrectionError self.old source.now e
             × (self.new ≡ self.old)) }

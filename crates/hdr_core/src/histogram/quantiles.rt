@@ -28,12 +28,14 @@ impl<T: Counter> Histogram<T> {
     /// As `value_at_quantile`. `ticks` grows by one for each read of a block's sum or of a counter.
     /// There are at most as many reads as there are blocks and counters in a block together. A
     /// block holds half as many bins as the first bucket. Its sum is added up from those of its
-    /// sections, and costs one tick.
+    /// sections, or at 0 and 1 digits from its counters, and costs one tick.
     pub fn value_at_quantile_counted(&self, quantile: Quantile, ticks: &mut Ticks) -> u64
         requires { ticks.old ≤ 2 ^ 63 }
         ensures value { result ≡ value_at_quantile self.now quantile }
         ensures ranked { (S : List ℕ) → StandsFor self.now S → 0 < length S → 0 < quantile.num
             → IsTopNear self.now (ranked_sample quantile S) result }
+
+        // One tick for each sum of a block and each counter that is read.
         ensures looks { ticks.new ≡ ticks.old + looks (block_of self.now) (length self.now.counts)
             (position_of_rank self.now.counts (rank quantile self.now.total)) }
         ensures at_most { ticks.new ≤ ticks.old +

@@ -2,14 +2,14 @@
 
 ghost use Rattle.std.specs.Prelude.{◌≡◌, ℕ, List, ◌+◌, ◌-◌, ◌^◌, ◌<◌, ◌≤◌, ◌++◌, true, OnOk, IfErr, min, length, replicate};
 ghost use Rattle.hdr_base.specs.Classes.{reach_of};
-ghost use Rattle.hdr_model.specs.Plain.{resolution, reach};
+ghost use Rattle.hdr_model.specs.Plain.{IsPlain, resolution, reach};
 ghost use Rattle.hdr_model.specs.Recording.{after_add_to_bin, after_record, clamp_to_bins, after_clear, after_reset, high_with};
 ghost use Rattle.hdr_model.specs.Samples.{GainsSamples};
 ghost use Rattle.hdr_model.specs.Refusals.{IsRecordable, IsRecordError};
 
 use super::Histogram;
 use crate::marks::Marks;
-use hdr_base::Counter;
+use hdr_base::{Counter, saturating_from};
 use hdr_model::RecordError;
 
 impl<T: Counter> Histogram<T> {
@@ -68,8 +68,7 @@ impl<T: Counter> Histogram<T> {
             × (self.new ≡ self.old)) }
     {
         self.cover(value)?;
-        let bin = self.scale.bin(value);
-        self.add_to_bin(bin, count.as_u64());
+        self.record_inside(value, count.as_u64());
         Ok(())
     }
 
@@ -91,19 +90,18 @@ impl<T: Counter> Histogram<T> {
         ensures samples { GainsSamples T.greatest self.old self.new
             (replicate (T.number count) (clamp_to_bins self.old value)) }
     {
-        let value = self.clamped(value);
-        let bin = self.scale.bin(value);
-        self.add_to_bin(bin, count.as_u64());
+        self.record_inside(self.clamped(value), count.as_u64());
     }
 
     /// Returns `value`, or `high` if `value` is past the bins.
     fn clamped(&self, value: u64) -> u64
         ensures value { result ≡ clamp_to_bins self.now value }
         ensures within { result ≤ reach self.now }
+        ensures plain { IsPlain T.greatest self.now }
     {
         match self.bin_of(value) {
             Some(_) => value,
-            None => self.high,
+            None => self.bounds.high,
         }
     }
 
@@ -149,25 +147,8 @@ impl<T: Counter> Histogram<T> {
         ensures { self.new ≡ after_add_to_bin T.greatest self.old bin number }
     {
         let sum = u128::from(self.counts.get(bin).as_u64()) + number;
-        self.counts.set(bin, capped(sum));
-        self.total = capped_total(u128::from(self.total) + number);
+        self.counts.set(bin, saturating_from(sum));
+        self.total = saturating_from(u128::from(self.total) + number);
         self.marks.widen(bin);
     }
-}
-
-/// Returns the counter of `number`, or `T::max_value()` if `number` is above it.
-pub(super) fn capped<T: Counter>(number: u128) -> T
-    ensures { T.number result ≡ min number T.greatest }
-{
-    match u64::try_from(number) {
-        Ok(number) => T::from_u64(number).unwrap_or(T::max_value()),
-        Err(_) => T::max_value(),
-    }
-}
-
-/// Returns `number`, or `u64::MAX` if `number` is above it.
-pub(super) fn capped_total(number: u128) -> u64
-    ensures { result ≡ min number (2 ^ 64 - 1) }
-{
-    u64::try_from(number).unwrap_or(u64::MAX)
 }

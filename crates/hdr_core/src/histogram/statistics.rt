@@ -7,8 +7,7 @@ ghost use Rattle.hdr_model.specs.Samples.{StandsFor};
 ghost use Rattle.hdr_model.specs.Statistics.{held_bin, sum_between, samples_between, quantile_below, in_hundredths, median_of, weight_from, mean};
 
 use super::Histogram;
-use super::recording::capped_total;
-use hdr_base::{Counter, Fraction, Scale};
+use hdr_base::{Counter, Fraction, Scale, saturating_from};
 
 impl<T: Counter> Histogram<T> {
     /// Returns the counter of the class of `value`, or of the last bin if `value` is past the bins.
@@ -38,7 +37,7 @@ impl<T: Counter> Histogram<T> {
         } else {
             self.counts.sum_to(from - 1)
         };
-        capped_total(self.counts.sum_to(to) - before)
+        saturating_from(self.counts.sum_to(to) - before)
     }
 
     /// Returns the fraction of the samples that lie in the class of `value` or below it: the sum of
@@ -59,9 +58,9 @@ impl<T: Counter> Histogram<T> {
         if self.total == 0 {
             return Fraction { num: 1, den: 1 };
         }
-        let up_to = self.counts.sum_to(self.held_bin(value));
+        let up_to: u64 = saturating_from(self.counts.sum_to(self.held_bin(value)));
         Fraction {
-            num: u128::from(capped_total(up_to)),
+            num: u128::from(up_to),
             den: u128::from(self.total),
         }
     }
@@ -122,15 +121,12 @@ impl<T: Counter> Histogram<T> {
     }
 }
 
-/// Returns `number` times the value in the middle of the class of `bin`; most bins are empty.
+/// Returns `number` times the value in the middle of the class of `bin`.
 fn weight(scale: Scale, bin: usize, number: u64) -> u128
     requires { bin ≤ bin_of scale (2 ^ 64 - 1) }
     ensures value { result ≡ median_of scale (value_of scale bin) * number }
     ensures bound { result ≤ 2 ^ 64 * number }
 {
-    if number == 0 {
-        return 0;
-    }
     let Some(lowest) = scale.bin_value(bin) else {
         return 0;
     };

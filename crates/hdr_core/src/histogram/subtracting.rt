@@ -98,6 +98,8 @@ fn take_each<T: Counter>(counts: &mut Counts<T>, scale: Scale, other: &Histogram
     requires enough { (j : ℕ)
         → in_class scale j (lowest_values other.now) ≤ slice_index counts.old.numbers j }
     requires fit { All (λ n. n ≤ T.greatest) counts.old.numbers }
+
+    // What is unchanged, and what each counter loses.
     ensures block { counts.new.block ≡ counts.old.block }
     ensures bins { length counts.new.numbers ≡ length counts.old.numbers }
     ensures fit { All (λ n. n ≤ T.greatest) counts.new.numbers }

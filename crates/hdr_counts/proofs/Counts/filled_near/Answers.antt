@@ -1,4 +1,3 @@
-use Rattle.std.proofs.Common.{◌+◌, map}
 use Rattle.hdr_counts.proofs.BlocksNonzero.{part-none, part-some, zeros-join}
 use Rattle.hdr_counts.proofs.Counts.filled_near.Goals as goal
 

@@ -1,10 +1,9 @@
-use Rattle.std.proofs.Common.{◌≡◌, ℕ, ◌-◌, ◌*◌, ◌≤◌, ◌++◌, length, map, replicate, ap, subst, arith, true, is_ok, vec_len}
+use Rattle.std.proofs.Common.{◌≡◌, ℕ, ◌-◌, ◌*◌, ◌≤◌, ◌++◌, length, map, replicate, ap, arith, true, is_ok, vec_len}
 use Rattle.std.proofs.lemmas.List.Elements.{All-append, All-replicate}
 use Rattle.std.proofs.lemmas.List.{length-append, length-map, length-replicate}
 use Rattle.hdr_base.specs.Classes.{most_bins}
-use Rattle.hdr_counts.specs.Blocks.{AreSums}
-use Rattle.hdr_counts.proofs.BlocksSections.{AreSections-made}
-use Rattle.hdr_counts.proofs.BlocksSums.{ok_only, grown, sums_grown, AreSums-grow}
+use Rattle.hdr_counts.proofs.BlocksSections.{AreSections-made, AreSums-regrown}
+use Rattle.hdr_counts.proofs.BlocksSums.{ok_only, grown}
 use Rattle.hdr_counts.proofs.Counts.grow.Goals as goal
 
 pub invariant_of-self-2 : goal.invariant_of-self-2
@@ -21,17 +20,15 @@ invariant_of-self-2 g c =
     let room : vec_len c.reserve.new.self ≡ length s.counters.items = omega (arith, c.reserve.ensures.len, s.counters.ok.0) in
     let items = rw ok at c.resize-2.ensures.items in
     let map_is : map n c.resize-2.new.self.items ≡ map n s.counters.items ++ replicate (len - length (map n s.counters.items)) 0 = grown n s.counters.items c.resize-2.new.self.items c.reserve.new.self.items c.zero.result len (vec_len c.reserve.new.self) c.reserve.ensures.items room at_xs c.zero.ensures items in
-    let sections = c.sections_in-sections.result in
-    let whole : sections * s.section ≡ len = c.sections_in-sections.ensures in
-    let at_sections : length (map n s.counters.items) ≤ sections * s.section = omega (arith, at, whole) in
     let sums_room : vec_len s.sums ≡ length s.sums.items = omega (arith, s.sums.ok.0) in
-    let sums_is : c.resize.new.self.items ≡ s.sums.items ++ replicate (sections - length s.sums.items) 0 = sums_grown s.section (map n s.counters.items) s.sums.items c.resize.new.self.items sections (vec_len s.sums) c.self.invariant.sums_are at_sections sums_room c.in_ok-resize.ensures.items in
-    let few : sections * s.section ≤ most_bins = omega (arith, blocks, whole, c.requires.at_most) in
+    let few : len ≤ most_bins = omega (arith, blocks, c.requires.at_most) in
     let size : length (map n s.counters.items ++ replicate (len - length (map n s.counters.items)) 0) ≡ len = simp (length-append, length-replicate) (omega (arith, at)) in
+    let made = AreSections-made s.block c.section_len-section.result c.args.blocks c.self.invariant.sections.some c.section_len-section.ensures.value in
+    let sums = AreSums-regrown s.block s.section c.section_len-section.result len (map n s.counters.items) s.sums.items c.resize.new.self.items (vec_len s.sums) c.self.invariant.sections c.self.invariant.sums_are made.section_is made.whole at few sums_room c.in_ok-resize.ensures.items in
     record {
-      sections = rw (map_is, size) (AreSections-made s.block s.section c.args.blocks c.self.invariant.sections.some c.self.invariant.sections.section_is);
-      sums_are = rw (map_is, sums_is) (subst (λ m. AreSums s.section (map n s.counters.items ++ replicate (m - length (map n s.counters.items)) 0) (s.sums.items ++ replicate (sections - length s.sums.items) 0)) whole (AreSums-grow s.section (map n s.counters.items) s.sums.items sections c.self.invariant.sums_are at_sections few));
-      shift_is = c.self.invariant.shift_is;
+      sections = rw (map_is, size) made;
+      sums_are = rw map_is sums;
+      shift_is = c.exponent-self-inside.ensures;
       fit = rw map_is (All-append (λ n. n ≤ g.T.Counter.greatest) (map n s.counters.items) _ c.self.invariant.fit (All-replicate (λ n. n ≤ g.T.Counter.greatest) _ 0 (omega arith)));
     }
 

@@ -18,10 +18,10 @@ loop-i-preserved g c =
     let b = number-at g.F.Counter.number c.args.source.now i c.index-source-i.result (omega (arith, c.requires)) c.index-source-i.is in
     let len_m = length-map c.args.counters.now g.T.Counter.number in
     let len_n = length-map c.args.source.now g.F.Counter.number in
-    map-set g.T.Counter.number c.loop-i.counters i c.capped.result
-    ∙ capped-write greatest ms ns (map g.T.Counter.number c.loop-i.counters) i (g.T.Counter.number c.capped.result) c.loop-i.invariant
+    map-set g.T.Counter.number c.loop-i.counters i c.saturating_from.result
+    ∙ capped-write greatest ms ns (map g.T.Counter.number c.loop-i.counters) i (g.T.Counter.number c.saturating_from.result) c.loop-i.invariant
     (omega (arith, len_m)) (omega (arith, len_n, c.requires))
-    (omega (arith, c.capped.ensures, c.saturating_add.ensures, a, b, c.as_u64.ensures.value, c.as_u64-in-loop-i.ensures.value, g.met.T.Counter.fits))
+    (omega (arith, c.saturating_from.ensures, c.from.ensures, c.from-in-loop-i.ensures, a, b, c.as_u64.ensures.value, c.as_u64-in-loop-i.ensures.value, g.met.T.Counter.fits))
 
 pub returns : goal.returns
 returns g c =

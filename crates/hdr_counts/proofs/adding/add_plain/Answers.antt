@@ -9,8 +9,8 @@ use Rattle.hdr_counts.proofs.adding.add_plain.Goals as goal
 pub loop-i-init : goal.loop-i-init
 loop-i-init g c = sym (capped-none g.T.Counter.greatest (map g.T.Counter.number c.args.counters.now))
 
-pub overflow_add-as_u64 : goal.overflow_add-as_u64
-overflow_add-as_u64 g c =
+pub overflow_add-sum : goal.overflow_add-sum
+overflow_add-sum g c =
     let greatest = g.T.Counter.greatest in
     let ms = map g.T.Counter.number c.args.counters.now in
     let ns = map g.F.Counter.number c.args.source.now in
@@ -43,10 +43,10 @@ loop-i-preserved g c =
     let b = number-at g.F.Counter.number c.args.source.now i c.index-source-i.result (omega (arith, c.requires.len)) c.index-source-i.is in
     let len_m = length-map c.args.counters.now g.T.Counter.number in
     let len_n = length-map c.args.source.now g.F.Counter.number in
-    map-set g.T.Counter.number c.loop-i.counters i c.capped.result
-    ∙ capped-write greatest ms ns (map g.T.Counter.number c.loop-i.counters) i (g.T.Counter.number c.capped.result) c.loop-i.invariant
+    map-set g.T.Counter.number c.loop-i.counters i c.saturating_from.result
+    ∙ capped-write greatest ms ns (map g.T.Counter.number c.loop-i.counters) i (g.T.Counter.number c.saturating_from.result) c.loop-i.invariant
     (omega (arith, len_m)) (omega (arith, len_n, c.requires.len))
-    (omega (arith, c.capped.ensures, a, b, c.as_u64.ensures.value, c.as_u64-in-loop-i.ensures.value))
+    (omega (arith, c.saturating_from.ensures, c.from.ensures, a, b, c.as_u64.ensures.value, c.as_u64-in-loop-i.ensures.value))
 
 pub returns : goal.returns
 returns g c =

@@ -10,7 +10,7 @@ pub returns-clause-merged_classes : goal.returns-clause-merged_classes
 returns-clause-merged_classes c = resolution-merged
 
 pub returns-clause-corrected : goal.returns-clause-corrected
-returns-clause-corrected c = IsPlain-merged_corrected
+returns-clause-corrected c = λ greatest most h s one p q i. IsPlain-merged_corrected greatest most h s i one p q
 
 pub returns-clause-corrected_classes : goal.returns-clause-corrected_classes
 returns-clause-corrected_classes c = resolution-merged_corrected

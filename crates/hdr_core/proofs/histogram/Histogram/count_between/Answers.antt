@@ -32,7 +32,7 @@ returns-clause-value g c =
     let from = c.held_bin-from.result in
     let to = c.held_bin-to.result in
     let part : c.sum_to.result - c.if-from-eq0.before ≡ sum (slice_range xs from (to + 1)) = omega (arith, before g (goal.at.returns-clause-value g c).Joined-from-eq0, c.sum_to.ensures, part-sum xs from (to + 1) (omega (arith, c.if-from-to.false))) in
-    c.capped_total.ensures
+    c.saturating_from.ensures
     ∙ ap (λ n. min n (2 ^ 64 - 1)) (part
     ∙ ap (λ (p : Plain). sum (slice_range p.counts from (to + 1))) c.self.view_is
     ∙ ap (λ a. sum (slice_range h.counts a (to + 1))) c.held_bin-from.ensures.value
@@ -45,7 +45,7 @@ returns-clause-at_most g c =
     let from = c.held_bin-from.result in
     let to = c.held_bin-to.result in
     let less : c.sum_to.result ≡ sum (take (to + 1) h.counts) = c.sum_to.ensures ∙ ap (λ (q : Plain). sum (take (to + 1) q.counts)) c.self.view_is in
-    omega (arith, c.capped_total.ensures, less, part-covered g.T.Counter.greatest h (to + 1) p)
+    omega (arith, c.saturating_from.ensures, less, part-covered g.T.Counter.greatest h (to + 1) p)
 
 pub returns-clause-samples : goal.returns-clause-samples
 returns-clause-samples g c = λ S stands le within.

@@ -13,8 +13,8 @@ returns-clause-value g c =
     let h = c.args.self.now in
     let total_is : c.self.inside.total ≡ h.total = ap (λ (p : Plain). p.total) c.self.view_is in
     let num_is : c.from.result ≡ min (sum (take (held_bin h c.args.value + 1) h.counts)) (2 ^ 64 - 1) =
-    c.from.ensures ∙ c.capped_total.ensures
-    ∙ ap (λ n. min n (2 ^ 64 - 1)) (c.sum_to-up_to.ensures ∙ ap (λ (p : Plain). sum (take (c.held_bin.result + 1) p.counts)) c.self.view_is ∙ ap (λ k. sum (take (k + 1) h.counts)) c.held_bin.ensures.value) in
+    c.from.ensures ∙ c.saturating_from-up_to.ensures
+    ∙ ap (λ n. min n (2 ^ 64 - 1)) (c.sum_to.ensures ∙ ap (λ (p : Plain). sum (take (c.held_bin.result + 1) p.counts)) c.self.view_is ∙ ap (λ k. sum (take (k + 1) h.counts)) c.held_bin.ensures.value) in
     rw (num_is, c.from-2.ensures, total_is) (sym (share-of-some h c.args.value (omega (arith, c.if-self-eq0.false, total_is))))
 
 pub returns-clause-samples : goal.returns-clause-samples

@@ -1,12 +1,15 @@
-use Rattle.std.proofs.Common.{◌∙◌, ap, arith}
+use Rattle.std.proofs.Common.{◌≡◌, ◌/◌, ◌<◌, ◌∙◌, ap, arith}
+use Rattle.std.proofs.lemmas.Bool.Decides.{nat_tests}
 use Rattle.hdr_model.specs.Correction.{missing}
 use Rattle.hdr_model.proofs.CorrectionFacts.{missing-down, missing-none, down_to-end}
 use Rattle.hdr_core.proofs.histogram.correction.hides.Goals as goal
 
-pub returns-then-interval-eq0-clause-none : goal.returns-then-interval-eq0-clause-none
-returns-then-interval-eq0-clause-none c = λ _.
-    ap (λ i. missing c.args.value i) c.if-interval-eq0.true ∙ missing-none c.args.value
+pub returns-then-interval-gt0-clause-none : goal.returns-then-interval-gt0-clause-none
+returns-then-interval-gt0-clause-none c = λ off.
+    let few : c.args.value / 2 < c.args.interval = grind (arith, nat_tests, off) in
+    missing-down c.args.value c.args.interval (omega (arith, c.if-interval-gt0.true)) ∙ down_to-end _ c.args.interval (omega (arith, few))
 
-pub returns-then-half-interval-clause-none : goal.returns-then-half-interval-clause-none
-returns-then-half-interval-clause-none c = λ _.
-    missing-down c.args.value c.args.interval (omega arith) ∙ down_to-end _ c.args.interval (omega (arith, c.if-half-interval.true))
+pub returns-else-interval-gt0-clause-none : goal.returns-else-interval-gt0-clause-none
+returns-else-interval-gt0-clause-none c = λ off.
+    let none : c.args.interval ≡ 0 = omega (arith, c.if-interval-gt0.false) in
+    ap (λ i. missing c.args.value i) none ∙ missing-none c.args.value

@@ -1,10 +1,14 @@
-use Rattle.std.proofs.Common.{◌∙◌, ap, sym}
-use Rattle.hdr_model.specs.Marks.{MarkPair}
+use Rattle.std.proofs.Common.{◌≡◌, ℕ, ◌+◌, ◌^◌, ◌<◌, ◌≤◌, Option, Some, None, ⊎_elim, sym, ap, ◌∙◌, arith}
+use Rattle.std.proofs.lemmas.Bool.{cases_lt}
+use Rattle.std.specs.Prelude.{SomeIff}
+use Rattle.hdr_model.specs.Marks.{MarkPair, lower_by}
 use Rattle.hdr_model.proofs.MarksWidened.{lower-none, lower-some}
 use Rattle.hdr_core.proofs.marks.Marks.lower.Goals as goal
 
-pub returns-then-self : goal.returns-then-self
-returns-then-self c = sym (lower-none c.self.inside.before c.if-self.true) ∙ ap (λ (m : MarkPair). m.lower) c.self.view_is
+lower-known : (o : Option ℕ) (n : ℕ) → SomeIff o (n + 1 < 2 ^ 64) (n + 1) → n < 2 ^ 64 → o ≡ lower_by n
+lower-known None n h fits =
+    ⊎_elim (λ (lt : n + 1 < 2 ^ 64). absurd (h lt)) (λ (ge : 2 ^ 64 ≤ n + 1). sym (lower-none n (omega (arith, ge, fits)))) (cases_lt (n + 1) (2 ^ 64))
+lower-known (Some x) n h fits = ap Some h.1 ∙ sym (lower-some n (λ e. absurd (omega (arith, h.0, e))))
 
-pub returns-else-self : goal.returns-else-self
-returns-else-self c = sym (lower-some c.self.inside.before c.if-self.false) ∙ ap (λ (m : MarkPair). m.lower) c.self.view_is
+pub returns : goal.returns
+returns c = lower-known c.checked_add.result c.self.inside.before c.checked_add.ensures c.self.invariant.1 ∙ ap (λ (m : MarkPair). m.lower) c.self.view_is

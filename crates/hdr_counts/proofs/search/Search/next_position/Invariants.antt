@@ -1,11 +1,11 @@
-use Rattle.std.proofs.Common.{◌≡◌, ◌+◌, ◌-◌, ◌*◌, ◌<◌, ◌≤◌, length}
+use Rattle.std.proofs.Common.{◌≡◌, ◌+◌, ◌-◌, ◌<◌, ◌≤◌, length}
 use Rattle.hdr_base.specs.Classes.{most_bins}
-use Rattle.hdr_counts.specs.Blocks.{section_of, sum_below}
+use Rattle.hdr_counts.specs.Blocks.{sum_before}
 use Rattle.hdr_counts.proofs.search.Search.next_position.Given as goal
 
 abbrev pub invariant-loop-sum : goal.invariant-loop-sum
 invariant-loop-sum g l =
-    (sum_below l.counts.numbers (l.section * section_of l.counts.block) + l.rest ≡ l.rank)
+    (sum_before l.counts l.section + l.rest ≡ l.rank)
     × (0 < l.rest)
     × (l.section ≤ most_bins)
     × (l.self-inside.counts.now ≡ l.counts)

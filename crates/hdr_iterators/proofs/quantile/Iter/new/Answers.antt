@@ -6,12 +6,12 @@ use Rattle.hdr_iterators.specs.Places.{quantile_picks}
 use Rattle.hdr_iterators.proofs.TicksLists.{picks_within, picks_filled}
 use Rattle.hdr_iterators.proofs.quantile.Iter.new.Goals as goal
 
-pub of_filled-requires-clause-within : goal.of_filled-requires-clause-within
-of_filled-requires-clause-within g c =
+pub new-requires-clause-within : goal.new-requires-clause-within
+new-requires-clause-within g c =
     let h = c.binned-bins.result in
     subst (λ (k : TickOf). AllBefore (bins_in h) (drop k.number (quantile_picks h k.per_half))) (sym c.first.ensures) (picks_within h c.args.ticks_per_half_distance)
 
-pub of_filled-requires-clause-filled : goal.of_filled-requires-clause-filled
-of_filled-requires-clause-filled g c =
+pub new-requires-clause-filled : goal.new-requires-clause-filled
+new-requires-clause-filled g c = λ _.
     let h = c.binned-bins.result in
     subst (λ (k : TickOf). AllFilled h (drop k.number (quantile_picks h k.per_half))) (sym c.first.ensures) (picks_filled h c.args.ticks_per_half_distance 0)

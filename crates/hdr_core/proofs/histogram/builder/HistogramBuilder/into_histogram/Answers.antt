@@ -9,13 +9,13 @@ use Rattle.hdr_core.proofs.histogram.builder.HistogramBuilder.into_histogram.Goa
 pub capped_sum-total-requires : goal.capped_sum-total-requires
 capped_sum-total-requires g c =
     let f = c.self.inside in
-    let b : AreBinsFor f.low f.high f.sigfig f.scale c.into_counts-counts.result = subst (λ (b : Blocks). AreBinsFor f.low f.high f.sigfig f.scale b) (sym c.into_counts-counts.ensures.value) c.self.invariant in
-    some-bins f.low f.high f.sigfig c.into_counts-counts.result.numbers b.whole
+    let b : AreBinsFor f.bounds.low f.bounds.high f.bounds.sigfig f.scale c.into_counts-counts.result = subst (λ (b : Blocks). AreBinsFor f.bounds.low f.bounds.high f.bounds.sigfig f.scale b) (sym c.into_counts-counts.ensures.value) c.self.invariant in
+    some-bins f.bounds.low f.bounds.high f.bounds.sigfig c.into_counts-counts.result.numbers b.whole
 
 pub invariant_of-result : goal.invariant_of-result
 invariant_of-result g c =
     let f = c.self.inside in
-    let b : AreBinsFor f.low f.high f.sigfig f.scale c.into_counts-counts.result = subst (λ (b : Blocks). AreBinsFor f.low f.high f.sigfig f.scale b) (sym c.into_counts-counts.ensures.value) c.self.invariant in
+    let b : AreBinsFor f.bounds.low f.bounds.high f.bounds.sigfig f.scale c.into_counts-counts.result = subst (λ (b : Blocks). AreBinsFor f.bounds.low f.bounds.high f.bounds.sigfig f.scale b) (sym c.into_counts-counts.ensures.value) c.self.invariant in
     let fit = subst (λ (b : Blocks). All (λ n. n ≤ g.T.Counter.greatest) b.numbers) (sym c.into_counts-counts.ensures.value) c.into_counts-counts.ensures.fit in
     record {
       scale = b.same_scale;

@@ -1,7 +1,7 @@
 use Rattle.std.proofs.Common.{◌∙◌, arith}
 use Rattle.std.proofs.lemmas.Bool.{false≢true}
 use Rattle.hdr_iterators.proofs.PicksSteps.{InStep-first}
-use Rattle.hdr_iterators.proofs.picking.HistogramIterator.made.Goals as goal
+use Rattle.hdr_iterators.proofs.picking.HistogramIterator.new.Goals as goal
 
 pub invariant_of-result : goal.invariant_of-result
 invariant_of-result g c =
