@@ -32,7 +32,7 @@ def error_text(failure):
     if why == "no column":
         names = ", ".join(it.decode("utf-8", "replace") for it in text)
         return f"{name}: no column `{line.decode()}` in the first line, which has {names}; --column and --time take a name, or a number from 1"
-    return f"{name}: line {line}: `{shown(text)}` {REASONS[why]}"
+    return f"{name}: {line}: `{shown(text)}` {REASONS[why]}"
 
 
 # Numbers
@@ -311,7 +311,9 @@ def check_case(random):
     arguments = ["check", *arguments, *(["--allow-empty"] if is_empty_allowed else []), *(text for text, _, _ in levels)]
     if failure:
         return Case(arguments, data, {}, (b"", f"hdrstat: {error_text(failure)}\n".encode(), 1))
+    if not tally.samples.len() and not is_empty_allowed:
+        return Case(arguments, data, {}, (b"", None, 3))
     if not tally.samples.len():
-        return Case(arguments, data, {}, (None, None, 0 if is_empty_allowed else 3))
+        levels = [it if it[0].startswith("count") else (it[0], True, "-") for it in levels]
     out = "".join(f"{'kept' if is_kept else 'broken'} {text} {value}\n" for text, is_kept, value in levels)
     return Case(arguments, data, {}, (out.encode(), None, 0 if all(it for _, it, _ in levels) else 3))

@@ -70,9 +70,9 @@ def log_error(failure):
     """What standard error has, or None where the model does not say it."""
     name, line, text, why = failure.text
     if why == "log":
-        return f"hdrstat: {name}: line {line}: `{shown(text)}` is not a line of an interval log\n".encode()
+        return f"hdrstat: {name}: {line}: `{shown(text)}` is not a line of an interval log\n".encode()
     if why == "interval" and text in CAUSES:
-        return f"hdrstat: {name}: line {line}: {CAUSES[text]}\n".encode()
+        return f"hdrstat: {name}: {line}: {CAUSES[text]}\n".encode()
     return None
 
 

@@ -153,7 +153,7 @@ class Interval:
                 raise Undecodable("base64")
             return decode(data)
         except Undecodable as bad:
-            raise Failure((name, self.line, str(bad), "interval")) from bad
+            raise Failure((name, f"line {self.line}", str(bad), "interval")) from bad
 
 
 def intervals(name, data):
@@ -177,7 +177,7 @@ def intervals(name, data):
             found[9].decode()
             yield Interval(number, tag, base + nanoseconds(*found.groups()[1:4]), nanoseconds(*found.groups()[4:7]), field)
         except ValueError as error:
-            raise Failure((name, number, line, "log")) from error
+            raise Failure((name, f"line {number}", line, "log")) from error
 
 
 def add(total, samples):
@@ -229,7 +229,7 @@ def gathered(logs):
             elif is_finer(total, samples):
                 one, other = samples, total
             else:
-                raise Failure((name, it.line, b"", "nest"))
+                raise Failure((name, f"line {it.line}", b"", "nest"))
             if other:
                 joined = Samples(one.sigfig, one.low, dict(one.counts))
                 add(joined, other)

@@ -25,9 +25,11 @@ class Failure(Exception):
 
 def parse_number(text):
     """Returns the digits and the decimals of a number: 12.50 is 1250 by 2."""
-    found = NUMBER.fullmatch(text)
-    if not found:
-        raise Bad("negative" if text[:1] == b"-" and NUMBER.fullmatch(text[1:]) and text[1:2] != b"+" else "no number")
+    found = NUMBER.fullmatch(text.removeprefix(b"-"))
+    if not found or text.startswith(b"-+"):
+        raise Bad("no number")
+    if text.startswith(b"-") and found[1].strip(b"0."):
+        raise Bad("negative")
     exponent = int(found[2] or 0)
     mantissa = decimal.Decimal(found[1].decode(), EXACT)
     _, digits, scale = mantissa.as_tuple()
@@ -37,6 +39,14 @@ def parse_number(text):
     if digits and len(str(digits)) + scale > 400:
         raise Bad("large")
     return (digits * 10**scale, 0) if scale >= 0 else (digits, -scale)
+
+
+def beyond_wide(digits):
+    """The number of last digits beyond 128 bits, which are not looked at for the cause of an error."""
+    count = 0
+    while digits >= 1 << 128:
+        digits, count = digits // 10, count + 1
+    return count
 
 
 def rounded(digits, decimals, to):
@@ -129,9 +139,11 @@ class Tally:
             self.interval = min(rounded(*options.interval, self.decimals), LIMIT - 1)
 
     def record(self, digits, decimals):
+        if self.options.decimals is None and decimals - beyond_wide(digits) > MOST_DECIMALS:
+            raise Bad("decimals")
+        if self.options.decimals is None and digits >= LIMIT:
+            raise Bad("large")
         if self.decimals is None:
-            if digits >= LIMIT and decimals <= MOST_DECIMALS:
-                raise Bad("large")
             to = min(max(decimals, self.options.interval[1]), MOST_DECIMALS)
             if decimals > to:
                 raise Bad("decimals")
@@ -149,17 +161,17 @@ class Tally:
             self.samples.add(missing)
             missing -= self.interval
 
-    def take(self, name, line, text):
+    def take(self, name, row, text):
         try:
             self.record(*parse_number(text))
         except Bad as bad:
-            self.refuse(name, line, text, str(bad))
+            self.refuse(name, row, text, str(bad), "row")
 
-    def refuse(self, name, line, text, why):
+    def refuse(self, name, number, text, why, place="line"):
         if self.options.skips_bad and why != "decimals":
             self.skipped += 1
             return
-        raise Failure((name, line, text[:40], why))
+        raise Failure((name, f"{place} {number}", text[:40], why))
 
     def lines(self, name, data):
         """Takes a number a line."""
@@ -180,21 +192,21 @@ class Tally:
         found = rows(data, options.delimiter or guess_delimiter(data))
         if not found:
             return
-        names = [it.strip(SPACE) for it in found[0][1]]
+        names = [it.strip(SPACE) for it in found[0]]
         is_named = options.has_header and options.column in names
         if is_named:
             index = names.index(options.column)
         elif re.fullmatch(rb"\+?\d+", options.column) and 0 < int(options.column) < LIMIT:
             index = int(options.column) - 1
         else:
-            raise Failure((name, options.column, names, "no column"))
-        for number, (line, fields) in enumerate(found):
-            if number == 0 and (is_named or options.has_header and not is_number(fields, index)):
+            raise Failure((name, options.column, found[0], "no column"))
+        for number, fields in enumerate(found, 1):
+            if number == 1 and (is_named or options.has_header and not is_number(fields, index)):
                 continue
             if index >= len(fields):
-                self.refuse(name, line, b"".join(fields), "no field")
+                self.refuse(name, number, b"".join(fields), "no field", "row")
             else:
-                self.take(name, line, fields[index].strip(SPACE))
+                self.take(name, number, fields[index].strip(SPACE))
 
 
 def is_number(fields, index):
@@ -212,14 +224,12 @@ def guess_delimiter(data):
 
 
 def rows(data, delimiter):
-    """The rows of a table, each with the number of its first line: fields may be quoted, a doubled quote is one, and a quote that does
-    not begin a field, or that ends one too early, is text. Rows end with LF, CR or CR LF, and empty lines are none."""
-    found, fields, field, state, line, begun, at = [], [], bytearray(), "start", 1, 1, 0
+    """The rows of a table: fields may be quoted, a doubled quote is one, and a quote that does not begin a field, or that ends one too
+    early, is text. Rows end with LF, CR or CR LF, and empty lines are none."""
+    found, fields, field, state, at = [], [], bytearray(), "start", 0
     while at < len(data):
         byte = data[at : at + 1]
         at += 1
-        if byte == b"\n":
-            line += 1
         if state == "quoted":
             if byte != b'"':
                 field += byte
@@ -230,11 +240,8 @@ def rows(data, delimiter):
                 state = "text"
         elif byte in b"\r\n":
             if fields or field or state != "start":
-                found.append((begun, [*fields, bytes(field)]))
+                found.append([*fields, bytes(field)])
             fields, field, state = [], bytearray(), "start"
-            if byte == b"\r" and data[at : at + 1] == b"\n":
-                at, line = at + 1, line + 1
-            begun = line
         elif byte == delimiter:
             fields.append(bytes(field))
             field, state = bytearray(), "field"
@@ -244,7 +251,7 @@ def rows(data, delimiter):
             field += byte
             state = "text"
     if fields or field or state != "start":
-        found.append((begun, [*fields, bytes(field)]))
+        found.append([*fields, bytes(field)])
     return found
 
 
