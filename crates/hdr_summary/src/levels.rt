@@ -1,0 +1,129 @@
+//! Levels that figures have to keep, such as `p99<=200ms`.
+
+ghost use Rattle.std.specs.Prelude.{◌≡◌, ◌≤◌, ◌↔◌, IsTrue};
+ghost use Rattle.hdr_summary.specs.Levels.{IsOnSide};
+
+use crate::decimals::decimal;
+use crate::percentile::parse_percentile;
+use crate::units::{Unit, parse_amount};
+use hdr_input::{Distribution, Number};
+use hdrhistogram::Quantile;
+use std::alloc::{AllocError, Global};
+
+/// The figure of a level.
+#[derive(Clone, Copy)]
+enum Measure {
+    Count,
+    Min,
+    Max,
+    Quantile(Quantile),
+}
+
+/// On which side of a number a figure has to be.
+#[derive(Clone, Copy)]
+pub enum Side {
+    Below,
+    AtMost,
+    Above,
+    AtLeast,
+}
+
+/// A level, with its text.
+#[derive(Clone, Copy)]
+pub struct Level<'a> {
+    pub text: &'a str,
+    measure: Measure,
+    side: Side,
+    number: Number,
+    ghost few: { number.decimals ≤ 18 },
+}
+
+/// Parses the name of a figure.
+fn parse_measure(name: &str) -> Option<Measure> {
+    match name {
+        "count" => Some(Measure::Count),
+        "min" => Some(Measure::Min),
+        "max" => Some(Measure::Max),
+        _ => match parse_percentile(name) {
+            Some(percentile) => Some(Measure::Quantile(percentile.quantile)),
+            None => None,
+        },
+    }
+}
+
+/// Splits a level at its sign.
+fn split_side(text: &str) -> Option<(&str, Side, &str)> {
+    for (sign, side) in [
+        ("<=", Side::AtMost),
+        (">=", Side::AtLeast),
+        ("<", Side::Below),
+        (">", Side::Above),
+    ] {
+        if let Some((name, number)) = text.split_once(sign) {
+            return Some((name, side, number));
+        }
+    }
+    None
+}
+
+/// Parses a level such as `p99<=200ms`. A unit of time is only valid if the input has one. A count has none.
+pub fn parse_level(text: &str, unit: Option<Unit>) -> Option<Level<'_>> {
+    let (name, side, amount) = split_side(text)?;
+    let measure = parse_measure(name)?;
+    let unit = match measure {
+        Measure::Count => None,
+        _ => unit,
+    };
+    let number = parse_amount(amount, unit)?;
+    Some(Level {
+        text,
+        measure,
+        side,
+        number,
+    })
+}
+
+/// The value of a level's figure, and whether it keeps the level.
+#[derive(Drop)]
+pub struct Verdict {
+    pub value: String,
+    pub is_kept: bool,
+}
+
+/// Whether `units`, of which 10^decimals are 1, are on this side of a number.
+fn is_on_side(units: u64, decimals: u32, side: Side, number: Number) -> bool
+    requires few { decimals ≤ 18 }
+    requires few_of_number { number.decimals ≤ 18 }
+    ensures { IsTrue result ↔ IsOnSide side units decimals number.digits number.decimals }
+{
+    let value = u128::from(units) * 10u128.pow(number.decimals);
+    let bound = u128::from(number.digits) * 10u128.pow(decimals);
+    match side {
+        Side::Below => value < bound,
+        Side::AtMost => value <= bound,
+        Side::Above => value > bound,
+        Side::AtLeast => value >= bound,
+    }
+}
+
+/// Compares the figure of a distribution with a level. Without numbers only a count has a value.
+pub fn judge(
+    alloc: Global,
+    distribution: &Distribution,
+    level: &Level<'_>,
+) -> Result<Verdict, AllocError> {
+    let decimals = match level.measure {
+        Measure::Count => 0,
+        _ => distribution.decimals,
+    };
+    let units = match level.measure {
+        Measure::Count => distribution.histogram.len(),
+        Measure::Min => distribution.min,
+        Measure::Max => distribution.max,
+        Measure::Quantile(quantile) => distribution.value_at_quantile(quantile),
+    };
+    Ok(Verdict {
+        value: decimal(alloc, u128::from(units), decimals)?,
+        is_kept: is_on_side(units, decimals, level.side, level.number),
+    })
+}
