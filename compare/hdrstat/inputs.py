@@ -2,7 +2,7 @@
 import dataclasses
 import json
 
-from model import Failure, Options, Tally, decimal_text, mean_text
+from model import Failure, Options, Tally, decimal_text
 
 REASONS = {
     "no number": "is not a number; --skip-bad ignores such lines",
@@ -141,15 +141,21 @@ USUAL = [("50", 50, 100), ("90", 90, 100), ("99", 99, 100), ("99.9", 999, 1000)]
 # Figures
 
 
-def figures(tally, wanted):
+def shifted(units, decimals, shift):
+    """A decimal divided by ten this many times, and multiplied if it is negative."""
+    decimals += shift
+    return decimal_text(units, decimals) if decimals >= 0 else str(units * 10**-decimals)
+
+
+def figures(tally, wanted, shift=0):
     """Names and values of the figures; None where there is no value."""
     samples, decimals = tally.samples, tally.decimals or 0
     count = samples.len()
-    value = (lambda units: decimal_text(units, decimals)) if count else lambda _: None
+    value = (lambda units: shifted(units, decimals, shift)) if count else lambda _: None
     mean = None
     if count:
         total = samples.mean_of_classes() if tally.interval else samples.total
-        mean = mean_text(total, count, decimals)
+        mean = shifted((200 * total + count) // (2 * count), decimals + 2, shift)
     found = [("count", str(count)), ("min", value(samples.least)), ("mean", mean)]
     found += [(f"p{text}", value(samples.at(num, den))) for text, num, den in wanted]
     return [*found, ("max", value(samples.greatest))]
@@ -185,6 +191,11 @@ def summary_case(random, arguments, chosen, data, take):
     name = random.choice(["table", "table", "csv", "tsv", "json"])
     if name != "table" or random.random() < 0.2:
         arguments += random.choice([["-f", name], [f"--format={name}"]])
+    shift = 0
+    if random.random() < 0.2:
+        unit, to = random.choice(list(UNITS)), random.choice(list(UNITS))
+        arguments += ["--unit", unit, "--output-unit", to]
+        shift = UNITS[unit] - UNITS[to]
     files, stdin = {}, data
     if random.random() < 0.2:
         files, stdin = {"one": data}, b""
@@ -200,7 +211,7 @@ def summary_case(random, arguments, chosen, data, take):
         return Case(arguments, stdin, files, (b"", f"hdrstat: {error_text(failure)}\n".encode(), 1))
     if tally.skipped:
         skipped = f"hdrstat: {tally.skipped} bad lines skipped\n".encode()
-    return Case(arguments, stdin, files, (FORMATS[name](figures(tally, wanted)).encode(), skipped, 0))
+    return Case(arguments, stdin, files, (FORMATS[name](figures(tally, wanted, shift)).encode(), skipped, 0))
 
 
 def number_case(random):
@@ -262,8 +273,8 @@ def table_case(random):
 
 # Checks
 
-SIGNS = {"<": lambda a, b: a < b, "<=": lambda a, b: a <= b, ">": lambda a, b: a > b, ">=": lambda a, b: a >= b}
 UNITS = {"ns": 9, "us": 6, "ms": 3, "s": 0}
+SIGNS = {"<": lambda a, b: a < b, "<=": lambda a, b: a <= b, ">": lambda a, b: a > b, ">=": lambda a, b: a >= b}
 
 
 def level(random, tally, unit):

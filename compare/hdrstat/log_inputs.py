@@ -1,5 +1,8 @@
 """Random interval logs for hdrstat, with what the model says of each."""
 import base64
+import csv
+import io
+import json
 
 from inputs import FORMATS, USUAL, Case, digits, figures, percentiles, shown
 from logs import CAUSES, decode, encode, gathered, sums
@@ -96,6 +99,39 @@ def tally_of(samples):
     return tally
 
 
+def tagged_table(rows):
+    """A line of names and one for each tag, in columns: the tags to the left, numbers to the right."""
+    if not rows:
+        return ""
+    lines = [["tag", *(name for name, _ in rows[0][1])]]
+    lines += [[(tag or b"").decode() if tag is not None else "(no tag)", *(value or "-" for _, value in found)] for tag, found in rows]
+    wide = [max(len(line[at]) for line in lines) for at in range(len(lines[0]))]
+    return "".join("  ".join([f"{line[0]:{wide[0]}}", *(f"{it:>{to}}" for it, to in zip(line[1:], wide[1:]))]) + "\n" for line in lines)
+
+
+def tagged_csv(rows):
+    """The same as CSV, with an apostrophe before what a spreadsheet takes for a formula."""
+    out = io.StringIO()
+    table = csv.writer(out, lineterminator="\n")
+    for tag, found in rows:
+        if not out.getvalue():
+            table.writerow(["tag", *(name for name, _ in found)])
+        tag = (tag or b"").decode()
+        table.writerow(["'" + tag if tag[:1] in ("=", "+", "-", "@", "\t", "\r") and tag else tag, *(value or "" for _, value in found)])
+    return out.getvalue()
+
+
+def tagged_json(rows):
+    objects = []
+    for tag, found in rows:
+        text = "null" if tag is None else json.dumps(tag.decode(), ensure_ascii=False)
+        objects.append("".join(["{", f'"tag":{text}', *(f',"{name}":{value or "null"}' for name, value in found), "}"]))
+    return "[" + ",\n".join(objects) + "]\n"
+
+
+TAGGED = {"table": tagged_table, "csv": tagged_csv, "json": tagged_json}
+
+
 def log_case(random):
     logs, arguments, wanted = logs_of(random), ["summary", "--from", "log"], USUAL
     sigfig = 3
@@ -119,10 +155,15 @@ def log_case(random):
         arguments += ["--to-time", "%d.%03d" % divmod(until, 1000)]
     name = random.choice(["table", "csv", "json"])
     arguments += ["-f", name]
+    by_tag = random.random() < 0.3
+    arguments += ["--by-tag"] * by_tag
     try:
-        found, coarser = sums(logs, sigfig, False, **chosen)
+        found, coarser = sums(logs, sigfig, by_tag, **chosen)
     except Failure as failure:
         return case_of(arguments, logs, (b"", log_error(failure), 1))
+    if by_tag:
+        out = TAGGED[name]([(tag, figures(tally_of(it), wanted)) for tag, it in found.items()]).encode()
+        return case_of(arguments, logs, (out, None if coarser else b"", 0))
     total = found.get(None) or Samples(sigfig)
     out = FORMATS[name](figures(tally_of(total), wanted)).encode()
     return case_of(arguments, logs, (out, None if coarser else b"", 0))

@@ -177,7 +177,7 @@ def intervals(name, data):
             found[9].decode()
             yield Interval(number, tag, base + nanoseconds(*found.groups()[1:4]), nanoseconds(*found.groups()[4:7]), field)
         except ValueError as error:
-            raise Failure((name, f"line {number}", line, "log")) from error
+            raise Failure((name, f"line {number}", line.strip(SPACE), "log")) from error
 
 
 def add(total, samples):

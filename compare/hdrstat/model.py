@@ -260,8 +260,3 @@ def decimal_text(units, decimals):
         return str(units)
     digits = str(units).rjust(decimals + 1, "0")
     return f"{digits[:-decimals]}.{digits[-decimals:]}"
-
-
-def mean_text(num, den, decimals):
-    """A mean with two decimals more than the values have, halves up."""
-    return decimal_text((200 * num + den) // (2 * den), decimals + 2)
