@@ -1,11 +1,11 @@
 //! The page of a log.
 
 use crate::curve::push_curves;
+use crate::error::PageError;
 use crate::interval::{Seen, Sum, answers_of, seen_in};
 use crate::number::thousandths;
 use crate::over_time::{DRAWN, push_over_time};
 use crate::svg::push_text;
-use anyhow::Result;
 use hdrhistogram::serialization::interval_log::Tag;
 use std::alloc::{AllocError, Global};
 
@@ -27,9 +27,9 @@ rect { fill: none; stroke: #888; } polyline { fill: none; stroke-width: 2; } .ma
 const TABLE: &str =
     "<table><tr><th>tag</th><th>count</th><th>mean</th><th>50%</th><th>90%</th><th>99%</th><th>99.9%</th><th>100%</th></tr>\n";
 
-/// The page of a log: the curves of its tags, their quantiles over time, and their numbers.
-pub(crate) fn page(alloc: Global, log: &[u8]) -> Result<String> {
-    let seen = seen_in(alloc, log)?;
+/// Returns the page of logs: the curves of its tags, their quantiles over time, and their numbers.
+pub fn page(alloc: Global, logs: &[Vec<u8>]) -> Result<String, PageError> {
+    let seen = seen_in(alloc, logs)?;
     let mut text = String::from_str(alloc, HEAD)?;
     push_table(alloc, &mut text, seen.sums.as_slice())?;
     text.push_str("<h2>Quantiles</h2>\n")?;

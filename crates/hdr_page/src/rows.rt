@@ -1,15 +1,15 @@
 //! A row for each interval of a log.
 
+use crate::error::PageError;
 use crate::interval::{Interval, seen_in};
 use crate::number::thousandths;
-use anyhow::Result;
 use std::alloc::{AllocError, Global};
 
 const HEAD: &str = "start,tag,length,count,50%,90%,99%,99.9%,100%\n";
 
-/// The intervals of a log in order, after a line that names the fields. Times are in seconds.
-pub(crate) fn rows(alloc: Global, log: &[u8]) -> Result<String> {
-    let seen = seen_in(alloc, log)?;
+/// Returns a row for each interval of logs in order, after a line that names the fields. Times are in seconds.
+pub fn rows(alloc: Global, logs: &[Vec<u8>]) -> Result<String, PageError> {
+    let seen = seen_in(alloc, logs)?;
     let mut text = String::from_str(alloc, HEAD)?;
     for interval in &seen.intervals {
         push_row(alloc, &mut text, interval)?;
