@@ -3,13 +3,13 @@
 
 mod curve;
 mod error;
+mod html;
 mod interval;
 mod number;
 mod over_time;
-mod page;
-mod rows;
+mod separated;
 mod svg;
 
 pub use error::PageError;
-pub use page::page;
-pub use rows::rows;
+pub use html::page;
+pub use separated::rows;
