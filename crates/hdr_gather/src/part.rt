@@ -4,11 +4,11 @@ ghost use Rattle.std.specs.Prelude.{◌≡◌, ◌+◌, IfSome, OnOk};
 ghost use Rattle.std.specs.Duration.{as_nanos};
 ghost use Rattle.hdr_gather.specs.Times.{nearest_millisecond};
 
-use anyhow::{Result, bail};
+use crate::error::{GatherError, Place};
 use hdrhistogram::serialization::interval_log::{
     IntervalLogHistogram, IntervalLogIterator, LogEntry, LogIteratorError, Tag,
 };
-use std::alloc::{AllocError, Global};
+use std::alloc::AllocError;
 use std::time::Duration;
 
 /// An interval of the input. Its texts are slices of it.
@@ -20,8 +20,8 @@ pub(crate) struct Part<'a> {
     pub duration: Duration,
     /// The bytes of its histogram, in Base64.
     pub field: &'a str,
-    /// Its number among the intervals of the input, from 1.
-    pub place: u64,
+    /// The log that it is in, and its number there.
+    pub place: Place,
 }
 
 impl<'a> Part<'a> {
@@ -42,11 +42,11 @@ fn milliseconds(base: Duration, start: Duration) -> Option<u64>
 /// Returns an interval with this base time and number.
 fn part_of<'a>(
     base: Duration,
-    place: u64,
+    place: Place,
     interval: &IntervalLogHistogram<'a>,
-) -> Result<Part<'a>> {
+) -> Result<Part<'a>, GatherError> {
     let Some(start) = milliseconds(base, interval.start_timestamp()) else {
-        bail!("interval {place}: begins past 64 bits of milliseconds");
+        return Err(GatherError::TooLate(place));
     };
     Ok(Part {
         start,
@@ -57,25 +57,32 @@ fn part_of<'a>(
     })
 }
 
-/// The intervals of a log, in its order.
-pub(crate) fn parts_of(alloc: Global, log: &[u8]) -> Result<Vec<Part<'_>>> {
-    let mut parts = Vec::new(alloc);
+/// Appends the intervals of a log, which has this index among the logs, in its order.
+pub(crate) fn push_parts<'a>(
+    parts: &mut Vec<Part<'a>>,
+    log: usize,
+    input: &'a [u8],
+) -> Result<(), GatherError> {
     let mut base = Duration::ZERO;
-    let mut place = 0u64;
-    for entry in IntervalLogIterator::new(log) {
+    let mut number = 0u64;
+    for entry in IntervalLogIterator::new(input) {
         match entry {
             Ok(LogEntry::StartTime(_)) => {}
             Ok(LogEntry::BaseTime(time)) => base = time,
             Ok(LogEntry::Interval(interval)) => {
-                place = place.saturating_add(1);
+                number = number.saturating_add(1);
+                let place = Place {
+                    log,
+                    interval: number,
+                };
                 parts.push(part_of(base, place, &interval)?)?;
             }
             Err(LogIteratorError::ParseError { offset }) => {
-                bail!("log: parse error at byte {offset}")
+                return Err(GatherError::Parse { log, offset });
             }
         }
     }
-    Ok(parts)
+    Ok(())
 }
 
 /// Sorts intervals by time and then by tag, ascending. The sort is stable.

@@ -18,6 +18,32 @@ pub struct Layout {
     pub has_header: bool,
 }
 
+/// The columns that are read: that of the numbers, and that of their times.
+#[derive(Clone, Copy)]
+pub struct Columns<'a> {
+    pub value: &'a str,
+    pub time: Option<&'a str>,
+}
+
+/// The indices of these columns.
+#[derive(Clone, Copy)]
+pub struct Indices {
+    pub value: usize,
+    pub time: Option<usize>,
+}
+
+/// What takes the rows of a table.
+pub trait RowSink {
+    /// Takes the row of this number, counted from 1. A row of names is a row, and is not taken.
+    fn take_row(
+        &mut self,
+        alloc: Global,
+        row: &ByteRecord,
+        indices: Indices,
+        number: u64,
+    ) -> Result<(), InputError>;
+}
+
 /// Converts an error of the table's reader.
 fn reading_error(error: csv::Error) -> InputError {
     match error.into_kind() {
@@ -51,30 +77,6 @@ fn names_of(alloc: Global, names: &ByteRecord) -> Result<String, AllocError> {
     Ok(text)
 }
 
-/// Records the number of the row of this number.
-fn record_row(
-    alloc: Global,
-    row: &ByteRecord,
-    index: usize,
-    number: u64,
-    tally: &mut Tally,
-) -> Result<(), InputError> {
-    let Some(field) = row.get(index) else {
-        return skip_or_err(
-            alloc,
-            tally,
-            Place::Row(number),
-            row.as_slice(),
-            Cause::NoField,
-        );
-    };
-    let text = field.trim_ascii();
-    match record_text(tally, text) {
-        Ok(()) => Ok(()),
-        Err(cause) => skip_or_err(alloc, tally, Place::Row(number), text, cause),
-    }
-}
-
 /// Returns the error of a column that the first row does not have.
 fn no_column(alloc: Global, names: &ByteRecord, wanted: &str) -> InputError {
     match (String::from_str(alloc, wanted), names_of(alloc, names)) {
@@ -91,27 +93,27 @@ fn has_number(row: &ByteRecord, index: usize) -> bool {
     }
 }
 
-/// Returns the index of a column, and records the number of the first row if that is not a row of names. It is one if it has the
-/// name of the column, or if the layout allows it and its field is not a number.
+/// Whether the first row is a row of names: if it has the name of the column, or if the field of the column is not a number.
+fn is_header(row: &ByteRecord, wanted: &str, index: usize) -> bool {
+    index_of_name(row, wanted).is_some() || !has_number(row, index)
+}
+
+/// Returns the index of a column.
 fn find_column(
     alloc: Global,
     names: &ByteRecord,
     wanted: &str,
     layout: Layout,
-    tally: &mut Tally,
 ) -> Result<usize, InputError> {
-    if layout.has_header {
-        if let Some(index) = index_of_name(names, wanted) {
-            return Ok(index);
-        }
-    }
-    let Some(index) = index_of_number(wanted) else {
-        return Err(no_column(alloc, names, wanted));
+    let named = if layout.has_header {
+        index_of_name(names, wanted)
+    } else {
+        None
     };
-    if !layout.has_header || has_number(names, index) {
-        record_row(alloc, names, index, 1, tally)?;
+    match named.or(index_of_number(wanted)) {
+        Some(index) => Ok(index),
+        None => Err(no_column(alloc, names, wanted)),
     }
-    Ok(index)
 }
 
 /// Reads the next row, if there is one.
@@ -119,13 +121,28 @@ fn next_row<R: Read>(rows: &mut Reader<R>, row: &mut ByteRecord) -> Result<bool,
     rows.read_byte_record(row).map_err(reading_error)
 }
 
-/// Records the numbers of a column, which has a name in the first row, or a number counted from 1.
-pub fn record_column<R: Read + Drop>(
+/// Returns the indices of columns.
+fn find_columns(
+    alloc: Global,
+    names: &ByteRecord,
+    columns: Columns<'_>,
+    layout: Layout,
+) -> Result<Indices, InputError> {
+    let value = find_column(alloc, names, columns.value, layout)?;
+    let time = match columns.time {
+        Some(wanted) => Some(find_column(alloc, names, wanted, layout)?),
+        None => None,
+    };
+    Ok(Indices { value, time })
+}
+
+/// Reads a table to its end. A column has a name in the first row, or a number from 1.
+pub fn read_rows<R: Read + Drop, S: RowSink>(
     alloc: Global,
     reader: R,
-    wanted: &str,
+    columns: Columns<'_>,
     layout: Layout,
-    tally: &mut Tally,
+    sink: &mut S,
 ) -> Result<(), InputError> {
     let mut rows = ReaderBuilder::new()
         .has_headers(false)
@@ -136,14 +153,44 @@ pub fn record_column<R: Read + Drop>(
     if !next_row(&mut rows, &mut row)? {
         return Ok(());
     }
-    let index = find_column(alloc, &row, wanted, layout, tally)?;
+    let indices = find_columns(alloc, &row, columns, layout)?;
+    if !layout.has_header || !is_header(&row, columns.value, indices.value) {
+        sink.take_row(alloc, &row, indices, 1)?;
+    }
     for before in 1..u64::MAX {
         if !next_row(&mut rows, &mut row)? {
             break;
         }
-        record_row(alloc, &row, index, before + 1, tally)?;
+        sink.take_row(alloc, &row, indices, before + 1)?;
     }
     Ok(())
+}
+
+/// Returns the field of a row, without whitespace around it.
+pub(crate) fn field(row: &ByteRecord, index: usize) -> Option<&[u8]> {
+    match row.get(index) {
+        Some(field) => Some(field.trim_ascii()),
+        None => None,
+    }
+}
+
+impl RowSink for Tally {
+    fn take_row(
+        &mut self,
+        alloc: Global,
+        row: &ByteRecord,
+        indices: Indices,
+        number: u64,
+    ) -> Result<(), InputError> {
+        let place = Place::Row(number);
+        let Some(text) = field(row, indices.value) else {
+            return skip_or_err(alloc, self, place, row.as_slice(), Cause::NoField);
+        };
+        match record_text(self, text) {
+            Ok(()) => Ok(()),
+            Err(cause) => skip_or_err(alloc, self, place, text, cause),
+        }
+    }
 }
 
 /// Returns the delimiter of a table by its first bytes: a tab if the first line has one, otherwise a semicolon if it has one and no

@@ -5,6 +5,7 @@ pub mod cause;
 pub mod columns;
 pub mod distribution;
 pub mod errors;
+pub mod intervals;
 pub mod lines;
 pub mod logs;
 pub mod number;

@@ -152,7 +152,7 @@ impl<'a> LogSums<'a> {
                         self.add(alloc, &interval, number)?;
                     }
                 }
-                Err(_) => return Err(not_a_log(alloc, number, line)),
+                Err(_) => return Err(not_a_log(alloc, number, line.trim_ascii())),
             }
         }
         Ok(())

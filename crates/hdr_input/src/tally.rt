@@ -69,6 +69,16 @@ impl Tally {
         skips
     }
 
+    /// Returns the expected interval in units, 0 for none.
+    pub(crate) fn interval(&self) -> u64 {
+        self.interval
+    }
+
+    /// Returns the decimals of a unit.
+    pub fn decimals(&self) -> u32 {
+        self.decimals.unwrap_or(0)
+    }
+
     /// Returns the decimals that numbers are rounded to, if the recording has them.
     pub(crate) fn fixed_decimals(&self) -> Option<u32> {
         self.recording.decimals
@@ -148,7 +158,7 @@ impl Tally {
     }
 
     /// Returns a number in units. The first number determines the unit, unless the recording does.
-    fn units_of(&mut self, number: Number) -> Result<u64, Cause>
+    pub(crate) fn units_of(&mut self, number: Number) -> Result<u64, Cause>
         ensures { IfOk result (λ units. (decimals : ℕ) → self.old.decimals ≡ Some decimals
             → (units ≡ in_units number.digits number.decimals decimals) × (self.new ≡ self.old)) }
     {

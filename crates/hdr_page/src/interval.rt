@@ -1,9 +1,8 @@
 //! The intervals of a log, one by one and together.
 
-use anyhow::{Context, Error, Result, anyhow, bail};
+use crate::error::PageError;
 use hdrhistogram::serialization::interval_log::{
-    IntervalFilter, IntervalLogHistogram, IntervalLogIterator, LogEntry, LogIteratorError,
-    MergeError, Tag, merge_log,
+    IntervalLogHistogram, IntervalLogIterator, LogEntry, LogIteratorError, Tag,
 };
 use hdrhistogram::serialization::{Deserializer, FieldDecodeError};
 use hdrhistogram::{Histogram, Quantile};
@@ -50,79 +49,88 @@ pub(crate) struct Seen<'a> {
     pub sums: Vec<Sum<'a>>,
 }
 
-/// The sum of all intervals of a log.
-pub(crate) fn merged(alloc: Global, log: &[u8]) -> Result<Histogram<u64>> {
-    let every = IntervalFilter {
-        tag: None,
-        from: None,
-        to: None,
-    };
-    match merge_log(alloc, log, &every, DIGITS) {
-        Ok(merged) => Ok(merged.histogram),
-        Err(MergeError::Parse { offset }) => bail!("log: parse error at byte {offset}"),
-        Err(fault) => Err(fault.into()),
-    }
-}
-
-/// The intervals of a log, and the sum of each tag.
-pub(crate) fn seen_in(alloc: Global, log: &[u8]) -> Result<Seen<'_>> {
+/// Returns the intervals of logs, and the sum of each tag.
+pub(crate) fn seen_in(alloc: Global, logs: &[Vec<u8>]) -> Result<Seen<'_>, PageError> {
     let mut seen = Seen {
         intervals: Vec::new(alloc),
         sums: Vec::new(alloc),
     };
-    let mut base = Duration::ZERO;
-    let mut place = 0u64;
-    for entry in IntervalLogIterator::new(log) {
-        match entry {
-            Ok(LogEntry::StartTime(_)) => {}
-            Ok(LogEntry::BaseTime(time)) => base = time,
-            Ok(LogEntry::Interval(interval)) => {
-                place = place.saturating_add(1);
-                see(alloc, &mut seen, base, place, &interval)?;
-            }
-            Err(LogIteratorError::ParseError { offset }) => {
-                bail!("log: parse error at byte {offset}")
-            }
-        }
+    for (index, log) in logs.iter().enumerate() {
+        see_log(alloc, &mut seen, index, log)?;
     }
     Ok(seen)
 }
 
-/// Adds an interval of this number, after this base time.
+/// Adds the intervals of the log of this index.
+fn see_log<'a>(
+    alloc: Global,
+    seen: &mut Seen<'a>,
+    log: usize,
+    bytes: &'a [u8],
+) -> Result<(), PageError> {
+    let mut base = Duration::ZERO;
+    let mut number = 0u64;
+    for entry in IntervalLogIterator::new(bytes) {
+        match entry {
+            Ok(LogEntry::StartTime(_)) => {}
+            Ok(LogEntry::BaseTime(time)) => base = time,
+            Ok(LogEntry::Interval(interval)) => {
+                number = number.saturating_add(1);
+                let histogram = decoded(alloc, log, number, interval.encoded_histogram())?;
+                see(alloc, seen, base, &interval, &histogram)?;
+            }
+            Err(LogIteratorError::ParseError { offset }) => {
+                return Err(PageError::Parse { log, offset });
+            }
+        }
+    }
+    Ok(())
+}
+
+/// Adds an interval after this base time.
 fn see<'a>(
     alloc: Global,
     seen: &mut Seen<'a>,
     base: Duration,
-    place: u64,
     interval: &IntervalLogHistogram<'a>,
-) -> Result<()> {
-    let histogram = decoded(alloc, place, interval.encoded_histogram())?;
-    add_to_sum(alloc, &mut seen.sums, interval.tag(), &histogram)?;
+    histogram: &Histogram<u64>,
+) -> Result<(), PageError> {
+    add_to_sum(alloc, &mut seen.sums, interval.tag(), histogram)?;
     let start = base.as_nanos() + interval.start_timestamp().as_nanos();
     seen.intervals.push(Interval {
         tag: interval.tag(),
         start: (start + 500_000) / 1_000_000,
         length: (interval.duration().as_nanos() + 500_000) / 1_000_000,
         count: histogram.len(),
-        answers: answers_of(&histogram),
+        answers: answers_of(histogram),
     })?;
     Ok(())
 }
 
-/// The histogram of a field.
-fn decoded(alloc: Global, place: u64, field: &str) -> Result<Histogram<u64>> {
+/// Returns the histogram of the field of the interval of this number.
+fn decoded(
+    alloc: Global,
+    log: usize,
+    interval: u64,
+    field: &str,
+) -> Result<Histogram<u64>, PageError> {
     match Deserializer::new(alloc).decode_field(field) {
         Ok(histogram) => Ok(histogram),
-        Err(cause) => Err(undecoded(place, cause)),
+        Err(cause) => Err(undecoded(log, interval, cause)),
     }
 }
 
-/// Why the field of the interval of this number is not decoded.
-fn undecoded(place: u64, cause: FieldDecodeError) -> Error {
-    if matches!(cause, FieldDecodeError::OutOfMemory) {
-        return anyhow!("Out of memory");
+/// Returns the error of the interval of this number in the log of this index, whose field is not decoded.
+fn undecoded(log: usize, interval: u64, cause: FieldDecodeError) -> PageError {
+    match cause {
+        FieldDecodeError::OutOfMemory => PageError::OutOfMemory,
+        FieldDecodeError::NotBase64 => PageError::Base64 { log, interval },
+        FieldDecodeError::Decode(cause) => PageError::Decode {
+            log,
+            interval,
+            cause,
+        },
     }
-    anyhow!("interval {place}: {cause}")
 }
 
 /// Adds a histogram to the sum of its tag.
@@ -131,7 +139,7 @@ fn add_to_sum<'a>(
     sums: &mut Vec<Sum<'a>>,
     tag: Option<Tag<'a>>,
     histogram: &Histogram<u64>,
-) -> Result<()> {
+) -> Result<(), PageError> {
     for sum in sums.iter_mut() {
         if sum.tag == tag {
             sum.histogram.add(histogram)?;

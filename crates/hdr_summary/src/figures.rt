@@ -22,6 +22,9 @@ pub struct Tagged {
 /// Returns the mean in hundredths of a unit, halves rounded up, or `None` without numbers or on overflow. It is that of the numbers,
 /// or that of their classes if only these are known.
 pub fn mean_in_hundredths(distribution: &Distribution) -> Option<u128> {
+    if distribution.histogram.is_empty() {
+        return None;
+    }
     match distribution.sum {
         Some(sum) => in_parts(sum, u128::from(distribution.histogram.len()), 100),
         None => {

@@ -1,7 +1,7 @@
 //! Levels that figures have to keep, such as `p99<=200ms`.
 
 ghost use Rattle.std.specs.Prelude.{◌≡◌, ◌≤◌, ◌↔◌, IsTrue};
-ghost use Rattle.hdr_summary.specs.Levels.{IsOnSide};
+ghost use Rattle.hdr_summary.specs.Levels.{IsOnSide, units_of, decimals_of};
 
 use crate::decimals::decimal;
 use crate::percentile::parse_percentile;
@@ -12,7 +12,7 @@ use std::alloc::{AllocError, Global};
 
 /// The figure of a level.
 #[derive(Clone, Copy)]
-enum Measure {
+pub enum Measure {
     Count,
     Min,
     Max,
@@ -32,9 +32,9 @@ pub enum Side {
 #[derive(Clone, Copy)]
 pub struct Level<'a> {
     pub text: &'a str,
-    measure: Measure,
-    side: Side,
-    number: Number,
+    pub measure: Measure,
+    pub side: Side,
+    pub number: Number,
     ghost few: { number.decimals ≤ 18 },
 }
 
@@ -83,13 +83,6 @@ pub fn parse_level(text: &str, unit: Option<Unit>) -> Option<Level<'_>> {
     })
 }
 
-/// The value of a level's figure, and whether it keeps the level.
-#[derive(Drop)]
-pub struct Verdict {
-    pub value: String,
-    pub is_kept: bool,
-}
-
 /// Whether `units`, of which 10^decimals are 1, are on this side of a number.
 fn is_on_side(units: u64, decimals: u32, side: Side, number: Number) -> bool
     requires few { decimals ≤ 18 }
@@ -106,24 +99,51 @@ fn is_on_side(units: u64, decimals: u32, side: Side, number: Number) -> bool
     }
 }
 
-/// Compares the figure of a distribution with a level. Without numbers only a count has a value.
-pub fn judge(
-    alloc: Global,
-    distribution: &Distribution,
-    level: &Level<'_>,
-) -> Result<Verdict, AllocError> {
-    let decimals = match level.measure {
-        Measure::Count => 0,
-        _ => distribution.decimals,
-    };
-    let units = match level.measure {
+/// Returns the value of a figure, in units.
+fn units_of(distribution: &Distribution, measure: Measure) -> u64
+    ensures { result ≡ units_of distribution.now measure }
+{
+    match measure {
         Measure::Count => distribution.histogram.len(),
         Measure::Min => distribution.min,
         Measure::Max => distribution.max,
         Measure::Quantile(quantile) => distribution.value_at_quantile(quantile),
-    };
-    Ok(Verdict {
-        value: decimal(alloc, u128::from(units), decimals)?,
-        is_kept: is_on_side(units, decimals, level.side, level.number),
-    })
+    }
+}
+
+/// Returns the decimals of a unit of a figure.
+fn decimals_of(distribution: &Distribution, measure: Measure) -> u32
+    ensures value { result ≡ decimals_of distribution.now measure }
+    ensures few { result ≤ 18 }
+{
+    match measure {
+        Measure::Count => 0,
+        _ => distribution.decimals,
+    }
+}
+
+impl Level<'_> {
+    /// Whether the figure of a distribution is on the side of the level.
+    pub fn is_kept(&self, distribution: &Distribution) -> bool
+        ensures { IsTrue result ↔ IsOnSide self.now.side (units_of distribution.now self.now.measure)
+            (decimals_of distribution.now self.now.measure) self.now.number.digits self.now.number.decimals }
+    {
+        let units = units_of(distribution, self.measure);
+        let decimals = decimals_of(distribution, self.measure);
+        is_on_side(units, decimals, self.side, self.number)
+    }
+
+    /// Returns the value of the level's figure as a decimal. Without numbers only a count has one.
+    pub fn value(
+        &self,
+        alloc: Global,
+        distribution: &Distribution,
+    ) -> Result<Option<String>, AllocError> {
+        if distribution.histogram.is_empty() && !matches!(self.measure, Measure::Count) {
+            return Ok(None);
+        }
+        let units = units_of(distribution, self.measure);
+        let decimals = decimals_of(distribution, self.measure);
+        Ok(Some(decimal(alloc, u128::from(units), decimals)?))
+    }
 }

@@ -6,7 +6,7 @@ use crate::output::print;
 use crate::reading::{parse_reading, unit_of};
 use clap::ArgMatches;
 use hdr_summary::figures::Tagged;
-use hdr_summary::levels::{Level, judge, parse_level};
+use hdr_summary::levels::{Level, parse_level};
 use hdr_summary::units::Unit;
 use std::alloc::Global;
 use std::process::ExitCode;
@@ -45,12 +45,17 @@ fn push_verdicts(
 ) -> Result<bool, StatError> {
     let mut all_kept = true;
     for level in levels {
-        let verdict = judge(alloc, &part.distribution, level)?;
-        let word = if verdict.is_kept { "kept" } else { "broken" };
-        all_kept = all_kept && verdict.is_kept;
+        let value = level.value(alloc, &part.distribution)?;
+        // Without a value no level is broken: an empty input is accepted.
+        let is_kept = value.is_none() || level.is_kept(&part.distribution);
+        all_kept = all_kept && is_kept;
+        let word = if is_kept { "kept" } else { "broken" };
         let written = level.text;
-        let value = &verdict.value;
-        write!(text, "{word} {written} {value}")?;
+        write!(text, "{word} {written} ")?;
+        match &value {
+            Some(value) => text.push_str(value.as_str())?,
+            None => text.push('-')?,
+        }
         if let Some(tag) = &part.tag {
             write!(text, " {tag}")?;
         }
@@ -84,6 +89,6 @@ pub(crate) fn check(rt: &HostRuntime, matches: &ArgMatches<'_>) -> Result<ExitCo
         let kept = push_verdicts(alloc, &mut text, part, &levels)?;
         all_kept = all_kept && kept;
     }
-    print(rt, text.as_str())?;
+    print(rt, text.as_bytes())?;
     Ok(ExitCode::from(if all_kept { 0 } else { BROKEN }))
 }

@@ -1,6 +1,9 @@
 //! The command line and its help.
 
 mod check;
+mod gather;
+mod log;
+mod page;
 mod reading;
 mod summary;
 
@@ -21,6 +24,13 @@ fn option<'a>(alloc: Global, id: &'a str, name: &'a str, help: &'a str) -> Arg<'
     Arg::new(alloc, id).long(id).value_name(name).help(help)
 }
 
+/// Returns the logs of a subcommand.
+fn logs<'a>(alloc: Global) -> Arg<'a> {
+    Arg::new(alloc, "LOG")
+        .num_args(0..)
+        .help("Interval logs to read; standard input if there are none, or for -")
+}
+
 /// Returns the command line of the program.
 pub(crate) fn hdrstat<'a>(alloc: Global) -> Result<Command<'a>, Error> {
     let command = Command::new(alloc, "hdrstat")
@@ -31,6 +41,9 @@ pub(crate) fn hdrstat<'a>(alloc: Global) -> Result<Command<'a>, Error> {
         .subcommand_required(true)
         .arg_required_else_help(true)
         .subcommand(summary::summary(alloc)?)?
-        .subcommand(check::check(alloc)?)?;
+        .subcommand(check::check(alloc)?)?
+        .subcommand(log::log(alloc)?)?
+        .subcommand(gather::gather(alloc)?)?
+        .subcommand(page::page(alloc)?)?;
     Ok(command)
 }

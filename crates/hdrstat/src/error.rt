@@ -1,7 +1,11 @@
 //! Why the program does not do what its arguments ask for.
 
+use hdr_gather::GatherError;
 use hdr_input::InputError;
-use std::alloc::{AllocError, Global};
+use hdr_page::PageError;
+use hdrhistogram::serialization::V2SerializeError;
+use hdrhistogram::serialization::interval_log::{CommentError, IntervalLogWriterError};
+use std::alloc::{AllocError, AllocFailed, Global};
 use std::io;
 use thiserror::Error;
 
@@ -13,16 +17,24 @@ pub(crate) enum StatError {
     Usage(String),
     /// A file, or standard input, is not read.
     #[error("{file}: {cause}")]
-    Input {
-        file: String,
-        cause: InputError,
-    },
+    Input { file: String, cause: InputError },
     /// A file is not opened.
     #[error("{file}: {cause}")]
-    File {
+    File { file: String, cause: io::Error },
+    /// Logs are not gathered.
+    #[error("{file}: {cause}")]
+    Gather {
         file: String,
-        cause: io::Error,
+        cause: GatherError,
     },
+    /// Logs are not shown.
+    #[error("{file}: {cause}")]
+    Page {
+        file: String,
+        cause: PageError,
+    },
+    #[error("cannot make the log: {0}")]
+    Log(#[from] IntervalLogWriterError<V2SerializeError>),
     #[error("cannot write the output: {0}")]
     Output(io::Error),
     #[error("out of memory")]
@@ -31,6 +43,12 @@ pub(crate) enum StatError {
 
 impl From<AllocError> for StatError {
     fn from(_error: AllocError) -> StatError {
+        StatError::OutOfMemory
+    }
+}
+
+impl From<CommentError> for StatError {
+    fn from(_error: CommentError) -> StatError {
         StatError::OutOfMemory
     }
 }
@@ -58,5 +76,11 @@ impl StatError {
             Ok(file) => StatError::File { file, cause },
             Err(_) => StatError::OutOfMemory,
         }
+    }
+}
+
+impl<T: Drop> From<AllocFailed<T>> for StatError {
+    fn from(_error: AllocFailed<T>) -> StatError {
+        StatError::OutOfMemory
     }
 }

@@ -2,15 +2,17 @@
 
 use crate::error::StatError;
 use crate::reading::{Reading, Source, Table};
-use hdr_input::columns::{Layout, guess_delimiter, record_column};
+use hdr_input::columns::{Columns, Layout, RowSink, guess_delimiter, read_rows};
+use hdr_input::intervals::Intervals;
 use hdr_input::logs::{LONGEST, LogSums};
 use hdr_input::pieces::{PIECE, read_lines};
 use hdr_input::{Distribution, InputError, Recording, Tally};
 use hdr_summary::figures::Tagged;
+use hdrhistogram::Histogram;
 use hdrhistogram::serialization::interval_log::IntervalChoice;
-use std::alloc::Global;
+use std::alloc::{AllocError, Global};
 use std::fs::File;
-use std::io::{BufRead, BufReader, Read};
+use std::io::{BufRead, BufReader, ErrorKind, Read};
 
 /// What takes the contents of files.
 trait FileSink {
@@ -28,7 +30,7 @@ struct Numbers<'a> {
 impl FileSink for Numbers<'_> {
     fn take<R: Read + Drop>(&mut self, alloc: Global, mut reader: R) -> Result<(), InputError> {
         match self.table {
-            Some(table) => record_table(alloc, reader, table, &mut self.tally),
+            Some(table) => read_table(alloc, reader, table, None, &mut self.tally),
             None => read_lines(alloc, &mut reader, PIECE, &mut self.tally),
         }
     }
@@ -41,20 +43,64 @@ impl FileSink for LogSums<'_> {
     }
 }
 
-/// Records the numbers of a column of a table.
-fn record_table<R: Read + Drop>(
+/// Numbers and their times, from columns of tables.
+#[derive(Drop)]
+struct TimedNumbers<'a> {
+    intervals: Intervals,
+    table: Table<'a>,
+    time: &'a str,
+}
+
+impl FileSink for TimedNumbers<'_> {
+    fn take<R: Read + Drop>(&mut self, alloc: Global, reader: R) -> Result<(), InputError> {
+        let table = self.table;
+        let time = Some(self.time);
+        read_table(alloc, reader, table, time, &mut self.intervals)
+    }
+}
+
+/// What takes a whole file.
+#[derive(Drop)]
+struct Contents {
+    files: Vec<Vec<u8>>,
+}
+
+impl FileSink for Contents {
+    fn take<R: Read + Drop>(&mut self, alloc: Global, mut reader: R) -> Result<(), InputError> {
+        let mut bytes = Vec::new(alloc);
+        match reader.read_to_end(&mut bytes) {
+            Ok(_) => {}
+            Err(error) if error.kind() == ErrorKind::OutOfMemory => {
+                return Err(InputError::OutOfMemory);
+            }
+            Err(error) => return Err(InputError::Io(error)),
+        }
+        match self.files.push(bytes) {
+            Ok(()) => Ok(()),
+            Err(_) => Err(InputError::OutOfMemory),
+        }
+    }
+}
+
+/// Reads a table. If its delimiter is not given, the first line determines it.
+fn read_table<R: Read + Drop, S: RowSink>(
     alloc: Global,
     reader: R,
     table: Table<'_>,
-    tally: &mut Tally,
+    time: Option<&str>,
+    sink: &mut S,
 ) -> Result<(), InputError> {
     let has_header = table.has_header;
+    let columns = Columns {
+        value: table.column,
+        time,
+    };
     if let Some(delimiter) = table.delimiter {
         let layout = Layout {
             delimiter,
             has_header,
         };
-        return record_column(alloc, reader, table.column, layout, tally);
+        return read_rows(alloc, reader, columns, layout, sink);
     }
     let mut reader = BufReader::new(alloc, reader).map_err(InputError::Io)?;
     let delimiter = match reader.fill_buf() {
@@ -65,7 +111,7 @@ fn record_table<R: Read + Drop>(
         delimiter,
         has_header,
     };
-    record_column(alloc, reader, table.column, layout, tally)
+    read_rows(alloc, reader, columns, layout, sink)
 }
 
 /// Reads a file; `-` is standard input.
@@ -115,11 +161,61 @@ pub(crate) fn read_numbers(
     };
     let mut numbers = Numbers { tally, table };
     read_files(rt, names, &mut numbers)?;
-    let skipped = numbers.tally.skipped;
+    tell_skipped(rt, &numbers.tally);
+    Ok(numbers.tally)
+}
+
+/// Prints the number of lines skipped on standard error, if there are any.
+fn tell_skipped(rt: &HostRuntime, tally: &Tally) {
+    let skipped = tally.skipped;
     if skipped > 0 {
         let _ = eprintln!(rt; "hdrstat: {skipped} bad lines skipped");
     }
-    Ok(numbers.tally)
+}
+
+/// Returns the numbers of a column of files, cut into intervals of this length in nanoseconds.
+pub(crate) fn read_intervals<'a>(
+    rt: &HostRuntime,
+    names: &[&str],
+    recording: Recording,
+    table: Table<'a>,
+    time: &'a str,
+    length: u64,
+) -> Result<Intervals, StatError> {
+    let intervals = match Intervals::new(rt.alloc(), recording, length) {
+        Ok(intervals) => intervals,
+        Err(_) => return Err(StatError::OutOfMemory),
+    };
+    let mut numbers = TimedNumbers {
+        intervals,
+        table,
+        time,
+    };
+    read_files(rt, names, &mut numbers)?;
+    tell_skipped(rt, &numbers.intervals.tally);
+    Ok(numbers.intervals)
+}
+
+/// Returns the contents of files.
+pub(crate) fn read_whole(rt: &HostRuntime, names: &[&str]) -> Result<Vec<Vec<u8>>, StatError> {
+    let mut contents = Contents {
+        files: Vec::new(rt.alloc()),
+    };
+    read_files(rt, names, &mut contents)?;
+    Ok(contents.files)
+}
+
+/// Returns the name of the file at an index, for an error; it is that of all files if there is no index.
+pub(crate) fn file_at(
+    alloc: Global,
+    names: &[&str],
+    index: Option<usize>,
+) -> Result<String, AllocError> {
+    let name = match index {
+        Some(index) => names.get(index).copied().unwrap_or("-"),
+        None => "the logs",
+    };
+    String::from_str(alloc, if name == "-" { "standard input" } else { name })
 }
 
 /// Returns the sums of logs. If intervals are coarser than their sum, their number is printed on standard error.
@@ -136,9 +232,21 @@ fn read_logs(
     let coarser = sums.coarser;
     let chosen = sums.chosen;
     if coarser > 0 {
-        let _ = eprintln!(rt; "hdrstat: {coarser} of {chosen} intervals coarser than {sigfig} digits");
+        let _ = eprintln!(rt;
+            "hdrstat: {coarser} of {chosen} intervals coarser than {sigfig} digits"
+        );
     }
     let mut parts = Vec::new(alloc);
+    if sums.sums.is_empty() && !is_by_tag {
+        let empty = match Histogram::new(alloc, sigfig) {
+            Ok(empty) => empty,
+            Err(_) => return Err(StatError::OutOfMemory),
+        };
+        parts.push(Tagged {
+            tag: None,
+            distribution: Distribution::of_histogram(empty),
+        })?;
+    }
     for sum in sums.sums {
         parts.push(Tagged {
             tag: sum.tag,

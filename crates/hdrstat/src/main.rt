@@ -4,8 +4,11 @@
 mod check;
 mod command;
 mod error;
+mod gather;
 mod input;
+mod log;
 mod output;
+mod page;
 mod reading;
 mod summary;
 
@@ -47,6 +50,9 @@ fn fail(rt: &HostRuntime, subcommand: &str, error: &StatError) -> ExitCode {
 fn run(rt: &HostRuntime, name: &str, matches: &ArgMatches<'_>) -> ExitCode {
     let status = match name {
         "check" => check::check(rt, matches),
+        "gather" => gather::gather_logs(rt, matches),
+        "log" => log::log(rt, matches),
+        "page" => page::show(rt, matches),
         _ => summary::summary(rt, matches),
     };
     match status {

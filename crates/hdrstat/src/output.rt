@@ -3,11 +3,11 @@
 use crate::error::StatError;
 use std::io::Write;
 
-/// Prints a text.
-pub(crate) fn print(rt: &HostRuntime, text: &str) -> Result<(), StatError> {
+/// Prints bytes.
+pub(crate) fn print(rt: &HostRuntime, bytes: &[u8]) -> Result<(), StatError> {
     let mut output = rt.stdout();
     output
-        .write_all(text.as_bytes())
+        .write_all(bytes)
         .map_err(StatError::Output)?;
     output.flush().map_err(StatError::Output)
 }

@@ -41,17 +41,28 @@ pub(crate) fn unit_of(matches: &ArgMatches<'_>) -> Option<Unit> {
     Unit::from_name(matches.get_str("unit")?)
 }
 
+/// The names of delimiters.
+const DELIMITERS: [(&str, u8); 4] = [
+    ("comma", b','),
+    ("tab", b'\t'),
+    ("semicolon", b';'),
+    ("space", b' '),
+];
+
+/// Whether a byte may be a delimiter. Quotes and ends of lines may not.
+fn is_delimiter(byte: u8) -> bool {
+    byte.is_ascii() && byte != b'"' && byte != b'\n' && byte != b'\r'
+}
+
 /// Parses a delimiter: a name, or a character of ASCII.
 fn delimiter_of(name: &str) -> Option<u8> {
-    match name {
-        "comma" => return Some(b','),
-        "tab" | "\\t" => return Some(b'\t'),
-        "semicolon" => return Some(b';'),
-        "space" => return Some(b' '),
-        _ => {}
+    for (known, byte) in DELIMITERS {
+        if name == known {
+            return Some(byte);
+        }
     }
     match name.as_bytes() {
-        [byte] if !matches!(*byte, b'"' | b'\n' | b'\r') => Some(*byte),
+        [byte] if is_delimiter(*byte) => Some(*byte),
         _ => None,
     }
 }
@@ -69,7 +80,8 @@ pub(crate) fn table_of<'a>(
         Some(name) => match delimiter_of(name) {
             Some(delimiter) => Some(delimiter),
             None => {
-                let text = "is not a delimiter: comma, tab, semicolon, space, or one ASCII character";
+                let text =
+                    "is not a delimiter: comma, tab, semicolon, space, or one ASCII character";
                 return Err(StatError::usage(alloc, name, text));
             }
         },
@@ -119,12 +131,12 @@ pub(crate) fn recording_of(
     })
 }
 
-/// Parses a time of a log, in seconds.
-fn time_of(
+/// Returns the time of an option in nanoseconds. It is in seconds if it has no unit.
+pub(crate) fn nanoseconds_of(
     alloc: Global,
     matches: &ArgMatches<'_>,
     option: &str,
-) -> Result<Option<Duration>, StatError> {
+) -> Result<Option<u64>, StatError> {
     let Some(text) = matches.get_str(option) else {
         return Ok(None);
     };
@@ -132,39 +144,47 @@ fn time_of(
         .and_then(|time| in_unit(time, Unit::Seconds, Unit::Nanoseconds))
         .and_then(|time| time.rounded(0));
     match nanos {
-        Some(nanos) => Ok(Some(Duration::from_nanos(nanos))),
+        Some(nanos) => Ok(Some(nanos)),
         None => {
-            let why = "is not a time in seconds, such as 1764054000 or 90.5";
+            let why = "is not a time, such as 1764054000, 90.5 or 500ms";
+            Err(StatError::usage(alloc, text, why))
+        }
+    }
+}
+
+/// Returns the tag of the arguments, if there is one.
+pub(crate) fn tag_of<'a>(
+    alloc: Global,
+    matches: &ArgMatches<'a>,
+) -> Result<Option<Tag<'a>>, StatError> {
+    let Some(text) = matches.get_str("tag") else {
+        return Ok(None);
+    };
+    match Tag::new(text) {
+        Some(tag) => Ok(Some(tag)),
+        None => {
+            let why = "is not a tag: it has a comma, a space or an end of line";
             Err(StatError::usage(alloc, text, why))
         }
     }
 }
 
 /// Returns the choice of intervals.
-fn choice_of<'a>(
-    alloc: Global,
-    matches: &ArgMatches<'a>,
-) -> Result<IntervalChoice<'a>, StatError> {
-    let tags = match matches.get_str("tag") {
+fn choice_of<'a>(alloc: Global, matches: &ArgMatches<'a>) -> Result<IntervalChoice<'a>, StatError> {
+    let tags = match tag_of(alloc, matches)? {
+        Some(tag) => TagChoice::Tagged(tag),
         None => TagChoice::Every,
-        Some(text) => match Tag::new(text) {
-            Some(tag) => TagChoice::Tagged(tag),
-            None => {
-                let why = "is not a tag: it has a comma, a space or an end of line";
-                return Err(StatError::usage(alloc, text, why));
-            }
-        },
     };
-    let from = time_of(alloc, matches, "from-time")?;
-    let to = time_of(alloc, matches, "to-time")?;
+    let from = nanoseconds_of(alloc, matches, "from-time")?.map(Duration::from_nanos);
+    let to = nanoseconds_of(alloc, matches, "to-time")?.map(Duration::from_nanos);
     Ok(IntervalChoice { tags, from, to })
 }
 
 /// Returns the first of some options that was given, if one was.
 fn first_given<'a>(matches: &ArgMatches<'_>, options: &[&'a str]) -> Option<&'a str> {
     for option in options {
-        let is_given = matches.get_str(*option).is_some();
-        if is_given {
+        let id = option.trim_start_matches('-');
+        if matches.get_str(id).is_some() {
             return Some(*option);
         }
     }
@@ -172,9 +192,14 @@ fn first_given<'a>(matches: &ArgMatches<'_>, options: &[&'a str]) -> Option<&'a 
 }
 
 /// Options of numbers, and options of logs, which have a value.
-const OF_NUMBERS: [&str; 4] = ["column", "delimiter", "decimals", "expected-interval"];
+const OF_NUMBERS: [&str; 4] = [
+    "--column",
+    "--delimiter",
+    "--decimals",
+    "--expected-interval",
+];
 
-const OF_LOGS: [&str; 3] = ["tag", "from-time", "to-time"];
+const OF_LOGS: [&str; 3] = ["--tag", "--from-time", "--to-time"];
 
 /// Returns how the input is read.
 pub(crate) fn parse_reading<'a>(
@@ -201,11 +226,7 @@ pub(crate) fn parse_reading<'a>(
         let choice = choice_of(alloc, matches)?;
         Source::Log { choice, is_by_tag }
     } else if is_by_tag {
-        return Err(StatError::usage(
-            alloc,
-            "by-tag",
-            "is an option of --from log alone",
-        ));
+        return Err(StatError::usage(alloc, "by-tag", "is an option of --from log alone"));
     } else {
         Source::Numbers(table_of(alloc, matches)?)
     };

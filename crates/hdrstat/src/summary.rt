@@ -69,6 +69,6 @@ pub(crate) fn summary(rt: &HostRuntime, matches: &ArgMatches<'_>) -> Result<Exit
     let names = matches.get_strs("FILE").unwrap_or(&[]);
     let parts = read_parts(rt, names, &reading)?;
     let text = text(alloc, &parts, &layout)?;
-    print(rt, text.as_str())?;
+    print(rt, text.as_bytes())?;
     Ok(ExitCode::SUCCESS)
 }

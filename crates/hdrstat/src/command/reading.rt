@@ -11,11 +11,17 @@ const LOGS: &str = "Interval logs";
 
 /// Adds the options of tables.
 pub(crate) fn with_tables<'a>(alloc: Global, command: Command<'a>) -> Result<Command<'a>, Error> {
-    let column = option(alloc, "column", "COLUMN", "Read a column: its name, or its number from 1")
-        .short('c')
-        .value_parser(ValueParser::NonEmptyString)
-        .help_heading(TABLES);
-    let help = "Character between columns, or comma, tab, semicolon, space [default: that of the first line]";
+    let column = option(
+        alloc,
+        "column",
+        "COLUMN",
+        "Read a column: its name, or its number from 1",
+    )
+    .short('c')
+    .value_parser(ValueParser::NonEmptyString)
+    .help_heading(TABLES);
+    let help =
+        "Character between columns, or comma, tab, semicolon, space [default: that of the first line]";
     let delimiter = option(alloc, "delimiter", "CHAR", help)
         .requires_arg("column")?
         .help_heading(TABLES);
@@ -64,13 +70,13 @@ pub(crate) fn with_recording<'a>(
         .value_parser(value_parser!(u8).range(0..=5))
         .default_value("3");
     let help = "Round numbers to N decimals [default: those of the first number]";
-    let decimals =
-        option(alloc, "decimals", "N", help).value_parser(value_parser!(u32).range(0..=18));
+    let decimals = option(alloc, "decimals", "N", help).value_parser(value_parser!(u32).range(
+        0..=18,
+    ));
     let help = "Add the samples that a longer one hid, if one was due each TIME";
     let interval = option(alloc, "expected-interval", "TIME", help);
     let help = "Unit of the numbers, so that other arguments may have one, as 200ms";
-    let unit = option(alloc, "unit", "UNIT", help)
-        .value_parser(["ns", "us", "ms", "s"].as_slice());
+    let unit = option(alloc, "unit", "UNIT", help).value_parser(["ns", "us", "ms", "s"].as_slice());
     let skip_bad = Arg::new(alloc, "skip-bad")
         .long("skip-bad")
         .action(ArgAction::SetTrue)

@@ -48,9 +48,9 @@ fn with_output<'a>(alloc: Global, command: Command<'a>) -> Result<Command<'a>, E
 
 /// Returns the command line of `hdrstat summary`.
 pub(crate) fn summary<'a>(alloc: Global) -> Result<Command<'a>, Error> {
-    let files = Arg::new(alloc, "FILE")
-        .num_args(0..)
-        .help("Files to read; standard input if there are none, or for -");
+    let files = Arg::new(alloc, "FILE").num_args(0..).help(
+        "Files to read; standard input if there are none, or for -",
+    );
     let command = Command::new(alloc, "summary")
         .about("Print count, min, mean, percentiles and max of numbers")
         .after_help(AFTER)
