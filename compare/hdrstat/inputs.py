@@ -2,7 +2,7 @@
 import dataclasses
 import json
 
-from model import Failure, Options, Tally, decimal_text
+from model import Failure, Options, Tally, decimal_text, rounded
 
 REASONS = {
     "no number": "is not a number; --skip-bad ignores such lines",
@@ -31,6 +31,7 @@ def error_text(failure):
     name, line, text, why = failure.text
     if why == "no column":
         names = ", ".join(it.decode("utf-8", "replace") for it in text)
+        names = names.lstrip(", ") if not text[0] else names
         return f"{name}: no column `{line.decode()}` in the first line, which has {names}; --column and --time take a name, or a number from 1"
     return f"{name}: {line}: `{shown(text)}` {REASONS[why]}"
 
@@ -203,6 +204,8 @@ def summary_case(random, arguments, chosen, data, take):
         if random.random() < 0.5:
             files["two"] = data[: len(data) // 2]
             arguments.append("two")
+    if chosen.decimals is not None and chosen.interval[0] and not rounded(*chosen.interval, chosen.decimals):
+        return Case(arguments, stdin, files, (b"", None, 2))
     tally, skipped = Tally(chosen), b""
     try:
         for file, content in (files or {"standard input": stdin}).items():
