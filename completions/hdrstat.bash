@@ -34,10 +34,22 @@ _hdrstat() {
     "check --tag") values=' ' ;;
     "check --from-time") values=' ' ;;
     "check --to-time") values=' ' ;;
+    "log --tag") values=' ' ;;
+    "log --time") values=' ' ;;
+    "log --every") values=' ' ;;
+    "log -d" | "log --digits") values=' ' ;;
+    "log --decimals") values=' ' ;;
+    "log --expected-interval") values=' ' ;;
+    "log --unit") values='ns us ms s' ;;
+    "log -c" | "log --column") values=' ' ;;
+    "log --delimiter") values=' ' ;;
     "summary "?*) options='-p --percentiles -f --format --output-unit -d --digits --decimals --expected-interval --unit --skip-bad -h --help -c --column --delimiter --no-header --from --tag --from-time --to-time --by-tag' ;;
     "check "?*) options='-i --input --allow-empty -d --digits --decimals --expected-interval --unit --skip-bad -h --help -c --column --delimiter --no-header --from --tag --from-time --to-time --by-tag' ;;
-    "help "?*) values='summary check' ;;
-    *) values='summary check help --help --version' ;;
+    "log "?*) options='--tag --time --every -d --digits --decimals --expected-interval --unit --skip-bad -h --help -c --column --delimiter --no-header' ;;
+    "gather "?*) options='-h --help' ;;
+    "page "?*) options='--intervals -h --help' ;;
+    "help "?*) values='summary check log gather page' ;;
+    *) values='summary check log gather page help --help --version' ;;
     esac
     if [ -n "$values" ]; then
         COMPREPLY=($(compgen -W "$values" -- "$word"))
