@@ -304,7 +304,7 @@ def level(random, tally, unit):
     # (the level is digits / 10^shift, times 10^scale in the unit of the input)
     a, b = value * 10**shift, digits * 10**places
     a, b = (a, b * 10**scale) if scale >= 0 else (a * 10**-scale, b)
-    too_large = digits * 10 ** max(scale - shift, 0) >= 2**64 or shift - scale > 18 or digits >= 2**64
+    too_large = digits * 10 ** max(scale - shift, 0) >= 2**64 or max(shift, shift - scale) > 18 or digits >= 2**64
     return f"{name}{sign}{text}", None if too_large else SIGNS[sign](a, b), decimal_text(value, places)
 
 
