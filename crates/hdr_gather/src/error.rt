@@ -1,41 +1,32 @@
 //! Why logs are not gathered.
 
+use hdr_input::InputError;
 use hdrhistogram::AdditionError;
+use hdrhistogram::serialization::V2SerializeError;
 use hdrhistogram::serialization::interval_log::IntervalLogWriterError;
-use hdrhistogram::serialization::{DeserializeError, V2SerializeError};
 use std::alloc::{AllocError, AllocFailed};
 use std::io;
 use thiserror::Error;
 
-/// An interval of one of several logs.
+/// A line of one of several logs.
 #[derive(Debug, Clone, Copy, Error)]
-#[error("interval {interval}")]
+#[error("line {line}")]
 pub struct Place {
     /// The index of the log.
     pub log: usize,
-    /// The number of the interval in its log, from 1.
-    pub interval: u64,
+    /// The number of the line, from 1.
+    pub line: u64,
 }
 
 /// Why logs are not gathered.
 #[derive(Debug, Drop, Error)]
 pub enum GatherError {
-    /// The line that starts at the byte `offset` of the log of this index is invalid.
-    #[error("parse error at byte {offset}")]
-    Parse {
-        log: usize,
-        offset: usize,
-    },
-    #[error("{0}: not base64")]
-    Base64(Place),
-    #[error("{place}: {cause}")]
-    Decode {
-        place: Place,
-        cause: DeserializeError,
-    },
-    #[error("{0}: begins past 64 bits of milliseconds")]
+    /// The log of this index is not read.
+    #[error("{cause}")]
+    Input { log: usize, cause: InputError },
+    #[error("{0}: the interval begins past 64 bits of milliseconds")]
     TooLate(Place),
-    #[error("{0}: neither finer nor coarser than those before it at its time and tag")]
+    #[error("{0}: the interval is neither finer nor coarser than those before it at its time and tag")]
     NotNested(Place),
     #[error("{0}")]
     Add(#[from] AdditionError),
@@ -60,14 +51,11 @@ impl<T: Drop> From<AllocFailed<T>> for GatherError {
 }
 
 impl GatherError {
-    /// Returns the index of the log that is at fault, if one is.
+    /// Returns the index of the log that has the error, if one has.
     pub fn log(&self) -> Option<usize> {
         match self {
-            GatherError::Parse { log, .. } => Some(*log),
-            GatherError::Base64(place)
-            | GatherError::TooLate(place)
-            | GatherError::NotNested(place) => Some(place.log),
-            GatherError::Decode { place, .. } => Some(place.log),
+            GatherError::Input { log, .. } => Some(*log),
+            GatherError::TooLate(place) | GatherError::NotNested(place) => Some(place.log),
             _ => None,
         }
     }

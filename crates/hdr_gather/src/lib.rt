@@ -57,7 +57,7 @@ fn write_sum<W: Write>(
 pub fn gather(alloc: Global, logs: &[Vec<u8>]) -> Result<Vec<u8>, GatherError> {
     let mut parts = Vec::new(alloc);
     for (index, log) in logs.iter().enumerate() {
-        push_parts(&mut parts, index, log)?;
+        push_parts(alloc, &mut parts, index, log)?;
     }
     in_order(&mut parts)?;
     gathered(alloc, &parts)

@@ -5,10 +5,9 @@ ghost use Rattle.std.specs.Duration.{as_nanos};
 ghost use Rattle.hdr_gather.specs.Times.{nearest_millisecond};
 
 use crate::error::{GatherError, Place};
-use hdrhistogram::serialization::interval_log::{
-    IntervalLogHistogram, IntervalLogIterator, LogEntry, LogIteratorError, Tag,
-};
-use std::alloc::AllocError;
+use hdr_input::log_lines::{entry_of, split_log_line};
+use hdrhistogram::serialization::interval_log::{IntervalLogHistogram, LogEntry, Tag};
+use std::alloc::{AllocError, Global};
 use std::time::Duration;
 
 /// An interval of the input. Its texts are slices of it.
@@ -20,7 +19,7 @@ pub(crate) struct Part<'a> {
     pub duration: Duration,
     /// The bytes of its histogram, in Base64.
     pub field: &'a str,
-    /// The log that it is in, and its number there.
+    /// The log and the line that it is read from.
     pub place: Place,
 }
 
@@ -39,7 +38,7 @@ fn milliseconds(base: Duration, start: Duration) -> Option<u64>
     u64::try_from((nanos + 500_000) / 1_000_000).ok()
 }
 
-/// Returns an interval with this base time and number.
+/// Returns the interval of a line, after this base time.
 fn part_of<'a>(
     base: Duration,
     place: Place,
@@ -59,28 +58,26 @@ fn part_of<'a>(
 
 /// Appends the intervals of a log, which has this index among the logs, in its order.
 pub(crate) fn push_parts<'a>(
+    alloc: Global,
     parts: &mut Vec<Part<'a>>,
     log: usize,
     input: &'a [u8],
 ) -> Result<(), GatherError> {
     let mut base = Duration::ZERO;
-    let mut number = 0u64;
-    for entry in IntervalLogIterator::new(input) {
-        match entry {
-            Ok(LogEntry::StartTime(_)) => {}
-            Ok(LogEntry::BaseTime(time)) => base = time,
-            Ok(LogEntry::Interval(interval)) => {
-                number = number.saturating_add(1);
-                let place = Place {
-                    log,
-                    interval: number,
-                };
-                parts.push(part_of(base, place, &interval)?)?;
+    let mut line = 1u64;
+    let mut rest = input;
+    while !rest.is_empty() {
+        let (first, after) = split_log_line(rest, line);
+        match entry_of(alloc, first, line) {
+            Ok(Some(LogEntry::BaseTime(time))) => base = time,
+            Ok(Some(LogEntry::Interval(interval))) => {
+                parts.push(part_of(base, Place { log, line }, &interval)?)?;
             }
-            Err(LogIteratorError::ParseError { offset }) => {
-                return Err(GatherError::Parse { log, offset });
-            }
+            Ok(_) => {}
+            Err(cause) => return Err(GatherError::Input { log, cause }),
         }
+        rest = after;
+        line = line.saturating_add(1);
     }
     Ok(())
 }

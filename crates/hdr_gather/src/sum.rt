@@ -6,8 +6,9 @@ ghost use Rattle.hdr_gather.specs.Sums.{IsJoined, IsGrowing, IsSumOf};
 
 use crate::error::{GatherError, Place};
 use crate::part::Part;
+use hdr_input::InputError;
 use hdrhistogram::Histogram;
-use hdrhistogram::serialization::{Deserializer, FieldDecodeError};
+use hdrhistogram::serialization::Deserializer;
 use std::alloc::Global;
 use std::time::Duration;
 
@@ -24,14 +25,15 @@ fn histogram_of(
             histogram.auto(true);
             Ok(histogram)
         }
-        Err(FieldDecodeError::OutOfMemory) => Err(GatherError::OutOfMemory),
-        Err(FieldDecodeError::NotBase64) => Err(GatherError::Base64(place)),
-        Err(FieldDecodeError::Decode(cause)) => Err(GatherError::Decode { place, cause }),
+        Err(cause) => Err(GatherError::Input {
+            log: place.log,
+            cause: InputError::of_interval(place.line, cause),
+        }),
     }
 }
 
 /// Returns the histogram of the samples of both, by the coarser classes. It is an error if the classes of neither lie in those of
-/// the other; `place` is the interval that `other` was read from.
+/// the other; `place` is the line that `other` was read from.
 fn joined(
     mut one: Histogram<u64>,
     mut other: Histogram<u64>,

@@ -16,7 +16,7 @@ after_more n text i l =
     let s : i + 1 ≡ suc i = omega arith in
     ap (λ k. digits_value_after 10 n (take k text)) s ∙ ap (digits_value_after 10 n) (take-suc text i 0 l) ∙ after_push n (take i text) (get_or text i 0)
 
--- digits, so far, and the number that they spell after those of another
+-- the digits before an index, and their value after the digits of another number
 pub record Reads (start : ℕ) (text : List ℕ) (i value : ℕ) : Type 0 where
   pub digits : list_all is_ascii_digit (take i text) ≡ true
   pub spelled : value ≡ digits_value_after 10 start (take i text)
@@ -28,7 +28,7 @@ Reads-more start text i value r l d = record {
   spelled = ap (λ n. n * 10 + digit_value (get_or text i 0)) r.spelled ∙ sym (after_more start text i l);
 }
 
--- a text is its front and what follows
+-- a text is its start and the rest
 pub split_at : (text : List ℕ) (i : ℕ) → text ≡ take i text ++ take (length text - i) (drop i text)
 split_at text i =
     let w : take (length text - i) (drop i text) ≡ drop i text = take_all (length text - i) (drop i text) (omega (arith, length-drop i text)) in

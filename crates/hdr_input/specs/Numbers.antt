@@ -1,4 +1,4 @@
--- What a number is in whole units, and how digits spell one.
+-- Decimal numbers in units, and the digits of their texts.
 use Rattle.std.specs.Prelude.{◌≡◌, ◌≢◌, ℕ, ◌+◌, ◌*◌, ◌/◌, ◌^◌, ◌⊎◌, true, List, ◌∷◌, ◌++◌, length}
 use Rattle.std.specs.Char.{is_ascii_digit}
 use Rattle.std.specs.List.{list_all}
@@ -8,7 +8,7 @@ use Rattle.std.specs.Str.Parse.{digits_value_after}
 abbrev pub in_units : ℕ → ℕ → ℕ → ℕ
 in_units digits have want = (digits * 10 ^ want + 10 ^ have / 2) / 10 ^ have
 
--- a text begins with digits, which spell this value after those of another, and the rest follows
+-- a text begins with digits, whose value after those of another number is this, and the rest follows
 abbrev pub BeginsWithDigits : ℕ → List ℕ → ℕ → List ℕ → Type 0
 BeginsWithDigits start text value rest =
     (digits : List ℕ) × (text ≡ digits ++ rest) × (list_all is_ascii_digit digits ≡ true) × (value ≡ digits_value_after 10 start digits)
@@ -17,12 +17,12 @@ BeginsWithDigits start text value rest =
 abbrev pub EndsLine : List ℕ → List ℕ → Type 0
 EndsLine text rest = (text ≡ 10 ∷ rest) ⊎ (text ≡ 13 ∷ 10 ∷ rest)
 
--- a text begins with a line of digits, which spell this value, and the rest follows its end
+-- a text begins with a line of digits, whose value is this, and the rest follows its end
 abbrev pub BeginsWithWhole : List ℕ → ℕ → List ℕ → Type 0
 BeginsWithWhole text value rest =
     (end : List ℕ) × BeginsWithDigits 0 text value end × (length end ≢ length text) × EndsLine end rest
 
--- a text begins with the digits after a point, so many, which spell this value after those before it
+-- a text begins with digits after a point, to the end of the line; their value after the digits before the point is this
 abbrev pub BeginsWithPart : ℕ → List ℕ → ℕ → ℕ → List ℕ → Type 0
 BeginsWithPart whole text value decimals rest =
     (end : List ℕ) × BeginsWithDigits whole text value end × (decimals + length end ≡ length text) × EndsLine end rest

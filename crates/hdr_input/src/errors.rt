@@ -58,6 +58,16 @@ impl From<CreationError> for InputError {
     }
 }
 
+impl InputError {
+    /// Returns the error of an interval whose histogram is not decoded.
+    pub fn of_interval(line: u64, cause: FieldDecodeError) -> InputError {
+        match cause {
+            FieldDecodeError::OutOfMemory => InputError::OutOfMemory,
+            cause => InputError::Interval { line, cause },
+        }
+    }
+}
+
 /// The most bytes of a line that an error shows.
 const SHOWN: usize = 40;
 

@@ -7,6 +7,7 @@ pub mod distribution;
 pub mod errors;
 pub mod intervals;
 pub mod lines;
+pub mod log_lines;
 pub mod logs;
 pub mod number;
 pub mod pieces;

@@ -2,14 +2,14 @@
 
 ghost use Rattle.std.specs.Prelude.{◌<◌, length};
 
-use crate::errors::{InputError, not_a_log};
+use crate::errors::InputError;
+use crate::log_lines::{entry_of, split_log_line};
 use crate::pieces::LineSink;
 use hdrhistogram::Histogram;
+use hdrhistogram::serialization::Deserializer;
 use hdrhistogram::serialization::interval_log::{
-    IntervalChoice, IntervalLogHistogram, IntervalLogIterator, LogEntry, Tag,
+    IntervalChoice, IntervalLogHistogram, LogEntry, Tag,
 };
-use hdrhistogram::serialization::{Deserializer, FieldDecodeError};
-use memchr::memchr;
 use std::alloc::Global;
 use std::collections::HashMap;
 use std::time::Duration;
@@ -47,7 +47,7 @@ pub struct LogSums<'a> {
 }
 
 impl<'a> LogSums<'a> {
-    /// Returns sums without intervals, of so many significant digits. Each tag has a sum of its own if `is_by_tag`.
+    /// Returns sums without intervals. Each tag has a sum of its own if `is_by_tag`.
     pub fn new(
         alloc: Global,
         choice: IntervalChoice<'a>,
@@ -123,8 +123,7 @@ impl<'a> LogSums<'a> {
         let field = interval.encoded_histogram();
         let source: Histogram<u64> = match self.deserializer.decode_field(field) {
             Ok(source) => source,
-            Err(FieldDecodeError::OutOfMemory) => return Err(InputError::OutOfMemory),
-            Err(cause) => return Err(InputError::Interval { line, cause }),
+            Err(cause) => return Err(InputError::of_interval(line, cause)),
         };
         let index = self.index_of(alloc, interval.tag())?;
         let Some(sum) = self.sums.get_mut(index) else {
@@ -143,37 +142,16 @@ impl<'a> LogSums<'a> {
 
     /// Takes a line with its LF.
     fn take_line(&mut self, alloc: Global, line: &[u8], number: u64) -> Result<(), InputError> {
-        for entry in IntervalLogIterator::new(line) {
-            match entry {
-                Ok(LogEntry::StartTime(_)) => {}
-                Ok(LogEntry::BaseTime(time)) => self.base = time,
-                Ok(LogEntry::Interval(interval)) => {
-                    if self.choice.chooses(self.base, &interval) {
-                        self.add(alloc, &interval, number)?;
-                    }
+        match entry_of(alloc, line, number)? {
+            Some(LogEntry::BaseTime(time)) => self.base = time,
+            Some(LogEntry::Interval(interval)) => {
+                if self.choice.chooses(self.base, &interval) {
+                    self.add(alloc, &interval, number)?;
                 }
-                Err(_) => return Err(not_a_log(alloc, number, line.trim_ascii())),
             }
+            _ => {}
         }
         Ok(())
-    }
-}
-
-/// Splits a text after its first line. The line is returned with its LF, if it has one.
-fn split_line(text: &[u8]) -> (&[u8], &[u8])
-    ensures { 0 < length text.now → length result.1.now < length text.now }
-{
-    match memchr(b'\n', text) {
-        Some(at) => (&text[..at + 1], &text[at + 1..]),
-        None => (text, &text[text.len()..]),
-    }
-}
-
-/// Returns a line without a byte order mark, which only the first line may have.
-fn without_mark(line: &[u8], number: u64) -> &[u8] {
-    match line {
-        [0xef, 0xbb, 0xbf, rest @ ..] if number == 1 => rest,
-        _ => line,
     }
 }
 
@@ -182,11 +160,8 @@ impl LineSink for LogSums<'_> {
         let mut rest = lines;
         let mut number = first;
         while !rest.is_empty() {
-            let (line, after) = split_line(rest);
-            let line = without_mark(line, number);
-            if !line.trim_ascii().is_empty() {
-                self.take_line(alloc, line, number)?;
-            }
+            let (line, after) = split_log_line(rest, number);
+            self.take_line(alloc, line, number)?;
             rest = after;
             number = number.saturating_add(1);
         }

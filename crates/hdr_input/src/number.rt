@@ -1,4 +1,4 @@
-//! Decimal numbers, and their values in whole units.
+//! Decimal numbers, and their values in units.
 
 ghost use Rattle.std.specs.Prelude.{◌≡◌, ◌<◌, ◌≤◌, true, length, IfSome, SomeIff};
 ghost use Rattle.std.specs.Char.{is_ascii_digit, digit_value};
@@ -103,7 +103,7 @@ impl Number {
         decimals: 0,
     };
 
-    /// Parses a number such as `12`, `+0.50` or `1.5e-05`. It is rounded to so many decimals, or exact if `decimals` is `None`.
+    /// Parses a number such as `12`, `+0.50` or `1.5e-05`. It is rounded to `decimals`, or exact if that is `None`.
     pub fn parse(text: &[u8], decimals: Option<u32>) -> Result<Number, Cause> {
         match text {
             [b'-', rest @ ..] => match parse_wide(rest) {
@@ -138,7 +138,7 @@ impl Number {
         })
     }
 
-    /// Returns the number in units of so many decimals, halves rounded up, or `None` on overflow.
+    /// Returns the number in units of the last of `decimals`, halves rounded up, or `None` on overflow.
     pub fn rounded(self, decimals: u32) -> Option<u64>
         ensures { IfSome result (λ units. units ≡ in_units self.digits self.decimals decimals) }
     {

@@ -125,7 +125,7 @@ impl Tally {
         self.record_other(number)
     }
 
-    /// Records a number that is not in units, or one with the samples that it hid, if an interval is expected.
+    /// Records a number that is not in units, or a number with its missing samples, if an interval is expected.
     #[inline(never)]
     fn record_other(&mut self, number: Number) -> Result<(), Cause>
         ensures { OnOk result ((decimals : ℕ) → self.old.decimals ≡ Some decimals → self.new.histogram
@@ -172,7 +172,7 @@ impl Tally {
         number.rounded(decimals).ok_or(Cause::TooLarge)
     }
 
-    /// Sets the unit to one of so many decimals, or of those of the expected interval where these are more, but at most 18.
+    /// Sets the decimals of a unit: those of a number, or of the expected interval if these are more, but at most 18.
     fn decide(&mut self, decimals: u32) -> u32 {
         let decimals = decimals
             .max(self.recording.interval.decimals)
@@ -187,7 +187,7 @@ impl Tally {
     }
 }
 
-/// Returns the least of a value and of the samples that it hid at an expected interval, 0 for none.
+/// Returns the least of a value and of its missing samples at an expected interval, 0 for none.
 fn least_of(value: u64, interval: u64) -> u64
     ensures { result ≤ value }
 {

@@ -132,7 +132,7 @@ impl Wide {
         self.digits == 0
     }
 
-    /// Returns the number rounded to so many decimals, or the exact number if `decimals` is `None`.
+    /// Returns the number rounded to `decimals`, or the exact number if that is `None`.
     pub(crate) fn narrowed(self, decimals: Option<u32>) -> Result<Number, Cause> {
         match decimals {
             Some(decimals) => self.rounded(decimals),
@@ -149,7 +149,7 @@ impl Wide {
         self.rounded(decimals as u32)
     }
 
-    /// Returns the number rounded to so many decimals, halves up.
+    /// Returns the number rounded to `decimals`, halves up.
     fn rounded(self, decimals: u32) -> Result<Number, Cause> {
         let power = self.exponent.saturating_add(i64::from(decimals));
         let units = if power < 0 {

@@ -1,10 +1,10 @@
 //! The intervals of a log, one by one and together.
 
 use crate::error::PageError;
-use hdrhistogram::serialization::interval_log::{
-    IntervalLogHistogram, IntervalLogIterator, LogEntry, LogIteratorError, Tag,
-};
-use hdrhistogram::serialization::{Deserializer, FieldDecodeError};
+use hdr_input::InputError;
+use hdr_input::log_lines::{entry_of, split_log_line};
+use hdrhistogram::serialization::Deserializer;
+use hdrhistogram::serialization::interval_log::{IntervalLogHistogram, LogEntry, Tag};
 use hdrhistogram::{Histogram, Quantile};
 use std::alloc::Global;
 use std::time::Duration;
@@ -69,22 +69,39 @@ fn see_log<'a>(
     bytes: &'a [u8],
 ) -> Result<(), PageError> {
     let mut base = Duration::ZERO;
-    let mut number = 0u64;
-    for entry in IntervalLogIterator::new(bytes) {
-        match entry {
-            Ok(LogEntry::StartTime(_)) => {}
-            Ok(LogEntry::BaseTime(time)) => base = time,
-            Ok(LogEntry::Interval(interval)) => {
-                number = number.saturating_add(1);
-                let histogram = decoded(alloc, log, number, interval.encoded_histogram())?;
-                see(alloc, seen, base, &interval, &histogram)?;
-            }
-            Err(LogIteratorError::ParseError { offset }) => {
-                return Err(PageError::Parse { log, offset });
-            }
-        }
+    let mut line = 1u64;
+    let mut rest = bytes;
+    while !rest.is_empty() {
+        let (first, after) = split_log_line(rest, line);
+        base = match see_line(alloc, seen, base, line, first) {
+            Ok(base) => base,
+            Err(cause) => return Err(PageError::Input { log, cause }),
+        };
+        rest = after;
+        line = line.saturating_add(1);
     }
     Ok(())
+}
+
+/// Adds the interval of a line, if it has one. Returns the base time after the line.
+fn see_line<'a>(
+    alloc: Global,
+    seen: &mut Seen<'a>,
+    base: Duration,
+    number: u64,
+    line: &'a [u8],
+) -> Result<Duration, InputError> {
+    match entry_of(alloc, line, number)? {
+        Some(LogEntry::BaseTime(time)) => Ok(time),
+        Some(LogEntry::Interval(interval)) => {
+            let histogram = decoded(alloc, number, interval.encoded_histogram())?;
+            match see(alloc, seen, base, &interval, &histogram) {
+                Ok(()) => Ok(base),
+                Err(_) => Err(InputError::OutOfMemory),
+            }
+        }
+        _ => Ok(base),
+    }
 }
 
 /// Adds an interval after this base time.
@@ -107,29 +124,11 @@ fn see<'a>(
     Ok(())
 }
 
-/// Returns the histogram of the field of the interval of this number.
-fn decoded(
-    alloc: Global,
-    log: usize,
-    interval: u64,
-    field: &str,
-) -> Result<Histogram<u64>, PageError> {
+/// Returns the histogram of the field of a line.
+fn decoded(alloc: Global, line: u64, field: &str) -> Result<Histogram<u64>, InputError> {
     match Deserializer::new(alloc).decode_field(field) {
         Ok(histogram) => Ok(histogram),
-        Err(cause) => Err(undecoded(log, interval, cause)),
-    }
-}
-
-/// Returns the error of the interval of this number in the log of this index, whose field is not decoded.
-fn undecoded(log: usize, interval: u64, cause: FieldDecodeError) -> PageError {
-    match cause {
-        FieldDecodeError::OutOfMemory => PageError::OutOfMemory,
-        FieldDecodeError::NotBase64 => PageError::Base64 { log, interval },
-        FieldDecodeError::Decode(cause) => PageError::Decode {
-            log,
-            interval,
-            cause,
-        },
+        Err(cause) => Err(InputError::of_interval(line, cause)),
     }
 }
 

@@ -21,9 +21,9 @@ decimals_of d Min = d.decimals
 decimals_of d Max = d.decimals
 decimals_of d (Quantile q) = d.decimals
 
--- units / 10 ^ decimals is on this side of digits / 10 ^ places
+-- units / 10 ^ decimals is on this side of digits / 10 ^ other
 abbrev pub IsOnSide : Side → ℕ → ℕ → ℕ → ℕ → Type 0
-IsOnSide Below units decimals digits places = units * 10 ^ places < digits * 10 ^ decimals
-IsOnSide AtMost units decimals digits places = units * 10 ^ places ≤ digits * 10 ^ decimals
-IsOnSide Above units decimals digits places = digits * 10 ^ decimals < units * 10 ^ places
-IsOnSide AtLeast units decimals digits places = digits * 10 ^ decimals ≤ units * 10 ^ places
+IsOnSide Below units decimals digits other = units * 10 ^ other < digits * 10 ^ decimals
+IsOnSide AtMost units decimals digits other = units * 10 ^ other ≤ digits * 10 ^ decimals
+IsOnSide Above units decimals digits other = digits * 10 ^ decimals < units * 10 ^ other
+IsOnSide AtLeast units decimals digits other = digits * 10 ^ decimals ≤ units * 10 ^ other

@@ -6,7 +6,7 @@ ghost use Rattle.hdr_summary.specs.Decimals.{nearest};
 use crate::units::Unit;
 use std::alloc::{AllocError, Global};
 
-/// Returns an integer of units as a decimal, where a unit is the last of so many decimals.
+/// Returns an integer of units as a decimal. A unit is one of the last of `decimals`.
 pub fn decimal(alloc: Global, units: u128, decimals: u32) -> Result<String, AllocError> {
     let mut digits = format!(in alloc; "{units}")?;
     let decimals = decimals as usize;

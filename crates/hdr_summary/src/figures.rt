@@ -5,7 +5,7 @@ use crate::percentile::Percentile;
 use hdr_input::Distribution;
 use std::alloc::{AllocError, Global};
 
-/// A figure and its name. There is no value if nothing was recorded.
+/// A figure and its name. If nothing was recorded, only the count has a value.
 #[derive(Drop)]
 pub struct Figure {
     pub name: String,

@@ -11,7 +11,7 @@ use hdr_summary::units::Unit;
 use std::alloc::Global;
 use std::process::ExitCode;
 
-/// The status if a level is broken, or if there are no numbers.
+/// The status if a level is broken, or if the input is empty.
 const BROKEN: u8 = 3;
 
 /// Parses levels.

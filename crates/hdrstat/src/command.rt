@@ -26,9 +26,9 @@ fn option<'a>(alloc: Global, id: &'a str, name: &'a str, help: &'a str) -> Arg<'
 
 /// Returns the logs of a subcommand.
 fn logs<'a>(alloc: Global) -> Arg<'a> {
-    Arg::new(alloc, "LOG")
-        .num_args(0..)
-        .help("Interval logs to read; standard input if there are none, or for -")
+    Arg::new(alloc, "LOG").num_args(0..).help(
+        "Interval logs to read; standard input if there are none, or for -",
+    )
 }
 
 /// Returns the command line of the program.

@@ -23,16 +23,10 @@ pub(crate) enum StatError {
     File { file: String, cause: io::Error },
     /// Logs are not gathered.
     #[error("{file}: {cause}")]
-    Gather {
-        file: String,
-        cause: GatherError,
-    },
+    Gather { file: String, cause: GatherError },
     /// Logs are not shown.
     #[error("{file}: {cause}")]
-    Page {
-        file: String,
-        cause: PageError,
-    },
+    Page { file: String, cause: PageError },
     #[error("cannot make the log: {0}")]
     Log(#[from] IntervalLogWriterError<V2SerializeError>),
     #[error("cannot write the output: {0}")]

@@ -59,7 +59,7 @@ impl FileSink for TimedNumbers<'_> {
     }
 }
 
-/// What takes a whole file.
+/// What takes the bytes of files.
 #[derive(Drop)]
 struct Contents {
     files: Vec<Vec<u8>>,
@@ -205,7 +205,7 @@ pub(crate) fn read_whole(rt: &HostRuntime, names: &[&str]) -> Result<Vec<Vec<u8>
     Ok(contents.files)
 }
 
-/// Returns the name of the file at an index, for an error; it is that of all files if there is no index.
+/// Returns the name of the file at an index, or that of all files without an index, for an error.
 pub(crate) fn file_at(
     alloc: Global,
     names: &[&str],

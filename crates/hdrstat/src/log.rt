@@ -13,7 +13,7 @@ use std::alloc::Global;
 use std::process::ExitCode;
 use std::time::Duration;
 
-/// Returns the comment of a log, whose values have so many decimals.
+/// Returns the comment of a log, which has the decimals of its values.
 fn comment_of(alloc: Global, decimals: u32) -> Result<String, StatError> {
     Ok(format!(in alloc; "[Values have {decimals} decimals]")?)
 }
@@ -44,9 +44,7 @@ fn interval_log(
     tag: Option<Tag<'_>>,
 ) -> Result<Vec<u8>, StatError> {
     let comment = comment_of(alloc, intervals.tally.decimals())?;
-    intervals
-        .intervals
-        .sort_by_key(|interval| interval.number)?;
+    intervals.intervals.sort_by_key(|interval| interval.number)?;
     let mut output = Vec::new(alloc);
     let mut serializer = V2Serializer::new(alloc);
     let mut builder = IntervalLogWriterBuilder::new(alloc);

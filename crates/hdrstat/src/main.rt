@@ -21,7 +21,7 @@ use std::process::ExitCode;
 /// The status of a usage error.
 const USAGE: u8 = 2;
 
-/// Prints clap's error of usage, or the help or version that was asked for.
+/// Prints a usage error of clap, or the help or the version.
 fn answer(rt: &HostRuntime, error: &clap::Error) -> ExitCode {
     match error.print(rt) {
         Ok(()) => ExitCode::from(if error.use_stderr() { USAGE } else { 0 }),
@@ -29,7 +29,7 @@ fn answer(rt: &HostRuntime, error: &clap::Error) -> ExitCode {
     }
 }
 
-/// Prints an error, and returns the status. The end of a pipe's reader is no error to be printed.
+/// Prints an error, and returns the status. A broken pipe is not printed.
 fn fail(rt: &HostRuntime, subcommand: &str, error: &StatError) -> ExitCode {
     match error {
         StatError::Usage(text) => {
@@ -61,7 +61,7 @@ fn run(rt: &HostRuntime, name: &str, matches: &ArgMatches<'_>) -> ExitCode {
     }
 }
 
-/// Returns the status of an error of the arguments as a whole.
+/// Returns the status if the arguments are not read.
 fn bad_arguments(rt: &HostRuntime, error: &io::Error) -> ExitCode {
     if error.kind() == ErrorKind::OutOfMemory {
         return fail(rt, "", &StatError::OutOfMemory);

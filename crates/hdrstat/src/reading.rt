@@ -1,4 +1,4 @@
-//! How the input is read, from the arguments that the subcommands share.
+//! How the input is read, from the arguments that several subcommands have.
 
 use crate::error::StatError;
 use clap::ArgMatches;
@@ -93,7 +93,7 @@ pub(crate) fn table_of<'a>(
     }))
 }
 
-/// Whether a number is 0 if it is rounded to so many decimals.
+/// Whether a number is 0 if it is rounded to `decimals`.
 fn is_rounded_to_zero(number: Number, decimals: Option<u32>) -> bool {
     match decimals {
         Some(decimals) => number.rounded(decimals) == Some(0),

@@ -51,7 +51,7 @@ pub(crate) fn push_figures(text: &mut String, rows: &[Row<'_>]) -> Result<(), Al
     Ok(())
 }
 
-/// Returns the tag of a row as it is shown. Tabs and other control characters are no part of a table.
+/// Returns the tag of a row as it is shown.
 fn tag_of<'a>(row: &Row<'a>) -> &'a str {
     row.tag.unwrap_or(NO_TAG)
 }

@@ -18,16 +18,26 @@ Status: 0; 1 if the input is invalid, or input or output fails; 2 for a usage er
 
 /// Returns the command line of `hdrstat log`.
 pub(crate) fn log<'a>(alloc: Global) -> Result<Command<'a>, Error> {
-    let files = Arg::new(alloc, "FILE")
-        .num_args(0..)
-        .help("Files to read; standard input if there are none, or for -");
+    let files = Arg::new(alloc, "FILE").num_args(0..).help(
+        "Files to read; standard input if there are none, or for -",
+    );
     let tag = option(alloc, "tag", "TAG", "Tag of the intervals");
-    let time = option(alloc, "time", "COLUMN", "Column of times in seconds, which cut the log")
-        .requires_arg("column")?
-        .requires_arg("every")?
-        .value_parser(ValueParser::NonEmptyString);
-    let every = option(alloc, "every", "TIME", "Length of an interval, such as 1s or 500ms")
-        .requires_arg("time")?;
+    let time = option(
+        alloc,
+        "time",
+        "COLUMN",
+        "Column of times in seconds, which cut the log",
+    )
+    .requires_arg("column")?
+    .requires_arg("every")?
+    .value_parser(ValueParser::NonEmptyString);
+    let every = option(
+        alloc,
+        "every",
+        "TIME",
+        "Length of an interval, such as 1s or 500ms",
+    )
+    .requires_arg("time")?;
     let command = Command::new(alloc, "log")
         .about("Write numbers as an interval log, which hdr and hdrstat read")
         .after_help(AFTER)

@@ -1,4 +1,4 @@
-//! The options of the input, which subcommands share.
+//! The options of the input, which several subcommands have.
 
 use crate::command::option;
 use clap::builder::ValueParser;
@@ -73,7 +73,7 @@ pub(crate) fn with_recording<'a>(
     let decimals = option(alloc, "decimals", "N", help).value_parser(value_parser!(u32).range(
         0..=18,
     ));
-    let help = "Add the samples that a longer one hid, if one was due each TIME";
+    let help = "Add the missing samples, if one was due each TIME";
     let interval = option(alloc, "expected-interval", "TIME", help);
     let help = "Unit of the numbers, so that other arguments may have one, as 200ms";
     let unit = option(alloc, "unit", "UNIT", help).value_parser(["ns", "us", "ms", "s"].as_slice());
