@@ -30,8 +30,9 @@ def shown(text):
 def error_text(failure):
     name, line, text, why = failure.text
     if why == "no column":
-        names = ", ".join(it.decode("utf-8", "replace") for it in text)
-        names = names.lstrip(", ") if not text[0] else names
+        names = ""
+        for it in text:
+            names += (", " if names else "") + it.decode("utf-8", "replace")
         return f"{name}: no column `{line.decode()}` in the first line, which has {names}; --column and --time take a name, or a number from 1"
     return f"{name}: {line}: `{shown(text)}` {REASONS[why]}"
 

@@ -210,10 +210,11 @@ class Tally:
 
 
 def is_number(fields, index):
+    """Whether the field of a row is a number, at least one that is negative or too large."""
     try:
         return index < len(fields) and bool(parse_number(fields[index].strip(SPACE)))
-    except Bad:
-        return False
+    except Bad as bad:
+        return str(bad) != "no number"
 
 
 def guess_delimiter(data):
