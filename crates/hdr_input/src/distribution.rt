@@ -1,7 +1,8 @@
 //! The distribution of numbers.
 
-ghost use Rattle.std.specs.Prelude.{◌≡◌, ◌≤◌, min, max};
-ghost use Rattle.hdr_model.specs.Quantiles.{value_at_quantile};
+ghost use Rattle.std.specs.Prelude.{◌≡◌, ◌≤◌, ◌<◌, ℕ, List, length, min, max};
+ghost use Rattle.hdr_model.specs.Quantiles.{value_at_quantile, ranked_sample};
+ghost use Rattle.hdr_model.specs.Samples.{StandsFor};
 
 use hdrhistogram::{Histogram, Quantile};
 
@@ -38,7 +39,10 @@ impl Distribution {
 
     /// Returns the value at a quantile: the top of its class, within the least and the greatest number.
     pub fn value_at_quantile(&self, quantile: Quantile) -> u64
-        ensures { result ≡ max (min (value_at_quantile self.now.histogram quantile) self.now.max) self.now.min }
+        ensures value { result ≡ max (min (value_at_quantile self.now.histogram quantile) self.now.max) self.now.min }
+        // The sample of the quantile's rank is at or below it, since no sample is above the greatest number.
+        ensures samples { (S : List ℕ) → StandsFor self.now.histogram S → 0 < length S → 0 < quantile.num
+            → ranked_sample quantile S ≤ self.now.max → ranked_sample quantile S ≤ result }
     {
         self.histogram
             .value_at_quantile(quantile)

@@ -1,6 +1,9 @@
 //! The histograms of interval logs, added as their lines are read.
 
-ghost use Rattle.std.specs.Prelude.{◌<◌, length};
+ghost use Rattle.std.specs.Prelude.{◌≡◌, ◌-◌, ◌^◌, OnOk};
+ghost use Rattle.hdr_model.specs.Plain.{Plain};
+ghost use Rattle.hdr_model.specs.Merging.{after_add};
+ghost use Rattle.hdrhistogram.specs.FieldRead.{IsHeldIn};
 
 use crate::errors::InputError;
 use crate::log_lines::{entry_of, split_log_line};
@@ -23,6 +26,30 @@ pub struct TagSum {
     /// The tag, or `None` for the intervals without a tag, or for all intervals.
     pub tag: Option<String>,
     pub histogram: Histogram<u64>,
+}
+
+impl TagSum {
+    /// Adds the histogram that the field of an interval holds. Returns whether it is coarser than the sum.
+    fn add_field(
+        &mut self,
+        deserializer: &mut Deserializer,
+        field: &str,
+        line: u64,
+    ) -> Result<bool, InputError>
+        ensures { OnOk result ((held : Plain) × IsHeldIn (2 ^ 64 - 1) field.now held
+            × (self.new.histogram ≡ after_add (2 ^ 64 - 1) self.old.histogram held)) }
+    {
+        let source: Histogram<u64> = match deserializer.decode_field(field) {
+            Ok(source) => source,
+            Err(cause) => return Err(InputError::of_interval(line, cause)),
+        };
+        let is_coarser = !source.refines(&self.histogram);
+        // A histogram that grows accepts every value, so this fails only if memory runs out.
+        match self.histogram.add_from(&source) {
+            Ok(()) => Ok(is_coarser),
+            Err(_) => Err(InputError::OutOfMemory),
+        }
+    }
 }
 
 /// The sums of the chosen intervals of logs.
@@ -120,21 +147,13 @@ impl<'a> LogSums<'a> {
         interval: &IntervalLogHistogram<'_>,
         line: u64,
     ) -> Result<(), InputError> {
-        let field = interval.encoded_histogram();
-        let source: Histogram<u64> = match self.deserializer.decode_field(field) {
-            Ok(source) => source,
-            Err(cause) => return Err(InputError::of_interval(line, cause)),
-        };
         let index = self.index_of(alloc, interval.tag())?;
         let Some(sum) = self.sums.get_mut(index) else {
             return Ok(());
         };
-        if !source.refines(&sum.histogram) {
+        let field = interval.encoded_histogram();
+        if sum.add_field(&mut self.deserializer, field, line)? {
             self.coarser = self.coarser.saturating_add(1);
-        }
-        // A histogram that grows accepts every value, so this fails only if memory runs out.
-        if sum.histogram.add_from(&source).is_err() {
-            return Err(InputError::OutOfMemory);
         }
         self.chosen = self.chosen.saturating_add(1);
         Ok(())

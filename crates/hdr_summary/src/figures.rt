@@ -19,17 +19,17 @@ pub struct Tagged {
     pub distribution: Distribution,
 }
 
-/// Returns the mean in hundredths of a unit, halves rounded up, or `None` without numbers or on overflow. It is that of the numbers,
-/// or that of their classes if only these are known.
-pub fn mean_in_hundredths(distribution: &Distribution) -> Option<u128> {
+/// Returns the mean in parts of a unit, halves rounded up, or `None` without numbers or on overflow. It is that of the numbers, or
+/// that of their classes if only these are known.
+pub fn mean_in_parts(distribution: &Distribution, parts: u128) -> Option<u128> {
     if distribution.histogram.is_empty() {
         return None;
     }
     match distribution.sum {
-        Some(sum) => in_parts(sum, u128::from(distribution.histogram.len()), 100),
+        Some(sum) => in_parts(sum, u128::from(distribution.histogram.len()), parts),
         None => {
             let mean = distribution.histogram.mean()?;
-            in_parts(mean.num, mean.den, 100)
+            in_parts(mean.num, mean.den, parts)
         }
     }
 }
@@ -40,7 +40,7 @@ fn mean(
     distribution: &Distribution,
     conversion: Conversion,
 ) -> Result<Option<String>, AllocError> {
-    match mean_in_hundredths(distribution) {
+    match mean_in_parts(distribution, 100) {
         Some(units) => {
             let decimals = distribution.decimals + 2;
             Ok(Some(conversion.decimal(alloc, units, decimals)?))

@@ -59,6 +59,16 @@ fn interval_log(
     Ok(output)
 }
 
+/// Returns the length of an interval in nanoseconds, if there is one.
+fn length_of(alloc: Global, matches: &ArgMatches<'_>) -> Result<Option<u64>, StatError> {
+    let length = nanoseconds_of(alloc, matches, "every")?;
+    if length == Some(0) {
+        let text = matches.get_str("every").unwrap_or("0");
+        return Err(StatError::usage(alloc, text, "is not a length above 0"));
+    }
+    Ok(length)
+}
+
 /// Prints the numbers of files as an interval log.
 pub(crate) fn log(rt: &HostRuntime, matches: &ArgMatches<'_>) -> Result<ExitCode, StatError> {
     let alloc = rt.alloc();
@@ -66,7 +76,7 @@ pub(crate) fn log(rt: &HostRuntime, matches: &ArgMatches<'_>) -> Result<ExitCode
     let table = table_of(alloc, matches)?;
     let tag = tag_of(alloc, matches)?;
     let names = matches.get_strs("FILE").unwrap_or(&[]);
-    let length = nanoseconds_of(alloc, matches, "every")?;
+    let length = length_of(alloc, matches)?;
     let output = match (table, matches.get_str("time"), length) {
         (Some(table), Some(time), Some(length)) => {
             let mut intervals = read_intervals(rt, names, recording, table, time, length)?;

@@ -201,19 +201,27 @@ const OF_NUMBERS: [&str; 4] = [
 
 const OF_LOGS: [&str; 3] = ["--tag", "--from-time", "--to-time"];
 
+/// Returns an option that does not go with the input, if one was given.
+fn misplaced_option(matches: &ArgMatches<'_>, is_log: bool) -> Option<&'static str> {
+    if is_log {
+        if matches.get_flag("skip-bad") {
+            return Some("--skip-bad");
+        }
+        return first_given(matches, OF_NUMBERS.as_slice());
+    }
+    if matches.get_flag("by-tag") {
+        return Some("--by-tag");
+    }
+    first_given(matches, OF_LOGS.as_slice())
+}
+
 /// Returns how the input is read.
 pub(crate) fn parse_reading<'a>(
     alloc: Global,
     matches: &ArgMatches<'a>,
 ) -> Result<Reading<'a>, StatError> {
-    let recording = recording_of(alloc, matches)?;
     let is_log = matches.get_str("from") == Some("log");
-    let other = if is_log {
-        first_given(matches, OF_NUMBERS.as_slice())
-    } else {
-        first_given(matches, OF_LOGS.as_slice())
-    };
-    if let Some(option) = other {
+    if let Some(option) = misplaced_option(matches, is_log) {
         let why = if is_log {
             "is not an option of --from log"
         } else {
@@ -221,12 +229,12 @@ pub(crate) fn parse_reading<'a>(
         };
         return Err(StatError::usage(alloc, option, why));
     }
-    let is_by_tag = matches.get_flag("by-tag");
+    let recording = recording_of(alloc, matches)?;
     let source = if is_log {
-        let choice = choice_of(alloc, matches)?;
-        Source::Log { choice, is_by_tag }
-    } else if is_by_tag {
-        return Err(StatError::usage(alloc, "by-tag", "is an option of --from log alone"));
+        Source::Log {
+            choice: choice_of(alloc, matches)?,
+            is_by_tag: matches.get_flag("by-tag"),
+        }
     } else {
         Source::Numbers(table_of(alloc, matches)?)
     };

@@ -1,7 +1,7 @@
 //! The percentile distribution of HdrHistogram, which its plotter reads.
 
 use crate::decimals::{Conversion, decimal, in_parts};
-use crate::figures::mean_in_hundredths;
+use crate::figures::mean_in_parts;
 use hdr_input::Distribution;
 use hdrhistogram::{Histogram, IterationValue};
 use std::alloc::{AllocError, Global};
@@ -69,17 +69,22 @@ fn push_row(
     writeln!(text, "{value:>12} {share} {count:>10} {inverted:>14}")
 }
 
-/// Returns the mean with three decimals, or with two more than the values have if those are more.
+/// Returns the mean with three decimals, or with two more than the values have if those are more. It is 0 without numbers.
 fn mean(
     alloc: Global,
     distribution: &Distribution,
     conversion: Conversion,
 ) -> Result<Option<String>, AllocError> {
-    let Some(units) = mean_in_hundredths(distribution) else {
-        return Ok(None);
-    };
-    let decimals = distribution.decimals + 2;
-    Ok(Some(conversion.decimal(alloc, units, decimals)?))
+    let more = 3u32.saturating_sub(distribution.decimals).max(2);
+    let parts = 10u128.checked_pow(more).unwrap_or(1);
+    let decimals = distribution.decimals + more;
+    match mean_in_parts(distribution, parts) {
+        Some(units) => Ok(Some(conversion.decimal(alloc, units, decimals)?)),
+        None if distribution.histogram.is_empty() => {
+            Ok(Some(conversion.decimal(alloc, 0, decimals)?))
+        }
+        None => Ok(None),
+    }
 }
 
 /// Appends the lines about all values.

@@ -56,6 +56,11 @@ fn tag_of<'a>(row: &Row<'a>) -> &'a str {
     row.tag.unwrap_or(NO_TAG)
 }
 
+/// Returns the number of characters of a text.
+fn char_count(text: &str) -> usize {
+    text.chars().count()
+}
+
 /// Returns the width of the column at an index: that of its name, or of its longest value.
 fn width(rows: &[Row<'_>], index: usize) -> usize {
     let mut width = 0;
@@ -79,7 +84,7 @@ fn push_cell(text: &mut String, cell: &str, width: usize) -> Result<(), AllocErr
 pub(crate) fn push_tagged(text: &mut String, rows: &[Row<'_>]) -> Result<(), AllocError> {
     let mut tags = "tag".len();
     for row in rows {
-        tags = tags.max(tag_of(row).len());
+        tags = tags.max(char_count(tag_of(row)));
     }
     if let Some(first) = rows.first() {
         text.push_str("tag")?;
@@ -104,7 +109,7 @@ fn push_row(
 ) -> Result<(), AllocError> {
     let tag = tag_of(row);
     text.push_str(tag)?;
-    push_spaces(text, tags.saturating_sub(tag.len()))?;
+    push_spaces(text, tags.saturating_sub(char_count(tag)))?;
     for (index, figure) in row.figures.iter().enumerate() {
         push_cell(text, or_none(figure, "-"), width(rows, index))?;
     }
