@@ -1,17 +1,38 @@
-# make: proves and builds the program, target/hdr. make install: puts it and its manual page below PREFIX. make check: the gate.
+# make: proves and builds the programs, target/hdr and target/hdrstat. make check: the gate.
+# make install: installs them below PREFIX, with manual pages and completions. make dist: an archive of the same, in dist.
 # make test: all rows and cases, in seconds; make test ROW=NAME or CASE=NAME: one of them. docs/TESTING.md says more.
 # make edits: the wrong bodies alone, which the prover has to refuse: those of crates/*/edits and of crates/*/further-edits.
 # make quick: proves what has changed since the last commit, over the work that earlier checks kept, and plays the tests.
 # make bench: times beside the Rust crate hdrhistogram (compare/run says where that comes from).
 # make bench-shapes: instructions and times of each operation on the data that users have, beside the same.
 PREFIX ?= /usr/local
+PROGRAMS = hdr hdrstat
+VERSION = $(shell sed -n 's/.*have version \(.*\)\.$$/\1/p' crates.txt)
+DIST = deckapricot-$(VERSION)-x86_64-linux
+TO = $(DESTDIR)$(PREFIX)
 
 all:
-	./build.sh
+	./build.sh $(PROGRAMS)
 
 install: all
-	install -Dm755 target/hdr $(DESTDIR)$(PREFIX)/bin/hdr
-	install -Dm644 man/hdr.1 $(DESTDIR)$(PREFIX)/share/man/man1/hdr.1
+	for program in $(PROGRAMS); do \
+		install -Dm755 target/$$program "$(TO)/bin/$$program" || exit; \
+	done
+	for page in man/*.1; do \
+		install -Dm644 $$page "$(TO)/share/man/man1/$${page#man/}" || exit; \
+	done
+	install -Dm644 completions/hdrstat.bash "$(TO)/share/bash-completion/completions/hdrstat"
+	install -Dm644 completions/_hdrstat "$(TO)/share/zsh/site-functions/_hdrstat"
+	install -Dm644 completions/hdrstat.fish "$(TO)/share/fish/vendor_completions.d/hdrstat.fish"
+
+dist: all
+	rm -rf target/$(DIST)
+	$(MAKE) --no-print-directory install DESTDIR= PREFIX=target/$(DIST)
+	install -m644 LICENSE-MIT LICENSE-APACHE target/$(DIST)
+	sed 's/VERSION/$(VERSION)/' tools/dist-readme >target/$(DIST)/README
+	mkdir -p dist
+	tar -C target --sort=name --owner=0 --group=0 --numeric-owner -czf dist/$(DIST).tar.gz $(DIST)
+	rm -rf target/$(DIST)
 
 # The edits are tried in a copy of the repository meanwhile, on what the proofs leave of the processors. What comes of them is
 # printed last.
@@ -55,4 +76,4 @@ bench:
 bench-shapes:
 	compare/run shapes
 
-.PHONY: all install check proofs-and-runs trials test edits quick bench bench-shapes
+.PHONY: all install dist check proofs-and-runs trials test edits quick bench bench-shapes

@@ -4,8 +4,7 @@
 usage: tools/scale.py [LINES [WORKERS]]
 
 LINES is the number of input lines (100000), and WORKERS how many worker processes run (4). Needs Debian's packages python3-dask and
-python3-distributed, and two programs: target/hdr, which make builds, and crates/hdr_gather/out/hdr_gather, which make check builds,
-or those that HDR and HDR_GATHER name. The lines take 9 bytes each in a temporary folder. Prints times in seconds on standard error,
+python3-distributed, and two programs that make builds, target/hdr and target/hdrstat, or those that HDR and HDRSTAT name. The lines take 9 bytes each in a temporary folder. Prints times in seconds on standard error,
 and then `equal`, or what differs with status 1.
 """
 import difflib
@@ -19,7 +18,7 @@ from dask.distributed import Client, LocalCluster
 
 TOP = os.path.dirname(os.path.dirname(os.path.abspath(__file__)))
 HDR = os.environ.get("HDR", os.path.join(TOP, "target/hdr"))
-GATHER = os.environ.get("HDR_GATHER", os.path.join(TOP, "crates/hdr_gather/out/hdr_gather"))
+HDRSTAT = os.environ.get("HDRSTAT", os.path.join(TOP, "target/hdrstat"))
 QUANTILES = ["0/1", "1/2", "9/10", "99/100", "999/1000", "1/1"]
 PIECE = 1 << 20
 # Lines of which one in 100 is a correction, and one in 1,000 is 40 times greater.
@@ -60,16 +59,16 @@ def recorded(hdr, path, start, end):
     return log
 
 
-def gathered(gather, *logs):
+def gathered(hdrstat, *logs):
     """The log that logs become."""
-    return subprocess.run([gather], input=b"".join(logs), stdout=subprocess.PIPE, check=True).stdout
+    return subprocess.run([hdrstat, "gather"], input=b"".join(logs), stdout=subprocess.PIPE, check=True).stdout
 
 
 def by_many(client, path, workers):
     """A report of a tree of logs: four parts for each worker become a log each, and four logs at a time become one."""
     logs = [client.submit(recorded, HDR, path, *part, pure=False) for part in bounds(path, 4 * workers)]
     while len(logs) > 1:
-        logs = [client.submit(gathered, GATHER, *logs[at:at + 4], pure=False) for at in range(0, len(logs), 4)]
+        logs = [client.submit(gathered, HDRSTAT, *logs[at:at + 4], pure=False) for at in range(0, len(logs), 4)]
     log = logs[0].result()
     return subprocess.run([HDR, "merge", "3", *QUANTILES], input=log, stdout=subprocess.PIPE, check=True).stdout
 
@@ -95,7 +94,7 @@ def timed(what, run, *words):
 
 
 def main(lines="100000", workers="4"):
-    for program in (HDR, GATHER):
+    for program in (HDR, HDRSTAT):
         if not os.access(program, os.X_OK):
             sys.exit(f"tools/scale.py: no program {program}")
     with tempfile.TemporaryDirectory() as room:

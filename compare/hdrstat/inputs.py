@@ -1,0 +1,334 @@
+"""Random inputs for hdrstat, with what the model says of each."""
+import dataclasses
+import json
+
+from model import Failure, Options, Tally, decimal_text, rounded
+
+REASONS = {
+    "no number": "is not a number; --skip-bad ignores such lines",
+    "table": "is not a number; --column reads a column of a table, --from log an interval log",
+    "negative": "is negative, and a histogram counts numbers from 0; --skip-bad ignores such lines",
+    "decimals": "has more decimals than the numbers before it; set them by --decimals",
+    "large": "is too large: a number has to be below 2^64 in units of its last decimal (--decimals)",
+    "no field": "is a row without that column; --skip-bad ignores such rows",
+}
+
+
+@dataclasses.dataclass
+class Case:
+    arguments: list
+    stdin: bytes
+    files: dict
+    wanted: tuple
+
+
+def shown(text):
+    """The start of a text, as an error shows it."""
+    return bytes(ord("?") if byte < 32 or byte == 127 else byte for byte in text[:40]).decode("utf-8", "replace")
+
+
+def error_text(failure):
+    name, line, text, why = failure.text
+    if why == "no column":
+        names = ""
+        for it in text:
+            names += (", " if names else "") + it.decode("utf-8", "replace")
+        return f"{name}: no column `{line.decode()}` in the first line, which has {names}; --column and --time take a name, or a number from 1"
+    return f"{name}: {line}: `{shown(text)}` {REASONS[why]}"
+
+
+# Numbers
+
+
+def digits(random, most=6):
+    return "".join(random.choice("0123456789") for _ in range(random.randint(1, most)))
+
+
+def odd_number(random):
+    """A text that may be no number, or one out of range."""
+    return random.choice([
+        lambda: "-" + digits(random), lambda: "+" + digits(random), lambda: "++1", lambda: "-", lambda: "+", lambda: ".", lambda: "e5",
+        lambda: digits(random, 25), lambda: digits(random, 400), lambda: "0" * random.randint(1, 300) + digits(random),
+        lambda: f"{digits(random)}.{digits(random, 30)}", lambda: f".{digits(random)}", lambda: f"{digits(random)}.", lambda: "1.2.3",
+        lambda: f"{digits(random)}e{random.randint(-30, 30)}", lambda: f"{digits(random)}.{digits(random)}E+{random.randint(0, 12)}",
+        lambda: f"{digits(random, 3)}e-{random.randint(0, 9)}", lambda: f"0e{digits(random, 30)}", lambda: f"{digits(random)}e-{digits(random, 30)}",
+        lambda: f"{digits(random)}e", lambda: f"{digits(random)}e+", lambda: f"{digits(random)}e1.5", lambda: "1_000", lambda: "1 2", lambda: "0x1f",
+        lambda: "nan", lambda: "inf", lambda: f"{digits(random)},{digits(random)}", lambda: f"{digits(random)}\t{digits(random)}", lambda: "1;2",
+        lambda: "-0", lambda: "-abc", lambda: "12ms", lambda: "\N{ARABIC-INDIC DIGIT ONE}", lambda: "1\0", lambda: "\0", lambda: f"\N{MINUS SIGN}1",
+        lambda: str(2**64 - 1), lambda: str(2**64), lambda: f"{2**64 - 1}.0", lambda: f"{2**64 - 1}.5", lambda: "1\r2", lambda: "#7", lambda: " # a",
+        lambda: f"{2**64 // 10}.{random.randint(0, 9)}", lambda: "99999999999999999999x", lambda: "1e-39", lambda: "0.0e-50", lambda: "\v1", lambda: "1\f",
+    ])().encode()
+
+
+def number_line(random, decimals):
+    text = digits(random, random.choice([3, 6, 9, 12]))
+    if decimals and random.random() < 0.9:
+        text += "." + "".join(random.choice("0123456789") for _ in range(decimals))
+    return text.encode()
+
+
+def spaced(random, text):
+    if random.random() < 0.9:
+        return text
+    return random.choice([b" ", b"\t", b"  ", b"\f"]) + text + random.choice([b"", b" ", b"\t"])
+
+
+def broken(random, data):
+    """Bytes with a few changed, taken out or added."""
+    data = bytearray(data)
+    for _ in range(random.randint(1, 3)):
+        at = random.randint(0, len(data))
+        byte = random.choice([0, 0xFF, 0xC3, 0xEF, ord('"'), 10, 13, ord("-"), ord("."), random.randint(0, 255)])
+        action = random.randint(0, 2)
+        if action == 0:
+            data.insert(at, byte)
+        elif at < len(data):
+            if action == 1:
+                data[at] = byte
+            else:
+                del data[at]
+    return bytes(data)
+
+
+def numbers(random, decimals):
+    lines = []
+    odd = random.choice([0, 0, 0.02, 0.1, 0.5])
+    for _ in range(random.choice([0, 1, 2, 5, 20, 100])):
+        chance = random.random()
+        line = odd_number(random) if chance < odd else b"" if chance > 0.98 else b"#note" if chance > 0.97 else number_line(random, decimals)
+        lines.append(spaced(random, line))
+    end = random.choice([b"\n", b"\n", b"\n", b"\r\n"])
+    data = end.join(lines) + random.choice([b"", end])
+    if random.random() < 0.1:
+        data = b"\xef\xbb\xbf" + data
+    return broken(random, data) if random.random() < 0.2 else data
+
+
+def amount(random, decimals):
+    """A number for an option, as text, digits and decimals."""
+    whole, places = random.randint(100, 5000), random.randint(0, decimals)
+    return decimal_text(whole, places), (whole, places)
+
+
+def options(random, decimals):
+    """Options of the input: arguments and what they mean."""
+    arguments, chosen = [], Options()
+    if random.random() < 0.3:
+        chosen.sigfig = random.randint(0, 5)
+        arguments += random.choice([["-d", str(chosen.sigfig)], [f"--digits={chosen.sigfig}"]])
+    if random.random() < 0.25:
+        chosen.decimals = random.choice([0, 1, decimals, decimals + 1, 18])
+        arguments += ["--decimals", str(chosen.decimals)]
+    if random.random() < 0.3:
+        chosen.skips_bad = True
+        arguments.append("--skip-bad")
+    return arguments, chosen
+
+
+def percentiles(random):
+    """A list of percentiles: the argument, and for each its text, numerator and denominator."""
+    found = []
+    for _ in range(random.randint(1, 5)):
+        places = random.choice([0, 0, 1, 2, 3, 6])
+        number = random.choice([random.randint(0, 100 * 10**places), 100 * 10**places, 0, 99 * 10**places, 50 * 10**places])
+        text = decimal_text(number, places)
+        if text not in [it for it, _, _ in found]:
+            found.append((text, number, 100 * 10**places))
+    return ",".join(random.choice(["", "p"]) + text + random.choice(["", "%"]) for text, _, _ in found), found
+
+
+USUAL = [("50", 50, 100), ("90", 90, 100), ("99", 99, 100), ("99.9", 999, 1000)]
+
+
+# Figures
+
+
+def shifted(units, decimals, shift):
+    """A decimal divided by ten this many times, and multiplied if it is negative."""
+    decimals += shift
+    return decimal_text(units, decimals) if decimals >= 0 else str(units * 10**-decimals)
+
+
+def figures(tally, wanted, shift=0):
+    """Names and values of the figures; None where there is no value."""
+    samples, decimals = tally.samples, tally.decimals or 0
+    count = samples.len()
+    value = (lambda units: shifted(units, decimals, shift)) if count else lambda _: None
+    mean = None
+    if count:
+        total = samples.mean_of_classes() if tally.interval else samples.total
+        mean = shifted((200 * total + count) // (2 * count), decimals + 2, shift)
+    found = [("count", str(count)), ("min", value(samples.least)), ("mean", mean)]
+    found += [(f"p{text}", value(samples.at(num, den))) for text, num, den in wanted]
+    return [*found, ("max", value(samples.greatest))]
+
+
+def table_text(found):
+    wide = max(len(name) for name, _ in found)
+    whole = max(len((value or "-").split(".")[0]) for _, value in found)
+    lines = []
+    for name, value in found:
+        value = value or "-"
+        lines.append(f"{name:{wide}}  {' ' * (whole - len(value.split('.')[0]))}{value}\n")
+    return "".join(lines)
+
+
+def separated_text(found, separator):
+    return separator.join(name for name, _ in found) + "\n" + separator.join(value or "" for _, value in found) + "\n"
+
+
+def json_text(found):
+    return "{" + ",".join(f"{json.dumps(name)}:{value or 'null'}" for name, value in found) + "}\n"
+
+
+FORMATS = {"table": table_text, "csv": lambda it: separated_text(it, ","), "tsv": lambda it: separated_text(it, "\t"), "json": json_text}
+
+
+def summary_case(random, arguments, chosen, data, take):
+    """A case of summary on standard input, or on one file or two."""
+    arguments, wanted = ["summary", *arguments], USUAL
+    if random.random() < 0.5:
+        text, wanted = percentiles(random)
+        arguments += random.choice([["-p", text], [f"--percentiles={text}"]])
+    name = random.choice(["table", "table", "csv", "tsv", "json"])
+    if name != "table" or random.random() < 0.2:
+        arguments += random.choice([["-f", name], [f"--format={name}"]])
+    shift = 0
+    if random.random() < 0.2:
+        unit, to = random.choice(list(UNITS)), random.choice(list(UNITS))
+        arguments += ["--unit", unit, "--output-unit", to]
+        shift = UNITS[unit] - UNITS[to]
+    files, stdin = {}, data
+    if random.random() < 0.2:
+        files, stdin = {"one": data}, b""
+        arguments.append("one")
+        if random.random() < 0.5:
+            files["two"] = data[: len(data) // 2]
+            arguments.append("two")
+    if chosen.decimals is not None and chosen.interval[0] and not rounded(*chosen.interval, chosen.decimals):
+        return Case(arguments, stdin, files, (b"", None, 2))
+    tally, skipped = Tally(chosen), b""
+    try:
+        for file, content in (files or {"standard input": stdin}).items():
+            take(tally, file, content)
+    except Failure as failure:
+        return Case(arguments, stdin, files, (b"", f"hdrstat: {error_text(failure)}\n".encode(), 1))
+    if tally.skipped:
+        skipped = f"hdrstat: {tally.skipped} bad lines skipped\n".encode()
+    return Case(arguments, stdin, files, (FORMATS[name](figures(tally, wanted, shift)).encode(), skipped, 0))
+
+
+def number_case(random):
+    decimals = random.choice([0, 0, 0, 1, 3, 4, 6])
+    arguments, chosen = options(random, decimals)
+    data = numbers(random, decimals)
+    if random.random() < 0.2:
+        text, chosen.interval = amount(random, decimals)
+        arguments += ["--expected-interval", text]
+        data = b"\n".join(decimal_text(random.randint(0, 300_000), decimals).encode() for _ in range(random.randint(0, 30)))
+    return summary_case(random, arguments, chosen, data, Tally.lines)
+
+
+# Tables
+
+
+def field(random, text, delimiter):
+    """A field as a table has it, quoted if it has to be, or at times for no reason."""
+    if any(it in text for it in (delimiter, b'"', b"\n", b"\r")) or random.random() < 0.1:
+        return b'"' + text.replace(b'"', b'""') + b'"'
+    return text
+
+
+def table(random, decimals, delimiter, names):
+    """The bytes of a table. Column 1 has numbers, the others text."""
+    texts = [b"", b"ok", b"a b", b"x\ny", b'say "hi"', b"1,5", b"a;b\tc", b"\xff", b"=1+1", b"caf\xc3\xa9", b"a\r\nb"]
+    odd = random.choice([0, 0, 0.05, 0.3])
+    rows = [names] if names else []
+    for _ in range(random.choice([0, 1, 3, 10, 40])):
+        number = odd_number(random) if random.random() < odd else spaced(random, number_line(random, decimals))
+        row = [random.choice(texts), number, random.choice(texts)]
+        if random.random() < odd:
+            row = row[: random.randint(0, 3)]
+        rows.append(row)
+    end = random.choice([b"\n", b"\n", b"\r\n"])
+    return end.join(delimiter.join(field(random, it, delimiter) for it in row) for row in rows) + random.choice([b"", end])
+
+
+def table_case(random):
+    decimals = random.choice([0, 0, 2, 4])
+    arguments, chosen = options(random, decimals)
+    delimiter = random.choice([b",", b",", b"\t", b";"])
+    names = random.choice([[b"when", b"took", b"note"], [b" when", b"took ", b"note"], [b"took", b"took", b"a,b"], None])
+    data = table(random, decimals, delimiter, names)
+    if random.random() < 0.15:
+        data = broken(random, data)
+    if random.random() < 0.05:
+        data = b"\xef\xbb\xbf" + data
+    chosen.column = random.choice([b"took", b"took", b"2", b"2", b"1", b"7", b"0", b"none"])
+    arguments += random.choice([["-c", chosen.column.decode()], [f"--column={chosen.column.decode()}"]])
+    if random.random() < 0.3:
+        chosen.delimiter = delimiter
+        arguments += ["--delimiter", {b",": ",", b"\t": "tab", b";": ";"}[delimiter]]
+    if random.random() < 0.15:
+        chosen.has_header = False
+        arguments.append("--no-header")
+    return summary_case(random, arguments, chosen, data, Tally.table)
+
+
+# Checks
+
+UNITS = {"ns": 9, "us": 6, "ms": 3, "s": 0}
+SIGNS = {"<": lambda a, b: a < b, "<=": lambda a, b: a <= b, ">": lambda a, b: a > b, ">=": lambda a, b: a >= b}
+
+
+def level(random, tally, unit):
+    """A level: its text, whether it is kept, and the value."""
+    samples, decimals = tally.samples, tally.decimals or 0
+    name = random.choice(["count", "min", "max", "p50", "p99", "p99.9", "p0", "p100", "p75.5"])
+    if name == "count":
+        value, places = samples.len(), 0
+    elif name in ("min", "max"):
+        value, places = (samples.least if name == "min" else samples.greatest) or 0, decimals
+    else:
+        whole, _, part = name[1:].partition(".")
+        value, places = samples.at(int(whole + part), 100 * 10 ** len(part)), decimals
+    near = max(0, value + random.choice([-1, 0, 0, 1, random.randint(-1000, 1000)]))
+    digits, shift = near, places
+    if random.random() < 0.3:
+        digits, shift = digits * 10 + random.randint(0, 9), places + 1
+    sign = random.choice(list(SIGNS))
+    text, scale = decimal_text(digits, shift), 0
+    if unit and name != "count" and random.random() < 0.5:
+        suffix = random.choice(list(UNITS))
+        scale = UNITS[unit] - UNITS[suffix]
+        text += suffix
+    # (the level is digits / 10^shift, times 10^scale in the unit of the input)
+    a, b = value * 10**shift, digits * 10**places
+    a, b = (a, b * 10**scale) if scale >= 0 else (a * 10**-scale, b)
+    too_large = digits * 10 ** max(scale - shift, 0) >= 2**64 or max(shift, shift - scale) > 18 or digits >= 2**64
+    return f"{name}{sign}{text}", None if too_large else SIGNS[sign](a, b), decimal_text(value, places)
+
+
+def check_case(random):
+    decimals = random.choice([0, 0, 1, 3])
+    arguments, chosen = options(random, decimals)
+    data = numbers(random, decimals)
+    unit = random.choice([None, None, *UNITS])
+    arguments += ["--unit", unit] if unit else []
+    tally, failure = Tally(chosen), None
+    try:
+        tally.lines("standard input", data)
+    except Failure as it:
+        failure = it
+    levels = [it for it in (level(random, tally, unit) for _ in range(random.randint(1, 4))) if it[1] is not None]
+    levels = levels or [("count>=0", True, str(tally.samples.len()))]
+    is_empty_allowed = random.random() < 0.2
+    arguments = ["check", *arguments, *(["--allow-empty"] if is_empty_allowed else []), *(text for text, _, _ in levels)]
+    if failure:
+        return Case(arguments, data, {}, (b"", f"hdrstat: {error_text(failure)}\n".encode(), 1))
+    if not tally.samples.len() and not is_empty_allowed:
+        return Case(arguments, data, {}, (b"", None, 3))
+    if not tally.samples.len():
+        levels = [it if it[0].startswith("count") else (it[0], True, "-") for it in levels]
+    out = "".join(f"{'kept' if is_kept else 'broken'} {text} {value}\n" for text, is_kept, value in levels)
+    return Case(arguments, data, {}, (out.encode(), None, 0 if all(it for _, it, _ in levels) else 3))

@@ -1,0 +1,1 @@
+"$1" log -c v --time t --every 0
