@@ -1,82 +1,35 @@
-//! Converts interval logs between compressed histograms, as the HdrHistogram libraries of Java, C, Go, Python and JavaScript write
-//! them, and histograms that are not compressed.
-//!
-//! `hdr_java plain <log` decompresses each histogram. `hdr_java packed <log` makes each a zlib stream again, of stored blocks, which
-//! those libraries read. Comments, headers and the other fields of a line stay as they are.
+//! Converts interval logs between compressed histograms, as the HdrHistogram libraries of other languages write them, and
+//! histograms that are not compressed: `hdr_java plain <log` and `hdr_java packed <log`.
 #![tactic(auto)]
 
-mod field;
-
 use anyhow::{Context, Result};
-use field::{packed_field, plain_field};
+use hdr_convert::{Form, convert_line};
 use std::alloc::Global;
 use std::env;
 use std::io::{Read, Write};
 use std::process::ExitCode;
 
-/// What histograms are converted to.
-#[derive(Clone, Copy, PartialEq, Eq)]
-enum Form {
-    Plain,
-    Packed,
-}
-
-/// The form that the command line names.
+/// Returns the form that the arguments name.
 fn form_given(rt: &HostRuntime) -> Result<Option<Form>> {
     let mut form = None;
-    for (place, word) in env::args(rt)?.enumerate() {
-        form = match (place, word.as_str()) {
-            (0, _) => None,
+    for (index, argument) in env::args(rt)?.enumerate() {
+        form = match (index, argument.as_str()) {
             (1, "plain") => Some(Form::Plain),
-            (1, "packed") => Some(Form::Packed),
+            (1, "packed") => Some(Form::Compressed),
             _ => None,
         };
     }
     Ok(form)
 }
 
-/// Whether the line holds a histogram: it is no comment, no header of columns, and not blank.
-fn has_histogram(line: &[u8]) -> bool {
-    match line.first() {
-        Some(byte) => *byte != b'#' && *byte != b'"' && line.contains(&b','),
-        None => false,
-    }
-}
-
-/// Adds a line whose last field is converted.
-fn convert_line(alloc: Global, line: &[u8], form: Form, output: &mut Vec<u8>) -> Result<()> {
-    let end = line
-        .iter()
-        .rposition(|b| *b == b',')
-        .map_or(0, |comma| comma + 1);
-    if end > line.len() {
-        return Ok(());
-    }
-    let (front, field) = line.split_at(end);
-    let converted = match form {
-        Form::Plain => plain_field(alloc, field)?,
-        Form::Packed => packed_field(alloc, field)?,
-    };
-    output.extend_from_slice(front)?;
-    output.extend_from_slice(converted.as_bytes())?;
-    Ok(())
-}
-
-/// The log with each histogram converted.
+/// Returns the log with each histogram converted.
 fn converted(alloc: Global, log: &[u8], form: Form) -> Result<Vec<u8>> {
     let mut output = Vec::new(alloc);
-    for (place, line) in log.split(|b| *b == b'\n').enumerate() {
-        if place > 0 {
-            output.push(b'\n')?;
-        }
-        if has_histogram(line) {
-            convert_line(alloc, line, form, &mut output).context(format_args!(
-                "line {}",
-                place.saturating_add(1)
-            ))?;
-        } else {
-            output.extend_from_slice(line)?;
-        }
+    for (index, line) in log.split_inclusive(|b| *b == b'\n').enumerate() {
+        convert_line(alloc, line, form, &mut output).context(format_args!(
+            "line {}",
+            index.saturating_add(1)
+        ))?;
     }
     Ok(output)
 }
@@ -100,8 +53,8 @@ fn run(rt: &HostRuntime) -> Result<ExitCode> {
 fn main(rt: HostRuntime) -> ExitCode {
     match run(&rt) {
         Ok(status) => status,
-        Err(fault) => {
-            let _ = eprintln!(rt; "hdr_java: {fault:#}");
+        Err(error) => {
+            let _ = eprintln!(rt; "hdr_java: {error:#}");
             ExitCode::FAILURE
         }
     }
