@@ -8,6 +8,6 @@ mod bytes;
 mod errors;
 mod line;
 
-pub use bytes::{Form, compressed, v2_bytes};
+pub use bytes::{Form, compressed, form_of, v2_bytes};
 pub use errors::ConvertError;
 pub use line::{convert_field, convert_line};

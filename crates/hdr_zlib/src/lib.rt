@@ -1,6 +1,7 @@
-//! Reads and writes zlib streams (RFC 1950), whose data is compressed by Deflate (RFC 1951).
+//! Zlib streams (RFC 1950), whose data is compressed by Deflate (RFC 1951).
 //!
-//! [`inflate`] reads any stream that needs no preset dictionary. [`store`] writes one without compressing it.
+//! [`inflate`] decompresses any stream without a preset dictionary. [`deflate`] compresses bytes by their frequency alone, which
+//! suits the V2 bytes of histograms: they repeat few sequences.
 #![tactic(auto)]
 
 mod bit_writer;
@@ -20,4 +21,4 @@ mod stream;
 pub use checksum::adler32;
 pub use compress::{Level, deflate};
 pub use errors::InflateError;
-pub use stream::{inflate, store};
+pub use stream::inflate;
