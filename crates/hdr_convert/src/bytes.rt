@@ -1,6 +1,7 @@
 //! The bytes of a histogram, compressed and not.
 
-ghost use Rattle.std.specs.Prelude.{◌≡◌, ◌<◌, ◌≤◌, length};
+ghost use Rattle.std.specs.Prelude.{◌≡◌, ◌↔◌, IfOk};
+ghost use Rattle.hdr_convert.specs.Forms.{IsPlain, IsCompressed};
 
 use crate::errors::ConvertError;
 use byteorder::{BigEndian, ByteOrder};
@@ -31,7 +32,10 @@ pub enum Form {
 ///
 /// # Errors
 /// Returns an error if they start as no histogram does, or as one of another version or kind.
-pub fn form_of(bytes: &[u8]) -> Result<Form, ConvertError> {
+pub fn form_of(bytes: &[u8]) -> Result<Form, ConvertError>
+    ensures plain { (result ≡ Ok Form.Plain) ↔ IsPlain bytes.now }
+    ensures compressed { (result ≡ Ok Form.Compressed) ↔ IsCompressed bytes.now }
+{
     if bytes.len() < 4 {
         return Err(ConvertError::NotAHistogram);
     }
@@ -52,7 +56,10 @@ pub fn form_of(bytes: &[u8]) -> Result<Form, ConvertError> {
 /// # Errors
 /// Returns an error if `bytes` are of neither form, if the zlib stream is invalid or would take more than the greatest V2
 /// bytes, or if an allocation fails.
-pub fn v2_bytes(alloc: Global, bytes: Vec<u8>) -> Result<Vec<u8>, ConvertError> {
+pub fn v2_bytes(alloc: Global, bytes: Vec<u8>) -> Result<Vec<u8>, ConvertError>
+    ensures plain { IsPlain bytes.items → result ≡ Ok bytes }
+    ensures v2 { IfOk result (λ v2. IsPlain v2.items) }
+{
     match form_of(&bytes)? {
         Form::Plain => Ok(bytes),
         Form::Compressed => decompressed(alloc, &bytes),
@@ -63,7 +70,10 @@ pub fn v2_bytes(alloc: Global, bytes: Vec<u8>) -> Result<Vec<u8>, ConvertError> 
 ///
 /// # Errors
 /// Returns an error if `bytes` are of neither form, if the stream's length exceeds 32 bits, or if an allocation fails.
-pub fn compressed(alloc: Global, bytes: Vec<u8>) -> Result<Vec<u8>, ConvertError> {
+pub fn compressed(alloc: Global, bytes: Vec<u8>) -> Result<Vec<u8>, ConvertError>
+    ensures compressed { IsCompressed bytes.items → result ≡ Ok bytes }
+    ensures starts { IfOk result (λ packed. IsCompressed packed.items) }
+{
     match form_of(&bytes)? {
         Form::Compressed => Ok(bytes),
         Form::Plain => {
@@ -79,7 +89,9 @@ pub fn compressed(alloc: Global, bytes: Vec<u8>) -> Result<Vec<u8>, ConvertError
 }
 
 /// Returns the V2 bytes of compressed ones. Bytes after the stream are ignored.
-fn decompressed(alloc: Global, bytes: &[u8]) -> Result<Vec<u8>, ConvertError> {
+fn decompressed(alloc: Global, bytes: &[u8]) -> Result<Vec<u8>, ConvertError>
+    ensures { IfOk result (λ v2. IsPlain v2.items) }
+{
     if bytes.len() < HEADER_LEN {
         return Err(ConvertError::Incomplete);
     }
