@@ -4,10 +4,9 @@ ghost use Rattle.std.specs.Prelude.{◌≡◌, ◌+◌, IfSome, OnOk};
 ghost use Rattle.std.specs.Duration.{as_nanos};
 ghost use Rattle.hdr_gather.specs.Times.{nearest_millisecond};
 
-use anyhow::{Result, bail};
-use hdrhistogram::serialization::interval_log::{
-    IntervalLogHistogram, IntervalLogIterator, LogEntry, LogIteratorError, Tag,
-};
+use crate::error::{GatherError, Place};
+use hdr_input::log_lines::{entry_of, split_log_line};
+use hdrhistogram::serialization::interval_log::{IntervalLogHistogram, LogEntry, Tag};
 use std::alloc::{AllocError, Global};
 use std::time::Duration;
 
@@ -20,8 +19,8 @@ pub(crate) struct Part<'a> {
     pub duration: Duration,
     /// The bytes of its histogram, in Base64.
     pub field: &'a str,
-    /// Its number among the intervals of the input, from 1.
-    pub place: u64,
+    /// The log and the line that it is read from.
+    pub place: Place,
 }
 
 impl<'a> Part<'a> {
@@ -39,14 +38,14 @@ fn milliseconds(base: Duration, start: Duration) -> Option<u64>
     u64::try_from((nanos + 500_000) / 1_000_000).ok()
 }
 
-/// Returns an interval with this base time and number.
+/// Returns the interval of a line, after this base time.
 fn part_of<'a>(
     base: Duration,
-    place: u64,
+    place: Place,
     interval: &IntervalLogHistogram<'a>,
-) -> Result<Part<'a>> {
+) -> Result<Part<'a>, GatherError> {
     let Some(start) = milliseconds(base, interval.start_timestamp()) else {
-        bail!("interval {place}: begins past 64 bits of milliseconds");
+        return Err(GatherError::TooLate(place));
     };
     Ok(Part {
         start,
@@ -57,25 +56,30 @@ fn part_of<'a>(
     })
 }
 
-/// The intervals of a log, in its order.
-pub(crate) fn parts_of(alloc: Global, log: &[u8]) -> Result<Vec<Part<'_>>> {
-    let mut parts = Vec::new(alloc);
+/// Appends the intervals of a log, which has this index among the logs, in its order.
+pub(crate) fn push_parts<'a>(
+    alloc: Global,
+    parts: &mut Vec<Part<'a>>,
+    log: usize,
+    input: &'a [u8],
+) -> Result<(), GatherError> {
     let mut base = Duration::ZERO;
-    let mut place = 0u64;
-    for entry in IntervalLogIterator::new(log) {
-        match entry {
-            Ok(LogEntry::StartTime(_)) => {}
-            Ok(LogEntry::BaseTime(time)) => base = time,
-            Ok(LogEntry::Interval(interval)) => {
-                place = place.saturating_add(1);
-                parts.push(part_of(base, place, &interval)?)?;
+    let mut line = 1u64;
+    let mut rest = input;
+    while !rest.is_empty() {
+        let (first, after) = split_log_line(rest, line);
+        match entry_of(alloc, first, line) {
+            Ok(Some(LogEntry::BaseTime(time))) => base = time,
+            Ok(Some(LogEntry::Interval(interval))) => {
+                parts.push(part_of(base, Place { log, line }, &interval)?)?;
             }
-            Err(LogIteratorError::ParseError { offset }) => {
-                bail!("log: parse error at byte {offset}")
-            }
+            Ok(_) => {}
+            Err(cause) => return Err(GatherError::Input { log, cause }),
         }
+        rest = after;
+        line = line.saturating_add(1);
     }
-    Ok(parts)
+    Ok(())
 }
 
 /// Sorts intervals by time and then by tag, ascending. The sort is stable.

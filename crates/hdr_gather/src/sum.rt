@@ -4,15 +4,19 @@ ghost use Rattle.std.specs.Prelude.{◌∷◌, IfOk, map};
 ghost use Rattle.hdr_gather.specs.Parts.{field_of};
 ghost use Rattle.hdr_gather.specs.Sums.{IsJoined, IsGrowing, IsSumOf};
 
+use crate::error::{GatherError, Place};
 use crate::part::Part;
-use anyhow::{Result, bail};
+use hdr_input::InputError;
 use hdrhistogram::Histogram;
-use hdrhistogram::serialization::{Deserializer, FieldDecodeError};
+use hdrhistogram::serialization::Deserializer;
 use std::alloc::Global;
 use std::time::Duration;
 
 /// The histogram of an interval, which grows.
-fn histogram_of(deserializer: &mut Deserializer, part: &Part<'_>) -> Result<Histogram<u64>>
+fn histogram_of(
+    deserializer: &mut Deserializer,
+    part: &Part<'_>,
+) -> Result<Histogram<u64>, GatherError>
     ensures { IfOk result (IsGrowing (field_of part.now)) }
 {
     let place = part.place;
@@ -21,14 +25,20 @@ fn histogram_of(deserializer: &mut Deserializer, part: &Part<'_>) -> Result<Hist
             histogram.auto(true);
             Ok(histogram)
         }
-        Err(FieldDecodeError::OutOfMemory) => bail!("Out of memory"),
-        Err(cause) => bail!("interval {place}: {cause}"),
+        Err(cause) => Err(GatherError::Input {
+            log: place.log,
+            cause: InputError::of_interval(place.line, cause),
+        }),
     }
 }
 
 /// Returns the histogram of the samples of both, by the coarser classes. It is an error if the classes of neither lie in those of
-/// the other; `place` is the number of the interval that `other` was read from.
-fn joined(mut one: Histogram<u64>, mut other: Histogram<u64>, place: u64) -> Result<Histogram<u64>>
+/// the other; `place` is the line that `other` was read from.
+fn joined(
+    mut one: Histogram<u64>,
+    mut other: Histogram<u64>,
+    place: Place,
+) -> Result<Histogram<u64>, GatherError>
     ensures { IfOk result (IsJoined one other) }
 {
     if other.refines(&one) {
@@ -39,11 +49,15 @@ fn joined(mut one: Histogram<u64>, mut other: Histogram<u64>, place: u64) -> Res
         other.add(&one)?;
         return Ok(other);
     }
-    bail!("interval {place}: neither finer nor coarser than those before it at its time and tag")
+    Err(GatherError::NotNested(place))
 }
 
 /// The sum of the histograms of an interval and of others.
-pub(crate) fn sum_of(alloc: Global, first: &Part<'_>, others: &[Part<'_>]) -> Result<Histogram<u64>>
+pub(crate) fn sum_of(
+    alloc: Global,
+    first: &Part<'_>,
+    others: &[Part<'_>],
+) -> Result<Histogram<u64>, GatherError>
     ensures { IfOk result (IsSumOf (field_of first.now ∷ map field_of others.now)) }
 {
     let mut deserializer = Deserializer::new(alloc);

@@ -1,11 +1,10 @@
 //! The intervals of a log, one by one and together.
 
-use anyhow::{Context, Error, Result, anyhow, bail};
-use hdrhistogram::serialization::interval_log::{
-    IntervalFilter, IntervalLogHistogram, IntervalLogIterator, LogEntry, LogIteratorError,
-    MergeError, Tag, merge_log,
-};
-use hdrhistogram::serialization::{Deserializer, FieldDecodeError};
+use crate::error::PageError;
+use hdr_input::InputError;
+use hdr_input::log_lines::{entry_of, split_log_line};
+use hdrhistogram::serialization::Deserializer;
+use hdrhistogram::serialization::interval_log::{IntervalLogHistogram, LogEntry, Tag};
 use hdrhistogram::{Histogram, Quantile};
 use std::alloc::Global;
 use std::time::Duration;
@@ -50,79 +49,87 @@ pub(crate) struct Seen<'a> {
     pub sums: Vec<Sum<'a>>,
 }
 
-/// The sum of all intervals of a log.
-pub(crate) fn merged(alloc: Global, log: &[u8]) -> Result<Histogram<u64>> {
-    let every = IntervalFilter {
-        tag: None,
-        from: None,
-        to: None,
-    };
-    match merge_log(alloc, log, &every, DIGITS) {
-        Ok(merged) => Ok(merged.histogram),
-        Err(MergeError::Parse { offset }) => bail!("log: parse error at byte {offset}"),
-        Err(fault) => Err(fault.into()),
-    }
-}
-
-/// The intervals of a log, and the sum of each tag.
-pub(crate) fn seen_in(alloc: Global, log: &[u8]) -> Result<Seen<'_>> {
+/// Returns the intervals of logs, and the sum of each tag.
+pub(crate) fn seen_in(alloc: Global, logs: &[Vec<u8>]) -> Result<Seen<'_>, PageError> {
     let mut seen = Seen {
         intervals: Vec::new(alloc),
         sums: Vec::new(alloc),
     };
-    let mut base = Duration::ZERO;
-    let mut place = 0u64;
-    for entry in IntervalLogIterator::new(log) {
-        match entry {
-            Ok(LogEntry::StartTime(_)) => {}
-            Ok(LogEntry::BaseTime(time)) => base = time,
-            Ok(LogEntry::Interval(interval)) => {
-                place = place.saturating_add(1);
-                see(alloc, &mut seen, base, place, &interval)?;
-            }
-            Err(LogIteratorError::ParseError { offset }) => {
-                bail!("log: parse error at byte {offset}")
-            }
-        }
+    for (index, log) in logs.iter().enumerate() {
+        see_log(alloc, &mut seen, index, log)?;
     }
     Ok(seen)
 }
 
-/// Adds an interval of this number, after this base time.
+/// Adds the intervals of the log of this index.
+fn see_log<'a>(
+    alloc: Global,
+    seen: &mut Seen<'a>,
+    log: usize,
+    bytes: &'a [u8],
+) -> Result<(), PageError> {
+    let mut base = Duration::ZERO;
+    let mut line = 1u64;
+    let mut rest = bytes;
+    while !rest.is_empty() {
+        let (first, after) = split_log_line(rest, line);
+        base = match see_line(alloc, seen, base, line, first) {
+            Ok(base) => base,
+            Err(cause) => return Err(PageError::Input { log, cause }),
+        };
+        rest = after;
+        line = line.saturating_add(1);
+    }
+    Ok(())
+}
+
+/// Adds the interval of a line, if it has one. Returns the base time after the line.
+fn see_line<'a>(
+    alloc: Global,
+    seen: &mut Seen<'a>,
+    base: Duration,
+    number: u64,
+    line: &'a [u8],
+) -> Result<Duration, InputError> {
+    match entry_of(alloc, line, number)? {
+        Some(LogEntry::BaseTime(time)) => Ok(time),
+        Some(LogEntry::Interval(interval)) => {
+            let histogram = decoded(alloc, number, interval.encoded_histogram())?;
+            match see(alloc, seen, base, &interval, &histogram) {
+                Ok(()) => Ok(base),
+                Err(_) => Err(InputError::OutOfMemory),
+            }
+        }
+        _ => Ok(base),
+    }
+}
+
+/// Adds an interval after this base time.
 fn see<'a>(
     alloc: Global,
     seen: &mut Seen<'a>,
     base: Duration,
-    place: u64,
     interval: &IntervalLogHistogram<'a>,
-) -> Result<()> {
-    let histogram = decoded(alloc, place, interval.encoded_histogram())?;
-    add_to_sum(alloc, &mut seen.sums, interval.tag(), &histogram)?;
+    histogram: &Histogram<u64>,
+) -> Result<(), PageError> {
+    add_to_sum(alloc, &mut seen.sums, interval.tag(), histogram)?;
     let start = base.as_nanos() + interval.start_timestamp().as_nanos();
     seen.intervals.push(Interval {
         tag: interval.tag(),
         start: (start + 500_000) / 1_000_000,
         length: (interval.duration().as_nanos() + 500_000) / 1_000_000,
         count: histogram.len(),
-        answers: answers_of(&histogram),
+        answers: answers_of(histogram),
     })?;
     Ok(())
 }
 
-/// The histogram of a field.
-fn decoded(alloc: Global, place: u64, field: &str) -> Result<Histogram<u64>> {
+/// Returns the histogram of the field of a line.
+fn decoded(alloc: Global, line: u64, field: &str) -> Result<Histogram<u64>, InputError> {
     match Deserializer::new(alloc).decode_field(field) {
         Ok(histogram) => Ok(histogram),
-        Err(cause) => Err(undecoded(place, cause)),
+        Err(cause) => Err(InputError::of_interval(line, cause)),
     }
-}
-
-/// Why the field of the interval of this number is not decoded.
-fn undecoded(place: u64, cause: FieldDecodeError) -> Error {
-    if matches!(cause, FieldDecodeError::OutOfMemory) {
-        return anyhow!("Out of memory");
-    }
-    anyhow!("interval {place}: {cause}")
 }
 
 /// Adds a histogram to the sum of its tag.
@@ -131,7 +138,7 @@ fn add_to_sum<'a>(
     sums: &mut Vec<Sum<'a>>,
     tag: Option<Tag<'a>>,
     histogram: &Histogram<u64>,
-) -> Result<()> {
+) -> Result<(), PageError> {
     for sum in sums.iter_mut() {
         if sum.tag == tag {
             sum.histogram.add(histogram)?;

@@ -14,16 +14,6 @@ pub(crate) fn in_parts(num: u128, den: u128, parts: u128) -> Option<u128>
         .checked_div(den)
 }
 
-/// Returns a fraction with two digits after the point, or `-` if it is not computed.
-pub(crate) fn hundredths(alloc: Global, num: u128, den: u128) -> Result<String, AllocError> {
-    let Some(number) = in_parts(num, den, 100) else {
-        return String::from_str(alloc, "-");
-    };
-    let whole = number / 100;
-    let part = number % 100;
-    format!(in alloc; "{whole}.{part:02}")
-}
-
 /// Returns a fraction with three digits after the point, or `-` if it is not computed.
 pub(crate) fn thousandths(alloc: Global, num: u128, den: u128) -> Result<String, AllocError> {
     let Some(number) = in_parts(num, den, 1_000) else {
@@ -32,14 +22,4 @@ pub(crate) fn thousandths(alloc: Global, num: u128, den: u128) -> Result<String,
     let whole = number / 1_000;
     let part = number % 1_000;
     format!(in alloc; "{whole}.{part:03}")
-}
-
-/// Returns a fraction with twelve digits after the point, or `-` if it is not computed.
-pub(crate) fn trillionths(alloc: Global, num: u128, den: u128) -> Result<String, AllocError> {
-    let Some(number) = in_parts(num, den, 1_000_000_000_000) else {
-        return String::from_str(alloc, "-");
-    };
-    let whole = number / 1_000_000_000_000;
-    let part = number % 1_000_000_000_000;
-    format!(in alloc; "{whole}.{part:012}")
 }

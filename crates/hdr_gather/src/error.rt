@@ -1,0 +1,62 @@
+//! Why logs are not gathered.
+
+use hdr_input::InputError;
+use hdrhistogram::AdditionError;
+use hdrhistogram::serialization::V2SerializeError;
+use hdrhistogram::serialization::interval_log::IntervalLogWriterError;
+use std::alloc::{AllocError, AllocFailed};
+use std::io;
+use thiserror::Error;
+
+/// A line of one of several logs.
+#[derive(Debug, Clone, Copy, Error)]
+#[error("line {line}")]
+pub struct Place {
+    /// The index of the log.
+    pub log: usize,
+    /// The number of the line, from 1.
+    pub line: u64,
+}
+
+/// Why logs are not gathered.
+#[derive(Debug, Drop, Error)]
+pub enum GatherError {
+    /// The log of this index is not read.
+    #[error("{cause}")]
+    Input { log: usize, cause: InputError },
+    #[error("{0}: the interval begins past 64 bits of milliseconds")]
+    TooLate(Place),
+    #[error("{0}: the interval is neither finer nor coarser than those before it at its time and tag")]
+    NotNested(Place),
+    #[error("{0}")]
+    Add(#[from] AdditionError),
+    #[error("{0}")]
+    Write(#[from] IntervalLogWriterError<V2SerializeError>),
+    #[error("{0}")]
+    Io(#[from] io::Error),
+    #[error("out of memory")]
+    OutOfMemory,
+}
+
+impl From<AllocError> for GatherError {
+    fn from(_error: AllocError) -> GatherError {
+        GatherError::OutOfMemory
+    }
+}
+
+impl<T: Drop> From<AllocFailed<T>> for GatherError {
+    fn from(_error: AllocFailed<T>) -> GatherError {
+        GatherError::OutOfMemory
+    }
+}
+
+impl GatherError {
+    /// Returns the index of the log that has the error, if one has.
+    pub fn log(&self) -> Option<usize> {
+        match self {
+            GatherError::Input { log, .. } => Some(*log),
+            GatherError::TooLate(place) | GatherError::NotNested(place) => Some(place.log),
+            _ => None,
+        }
+    }
+}

@@ -1,0 +1,214 @@
+//! Numbers from a column of a table.
+
+use crate::cause::Cause;
+use crate::errors::{InputError, Place};
+use crate::lines::{record_text, skip_or_err};
+use crate::number::Number;
+use crate::tally::Tally;
+use csv::{ByteRecord, ErrorKind, Reader, ReaderBuilder};
+use std::alloc::{AllocError, Global};
+use std::io::Read;
+
+/// How a table is read.
+#[derive(Clone, Copy)]
+pub struct Layout {
+    /// The byte between two columns.
+    pub delimiter: u8,
+    /// Whether the first line may have names of columns.
+    pub has_header: bool,
+}
+
+/// The columns that are read: that of the numbers, and that of their times.
+#[derive(Clone, Copy)]
+pub struct Columns<'a> {
+    pub value: &'a str,
+    pub time: Option<&'a str>,
+}
+
+/// The indices of these columns.
+#[derive(Clone, Copy)]
+pub struct Indices {
+    pub value: usize,
+    pub time: Option<usize>,
+}
+
+/// What takes the rows of a table.
+pub trait RowSink {
+    /// Takes the row of this number, counted from 1. A row of names is a row, and is not taken.
+    fn take_row(
+        &mut self,
+        alloc: Global,
+        row: &ByteRecord,
+        indices: Indices,
+        number: u64,
+    ) -> Result<(), InputError>;
+}
+
+/// Converts an error of the table's reader.
+fn reading_error(error: csv::Error) -> InputError {
+    match error.into_kind() {
+        ErrorKind::Io(error) => InputError::Io(error),
+        _ => InputError::OutOfMemory,
+    }
+}
+
+/// Returns the index of the column of this name in the first row.
+fn index_of_name(names: &ByteRecord, wanted: &str) -> Option<usize> {
+    names
+        .into_iter()
+        .position(|name| name.trim_ascii() == wanted.as_bytes())
+}
+
+/// Parses the number of a column, counted from 1, to its index.
+fn index_of_number(wanted: &str) -> Option<usize> {
+    wanted.parse::<usize>().ok()?.checked_sub(1)
+}
+
+/// Returns the names of a first row, with commas between them.
+fn names_of(alloc: Global, names: &ByteRecord) -> Result<String, AllocError> {
+    let mut text = String::new(alloc);
+    for name in names.into_iter() {
+        if !text.is_empty() {
+            text.push_str(", ")?;
+        }
+        let name = String::from_utf8_lossy(alloc, name)?;
+        text.push_str(name.as_str())?;
+    }
+    Ok(text)
+}
+
+/// Returns the error of a column that the first row does not have.
+fn no_column(alloc: Global, names: &ByteRecord, wanted: &str) -> InputError {
+    match (String::from_str(alloc, wanted), names_of(alloc, names)) {
+        (Ok(wanted), Ok(names)) => InputError::NoColumn { wanted, names },
+        _ => InputError::OutOfMemory,
+    }
+}
+
+/// Whether the field of a row is a number.
+fn has_number(row: &ByteRecord, index: usize) -> bool {
+    match row.get(index) {
+        Some(field) => Number::parse(field.trim_ascii(), None) != Err(Cause::NotANumber),
+        None => false,
+    }
+}
+
+/// Whether the first row is a row of names: if it has the name of the column, or if the field of the column is not a number.
+fn is_header(row: &ByteRecord, wanted: &str, index: usize) -> bool {
+    index_of_name(row, wanted).is_some() || !has_number(row, index)
+}
+
+/// Returns the index of a column.
+fn find_column(
+    alloc: Global,
+    names: &ByteRecord,
+    wanted: &str,
+    layout: Layout,
+) -> Result<usize, InputError> {
+    let named = if layout.has_header {
+        index_of_name(names, wanted)
+    } else {
+        None
+    };
+    match named.or(index_of_number(wanted)) {
+        Some(index) => Ok(index),
+        None => Err(no_column(alloc, names, wanted)),
+    }
+}
+
+/// Reads the next row, if there is one.
+fn next_row<R: Read>(rows: &mut Reader<R>, row: &mut ByteRecord) -> Result<bool, InputError> {
+    rows.read_byte_record(row).map_err(reading_error)
+}
+
+/// Returns the indices of columns.
+fn find_columns(
+    alloc: Global,
+    names: &ByteRecord,
+    columns: Columns<'_>,
+    layout: Layout,
+) -> Result<Indices, InputError> {
+    let value = find_column(alloc, names, columns.value, layout)?;
+    let time = match columns.time {
+        Some(wanted) => Some(find_column(alloc, names, wanted, layout)?),
+        None => None,
+    };
+    Ok(Indices { value, time })
+}
+
+/// Reads a table to its end. A column has a name in the first row, or a number from 1.
+pub fn read_rows<R: Read + Drop, S: RowSink>(
+    alloc: Global,
+    reader: R,
+    columns: Columns<'_>,
+    layout: Layout,
+    sink: &mut S,
+) -> Result<(), InputError> {
+    let mut rows = ReaderBuilder::new()
+        .has_headers(false)
+        .flexible(true)
+        .delimiter(layout.delimiter)
+        .from_reader(alloc, reader);
+    let mut row = ByteRecord::new(alloc);
+    if !next_row(&mut rows, &mut row)? {
+        return Ok(());
+    }
+    let indices = find_columns(alloc, &row, columns, layout)?;
+    if !layout.has_header || !is_header(&row, columns.value, indices.value) {
+        sink.take_row(alloc, &row, indices, 1)?;
+    }
+    for before in 1..u64::MAX {
+        if !next_row(&mut rows, &mut row)? {
+            break;
+        }
+        sink.take_row(alloc, &row, indices, before + 1)?;
+    }
+    Ok(())
+}
+
+/// Returns the field of a row, without whitespace around it.
+pub(crate) fn field(row: &ByteRecord, index: usize) -> Option<&[u8]> {
+    match row.get(index) {
+        Some(field) => Some(field.trim_ascii()),
+        None => None,
+    }
+}
+
+impl RowSink for Tally {
+    fn take_row(
+        &mut self,
+        alloc: Global,
+        row: &ByteRecord,
+        indices: Indices,
+        number: u64,
+    ) -> Result<(), InputError> {
+        let place = Place::Row(number);
+        let Some(text) = field(row, indices.value) else {
+            return skip_or_err(alloc, self, place, row.as_slice(), Cause::NoField);
+        };
+        match record_text(self, text) {
+            Ok(()) => Ok(()),
+            Err(cause) => skip_or_err(alloc, self, place, text, cause),
+        }
+    }
+}
+
+/// Returns the delimiter of a table by its first bytes: a tab if the first line has one, otherwise a semicolon if it has one and no
+/// comma, otherwise a comma.
+pub fn guess_delimiter(start: &[u8]) -> u8 {
+    let mut guess = b',';
+    let mut has_comma = false;
+    for byte in start {
+        match *byte {
+            b'\t' => return b'\t',
+            b'\n' => return guess,
+            b',' => {
+                has_comma = true;
+                guess = b',';
+            }
+            b';' if !has_comma => guess = b';',
+            _ => {}
+        }
+    }
+    guess
+}

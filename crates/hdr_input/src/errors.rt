@@ -1,0 +1,102 @@
+//! Why an input is not read.
+
+use crate::cause::Cause;
+use hdrhistogram::CreationError;
+use hdrhistogram::serialization::FieldDecodeError;
+use std::alloc::{AllocError, Global};
+use std::io;
+use thiserror::Error;
+
+/// Where a number is. Lines and rows are numbered from 1, and a row of names is a row.
+#[derive(Debug, Clone, Copy, Error)]
+pub enum Place {
+    #[error("line {0}")]
+    Line(u64),
+    #[error("row {0}")]
+    Row(u64),
+}
+
+/// Why an input is not read. Lines are numbered from 1.
+#[derive(Debug, Error, Drop)]
+pub enum InputError {
+    #[error("{place}: `{text}` {cause}")]
+    BadNumber {
+        place: Place,
+        text: String,
+        cause: Cause,
+    },
+    #[error("no column `{wanted}` in the first line, which has {names}; --column and --time take a name, or a number from 1")]
+    NoColumn {
+        wanted: String,
+        names: String,
+    },
+    #[error("line {line}: `{text}` is not a line of an interval log")]
+    NotALog {
+        line: u64,
+        text: String,
+    },
+    #[error("line {line}: {cause}")]
+    Interval {
+        line: u64,
+        cause: FieldDecodeError,
+    },
+    #[error("cannot read: {0}")]
+    Io(io::Error),
+    #[error("out of memory")]
+    OutOfMemory,
+}
+
+impl From<AllocError> for InputError {
+    fn from(_error: AllocError) -> InputError {
+        InputError::OutOfMemory
+    }
+}
+
+impl From<CreationError> for InputError {
+    fn from(_error: CreationError) -> InputError {
+        InputError::OutOfMemory
+    }
+}
+
+impl InputError {
+    /// Returns the error of an interval whose histogram is not decoded.
+    pub fn of_interval(line: u64, cause: FieldDecodeError) -> InputError {
+        match cause {
+            FieldDecodeError::OutOfMemory => InputError::OutOfMemory,
+            cause => InputError::Interval { line, cause },
+        }
+    }
+}
+
+/// The most bytes of a line that an error shows.
+const SHOWN: usize = 40;
+
+/// Returns the start of a text for an error. Control characters are shown as `?`.
+fn shown(alloc: Global, text: &[u8]) -> Result<String, AllocError> {
+    let mut bytes = text[..text.len().min(SHOWN)].to_vec(alloc)?;
+    for byte in bytes.iter_mut() {
+        if byte.is_ascii_control() {
+            *byte = b'?';
+        }
+    }
+    String::from_utf8_lossy(alloc, &bytes)
+}
+
+/// Returns the error of a line or a row, with the start of the text.
+pub(crate) fn bad_number(alloc: Global, place: Place, text: &[u8], cause: Cause) -> InputError {
+    if cause == Cause::OutOfMemory {
+        return InputError::OutOfMemory;
+    }
+    match shown(alloc, text) {
+        Ok(text) => InputError::BadNumber { place, text, cause },
+        Err(_) => InputError::OutOfMemory,
+    }
+}
+
+/// Returns the error of a line that is not one of a log.
+pub(crate) fn not_a_log(alloc: Global, line: u64, text: &[u8]) -> InputError {
+    match shown(alloc, text) {
+        Ok(text) => InputError::NotALog { line, text },
+        Err(_) => InputError::OutOfMemory,
+    }
+}

@@ -1,0 +1,20 @@
+//! Numbers from text, one on each line or in a column of a table, and the histograms of interval logs.
+#![tactic(auto)]
+
+pub mod cause;
+pub mod columns;
+pub mod distribution;
+pub mod errors;
+pub mod intervals;
+pub mod lines;
+pub mod log_lines;
+pub mod logs;
+pub mod number;
+pub mod pieces;
+pub mod tally;
+mod wide;
+
+pub use distribution::Distribution;
+pub use errors::InputError;
+pub use number::Number;
+pub use tally::{Recording, Tally};

@@ -1,0 +1,109 @@
+//! Lines with a number each.
+
+ghost use Rattle.std.specs.Prelude.{◌<◌, length};
+
+use crate::cause::Cause;
+use crate::errors::{InputError, Place, bad_number};
+use crate::number::{Number, plain_line};
+use crate::pieces::LineSink;
+use crate::tally::Tally;
+use std::alloc::Global;
+
+/// Splits a text after its first line. The line is returned without its LF.
+fn split_line(text: &[u8]) -> (&[u8], &[u8])
+    ensures { 0 < length text.now → length result.1.now < length text.now }
+{
+    match text.iter().position(|b| *b == b'\n') {
+        Some(at) => (&text[..at], &text[at + 1..]),
+        None => (text, &text[text.len()..]),
+    }
+}
+
+/// Returns a line without a byte order mark, which only the first line may have, and without whitespace around it.
+fn trimmed(line: &[u8], number: u64) -> &[u8] {
+    let line = match line {
+        [0xef, 0xbb, 0xbf, rest @ ..] if number == 1 => rest,
+        _ => line,
+    };
+    line.trim_ascii()
+}
+
+/// Whether a text has a delimiter of a table's columns.
+fn has_delimiter(text: &[u8]) -> bool {
+    text.iter().any(|b| matches!(*b, b',' | b'\t' | b';'))
+}
+
+/// Parses and records a number.
+pub(crate) fn record_text(tally: &mut Tally, text: &[u8]) -> Result<(), Cause> {
+    let number = Number::parse(text, tally.fixed_decimals())?;
+    tally.record(number)
+}
+
+/// Counts a bad line if the tally skips it, and otherwise returns its error.
+pub(crate) fn skip_or_err(
+    alloc: Global,
+    tally: &mut Tally,
+    place: Place,
+    text: &[u8],
+    cause: Cause,
+) -> Result<(), InputError> {
+    if tally.skips(cause) {
+        return Ok(());
+    }
+    Err(bad_number(alloc, place, text, cause))
+}
+
+/// Records the number of a line. An empty line and a comment have none.
+fn record_line(
+    alloc: Global,
+    tally: &mut Tally,
+    line: &[u8],
+    number: u64,
+) -> Result<(), InputError> {
+    let text = trimmed(line, number);
+    if text.is_empty() || text.starts_with(b"#") {
+        return Ok(());
+    }
+    match record_text(tally, text) {
+        Ok(()) => Ok(()),
+        Err(Cause::NotANumber) if has_delimiter(text) => {
+            skip_or_err(alloc, tally, Place::Line(number), text, Cause::Table)
+        }
+        Err(cause) => skip_or_err(alloc, tally, Place::Line(number), text, cause),
+    }
+}
+
+/// Records the numbers of lines, and returns the number of the line after them. The first line has the number `first`.
+pub fn record_lines(
+    alloc: Global,
+    tally: &mut Tally,
+    text: &[u8],
+    first: u64,
+) -> Result<u64, InputError> {
+    let mut rest = text;
+    let mut number = first;
+    while !rest.is_empty() {
+        match plain_line(rest) {
+            Some((value, after)) => {
+                if let Err(cause) = tally.record(value) {
+                    let (line, _) = split_line(rest);
+                    skip_or_err(alloc, tally, Place::Line(number), line.trim_ascii(), cause)?;
+                }
+                rest = after;
+            }
+            None => {
+                let (line, after) = split_line(rest);
+                record_line(alloc, tally, line, number)?;
+                rest = after;
+            }
+        }
+        number = number.saturating_add(1);
+    }
+    Ok(number)
+}
+
+impl LineSink for Tally {
+    fn take_lines(&mut self, alloc: Global, lines: &[u8], first: u64) -> Result<u64, InputError> {
+        record_lines(alloc, self, lines, first)
+    }
+}

@@ -1,0 +1,170 @@
+//! The histograms of interval logs, added as their lines are read.
+
+ghost use Rattle.std.specs.Prelude.{◌<◌, length};
+
+use crate::errors::InputError;
+use crate::log_lines::{entry_of, split_log_line};
+use crate::pieces::LineSink;
+use hdrhistogram::Histogram;
+use hdrhistogram::serialization::Deserializer;
+use hdrhistogram::serialization::interval_log::{
+    IntervalChoice, IntervalLogHistogram, LogEntry, Tag,
+};
+use std::alloc::Global;
+use std::collections::HashMap;
+use std::time::Duration;
+
+/// The longest line of a log that is read, in bytes. A histogram of 5 digits over all of `u64` needs less.
+pub const LONGEST: usize = 268_435_456;
+
+/// The sum of a tag's intervals.
+#[derive(Drop)]
+pub struct TagSum {
+    /// The tag, or `None` for the intervals without a tag, or for all intervals.
+    pub tag: Option<String>,
+    pub histogram: Histogram<u64>,
+}
+
+/// The sums of the chosen intervals of logs.
+#[derive(Drop)]
+pub struct LogSums<'a> {
+    /// The sums, in the order in which their tags were first read.
+    pub sums: Vec<TagSum>,
+    /// The number of chosen intervals, and of those of them that are coarser than their sum.
+    pub chosen: u64,
+    pub coarser: u64,
+    choice: IntervalChoice<'a>,
+    /// The significant digits of sums.
+    sigfig: u8,
+    /// Whether each tag has a sum of its own.
+    is_by_tag: bool,
+    /// The indices of the sums of tags, and that of the sum without a tag.
+    indices: HashMap<String, usize>,
+    untagged: Option<usize>,
+    deserializer: Deserializer,
+    /// The base time of the log.
+    base: Duration,
+}
+
+impl<'a> LogSums<'a> {
+    /// Returns sums without intervals. Each tag has a sum of its own if `is_by_tag`.
+    pub fn new(
+        alloc: Global,
+        choice: IntervalChoice<'a>,
+        sigfig: u8,
+        is_by_tag: bool,
+    ) -> LogSums<'a> {
+        LogSums {
+            sums: Vec::new(alloc),
+            chosen: 0,
+            coarser: 0,
+            choice,
+            sigfig,
+            is_by_tag,
+            indices: HashMap::new(alloc),
+            untagged: None,
+            deserializer: Deserializer::new(alloc),
+            base: Duration::ZERO,
+        }
+    }
+
+    /// Begins another log. Its intervals begin at the epoch, until it has a base time.
+    pub fn begin_log(&mut self) {
+        self.base = Duration::ZERO;
+    }
+
+    /// Returns the index of the sum of a tag, which is added if it is new.
+    fn index_of(&mut self, alloc: Global, tag: Option<Tag<'_>>) -> Result<usize, InputError> {
+        let tag = if self.is_by_tag { tag } else { None };
+        match tag {
+            None => match self.untagged {
+                Some(index) => Ok(index),
+                None => {
+                    let index = self.push_sum(alloc, None)?;
+                    self.untagged = Some(index);
+                    Ok(index)
+                }
+            },
+            Some(tag) => self.index_of_tag(alloc, tag.as_str()),
+        }
+    }
+
+    /// Returns the index of the sum of a tag of this text, which is added if it is new.
+    fn index_of_tag(&mut self, alloc: Global, tag: &str) -> Result<usize, InputError> {
+        if let Some(index) = self.indices.get(tag) {
+            return Ok(*index);
+        }
+        let key = String::from_str(alloc, tag)?;
+        let tag = String::from_str(alloc, tag)?;
+        let index = self.push_sum(alloc, Some(tag))?;
+        match self.indices.insert(key, index) {
+            Ok(_) => Ok(index),
+            Err(_) => Err(InputError::OutOfMemory),
+        }
+    }
+
+    /// Adds an empty sum, and returns its index.
+    fn push_sum(&mut self, alloc: Global, tag: Option<String>) -> Result<usize, InputError> {
+        let index = self.sums.len();
+        let histogram = Histogram::new(alloc, self.sigfig)?;
+        match self.sums.push(TagSum { tag, histogram }) {
+            Ok(()) => Ok(index),
+            Err(_) => Err(InputError::OutOfMemory),
+        }
+    }
+
+    /// Adds the histogram of an interval to the sum of its tag.
+    fn add(
+        &mut self,
+        alloc: Global,
+        interval: &IntervalLogHistogram<'_>,
+        line: u64,
+    ) -> Result<(), InputError> {
+        let field = interval.encoded_histogram();
+        let source: Histogram<u64> = match self.deserializer.decode_field(field) {
+            Ok(source) => source,
+            Err(cause) => return Err(InputError::of_interval(line, cause)),
+        };
+        let index = self.index_of(alloc, interval.tag())?;
+        let Some(sum) = self.sums.get_mut(index) else {
+            return Ok(());
+        };
+        if !source.refines(&sum.histogram) {
+            self.coarser = self.coarser.saturating_add(1);
+        }
+        // A histogram that grows accepts every value, so this fails only if memory runs out.
+        if sum.histogram.add_from(&source).is_err() {
+            return Err(InputError::OutOfMemory);
+        }
+        self.chosen = self.chosen.saturating_add(1);
+        Ok(())
+    }
+
+    /// Takes a line with its LF.
+    fn take_line(&mut self, alloc: Global, line: &[u8], number: u64) -> Result<(), InputError> {
+        match entry_of(alloc, line, number)? {
+            Some(LogEntry::BaseTime(time)) => self.base = time,
+            Some(LogEntry::Interval(interval)) => {
+                if self.choice.chooses(self.base, &interval) {
+                    self.add(alloc, &interval, number)?;
+                }
+            }
+            _ => {}
+        }
+        Ok(())
+    }
+}
+
+impl LineSink for LogSums<'_> {
+    fn take_lines(&mut self, alloc: Global, lines: &[u8], first: u64) -> Result<u64, InputError> {
+        let mut rest = lines;
+        let mut number = first;
+        while !rest.is_empty() {
+            let (line, after) = split_log_line(rest, number);
+            self.take_line(alloc, line, number)?;
+            rest = after;
+            number = number.saturating_add(1);
+        }
+        Ok(number)
+    }
+}

@@ -1,0 +1,153 @@
+//! Decimal numbers, and their values in units.
+
+ghost use Rattle.std.specs.Prelude.{◌≡◌, ◌<◌, ◌≤◌, true, length, IfSome, SomeIff};
+ghost use Rattle.std.specs.Char.{is_ascii_digit, digit_value};
+ghost use Rattle.hdr_input.specs.Numbers.{in_units, BeginsWithDigits, BeginsWithPart, BeginsWithNumber, EndsLine};
+
+use crate::cause::Cause;
+use crate::distribution::MOST_DECIMALS;
+use crate::wide::parse_wide;
+use hdr_log::parts::append_digit;
+
+/// A decimal number: `12.50` is 1250 by 2 decimals.
+#[derive(Debug, Clone, Copy, PartialEq, Eq)]
+pub struct Number {
+    pub digits: u64,
+    pub decimals: u32,
+}
+
+/// Returns the value of a decimal digit, or `None` for any other byte.
+#[inline(always)]
+fn digit(byte: u8) -> Option<u64>
+    ensures value { SomeIff result (is_ascii_digit byte ≡ true) (digit_value byte) }
+    ensures bound { IfSome result (λ d. d < 10) }
+{
+    match byte {
+        b'0'..=b'9' => Some(u64::from(byte - b'0')),
+        _ => None,
+    }
+}
+
+/// Appends the digits that a text begins with to a number, and returns it with the rest. Returns `None` if nothing follows the
+/// digits, or on overflow.
+#[inline(always)]
+fn leading_digits(start: u64, text: &[u8]) -> Option<(u64, &[u8])>
+    ensures length { IfSome result (λ p. length p.1.now ≤ length text.now) }
+    ensures value { IfSome result (λ p. BeginsWithDigits start text.now p.0 p.1.now) }
+{
+    let mut value = start;
+    for (at, byte) in text.iter().enumerate() {
+        match digit(*byte) {
+            Some(digit) => value = append_digit(value, digit)?,
+            None => return Some((value, &text[at..])),
+        }
+    }
+    None
+}
+
+/// Returns what follows an end of line, LF or CR LF, that a text begins with.
+#[inline(always)]
+fn after_line_end(text: &[u8]) -> Option<&[u8]>
+    ensures length { IfSome result (λ after. length after.now < length text.now) }
+    ensures value { IfSome result (λ after. EndsLine text.now after.now) }
+{
+    match text {
+        [b'\n', after @ ..] => Some(after),
+        [b'\r', b'\n', after @ ..] => Some(after),
+        _ => None,
+    }
+}
+
+/// Parses the number of the first line, if the line has digits with at most a point between them. Returns it with what follows the
+/// line.
+#[inline(always)]
+pub(crate) fn plain_line(text: &[u8]) -> Option<(Number, &[u8])>
+    ensures length { IfSome result (λ p. length p.1.now < length text.now) }
+    ensures value { IfSome result (λ p. BeginsWithNumber text.now p.0.digits p.0.decimals p.1.now) }
+{
+    let (digits, rest) = leading_digits(0, text)?;
+    if rest.len() == text.len() {
+        return None;
+    }
+    if let [b'.', fraction @ ..] = rest {
+        return plain_fraction(digits, fraction);
+    }
+    let after = after_line_end(rest)?;
+    Some((
+        Number {
+            digits,
+            decimals: 0,
+        },
+        after,
+    ))
+}
+
+/// Parses the digits after a point, to the end of the line, as those of a number that has `whole` before the point.
+#[inline(always)]
+fn plain_fraction(whole: u64, fraction: &[u8]) -> Option<(Number, &[u8])>
+    ensures length { IfSome result (λ p. length p.1.now < length fraction.now) }
+    ensures value { IfSome result (λ p. BeginsWithPart whole fraction.now p.0.digits p.0.decimals p.1.now) }
+{
+    let (digits, rest) = leading_digits(whole, fraction)?;
+    let decimals = u32::try_from(fraction.len() - rest.len()).ok()?;
+    if decimals > MOST_DECIMALS {
+        return None;
+    }
+    let after = after_line_end(rest)?;
+    Some((Number { digits, decimals }, after))
+}
+
+impl Number {
+    pub const ZERO: Number = Number {
+        digits: 0,
+        decimals: 0,
+    };
+
+    /// Parses a number such as `12`, `+0.50` or `1.5e-05`. It is rounded to `decimals`, or exact if that is `None`.
+    pub fn parse(text: &[u8], decimals: Option<u32>) -> Result<Number, Cause> {
+        match text {
+            [b'-', rest @ ..] => match parse_wide(rest) {
+                None => Err(Cause::NotANumber),
+                Some(number) if number.is_zero() => number.narrowed(decimals),
+                Some(_) => Err(Cause::Negative),
+            },
+            [b'+', rest @ ..] => parse_wide(rest)
+                .ok_or(Cause::NotANumber)?
+                .narrowed(decimals),
+            _ => parse_wide(text)
+                .ok_or(Cause::NotANumber)?
+                .narrowed(decimals),
+        }
+    }
+
+    /// Divides the number by 10 to the power of `times`.
+    pub fn divided_by_ten(self, times: u32) -> Number {
+        Number {
+            digits: self.digits,
+            decimals: self.decimals.saturating_add(times),
+        }
+    }
+
+    /// Multiplies the number by 10 to the power of `times`. Returns `None` on overflow.
+    pub fn times_ten(self, times: u32) -> Option<Number> {
+        let fewer = times.min(self.decimals);
+        let factor = 10u64.checked_pow(times - fewer)?;
+        Some(Number {
+            digits: self.digits.checked_mul(factor)?,
+            decimals: self.decimals - fewer,
+        })
+    }
+
+    /// Returns the number in units of the last of `decimals`, halves rounded up, or `None` on overflow.
+    pub fn rounded(self, decimals: u32) -> Option<u64>
+        ensures { IfSome result (λ units. units ≡ in_units self.digits self.decimals decimals) }
+    {
+        let divisor = 10u128.checked_pow(self.decimals)?;
+        let factor = 10u128.checked_pow(decimals)?;
+        let units = u128::from(self.digits)
+            .checked_mul(factor)?
+            .checked_add(divisor / 2)?
+            .checked_div(divisor)?;
+        u64::try_from(units).ok()
+    }
+}

@@ -1,0 +1,184 @@
+//! Decimal numbers with more digits than are recorded, and with exponents.
+
+use crate::cause::Cause;
+use crate::distribution::MOST_DECIMALS;
+use crate::number::Number;
+
+/// The number digits * 10^exponent. If digits were cut, the number is greater by less than 10^exponent.
+#[derive(Clone, Copy)]
+pub(crate) struct Wide {
+    digits: u128,
+    exponent: i64,
+    /// Whether no more digits fit, and whether one that did not fit is not 0.
+    is_full: bool,
+    is_cut: bool,
+}
+
+/// The greatest exponent that is distinguished from greater ones.
+const GREATEST_EXPONENT: i64 = 1_000_000_000;
+
+/// Returns 10 to a power, or `None` on overflow.
+fn power_of_ten(exponent: i64) -> Option<u128> {
+    10u128.checked_pow(u32::try_from(exponent).ok()?)
+}
+
+/// Appends a digit to a number.
+fn with_digit(number: Wide, digit: u8, is_fraction: bool) -> Wide {
+    let longer = number
+        .digits
+        .checked_mul(10)
+        .and_then(|digits| digits.checked_add(u128::from(digit)));
+    match longer {
+        Some(digits) if !number.is_full => Wide {
+            digits,
+            exponent: number.exponent.saturating_sub(i64::from(is_fraction)),
+            is_full: false,
+            is_cut: false,
+        },
+        _ => Wide {
+            digits: number.digits,
+            exponent: number.exponent.saturating_add(i64::from(!is_fraction)),
+            is_full: true,
+            is_cut: number.is_cut || digit > 0,
+        },
+    }
+}
+
+/// Appends the digits of a text to a number. Returns `None` for any other byte.
+fn with_digits(start: Wide, text: &[u8], is_fraction: bool) -> Option<Wide> {
+    let mut number = start;
+    for byte in text {
+        let digit = *byte;
+        if !digit.is_ascii_digit() {
+            return None;
+        }
+        number = with_digit(number, digit - b'0', is_fraction);
+    }
+    Some(number)
+}
+
+/// Splits a text at its first point, which is in neither part.
+fn split_at_point(text: &[u8]) -> (&[u8], &[u8]) {
+    match text.iter().position(|b| *b == b'.') {
+        Some(at) => (&text[..at], &text[at + 1..]),
+        None => (text, &text[text.len()..]),
+    }
+}
+
+/// Parses a number without sign and exponent, such as `12`, `0.50` or `.5`.
+fn mantissa(text: &[u8]) -> Option<Wide> {
+    let (whole, fraction) = split_at_point(text);
+    if whole.is_empty() && fraction.is_empty() {
+        return None;
+    }
+    let zero = Wide {
+        digits: 0,
+        exponent: 0,
+        is_full: false,
+        is_cut: false,
+    };
+    let number = with_digits(zero, whole, false)?;
+    with_digits(number, fraction, true)
+}
+
+/// Parses an exponent such as `5` or `-05`. A greater one than `GREATEST_EXPONENT` is lowered to it.
+fn exponent(text: &[u8]) -> Option<i64> {
+    let (is_negative, digits) = match text {
+        [b'-', rest @ ..] => (true, rest),
+        [b'+', rest @ ..] => (false, rest),
+        _ => (false, text),
+    };
+    if digits.is_empty() {
+        return None;
+    }
+    let mut value = 0i64;
+    for byte in digits {
+        let digit = *byte;
+        if !digit.is_ascii_digit() {
+            return None;
+        }
+        value = value
+            .saturating_mul(10)
+            .saturating_add(i64::from(digit - b'0'))
+            .min(GREATEST_EXPONENT);
+    }
+    Some(if is_negative {
+        0i64.saturating_sub(value)
+    } else {
+        value
+    })
+}
+
+/// Parses a number without sign, such as `12`, `0.50` or `1.5e-05`.
+pub(crate) fn parse_wide(text: &[u8]) -> Option<Wide> {
+    match text.iter().position(|b| *b == b'e' || *b == b'E') {
+        None => mantissa(text),
+        Some(at) => {
+            let number = mantissa(&text[..at])?;
+            let exponent = exponent(&text[at + 1..])?;
+            Some(Wide {
+                digits: number.digits,
+                exponent: number.exponent.saturating_add(exponent),
+                is_full: number.is_full,
+                is_cut: number.is_cut,
+            })
+        }
+    }
+}
+
+impl Wide {
+    /// Whether the number is 0.
+    pub(crate) fn is_zero(self) -> bool {
+        self.digits == 0
+    }
+
+    /// Returns the number rounded to `decimals`, or the exact number if that is `None`.
+    pub(crate) fn narrowed(self, decimals: Option<u32>) -> Result<Number, Cause> {
+        match decimals {
+            Some(decimals) => self.rounded(decimals),
+            None => self.exact(),
+        }
+    }
+
+    /// Returns the exact number. One with a fraction has the decimals of its text, 18 at most.
+    fn exact(self) -> Result<Number, Cause> {
+        let decimals = 0i64.saturating_sub(self.exponent).max(0);
+        if decimals > i64::from(MOST_DECIMALS) {
+            return Err(Cause::MoreDecimals);
+        }
+        self.rounded(decimals as u32)
+    }
+
+    /// Returns the number rounded to `decimals`, halves up.
+    fn rounded(self, decimals: u32) -> Result<Number, Cause> {
+        let power = self.exponent.saturating_add(i64::from(decimals));
+        let units = if power < 0 {
+            Some(self.divided(0i64.saturating_sub(power)))
+        } else if self.is_zero() {
+            Some(0)
+        } else if self.is_cut {
+            None
+        } else {
+            power_of_ten(power).and_then(|factor| self.digits.checked_mul(factor))
+        };
+        match units.and_then(|units| u64::try_from(units).ok()) {
+            Some(digits) => Ok(Number { digits, decimals }),
+            None => Err(Cause::TooLarge),
+        }
+    }
+
+    /// Returns the digits divided by 10 to a power, halves rounded up. Digits are below 10^39, so a greater power leaves 0.
+    fn divided(self, power: i64) -> u128 {
+        match power_of_ten(power) {
+            Some(divisor) => rounded_quotient(self.digits, divisor),
+            None => 0,
+        }
+    }
+}
+
+/// Returns a quotient to the nearest integer, halves rounded up. The divisor is a power of ten.
+fn rounded_quotient(dividend: u128, divisor: u128) -> u128 {
+    let whole = dividend.checked_div(divisor).unwrap_or(0);
+    let rest = dividend.checked_rem(divisor).unwrap_or(0);
+    whole.saturating_add(u128::from(rest >= divisor - divisor / 2))
+}

@@ -1,0 +1,115 @@
+//! The figures of a distribution.
+
+use crate::decimals::{Conversion, in_parts};
+use crate::percentile::Percentile;
+use hdr_input::Distribution;
+use std::alloc::{AllocError, Global};
+
+/// A figure and its name. If nothing was recorded, only the count has a value.
+#[derive(Drop)]
+pub struct Figure {
+    pub name: String,
+    pub value: Option<String>,
+}
+
+/// A distribution, and the tag of its intervals.
+#[derive(Drop)]
+pub struct Tagged {
+    pub tag: Option<String>,
+    pub distribution: Distribution,
+}
+
+/// Returns the mean in hundredths of a unit, halves rounded up, or `None` without numbers or on overflow. It is that of the numbers,
+/// or that of their classes if only these are known.
+pub fn mean_in_hundredths(distribution: &Distribution) -> Option<u128> {
+    if distribution.histogram.is_empty() {
+        return None;
+    }
+    match distribution.sum {
+        Some(sum) => in_parts(sum, u128::from(distribution.histogram.len()), 100),
+        None => {
+            let mean = distribution.histogram.mean()?;
+            in_parts(mean.num, mean.den, 100)
+        }
+    }
+}
+
+/// Returns the mean, with two digits more than the values have.
+fn mean(
+    alloc: Global,
+    distribution: &Distribution,
+    conversion: Conversion,
+) -> Result<Option<String>, AllocError> {
+    match mean_in_hundredths(distribution) {
+        Some(units) => {
+            let decimals = distribution.decimals + 2;
+            Ok(Some(conversion.decimal(alloc, units, decimals)?))
+        }
+        None => Ok(None),
+    }
+}
+
+/// Returns a value in units as a decimal, or `None` if nothing was recorded.
+fn value(
+    alloc: Global,
+    distribution: &Distribution,
+    units: u64,
+    conversion: Conversion,
+) -> Result<Option<String>, AllocError> {
+    if distribution.histogram.is_empty() {
+        return Ok(None);
+    }
+    let decimals = distribution.decimals;
+    Ok(Some(conversion.decimal(alloc, u128::from(units), decimals)?))
+}
+
+/// Appends a figure.
+fn push(
+    alloc: Global,
+    figures: &mut Vec<Figure>,
+    name: &str,
+    value: Option<String>,
+) -> Result<(), AllocError> {
+    let name = String::from_str(alloc, name)?;
+    figures.push(Figure { name, value })?;
+    Ok(())
+}
+
+/// Appends a figure for each percentile.
+fn push_percentiles(
+    alloc: Global,
+    figures: &mut Vec<Figure>,
+    distribution: &Distribution,
+    percentiles: &[Percentile<'_>],
+    conversion: Conversion,
+) -> Result<(), AllocError> {
+    for percentile in percentiles {
+        let digits = percentile.digits;
+        let name = format!(in alloc; "p{digits}")?;
+        let units = distribution.value_at_quantile(percentile.quantile);
+        let value = value(alloc, distribution, units, conversion)?;
+        figures.push(Figure { name, value })?;
+    }
+    Ok(())
+}
+
+/// Returns the figures of a distribution: count, min, mean, the percentiles in their order, and max.
+pub fn figures(
+    alloc: Global,
+    distribution: &Distribution,
+    percentiles: &[Percentile<'_>],
+    conversion: Conversion,
+) -> Result<Vec<Figure>, AllocError> {
+    let mut figures = Vec::new(alloc);
+    let count = distribution.histogram.len();
+    let count = format!(in alloc; "{count}")?;
+    push(alloc, &mut figures, "count", Some(count))?;
+    let min = value(alloc, distribution, distribution.min, conversion)?;
+    push(alloc, &mut figures, "min", min)?;
+    let mean = mean(alloc, distribution, conversion)?;
+    push(alloc, &mut figures, "mean", mean)?;
+    push_percentiles(alloc, &mut figures, distribution, percentiles, conversion)?;
+    let max = value(alloc, distribution, distribution.max, conversion)?;
+    push(alloc, &mut figures, "max", max)?;
+    Ok(figures)
+}

@@ -1,0 +1,9 @@
+//! The figures of distributions, their texts, and levels that they have to keep.
+#![tactic(auto)]
+
+pub mod decimals;
+pub mod figures;
+pub mod formats;
+pub mod levels;
+pub mod percentile;
+pub mod units;

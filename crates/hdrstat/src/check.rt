@@ -1,0 +1,94 @@
+//! `hdrstat check`.
+
+use crate::error::StatError;
+use crate::input::read_parts;
+use crate::output::print;
+use crate::reading::{parse_reading, unit_of};
+use clap::ArgMatches;
+use hdr_summary::figures::Tagged;
+use hdr_summary::levels::{Level, parse_level};
+use hdr_summary::units::Unit;
+use std::alloc::Global;
+use std::process::ExitCode;
+
+/// The status if a level is broken, or if the input is empty.
+const BROKEN: u8 = 3;
+
+/// Parses levels.
+fn levels_of<'a>(
+    alloc: Global,
+    arguments: &[&'a str],
+    unit: Option<Unit>,
+) -> Result<Vec<Level<'a>>, StatError> {
+    let mut levels = Vec::new(alloc);
+    for argument in arguments {
+        match parse_level(*argument, unit) {
+            Some(level) => match levels.push(level) {
+                Ok(()) => {}
+                Err(_) => return Err(StatError::OutOfMemory),
+            },
+            None => {
+                let why = "is not a level, such as p99<200, max<=1.5 or, with --unit, p99<200ms";
+                return Err(StatError::usage(alloc, *argument, why));
+            }
+        }
+    }
+    Ok(levels)
+}
+
+/// Appends a line for each level of a distribution, and returns whether all are kept.
+fn push_verdicts(
+    alloc: Global,
+    text: &mut String,
+    part: &Tagged,
+    levels: &[Level<'_>],
+) -> Result<bool, StatError> {
+    let mut all_kept = true;
+    for level in levels {
+        let value = level.value(alloc, &part.distribution)?;
+        // Without a value no level is broken: an empty input is accepted.
+        let is_kept = value.is_none() || level.is_kept(&part.distribution);
+        all_kept = all_kept && is_kept;
+        let word = if is_kept { "kept" } else { "broken" };
+        let written = level.text;
+        write!(text, "{word} {written} ")?;
+        match &value {
+            Some(value) => text.push_str(value.as_str())?,
+            None => text.push('-')?,
+        }
+        if let Some(tag) = &part.tag {
+            write!(text, " {tag}")?;
+        }
+        text.push('\n')?;
+    }
+    Ok(all_kept)
+}
+
+/// Whether nothing was recorded.
+fn is_empty(parts: &[Tagged]) -> bool {
+    parts
+        .iter()
+        .all(|part| part.distribution.histogram.is_empty())
+}
+
+/// Compares the figures of the numbers of files with levels.
+pub(crate) fn check(rt: &HostRuntime, matches: &ArgMatches<'_>) -> Result<ExitCode, StatError> {
+    let alloc = rt.alloc();
+    let reading = parse_reading(alloc, matches)?;
+    let arguments = matches.get_strs("LEVEL").unwrap_or(&[]);
+    let levels = levels_of(alloc, arguments, unit_of(matches))?;
+    let names = matches.get_strs("input").unwrap_or(&[]);
+    let parts = read_parts(rt, names, &reading)?;
+    if is_empty(&parts) && !matches.get_flag("allow-empty") {
+        let _ = eprintln!(rt; "hdrstat: no numbers; --allow-empty accepts an empty input");
+        return Ok(ExitCode::from(BROKEN));
+    }
+    let mut text = String::new(alloc);
+    let mut all_kept = true;
+    for part in &parts {
+        let kept = push_verdicts(alloc, &mut text, part, &levels)?;
+        all_kept = all_kept && kept;
+    }
+    print(rt, text.as_bytes())?;
+    Ok(ExitCode::from(if all_kept { 0 } else { BROKEN }))
+}

@@ -1,0 +1,82 @@
+//! `hdrstat log`.
+
+use crate::error::StatError;
+use crate::input::{read_intervals, read_numbers};
+use crate::output::print;
+use crate::reading::{nanoseconds_of, recording_of, table_of, tag_of};
+use clap::ArgMatches;
+use hdr_input::intervals::Intervals;
+use hdrhistogram::Histogram;
+use hdrhistogram::serialization::V2Serializer;
+use hdrhistogram::serialization::interval_log::{IntervalLogWriterBuilder, Tag};
+use std::alloc::Global;
+use std::process::ExitCode;
+use std::time::Duration;
+
+/// Returns the comment of a log, which has the decimals of its values.
+fn comment_of(alloc: Global, decimals: u32) -> Result<String, StatError> {
+    Ok(format!(in alloc; "[Values have {decimals} decimals]")?)
+}
+
+/// Returns a log with one interval, which begins at 0 and has no length.
+fn single_log(
+    alloc: Global,
+    histogram: &Histogram<u64>,
+    decimals: u32,
+    tag: Option<Tag<'_>>,
+) -> Result<Vec<u8>, StatError> {
+    let comment = comment_of(alloc, decimals)?;
+    let mut output = Vec::new(alloc);
+    let mut serializer = V2Serializer::new(alloc);
+    let mut builder = IntervalLogWriterBuilder::new(alloc);
+    builder.add_comment(comment.as_str())?;
+    let mut log = builder.begin_log_with(&mut output, &mut serializer)?;
+    log.write_histogram(histogram, Duration::ZERO, Duration::ZERO, tag)?;
+    drop(log);
+    Ok(output)
+}
+
+/// Returns a log of intervals in order of time, each of this length in nanoseconds.
+fn interval_log(
+    alloc: Global,
+    intervals: &mut Intervals,
+    length: u64,
+    tag: Option<Tag<'_>>,
+) -> Result<Vec<u8>, StatError> {
+    let comment = comment_of(alloc, intervals.tally.decimals())?;
+    intervals.intervals.sort_by_key(|interval| interval.number)?;
+    let mut output = Vec::new(alloc);
+    let mut serializer = V2Serializer::new(alloc);
+    let mut builder = IntervalLogWriterBuilder::new(alloc);
+    builder.add_comment(comment.as_str())?;
+    let mut log = builder.begin_log_with(&mut output, &mut serializer)?;
+    for interval in &intervals.intervals {
+        let start = Duration::from_nanos(interval.number.saturating_mul(length));
+        let length = Duration::from_nanos(length);
+        log.write_histogram(&interval.histogram, start, length, tag)?;
+    }
+    drop(log);
+    Ok(output)
+}
+
+/// Prints the numbers of files as an interval log.
+pub(crate) fn log(rt: &HostRuntime, matches: &ArgMatches<'_>) -> Result<ExitCode, StatError> {
+    let alloc = rt.alloc();
+    let recording = recording_of(alloc, matches)?;
+    let table = table_of(alloc, matches)?;
+    let tag = tag_of(alloc, matches)?;
+    let names = matches.get_strs("FILE").unwrap_or(&[]);
+    let length = nanoseconds_of(alloc, matches, "every")?;
+    let output = match (table, matches.get_str("time"), length) {
+        (Some(table), Some(time), Some(length)) => {
+            let mut intervals = read_intervals(rt, names, recording, table, time, length)?;
+            interval_log(alloc, &mut intervals, length, tag)?
+        }
+        _ => {
+            let tally = read_numbers(rt, names, recording, table)?;
+            single_log(alloc, &tally.histogram, tally.decimals(), tag)?
+        }
+    };
+    print(rt, &output)?;
+    Ok(ExitCode::SUCCESS)
+}

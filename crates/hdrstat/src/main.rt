@@ -1,0 +1,93 @@
+//! `hdrstat`: percentiles of numbers and of interval logs, a subcommand for each question.
+#![tactic(auto)]
+
+mod check;
+mod command;
+mod error;
+mod gather;
+mod input;
+mod log;
+mod output;
+mod page;
+mod reading;
+mod summary;
+
+use clap::ArgMatches;
+use error::StatError;
+use std::env;
+use std::io::{self, ErrorKind};
+use std::process::ExitCode;
+
+/// The status of a usage error.
+const USAGE: u8 = 2;
+
+/// Prints a usage error of clap, or the help or the version.
+fn answer(rt: &HostRuntime, error: &clap::Error) -> ExitCode {
+    match error.print(rt) {
+        Ok(()) => ExitCode::from(if error.use_stderr() { USAGE } else { 0 }),
+        Err(error) => fail(rt, "", &StatError::Output(error)),
+    }
+}
+
+/// Prints an error, and returns the status. A broken pipe is not printed.
+fn fail(rt: &HostRuntime, subcommand: &str, error: &StatError) -> ExitCode {
+    match error {
+        StatError::Usage(text) => {
+            let _ = eprintln!(rt;
+                "error: {text}\n\nFor more information, try 'hdrstat {subcommand} --help'."
+            );
+            return ExitCode::from(USAGE);
+        }
+        StatError::Output(cause) if cause.kind() == ErrorKind::BrokenPipe => {}
+        error => {
+            let _ = eprintln!(rt; "hdrstat: {error}");
+        }
+    }
+    ExitCode::FAILURE
+}
+
+/// Runs a subcommand.
+fn run(rt: &HostRuntime, name: &str, matches: &ArgMatches<'_>) -> ExitCode {
+    let status = match name {
+        "check" => check::check(rt, matches),
+        "gather" => gather::gather_logs(rt, matches),
+        "log" => log::log(rt, matches),
+        "page" => page::show(rt, matches),
+        _ => summary::summary(rt, matches),
+    };
+    match status {
+        Ok(status) => status,
+        Err(error) => fail(rt, name, &error),
+    }
+}
+
+/// Returns the status if the arguments are not read.
+fn bad_arguments(rt: &HostRuntime, error: &io::Error) -> ExitCode {
+    if error.kind() == ErrorKind::OutOfMemory {
+        return fail(rt, "", &StatError::OutOfMemory);
+    }
+    let _ = eprintln!(rt; "error: an argument is not valid UTF-8");
+    ExitCode::from(USAGE)
+}
+
+fn main(rt: HostRuntime) -> ExitCode {
+    let words: Vec<String> = match env::args(&rt) {
+        Ok(words) => match words.collect(rt.alloc()) {
+            Ok(words) => words,
+            Err(_) => return fail(&rt, "", &StatError::OutOfMemory),
+        },
+        Err(error) => return bad_arguments(&rt, &error),
+    };
+    let command = match command::hdrstat(rt.alloc()) {
+        Ok(command) => command,
+        Err(error) => return answer(&rt, &error),
+    };
+    let matches = match command.try_get_matches_from(words.as_slice()) {
+        Ok(matches) => matches,
+        Err(error) => return answer(&rt, &error),
+    };
+    match matches.subcommand() {
+        Some((name, matches)) => run(&rt, name, matches),
+        None => ExitCode::from(USAGE),
+    }
+}

@@ -1,0 +1,74 @@
+//! `hdrstat summary`.
+
+use crate::error::StatError;
+use crate::input::read_parts;
+use crate::output::print;
+use crate::reading::{parse_reading, unit_of};
+use clap::ArgMatches;
+use hdr_summary::decimals::Conversion;
+use hdr_summary::formats::{Format, Layout, text};
+use hdr_summary::percentile::{Percentile, parse_percentile};
+use hdr_summary::units::Unit;
+use std::alloc::Global;
+use std::process::ExitCode;
+
+/// Parses percentiles.
+fn percentiles_of<'a>(
+    alloc: Global,
+    arguments: &[&'a str],
+) -> Result<Vec<Percentile<'a>>, StatError> {
+    let mut percentiles = Vec::new(alloc);
+    for argument in arguments {
+        match parse_percentile(*argument) {
+            Some(percentile) => match percentiles.push(percentile) {
+                Ok(()) => {}
+                Err(_) => return Err(StatError::OutOfMemory),
+            },
+            None => {
+                let why = "is not a percentile from 0 to 100, such as 50, p99.9 or 99%";
+                return Err(StatError::usage(alloc, *argument, why));
+            }
+        }
+    }
+    Ok(percentiles)
+}
+
+/// Returns the conversion from the unit of the numbers to that of the output.
+fn conversion_of(alloc: Global, matches: &ArgMatches<'_>) -> Result<Conversion, StatError> {
+    let Some(name) = matches.get_str("output-unit") else {
+        return Ok(Conversion::NONE);
+    };
+    match (unit_of(matches), Unit::from_name(name)) {
+        (Some(from), Some(to)) => Ok(Conversion::new(from, to)),
+        _ => {
+            let why = "is a unit of the output, which needs that of the numbers by --unit";
+            Err(StatError::usage(alloc, name, why))
+        }
+    }
+}
+
+/// Prints the figures of the numbers of files.
+pub(crate) fn summary(rt: &HostRuntime, matches: &ArgMatches<'_>) -> Result<ExitCode, StatError> {
+    let alloc = rt.alloc();
+    let reading = parse_reading(alloc, matches)?;
+    let arguments = matches.get_strs("percentiles").unwrap_or(&[]);
+    let percentiles = percentiles_of(alloc, arguments)?;
+    let format = Format::from_name(matches.get_str("format").unwrap_or("table"));
+    let format = format.unwrap_or(Format::Table);
+    let has_tags = matches.get_flag("by-tag");
+    if has_tags && format == Format::Hgrm {
+        let why = "has one distribution: choose a tag by --tag, and leave --by-tag out";
+        return Err(StatError::usage(alloc, "hgrm", why));
+    }
+    let layout = Layout {
+        format,
+        percentiles: &percentiles,
+        conversion: conversion_of(alloc, matches)?,
+        has_tags,
+    };
+    let names = matches.get_strs("FILE").unwrap_or(&[]);
+    let parts = read_parts(rt, names, &reading)?;
+    let text = text(alloc, &parts, &layout)?;
+    print(rt, text.as_bytes())?;
+    Ok(ExitCode::SUCCESS)
+}

@@ -1,0 +1,1 @@
+"$1" gather | "$1" gather
