@@ -1,6 +1,7 @@
 //! Why an input is not read.
 
 use crate::cause::Cause;
+use hdr_convert::ConvertError;
 use hdrhistogram::CreationError;
 use hdrhistogram::serialization::FieldDecodeError;
 use std::alloc::{AllocError, Global};
@@ -40,6 +41,11 @@ pub enum InputError {
         line: u64,
         cause: FieldDecodeError,
     },
+    #[error("line {line}: {cause}")]
+    Conversion {
+        line: u64,
+        cause: ConvertError,
+    },
     #[error("cannot read: {0}")]
     Io(io::Error),
     #[error("out of memory")]
@@ -64,6 +70,17 @@ impl InputError {
         match cause {
             FieldDecodeError::OutOfMemory => InputError::OutOfMemory,
             cause => InputError::Interval { line, cause },
+        }
+    }
+}
+
+impl InputError {
+    /// Returns the error of a line whose histogram is not converted.
+    pub fn of_conversion(alloc: Global, line: u64, text: &[u8], cause: ConvertError) -> InputError {
+        match cause {
+            ConvertError::OutOfMemory => InputError::OutOfMemory,
+            ConvertError::NotALine => not_a_log(alloc, line, text.trim_ascii()),
+            cause => InputError::Conversion { line, cause },
         }
     }
 }

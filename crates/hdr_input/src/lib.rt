@@ -12,6 +12,7 @@ pub mod log_lines;
 pub mod logs;
 pub mod number;
 pub mod pieces;
+pub mod plain;
 pub mod tally;
 mod wide;
 

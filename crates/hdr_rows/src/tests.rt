@@ -1,6 +1,7 @@
 //! What rows can't show: allocations that fail, in turn or if they are large, readers and writers that fail, of the library and
 //! of the program, messages of errors that no row meets, and laws.
 
+mod compressed;
 mod failing;
 mod laws;
 mod program;

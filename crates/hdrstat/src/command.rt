@@ -1,6 +1,7 @@
 //! The command line and its help.
 
 mod check;
+mod convert;
 mod gather;
 mod log;
 mod page;
@@ -44,6 +45,7 @@ pub(crate) fn hdrstat<'a>(alloc: Global) -> Result<Command<'a>, Error> {
         .subcommand(check::check(alloc)?)?
         .subcommand(log::log(alloc)?)?
         .subcommand(gather::gather(alloc)?)?
+        .subcommand(convert::convert(alloc)?)?
         .subcommand(page::page(alloc)?)?;
     Ok(command)
 }

@@ -5,7 +5,8 @@ use crate::reading::{Reading, Source, Table};
 use hdr_input::columns::{Columns, Layout, RowSink, guess_delimiter, read_rows};
 use hdr_input::intervals::Intervals;
 use hdr_input::logs::{LONGEST, LogSums};
-use hdr_input::pieces::{PIECE, read_lines};
+use hdr_input::pieces::{LineSink, PIECE, read_lines};
+use hdr_input::plain::PlainLines;
 use hdr_input::{Distribution, InputError, Recording, Tally};
 use hdr_summary::figures::Tagged;
 use hdrhistogram::Histogram;
@@ -36,9 +37,9 @@ impl FileSink for Numbers<'_> {
     }
 }
 
-impl FileSink for LogSums<'_> {
+impl FileSink for PlainLines<LogSums<'_>> {
     fn take<R: Read + Drop>(&mut self, alloc: Global, mut reader: R) -> Result<(), InputError> {
-        self.begin_log();
+        self.sink().begin_log();
         read_lines(alloc, &mut reader, LONGEST, self)
     }
 }
@@ -59,7 +60,21 @@ impl FileSink for TimedNumbers<'_> {
     }
 }
 
-/// What takes the bytes of files.
+/// The lines of a file.
+#[derive(Drop)]
+struct Lines {
+    bytes: Vec<u8>,
+}
+
+impl LineSink for Lines {
+    fn take_lines(&mut self, _alloc: Global, lines: &[u8], first: u64) -> Result<u64, InputError> {
+        self.bytes.extend_from_slice(lines)?;
+        let count = lines.iter().filter(|byte| **byte == b'\n').count() as u64;
+        Ok(first.saturating_add(count))
+    }
+}
+
+/// What takes the lines of logs, with plain histograms.
 #[derive(Drop)]
 struct Contents {
     files: Vec<Vec<u8>>,
@@ -67,15 +82,10 @@ struct Contents {
 
 impl FileSink for Contents {
     fn take<R: Read + Drop>(&mut self, alloc: Global, mut reader: R) -> Result<(), InputError> {
-        let mut bytes = Vec::new(alloc);
-        match reader.read_to_end(&mut bytes) {
-            Ok(_) => {}
-            Err(error) if error.kind() == ErrorKind::OutOfMemory => {
-                return Err(InputError::OutOfMemory);
-            }
-            Err(error) => return Err(InputError::Io(error)),
-        }
-        match self.files.push(bytes) {
+        let bytes = Vec::new(alloc);
+        let mut lines = PlainLines::new(alloc, Lines { bytes });
+        read_lines(alloc, &mut reader, LONGEST, &mut lines)?;
+        match self.files.push(lines.into_sink().bytes) {
             Ok(()) => Ok(()),
             Err(_) => Err(InputError::OutOfMemory),
         }
@@ -196,13 +206,33 @@ pub(crate) fn read_intervals<'a>(
     Ok(numbers.intervals)
 }
 
-/// Returns the contents of files.
+/// Returns the lines of logs, with plain histograms.
 pub(crate) fn read_whole(rt: &HostRuntime, names: &[&str]) -> Result<Vec<Vec<u8>>, StatError> {
     let mut contents = Contents {
         files: Vec::new(rt.alloc()),
     };
     read_files(rt, names, &mut contents)?;
     Ok(contents.files)
+}
+
+/// What passes the lines of files on.
+struct LogLines<'a, S> {
+    sink: &'a mut S,
+}
+
+impl<S: LineSink> FileSink for LogLines<'_, S> {
+    fn take<R: Read + Drop>(&mut self, alloc: Global, mut reader: R) -> Result<(), InputError> {
+        read_lines(alloc, &mut reader, LONGEST, self.sink)
+    }
+}
+
+/// Passes the lines of logs to `sink`.
+pub(crate) fn read_log_lines<S: LineSink>(
+    rt: &HostRuntime,
+    names: &[&str],
+    sink: &mut S,
+) -> Result<(), StatError> {
+    read_files(rt, names, &mut LogLines { sink })
 }
 
 /// Returns the name of the file at an index, or that of all files without an index, for an error.
@@ -228,8 +258,10 @@ fn read_logs(
     is_by_tag: bool,
 ) -> Result<Vec<Tagged>, StatError> {
     let alloc = rt.alloc();
-    let mut sums = LogSums::new(alloc, choice, sigfig, is_by_tag);
-    read_files(rt, names, &mut sums)?;
+    let sums = LogSums::new(alloc, choice, sigfig, is_by_tag);
+    let mut lines = PlainLines::new(alloc, sums);
+    read_files(rt, names, &mut lines)?;
+    let sums = lines.into_sink();
     let coarser = sums.coarser;
     let chosen = sums.chosen;
     if coarser > 0 {

@@ -3,6 +3,7 @@
 
 mod check;
 mod command;
+mod convert;
 mod error;
 mod gather;
 mod input;
@@ -50,6 +51,7 @@ fn fail(rt: &HostRuntime, subcommand: &str, error: &StatError) -> ExitCode {
 fn run(rt: &HostRuntime, name: &str, matches: &ArgMatches<'_>) -> ExitCode {
     let status = match name {
         "check" => check::check(rt, matches),
+        "convert" => convert::convert(rt, matches),
         "gather" => gather::gather_logs(rt, matches),
         "log" => log::log(rt, matches),
         "page" => page::show(rt, matches),

@@ -2,6 +2,7 @@
 //! an allocation failed.
 
 mod bytes;
+mod compressed;
 mod resting;
 
 use hdr_core::{AdditionError, Call, CallError, CallFrom, CreationError, RecordError, RunError};

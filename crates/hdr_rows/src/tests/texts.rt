@@ -18,7 +18,12 @@ const UNGROWN: &str =
 const UNADDED: &str =
     "The other histogram includes values that would map to indexes in this histogram that are not expressible for `usize`";
 
-fn says<E: Display>(rt: &(impl Abort + AllocGlobal), error: &E, text: &str) -> Result<(), Fail> {
+/// Asserts the text of an error.
+pub fn says<E: Display>(
+    rt: &(impl Abort + AllocGlobal),
+    error: &E,
+    text: &str,
+) -> Result<(), Fail> {
     assert_eq!(rt; error.to_string(rt.alloc())?.as_str(), text);
     Ok(())
 }

@@ -1,0 +1,13 @@
+//! Histograms of interval logs, compressed and not.
+//!
+//! The HdrHistogram libraries of other languages compress the V2 bytes of an interval as a zlib stream. [`v2_bytes`] returns
+//! the V2 bytes of either form, and [`convert_line`] rewrites a line of a log from one form to the other.
+#![tactic(auto)]
+
+mod bytes;
+mod errors;
+mod line;
+
+pub use bytes::{Form, compressed, form_of, v2_bytes};
+pub use errors::ConvertError;
+pub use line::{convert_field, convert_line};

@@ -1,0 +1,77 @@
+//! Lines of interval logs.
+
+ghost use Rattle.std.specs.Prelude.{◌≡◌, ◌++◌, ℕ, List, [], IfOk, OnOk};
+ghost use Rattle.hdr_log.specs.Grammar.{reading};
+ghost use Rattle.hdr_log.specs.Texts.{base64_of};
+ghost use Rattle.hdr_convert.specs.Forms.{HasForm};
+
+use crate::bytes::{Form, compressed, v2_bytes};
+use crate::errors::ConvertError;
+use base64::engine::general_purpose::STANDARD;
+use hdr_log::field::{FieldError, decoded};
+use hdr_log::{IntervalLogIterator, LogEntry};
+use std::alloc::Global;
+
+/// Appends a line of a log, which ends in a line feed, with the histogram of an interval in `form`. Other lines and other
+/// fields stay as they are, but for a CR at the end of an interval.
+///
+/// # Errors
+/// Returns an error if the line is not one of a log, if its histogram is not converted, or if an allocation fails. A part of
+/// the line may then have been appended.
+pub fn convert_line(
+    alloc: Global,
+    line: &[u8],
+    form: Form,
+    output: &mut Vec<u8>,
+) -> Result<(), ConvertError>
+    ensures other { reading line.now ≡ [] → OnOk result (output.new.items
+        ≡ output.old.items ++ line.now) }
+{
+    match IntervalLogIterator::new(line).next() {
+        Some(Ok(LogEntry::Interval(interval))) => {
+            let field = interval.encoded_histogram();
+            let end = line.iter().rposition(|byte| *byte == b',').unwrap_or(0);
+            output.extend_from_slice(&line[..end])?;
+            output.push(b',')?;
+            convert_field(alloc, field, form, output)?;
+            Ok(output.push(b'\n')?)
+        }
+        Some(Err(_)) => Err(ConvertError::NotALine),
+        _ => Ok(output.extend_from_slice(line)?),
+    }
+}
+
+/// Returns a histogram of either form in `form`.
+fn in_form(alloc: Global, bytes: Vec<u8>, form: Form) -> Result<Vec<u8>, ConvertError>
+    ensures { IfOk result (λ bytes. HasForm form bytes.items) }
+{
+    match form {
+        Form::Plain => v2_bytes(alloc, bytes),
+        Form::Compressed => compressed(alloc, bytes),
+    }
+}
+
+/// Appends the Base64 of a histogram in `form`, from that of either form.
+///
+/// # Errors
+/// As `convert_line`.
+#[tactic(auto, unfolding(hdr_log::specs::Texts::base64_of))]
+pub fn convert_field(
+    alloc: Global,
+    field: &str,
+    form: Form,
+    output: &mut Vec<u8>,
+) -> Result<(), ConvertError>
+    ensures { OnOk result ((bytes : List ℕ) × HasForm form bytes
+        × (output.new.items ≡ output.old.items ++ base64_of bytes)) }
+{
+    let bytes = match decoded(alloc, field) {
+        Ok(bytes) => bytes,
+        Err(FieldError::NotBase64) => return Err(ConvertError::NotBase64),
+        Err(FieldError::OutOfMemory) => return Err(ConvertError::OutOfMemory),
+    };
+    let bytes = in_form(alloc, bytes, form)?;
+    let text = STANDARD.encode(alloc, &bytes)?;
+    output.extend_from_slice(text.as_bytes())?;
+    Ok(())
+}

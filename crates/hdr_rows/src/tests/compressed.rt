@@ -1,0 +1,107 @@
+//! Zlib streams of zlib 1.2.13, an interval of Java's library, and the texts of errors.
+
+use crate::tests::FIRST_RUN;
+use crate::tests::texts::says;
+use hdr_convert::{ConvertError, Form, compressed, convert_line, form_of, v2_bytes};
+use hdr_zlib::{InflateError, Level, adler32, deflate, inflate};
+use std::process::Abort;
+use std::test::Fail;
+
+/// `hello hello hello`, in fixed codes and with a repetition.
+const HELLO: [u8; 16] = [
+    120, 218, 203, 72, 205, 201, 201, 87, 200, 64, 144, 0, 58, 46, 6, 125,
+];
+
+/// The interval of Java's library with 1 once and 2 four times, by three digits.
+pub const COMPRESSED: &str =
+    "Tag=a,0.000,1.000,2.000,HISTFAAAABx42pNpmSzMwMDAzAABMJoRSjPZf4CxOABCFwKJ\n";
+
+/// The same as `hdr log` writes it.
+pub const PLAIN: &str =
+    "Tag=a,0.000,1.000,2.000,HISTEwAAAAMAAAAAAAAAAwAAAAAAAAABAAAAAAAAAAI/8AAAAAAAAAACCA==\n";
+
+#[test]
+fn inflates_what_zlib_writes(rt: HostRuntime) -> Result<(), Fail> {
+    let bytes = inflate(rt.alloc(), &HELLO, 17)?;
+    assert_eq!(rt; bytes.as_slice(), b"hello hello hello".as_slice());
+    assert_eq!(rt; adler32(b"hello hello hello"), 0x3a2e_067d);
+    assert_eq!(rt; inflate(rt.alloc(), &HELLO, 16), Err(InflateError::Limit));
+    Ok(())
+}
+
+#[test]
+fn each_prefix_of_a_stream_is_incomplete(rt: HostRuntime) -> Result<(), Fail> {
+    for end in 0..HELLO.len() {
+        let error = inflate(rt.alloc(), &HELLO[..end], 17);
+        assert_eq!(rt; error, Err(InflateError::Truncated));
+    }
+    Ok(())
+}
+
+#[test]
+fn inflates_what_deflate_writes(rt: HostRuntime) -> Result<(), Fail> {
+    for level in [Level::Stored, Level::Huffman] {
+        let stream = deflate(rt.alloc(), &FIRST_RUN, level)?;
+        let bytes = inflate(rt.alloc(), &stream, 43)?;
+        assert_eq!(rt; bytes.as_slice(), FIRST_RUN.as_slice());
+    }
+    Ok(())
+}
+
+#[test]
+fn converts_an_interval_of_java(rt: HostRuntime) -> Result<(), Fail> {
+    let mut line = Vec::new(rt.alloc());
+    convert_line(rt.alloc(), COMPRESSED.as_bytes(), Form::Plain, &mut line)?;
+    assert_eq!(rt; line.as_slice(), PLAIN.as_bytes());
+    line.clear();
+    convert_line(rt.alloc(), PLAIN.as_bytes(), Form::Compressed, &mut line)?;
+    let mut again = Vec::new(rt.alloc());
+    convert_line(rt.alloc(), &line, Form::Plain, &mut again)?;
+    assert_eq!(rt; again.as_slice(), PLAIN.as_bytes());
+    Ok(())
+}
+
+#[test]
+fn compresses_bytes_and_back(rt: HostRuntime) -> Result<(), Fail> {
+    let mut bytes = Vec::new(rt.alloc());
+    bytes.extend_from_slice(&FIRST_RUN)?;
+    let packed = compressed(rt.alloc(), bytes)?;
+    assert_eq!(rt; form_of(&packed), Ok(Form::Compressed));
+    let plain = v2_bytes(rt.alloc(), packed)?;
+    assert_eq!(rt; plain.as_slice(), FIRST_RUN.as_slice());
+    Ok(())
+}
+
+#[test]
+fn forms_of_other_histograms(rt: HostRuntime) -> Result<(), Fail> {
+    assert_eq!(rt;
+        form_of(&[0x1c, 0x84, 0x93, 0x41]),
+        Err(ConvertError::OldVersion(1))
+    );
+    assert_eq!(rt;
+        form_of(&[0x1c, 0x84, 0x93, 0x88]),
+        Err(ConvertError::OldVersion(0))
+    );
+    assert_eq!(rt;
+        form_of(&[0x0c, 0x72, 0x12, 0x4e]),
+        Err(ConvertError::DoubleHistogram)
+    );
+    assert_eq!(rt;
+        form_of(&[0x1c, 0x84, 0x93]),
+        Err(ConvertError::NotAHistogram)
+    );
+    Ok(())
+}
+
+#[test]
+fn texts_of_conversion(rt: HostRuntime) -> Result<(), Fail> {
+    says(
+        &rt,
+        &ConvertError::OldVersion(1),
+        "a histogram of version 1, and not 2",
+    )?;
+    says(&rt, &ConvertError::DoubleHistogram, "a double histogram")?;
+    let error = ConvertError::Inflate(InflateError::Checksum);
+    let text = "invalid compressed histogram: the checksum of the data is wrong";
+    says(&rt, &error, text)
+}
