@@ -25,9 +25,9 @@ struct Conversion<'a> {
 impl LineSink for Conversion<'_> {
     fn take_lines(&mut self, alloc: Global, lines: &[u8], first: u64) -> Result<u64, InputError> {
         self.converted.clear();
-        let next = convert_lines(alloc, lines, first, self.form, &mut self.converted)?;
+        let next = convert_lines(alloc, lines, first, self.form, &mut self.converted);
         match print(self.rt, &self.converted) {
-            Ok(()) => Ok(next),
+            Ok(()) => next,
             Err(error) => {
                 self.failed = Some(error);
                 Err(InputError::OutOfMemory)
@@ -36,7 +36,7 @@ impl LineSink for Conversion<'_> {
     }
 }
 
-/// Appends lines with their histograms in a form, and returns the number of the line after them.
+/// Appends lines with their histograms in a form, up to the first error, and returns the number of the line after them.
 fn convert_lines(
     alloc: Global,
     lines: &[u8],
@@ -48,9 +48,11 @@ fn convert_lines(
     let mut number = first;
     while !rest.is_empty() {
         let (line, after) = split_log_line(rest, number);
+        let len = converted.len();
         if line.trim_ascii().is_empty() {
             converted.extend_from_slice(line)?;
         } else if let Err(cause) = convert_line(alloc, line, form, converted) {
+            converted.truncate(len);
             return Err(InputError::of_conversion(alloc, number, line, cause));
         }
         rest = after;

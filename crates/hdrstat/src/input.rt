@@ -216,6 +216,7 @@ pub(crate) fn read_whole(rt: &HostRuntime, names: &[&str]) -> Result<Vec<Vec<u8>
 }
 
 /// What passes the lines of files on.
+#[derive(Drop)]
 struct LogLines<'a, S> {
     sink: &'a mut S,
 }

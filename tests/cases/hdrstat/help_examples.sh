@@ -14,7 +14,8 @@ seq 1 1000 >latencies.txt
 hdrstat log --tag a latencies.txt >service.log
 cp service.log host1.log
 cp service.log host2.log
-for subcommand in '' summary check log gather page; do
+hdrstat convert --to compressed service.log >java.log
+for subcommand in '' summary check log gather convert page; do
     hdrstat $subcommand --help | sed -n '/^Examples*:/,/^$/s/^  //p' | while read -r line; do
         status=0
         sh -c "$line" >output 2>&1 </dev/null || status=$?

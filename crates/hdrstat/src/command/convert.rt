@@ -9,7 +9,7 @@ Other HdrHistogram libraries compress the histograms of their logs. `hdr` reads 
 plain ones. Comments, tags, times and greatest values stay as they are.
 
 Examples:
-  hdrstat convert --to plain java.log | hdr merge 3 99/100
+  hdrstat convert --to plain java.log >plain.log
   hdrstat convert --to compressed all.log >java.log
 
 Status: 0; 1 if a log is invalid, or input or output fails; 2 for a usage error.";
