@@ -26,7 +26,7 @@ pub enum GatherError {
     Input { log: usize, cause: InputError },
     #[error("{0}: the interval begins past 64 bits of milliseconds")]
     TooLate(Place),
-    #[error("{0}: the interval is neither finer nor coarser than those before it at its time and tag")]
+    #[error("{0}: the interval is neither finer nor coarser than others of its time and tag")]
     NotNested(Place),
     #[error("{0}")]
     Add(#[from] AdditionError),

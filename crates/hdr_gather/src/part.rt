@@ -30,7 +30,8 @@ impl<'a> Part<'a> {
     }
 }
 
-/// Returns a time after a base time, to the nearest millisecond, or `None` if that does not fit 64 bits.
+/// Returns a time after a base time, to the nearest millisecond, or `None` if that does not fit 64
+/// bits.
 fn milliseconds(base: Duration, start: Duration) -> Option<u64>
     ensures { IfSome result (λ ms. ms ≡ nearest_millisecond (as_nanos base + as_nanos start)) }
 {

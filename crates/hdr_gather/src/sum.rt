@@ -32,8 +32,8 @@ fn histogram_of(
     }
 }
 
-/// Returns the histogram of the samples of both, by the coarser classes. It is an error if the classes of neither lie in those of
-/// the other; `place` is the line that `other` was read from.
+/// Returns the histogram of the samples of both, by the coarser classes. It is an error if the
+/// classes of neither lie in those of the other; `place` is the line that `other` was read from.
 fn joined(
     mut one: Histogram<u64>,
     mut other: Histogram<u64>,

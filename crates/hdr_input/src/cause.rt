@@ -15,7 +15,7 @@ pub enum Cause {
     /// It has more decimals than a unit, and is not to be rounded.
     #[error("has more decimals than the numbers before it; set them by --decimals")]
     MoreDecimals,
-    #[error("is too large: a number has to be below 2^64 in units of its last decimal (--decimals)")]
+    #[error("is too large: in units of its last decimal (--decimals) it has to be below 2^64")]
     TooLarge,
     /// Its line is longer than the buffer of the input.
     #[error("begins a line of more than 65536 bytes")]

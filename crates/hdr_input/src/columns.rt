@@ -93,7 +93,8 @@ fn has_number(row: &ByteRecord, index: usize) -> bool {
     }
 }
 
-/// Whether the first row is a row of names: if it has the name of the column, or if the field of the column is not a number.
+/// Whether the first row is a row of names: if it has the name of the column, or if the field of
+/// the column is not a number.
 fn is_header(row: &ByteRecord, wanted: &str, index: usize) -> bool {
     index_of_name(row, wanted).is_some() || !has_number(row, index)
 }
@@ -193,8 +194,8 @@ impl RowSink for Tally {
     }
 }
 
-/// Returns the delimiter of a table by its first bytes: a tab if the first line has one, otherwise a semicolon if it has one and no
-/// comma, otherwise a comma.
+/// Returns the delimiter of a table by its first bytes: a tab if the first line has one, otherwise
+/// a semicolon if it has one and no comma, otherwise a comma.
 pub fn guess_delimiter(start: &[u8]) -> u8 {
     let mut guess = b',';
     let mut has_comma = false;

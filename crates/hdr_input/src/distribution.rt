@@ -37,12 +37,15 @@ impl Distribution {
         }
     }
 
-    /// Returns the value at a quantile: the top of its class, within the least and the greatest number.
+    /// Returns the value at a quantile: the top of its class, within the least and the greatest
+    /// number.
     pub fn value_at_quantile(&self, quantile: Quantile) -> u64
-        ensures value { result ≡ max (min (value_at_quantile self.now.histogram quantile) self.now.max) self.now.min }
-        // The sample of the quantile's rank is at or below it, since no sample is above the greatest number.
-        ensures samples { (S : List ℕ) → StandsFor self.now.histogram S → 0 < length S → 0 < quantile.num
-            → ranked_sample quantile S ≤ self.now.max → ranked_sample quantile S ≤ result }
+        ensures value { result ≡ max (min (value_at_quantile self.now.histogram quantile)
+            self.now.max) self.now.min }
+        // The sample of the quantile's rank is at or below it, since no sample is above the
+        // greatest number.
+        ensures samples { (S : List ℕ) → StandsFor self.now.histogram S → 0 < length S
+            → 0 < quantile.num → ranked_sample quantile S ≤ self.now.max → ranked_sample quantile S ≤ result }
     {
         self.histogram
             .value_at_quantile(quantile)

@@ -25,7 +25,7 @@ pub enum InputError {
         text: String,
         cause: Cause,
     },
-    #[error("no column `{wanted}` in the first line, which has {names}; --column and --time take a name, or a number from 1")]
+    #[error("no column `{wanted}`: give one of {names}, or a number from 1")]
     NoColumn {
         wanted: String,
         names: String,

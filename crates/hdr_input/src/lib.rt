@@ -1,4 +1,5 @@
-//! Numbers from text, one on each line or in a column of a table, and the histograms of interval logs.
+//! Numbers from text, one on each line or in a column of a table, and the histograms of interval
+//! logs.
 #![tactic(auto)]
 
 pub mod cause;

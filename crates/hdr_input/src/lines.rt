@@ -19,7 +19,8 @@ fn split_line(text: &[u8]) -> (&[u8], &[u8])
     }
 }
 
-/// Returns a line without a byte order mark, which only the first line may have, and without whitespace around it.
+/// Returns a line without a byte order mark, which only the first line may have, and without
+/// whitespace around it.
 fn trimmed(line: &[u8], number: u64) -> &[u8] {
     let line = match line {
         [0xef, 0xbb, 0xbf, rest @ ..] if number == 1 => rest,
@@ -73,7 +74,8 @@ fn record_line(
     }
 }
 
-/// Records the numbers of lines, and returns the number of the line after them. The first line has the number `first`.
+/// Records the numbers of lines, and returns the number of the line after them. The first line has
+/// the number `first`.
 pub fn record_lines(
     alloc: Global,
     tally: &mut Tally,

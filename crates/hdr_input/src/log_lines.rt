@@ -15,8 +15,8 @@ fn without_mark(line: &[u8], number: u64) -> &[u8] {
     }
 }
 
-/// Splits a text after its first line, which has this number. The line is returned with its LF, if it has one, and without a byte
-/// order mark.
+/// Splits a text after its first line, which has this number. The line is returned with its LF, if
+/// it has one, and without a byte order mark.
 pub fn split_log_line(text: &[u8], number: u64) -> (&[u8], &[u8])
     ensures { 0 < length text.now → length result.1.now < length text.now }
 {
@@ -26,7 +26,8 @@ pub fn split_log_line(text: &[u8], number: u64) -> (&[u8], &[u8])
     }
 }
 
-/// Returns the entry of a line of this number, with its LF. Comments, other headers and empty lines have none.
+/// Returns the entry of a line of this number, with its LF. Comments, other headers and empty lines
+/// have none.
 pub fn entry_of(
     alloc: Global,
     line: &[u8],

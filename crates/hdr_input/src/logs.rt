@@ -17,7 +17,8 @@ use std::alloc::Global;
 use std::collections::HashMap;
 use std::time::Duration;
 
-/// The longest line of a log that is read, in bytes. A histogram of 5 digits over all of `u64` needs less.
+/// The longest line of a log that is read, in bytes. A histogram of 5 digits over all of `u64`
+/// needs less.
 pub const LONGEST: usize = 268_435_456;
 
 /// The sum of a tag's intervals.
@@ -29,7 +30,8 @@ pub struct TagSum {
 }
 
 impl TagSum {
-    /// Adds the histogram that the field of an interval holds. Returns whether it is coarser than the sum.
+    /// Adds the histogram that the field of an interval holds. Returns whether it is coarser than
+    /// the sum.
     fn add_field(
         &mut self,
         deserializer: &mut Deserializer,

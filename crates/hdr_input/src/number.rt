@@ -2,7 +2,8 @@
 
 ghost use Rattle.std.specs.Prelude.{◌≡◌, ◌<◌, ◌≤◌, true, length, IfSome, SomeIff};
 ghost use Rattle.std.specs.Char.{is_ascii_digit, digit_value};
-ghost use Rattle.hdr_input.specs.Numbers.{in_units, BeginsWithDigits, BeginsWithPart, BeginsWithNumber, EndsLine};
+ghost use Rattle.hdr_input.specs.Numbers.{in_units, BeginsWithDigits, BeginsWithPart};
+ghost use Rattle.hdr_input.specs.Numbers.{BeginsWithNumber, EndsLine};
 
 use crate::cause::Cause;
 use crate::distribution::MOST_DECIMALS;
@@ -28,8 +29,8 @@ fn digit(byte: u8) -> Option<u64>
     }
 }
 
-/// Appends the digits that a text begins with to a number, and returns it with the rest. Returns `None` if nothing follows the
-/// digits, or on overflow.
+/// Appends the digits that a text begins with to a number, and returns it with the rest. Returns
+/// `None` if nothing follows the digits, or on overflow.
 #[inline(always)]
 fn leading_digits(start: u64, text: &[u8]) -> Option<(u64, &[u8])>
     ensures length { IfSome result (λ p. length p.1.now ≤ length text.now) }
@@ -58,8 +59,8 @@ fn after_line_end(text: &[u8]) -> Option<&[u8]>
     }
 }
 
-/// Parses the number of the first line, if the line has digits with at most a point between them. Returns it with what follows the
-/// line.
+/// Parses the number of the first line, if the line has digits with at most a point between them.
+/// Returns it with what follows the line.
 #[inline(always)]
 pub(crate) fn plain_line(text: &[u8]) -> Option<(Number, &[u8])>
     ensures length { IfSome result (λ p. length p.1.now < length text.now) }
@@ -82,11 +83,13 @@ pub(crate) fn plain_line(text: &[u8]) -> Option<(Number, &[u8])>
     ))
 }
 
-/// Parses the digits after a point, to the end of the line, as those of a number that has `whole` before the point.
+/// Parses the digits after a point, to the end of the line, as those of a number that has `whole`
+/// before the point.
 #[inline(always)]
 fn plain_fraction(whole: u64, fraction: &[u8]) -> Option<(Number, &[u8])>
     ensures length { IfSome result (λ p. length p.1.now < length fraction.now) }
-    ensures value { IfSome result (λ p. BeginsWithPart whole fraction.now p.0.digits p.0.decimals p.1.now) }
+    ensures value { IfSome result
+        (λ p. BeginsWithPart whole fraction.now p.0.digits p.0.decimals p.1.now) }
 {
     let (digits, rest) = leading_digits(whole, fraction)?;
     let decimals = u32::try_from(fraction.len() - rest.len()).ok()?;
@@ -103,7 +106,8 @@ impl Number {
         decimals: 0,
     };
 
-    /// Parses a number such as `12`, `+0.50` or `1.5e-05`. It is rounded to `decimals`, or exact if that is `None`.
+    /// Parses a number such as `12`, `+0.50` or `1.5e-05`. It is rounded to `decimals`, or exact if
+    /// that is `None`.
     pub fn parse(text: &[u8], decimals: Option<u32>) -> Result<Number, Cause> {
         match text {
             [b'-', rest @ ..] => match parse_wide(rest) {
@@ -138,7 +142,8 @@ impl Number {
         })
     }
 
-    /// Returns the number in units of the last of `decimals`, halves rounded up, or `None` on overflow.
+    /// Returns the number in units of the last of `decimals`, halves rounded up, or `None` on
+    /// overflow.
     pub fn rounded(self, decimals: u32) -> Option<u64>
         ensures { IfSome result (λ units. units ≡ in_units self.digits self.decimals decimals) }
     {

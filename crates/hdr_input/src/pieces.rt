@@ -13,8 +13,8 @@ pub const PIECE: usize = 65_536;
 
 /// What takes the lines of an input.
 pub trait LineSink {
-    /// Takes complete lines, of which the first has this number. The last one of an input may lack a line feed. Returns the number
-    /// of the line after them.
+    /// Takes complete lines, of which the first has this number. The last one of an input may lack
+    /// a line feed. Returns the number of the line after them.
     fn take_lines(&mut self, alloc: Global, lines: &[u8], first: u64) -> Result<u64, InputError>;
 }
 
@@ -32,7 +32,8 @@ fn read_some<R: Read>(reader: &mut R, buffer: &mut [u8]) -> Result<usize, InputE
     Err(InputError::Io(io::Error::from(ErrorKind::Interrupted)))
 }
 
-/// Returns the length of the complete lines of a piece: all of it, if it is the last piece of the input.
+/// Returns the length of the complete lines of a piece: all of it, if it is the last piece of the
+/// input.
 fn complete_len(piece: &[u8], is_last: bool) -> usize
     ensures { result ≤ length piece.now }
 {

@@ -1,6 +1,7 @@
 //! Numbers, recorded as they come.
 
-ghost use Rattle.std.specs.Prelude.{◌≡◌, ◌≢◌, ◌<◌, ◌≤◌, ◌^◌, ◌-◌, ◌⊎◌, ℕ, min, max, Some, Ok, OnOk, IfOk};
+ghost use Rattle.std.specs.Prelude.{◌≡◌, ◌≢◌, ◌<◌, ◌≤◌, ◌^◌, ◌-◌, ◌⊎◌, ℕ, min, max};
+ghost use Rattle.std.specs.Prelude.{Some, Ok, OnOk, IfOk};
 ghost use Rattle.hdr_input.specs.Numbers.{in_units};
 ghost use Rattle.hdr_model.specs.Recording.{after_record};
 ghost use Rattle.hdr_model.specs.Correction.{after_correct};
@@ -16,8 +17,8 @@ use std::alloc::Global;
 pub struct Recording {
     /// The significant digits of the histogram, at most 5.
     pub sigfig: u8,
-    /// The decimals of a unit, to which all numbers are rounded. If `None`, they are those of the first number, and a number with
-    /// more of them is an error.
+    /// The decimals of a unit, to which all numbers are rounded. If `None`, they are those of the
+    /// first number, and a number with more of them is an error.
     pub decimals: Option<u32>,
     /// The expected interval between two samples, 0 for none.
     pub interval: Number,
@@ -25,7 +26,8 @@ pub struct Recording {
     pub skips_bad: bool,
 }
 
-/// The numbers recorded so far. The extremes are exact, and so is the sum unless an interval is expected.
+/// The numbers recorded so far. The extremes are exact, and so is the sum unless an interval is
+/// expected.
 #[derive(Drop)]
 pub struct Tally {
     pub histogram: Histogram<u64>,
@@ -107,8 +109,8 @@ impl Tally {
     /// Records a number.
     #[inline(always)]
     pub fn record(&mut self, number: Number) -> Result<(), Cause>
-        ensures plain { OnOk result (self.old.decimals ≡ Some number.decimals → self.old.interval ≡ 0
-            → self.new.histogram ≡ after_record (2 ^ 64 - 1) self.old.histogram number.digits 1) }
+        ensures plain { OnOk result (self.old.decimals ≡ Some number.decimals
+            → self.old.interval ≡ 0 → self.new.histogram ≡ after_record (2 ^ 64 - 1) self.old.histogram number.digits 1) }
         ensures other { OnOk result ((decimals : ℕ) → self.old.decimals ≡ Some decimals
             → (decimals ≢ number.decimals) ⊎ (0 < self.old.interval) → self.new.histogram
             ≡ after_correct (2 ^ 64 - 1) self.old.histogram
@@ -125,11 +127,12 @@ impl Tally {
         self.record_other(number)
     }
 
-    /// Records a number that is not in units, or a number with its missing samples, if an interval is expected.
+    /// Records a number that is not in units, or a number with its missing samples, if an interval
+    /// is expected.
     #[inline(never)]
     fn record_other(&mut self, number: Number) -> Result<(), Cause>
-        ensures { OnOk result ((decimals : ℕ) → self.old.decimals ≡ Some decimals → self.new.histogram
-            ≡ after_correct (2 ^ 64 - 1) self.old.histogram
+        ensures { OnOk result ((decimals : ℕ) → self.old.decimals ≡ Some decimals
+            → self.new.histogram ≡ after_correct (2 ^ 64 - 1) self.old.histogram
             (in_units number.digits number.decimals decimals) 1 self.old.interval) }
     {
         let units = self.units_of(number)?;
@@ -137,7 +140,8 @@ impl Tally {
         self.after(done, least_of(units, self.interval), units)
     }
 
-    /// Widens the extremes by a value that was recorded, and by the least of the samples recorded with it.
+    /// Widens the extremes by a value that was recorded, and by the least of the samples recorded
+    /// with it.
     #[inline(always)]
     fn after(&mut self, done: Result<(), RecordError>, least: u64, value: u64) -> Result<(), Cause>
         ensures done { OnOk result (done ≡ Ok tt) }
@@ -172,7 +176,8 @@ impl Tally {
         number.rounded(decimals).ok_or(Cause::TooLarge)
     }
 
-    /// Sets the decimals of a unit: those of a number, or of the expected interval if these are more, but at most 18.
+    /// Sets the decimals of a unit: those of a number, or of the expected interval if these are
+    /// more, but at most 18.
     fn decide(&mut self, decimals: u32) -> u32 {
         let decimals = decimals
             .max(self.recording.interval.decimals)

@@ -4,7 +4,8 @@ use crate::cause::Cause;
 use crate::distribution::MOST_DECIMALS;
 use crate::number::Number;
 
-/// The number digits * 10^exponent. If digits were cut, the number is greater by less than 10^exponent.
+/// The number digits * 10^exponent. If digits were cut, the number is greater by less than
+/// 10^exponent.
 #[derive(Clone, Copy)]
 pub(crate) struct Wide {
     digits: u128,
@@ -81,7 +82,8 @@ fn mantissa(text: &[u8]) -> Option<Wide> {
     with_digits(number, fraction, true)
 }
 
-/// Parses an exponent such as `5` or `-05`. A greater one than `GREATEST_EXPONENT` is lowered to it.
+/// Parses an exponent such as `5` or `-05`. A greater one than `GREATEST_EXPONENT` is lowered to
+/// it.
 fn exponent(text: &[u8]) -> Option<i64> {
     let (is_negative, digits) = match text {
         [b'-', rest @ ..] => (true, rest),
@@ -167,7 +169,8 @@ impl Wide {
         }
     }
 
-    /// Returns the digits divided by 10 to a power, halves rounded up. Digits are below 10^39, so a greater power leaves 0.
+    /// Returns the digits divided by 10 to a power, halves rounded up. Digits are below 10^39, so a
+    /// greater power leaves 0.
     fn divided(self, power: i64) -> u128 {
         match power_of_ten(power) {
             Some(divisor) => rounded_quotient(self.digits, divisor),

@@ -23,7 +23,8 @@ const MARKS: [(u64, &str); 8] = [
 /// One in 32 bits after the point.
 const ONE: u128 = 1 << 32;
 
-/// Half of a number's square, or its square where that is below 2, and whether it was halved. Numbers have 32 bits after the point.
+/// Half of a number's square, or its square where that is below 2, and whether it was halved.
+/// Numbers have 32 bits after the point.
 fn squared(number: u128) -> (u128, u64) {
     let square = number.saturating_mul(number) / ONE;
     if square >= 2 * ONE {
@@ -33,8 +34,9 @@ fn squared(number: u128) -> (u128, u64) {
     }
 }
 
-/// Returns the binary logarithm of a number with 32 bits after the point, in 65,536ths, rounded down; 0 for numbers below 1.
-/// Squaring a number doubles its logarithm, so each square yields one binary digit more.
+/// Returns the binary logarithm of a number with 32 bits after the point, in 65,536ths, rounded
+/// down; 0 for numbers below 1. Squaring a number doubles its logarithm, so each square yields one
+/// binary digit more.
 fn logarithm(number: u128) -> u64 {
     if number < ONE {
         return 0;

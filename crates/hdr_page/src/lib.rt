@@ -1,4 +1,5 @@
-//! Shows an interval log: as one HTML file with no script and no reference to another file, or as a row for each interval.
+//! Shows an interval log: as one HTML file with no script and no reference to another file, or as a
+//! row for each interval.
 #![tactic(auto)]
 
 mod curve;

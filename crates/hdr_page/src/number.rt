@@ -5,7 +5,8 @@ ghost use Rattle.hdr_page.specs.Numbers.{nearest};
 
 use std::alloc::{AllocError, Global};
 
-/// Returns `num * parts / den` to the nearest integer, halves up, or `None` if `den` is 0 or the product overflows.
+/// Returns `num * parts / den` to the nearest integer, halves up, or `None` if `den` is 0 or the
+/// product overflows.
 pub(crate) fn in_parts(num: u128, den: u128, parts: u128) -> Option<u128>
     ensures { IfSome result (λ n. n ≡ nearest num den parts) }
 {

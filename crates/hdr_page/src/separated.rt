@@ -7,7 +7,8 @@ use std::alloc::{AllocError, Global};
 
 const HEAD: &str = "start,tag,length,count,50%,90%,99%,99.9%,100%\n";
 
-/// Returns a row for each interval of logs in order, after a line that names the fields. Times are in seconds.
+/// Returns a row for each interval of logs in order, after a line that names the fields. Times are
+/// in seconds.
 pub fn rows(alloc: Global, logs: &[Vec<u8>]) -> Result<String, PageError> {
     let seen = seen_in(alloc, logs)?;
     let mut text = String::from_str(alloc, HEAD)?;

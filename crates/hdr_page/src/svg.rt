@@ -13,7 +13,8 @@ pub(crate) const LEFT: u64 = 110;
 
 pub(crate) const TOP: u64 = 30;
 
-/// How far a value is along a length that ends at the greatest value, rounded down. A greater one is at its end.
+/// How far a value is along a length that ends at the greatest value, rounded down. A greater one
+/// is at its end.
 pub(crate) fn along(value: u64, most: u64, length: u64) -> u64
     ensures { result ≤ length }
 {
@@ -30,7 +31,8 @@ pub(crate) struct Point {
     pub y: u64,
 }
 
-/// Appends the start of a drawing: its field, the greatest value above its left side, and 0 beside it.
+/// Appends the start of a drawing: its field, the greatest value above its left side, and 0 beside
+/// it.
 pub(crate) fn push_begin(text: &mut String, most: u64) -> Result<(), AllocError> {
     let bottom = TOP + HEIGHT;
     write!(

@@ -23,7 +23,8 @@ pub fn decimal(alloc: Global, units: u128, decimals: u32) -> Result<String, Allo
     }
 }
 
-/// Returns `num * parts / den` to the nearest integer, halves up, or `None` if `den` is 0 or the product overflows.
+/// Returns `num * parts / den` to the nearest integer, halves up, or `None` if `den` is 0 or the
+/// product overflows.
 pub fn in_parts(num: u128, den: u128, parts: u128) -> Option<u128>
     ensures { IfSome result (λ n. n ≡ nearest num den parts) }
 {

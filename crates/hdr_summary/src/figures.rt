@@ -19,8 +19,8 @@ pub struct Tagged {
     pub distribution: Distribution,
 }
 
-/// Returns the mean in parts of a unit, halves rounded up, or `None` without numbers or on overflow. It is that of the numbers, or
-/// that of their classes if only these are known.
+/// Returns the mean in parts of a unit, halves rounded up, or `None` without numbers or on
+/// overflow. It is that of the numbers, or that of their classes if only these are known.
 pub fn mean_in_parts(distribution: &Distribution, parts: u128) -> Option<u128> {
     if distribution.histogram.is_empty() {
         return None;
@@ -93,7 +93,8 @@ fn push_percentiles(
     Ok(())
 }
 
-/// Returns the figures of a distribution: count, min, mean, the percentiles in their order, and max.
+/// Returns the figures of a distribution: count, min, mean, the percentiles in their order, and
+/// max.
 pub fn figures(
     alloc: Global,
     distribution: &Distribution,

@@ -1,4 +1,5 @@
-//! The texts of distributions: a table for people, CSV and JSON for programs, and the formats of other tools.
+//! The texts of distributions: a table for people, CSV and JSON for programs, and the formats of
+//! other tools.
 
 mod hgrm;
 mod json;

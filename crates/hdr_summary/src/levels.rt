@@ -66,7 +66,8 @@ fn split_side(text: &str) -> Option<(&str, Side, &str)> {
     None
 }
 
-/// Parses a level such as `p99<=200ms`. A unit of time is only valid if the input has one. A count has none.
+/// Parses a level such as `p99<=200ms`. A unit of time is only valid if the input has one. A count
+/// has none.
 pub fn parse_level(text: &str, unit: Option<Unit>) -> Option<Level<'_>> {
     let (name, side, amount) = split_side(text)?;
     let measure = parse_measure(name)?;
@@ -125,8 +126,10 @@ fn decimals_of(distribution: &Distribution, measure: Measure) -> u32
 impl Level<'_> {
     /// Whether the figure of a distribution is on the side of the level.
     pub fn is_kept(&self, distribution: &Distribution) -> bool
-        ensures { IsTrue result ↔ IsOnSide self.now.side (units_of distribution.now self.now.measure)
-            (decimals_of distribution.now self.now.measure) self.now.number.digits self.now.number.decimals }
+        ensures { IsTrue result ↔ IsOnSide self.now.side
+            (units_of distribution.now self.now.measure)
+            (decimals_of distribution.now self.now.measure)
+            self.now.number.digits self.now.number.decimals }
     {
         let units = units_of(distribution, self.measure);
         let decimals = decimals_of(distribution, self.measure);

@@ -68,7 +68,8 @@ pub fn in_unit(number: Number, from: Unit, to: Unit) -> Option<Number> {
     }
 }
 
-/// Parses an amount such as `200` or `200ms`, in the unit of the input. One with a unit is invalid if the input has none.
+/// Parses an amount such as `200` or `200ms`, in the unit of the input. One with a unit is invalid
+/// if the input has none.
 pub fn parse_amount(text: &str, unit: Option<Unit>) -> Option<Number>
     ensures few { IfSome result (λ n. n.decimals ≤ 18) }
 {

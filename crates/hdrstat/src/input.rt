@@ -218,7 +218,8 @@ pub(crate) fn file_at(
     String::from_str(alloc, if name == "-" { "standard input" } else { name })
 }
 
-/// Returns the sums of logs. If intervals are coarser than their sum, their number is printed on standard error.
+/// Returns the sums of logs. If intervals are coarser than their sum, their number is printed on
+/// standard error.
 fn read_logs(
     rt: &HostRuntime,
     names: &[&str],

@@ -33,8 +33,8 @@ fn value(
     conversion.decimal(alloc, u128::from(units).saturating_mul(factor), decimals)
 }
 
-/// Appends the percentile distribution: a row for each quantile iterated to, with a value, the quantile, the number of samples up to
-/// that value, and 1/(1 - q).
+/// Appends the percentile distribution: a row for each quantile iterated to, with a value, the
+/// quantile, the number of samples up to that value, and 1/(1 - q).
 pub fn push_hgrm(
     alloc: Global,
     text: &mut String,
@@ -69,7 +69,8 @@ fn push_row(
     writeln!(text, "{value:>12} {share} {count:>10} {inverted:>14}")
 }
 
-/// Returns the mean with three decimals, or with two more than the values have if those are more. It is 0 without numbers.
+/// Returns the mean with three decimals, or with two more than the values have if those are more.
+/// It is 0 without numbers.
 fn mean(
     alloc: Global,
     distribution: &Distribution,

@@ -1,4 +1,5 @@
-//! Metrics in the text format that Prometheus, OpenMetrics and the collector of a node's text files read.
+//! Metrics in the text format that Prometheus, OpenMetrics and the collector of a node's text files
+//! read.
 
 use crate::decimals::{decimal, without_zeros};
 use crate::figures::Tagged;

@@ -20,8 +20,7 @@ pub(crate) fn with_tables<'a>(alloc: Global, command: Command<'a>) -> Result<Com
     .short('c')
     .value_parser(ValueParser::NonEmptyString)
     .help_heading(TABLES);
-    let help =
-        "Character between columns, or comma, tab, semicolon, space [default: that of the first line]";
+    let help = "Character between columns, or comma, tab, semicolon, space [default: guessed]";
     let delimiter = option(alloc, "delimiter", "CHAR", help)
         .requires_arg("column")?
         .help_heading(TABLES);
