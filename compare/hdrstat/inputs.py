@@ -9,7 +9,7 @@ REASONS = {
     "table": "is not a number; --column reads a column of a table, --from log an interval log",
     "negative": "is negative, and a histogram counts numbers from 0; --skip-bad ignores such lines",
     "decimals": "has more decimals than the numbers before it; set them by --decimals",
-    "large": "is too large: a number has to be below 2^64 in units of its last decimal (--decimals)",
+    "large": "is too large: in units of its last decimal (--decimals) it has to be below 2^64",
     "no field": "is a row without that column; --skip-bad ignores such rows",
 }
 
@@ -33,7 +33,7 @@ def error_text(failure):
         names = ""
         for it in text:
             names += (", " if names else "") + it.decode("utf-8", "replace")
-        return f"{name}: no column `{line.decode()}` in the first line, which has {names}; --column and --time take a name, or a number from 1"
+        return f"{name}: no column `{line.decode()}`: give one of {names}, or a number from 1"
     return f"{name}: {line}: `{shown(text)}` {REASONS[why]}"
 
 
