@@ -4,11 +4,15 @@ use Rattle.hdr_tool.proofs.driver.run_lines.Goals as goal
 
 pub returns-in_default-checked_add-clause-goes : goal.returns-in_default-checked_add-clause-goes
 returns-in_default-checked_add-clause-goes g c =
-    cut_short (run_rest c.args.is_log c.args.histogram.now c.args.number (Some c.args.text.now)) (run_rest c.args.is_log c.loop-left.histogram c.loop-left.next (option_map (λ t. t.now) c.loop-left.left)) (g.W.Write.contents (sink c.args.log.now).now) (g.W.Write.contents (sink c.loop-left.log).now) CannotRead refl c.loop-left.invariant.goes
+    let whole = run_rest c.args.is_log c.args.histogram.now c.args.number (Some c.args.text.now) in
+    let onward = run_rest c.args.is_log c.loop-left.histogram c.loop-left.next (option_map (λ t. t.now) c.loop-left.left) in
+    cut_short whole onward (g.W.Write.contents (sink c.args.log.now).now) (g.W.Write.contents (sink c.loop-left.log).now) CannotRead refl c.loop-left.invariant.goes
 
 pub returns-in_default-apply-clause-goes : goal.returns-in_default-apply-clause-goes
 returns-in_default-apply-clause-goes g c =
-    cut_short (run_rest c.args.is_log c.args.histogram.now c.args.number (Some c.args.text.now)) (run_rest c.args.is_log c.loop-left.histogram c.loop-left.next (option_map (λ t. t.now) c.loop-left.left)) (g.W.Write.contents (sink c.args.log.now).now) (g.W.Write.contents (sink c.loop-left.log).now) NoMemory refl c.loop-left.invariant.goes
+    let whole = run_rest c.args.is_log c.args.histogram.now c.args.number (Some c.args.text.now) in
+    let onward = run_rest c.args.is_log c.loop-left.histogram c.loop-left.next (option_map (λ t. t.now) c.loop-left.left) in
+    cut_short whole onward (g.W.Write.contents (sink c.args.log.now).now) (g.W.Write.contents (sink c.loop-left.log).now) NoMemory refl c.loop-left.invariant.goes
 
 pub returns-in_default-apply-clause-memory : goal.returns-in_default-apply-clause-memory
 returns-in_default-apply-clause-memory g c = λ more.
@@ -19,6 +23,9 @@ returns-in_default-apply-clause-memory g c = λ more.
 
 pub loop-left-preserved-in-Some-value_line : goal.loop-left-preserved-in-Some-value_line
 loop-left-preserved-in-Some-value_line g c =
+    let whole = run_rest c.args.is_log c.args.histogram.now c.args.number (Some c.args.text.now) in
+    let left = number_lines c.loop-left.next (option_map (λ t. t.now) c.loop-left.left) in
+    let rest = number_lines (c.loop-left.next + 1) (Some c.in-Some-value_line.after.now) in
     let line = c.in-Some-value_line.ensures in
     let next : c.in-Some-checked_add.number ≡ c.loop-left.next + 1 = omega (arith, c.in-Some-checked_add.ensures) in
     let e = ap (λ o. number_lines c.loop-left.next (option_map (λ t. t.now) o)) c.in-Some.is ∙ ap (enumerate_from c.loop-left.next) line.lines in
@@ -26,7 +33,7 @@ loop-left-preserved-in-Some-value_line g c =
     let m = g.W.Write.contents (sink c.loop-left.log).now in
     record {
       same = c.loop-left.invariant.same;
-      goes = rw next (one_line {A = Unit {0}} c.args.is_log (run_rest c.args.is_log c.args.histogram.now c.args.number (Some c.args.text.now)) c.loop-left.histogram c.apply.new.self (number_lines c.loop-left.next (option_map (λ t. t.now) c.loop-left.left)) (number_lines (c.loop-left.next + 1) (Some c.in-Some-value_line.after.now)) (c.loop-left.next, line.line) o m m (Ok tt) c.loop-left.invariant.goes e
+      goes = rw next (one_line {A = Unit {0}} c.args.is_log whole c.loop-left.histogram c.apply.new.self left rest (c.loop-left.next, line.line) o m m (Ok tt) c.loop-left.invariant.goes e
           (next_line {A = Unit {0}} (λ more. run_lines c.args.is_log c.loop-left.histogram ((c.loop-left.next, line.line) ∷ more)) (run_lines c.args.is_log c.apply.new.self) m tt
           (λ more. call_line c.args.is_log c.loop-left.histogram c.apply.new.self c.loop-left.next line.line more c.in-Some-value_line.call line.fits c.in-Ok.ensures.ok)));
       memory = rw next (λ more n. c.loop-left.invariant.memory more (subst (λ l. LinesNeed c.args.is_log c.loop-left.histogram (l ++ more)) (sym e)
@@ -37,10 +44,16 @@ loop-left-preserved-in-Some-value_line g c =
 
 pub returns-in_err-run_line-clause-goes : goal.returns-in_err-run_line-clause-goes
 returns-in_err-run_line-clause-goes g c =
+    let whole = run_rest c.args.is_log c.args.histogram.now c.args.number (Some c.args.text.now) in
+    let o = g.W.Write.contents (sink c.args.log.now).now in
+    let m = g.W.Write.contents (sink c.loop-left.log).now in
+    let n = g.W.Write.contents (sink c.run_line.new.log).now in
+    let left = number_lines c.loop-left.next (option_map (λ t. t.now) c.loop-left.left) in
+    let after = number_lines (c.loop-left.next + 1) (option_map (λ t. t.now) c.split_first.result.1) in
     let e = ap (λ o. number_lines c.loop-left.next (option_map (λ t. t.now) o)) c.in-Some.is ∙ ap (enumerate_from c.loop-left.next) c.split_first.ensures.parts in
     rw (handed_on c.from_residual.result c.in_err-run_line.field-0.0 c.from_residual.ensures.1)
-    (one_line {A = Unit {0}} c.args.is_log (run_rest c.args.is_log c.args.histogram.now c.args.number (Some c.args.text.now)) c.loop-left.histogram c.run_line.new.histogram (number_lines c.loop-left.next (option_map (λ t. t.now) c.loop-left.left)) (number_lines (c.loop-left.next + 1) (option_map (λ t. t.now) c.split_first.result.1)) (c.loop-left.next, c.split_first.result.0.now)
-    (g.W.Write.contents (sink c.args.log.now).now) (g.W.Write.contents (sink c.loop-left.log).now) (g.W.Write.contents (sink c.run_line.new.log).now) (Err c.in_err-run_line.field-0.0) c.loop-left.invariant.goes e c.in_err-run_line.ensures.goes)
+    (one_line {A = Unit {0}} c.args.is_log whole c.loop-left.histogram c.run_line.new.histogram left after (c.loop-left.next, c.split_first.result.0.now)
+    o m n (Err c.in_err-run_line.field-0.0) c.loop-left.invariant.goes e c.in_err-run_line.ensures.goes)
 
 pub returns-in_err-run_line-clause-memory : goal.returns-in_err-run_line-clause-memory
 returns-in_err-run_line-clause-memory g c =
@@ -52,6 +65,12 @@ returns-in_err-run_line-clause-memory g c =
 
 pub loop-left-preserved : goal.loop-left-preserved
 loop-left-preserved g c =
+    let whole = run_rest c.args.is_log c.args.histogram.now c.args.number (Some c.args.text.now) in
+    let o = g.W.Write.contents (sink c.args.log.now).now in
+    let m = g.W.Write.contents (sink c.loop-left.log).now in
+    let n = g.W.Write.contents (sink c.run_line.new.log).now in
+    let left = number_lines c.loop-left.next (option_map (λ t. t.now) c.loop-left.left) in
+    let after = number_lines (c.loop-left.next + 1) (option_map (λ t. t.now) c.split_first.result.1) in
     let next : c.in-Some-checked_add.number ≡ c.loop-left.next + 1 = omega (arith, c.in-Some-checked_add.ensures) in
     let e = ap (λ o. number_lines c.loop-left.next (option_map (λ t. t.now) o)) c.in-Some.is ∙ ap (enumerate_from c.loop-left.next) c.split_first.ensures.parts in
     record {
@@ -60,8 +79,8 @@ loop-left-preserved g c =
         serializer = c.in_ok-run_line.ensures.same_log.serializer ∙ c.loop-left.invariant.same.serializer;
         divisor = c.in_ok-run_line.ensures.same_log.divisor ∙ c.loop-left.invariant.same.divisor;
       };
-      goes = rw next (one_line {A = Unit {0}} c.args.is_log (run_rest c.args.is_log c.args.histogram.now c.args.number (Some c.args.text.now)) c.loop-left.histogram c.run_line.new.histogram (number_lines c.loop-left.next (option_map (λ t. t.now) c.loop-left.left)) (number_lines (c.loop-left.next + 1) (option_map (λ t. t.now) c.split_first.result.1)) (c.loop-left.next, c.split_first.result.0.now)
-          (g.W.Write.contents (sink c.args.log.now).now) (g.W.Write.contents (sink c.loop-left.log).now) (g.W.Write.contents (sink c.run_line.new.log).now) (Ok tt) c.loop-left.invariant.goes e c.in_ok-run_line.ensures.goes);
+      goes = rw next (one_line {A = Unit {0}} c.args.is_log whole c.loop-left.histogram c.run_line.new.histogram left after (c.loop-left.next, c.split_first.result.0.now)
+          o m n (Ok tt) c.loop-left.invariant.goes e c.in_ok-run_line.ensures.goes);
       memory = rw next (λ more n. c.loop-left.invariant.memory more (subst (λ l. LinesNeed c.args.is_log c.loop-left.histogram (l ++ more)) (sym e)
           (c.in_ok-run_line.ensures.memory (number_lines (c.loop-left.next + 1) (option_map (λ t. t.now) c.split_first.result.1) ++ more) n)));
       grows = c.in_ok-run_line.ensures.grows;
