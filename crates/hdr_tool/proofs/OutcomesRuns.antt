@@ -1,5 +1,5 @@
 -- What running lines leaves in the writer: one line, one part after another, and lines that are run while the input is read.
-use Rattle.hdr_tool.proofs.Common.{◌≡◌, ℕ, ◌+◌, ◌-◌, List, [], ◌++◌, length, take, drop, Option, Some, None, Result, Ok, Err, IsErrAnd, refl, sym, ap, ◌∙◌, append_assoc, suc, ◌^◌, Bool, ◌∷◌, subst, length-append, zero-add, arith, ◌*◌, true, inl, inr, IfSome, ◌⊎◌, Fault, Appends, Keeps, Consumes, IsAtEnd, take_rest, append-nil, Plain, IsPlain, after_call, IsCallError, Call, AppendsFront, Command, Apply, command_of, End, number_lines, Run, prepend, run_command, run_lines, IsLogText, Cause, Shortage, Output, Input, Misuse, cause_of, Goes, Fails, Logged, LoggedFirst, ended_by, CommandNeeds, LinesNeed, Needs, ReadsTo, after_reset, IsV2, HasTooGreatCount, IsIntervalText, NotACommand, NotWritten, NoMemory, Consumes-trans}
+use Rattle.hdr_tool.proofs.Common.{◌≡◌, ◌<◌, ℕ, ◌+◌, ◌-◌, List, [], ◌++◌, length, take, drop, Option, Some, None, Result, Ok, Err, IsErrAnd, refl, sym, ap, ◌∙◌, append_assoc, suc, ◌^◌, Bool, ◌∷◌, subst, length-append, zero-add, arith, ◌*◌, true, inl, inr, IfSome, ◌⊎◌, Fault, Appends, Keeps, Consumes, IsAtEnd, take_rest, append-nil, Plain, IsPlain, after_call, IsCallError, Call, AppendsFront, Command, Apply, command_of, End, number_lines, Run, prepend, run_command, run_lines, IsLogText, Cause, Shortage, Output, Input, Misuse, cause_of, Goes, Fails, Logged, LoggedFirst, ended_by, CommandNeeds, LinesNeed, Needs, ReadsTo, after_reset, IsV2, HasTooGreatCount, IsIntervalText, NotACommand, NotWritten, NoMemory, Consumes-trans}
 use Rattle.std.proofs.Math.Seq.{take-add}
 use Rattle.hdr_tool.specs.Commands.{command_of_name}
 use Rattle.hdr_tool.specs.Program.{Interval}
@@ -120,6 +120,12 @@ pub command_line : (is_log : Bool) (h : Plain) (k : ℕ) (line : List ℕ) (more
 unfolding command_of_name
 command_line is_log h k [] more c e = absurd (let f : None ≡ Some c = e in cc)
 command_line is_log h k (b ∷ line) more c e = rw e refl
+
+-- a line that is not a command
+pub other_line : (is_log : Bool) (h : Plain) (k : ℕ) (line : List ℕ) (more : List (ℕ × List ℕ)) → 0 < length line → command_of line ≡ None → run_lines is_log h ((k, line) ∷ more) ≡ ended_by (Err (NotACommand k))
+unfolding command_of_name
+other_line is_log h k [] more some e = absurd (omega (arith, some))
+other_line is_log h k (b ∷ line) more some e = rw e refl
 
 -- the line of a call
 pub call_line : (is_log : Bool) (h new : Plain) (k : ℕ) (line : List ℕ) (more : List (ℕ × List ℕ)) (call : Call ℕ) → command_of line ≡ Some (Apply call) → new ≡ after_call (2 ^ 64 - 1) (λ n. n) call h

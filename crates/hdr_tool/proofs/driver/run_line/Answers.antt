@@ -1,5 +1,6 @@
-use Rattle.hdr_tool.proofs.Common.{ℕ, List, ◌∷◌, Some, refl, sym, ap, ◌∙◌, true, option_map, Plain, tag_text, sink, NoMemory, End, Run, run_command, run_lines, LinesNeed}
-use Rattle.hdr_tool.proofs.OutcomesRuns.{and_then, command_line, call_line, short, next_line, no_command, command_needs, call_refused, call_passed, by_need, keeps}
+use Rattle.hdr_tool.proofs.Common.{◌<◌, length, arith, ℕ, List, ◌∷◌, Some, refl, sym, ap, ◌∙◌, true, option_map, Plain, tag_text, sink, NoMemory, End, Run, run_command, run_lines, LinesNeed}
+use Rattle.std.proofs.lemmas.Bool.Decides.{nat_tests}
+use Rattle.hdr_tool.proofs.OutcomesRuns.{and_then, command_line, other_line, call_line, short, next_line, no_command, command_needs, call_refused, call_passed, by_need, keeps}
 use Rattle.hdr_tool.proofs.driver.run_line.Goals as goal
 
 pub returns-in-Ok-clause-goes : goal.returns-in-Ok-clause-goes
@@ -42,3 +43,9 @@ returns-in-Some-End-clause-memory g c =
     let command = End c.in-Some-End.start c.in-Some-End.duration (option_map tag_text c.in-Some-End.tag) in
     by_need (λ more. LinesNeed c.args.is_log c.args.histogram.now ((c.args.number, c.args.line.now) ∷ more)) (LinesNeed c.args.is_log c.end.new.histogram) c.end.result
     (λ more. command_needs c.args.is_log c.args.histogram.now c.args.number c.args.line.now more command (sym (rw c.in-Some-End.field-0-is at c.in-Some-End.ensures)) (rw c.if-is_log.true tt))
+
+pub returns-in_default-2-clause-goes : goal.returns-in_default-2-clause-goes
+returns-in_default-2-clause-goes g c =
+    let full : 0 < length c.args.line.now = grind (arith, nat_tests, sym c.is_empty.ensures ∙ c.if-is_empty.false) in
+    no_command (λ more. run_lines c.args.is_log c.args.histogram.now ((c.args.number, c.args.line.now) ∷ more)) c.args.number (g.W.Write.contents (sink c.args.log.now).now)
+    (λ more. other_line c.args.is_log c.args.histogram.now c.args.number c.args.line.now more full (sym (rw c.in_default.is at c.parse.ensures)))
