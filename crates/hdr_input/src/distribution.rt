@@ -45,7 +45,8 @@ impl Distribution {
         // The sample of the quantile's rank is at or below it, since no sample is above the
         // greatest number.
         ensures samples { (S : List ℕ) → StandsFor self.now.histogram S → 0 < length S
-            → 0 < quantile.num → ranked_sample quantile S ≤ self.now.max → ranked_sample quantile S ≤ result }
+            → 0 < quantile.num → ranked_sample quantile S ≤ self.now.max
+            → ranked_sample quantile S ≤ result }
     {
         self.histogram
             .value_at_quantile(quantile)

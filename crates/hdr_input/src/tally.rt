@@ -110,7 +110,8 @@ impl Tally {
     #[inline(always)]
     pub fn record(&mut self, number: Number) -> Result<(), Cause>
         ensures plain { OnOk result (self.old.decimals ≡ Some number.decimals
-            → self.old.interval ≡ 0 → self.new.histogram ≡ after_record (2 ^ 64 - 1) self.old.histogram number.digits 1) }
+            → self.old.interval ≡ 0
+            → self.new.histogram ≡ after_record (2 ^ 64 - 1) self.old.histogram number.digits 1) }
         ensures other { OnOk result ((decimals : ℕ) → self.old.decimals ≡ Some decimals
             → (decimals ≢ number.decimals) ⊎ (0 < self.old.interval) → self.new.histogram
             ≡ after_correct (2 ^ 64 - 1) self.old.histogram

@@ -1,1 +1,2 @@
-{ "$1" summary 2>err; echo $? >status; } | :; cat err status; rm err status
+# The reader of the output has ended: nothing is printed. (It ends in less than the second that is waited.)
+{ { sleep 1; "$1" summary 2>&3; echo $? >&3; } | :; } 3>&1
