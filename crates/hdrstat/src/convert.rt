@@ -75,9 +75,9 @@ pub(crate) fn convert(rt: &HostRuntime, matches: &ArgMatches<'_>) -> Result<Exit
         failed: None,
     };
     let read = read_log_lines(rt, names, &mut conversion);
-    if let Some(error) = conversion.failed {
-        return Err(error);
+    let Conversion { failed, .. } = conversion;
+    match failed {
+        Some(error) => Err(error),
+        None => read.map(|()| ExitCode::SUCCESS),
     }
-    read?;
-    Ok(ExitCode::SUCCESS)
 }
