@@ -159,7 +159,7 @@ pub(crate) fn value_line(text: &[u8]) -> Option<(Call<'static, u64>, &[u8])>
     ensures { IfSome result (λ p. FirstLine text.now
         (λ line. command_of line ≡ Some (Apply p.0)) p.1.now) }
 {
-    let [name, b' ', fields @ ..] = text else {
+    let [name @ b'c'..=b's', b' ', fields @ ..] = text else {
         return None;
     };
     let (value, second, after) = numbers(fields)?;
