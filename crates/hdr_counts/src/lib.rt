@@ -55,20 +55,8 @@ impl<T: Counter> Counts<T> {
         requires at_most { blocks * block ≤ most_bins }
         ensures { IfOk result (λ c. c ≡ zero_blocks blocks block) }
     {
-        let len = blocks * block;
-        let section = section_len(block, len);
-        let sections = len / section;
-        let mut counters = Vec::with_capacity(alloc, len)?;
-        counters.resize(len, T::zero())?;
-        let mut sums = Vec::with_capacity(alloc, sections)?;
-        sums.resize(sections, 0)?;
-        Ok(Counts {
-            counters,
-            sums,
-            block,
-            section,
-            shift: exponent(section),
-        })
+        let builder = CountsBuilder::new(alloc, blocks, block)?;
+        Ok(builder.into_counts())
     }
 
     /// Grows to `blocks` blocks; the new counters are 0. Returns an error only if an allocation
@@ -261,11 +249,8 @@ impl<T: Counter> Counts<T> {
         ensures { IsFirstToReach self.now.numbers (sum_before self.now k + rest) result }
     {
         let from = k * self.section;
-        match position_of_rank(
-            &self.counters[from..from + self.section],
-            rest,
-            self.sums[k],
-        ) {
+        let counters = &self.counters[from..from + self.section];
+        match position_of_rank(counters, rest, self.sums[k]) {
             Some(place) => from + place,
             None => from,
         }
@@ -316,11 +301,7 @@ fn exponent(n: usize) -> Option<u32>
     ensures { IsShift n result }
 {
     let exponent = n.ilog2();
-    if 1usize << exponent == n {
-        Some(exponent)
-    } else {
-        None
-    }
+    (1usize << exponent == n).then_some(exponent)
 }
 
 /// Returns `sum` with its number `old` replaced by `new`.
@@ -329,11 +310,7 @@ fn exchanged(sum: u128, old: u64, new: u64) -> u128
     requires fits { sum + new < 2 ^ 128 }
     ensures { result ≡ sum - old + new }
 {
-    if new < old {
-        sum - u128::from(old - new)
-    } else {
-        sum + u128::from(new - old)
-    }
+    sum - u128::from(old) + u128::from(new)
 }
 
 /// Returns `place / section`, by a shift if `section` is a power of two.
