@@ -2,11 +2,7 @@
 use Rattle.std.proofs.Common.{◌≡◌, ℕ, zero, suc, ◌+◌, ◌*◌, ◌<◌, ◌≤◌, max, true, sum, Option, Some, None, List, [], ◌∷◌, ◌++◌, length, get_or, take, refl, sym, ap, ◌∙◌, arith, inl, inr}
 use Rattle.std.proofs.lemmas.Bool.{cases_lt}
 use Rattle.hdr_base.specs.Classes.{Resolution, value_of, top_of}
-use Rattle.std.proofs.lemmas.List.{get_or_past}
 use Rattle.std.proofs.lemmas.List.Sums.{sum_by-cons}
-use Rattle.hdr_counts.specs.Blocks.{sum_below}
-use Rattle.hdr_counts.proofs.BlocksSums.{sum_below_all}
-use Rattle.hdr_model.specs.Marks.{IsTopMark}
 use Rattle.hdr_model.specs.Statistics.{median_of, weight_from}
 use Rattle.hdr_model.specs.Equality.{same_numbers}
 use Rattle.hdr_model.specs.Correction.{missing, each_times}
@@ -80,15 +76,3 @@ sum-zeros zero (suc b) (n ∷ ns) le none =
 sum-zeros (suc a) zero (n ∷ ns) le none = absurd (omega arith)
 sum-zeros (suc a) (suc b) (n ∷ ns) le none =
     omega (arith, sum_by-cons (λ x. x) n (take b ns), sum_by-cons (λ x. x) n (take a ns), sum-zeros a b ns (omega arith) (λ i from to. none (suc i) (omega arith) (omega arith)))
-
--- the sum of numbers up to the last nonzero one is that of all
-pub top-inside : (ns : List ℕ) (top : ℕ) → IsTopMark ns (Some top) → top < length ns
-top-inside ns top h = elim (cases_lt top (length ns)) [ inl lt ↦ lt | inr ge ↦ absurd (omega (arith, h.0, get_or_past ns top 0 ge)) ]
-
-pub top-total : (ns : List ℕ) (top : ℕ) → IsTopMark ns (Some top) → sum_below ns (top + 1) ≡ sum ns
-top-total ns top h =
-    let b = length ns + (top + 1) in
-    sym (sum-zeros (top + 1) b ns (omega arith) (λ i from to. h.1 i (omega arith))) ∙ sum_below_all ns b (omega arith)
-
-pub no-total : (ns : List ℕ) → IsTopMark ns None → sum ns ≡ 0
-no-total ns none = sym (sum_below_all ns (length ns) (omega arith)) ∙ sum-zeros 0 (length ns) ns (omega arith) (λ i from to. none i)

@@ -55,8 +55,20 @@ impl<T: Counter> Counts<T> {
         requires at_most { blocks * block ≤ most_bins }
         ensures { IfOk result (λ c. c ≡ zero_blocks blocks block) }
     {
-        let builder = CountsBuilder::new(alloc, blocks, block)?;
-        Ok(builder.into_counts())
+        let len = blocks * block;
+        let section = section_len(block, len);
+        let sections = len / section;
+        let mut counters = Vec::with_capacity(alloc, len)?;
+        counters.resize(len, T::zero())?;
+        let mut sums = Vec::with_capacity(alloc, sections)?;
+        sums.resize(sections, 0)?;
+        Ok(Counts {
+            counters,
+            sums,
+            block,
+            section,
+            shift: exponent(section),
+        })
     }
 
     /// Grows to `blocks` blocks; the new counters are 0. Returns an error only if an allocation

@@ -1,6 +1,6 @@
 //! Setting bins, with the total and the marks computed once at the end.
 
-ghost use Rattle.std.specs.Prelude.{◌≡◌, ◌+◌, ◌<◌, ◌≤◌, ◌-◌, ◌^◌, MatchResult, true, false, length, min, sum, slice_set};
+ghost use Rattle.std.specs.Prelude.{◌≡◌, ◌+◌, ◌<◌, ◌≤◌, MatchResult, true, false, length, slice_set};
 ghost use Rattle.hdr_base.specs.Classes.{most_bins};
 ghost use Rattle.hdr_model.specs.Unfinished.{unfinished_of, IsClosed};
 ghost use Rattle.hdr_model.specs.Marks.{IsTopMark, IsLowerMark};
@@ -9,9 +9,10 @@ ghost use Rattle.hdr_model.specs.Refusals.{IsCreationError, IsBounds};
 
 use super::Histogram;
 use super::bounds::{Bounds, scale_for};
+use super::merging::capped_sum;
 use crate::marks::Marks;
-use hdr_base::{Counter, Scale, saturating_from};
-use hdr_counts::{Counts, CountsBuilder};
+use hdr_base::{Counter, Scale};
+use hdr_counts::CountsBuilder;
 use hdr_model::CreationError;
 use std::alloc::Global;
 use std::marker::Model;
@@ -121,7 +122,7 @@ impl<T: Counter> HistogramBuilder<T> {
         Histogram {
             scale: self.scale,
             bounds: self.bounds,
-            total: sum_to_top(&counts, marks.top()),
+            total: capped_sum(&counts),
             counts,
             marks,
         }
@@ -134,16 +135,4 @@ fn marks_of<T: Counter>(counts: &CountsBuilder<T>) -> Marks
     ensures lower { IsLowerMark counts.now.numbers result.lower }
 {
     Marks::new(counts.last_nonzero(), counts.next_nonzero())
-}
-
-/// Returns the sum of the counters, saturated at `u64::MAX`. `top` is the index of the last nonzero
-/// one; no sum of a section after it is read.
-fn sum_to_top<T: Counter>(counts: &Counts<T>, top: Option<usize>) -> u64
-    requires { IsTopMark counts.now.numbers top }
-    ensures { result ≡ min (sum counts.now.numbers) (2 ^ 64 - 1) }
-{
-    match top {
-        Some(top) => saturating_from(counts.sum_to(top)),
-        None => 0,
-    }
 }
