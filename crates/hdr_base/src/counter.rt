@@ -14,11 +14,17 @@ pub trait Counter: Copy + Ord {
 
     /// The counter of 0.
     fn zero() -> Self
-        ensures { number result ≡ 0 };
+        ensures { number result ≡ 0 }
+    {
+        Self::from_u64(0).unwrap_or(Self::max_value())
+    }
 
     /// The counter of 1.
     fn one() -> Self
-        ensures { number result ≡ 1 };
+        ensures { number result ≡ 1 }
+    {
+        Self::from_u64(1).unwrap_or(Self::max_value())
+    }
 
     /// The counter of the greatest number.
     fn max_value() -> Self
@@ -85,14 +91,6 @@ impl Counter for u8 {
 
     ghost compared = { λ a b. refl };
 
-    fn zero() -> u8 {
-        0
-    }
-
-    fn one() -> u8 {
-        1
-    }
-
     fn max_value() -> u8 {
         u8::MAX
     }
@@ -120,14 +118,6 @@ impl Counter for u16 {
     ghost ordered = { λ a b. refl };
 
     ghost compared = { λ a b. refl };
-
-    fn zero() -> u16 {
-        0
-    }
-
-    fn one() -> u16 {
-        1
-    }
 
     fn max_value() -> u16 {
         u16::MAX
@@ -157,14 +147,6 @@ impl Counter for u32 {
 
     ghost compared = { λ a b. refl };
 
-    fn zero() -> u32 {
-        0
-    }
-
-    fn one() -> u32 {
-        1
-    }
-
     fn max_value() -> u32 {
         u32::MAX
     }
@@ -192,14 +174,6 @@ impl Counter for u64 {
     ghost ordered = { λ a b. refl };
 
     ghost compared = { λ a b. refl };
-
-    fn zero() -> u64 {
-        0
-    }
-
-    fn one() -> u64 {
-        1
-    }
 
     fn max_value() -> u64 {
         u64::MAX

@@ -113,16 +113,9 @@ impl<T: Counter> PartialEq for IterationValue<T> {
 
     fn eq(&self, other: &IterationValue<T>) -> bool {
         self.value == other.value
-            && are_same(self.quantile, other.quantile)
-            && are_same(self.tick, other.tick)
+            && self.quantile == other.quantile
+            && self.tick == other.tick
             && self.count_at.as_u64() == other.count_at.as_u64()
             && self.count_since == other.count_since
     }
-}
-
-/// Whether two fractions have the same numerator and the same denominator.
-fn are_same(left: Fraction, right: Fraction) -> bool
-    ensures { result ≡ same_ratio left right }
-{
-    left.num == right.num && left.den == right.den
 }

@@ -1,5 +1,5 @@
 -- One call keeps what is true of every histogram, and takes what it stands for to what the call makes of it.
-use Rattle.std.proofs.Common.{◌≡◌, ℕ, ◌≤◌, cond, eqb, List, ◌++◌, length, replicate, sym, ap, subst, ◌∙◌}
+use Rattle.std.proofs.Common.{◌≡◌, ℕ, ◌≤◌, Result, Ok, Err, OnOk, IfErr, cond, eqb, List, ◌++◌, length, replicate, sym, ap, subst, ◌∙◌}
 use Rattle.hdr_base.specs.Classes.{Resolution, reach_of}
 use Rattle.hdr_model.specs.Plain.{Plain, IsPlain, resolution, max_of}
 use Rattle.hdr_model.specs.Recording.{clamp_to_bins, high_with, clamp}
@@ -17,6 +17,11 @@ use Rattle.hdr_model.proofs.RecordingClears.{IsPlain-cleared, clamped-is, clampe
 use Rattle.hdr_model.proofs.MergingCorrects.{StandsFor-one-corrected, StandsFor-merged_corrected, merged_corrected-high, resolution-merged_corrected}
 use Rattle.hdr_model.proofs.MergingOrder.{max-small, highest-small}
 use Rattle.hdr_model.proofs.PlainAfter.{IsPlain-recorded, IsPlain-corrected, IsPlain-restarted, IsPlain-merged, IsPlain-merged_corrected}
+
+-- what follows from either result of a call
+pub either : {X E A B G : Type 0} (Q : E → Type 0) (r : Result X E) → OnOk r A → IfErr r (λ e. Q e × B) → (A → G) → (B → G) → G
+either Q (Ok x) ok err done failed = done ok
+either Q (Err e) ok err done failed = failed err.1
 
 -- ---- what is true of every histogram
 

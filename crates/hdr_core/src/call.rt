@@ -66,20 +66,14 @@ impl<T: Counter> Histogram<T> {
             × (self.new ≡ self.old)) }
     {
         match call {
-            Call::Record(value, count) => match self.record_n(*value, *count) {
-                Ok(()) => Ok(()),
-                Err(e) => Err(CallError::Record(e)),
-            },
+            Call::Record(value, count) => self.record_n(*value, *count).map_err(CallError::Record),
             Call::Clamp(value, count) => {
                 self.saturating_record_n(*value, *count);
                 Ok(())
             }
-            Call::Correct(value, count, interval) => match self.record_n_correct(
-                *value, *count, *interval,
-            ) {
-                Ok(()) => Ok(()),
-                Err(e) => Err(CallError::Record(e)),
-            },
+            Call::Correct(value, count, interval) => self
+                .record_n_correct(*value, *count, *interval)
+                .map_err(CallError::Record),
             Call::Clear => {
                 self.clear();
                 Ok(())
@@ -88,14 +82,10 @@ impl<T: Counter> Histogram<T> {
                 self.reset();
                 Ok(())
             }
-            Call::Add(source) => match self.add(source) {
-                Ok(()) => Ok(()),
-                Err(e) => Err(CallError::Addition(e)),
-            },
-            Call::AddCorrect(source, interval) => match self.add_correct(source, *interval) {
-                Ok(()) => Ok(()),
-                Err(e) => Err(CallError::Record(e)),
-            },
+            Call::Add(source) => self.add(source).map_err(CallError::Addition),
+            Call::AddCorrect(source, interval) => self
+                .add_correct(source, *interval)
+                .map_err(CallError::Record),
         }
     }
 

@@ -41,16 +41,10 @@ impl<T: Counter> Histogram<T> {
     {
         match call {
             CallFrom::Own(call) => self.apply(call),
-            CallFrom::AddFrom(source) => match self.add_from(source) {
-                Ok(()) => Ok(()),
-                Err(e) => Err(CallError::Addition(e)),
-            },
-            CallFrom::AddCorrectFrom(source, interval) => {
-                match self.add_correct_from(source, *interval) {
-                    Ok(()) => Ok(()),
-                    Err(e) => Err(CallError::Record(e)),
-                }
-            }
+            CallFrom::AddFrom(source) => self.add_from(source).map_err(CallError::Addition),
+            CallFrom::AddCorrectFrom(source, interval) => self
+                .add_correct_from(source, *interval)
+                .map_err(CallError::Record),
         }
     }
 

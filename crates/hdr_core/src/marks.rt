@@ -45,8 +45,8 @@ impl Marks {
         ensures { result ≡ record { top = top; lower = lower } }
     {
         Marks {
-            classes: classes_to(top),
-            before: before(lower),
+            classes: top.map_or(0, |class| class + 1),
+            before: lower.map_or(usize::MAX, |class| class - 1),
         }
     }
 
@@ -74,7 +74,8 @@ impl Marks {
         self.before.checked_add(1)
     }
 
-    /// Widens both marks by a class, which seldom lies outside them. The first class widens no lower mark.
+    /// Widens both marks to include `class`. Class 0 never becomes the lower mark. The fast path is
+    /// a class that both include already.
     #[inline(always)]
     pub(crate) fn widen(&mut self, class: usize)
         requires { class < 2 ^ 32 }
@@ -124,27 +125,5 @@ impl Marks {
     {
         self.classes = self.classes.max(other.classes);
         self.before = self.before.min(other.before);
-    }
-}
-
-/// Returns the number of classes up to a top mark, or 0 for none.
-fn classes_to(top: Option<usize>) -> usize
-    requires { IfSome top (λ i. i < 2 ^ 32) }
-    ensures { top_by result ≡ top }
-{
-    match top {
-        Some(class) => class + 1,
-        None => 0,
-    }
-}
-
-/// Returns the number of the class before a lower mark, or `usize::MAX` for none.
-fn before(lower: Option<usize>) -> usize
-    requires { IfSome lower (λ i. (0 < i) × (i < 2 ^ 32)) }
-    ensures { lower_by result ≡ lower }
-{
-    match lower {
-        Some(class) => class - 1,
-        None => usize::MAX,
     }
 }

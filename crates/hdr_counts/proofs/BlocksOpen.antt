@@ -1,5 +1,5 @@
 -- Counters that are being set, with the sums of their blocks.
-use Rattle.std.proofs.Common.{◌≡◌, ◌≢◌, ℕ, ◌+◌, ◌-◌, ◌*◌, ◌/◌, ◌^◌, ◌<◌, ◌≤◌, ◌++◌, List, [], ◌∷◌, Option, length, get_or, set, take, drop, min, map, replicate, sum, append_assoc, refl, zero, suc, sym, ap, ◌∙◌, subst, arith, ⊎_elim}
+use Rattle.std.proofs.Common.{◌≡◌, ◌≢◌, ℕ, ◌+◌, ◌-◌, ◌*◌, ◌/◌, ◌^◌, ◌<◌, ◌≤◌, ◌++◌, List, [], ◌∷◌, Option, Some, None, IfSome, MatchOption, length, get_or, set, take, drop, min, map, replicate, sum, append_assoc, refl, zero, suc, sym, ap, ◌∙◌, subst, arith, ⊎_elim}
 use Rattle.std.specs.List.{All}
 use Rattle.std.proofs.lemmas.Bool.{cases_lt}
 use Rattle.std.proofs.lemmas.List.{length-set, length-append, length-replicate, get_or-set_other, get_or_append_left, get_or-append_right, get_or-take, get_or-drop, get_or_past, drop-map, ext_get_or, length-take, length-map, take-map, set-append_left, replicate-append-replicate, take_all}
@@ -283,6 +283,13 @@ open-last f xs b k next end first len m h inside (some, above) = (
       (λ (ge : next ≤ i). at-open (map f xs) len i ∙ h.rest i ge)
       (cases_lt i next),
 )
+
+-- what a search of the prefix before `next` found
+pub open-found : {X : Type 0} (f : X → ℕ) (xs ys : List X) (b k next end first len : ℕ) (r : Option ℕ) → IsAt b k next end first (map f xs) → ys ≡ xs → IfSome r (λ m. m < length (take next ys))
+    → MatchOption r (AreZeros (map f (take next ys))) (IsLastNonzero (map f (take next ys))) → MatchOption r (AreZeros (with_zeros (map f xs) len)) (IsLastNonzero (with_zeros (map f xs) len))
+open-found f xs ys b k next end first len None h is inside zeros = open-none-set f xs b k next end first len h (subst (λ l. AreZeros (map f (take next l))) is zeros)
+open-found f xs ys b k next end first len (Some m) h is inside last =
+    open-last f xs b k next end first len m h (omega (arith, inside, length-take next ys)) (subst (λ l. IsLastNonzero (map f (take next l)) m) is last)
 
 -- after index 0, a number outside the part from the lower of `first` and `next` up to `next` is 0
 outside : {X : Type 0} (f : X → ℕ) (xs : List X) (b k next end first len from i : ℕ) → IsAt b k next end first (map f xs) → from ≡ min first next → 0 < i → i < from → get_or (with_zeros (map f xs) len) i 0 ≡ 0

@@ -87,22 +87,14 @@ impl<T: Counter> CountsBuilder<T> {
         ensures { result ≡ cleared counts }
     {
         counts.clear();
-        let Counts {
-            counters,
-            sums,
-            block,
-            section,
-            shift,
-        } = counts;
-        let len = counters.len();
         CountsBuilder {
-            counters,
-            sums,
+            len: counts.counters.len(),
+            counters: counts.counters,
+            sums: counts.sums,
             sum: 0,
-            block,
-            section,
-            shift,
-            len,
+            block: counts.block,
+            section: counts.section,
+            shift: counts.shift,
             current: 0,
             next: 0,
             end: 0,
@@ -189,10 +181,7 @@ impl<T: Counter> CountsBuilder<T> {
             (λ m. (0 < slice_index self.now.numbers m)
             × ((i : ℕ) → m < i → slice_index self.now.numbers i ≡ 0)) }
     {
-        match last_of(&self.counters[..self.next], u128::MAX) {
-            Some(place) => Some(place),
-            None => None,
-        }
+        last_of(&self.counters[..self.next], u128::MAX)
     }
 
     /// Returns the index of the first nonzero counter after counter 0.
@@ -203,38 +192,23 @@ impl<T: Counter> CountsBuilder<T> {
             × ((i : ℕ) → 0 < i → i < m → slice_index self.now.numbers i ≡ 0)) }
     {
         let from = self.first.min(self.next);
-        match first_nonzero(&self.counters[from..self.next]) {
-            Some(place) => Some(from + place),
-            None => None,
-        }
+        let place = first_nonzero(&self.counters[from..self.next])?;
+        Some(from + place)
     }
 
     /// Returns the counters with the sums of their sections.
-    pub fn into_counts(self) -> Counts<T>
+    pub fn into_counts(mut self) -> Counts<T>
         ensures value { result ≡ self }
         ensures fit { All (λ n. n ≤ T.greatest) self.numbers }
     {
-        let CountsBuilder {
-            mut counters,
-            mut sums,
-            sum,
-            block,
-            section,
-            shift,
-            len,
-            current,
-            next: _,
-            end: _,
-            first: _,
-        } = self;
-        fill_up(&mut counters, len);
-        keep_sum(&mut sums, current, sum);
+        fill_up(&mut self.counters, self.len);
+        keep_sum(&mut self.sums, self.current, self.sum);
         Counts {
-            counters,
-            sums,
-            block,
-            section,
-            shift,
+            counters: self.counters,
+            sums: self.sums,
+            block: self.block,
+            section: self.section,
+            shift: self.shift,
         }
     }
 }

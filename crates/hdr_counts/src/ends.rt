@@ -29,11 +29,7 @@ impl<T: Counter> Counts<T> {
             × ((i : ℕ) → 0 < i → i < m → slice_index self.now.numbers i ≡ 0)) }
     {
         let place = self.next_filled(self.len().min(1));
-        if place < self.len() {
-            Some(place)
-        } else {
-            None
-        }
+        (place < self.len()).then_some(place)
     }
 
     /// Returns the index of the first nonzero counter from `from` on, or `len()` if there is none.

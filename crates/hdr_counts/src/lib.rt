@@ -261,11 +261,8 @@ impl<T: Counter> Counts<T> {
         ensures { IsFirstToReach self.now.numbers (sum_before self.now k + rest) result }
     {
         let from = k * self.section;
-        match position_of_rank(
-            &self.counters[from..from + self.section],
-            rest,
-            self.sums[k],
-        ) {
+        let counters = &self.counters[from..from + self.section];
+        match position_of_rank(counters, rest, self.sums[k]) {
             Some(place) => from + place,
             None => from,
         }
@@ -316,11 +313,7 @@ fn exponent(n: usize) -> Option<u32>
     ensures { IsShift n result }
 {
     let exponent = n.ilog2();
-    if 1usize << exponent == n {
-        Some(exponent)
-    } else {
-        None
-    }
+    (1usize << exponent == n).then_some(exponent)
 }
 
 /// Returns `sum` with its number `old` replaced by `new`.
@@ -329,11 +322,7 @@ fn exchanged(sum: u128, old: u64, new: u64) -> u128
     requires fits { sum + new < 2 ^ 128 }
     ensures { result ≡ sum - old + new }
 {
-    if new < old {
-        sum - u128::from(old - new)
-    } else {
-        sum + u128::from(new - old)
-    }
+    sum - u128::from(old) + u128::from(new)
 }
 
 /// Returns `place / section`, by a shift if `section` is a power of two.

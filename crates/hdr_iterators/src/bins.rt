@@ -116,10 +116,7 @@ impl<'a, T: Counter> Bins<'a, T> {
         requires { bin < bins_in self.now }
         ensures { result ≡ top_in self.now bin }
     {
-        match self.scale.bin_top(bin) {
-            Some(top) => top,
-            None => 0,
-        }
+        self.scale.bin_top(bin).unwrap_or(0)
     }
 
     /// Returns the bin of a value, or the last bin if the value is beyond the bins.

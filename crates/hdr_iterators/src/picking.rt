@@ -172,10 +172,7 @@ fn has_ended<T: Counter, P: PickyIterator<T>>(
     ensures end { (h : Seen) → P.goes_with picker.old h last_picked_index → last ≡ h.last
         → IsTrue result → P.picks picker.old h ≡ [] }
 {
-    let Some(picked) = last_picked_index else {
-        return false;
-    };
-    picked >= last && !picker.more(index)
+    last_picked_index.is_some_and(|picked| picked >= last) && !picker.more(index)
 }
 
 /// Returns the bin to call the picker at after it has declined one: the next bin, or the next nonempty one if it picks no

@@ -136,10 +136,7 @@ fn nanos(text: &[u8]) -> Option<u32>
 pub(crate) fn time(text: &[u8]) -> Option<Duration>
     ensures { option_map as_nanos result ≡ time_of text.now }
 {
-    let text = match text {
-        [b'+', rest @ ..] => rest,
-        _ => text,
-    };
+    let text = text.strip_prefix(b"+").unwrap_or(text);
     let (whole, fraction) = split_once(text, b'.')?;
     let seconds = number(whole)?;
     let nanos = nanos(fraction)?;

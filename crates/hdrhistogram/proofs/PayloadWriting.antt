@@ -2,7 +2,7 @@
 use Rattle.std.proofs.Common.{◌≡◌, ◌≢◌, ℕ, zero, suc, ◌+◌, ◌-◌, ◌*◌, ◌^◌, ◌<◌, ◌≤◌, Bool, true, false, cond, List, [], ◌∷◌, ◌++◌, length, take, drop, get_or, replicate, refl, sym, ap, ◌∙◌, subst, arith, append_assoc, append-nil, length-take-le, length-append, drop_of_length-le, take-append-drop, eqb, flat_map, pos, add-one, below_more, drop-cons, min, nat_lt, map, ⊎_elim}
 use Rattle.std.proofs.lemmas.Bool.{cases_lt, eqb-true, eqb-false, eq-eqb, ne_eqb, lt-ltb, le-ltb}
 use Rattle.std.proofs.lemmas.Grind.{get_or_default_zero}
-use Rattle.std.proofs.lemmas.List.{length-replicate, length-map, get_or-take, get_or-map, take-take}
+use Rattle.std.proofs.lemmas.List.{length-replicate, length-map, get_or-map, take-take}
 use Rattle.std.proofs.lemmas.List.Elements.{recursion_from_All}
 use Rattle.std.proofs.lemmas.List.Sums.{count_by_more_yes, count_by_more_no, sum_by-take-le}
 use Rattle.std.specs.List.{AllByRecursion}
@@ -341,7 +341,3 @@ pub run_spelt : (z : ℕ) (text : List ℕ) → 2 ≤ z → IsShortest text (2 *
 run_spelt zero text h s = absurd (omega arith)
 run_spelt (suc zero) text h s = absurd (omega arith)
 run_spelt (suc (suc z)) text h s = let e : 2 * (suc (suc z)) - 1 ≡ 2 * (suc z) + 1 = omega arith in subst (IsShortest text) e s
-
--- the count of a bin that is written
-pub count_here : (counts : List ℕ) (bins at count : ℕ) → at < bins → count ≡ get_or counts at 0 → count ≡ get_or (take bins counts) at 0
-count_here counts bins at count h e = e ∙ sym (get_or-take bins counts at 0 h)

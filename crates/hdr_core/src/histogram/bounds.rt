@@ -48,8 +48,5 @@ pub(super) fn scale_for(low: u64, high: u64, sigfig: u8) -> Result<Scale, Creati
     if sigfig > 5 {
         return Err(CreationError::SigFigExceedsMax);
     }
-    let Some(scale) = Scale::new(low, sigfig) else {
-        return Err(CreationError::CannotRepresentSigFigBeyondLow);
-    };
-    Ok(scale)
+    Scale::new(low, sigfig).ok_or(CreationError::CannotRepresentSigFigBeyondLow)
 }

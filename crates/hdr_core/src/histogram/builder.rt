@@ -68,16 +68,11 @@ impl<T: Counter> HistogramBuilder<T> {
             (empty_plain histogram.low histogram.high histogram.sigfig false))
             × IsBounds histogram.low histogram.high histogram.sigfig }
     {
-        let Histogram {
-            scale,
-            bounds,
-            counts,
-            ..
-        } = histogram;
+        let bounds = histogram.bounds;
         HistogramBuilder {
-            scale,
+            scale: histogram.scale,
             bounds: Bounds::fixed(bounds.low, bounds.high, bounds.sigfig),
-            counts: CountsBuilder::cleared(counts),
+            counts: CountsBuilder::cleared(histogram.counts),
         }
     }
 
@@ -122,19 +117,13 @@ impl<T: Counter> HistogramBuilder<T> {
     pub fn into_histogram(self) -> Histogram<T>
         ensures { IsClosed self result }
     {
-        let HistogramBuilder {
-            scale,
-            bounds,
-            counts,
-        } = self;
-        let marks = marks_of(&counts);
-        let counts = counts.into_counts();
-        let total = capped_sum(&counts);
+        let marks = marks_of(&self.counts);
+        let counts = self.counts.into_counts();
         Histogram {
-            scale,
-            bounds,
+            scale: self.scale,
+            bounds: self.bounds,
+            total: capped_sum(&counts),
             counts,
-            total,
             marks,
         }
     }

@@ -85,7 +85,7 @@ impl<T: Counter> Histogram<T> {
             × (ticks.new ≡ ticks.old)) }
     {
         self.record_n(value, count)?;
-        if hides(value, interval) {
+        if has_missing(value, interval) {
             self.add_missing(
                 value.saturating_sub(interval),
                 count.as_u64(),
@@ -122,8 +122,9 @@ impl<T: Counter> Histogram<T> {
         }
     }
 
-    /// Records those of these values that are at least `start`, and returns the next one below
-    /// them. All of them lie in one bucket, whose classes have one width.
+    /// Records the values `first`, `first - interval`, .. that are at least `start`, and returns
+    /// the next one, which is below `start`. Those recorded lie in one bucket, whose classes have
+    /// one width.
     fn add_in_bucket(
         &mut self,
         first: u64,
@@ -161,21 +162,21 @@ impl<T: Counter> Histogram<T> {
         let few = (width / interval).saturating_sub(1);
         let mut next = first;
         while next >= start {
-            let members = members(next, width, interval, few);
-            self.add_counted(bin + (next / width) as usize, members, count, ticks);
-            next -= members * interval;
+            let values = values_in_class(next, width, interval, few);
+            self.add_counted(bin + (next / width) as usize, values, count, ticks);
+            next -= values * interval;
         }
         next
     }
 
-    /// Adds `members` of a class, `count` times each, to its bin, and counts one tick.
-    fn add_counted(&mut self, bin: usize, members: u64, count: u64, ticks: &mut Ticks)
+    /// Adds `values * count` to `bin`, saturating, and counts one tick.
+    fn add_counted(&mut self, bin: usize, values: u64, count: u64, ticks: &mut Ticks)
         requires bin { bin < length self.old.counts }
         requires ticks_fit { ticks.old < 2 ^ 64 - 1 }
-        ensures state { self.new ≡ after_add_to_bin T.greatest self.old bin (members * count) }
+        ensures state { self.new ≡ after_add_to_bin T.greatest self.old bin (values * count) }
         ensures ticks { ticks.new ≡ ticks.old + 1 }
     {
-        let number = u128::from(members) * u128::from(count);
+        let number = u128::from(values) * u128::from(count);
         if number <= u128::from(u64::MAX) {
             self.add_to_bin(bin, number as u64);
         } else {
@@ -187,7 +188,7 @@ impl<T: Counter> Histogram<T> {
 
 /// Whether samples may be missing before `value`, an interval apart; if not, none are.
 #[inline(always)]
-pub(super) fn hides(value: u64, interval: u64) -> bool
+pub(super) fn has_missing(value: u64, interval: u64) -> bool
     ensures step { result ≡ true → 0 < interval }
     ensures none { result ≡ false → missing value interval ≡ [] }
 {
@@ -196,7 +197,7 @@ pub(super) fn hides(value: u64, interval: u64) -> bool
 
 /// Returns the number of values in the class of `next`, from it on down to the interval, an
 /// interval apart.
-fn members(next: u64, width: u64, interval: u64, few: u64) -> u64
+fn values_in_class(next: u64, width: u64, interval: u64, few: u64) -> u64
     requires nonzero { (0 < interval) × (interval ≤ next) × (0 < width) }
     requires fits { few * interval < 2 ^ 64 }
     ensures { result ≡ min (next % width) (next - interval) / interval + 1 }

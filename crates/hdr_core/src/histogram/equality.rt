@@ -72,10 +72,8 @@ fn same_numbers<T: Counter, F: Counter>(
 fn number_at<T: Counter>(counts: &Counts<T>, index: usize) -> u64
     ensures { result ≡ slice_index counts.now.numbers index }
 {
-    counts
-        .as_slice()
-        .get(index)
-        .map_or(0, |counter| counter.as_u64())
+    let counter = counts.as_slice().get(index);
+    counter.map_or(0, |counter| counter.as_u64())
 }
 
 /// Whether two slices of one length hold the same numbers; compares `FEW` at once.

@@ -14,7 +14,7 @@ use std::alloc::AllocError;
 impl<T: Counter> Histogram<T> {
     /// Makes bins up to `value` if it has none, and sets `high` to its reach. On error `self` is
     /// unchanged.
-    pub(super) fn cover(&mut self, value: u64) -> Result<(), RecordError>
+    pub(super) fn resize_for(&mut self, value: u64) -> Result<(), RecordError>
         ensures ok { OnOk result (self.new ≡ with_bins_for self.old value) }
         ensures plain { IsPlain T.greatest self.old }
         ensures accepted { OnOk result (IsRecordable self.old value) }
@@ -22,19 +22,19 @@ impl<T: Counter> Histogram<T> {
             × (self.new ≡ self.old)) }
     {
         let high = self.scale.reach(value);
-        self.cover_to(value, high)?;
+        self.resize_to(value, high)?;
         Ok(())
     }
 
     /// Makes bins up to `value` if it has none, and sets `high` to `value`. On error `self` is
     /// unchanged.
-    pub(super) fn make_room(&mut self, value: u64) -> Result<(), AdditionError>
+    pub(super) fn resize_for_add(&mut self, value: u64) -> Result<(), AdditionError>
         ensures ok { OnOk result (self.new ≡ with_room self.old value) }
         ensures plain { IsPlain T.greatest self.old }
         ensures accepted { OnOk result (IsRecordable self.old value) }
         ensures err { IfErr result (λ e. IsResizeError self.old value e × (self.new ≡ self.old)) }
     {
-        match self.cover_to(value, value) {
+        match self.resize_to(value, value) {
             Ok(()) => Ok(()),
             Err(RecordError::OutOfMemory) => Err(AdditionError::OutOfMemory),
             Err(_) => Err(AdditionError::OtherAddendValueExceedsRange),
@@ -43,7 +43,7 @@ impl<T: Counter> Histogram<T> {
 
     /// Makes bins up to the argument `high` if `value` has none, and stores `high`. On error `self`
     /// is unchanged.
-    fn cover_to(&mut self, value: u64, high: u64) -> Result<(), RecordError>
+    fn resize_to(&mut self, value: u64, high: u64) -> Result<(), RecordError>
         requires { value ≤ high }
         ensures ok { OnOk result (((value ≤ reach self.old) × (self.new ≡ self.old))
             ⊎ ((reach self.old < value) × (self.new ≡ with_bins_to self.old high))) }
@@ -61,8 +61,8 @@ impl<T: Counter> Histogram<T> {
         self.grow(high).map_err(|_| RecordError::OutOfMemory)
     }
 
-    /// Makes bins up to the reach of `high`, a value past them, and stores it as `high`. Returns an
-    /// error if the allocation fails; `self` is then unchanged.
+    /// Makes bins up to the reach of the argument `high`, which has no bin yet, and stores it as
+    /// the bound `high`. Returns an error if the allocation fails; `self` is then unchanged.
     fn grow(&mut self, high: u64) -> Result<(), AllocError>
         requires { reach self.old < high }
         ensures { MatchResult result (λ _. self.new ≡ with_bins_to self.old high)

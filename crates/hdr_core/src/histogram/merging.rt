@@ -63,7 +63,7 @@ impl<T: Counter> Histogram<T> {
         if source.total == 0 {
             return Ok(());
         }
-        self.make_room(source.max())?;
+        self.resize_for_add(source.max())?;
         self.take_in(source);
         Ok(())
     }
@@ -82,7 +82,7 @@ impl<T: Counter> Histogram<T> {
             self.reset();
             return Ok(());
         }
-        match self.make_room(source.max()) {
+        match self.resize_for_add(source.max()) {
             Ok(()) => {
                 self.reset();
                 self.take_in(source);

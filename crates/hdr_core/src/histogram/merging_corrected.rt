@@ -10,7 +10,7 @@ ghost use Rattle.hdr_model.specs.Correction.{missing, each_times};
 ghost use Rattle.hdr_model.specs.Merging.{corrections_from, highest_top, after_add_correct, corrected_samples};
 
 use super::Histogram;
-use super::correction::hides;
+use super::correction::has_missing;
 use hdr_base::{Counter, Ticks};
 use hdr_model::RecordError;
 
@@ -62,7 +62,7 @@ impl<T: Counter> Histogram<T> {
         ensures err { IfErr result (λ e. IsCorrectionError self.old source.now e
             × (self.new ≡ self.old)) }
     {
-        self.cover(source.highest_top())?;
+        self.resize_for(source.highest_top())?;
         self.correct_classes(source, interval);
         Ok(())
     }
@@ -81,7 +81,7 @@ impl<T: Counter> Histogram<T> {
         ensures err { IfErr result (λ e. IsCorrectionError self.old source.now e
             × LeavesCorrected self.old self.new e) }
     {
-        match self.cover(source.highest_top()) {
+        match self.resize_for(source.highest_top()) {
             Ok(()) => {
                 self.reset();
                 self.correct_classes(source, interval);
@@ -127,7 +127,7 @@ impl<T: Counter> Histogram<T> {
             (each_times count (value ∷ missing value interval)) }
     {
         self.record_inside(value, count);
-        if hides(value, interval) {
+        if has_missing(value, interval) {
             self.add_missing(
                 value.saturating_sub(interval),
                 count,

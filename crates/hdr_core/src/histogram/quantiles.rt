@@ -53,11 +53,8 @@ impl<T: Counter> Histogram<T> {
         ensures ranked { (S : List ℕ) → StandsFor self.now S → 0 < length S → 0 < percentile.num
             → IsTopNear self.now (ranked_sample (hundredth percentile) S) result }
     {
-        let rank = rank_of(
-            percentile.num(),
-            u128::from(percentile.den()) * 100,
-            self.total,
-        );
+        let den = u128::from(percentile.den()) * 100;
+        let rank = rank_of(percentile.num(), den, self.total);
         self.value_at_bin(percentile.num(), self.position_of_rank(rank))
     }
 

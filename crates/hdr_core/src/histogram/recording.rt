@@ -67,7 +67,7 @@ impl<T: Counter> Histogram<T> {
         ensures err { IfErr result (λ e. IsRecordError self.old value e
             × (self.new ≡ self.old)) }
     {
-        self.cover(value)?;
+        self.resize_for(value)?;
         self.record_inside(value, count.as_u64());
         Ok(())
     }

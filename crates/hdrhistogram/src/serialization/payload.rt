@@ -138,7 +138,8 @@ pub fn encode_counts<T: Counter>(
     encode_within(h, buf)
 }
 
-/// `encode_counts` if `buf` is long enough for the nonempty bins and the runs beside them.
+/// As `encode_counts`. If few bins are nonempty, a shorter `buf` is enough: nine bytes for each of
+/// them, for a run before each, and for a last run.
 pub(crate) fn encode_within<T: Counter>(
     h: &Histogram<T>,
     buf: &mut [u8],
@@ -151,7 +152,7 @@ pub(crate) fn encode_within<T: Counter>(
         × HasTooGreatCount h.now) }
 {
     let bins = written_bins(h);
-    let counters = h.counters();
+    let counters = &h.counters()[..bins];
     let mut written = 0;
     let mut bin = 0usize;
     while bin < bins {

@@ -30,9 +30,7 @@ fn put_number<T: Counter>(
             .checked_add(number.unsigned_abs())
             .ok_or(DeserializeError::UsizeTypeTooSmall);
     }
-    let Some(count) = T::from_u64(number as u64) else {
-        return Err(DeserializeError::UnsuitableCounterType);
-    };
+    let count = T::from_u64(number as u64).ok_or(DeserializeError::UnsuitableCounterType)?;
     if number > 0 {
         if place >= builder.distinct_values() as u64 {
             return Err(DeserializeError::EncodedArrayTooLong);

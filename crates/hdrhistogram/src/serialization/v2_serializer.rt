@@ -65,9 +65,9 @@ impl V2Serializer {
         ensures err { IfErr result (λ e. IsToBytesError h.now e × (self.new ≡ [])) }
     {
         self.len = 0;
-        if make_room(&mut self.buffer, HEADER_LEN + payload_room(h)).is_err() {
-            return Err(V2SerializeError::OutOfMemory);
-        }
+        make_room(&mut self.buffer, HEADER_LEN + payload_room(h)).map_err(
+            |_| V2SerializeError::OutOfMemory,
+        )?;
         self.len = write_v2(h, &mut self.buffer)?;
         Ok(())
     }
@@ -102,8 +102,8 @@ impl Serializer for V2Serializer {
 
     ghost may_fail_with = { IsSerializeError };
 
-    /// Writes the V2 bytes of a histogram, and returns their number. All of them are in the buffer
-    /// before the first is written, by single calls of `write`.
+    /// Writes the V2 bytes of a histogram, and returns their number. They are encoded in the buffer
+    /// first, and then written. An interrupted call of `write` is not retried.
     ///
     /// # Errors
     /// Returns `IoError` if a call of `write` fails, is interrupted or writes no byte; a proper

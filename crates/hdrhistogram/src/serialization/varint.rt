@@ -26,12 +26,12 @@ pub fn varint_write(n: u64, buf: &mut [u8]) -> usize
     ensures written { WritesFront (λ text. IsShortest text n) buf.old buf.new result }
     ensures at_most { result ≤ 9 }
 {
-    if n >= LAST_BELOW && n < SHORT_BELOW {
-        LittleEndian::write_u16(buf, (n % 128 + 128 + n / 128 * 256) as u16);
-        2
-    } else if n < LAST_BELOW {
+    if n < LAST_BELOW {
         buf[0] = n as u8;
         1
+    } else if n < SHORT_BELOW {
+        LittleEndian::write_u16(buf, (n % 128 + 128 + n / 128 * 256) as u16);
+        2
     } else {
         write_long(n, buf)
     }
@@ -66,10 +66,7 @@ pub(crate) fn varint_at(bytes: &[u8]) -> Option<(u64, usize)>
     ensures found { IfSome result (λ found. Spells (take found.1 bytes.now) found.0) }
     ensures cut { IfNone result (IsCut bytes.now) }
 {
-    match short_varint_at(bytes) {
-        Some(found) => Some(found),
-        None => read_long(bytes),
-    }
+    short_varint_at(bytes).or_else(|| read_long(bytes))
 }
 
 /// Fast path: decodes a varint of one or two bytes at the start of `bytes`, without a branch on its
@@ -124,10 +121,7 @@ pub fn varint_read_slice(slice: &[u8]) -> (u64, usize)
     ensures at_most { result.1 ≤ 9 }
     ensures found { Spells (take result.1 slice.now) result.0 }
 {
-    match varint_at(slice) {
-        Some(found) => found,
-        None => (0, 0),
-    }
+    varint_at(slice).unwrap_or((0, 0))
 }
 
 /// Reads a varint from `reader`, byte by byte, and consumes no byte after it. It need not be

@@ -72,13 +72,10 @@ impl IntervalLogWriterBuilder {
             ≡ record self.old { comments = self.old.comments ++ comment.now ∷ [] }) }
         ensures err { OnErr result (self.new ≡ self.old) }
     {
-        let Ok(comment) = String::from_str(self.alloc, comment) else {
-            return Err(CommentError::OutOfMemory);
-        };
-        if self.comments.push(comment).is_err() {
-            return Err(CommentError::OutOfMemory);
-        }
-        Ok(())
+        let comment = String::from_str(self.alloc, comment).map_err(|_| CommentError::OutOfMemory)?;
+        self.comments
+            .push(comment)
+            .map_err(|_| CommentError::OutOfMemory)
     }
 
     /// Sets the start time, since the epoch. The last call counts.
@@ -168,15 +165,10 @@ impl IntervalLogWriterBuilder {
         ensures plain { self.now ≡ new_start → IfErr result (λ _. ⊥) }
         ensures no_serialize_error { IfErr result IsNoSerializeError }
     {
-        match self.write_headers(writer) {
-            Ok(()) => Ok(IntervalLogWriter::new(
-                self.alloc,
-                writer,
-                serializer,
-                self.max_value_divisor,
-            )),
-            Err(e) => Err(e),
-        }
+        self.write_headers(writer)?;
+        let divisor = self.max_value_divisor;
+        let log = IntervalLogWriter::new(self.alloc, writer, serializer, divisor);
+        Ok(log)
     }
 }
 

@@ -129,13 +129,11 @@ pub fn merge_log<T: Counter>(
         (IsMergeError T.greatest (view_of_filter filter.now) sigfig log.now) }
     ensures digits { IfErr result (IsOfDigits sigfig) }
 {
-    match merge_chosen(alloc, log, &filter.choice(), sigfig) {
-        Ok(merged) => Ok(Merged {
-            histogram: merged.histogram,
-            chosen: merged.chosen,
-        }),
-        Err(error) => Err(error),
-    }
+    let merged = merge_chosen(alloc, log, &filter.choice(), sigfig)?;
+    Ok(Merged {
+        histogram: merged.histogram,
+        chosen: merged.chosen,
+    })
 }
 
 /// `merge_log` for an `IntervalChoice`, which also counts the chosen intervals that are coarser
@@ -302,12 +300,8 @@ impl<'a> IntervalFilter<'a> {
     pub fn choice(&self) -> IntervalChoice<'a>
         ensures { view_of_interval_choice result ≡ view_of_filter self.now }
     {
-        let tags = match self.tag {
-            Some(tag) => TagChoice::Tagged(tag),
-            None => TagChoice::Every,
-        };
         IntervalChoice {
-            tags,
+            tags: self.tag.map_or(TagChoice::Every, TagChoice::Tagged),
             from: self.from,
             to: self.to,
         }
@@ -349,17 +343,11 @@ fn chooses_tag(choice: TagChoice<'_>, tag: Option<Tag<'_>>) -> bool
 fn begins_from(from: Option<Duration>, time: u128) -> bool
     ensures { result ≡ begins_from (option_map as_nanos from) time }
 {
-    match from {
-        None => true,
-        Some(from) => from.as_nanos() <= time,
-    }
+    from.is_none_or(|from| from.as_nanos() <= time)
 }
 
 fn begins_before(to: Option<Duration>, time: u128) -> bool
     ensures { result ≡ begins_before (option_map as_nanos to) time }
 {
-    match to {
-        None => true,
-        Some(to) => time < to.as_nanos(),
-    }
+    to.is_none_or(|to| time < to.as_nanos())
 }

@@ -40,10 +40,8 @@ pub(crate) fn write_text<W: Write, E>(
     ensures failed { IfErr result IsIoError }
     ensures time { is_time_error result ≡ false }
 {
-    match write_all(writer, text) {
-        Ok(()) => Ok(()),
-        Err(e) => Err(IntervalLogWriterError::IoError(e)),
-    }
+    write_all(writer, text)?;
+    Ok(())
 }
 
 impl<'a, 'b, W: Write, S: Serializer> IntervalLogWriter<'a, 'b, W, S> {
@@ -90,9 +88,7 @@ impl<'a, 'b, W: Write, S: Serializer> IntervalLogWriter<'a, 'b, W, S> {
         ensures time { is_time_error result ≡ false }
     {
         let mut text = Vec::new(self.alloc);
-        if push_comment(&mut text, comment).is_err() {
-            return Err(IntervalLogWriterError::OutOfMemory);
-        }
+        push_comment(&mut text, comment).map_err(|_| IntervalLogWriterError::OutOfMemory)?;
         write_text(self.writer, &text)
     }
 
@@ -121,12 +117,8 @@ impl<'a, 'b, W: Write, S: Serializer> IntervalLogWriter<'a, 'b, W, S> {
         ensures time { (is_time_error result ≡ false)
             ↔ (IsTimeInRange (as_nanos start_timestamp) × IsTimeInRange (as_nanos duration)) }
     {
-        let Some(start) = thousandths(start_timestamp) else {
-            return Err(IntervalLogWriterError::TimeOutOfRange);
-        };
-        let Some(duration) = thousandths(duration) else {
-            return Err(IntervalLogWriterError::TimeOutOfRange);
-        };
+        let start = thousandths(start_timestamp).ok_or(IntervalLogWriterError::TimeOutOfRange)?;
+        let duration = thousandths(duration).ok_or(IntervalLogWriterError::TimeOutOfRange)?;
         let bytes = match serialized(self.alloc, self.serializer, h) {
             Ok(bytes) => bytes,
             Err(e) => return Err(e),

@@ -19,14 +19,14 @@ returns-then-source-eq0-clause-high g c =
 
 pub take_in-requires : goal.take_in-requires
 take_in-requires g c =
-    let new : c.make_room.new.self ≡ with_room c.args.self.now (max_of c.args.source.now) = c.in_ok-make_room.ensures.ok ∙ ap (λ x. with_room c.args.self.now x) c.max.ensures.value in
+    let new : c.resize_for_add.new.self ≡ with_room c.args.self.now (max_of c.args.source.now) = c.in_ok-resize_for_add.ensures.ok ∙ ap (λ x. with_room c.args.self.now x) c.max.ensures.value in
     subst (λ w. max_of c.args.source.now ≤ reach w) (sym new) (with_room-reach c.args.self.now (max_of c.args.source.now))
 
 pub returns-clause-ok : goal.returns-clause-ok
 returns-clause-ok g c =
     let greatest = g.T.Counter.greatest in
     let s = c.args.source.now in
-    let new : c.make_room.new.self ≡ with_room c.args.self.now (max_of s) = c.in_ok-make_room.ensures.ok ∙ ap (λ x. with_room c.args.self.now x) c.max.ensures.value in
+    let new : c.resize_for_add.new.self ≡ with_room c.args.self.now (max_of s) = c.in_ok-resize_for_add.ensures.ok ∙ ap (λ x. with_room c.args.self.now x) c.max.ensures.value in
     c.take_in.ensures ∙ ap (λ w. after_add_within greatest w s) new
     ∙ sym (merged-some greatest c.args.self.now s (λ e. c.if-source-eq0.false (ap (λ (p : Plain). p.total) c.source.view_is ∙ e)))
 
@@ -39,7 +39,7 @@ returns-clause-samples g c = λ L source fine S stands fits.
     let greatest = g.T.Counter.greatest in
     let s = c.args.source.now in
     subst (λ w. StandsFor w (S ++ L)) (sym (returns-clause-ok g c))
-    (StandsFor-merged greatest g.F.Counter.greatest c.args.self.now s S L g.met.T.Counter.one_fits c.make_room.ensures.plain (rw c.source.view_is at c.source.invariant.plain)
+    (StandsFor-merged greatest g.F.Counter.greatest c.args.self.now s S L g.met.T.Counter.one_fits c.resize_for_add.ensures.plain (rw c.source.view_is at c.source.invariant.plain)
     (omega (arith, c.max.ensures.value, c.max.type_inv)) stands source fine fits)
 
 pub returns-clause-high : goal.returns-clause-high

@@ -60,7 +60,7 @@ overflow_sub-next g c =
     let h = c.args.self.now in
     let i = c.args.interval in
     let f = found g (goal.at.overflow_sub-next g c).In-loop-next in
-    members-fit (resolution h) c.loop-next.next i (max (lowest_of (resolution h) c.loop-next.next) i) c.members-members.result (omega arith) f.digits f.ge refl (c.members-members.ensures ∙ ap (λ y. y / i + 1) (f.span_is _ refl))
+    members-fit (resolution h) c.loop-next.next i (max (lowest_of (resolution h) c.loop-next.next) i) c.values_in_class-values.result (omega arith) f.digits f.ge refl (c.values_in_class-values.ensures ∙ ap (λ y. y / i + 1) (f.span_is _ refl))
 
 pub overflow_mul-next : goal.overflow_mul-next
 overflow_mul-next g c = omega (arith, overflow_sub-next g c)
@@ -78,12 +78,12 @@ loop-next-preserved g c =
     let inv = c.loop-next.invariant in
     let f = found g (goal.at.loop-next-preserved g c).In-loop-next in
     let digits_here : 0 < (resolution k).digits = rw inv.same_classes f.digits in
-    let members : c.members-members.result ≡ m = c.members-members.ensures ∙ ap (λ y. y / i + 1) (f.span_is _ refl) in
+    let members : c.values_in_class-values.result ≡ m = c.values_in_class-values.ensures ∙ ap (λ y. y / i + 1) (f.span_is _ refl) in
     let is_low_here : low ≡ max (lowest_of (resolution k) x) i = ap (λ (s : Resolution). max (lowest_of s x) i) (sym inv.same_classes) in
     let is_bin = f.bin_is c.bin.result c.bin.ensures.value ∙ ap (λ (s : Resolution). bin_of s x) (sym inv.same_classes) in
     let room_here : bin_of (resolution k) x < length k.counts = rw inv.same_classes (omega (arith, f.room, inv.same_bins)) in
     let new : c.add_counted.new.self ≡ after_add_to_bin greatest k (bin_of (resolution k) x) (m * n) =
-    c.add_counted.ensures.state ∙ ap (λ b. after_add_to_bin greatest k b (c.members-members.result * n)) is_bin ∙ ap (λ q. after_add_to_bin greatest k (bin_of (resolution k) x) (q * n)) members in
+    c.add_counted.ensures.state ∙ ap (λ b. after_add_to_bin greatest k b (c.values_in_class-values.result * n)) is_bin ∙ ap (λ q. after_add_to_bin greatest k (bin_of (resolution k) x) (q * n)) members in
     rw members (record {
       state = ap (λ (s : Plain). after_records greatest s (each_times n (down_to (x - m * i) i))) new
           ∙ state-step greatest k x i low m n (omega arith) digits_here f.ge is_low_here refl (omega (arith, c.requires.within, inv.below, inv.same_reach)) room_here ∙ inv.state;

@@ -8,20 +8,13 @@ use Rattle.hdr_model.proofs.PlainBounds.{bounds, same-bounds, bounds-recorded, b
 use Rattle.hdr_model.proofs.PlainKept.{resolution-recorded}
 use Rattle.hdr_model.proofs.RecordingClears.{resolution-cleared, resolution-restarted, high-cleared, high-restarted, high-clamped, clamped-is, stands-cleared, stands-restarted}
 use Rattle.hdr_model.proofs.CorrectionByClass.{resolution-corrected}
+use Rattle.hdr_core.proofs.CallsFacts.{either}
 use Rattle.hdr_core.proofs.histogram.Histogram.apply.Goals as goal
 
-pub returns-in-Ok-clause-same_classes : goal.returns-in-Ok-clause-same_classes
-returns-in-Ok-clause-same_classes g c =
-    ap (λ (h : Plain). resolution h) c.in-Ok.ensures.ok ∙ resolution-recorded _ _ _ _
-
-pub returns-in-Ok-clause-samples : goal.returns-in-Ok-clause-samples
-returns-in-Ok-clause-samples g c = λ s t stands to fits.
-    let h = c.args.self.now in
-    let v = c.in-Record.value in
-    let to = rw c.in-Record.is at to in (
-      subst (λ N. StandsFor c.record_n.new.self N) (sym to.0) (c.in-Ok.ensures.samples s.samples stands.0 (subst (λ N. Fits g.T.Counter.greatest (resolution h) N) to.0 fits)),
-      c.in-Ok.ensures.high ∙ ap (λ x. high_with (resolution h) x v (reach_of (resolution h) v)) stands.1 ∙ sym to.1,
-    )
+pub returns-in-Record-clause-same_classes : goal.returns-in-Record-clause-same_classes
+returns-in-Record-clause-same_classes g c = either _ c.record_n.result c.record_n.ensures.ok c.record_n.ensures.err
+    (λ is. ap (λ (h : Plain). resolution h) is ∙ resolution-recorded _ _ _ _)
+    (λ same. ap (λ (h : Plain). resolution h) same)
 
 pub returns-in-Clamp-clause-same_classes : goal.returns-in-Clamp-clause-same_classes
 returns-in-Clamp-clause-same_classes g c =
@@ -38,19 +31,10 @@ returns-in-Clamp-clause-samples g c = λ s t stands to fits.
       ap (λ (k : Plain). k.high) c.saturating_record_n.ensures.state ∙ high-clamped _ _ _ _ ∙ stands.1 ∙ sym to.1,
     )
 
-pub returns-in-Ok-record_n_correct-clause-same_classes : goal.returns-in-Ok-record_n_correct-clause-same_classes
-returns-in-Ok-record_n_correct-clause-same_classes g c =
-    ap (λ (h : Plain). resolution h) c.in-Ok-record_n_correct.ensures.ok
-    ∙ resolution-corrected g.T.Counter.greatest c.args.self.now c.in-Correct.value (g.T.Counter.number c.in-Correct.count) c.in-Correct.interval
-
-pub returns-in-Ok-record_n_correct-clause-samples : goal.returns-in-Ok-record_n_correct-clause-samples
-returns-in-Ok-record_n_correct-clause-samples g c = λ s t stands to fits.
-    let h = c.args.self.now in
-    let v = c.in-Correct.value in
-    let to = rw c.in-Correct.is at to in (
-      subst (λ N. StandsFor c.record_n_correct.new.self N) (sym to.0) (c.in-Ok-record_n_correct.ensures.samples s.samples stands.0 (subst (λ N. Fits g.T.Counter.greatest (resolution h) N) to.0 fits)),
-      c.in-Ok-record_n_correct.ensures.high ∙ ap (λ x. high_with (resolution h) x v (reach_of (resolution h) v)) stands.1 ∙ sym to.1,
-    )
+pub returns-in-Correct-clause-same_classes : goal.returns-in-Correct-clause-same_classes
+returns-in-Correct-clause-same_classes g c = either _ c.record_n_correct.result c.record_n_correct.ensures.ok c.record_n_correct.ensures.err
+    (λ is. ap (λ (h : Plain). resolution h) is ∙ resolution-corrected g.T.Counter.greatest c.args.self.now c.in-Correct.value (g.T.Counter.number c.in-Correct.count) c.in-Correct.interval)
+    (λ same. ap (λ (h : Plain). resolution h) same)
 
 pub returns-in-Clear-clause-same_classes : goal.returns-in-Clear-clause-same_classes
 returns-in-Clear-clause-same_classes g c = ap (λ (h : Plain). resolution h) c.clear.ensures ∙ resolution-cleared c.args.self.now
@@ -74,34 +58,18 @@ returns-in-Reset-clause-samples g c = λ s t stands to fits.
       ap (λ (k : Plain). k.high) c.reset.ensures ∙ high-restarted h ∙ stands.1 ∙ sym to.1,
     )
 
-pub returns-in-Ok-add-clause-samples : goal.returns-in-Ok-add-clause-samples
-returns-in-Ok-add-clause-samples g c = λ s t stands to fits.
-    let h = c.args.self.now in
-    let to = rw c.in-Add.is at to in
-    let L = to.0 in
-    let m = max_of c.in-Add.source.now in (
-      subst (λ N. StandsFor c.add.new.self N) (sym to.3) (c.in-Ok-add.ensures.samples L to.1 to.2 s.samples stands.0 (subst (λ N. Fits g.T.Counter.greatest (resolution h) N) to.3 fits)),
-      c.in-Ok-add.ensures.high ∙ ap (λ n. cond (eqb n 0) h.high (high_with (resolution h) h.high m m)) to.1.total ∙ ap (λ x. cond (eqb (length L) 0) x (high_with (resolution h) x m m)) stands.1 ∙ sym to.4,
-    )
-
-pub returns-in-Ok-add_correct-clause-samples : goal.returns-in-Ok-add_correct-clause-samples
-returns-in-Ok-add_correct-clause-samples g c = λ s t stands to fits.
-    let h = c.args.self.now in
-    let to = rw c.in-AddCorrect.is at to in
-    let L = to.0 in
-    let m = highest_top c.in-AddCorrect.source.now in (
-      subst (λ N. StandsFor c.add_correct.new.self N) (sym to.2) (c.in-Ok-add_correct.ensures.samples L to.1 s.samples stands.0 (subst (λ N. Fits g.T.Counter.greatest (resolution h) N) to.2 fits)),
-      c.in-Ok-add_correct.ensures.high ∙ ap (λ x. high_with (resolution h) x m (reach_of (resolution h) m)) stands.1 ∙ sym to.3,
-    )
-
-pub returns-in-Ok-clause-same_bounds : goal.returns-in-Ok-clause-same_bounds
-returns-in-Ok-clause-same_bounds g c = same-bounds _ c.args.self.now (ap (λ (h : Plain). bounds h) c.in-Ok.ensures.ok ∙ bounds-recorded g.T.Counter.greatest c.args.self.now c.in-Record.value (g.T.Counter.number c.in-Record.count))
+pub returns-in-Record-clause-same_bounds : goal.returns-in-Record-clause-same_bounds
+returns-in-Record-clause-same_bounds g c = same-bounds _ c.args.self.now (either _ c.record_n.result c.record_n.ensures.ok c.record_n.ensures.err
+    (λ is. ap (λ (h : Plain). bounds h) is ∙ bounds-recorded g.T.Counter.greatest c.args.self.now c.in-Record.value (g.T.Counter.number c.in-Record.count))
+    (λ same. ap (λ (h : Plain). bounds h) same))
 
 pub returns-in-Clamp-clause-same_bounds : goal.returns-in-Clamp-clause-same_bounds
 returns-in-Clamp-clause-same_bounds g c = same-bounds _ c.args.self.now (ap (λ (h : Plain). bounds h) c.saturating_record_n.ensures.state ∙ bounds-recorded _ _ _ _)
 
-pub returns-in-Ok-record_n_correct-clause-same_bounds : goal.returns-in-Ok-record_n_correct-clause-same_bounds
-returns-in-Ok-record_n_correct-clause-same_bounds g c = same-bounds _ c.args.self.now (ap (λ (h : Plain). bounds h) c.in-Ok-record_n_correct.ensures.ok ∙ bounds-corrected g.T.Counter.greatest c.args.self.now c.in-Correct.value (g.T.Counter.number c.in-Correct.count) c.in-Correct.interval)
+pub returns-in-Correct-clause-same_bounds : goal.returns-in-Correct-clause-same_bounds
+returns-in-Correct-clause-same_bounds g c = same-bounds _ c.args.self.now (either _ c.record_n_correct.result c.record_n_correct.ensures.ok c.record_n_correct.ensures.err
+    (λ is. ap (λ (h : Plain). bounds h) is ∙ bounds-corrected g.T.Counter.greatest c.args.self.now c.in-Correct.value (g.T.Counter.number c.in-Correct.count) c.in-Correct.interval)
+    (λ same. ap (λ (h : Plain). bounds h) same))
 
 pub returns-in-Clear-clause-same_bounds : goal.returns-in-Clear-clause-same_bounds
 returns-in-Clear-clause-same_bounds g c = same-bounds _ c.args.self.now (ap (λ (h : Plain). bounds h) c.clear.ensures ∙ bounds-cleared c.args.self.now)
@@ -109,8 +77,12 @@ returns-in-Clear-clause-same_bounds g c = same-bounds _ c.args.self.now (ap (λ 
 pub returns-in-Reset-clause-same_bounds : goal.returns-in-Reset-clause-same_bounds
 returns-in-Reset-clause-same_bounds g c = same-bounds _ c.args.self.now (ap (λ (h : Plain). bounds h) c.reset.ensures ∙ bounds-restarted c.args.self.now)
 
-pub returns-in-Ok-add-clause-same_bounds : goal.returns-in-Ok-add-clause-same_bounds
-returns-in-Ok-add-clause-same_bounds g c = same-bounds _ c.args.self.now (ap (λ (h : Plain). bounds h) c.in-Ok-add.ensures.ok ∙ bounds-merged g.T.Counter.greatest c.args.self.now c.in-Add.source.now)
+pub returns-in-Add-clause-same_bounds : goal.returns-in-Add-clause-same_bounds
+returns-in-Add-clause-same_bounds g c = same-bounds _ c.args.self.now (either _ c.add.result c.add.ensures.ok c.add.ensures.err
+    (λ is. ap (λ (h : Plain). bounds h) is ∙ bounds-merged g.T.Counter.greatest c.args.self.now c.in-Add.source.now)
+    (λ same. ap (λ (h : Plain). bounds h) same))
 
-pub returns-in-Ok-add_correct-clause-same_bounds : goal.returns-in-Ok-add_correct-clause-same_bounds
-returns-in-Ok-add_correct-clause-same_bounds g c = same-bounds _ c.args.self.now (ap (λ (h : Plain). bounds h) c.in-Ok-add_correct.ensures.ok ∙ bounds-merged_corrected g.T.Counter.greatest c.args.self.now c.in-AddCorrect.source.now c.in-AddCorrect.interval)
+pub returns-in-AddCorrect-clause-same_bounds : goal.returns-in-AddCorrect-clause-same_bounds
+returns-in-AddCorrect-clause-same_bounds g c = same-bounds _ c.args.self.now (either _ c.add_correct.result c.add_correct.ensures.ok c.add_correct.ensures.err
+    (λ is. ap (λ (h : Plain). bounds h) is ∙ bounds-merged_corrected g.T.Counter.greatest c.args.self.now c.in-AddCorrect.source.now c.in-AddCorrect.interval)
+    (λ same. ap (λ (h : Plain). bounds h) same))

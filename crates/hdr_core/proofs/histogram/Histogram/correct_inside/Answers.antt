@@ -10,19 +10,19 @@ pub add_missing-requires-clause-within : goal.add_missing-requires-clause-within
 add_missing-requires-clause-within g c =
     rw (c.record_inside.ensures) (omega (arith, c.saturating_sub.ensures, recorded-holds g.T.Counter.greatest c.args.self.now c.args.value c.args.count))
 
-pub returns-then-hides : goal.returns-then-hides
-returns-then-hides g c =
+pub returns-then-has_missing : goal.returns-then-has_missing
+returns-then-has_missing g c =
     let greatest = g.T.Counter.greatest in
     let n = c.args.count in
     let v = c.args.value in
     let i = c.args.interval in
-    let list : down_to c.saturating_sub.result i ≡ missing v i = ap (λ x. down_to x i) c.saturating_sub.ensures ∙ sym (missing-down v i (c.hides.ensures.step c.if-hides.true)) in
+    let list : down_to c.saturating_sub.result i ≡ missing v i = ap (λ x. down_to x i) c.saturating_sub.ensures ∙ sym (missing-down v i (c.has_missing.ensures.step c.if-has_missing.true)) in
     c.add_missing.ensures.state
     ∙ ap (λ (h : Plain). after_records greatest h (each_times n (down_to c.saturating_sub.result i))) c.record_inside.ensures
     ∙ ap (λ xs. after_records greatest (after_record greatest c.args.self.now v n) (each_times n xs)) list
 
-pub returns-else-hides : goal.returns-else-hides
-returns-else-hides g c =
-    let none : missing c.args.value c.args.interval ≡ [] = c.hides.ensures.none c.if-hides.false in
+pub returns-else-has_missing : goal.returns-else-has_missing
+returns-else-has_missing g c =
+    let none : missing c.args.value c.args.interval ≡ [] = c.has_missing.ensures.none c.if-has_missing.false in
     c.record_inside.ensures
     ∙ ap (λ xs. after_records g.T.Counter.greatest (after_record g.T.Counter.greatest c.args.self.now c.args.value c.args.count) (each_times c.args.count xs)) (sym none)

@@ -11,7 +11,7 @@ use Rattle.hdr_model.proofs.MergingStands.{Fits-front}
 use Rattle.hdr_model.proofs.CorrectionByClass.{recorded-holds, high-corrected}
 use Rattle.hdr_core.proofs.histogram.Histogram.record_n_correct_counted.Given as given
 use Rattle.hdr_core.proofs.histogram.Histogram.record_n_correct_counted.Goals as goal
-use Rattle.hdr_core.proofs.histogram.Histogram.record_n_correct_counted.Goals.{After-add_missing, Else-hides}
+use Rattle.hdr_core.proofs.histogram.Histogram.record_n_correct_counted.Goals.{After-add_missing, Else-has_missing}
 
 pub add_missing-requires-clause-within : goal.add_missing-requires-clause-within
 add_missing-requires-clause-within g c =
@@ -19,14 +19,14 @@ add_missing-requires-clause-within g c =
 
 -- the values that are recorded after the first
 list : (g : given.Over) (c : After-add_missing g) → down_to c.saturating_sub.result c.args.interval ≡ missing c.args.value c.args.interval
-list g c = ap (λ x. down_to x c.args.interval) c.saturating_sub.ensures ∙ sym (missing-down c.args.value c.args.interval (c.hides.ensures.step c.if-hides.true))
+list g c = ap (λ x. down_to x c.args.interval) c.saturating_sub.ensures ∙ sym (missing-down c.args.value c.args.interval (c.has_missing.ensures.step c.if-has_missing.true))
 
-none : (g : given.Over) (c : Else-hides g) → missing c.args.value c.args.interval ≡ []
-none g c = c.hides.ensures.none c.if-hides.false
+none : (g : given.Over) (c : Else-has_missing g) → missing c.args.value c.args.interval ≡ []
+none g c = c.has_missing.ensures.none c.if-has_missing.false
 
-pub returns-then-hides-clause-ok : goal.returns-then-hides-clause-ok
+pub returns-then-has_missing-clause-ok : goal.returns-then-has_missing-clause-ok
 unfolding after_correct
-returns-then-hides-clause-ok g c =
+returns-then-has_missing-clause-ok g c =
     let greatest = g.T.Counter.greatest in
     let n = g.T.Counter.number c.args.count in
     let v = c.args.value in
@@ -36,8 +36,8 @@ returns-then-hides-clause-ok g c =
     ∙ ap (λ k. after_records greatest (after_record greatest c.args.self.now v n) (each_times k (down_to c.saturating_sub.result i))) c.as_u64.ensures.value
     ∙ ap (λ xs. after_records greatest (after_record greatest c.args.self.now v n) (each_times n xs)) (list g c)
 
-pub returns-then-hides-clause-ticks : goal.returns-then-hides-clause-ticks
-returns-then-hides-clause-ticks g c =
+pub returns-then-has_missing-clause-ticks : goal.returns-then-has_missing-clause-ticks
+returns-then-has_missing-clause-ticks g c =
     let v = c.args.value in
     let i = c.args.interval in
     let mid = c.record_n.new.self in
@@ -47,13 +47,13 @@ returns-then-hides-clause-ticks g c =
     ∙ ap (λ (k : Resolution). c.args.ticks.now + classes_held k (length mid.counts) (missing v i)) (sym c.add_missing.ensures.same_classes)
     ∙ ap (λ m. c.args.ticks.now + classes_held (resolution new) m (missing v i)) (sym c.add_missing.ensures.same_bins)
 
-pub returns-then-hides-clause-at_most_bins : goal.returns-then-hides-clause-at_most_bins
-returns-then-hides-clause-at_most_bins g c =
+pub returns-then-has_missing-clause-at_most_bins : goal.returns-then-has_missing-clause-at_most_bins
+returns-then-has_missing-clause-at_most_bins g c =
     let new = c.add_missing.new.self in
-    omega (arith, returns-then-hides-clause-ticks g c, held-le (resolution new) (length new.counts) (missing c.args.value c.args.interval))
+    omega (arith, returns-then-has_missing-clause-ticks g c, held-le (resolution new) (length new.counts) (missing c.args.value c.args.interval))
 
-pub returns-then-hides-clause-samples : goal.returns-then-hides-clause-samples
-returns-then-hides-clause-samples g c = λ S stands fits.
+pub returns-then-has_missing-clause-samples : goal.returns-then-has_missing-clause-samples
+returns-then-has_missing-clause-samples g c = λ S stands fits.
     let greatest = g.T.Counter.greatest in
     let n = g.T.Counter.number c.args.count in
     let v = c.args.value in
@@ -67,26 +67,26 @@ returns-then-hides-clause-samples g c = λ S stands fits.
     subst (λ xs. StandsFor c.add_missing.new.self xs) (sym joined)
     (c.add_missing.ensures.samples (S ++ replicate n v) first (subst (λ (k : Resolution). Fits greatest k ((S ++ replicate n v) ++ samples_of (each_times c.as_u64.result (down_to c.saturating_sub.result i)))) (sym same) all))
 
-pub returns-then-hides-clause-high : goal.returns-then-hides-clause-high
-returns-then-hides-clause-high g c =
-    ap (λ (p : Plain). p.high) (returns-then-hides-clause-ok g c) ∙ high-corrected g.T.Counter.greatest c.args.self.now c.args.value (g.T.Counter.number c.args.count) c.args.interval
+pub returns-then-has_missing-clause-high : goal.returns-then-has_missing-clause-high
+returns-then-has_missing-clause-high g c =
+    ap (λ (p : Plain). p.high) (returns-then-has_missing-clause-ok g c) ∙ high-corrected g.T.Counter.greatest c.args.self.now c.args.value (g.T.Counter.number c.args.count) c.args.interval
 
-pub returns-else-hides-clause-ok : goal.returns-else-hides-clause-ok
+pub returns-else-has_missing-clause-ok : goal.returns-else-has_missing-clause-ok
 unfolding after_correct
-returns-else-hides-clause-ok g c =
+returns-else-has_missing-clause-ok g c =
     let n = g.T.Counter.number c.args.count in
     c.in_ok-record_n.ensures.ok
     ∙ ap (λ xs. after_records g.T.Counter.greatest (after_record g.T.Counter.greatest c.args.self.now c.args.value n) (each_times n xs)) (sym (none g c))
 
-pub returns-else-hides-clause-ticks : goal.returns-else-hides-clause-ticks
-returns-else-hides-clause-ticks g c =
+pub returns-else-has_missing-clause-ticks : goal.returns-else-has_missing-clause-ticks
+returns-else-has_missing-clause-ticks g c =
     let h = c.record_n.new.self in
     let no_class : classes_held (resolution h) (length h.counts) (missing c.args.value c.args.interval) ≡ 0 =
     ap (λ xs. classes_held (resolution h) (length h.counts) xs) (none g c) ∙ held-none (resolution h) (length h.counts) in
     omega arith
 
-pub returns-else-hides-clause-samples : goal.returns-else-hides-clause-samples
-returns-else-hides-clause-samples g c = λ S stands fits.
+pub returns-else-has_missing-clause-samples : goal.returns-else-has_missing-clause-samples
+returns-else-has_missing-clause-samples g c = λ S stands fits.
     let n = g.T.Counter.number c.args.count in
     let v = c.args.value in
     let list : S ++ samples_of (each_times n (v ∷ missing v c.args.interval)) ≡ S ++ replicate n v =
@@ -94,5 +94,5 @@ returns-else-hides-clause-samples g c = λ S stands fits.
     subst (λ xs. StandsFor c.record_n.new.self xs) (sym list)
     (c.in_ok-record_n.ensures.samples S stands (subst (λ xs. Fits g.T.Counter.greatest (resolution c.args.self.now) xs) list fits))
 
-pub returns-then-hides-clause-at_most : goal.returns-then-hides-clause-at_most
-returns-then-hides-clause-at_most g c = omega (arith, returns-then-hides-clause-at_most_bins g c, c.add_missing.ensures.at_most)
+pub returns-then-has_missing-clause-at_most : goal.returns-then-has_missing-clause-at_most
+returns-then-has_missing-clause-at_most g c = omega (arith, returns-then-has_missing-clause-at_most_bins g c, c.add_missing.ensures.at_most)

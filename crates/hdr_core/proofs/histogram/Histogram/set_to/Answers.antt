@@ -14,7 +14,7 @@ pub take_in-requires : goal.take_in-requires
 take_in-requires g c =
     let h = c.args.self.now in
     let m = max_of c.args.source.now in
-    let new : c.make_room.new.self ≡ with_room h m = c.in-Ok.ensures.ok ∙ ap (λ x. with_room h x) c.max.ensures.value in
+    let new : c.resize_for_add.new.self ≡ with_room h m = c.in-Ok.ensures.ok ∙ ap (λ x. with_room h x) c.max.ensures.value in
     let left : c.reset-in-Ok.new.self ≡ with_room (after_reset h) m = c.reset-in-Ok.ensures ∙ ap (λ (w : Plain). after_reset w) new ∙ restarted-room h m in
     subst (λ w. m ≤ reach w) (sym left) (with_room-reach (after_reset h) m)
 
@@ -24,7 +24,7 @@ returns-in-Ok-clause-ok g c =
     let s = c.args.source.now in
     let m = max_of s in
     let greatest = g.T.Counter.greatest in
-    let new : c.make_room.new.self ≡ with_room h m = c.in-Ok.ensures.ok ∙ ap (λ x. with_room h x) c.max.ensures.value in
+    let new : c.resize_for_add.new.self ≡ with_room h m = c.in-Ok.ensures.ok ∙ ap (λ x. with_room h x) c.max.ensures.value in
     let left : c.reset-in-Ok.new.self ≡ with_room (after_reset h) m = c.reset-in-Ok.ensures ∙ ap (λ (w : Plain). after_reset w) new ∙ restarted-room h m in
     c.take_in.ensures ∙ ap (λ w. after_add_within greatest w s) left
     ∙ sym (merged-some greatest (after_reset h) s (λ e. c.if-source-eq0.false (ap (λ (p : Plain). p.total) c.source.view_is ∙ e)))

@@ -10,7 +10,7 @@ unfolding value_at_quantile
 returns-clause-value g c =
     let h = c.args.self.now in
     let q : Ratio = (record { num = c.args.percentile.num; den = c.args.percentile.den * 100 }) in
-    let rank_is : c.rank_of-rank.result ≡ rank q h.total = rank-read q c.rank_of-rank.result c.num.result (c.from.result * 100) c.self.inside.total h.total c.rank_of-rank.ensures.value c.num.ensures (ap (λ d. d * 100) (c.from.ensures ∙ c.den.ensures.value)) (ap (λ (p : Plain). p.total) c.self.view_is) in
+    let rank_is : c.rank_of-rank.result ≡ rank q h.total = rank-read q c.rank_of-rank.result c.num.result (c.from-den.result * 100) c.self.inside.total h.total c.rank_of-rank.ensures.value c.num.ensures (ap (λ d. d * 100) (c.from-den.ensures ∙ c.den.ensures.value)) (ap (λ (p : Plain). p.total) c.self.view_is) in
     c.value_at_bin.ensures ∙ ap (λ n. value_at_bin (resolution h) n c.position_of_rank.result) c.num-2.ensures
     ∙ ap (λ o. value_at_bin (resolution h) q.num o) (c.position_of_rank.ensures.index ∙ ap (λ r. position_of_rank h.counts r) rank_is)
 

@@ -1,8 +1,9 @@
 use Rattle.std.proofs.Common.{◌≡◌, ℕ, ◌^◌, ◌<◌, ◌≤◌, arith, ◌∙◌, ◌++◌, sym, subst, take, drop, ap, List, length, get_or, length-take-le}
-use Rattle.std.proofs.lemmas.List.{get_or-take}
+use Rattle.std.proofs.lemmas.List.{get_or-take, take-map}
+use Rattle.std.proofs.lemmas.Grind.{common_steps}
 use Rattle.hdrhistogram.specs.Payload.{IsPayload, enough_bytes}
 use Rattle.hdrhistogram.proofs.V2Bins.{all-small}
-use Rattle.hdrhistogram.proofs.PayloadWriting.{encode_start, encode_run, encode_full, encode_end, past_empty, run_is, count_is, count_here, room_for_full, room_for_run, room_for_all}
+use Rattle.hdrhistogram.proofs.PayloadWriting.{encode_start, encode_run, encode_full, encode_end, past_empty, run_is, count_is, room_for_full, room_for_run, room_for_all}
 use Rattle.hdrhistogram.proofs.serialization.payload.encode_within.Goals as goal
 
 pub loop-bin-init : goal.loop-bin-init
@@ -16,7 +17,7 @@ put_run-written-requires-clause-capacity g c =
     let bin = c.loop-bin.bin in
     let size : length counts ≡ bins = length-take-le bins h.counts c.written_bins-bins.ensures.within in
     let enough : enough_bytes counts ≤ length c.args.buf.now = subst (λ n. enough_bytes (take n h.counts) ≤ length c.args.buf.now) (sym c.written_bins-bins.ensures.value) c.requires in
-    let here : c.count_of-count.result ≡ get_or counts bin 0 = count_here h.counts bins bin c.count_of-count.result c.loop-bin-test.true (c.count_of-count.ensures ∙ ap (λ l. get_or l bin 0) c.counters-counters.ensures) in
+    let here : c.count_of-count.result ≡ get_or counts bin 0 = c.count_of-count.ensures ∙ ap (λ l. get_or l bin 0) (sym (take-map g.T.Counter.number bins c.counters.result.now) ∙ ap (take bins) c.counters.ensures) in
     let run = room_for_run counts c.loop-bin.buf c.args.buf.now bin c.loop-bin.written (length c.args.buf.now) c.loop-bin.invariant.encoded (omega (arith, size, c.loop-bin-test.true)) (sym here ∙ c.if-count-eq0.true) enough in
     omega (arith, run, c.loop-bin.auto.buf)
 
@@ -28,7 +29,7 @@ put_number-written-requires g c =
     let bin = c.loop-bin.bin in
     let size : length counts ≡ bins = length-take-le bins h.counts c.written_bins-bins.ensures.within in
     let enough : enough_bytes counts ≤ length c.args.buf.now = subst (λ n. enough_bytes (take n h.counts) ≤ length c.args.buf.now) (sym c.written_bins-bins.ensures.value) c.requires in
-    let here : c.count_of-count.result ≡ get_or counts bin 0 = count_here h.counts bins bin c.count_of-count.result c.loop-bin-test.true (c.count_of-count.ensures ∙ ap (λ l. get_or l bin 0) c.counters-counters.ensures) in
+    let here : c.count_of-count.result ≡ get_or counts bin 0 = c.count_of-count.ensures ∙ ap (λ l. get_or l bin 0) (sym (take-map g.T.Counter.number bins c.counters.result.now) ∙ ap (take bins) c.counters.ensures) in
     let full = room_for_full counts c.loop-bin.buf c.args.buf.now bin c.loop-bin.written (length c.args.buf.now) c.loop-bin.invariant.encoded (omega (arith, size, c.loop-bin-test.true)) (λ none. c.if-count-eq0.false (here ∙ none)) enough in
     omega (arith, full, c.loop-bin.auto.buf)
 
@@ -40,7 +41,7 @@ loop-bin-preserved-then-count-eq0 g c =
     let bin = c.loop-bin.bin in
     let filled = c.min-filled.result in
     let size : length counts ≡ bins = length-take-le bins h.counts c.written_bins-bins.ensures.within in
-    let here : c.count_of-count.result ≡ get_or counts bin 0 = count_here h.counts bins bin c.count_of-count.result c.loop-bin-test.true (c.count_of-count.ensures ∙ ap (λ l. get_or l bin 0) c.counters-counters.ensures) in
+    let here : c.count_of-count.result ≡ get_or counts bin 0 = c.count_of-count.ensures ∙ ap (λ l. get_or l bin 0) (sym (take-map g.T.Counter.number bins c.counters.result.now) ∙ ap (take bins) c.counters.ensures) in
     let next = c.next_filled.result in
     let inside : bin < length h.counts = omega (arith, c.loop-bin-test.true, c.written_bins-bins.ensures.within) in
     let empty : get_or h.counts bin 0 ≡ 0 = sym (get_or-take bins h.counts bin 0 c.loop-bin-test.true) ∙ sym here ∙ c.if-count-eq0.true in
@@ -68,7 +69,7 @@ loop-bin-preserved g c =
     let counts = take bins h.counts in
     let bin = c.loop-bin.bin in
     let size : length counts ≡ bins = length-take-le bins h.counts c.written_bins-bins.ensures.within in
-    let here : c.count_of-count.result ≡ get_or counts bin 0 = count_here h.counts bins bin c.count_of-count.result c.loop-bin-test.true (c.count_of-count.ensures ∙ ap (λ l. get_or l bin 0) c.counters-counters.ensures) in
+    let here : c.count_of-count.result ≡ get_or counts bin 0 = c.count_of-count.ensures ∙ ap (λ l. get_or l bin 0) (sym (take-map g.T.Counter.number bins c.counters.result.now) ∙ ap (take bins) c.counters.ensures) in
     let small : c.count_of-count.result < 2 ^ 63 = omega arith in
     record {
       encoded = encode_full counts _ c.put_number-written.new.buf c.args.buf.now bin _ c.put_number-written.result c.loop-bin.invariant.encoded (omega (arith, size, c.loop-bin-test.true))
@@ -95,3 +96,37 @@ returns-clause-ok g c =
     let h = c.args.h.now in
     let small = subst (λ n. (k : ℕ) → k < n → get_or (take n h.counts) k 0 < 2 ^ 63) c.written_bins-bins.ensures.value (λ k lt. c.loop-bin.invariant.encoded.small k (omega (arith, lt, c.loop-bin-test.false))) in
     all-small g.T.Counter.greatest (2 ^ 63) h (omega arith) c.written_bins-bins.ensures.plain small
+
+pub put_run-written-requires-clause-nonzero : goal.put_run-written-requires-clause-nonzero
+put_run-written-requires-clause-nonzero g c =
+    let h = c.args.h.now in
+    let bins = c.written_bins-bins.result in
+    let bin = c.loop-bin.bin in
+    let next = c.next_filled.result in
+    let read : c.count_of-count.result ≡ get_or (take bins h.counts) bin 0 = c.count_of-count.ensures ∙ ap (λ l. get_or l bin 0) (sym (take-map g.T.Counter.number bins c.counters.result.now) ∙ ap (take bins) c.counters.ensures) in
+    let inside : bin < length h.counts = omega (arith, c.loop-bin-test.true, c.written_bins-bins.ensures.within) in
+    let empty : get_or h.counts bin 0 ≡ 0 = sym (get_or-take bins h.counts bin 0 c.loop-bin-test.true) ∙ sym read ∙ c.if-count-eq0.true in
+    let later : bin < next = past_empty h.counts bin next inside empty c.next_filled.ensures.onward c.next_filled.ensures.filled in
+    omega (arith, later, c.min-filled.ensures, c.loop-bin-test.true)
+
+pub loop-bin-smaller-then-count-eq0 : goal.loop-bin-smaller-then-count-eq0
+loop-bin-smaller-then-count-eq0 g c =
+    let h = c.args.h.now in
+    let bins = c.written_bins-bins.result in
+    let bin = c.loop-bin.bin in
+    let next = c.next_filled.result in
+    let read : c.count_of-count.result ≡ get_or (take bins h.counts) bin 0 = c.count_of-count.ensures ∙ ap (λ l. get_or l bin 0) (sym (take-map g.T.Counter.number bins c.counters.result.now) ∙ ap (take bins) c.counters.ensures) in
+    let inside : bin < length h.counts = omega (arith, c.loop-bin-test.true, c.written_bins-bins.ensures.within) in
+    let empty : get_or h.counts bin 0 ≡ 0 = sym (get_or-take bins h.counts bin 0 c.loop-bin-test.true) ∙ sym read ∙ c.if-count-eq0.true in
+    let later : bin < next = past_empty h.counts bin next inside empty c.next_filled.ensures.onward c.next_filled.ensures.filled in
+    omega (arith, later, c.min-filled.ensures, c.loop-bin-test.true)
+
+pub returns-then-count-gt-GREATEST_COUNT-clause-err : goal.returns-then-count-gt-GREATEST_COUNT-clause-err
+returns-then-count-gt-GREATEST_COUNT-clause-err g c =
+    let h = c.args.h.now in
+    let bins = c.written_bins-bins.result in
+    let bin = c.loop-bin.bin in
+    let read : c.count_of-count.result ≡ get_or (take bins h.counts) bin 0 = c.count_of-count.ensures ∙ ap (λ l. get_or l bin 0) (sym (take-map g.T.Counter.number bins c.counters.result.now) ∙ ap (take bins) c.counters.ensures) in
+    let inside : bin < length h.counts = omega (arith, c.loop-bin-test.true, c.written_bins-bins.ensures.within) in
+    let here : c.count_of-count.result ≡ get_or h.counts bin 0 = read ∙ get_or-take bins h.counts bin 0 c.loop-bin-test.true in
+    grind (arith, common_steps)

@@ -12,12 +12,12 @@ returns-then-n-lt-LAST_BELOW-clause-written c =
     (spelling c.args.n, spelling_least c.args.n (omega arith), both.1, both.0)
 
 pub write_u16-requires : goal.write_u16-requires
-write_u16-requires c = omega (arith, spelling_room c.args.n (length c.args.buf.now) (omega arith) c.requires, two_long c.args.n (omega (arith, c.if-n-ge-LAST_BELOW.true)) (omega (arith, c.if-n-lt-SHORT_BELOW.true)))
+write_u16-requires c = omega (arith, spelling_room c.args.n (length c.args.buf.now) (omega arith) c.requires, two_long c.args.n (omega (arith, c.if-n-lt-LAST_BELOW.false)) (omega (arith, c.if-n-lt-SHORT_BELOW.true)))
 
 pub returns-then-n-lt-SHORT_BELOW-clause-written : goal.returns-then-n-lt-SHORT_BELOW-clause-written
 returns-then-n-lt-SHORT_BELOW-clause-written c =
     let n = c.args.n in
-    let from : 128 ≤ n = omega (arith, c.if-n-ge-LAST_BELOW.true) in
+    let from : 128 ≤ n = omega (arith, c.if-n-lt-LAST_BELOW.false) in
     let to : n < 16384 = omega (arith, c.if-n-lt-SHORT_BELOW.true) in (
       spelling n,
       spelling_least n (omega arith),

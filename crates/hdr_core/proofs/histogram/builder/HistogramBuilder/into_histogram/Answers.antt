@@ -6,8 +6,8 @@ use Rattle.hdr_model.specs.Marks.{IsTopMark, IsLowerMark}
 use Rattle.hdr_model.proofs.UnfinishedFacts.{some-bins, closed-plain}
 use Rattle.hdr_core.proofs.histogram.builder.HistogramBuilder.into_histogram.Goals as goal
 
-pub capped_sum-total-requires : goal.capped_sum-total-requires
-capped_sum-total-requires g c =
+pub capped_sum-requires : goal.capped_sum-requires
+capped_sum-requires g c =
     let f = c.self.inside in
     let b : AreBinsFor f.bounds.low f.bounds.high f.bounds.sigfig f.scale c.into_counts-counts.result = subst (λ (b : Blocks). AreBinsFor f.bounds.low f.bounds.high f.bounds.sigfig f.scale b) (sym c.into_counts-counts.ensures.value) c.self.invariant in
     some-bins f.bounds.low f.bounds.high f.bounds.sigfig c.into_counts-counts.result.numbers b.whole
@@ -20,5 +20,5 @@ invariant_of-result g c =
     record {
       scale = b.same_scale;
       block = b.block;
-      plain = closed-plain g.T.Counter.greatest _ c.into_counts-counts.result.block f.scale b fit c.capped_sum-total.ensures (subst (λ (b : Blocks). IsTopMark b.numbers c.marks_of-marks.result.top) (sym c.into_counts-counts.ensures.value) c.marks_of-marks.ensures.top) (subst (λ (b : Blocks). IsLowerMark b.numbers c.marks_of-marks.result.lower) (sym c.into_counts-counts.ensures.value) c.marks_of-marks.ensures.lower);
+      plain = closed-plain g.T.Counter.greatest _ c.into_counts-counts.result.block f.scale b fit c.capped_sum.ensures (subst (λ (b : Blocks). IsTopMark b.numbers c.marks_of-marks.result.top) (sym c.into_counts-counts.ensures.value) c.marks_of-marks.ensures.top) (subst (λ (b : Blocks). IsLowerMark b.numbers c.marks_of-marks.result.lower) (sym c.into_counts-counts.ensures.value) c.marks_of-marks.ensures.lower);
     }

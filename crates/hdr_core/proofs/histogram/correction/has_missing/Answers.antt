@@ -2,7 +2,7 @@ use Rattle.std.proofs.Common.{◌≡◌, ◌/◌, ◌<◌, ◌∙◌, ap, arith}
 use Rattle.std.proofs.lemmas.Bool.Decides.{nat_tests}
 use Rattle.hdr_model.specs.Correction.{missing}
 use Rattle.hdr_model.proofs.CorrectionFacts.{missing-down, missing-none, down_to-end}
-use Rattle.hdr_core.proofs.histogram.correction.hides.Goals as goal
+use Rattle.hdr_core.proofs.histogram.correction.has_missing.Goals as goal
 
 pub returns-then-interval-gt0-clause-none : goal.returns-then-interval-gt0-clause-none
 returns-then-interval-gt0-clause-none c = λ off.
