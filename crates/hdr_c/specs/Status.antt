@@ -12,6 +12,10 @@ use Rattle.hdrhistogram.specs.declared.serialization.errors.V2SerializeError.{V2
 use Rattle.hdrhistogram.specs.declared.serialization.errors.V2SerializeError.TheVariants as encoding
 use Rattle.hdrhistogram.specs.declared.serialization.errors.DeserializeError.{DeserializeError}
 use Rattle.hdrhistogram.specs.declared.serialization.errors.DeserializeError.TheVariants as decoding
+use Rattle.hdrhistogram.specs.declared.serialization.errors.FieldDecodeError.{FieldDecodeError}
+use Rattle.hdrhistogram.specs.declared.serialization.errors.FieldDecodeError.TheVariants as field
+use Rattle.hdrhistogram.specs.declared.serialization.interval_log.errors.IntervalLogWriterError.{IntervalLogWriterError}
+use Rattle.hdrhistogram.specs.declared.serialization.interval_log.errors.IntervalLogWriterError.TheVariants as line
 
 abbrev pub creation_status : CreationError → ℕ
 creation_status creation.OutOfMemory = 2
@@ -51,3 +55,14 @@ decode_status decoding.UnsupportedFeature = 16
 decode_status decoding.InvalidParameters = 17
 decode_status decoding.EncodedArrayTooLong = 18
 decode_status decoding.UsizeTypeTooSmall = 19
+
+abbrev pub field_status : FieldDecodeError → ℕ
+field_status field.OutOfMemory = 2
+field_status field.NotBase64 = 25
+field_status (field.Decode e) = decode_status e
+
+abbrev pub line_status : IntervalLogWriterError V2SerializeError → ℕ
+line_status line.OutOfMemory = 2
+line_status (line.IoError cause) = 2
+line_status line.TimeOutOfRange = 21
+line_status (line.SerializeError e) = encode_status e

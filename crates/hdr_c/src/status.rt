@@ -1,9 +1,10 @@
 //! The statuses that calls return. `capi/hdr.h` names them.
 
 ghost use Rattle.std.specs.Prelude.{◌≡◌, MatchResult};
-ghost use Rattle.hdr_c.specs.Status.{addition_status, creation_status, decode_status, encode_status, record_status, subtraction_status};
+ghost use Rattle.hdr_c.specs.Status.{addition_status, creation_status, decode_status, encode_status, field_status, line_status, record_status, subtraction_status};
 
-use hdrhistogram::serialization::{DeserializeError, V2SerializeError};
+use hdrhistogram::serialization::interval_log::IntervalLogWriterError;
+use hdrhistogram::serialization::{DeserializeError, FieldDecodeError, V2SerializeError};
 use hdrhistogram::{AdditionError, CreationError, RecordError, SubtractionError};
 
 pub(crate) const OK: u32 = 0;
@@ -45,6 +46,16 @@ pub(crate) const INVALID_PARAMETERS: u32 = 17;
 pub(crate) const ENCODED_ARRAY_TOO_LONG: u32 = 18;
 
 pub(crate) const USIZE_TOO_SMALL: u32 = 19;
+// 20 is HDR_E_SAME_HANDLE, which the calls in C return.
+pub(crate) const TIME_OUT_OF_RANGE: u32 = 21;
+
+pub(crate) const INVALID_TAG: u32 = 22;
+
+pub(crate) const LOG_END: u32 = 23;
+
+pub(crate) const INVALID_LINE: u32 = 24;
+
+pub(crate) const NOT_BASE64: u32 = 25;
 
 pub(crate) fn of_creation_error(error: &CreationError) -> u32
     ensures { result ≡ creation_status error.now }
@@ -123,5 +134,26 @@ pub(crate) fn of_decode_error(error: &DeserializeError) -> u32
         DeserializeError::UsizeTypeTooSmall => USIZE_TOO_SMALL,
         DeserializeError::EncodedArrayTooLong => ENCODED_ARRAY_TOO_LONG,
         DeserializeError::OutOfMemory => OUT_OF_MEMORY,
+    }
+}
+
+pub(crate) fn of_field_error(error: &FieldDecodeError) -> u32
+    ensures { result ≡ field_status error.now }
+{
+    match error {
+        FieldDecodeError::NotBase64 => NOT_BASE64,
+        FieldDecodeError::Decode(cause) => of_decode_error(cause),
+        FieldDecodeError::OutOfMemory => OUT_OF_MEMORY,
+    }
+}
+
+pub(crate) fn of_line_error(error: &IntervalLogWriterError<V2SerializeError>) -> u32
+    ensures { result ≡ line_status error.now }
+{
+    match error {
+        IntervalLogWriterError::SerializeError(cause) => of_encode_error(cause),
+        IntervalLogWriterError::IoError(_) => OUT_OF_MEMORY,
+        IntervalLogWriterError::TimeOutOfRange => TIME_OUT_OF_RANGE,
+        IntervalLogWriterError::OutOfMemory => OUT_OF_MEMORY,
     }
 }
