@@ -34,7 +34,7 @@
  *   - `malloc`, `realloc` and `free` are those of one allocator, which aligns to 16 bytes.
  *
  * If HDR_CHECK is defined where this header is included, each call first tests its pointers for null and for overlap.
- * On failure it returns HDR_E_INVALID_ARGUMENT, or 0 or false if it returns no status. It does not find a copied handle.
+ * On failure it returns HDR_E_INVALID_ARGUMENT, or 0 or false if it returns no status. A copied handle is not found.
  */
 #ifndef HDR_H
 #define HDR_H
@@ -92,7 +92,7 @@ enum {
     HDR_E_ENCODED_ARRAY_TOO_LONG = 18,  /* an encoded count has no bin */
     HDR_E_USIZE_TOO_SMALL = 19,         /* does not occur on 64-bit machines */
     HDR_E_SAME_HANDLE = 20,             /* both arguments are one handle */
-    HDR_E_TIME_OUT_OF_RANGE = 21,       /* a start or a duration cannot be written */
+    HDR_E_TIME_OUT_OF_RANGE = 21,       /* a start or a duration cannot be written, or nanos are 10^9 or more */
     HDR_E_INVALID_TAG = 22,             /* a tag is not UTF-8, or has a comma, a space or a line break */
     HDR_LOG_END = 23,                   /* the log has no further interval */
     HDR_E_INVALID_LINE = 24,            /* a line is not of the form of an interval log */
@@ -123,18 +123,21 @@ struct hdr_class {
     uint64_t count;
 };
 
+struct hdr_time {
+    uint64_t seconds;
+    uint32_t nanos;
+};
+
 /*
- * An interval of a log. `next` is the offset of the first byte after its line, 0 to begin with. Its tag is the
- * `tag_length` bytes of the log at offset `tag_at`; a length of 0 means no tag. `base` is the last base time before it.
+ * An interval of a log, all zero to begin with. `next` is the offset of the first byte after its line. `start` is relative
+ * to `base`, the last base time before it, if there is one. Its tag is the `tag_length` bytes of the log at offset
+ * `tag_at`; a length of 0 means no tag.
  */
 struct hdr_interval {
     size_t next;
-    uint64_t start_seconds;
-    uint64_t duration_seconds;
-    uint64_t base_seconds;
-    uint32_t start_nanos;
-    uint32_t duration_nanos;
-    uint32_t base_nanos;
+    struct hdr_time start;
+    struct hdr_time duration;
+    struct hdr_time base;
     bool has_base;
     size_t tag_at;
     size_t tag_length;
@@ -270,7 +273,8 @@ hdr_status hdr_decode(struct hdr_histogram *HDR_RESTRICT h, const uint8_t *HDR_R
 
 /*
  * Writes the line of one interval, with its line feed, at the start of `buf`. `needed` is its length, also with
- * HDR_E_BUFFER_TOO_SMALL. A `tag_length` of 0 means no tag. Errors: 1, 2, 10, 11, 21, 22.
+ * HDR_E_BUFFER_TOO_SMALL, and 0 on other errors. Nanoseconds are less than 1000000000; milliseconds are written. A
+ * `tag_length` of 0 means no tag. Errors: 1, 2, 10, 11, 21, 22.
  */
 hdr_status hdr_log_line(struct hdr_histogram *HDR_RESTRICT h, uint64_t start_seconds, uint32_t start_nanos,
                         uint64_t duration_seconds, uint32_t duration_nanos, const uint8_t *HDR_RESTRICT tag,
@@ -278,9 +282,11 @@ hdr_status hdr_log_line(struct hdr_histogram *HDR_RESTRICT h, uint64_t start_sec
                         size_t *HDR_RESTRICT needed) HDR_NONNULL;
 
 /*
- * Decodes the next interval of a log, from the offset `interval->next` on. Its histogram replaces that of `h`. After
- * the last interval the status is HDR_LOG_END. With HDR_E_INVALID_LINE `next` is the offset of the line.
- * Errors: 2, 9, 14 to 18, 23, 24, 25.
+ * Reads the next interval of a log, from the offset `interval->next` on. Its histogram replaces that of `h`, and does not
+ * grow. After the last interval the status is HDR_LOG_END. With HDR_E_INVALID_LINE `next` is the offset of the line. With
+ * other errors the interval is stored, and its histogram is not decoded; the next call continues after it.
+ * Errors: 2, 9, 14 to 18, 24, 25.
+ *     for (struct hdr_interval i = {0}; hdr_log_next(&h, log, length, &i) == HDR_OK;)
  */
 hdr_status hdr_log_next(struct hdr_histogram *HDR_RESTRICT h, const uint8_t *HDR_RESTRICT log, size_t length,
                         struct hdr_interval *HDR_RESTRICT interval) HDR_NONNULL;

@@ -1,6 +1,6 @@
 /*
- * Times a function, which is to run every 2 ms, and prints quantiles in microseconds with and without the runs that a slow
- * run delayed (coordinated omission).
+ * Times a function that should run every 2 ms, and prints quantiles in microseconds. The second line includes the runs
+ * that are missing since one run was slow (coordinated omission).
  *     cc -std=c99 timing.c $(pkg-config --cflags --libs hdr) -o timing
  */
 #define _POSIX_C_SOURCE 200809L

@@ -1,6 +1,6 @@
 /*
- * Each allocation of each call fails once: the status is then HDR_E_OUT_OF_MEMORY, no histogram has changed, and in the end
- * all memory is freed. Linked with -Wl,--wrap=malloc,--wrap=realloc,--wrap=free.
+ * Each allocation of each call fails once: the status is then HDR_E_OUT_OF_MEMORY, no histogram has changed, and in the
+ * end all memory is freed. Linked with -Wl,--wrap=malloc,--wrap=realloc,--wrap=free.
  */
 #include "check.h"
 

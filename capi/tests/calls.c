@@ -177,12 +177,75 @@ static void decoding(void)
     CHECK(decoded(&h, 0, 0x1c, 41) == HDR_E_BYTES_END_EARLY && decoded(&h, 0, 0x1c, 0) == HDR_E_BYTES_END_EARLY);
     CHECK(decoded(&h, 0, 0x1d, 42) == HDR_E_INVALID_COOKIE);
     CHECK(decoded(&h, 3, 0x14, 42) == HDR_E_UNSUPPORTED_FEATURE);
-    CHECK(decoded(&h, 11, 1, 42) == HDR_E_UNSUPPORTED_FEATURE && decoded(&h, 32, 0x40, 42) == HDR_E_UNSUPPORTED_FEATURE);
+    CHECK(decoded(&h, 11, 1, 42) == HDR_E_UNSUPPORTED_FEATURE);
+    CHECK(decoded(&h, 32, 0x40, 42) == HDR_E_UNSUPPORTED_FEATURE);
     CHECK(decoded(&h, 15, 6, 42) == HDR_E_INVALID_PARAMETERS && decoded(&h, 23, 0, 42) == HDR_E_INVALID_PARAMETERS);
     CHECK(decoded(&h, 40, 0x13, 42) == HDR_E_ENCODED_ARRAY_TOO_LONG);
     CHECK(hdr_len(&h) == 1 && hdr_count_at(&h, 1) == 1);
     hdr_close(&h);
 }
+
+#ifdef HDR_TEST_LOGS
+static hdr_status line(struct hdr_histogram *h, uint32_t nanos, const char *tag, uint8_t *buf, size_t length, size_t *needed)
+{
+    return hdr_log_line(h, 1, nanos, 2, 0, (const uint8_t *)tag, strlen(tag), buf, length, needed);
+}
+
+static void log_lines(void)
+{
+    struct hdr_histogram h = HDR_CLOSED;
+    uint8_t buf[200];
+    size_t needed = 9;
+
+    CHECK(line(&h, 0, "", buf, sizeof buf, &needed) == HDR_E_CLOSED && needed == 0);
+    CHECK(hdr_init_auto(&h, 3) == HDR_OK && hdr_record(&h, 1) == HDR_OK && hdr_record_n(&h, 2, 4) == HDR_OK);
+    CHECK(line(&h, 0, "a", buf, 3, &needed) == HDR_E_BUFFER_TOO_SMALL && needed == 82);
+    memset(buf, 'x', sizeof buf);
+    CHECK(line(&h, 500000000, "a", buf, sizeof buf, &needed) == HDR_OK && needed == 82);
+    CHECK(memcmp(buf, "Tag=a,1.500,2.000,2.000,HISTEwAAAAMAAAAAAAAAAwAAAAAAAAABAAAAAAAAAAI/8AAAAAAAAAACCA==\nx", 83) == 0);
+    CHECK(line(&h, 0, "", buf, sizeof buf, &needed) == HDR_OK && memcmp(buf, "1.000,2.000,2.000,HIST", 22) == 0);
+    CHECK(line(&h, 1000000000, "", buf, sizeof buf, &needed) == HDR_E_TIME_OUT_OF_RANGE && needed == 0);
+    CHECK(line(&h, 0, "a b", buf, sizeof buf, &needed) == HDR_E_INVALID_TAG);
+    CHECK(line(&h, 0, "a,b", buf, sizeof buf, &needed) == HDR_E_INVALID_TAG);
+    CHECK(line(&h, 0, "\xff", buf, sizeof buf, &needed) == HDR_E_INVALID_TAG);
+    CHECK(hdr_record_n(&h, 1, UINT64_C(1) << 63) == HDR_OK);
+    CHECK(line(&h, 0, "", buf, sizeof buf, &needed) == HDR_E_COUNT_NOT_SERIALIZABLE && needed == 0);
+    hdr_close(&h);
+}
+
+/* The status of the only line of a log. */
+static hdr_status read_line(struct hdr_histogram *h, const char *text)
+{
+    struct hdr_interval interval = {0};
+
+    return hdr_log_next(h, (const uint8_t *)text, strlen(text), &interval);
+}
+
+static void logs(void)
+{
+    static const char text[] = "#[BaseTime: 100.250 (seconds since epoch)]\n"
+                               "Tag=a,1.500,2.000,2.000,HISTEwAAAAMAAAAAAAAAAwAAAAAAAAABAAAAAAAAAAI/8AAAAAAAAAACCA==\n"
+                               "3.000,4.000,2.000,HISTEwAAAAMAAAAAAAAAAwAAAAAAAAABAAAAAAAAAAI/8AAAAAAAAAAC\n";
+    struct hdr_histogram h = HDR_CLOSED;
+    struct hdr_interval interval = {0};
+    const uint8_t *log = (const uint8_t *)text;
+
+    CHECK(hdr_log_next(&h, log, strlen(text), &interval) == HDR_OK && hdr_len(&h) == 5 && interval.start.seconds == 1);
+    CHECK(interval.start.nanos == 500000000 && interval.duration.seconds == 2 && interval.has_base);
+    CHECK(interval.base.seconds == 100 && interval.base.nanos == 250000000);
+    CHECK(interval.tag_length == 1 && text[interval.tag_at] == 'a');
+    CHECK(hdr_log_next(&h, log, strlen(text), &interval) == HDR_OK && hdr_len(&h) == 1 && interval.tag_length == 0);
+    CHECK(interval.next == strlen(text) && interval.has_base && interval.start.seconds == 3);
+    CHECK(hdr_log_next(&h, log, strlen(text), &interval) == HDR_LOG_END && hdr_len(&h) == 1);
+    CHECK(read_line(&h, "") == HDR_LOG_END && read_line(&h, "# a comment\n") == HDR_LOG_END);
+    CHECK(read_line(&h, "1.000,2.000\n") == HDR_E_INVALID_LINE && read_line(&h, "1.0,2.0,3.0,HIST") == HDR_E_INVALID_LINE);
+    CHECK(read_line(&h, "1.0,2.0,3.0,?\n") == HDR_E_NOT_BASE64 && read_line(&h, "1,2,3,HIST\n") == HDR_E_BYTES_END_EARLY);
+    CHECK(read_line(&h, "1,2,3,AAAAAAAA\n") == HDR_E_INVALID_COOKIE && hdr_len(&h) == 1);
+    interval.next = SIZE_MAX;
+    CHECK(hdr_log_next(&h, log, strlen(text), &interval) == HDR_LOG_END);
+    hdr_close(&h);
+}
+#endif
 
 static void texts(void)
 {
@@ -204,6 +267,10 @@ int main(void)
     merging();
     encoding();
     decoding();
+#ifdef HDR_TEST_LOGS
+    log_lines();
+    logs();
+#endif
     texts();
     return checked();
 }

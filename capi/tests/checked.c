@@ -24,7 +24,8 @@ static void null_pointers(struct hdr_histogram *h)
     CHECK(hdr_record_all(h, none, 0, &length) == HDR_E_INVALID_ARGUMENT);
     CHECK(hdr_record_all(h, &value, 1, none) == HDR_E_INVALID_ARGUMENT);
     CHECK(hdr_copy(h, no_handle) == HDR_E_INVALID_ARGUMENT && hdr_copy(no_handle, h) == HDR_E_INVALID_ARGUMENT);
-    CHECK(hdr_add(h, no_handle) == HDR_E_INVALID_ARGUMENT && hdr_add_correct(no_handle, h, 1) == HDR_E_INVALID_ARGUMENT);
+    CHECK(hdr_add(h, no_handle) == HDR_E_INVALID_ARGUMENT);
+    CHECK(hdr_add_correct(no_handle, h, 1) == HDR_E_INVALID_ARGUMENT);
     CHECK(hdr_subtract(h, no_handle) == HDR_E_INVALID_ARGUMENT && !hdr_equal(h, no_handle));
     CHECK(hdr_len(no_handle) == 0 && hdr_min(no_handle) == 0 && hdr_min_nz(no_handle) == 0 && hdr_max(no_handle) == 0);
     CHECK(hdr_count_at(no_handle, 1) == 0 && hdr_count_between(no_handle, 1, 2) == 0);

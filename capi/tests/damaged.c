@@ -1,6 +1,6 @@
 /*
- * V2 bytes with random damage are decoded, or an error has a status of hdr_decode and changes nothing. The same holds for
- * interval logs. usage: damaged NUMBER SEED
+ * V2 bytes with random damage are decoded, or an error has a status of hdr_decode and changes nothing. The same holds
+ * for interval logs. usage: damaged NUMBER SEED
  */
 #include "check.h"
 
@@ -123,7 +123,7 @@ static void append_line(struct bytes *log)
     hdr_close(&h);
 }
 
-/* Reads a damaged log of three lines to its first error, from a block of its length. */
+/* Reads a damaged log of three lines to its end or its first invalid line, from a block of its length. */
 static void read_damaged(struct hdr_histogram *kept)
 {
     struct hdr_histogram h = HDR_CLOSED;
@@ -138,19 +138,19 @@ static void read_damaged(struct hdr_histogram *kept)
     damage(&log);
     block_of_bytes = block(log.length);
     memcpy(block_of_bytes, log.at, log.length);
-    while (status == HDR_OK) {
+    while (status != HDR_LOG_END && status != HDR_E_INVALID_LINE) {
         size_t from = interval.next;
 
         CHECK(hdr_copy(&h, kept) == HDR_OK);
         status = hdr_log_next(&h, block_of_bytes, log.length, &interval);
         CHECK(is_decode_status(status) || (status >= HDR_LOG_END && status <= HDR_E_NOT_BASE64));
         CHECK(interval.next <= log.length);
-        if (status == HDR_OK)
+        if (status != HDR_LOG_END && status != HDR_E_INVALID_LINE)
             CHECK(interval.next > from && interval.tag_at + interval.tag_length <= interval.next);
-        else
+        if (status != HDR_OK)
             CHECK(hdr_equal(&h, kept));
+        seen[status]++;
     }
-    seen[status]++;
     free(block_of_bytes);
     hdr_close(&h);
 }

@@ -7,8 +7,8 @@
     latencies.record_many([980, 1020])
     latencies.percentile("99.9")
 
-A call keeps the interpreter's lock, so threads may share a histogram. Without that lock, as in a free-threaded build, the package has
-a lock of its own. As in C, a histogram is not used in the forked child of a process that has threads.
+A call keeps the interpreter's lock, so threads may share a histogram. Without that lock, as in a free-threaded build,
+the package has a lock of its own. As in C, a histogram is not used in the forked child of a process that has threads.
 """
 
 from ._library import version

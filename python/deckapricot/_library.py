@@ -60,17 +60,20 @@ class ClassCursor(ctypes.Structure):
     _fields_ = [("next", c_size_t), ("lowest", c_uint64), ("highest", c_uint64), ("count", c_uint64)]
 
 
+class Time(ctypes.Structure):
+    """struct hdr_time."""
+
+    _fields_ = [("seconds", c_uint64), ("nanos", c_uint32)]
+
+
 class IntervalCursor(ctypes.Structure):
     """struct hdr_interval."""
 
     _fields_ = [
         ("next", c_size_t),
-        ("start_seconds", c_uint64),
-        ("duration_seconds", c_uint64),
-        ("base_seconds", c_uint64),
-        ("start_nanos", c_uint32),
-        ("duration_nanos", c_uint32),
-        ("base_nanos", c_uint32),
+        ("start", Time),
+        ("duration", Time),
+        ("base", Time),
         ("has_base", c_bool),
         ("tag_at", c_size_t),
         ("tag_length", c_size_t),
@@ -130,7 +133,10 @@ def locked(call: Callable[..., Any]) -> Callable[..., Any]:
 
 
 def _path() -> str:
-    """Returns what DECKAPRICOT_LIBRARY names, the library beside the package or of the repository, or its name for the loader."""
+    """Returns what DECKAPRICOT_LIBRARY names, else the library beside the package or of the repository, if any.
+
+    Otherwise it returns the name alone, which the loader searches.
+    """
     name = "libhdr.so.1"
     package = Path(__file__).resolve().parent
     named = os.environ.get("DECKAPRICOT_LIBRARY")

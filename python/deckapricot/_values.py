@@ -62,7 +62,8 @@ def memory(source: Any) -> Iterator[tuple[int, int]]:
 def words(values: Any) -> memoryview:
     """Returns values as an array of unsigned 64-bit integers.
 
-    An array of these is not copied, nor one of signed ones if none is negative: array.array, NumPy arrays, pandas Series.
+    An array of these is not copied, nor one of signed ones, if none is negative. It may be an array.array, a NumPy
+    array or a pandas Series.
     """
     if hasattr(values, "to_numpy"):
         values = values.to_numpy()

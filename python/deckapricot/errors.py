@@ -1,4 +1,4 @@
-"""The exceptions. A call that raises one has changed nothing, except `record_many`, which keeps the values before the error."""
+"""The exceptions. A call that raises one has changed nothing; only `record_many` keeps the values before the error."""
 
 from __future__ import annotations
 

@@ -38,8 +38,8 @@ class Class(NamedTuple):
 class Histogram:
     """Counts of integers from 0 to 2**64 - 1, to a number of significant digits.
 
-    `digits` is 0 to 5. Values are exact in units of `low`, which is 1 or more. With a `high`, values up to it at least can be
-    recorded, and others are errors. Without one the histogram grows.
+    `digits` is 0 to 5, and `low` the unit, 1 or more. With a `high`, values up to it at least can be recorded, and
+    others are errors. Without one the histogram grows.
     """
 
     def __init__(self, digits: int = 3, low: int = 1, high: Optional[int] = None) -> None:
@@ -62,7 +62,7 @@ class Histogram:
 
     @classmethod
     def from_bytes(cls, data: Any, *, auto_resize: bool = False) -> Histogram:
-        """Decodes V2 bytes, which `to_bytes` makes, and the uncompressed V2 encoding of other HdrHistogram libraries."""
+        """Decodes V2 bytes, uncompressed, of `to_bytes` or of other HdrHistogram libraries."""
         histogram, taken = cls._closed(), c_size_t()
         with memory(data) as (address, length):
             check(lib.decode(histogram._at, address, length, byref(taken)))
@@ -113,8 +113,8 @@ class Histogram:
     def record(self, value: int, count: int = 1, *, expected_interval: int = 0) -> None:
         """Records a value `count` times.
 
-        With an expected interval between samples, the samples that a late response omitted are recorded too (coordinated
-        omission).
+        With an expected interval between samples, the samples that are missing since a response was late are recorded
+        too (coordinated omission).
         """
         value, count = word(value), word(count, "count")
         if expected_interval:
@@ -129,8 +129,8 @@ class Histogram:
     def record_many(self, values: Any) -> int:
         """Records each value of an iterable or buffer once, and returns their number.
 
-        Arrays of 64-bit integers are not copied: array.array, NumPy arrays, pandas Series. If a value is out of range, those
-        before it are recorded, and their number is `recorded` of the exception.
+        Arrays of 64-bit integers are not copied: array.array, NumPy arrays, pandas Series. If a value is out of range,
+        those before it are recorded, and their number is `recorded` of the exception.
         """
         done = c_size_t()
         view = words(values)
@@ -245,8 +245,8 @@ class Histogram:
     def quantile(self, numerator: Number, denominator: Number = 1) -> int:
         """Returns the value at a quantile, such as 99, 100 or "0.99" or Fraction(99, 100).
 
-        It is the greatest value of the class of the sample of exact rank. A quantile above 1 counts as 1. A float is taken as
-        the decimal number that Python prints.
+        It is the greatest value of the class of the sample of exact rank. A quantile above 1 counts as 1. A float is
+        taken as the decimal number that Python prints.
         """
         quantile = exact(numerator) / exact(denominator)
         if quantile < 0:

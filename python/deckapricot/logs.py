@@ -8,7 +8,7 @@ from ctypes import byref, c_size_t
 from dataclasses import dataclass
 from typing import Any, BinaryIO, Optional, Union
 
-from ._library import BUFFER_TOO_SMALL, LOG_END, IntervalCursor, check, error_of, lib
+from ._library import BUFFER_TOO_SMALL, LOG_END, IntervalCursor, Time, check, error_of, lib
 from ._values import NOTHING, Number, exact, memory
 from .errors import LogError
 from .histogram import Histogram
@@ -18,7 +18,7 @@ SECOND = 1_000_000_000
 
 @dataclass(frozen=True)
 class Interval:
-    """An interval of a log. `base_ns` is the base time that the log states before it, to which its start is relative."""
+    """An interval of a log. `base_ns` is the last base time before it in the log; its start is relative to that."""
 
     start_ns: int
     duration_ns: int
@@ -62,12 +62,16 @@ def read_log(source: Any) -> Iterator[Interval]:
 def _interval(found: IntervalCursor, data: bytes, histogram: Histogram) -> Interval:
     tag = data[found.tag_at : found.tag_at + found.tag_length].decode()
     return Interval(
-        start_ns=found.start_seconds * SECOND + found.start_nanos,
-        duration_ns=found.duration_seconds * SECOND + found.duration_nanos,
+        start_ns=_nanos_of(found.start),
+        duration_ns=_nanos_of(found.duration),
         tag=tag or None,
-        base_ns=found.base_seconds * SECOND + found.base_nanos if found.has_base else None,
+        base_ns=_nanos_of(found.base) if found.has_base else None,
         histogram=histogram,
     )
+
+
+def _nanos_of(time: Time) -> int:
+    return int(time.seconds) * SECOND + int(time.nanos)
 
 
 class LogWriter:

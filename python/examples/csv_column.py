@@ -1,4 +1,4 @@
-"""Prints percentiles of a column of CSV, in units of a given size: csv_column.py FILE COLUMN UNIT, such as 0.0001 for 0.1 ms."""
+"""Prints percentiles of a column of CSV: csv_column.py FILE COLUMN UNIT. Values are counted in the unit."""
 
 import csv
 import sys

@@ -1,4 +1,7 @@
-"""Merges what worker processes counted. With Dask, `client.map` takes the place of `pool.map`: a histogram is pickled as V2 bytes."""
+"""Merges what worker processes counted.
+
+A histogram is pickled as V2 bytes, so the workers of Dask can return one too: `client.map(count, range(8))`.
+"""
 
 import multiprocessing
 import random

@@ -218,8 +218,8 @@ class Objects(unittest.TestCase):
         with Histogram() as h:
             h.record(1)
         h.close()
-        calls = (lambda: h.record(1), lambda: h.record_many([1]), h.to_bytes, h.copy, lambda: h.mean, lambda: h.quantile(1))
-        for call in calls:
+        calls = [lambda: h.record(1), lambda: h.record_many([1]), lambda: h.mean, lambda: h.quantile(1)]
+        for call in (*calls, h.to_bytes, h.copy):
             with self.assertRaises(ClosedError):
                 call()
         self.assertTrue(issubclass(ClosedError, HistogramError))
