@@ -3,6 +3,7 @@
 from __future__ import annotations
 
 import ctypes
+import sys
 from array import array
 from collections.abc import Iterator
 from contextlib import contextmanager
@@ -75,15 +76,18 @@ def words(values: Any) -> memoryview:
     if is_words and view.format in ("Q", "L"):
         return view
     if is_words and view.format in ("q", "l"):
-        if view.nbytes > 0 and _least(values) < 0:
+        if _has_negative(view):
             raise OverflowError("a value is negative")
         return view
     return memoryview(array("Q", iter(values)))
 
 
-def _least(values: Any) -> int:
-    """Returns the least item; NumPy's arrays have a method for it, which is faster."""
-    return int(values.min()) if hasattr(values, "min") else min(values)
+def _has_negative(view: memoryview) -> bool:
+    """Whether a 64-bit integer is negative: whether its highest byte is not ASCII."""
+    if view.nbytes == 0:
+        return False
+    highest = 7 if sys.byteorder == "little" else 0
+    return not view.cast("B")[highest::8].tobytes().isascii()
 
 
 def word(number: Any, name: str = "value") -> int:
