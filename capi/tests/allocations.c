@@ -115,7 +115,6 @@ static hdr_status decode(struct state *s)
     return hdr_decode(&s->h, s->bytes, s->length, &taken);
 }
 
-#ifdef HDR_TEST_LOGS
 static hdr_status log_line(struct state *s)
 {
     size_t needed;
@@ -137,7 +136,6 @@ static hdr_status log_next(struct state *s)
     CHECK(status != HDR_OK || interval.next == length);
     return status;
 }
-#endif
 
 static const struct {
     const char *name;
@@ -154,10 +152,8 @@ static const struct {
     {"hdr_add_correct", add_correct},
     {"hdr_encode", encode},
     {"hdr_decode", decode},
-#ifdef HDR_TEST_LOGS
     {"hdr_log_line", log_line},
     {"hdr_log_next", log_next},
-#endif
 };
 
 /* Makes the call with the allocation of this index failing. Returns whether it failed. */

@@ -106,7 +106,6 @@ static void decode_damaged(struct hdr_histogram *kept)
     hdr_close(&h);
 }
 
-#ifdef HDR_TEST_LOGS
 static void append_line(struct bytes *log)
 {
     struct hdr_histogram h = HDR_CLOSED;
@@ -154,7 +153,6 @@ static void read_damaged(struct hdr_histogram *kept)
     free(block_of_bytes);
     hdr_close(&h);
 }
-#endif
 
 static void print_seen(const char *what, uint64_t number)
 {
@@ -178,11 +176,9 @@ int main(int argc, char **argv)
     for (i = 0; i < number; i++)
         decode_damaged(&kept);
     print_seen("V2 bytes", number);
-#ifdef HDR_TEST_LOGS
     for (i = 0; i < number; i++)
         read_damaged(&kept);
     print_seen("logs", number);
-#endif
     hdr_close(&kept);
     return checked();
 }

@@ -156,9 +156,7 @@ class Library:
         library = ctypes.PyDLL(_path())
         has_lock = getattr(sys, "_is_gil_enabled", lambda: True)()
         for name, (result, arguments) in _CALLS.items():
-            call = getattr(library, "hdr_" + name, None)
-            if call is None:
-                continue
+            call = getattr(library, "hdr_" + name)
             call.restype = result
             call.argtypes = [_HANDLE, *arguments]
             setattr(self, name, call if has_lock else locked(call))
