@@ -62,6 +62,7 @@ proofs-and-runs:
 	tools/test --keep
 	tools/refused.sh
 	tools/refused_main.sh
+	tools/capi
 	tools/test --proved
 	tools/language
 	tools/documents crates/hdr/out/hdr
