@@ -17,8 +17,7 @@ mkdir -p "$out"
 is_fresh() {
     [ -f "$proved" ] || return 1
     folders=$(tools/checksum --crates hdr_c | sed 's|[: ].*||; s|^|crates/|')
-    [ -z "$(find $folders -name out -prune -o -path '*/src/*' -name '*.rt' -newer "$proved" -print \
-        -o -path '*/specs/*.antt' -newer "$proved" -print)" ]
+    [ -z "$(find $folders -name out -prune -o \( -name '*.rt' -o -name '*.antt' \) -newer "$proved" -print)" ]
 }
 
 if ! is_fresh; then

@@ -129,9 +129,9 @@ struct hdr_time {
 };
 
 /*
- * An interval of a log, all zero to begin with. `next` is the offset of the first byte after its line. `start` is relative
- * to `base`, the last base time before it, if there is one. Its tag is the `tag_length` bytes of the log at offset
- * `tag_at`; a length of 0 means no tag.
+ * An interval of a log, all zero to begin with. `next` is the offset of the first byte after its line. `start` is
+ * relative to `base`, the last base time before it, if there is one. Its tag is the `tag_length` bytes of the log at
+ * offset `tag_at`; a length of 0 means no tag.
  */
 struct hdr_interval {
     size_t next;
@@ -282,9 +282,10 @@ hdr_status hdr_log_line(struct hdr_histogram *HDR_RESTRICT h, uint64_t start_sec
                         size_t *HDR_RESTRICT needed) HDR_NONNULL;
 
 /*
- * Reads the next interval of a log, from the offset `interval->next` on. Its histogram replaces that of `h`, and does not
- * grow. After the last interval the status is HDR_LOG_END. With HDR_E_INVALID_LINE `next` is the offset of the line. With
- * other errors the interval is stored, and its histogram is not decoded; the next call continues after it.
+ * Reads the next interval of a log, from the offset `interval->next` on. Its histogram replaces that of `h`, and does
+ * not grow. After the last interval the status is HDR_LOG_END, and the interval is unchanged, so that a log that grows
+ * can be read on. With HDR_E_INVALID_LINE `next` alone is set, to the offset of the line. On other errors the interval
+ * is stored without its histogram, and the next call continues after it.
  * Errors: 2, 9, 14 to 18, 24, 25.
  *     for (struct hdr_interval i = {0}; hdr_log_next(&h, log, length, &i) == HDR_OK;)
  */
