@@ -1,5 +1,6 @@
 # make: proves and builds the programs, target/hdr and target/hdrstat. make check: the gate.
-# make install: installs them below PREFIX, with manual pages and completions. make dist: an archive of the same, in dist.
+# make install: installs them below PREFIX, with manual pages, completions and the library for C. make dist: an archive of the
+# same, in dist. make install-c: installs the library for C alone.
 # make test: all rows and cases, in seconds; make test ROW=NAME or CASE=NAME: one of them. docs/TESTING.md says more.
 # make edits: the wrong bodies alone, which the prover has to refuse: those of crates/*/edits and of crates/*/further-edits.
 # make quick: proves what has changed since the last commit, over the work that earlier checks kept, and plays the tests.
@@ -14,7 +15,7 @@ TO = $(DESTDIR)$(PREFIX)
 all:
 	./build.sh $(PROGRAMS)
 
-install: all
+install: all install-c
 	for program in $(PROGRAMS); do \
 		install -Dm755 target/$$program "$(TO)/bin/$$program" || exit; \
 	done
@@ -24,6 +25,16 @@ install: all
 	install -Dm644 completions/hdrstat.bash "$(TO)/share/bash-completion/completions/hdrstat"
 	install -Dm644 completions/_hdrstat "$(TO)/share/zsh/site-functions/_hdrstat"
 	install -Dm644 completions/hdrstat.fish "$(TO)/share/fish/vendor_completions.d/hdrstat.fish"
+
+install-c:
+	capi/build.sh
+	for header in hdr.h hdr_check.h; do \
+		install -Dm644 capi/$$header "$(TO)/include/$$header" || exit; \
+	done
+	install -Dm644 capi/target/libhdr.a "$(TO)/lib/libhdr.a"
+	install -Dm755 capi/target/libhdr.so.1 "$(TO)/lib/libhdr.so.1"
+	ln -sf libhdr.so.1 "$(TO)/lib/libhdr.so"
+	install -Dm644 capi/target/hdr.pc "$(TO)/lib/pkgconfig/hdr.pc"
 
 dist: all
 	rm -rf target/$(DIST)
@@ -51,6 +62,7 @@ proofs-and-runs:
 	tools/test --keep
 	tools/refused.sh
 	tools/refused_main.sh
+	tools/capi
 	tools/test --proved
 	tools/language
 	tools/documents crates/hdr/out/hdr
@@ -76,4 +88,4 @@ bench:
 bench-shapes:
 	compare/run shapes
 
-.PHONY: all install dist check proofs-and-runs trials test edits quick bench bench-shapes
+.PHONY: all install install-c dist check proofs-and-runs trials test edits quick bench bench-shapes

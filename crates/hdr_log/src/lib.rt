@@ -5,7 +5,7 @@ mod entry;
 pub mod field;
 mod iterator;
 pub mod laws;
-mod line;
+pub mod line;
 pub mod parts;
 mod tag;
 pub mod text;

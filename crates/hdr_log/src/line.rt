@@ -109,9 +109,9 @@ fn interval(line: &[u8]) -> Option<IntervalLogHistogram<'_>>
     })
 }
 
-/// Parses a line with an entry.
+/// Parses a line with an entry. The line has no LF.
 #[tactic(auto, unfolding(crate::specs::Grammar::entry_of))]
-pub(crate) fn entry(line: &[u8]) -> Option<LogEntry<'_>>
+pub fn entry(line: &[u8]) -> Option<LogEntry<'_>>
     ensures { option_map view_of_entry result ≡ entry_of line.now }
 {
     if let Some(start) = header(line, b"#[StartTime: ") {
@@ -125,7 +125,7 @@ pub(crate) fn entry(line: &[u8]) -> Option<LogEntry<'_>>
 
 /// Whether a line is a comment or another line without an entry, which is skipped.
 #[tactic(auto, unfolding(crate::specs::Grammar::is_skipped))]
-pub(crate) fn is_skipped(line: &[u8]) -> bool
+pub fn is_skipped(line: &[u8]) -> bool
     ensures { result ≡ is_skipped line.now }
 {
     strip(line, b"#").is_some() || strip(line, b"\"StartTimestamp\"").is_some()

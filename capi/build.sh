@@ -1,0 +1,42 @@
+#!/bin/sh
+# Makes the library for C in capi/target: libhdr.a, libhdr.so.1 with its link libhdr.so, and hdr.pc. Only the calls of hdr.h are
+# visible in them. The crate hdr_c is proved and built first, if its archive is not newer than its sources.
+set -eu
+cd "$(dirname "$0")/.."
+proved=crates/hdr_c/out/libhdr_c.a
+out=capi/target
+version=$(sed -n 's/.*have version \(.*\)\.$/\1/p' crates.txt)
+if ! command -v rt >/dev/null 2>&1; then
+    echo "capi/build.sh: no command 'rt': put the folder bin of the Rattle kit on the PATH" >&2
+    exit 127
+fi
+kit=$(dirname "$(readlink -f "$(command -v rt)")")/..
+mkdir -p "$out"
+
+# Whether the archive is newer than all files that the crate is built from.
+is_fresh() {
+    [ -f "$proved" ] || return 1
+    folders=$(tools/checksum --crates hdr_c | sed 's|[: ].*||; s|^|crates/|')
+    [ -z "$(find $folders -name out -prune -o \( -name '*.rt' -o -name '*.antt' \) -newer "$proved" -print)" ]
+}
+
+if ! is_fresh; then
+    (cd crates/hdr_c && rt lib) >"$out/build.log" 2>&1 || {
+        tail -20 "$out/build.log" >&2
+        exit 1
+    }
+    touch "$proved"
+fi
+
+# One object of the proved code, the kit's calls of malloc, realloc and free, and hdr.c.
+sed -nE 's/^(hdr_status|uint64_t|bool|void|const char) \*?(hdr_[a-z0-9_]+)\(.*/\2/p' capi/hdr.h >"$out/symbols"
+"${CC:-cc}" -std=c99 -O2 -fPIC -Wall -Wextra -pedantic -Werror -DHDR_VERSION="\"$version\"" \
+    -c -o "$out/hdr.o" "${HDR_C:-capi/hdr.c}" -Icapi
+ld -r -o "$out/libhdr.o" "$out/hdr.o" --whole-archive "$proved" --no-whole-archive "$kit/c/liblibc_c.a"
+objcopy --keep-global-symbols="$out/symbols" "$out/libhdr.o"
+
+rm -f "$out/libhdr.a"
+ar rcsD "$out/libhdr.a" "$out/libhdr.o"
+"${CC:-cc}" -shared -Wl,-soname,libhdr.so.1 -Wl,-z,defs -Wl,-z,now -o "$out/libhdr.so.1" "$out/libhdr.o"
+ln -sf libhdr.so.1 "$out/libhdr.so"
+sed "s|@VERSION@|$version|" capi/hdr.pc.in >"$out/hdr.pc"

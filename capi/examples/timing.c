@@ -1,0 +1,78 @@
+/*
+ * Times a function that should run every 2 ms, and prints quantiles in microseconds. The second line includes the runs
+ * that are missing since one run was slow (coordinated omission).
+ *     cc -std=c99 timing.c $(pkg-config --cflags --libs hdr) -o timing
+ */
+#define _POSIX_C_SOURCE 200809L
+#include <hdr.h>
+#include <inttypes.h>
+#include <stdio.h>
+#include <time.h>
+
+enum { RUNS = 200, INTERVAL = 2000 };
+
+static uint64_t now(void)
+{
+    struct timespec t;
+
+    clock_gettime(CLOCK_MONOTONIC, &t);
+    return (uint64_t)t.tv_sec * 1000000 + (uint64_t)t.tv_nsec / 1000;
+}
+
+static void pause_for(uint64_t microseconds)
+{
+    struct timespec t = {0, (long)microseconds * 1000};
+
+    nanosleep(&t, NULL);
+}
+
+/* The function that is timed: it takes 100 microseconds, and once 100 ms. */
+static void run(int number)
+{
+    pause_for(number == 60 ? 100000 : 100);
+}
+
+static void print(const char *name, struct hdr_histogram *h)
+{
+    static const uint64_t percentiles[] = {50, 90, 99, 100};
+    size_t i;
+
+    printf("%s: %" PRIu64 " samples", name, hdr_len(h));
+    for (i = 0; i < sizeof percentiles / sizeof percentiles[0]; i++) {
+        uint64_t value = 0;
+
+        hdr_value_at_quantile(h, percentiles[i], 100, &value);
+        printf(", p%" PRIu64 " %" PRIu64, percentiles[i], value);
+    }
+    printf("\n");
+}
+
+int main(void)
+{
+    struct hdr_histogram measured = HDR_CLOSED, corrected = HDR_CLOSED;
+    hdr_status status = hdr_init(&measured, 1, 3600000000, 3);
+    int number;
+
+    if (status == HDR_OK)
+        status = hdr_copy(&corrected, &measured);
+    for (number = 0; number < RUNS && status == HDR_OK; number++) {
+        uint64_t start = now(), duration;
+
+        run(number);
+        duration = now() - start;
+        status = hdr_record(&measured, duration);
+        if (status == HDR_OK)
+            status = hdr_record_correct(&corrected, duration, 1, INTERVAL);
+        if (duration < INTERVAL)
+            pause_for(INTERVAL - duration);
+    }
+    if (status == HDR_OK) {
+        print("measured", &measured);
+        print("corrected", &corrected);
+    } else {
+        fprintf(stderr, "timing: %s\n", hdr_strerror(status));
+    }
+    hdr_close(&measured);
+    hdr_close(&corrected);
+    return status != HDR_OK;
+}

@@ -1,0 +1,3 @@
+mod AsBox
+mod LogSteps
+pub mod Runs

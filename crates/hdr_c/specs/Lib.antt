@@ -1,0 +1,10 @@
+pub mod Bytes
+pub mod Calls
+pub mod Classes
+pub mod Fractions
+pub mod Lines
+pub mod Logs
+pub mod Owned
+pub mod Runs
+pub mod Status
+pub mod Times

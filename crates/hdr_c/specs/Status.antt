@@ -1,0 +1,68 @@
+-- The status of an error, as the header names it. 0 is success, and 1 is a closed handle.
+use Rattle.std.specs.Prelude.{ℕ}
+use Rattle.hdr_model.specs.declared.errors.CreationError.{CreationError}
+use Rattle.hdr_model.specs.declared.errors.CreationError.TheVariants as creation
+use Rattle.hdr_model.specs.declared.errors.RecordError.{RecordError}
+use Rattle.hdr_model.specs.declared.errors.RecordError.TheVariants as record_error
+use Rattle.hdr_model.specs.declared.errors.AdditionError.{AdditionError}
+use Rattle.hdr_model.specs.declared.errors.AdditionError.TheVariants as addition
+use Rattle.hdr_model.specs.declared.errors.SubtractionError.{SubtractionError}
+use Rattle.hdr_model.specs.declared.errors.SubtractionError.TheVariants as subtraction
+use Rattle.hdrhistogram.specs.declared.serialization.errors.V2SerializeError.{V2SerializeError}
+use Rattle.hdrhistogram.specs.declared.serialization.errors.V2SerializeError.TheVariants as encoding
+use Rattle.hdrhistogram.specs.declared.serialization.errors.DeserializeError.{DeserializeError}
+use Rattle.hdrhistogram.specs.declared.serialization.errors.DeserializeError.TheVariants as decoding
+use Rattle.hdrhistogram.specs.declared.serialization.errors.FieldDecodeError.{FieldDecodeError}
+use Rattle.hdrhistogram.specs.declared.serialization.errors.FieldDecodeError.TheVariants as field
+use Rattle.hdrhistogram.specs.declared.serialization.interval_log.errors.IntervalLogWriterError.{IntervalLogWriterError}
+use Rattle.hdrhistogram.specs.declared.serialization.interval_log.errors.IntervalLogWriterError.TheVariants as line
+
+abbrev pub creation_status : CreationError → ℕ
+creation_status creation.OutOfMemory = 2
+creation_status creation.LowIsZero = 4
+creation_status creation.LowExceedsMax = 5
+creation_status creation.HighLessThanTwiceLow = 6
+creation_status creation.SigFigExceedsMax = 7
+creation_status creation.CannotRepresentSigFigBeyondLow = 8
+creation_status creation.UsizeTypeTooSmall = 19
+
+abbrev pub record_status : RecordError → ℕ
+record_status record_error.OutOfMemory = 2
+record_status record_error.ValueOutOfRangeResizeDisabled = 3
+record_status record_error.ResizeFailedUsizeTypeTooSmall = 19
+
+abbrev pub addition_status : AdditionError → ℕ
+addition_status addition.OutOfMemory = 2
+addition_status addition.OtherAddendValueExceedsRange = 3
+addition_status addition.ResizeFailedUsizeTypeTooSmall = 19
+
+abbrev pub subtraction_status : SubtractionError → ℕ
+subtraction_status subtraction.SubtrahendValueExceedsMinuendRange = 3
+subtraction_status subtraction.SubtrahendCountExceedsMinuendCount = 9
+
+abbrev pub encode_status : V2SerializeError → ℕ
+encode_status encoding.OutOfMemory = 2
+encode_status encoding.CountNotSerializable = 10
+encode_status encoding.UsizeTypeTooSmall = 19
+encode_status (encoding.IoError cause) = 19
+
+abbrev pub decode_status : DeserializeError → ℕ
+decode_status decoding.OutOfMemory = 2
+decode_status decoding.UnsuitableCounterType = 9
+decode_status (decoding.IoError cause) = 14
+decode_status decoding.InvalidCookie = 15
+decode_status decoding.UnsupportedFeature = 16
+decode_status decoding.InvalidParameters = 17
+decode_status decoding.EncodedArrayTooLong = 18
+decode_status decoding.UsizeTypeTooSmall = 19
+
+abbrev pub field_status : FieldDecodeError → ℕ
+field_status field.OutOfMemory = 2
+field_status field.NotBase64 = 25
+field_status (field.Decode e) = decode_status e
+
+abbrev pub line_status : IntervalLogWriterError V2SerializeError → ℕ
+line_status line.OutOfMemory = 2
+line_status (line.IoError cause) = 2
+line_status line.TimeOutOfRange = 21
+line_status (line.SerializeError e) = encode_status e

@@ -1,0 +1,106 @@
+//! Creating, copying, freeing and clearing a histogram.
+
+ghost use Rattle.std.specs.Prelude.{◌≡◌, None, true, false};
+ghost use Rattle.hdr_model.specs.Recording.{after_clear, after_reset};
+ghost use Rattle.hdr_c.specs.Calls.{Changes, Copies, Creates, held};
+
+use crate::handle::Handle;
+use crate::status::{CLOSED, OK, of_creation_error};
+use hdrhistogram::{CreationError, Histogram};
+use std::alloc::{AllocError, Global};
+
+/// Creates a histogram with fixed bounds (`Histogram::new_with_bounds`), and frees the one that the
+/// handle had.
+#[unsafe(no_mangle)]
+pub extern "C" fn hdr_init(h: &mut Handle, alloc: Global, low: u64, high: u64, sigfig: u8) -> u32
+    ensures { Creates result low high sigfig false (held h.old) (held h.new) }
+{
+    match Histogram::new_with_bounds(alloc, low, high, sigfig) {
+        Ok(histogram) => match h.fill(alloc, histogram) {
+            Ok(()) => OK,
+            Err(AllocError) => of_creation_error(&CreationError::OutOfMemory),
+        },
+        Err(error) => of_creation_error(&error),
+    }
+}
+
+/// Creates a histogram that grows (`Histogram::new`), and frees the one that the handle had.
+#[unsafe(no_mangle)]
+pub extern "C" fn hdr_init_auto(h: &mut Handle, alloc: Global, sigfig: u8) -> u32
+    ensures { Creates result 1 2 sigfig true (held h.old) (held h.new) }
+{
+    match Histogram::new(alloc, sigfig) {
+        Ok(histogram) => match h.fill(alloc, histogram) {
+            Ok(()) => OK,
+            Err(AllocError) => of_creation_error(&CreationError::OutOfMemory),
+        },
+        Err(error) => of_creation_error(&error),
+    }
+}
+
+/// Frees the histogram. A closed handle is unchanged.
+#[unsafe(no_mangle)]
+pub extern "C" fn hdr_close(h: &mut Handle, alloc: Global)
+    ensures { held h.new ≡ None }
+{
+    drop(h.take(alloc));
+}
+
+/// Copies the histogram of `source`, and frees the one that the handle had.
+#[unsafe(no_mangle)]
+pub extern "C" fn hdr_copy_distinct(h: &mut Handle, alloc: Global, source: &mut Handle) -> u32
+    ensures copied { Copies result (held h.old) (held source.old) (held h.new) }
+    ensures unchanged { held source.new ≡ held source.old }
+{
+    let Some(boxed) = source.take(alloc) else {
+        return CLOSED;
+    };
+    let copy = boxed.histogram.clone();
+    source.put(boxed);
+    match copy {
+        Ok(histogram) => match h.fill(alloc, histogram) {
+            Ok(()) => OK,
+            Err(AllocError) => of_creation_error(&CreationError::OutOfMemory),
+        },
+        Err(error) => of_creation_error(&error),
+    }
+}
+
+/// Clears the samples, the least value and the greatest (`Histogram::reset`).
+#[unsafe(no_mangle)]
+pub extern "C" fn hdr_reset(h: &mut Handle, alloc: Global) -> u32
+    ensures { Changes result (held h.old) (held h.new) after_reset }
+{
+    let Some(mut boxed) = h.take(alloc) else {
+        return CLOSED;
+    };
+    boxed.histogram.reset();
+    h.put(boxed);
+    OK
+}
+
+/// Clears the samples alone (`Histogram::clear`).
+#[unsafe(no_mangle)]
+pub extern "C" fn hdr_clear(h: &mut Handle, alloc: Global) -> u32
+    ensures { Changes result (held h.old) (held h.new) after_clear }
+{
+    let Some(mut boxed) = h.take(alloc) else {
+        return CLOSED;
+    };
+    boxed.histogram.clear();
+    h.put(boxed);
+    OK
+}
+
+/// Sets whether the bins grow to values past them.
+#[unsafe(no_mangle)]
+pub extern "C" fn hdr_auto_resize(h: &mut Handle, alloc: Global, enabled: bool) -> u32
+    ensures { Changes result (held h.old) (held h.new) (λ p. record p { auto_resize = enabled }) }
+{
+    let Some(mut boxed) = h.take(alloc) else {
+        return CLOSED;
+    };
+    boxed.histogram.auto(enabled);
+    h.put(boxed);
+    OK
+}

@@ -1,0 +1,78 @@
+//! The intervals of a log in the caller's memory, one after another.
+
+ghost use Rattle.std.specs.Prelude.{◌≡◌, ◌≤◌, drop, length};
+ghost use Rattle.std.specs.Option.{option_map};
+ghost use Rattle.hdr_log.specs.Parts.{parts};
+ghost use Rattle.hdr_c.specs.Calls.{held};
+ghost use Rattle.hdr_c.specs.Logs.{first_from, view_of_found, ReadsNext};
+ghost use Rattle.hdr_c.specs.Times.{as_time};
+
+use crate::handle::Handle;
+use crate::interval::{Found, Interval, Time};
+use crate::status::{INVALID_LINE, LOG_END, OK, of_field_error};
+use hdr_log::line::{entry, is_skipped};
+use hdr_log::parts::split_once;
+use hdrhistogram::serialization::interval_log::LogEntry;
+use hdrhistogram::serialization::{Deserializer, FieldDecodeError};
+use std::alloc::Global;
+
+/// Returns the first interval of the lines of `log` from the byte `from` on.
+fn first_interval(log: &[u8], from: usize, base: Option<Time>) -> Found<'_>
+    requires { from ≤ length log.now }
+    ensures { view_of_found result ≡ first_from from (option_map as_time base)
+        (parts 10 (drop from log.now)) }
+{
+    let mut at = from;
+    let mut base = base;
+    let mut text = &log[from..];
+    while let Some((line, rest)) = split_once(text, b'\n') {
+        let next = at + line.len() + 1;
+        if let Some(entry) = entry(line) {
+            match entry {
+                LogEntry::Interval(found) => return Found::Interval(at, next, base, found),
+                LogEntry::BaseTime(time) => base = Some(Time::new(time)),
+                LogEntry::StartTime(_) => {}
+            }
+        } else if !is_skipped(line) {
+            return Found::Invalid(at);
+        }
+        at = next;
+        text = rest;
+    }
+    if text.is_empty() {
+        Found::End
+    } else {
+        Found::Invalid(at)
+    }
+}
+
+/// Reads the next interval of a log, and decodes its histogram into the handle.
+#[unsafe(no_mangle)]
+pub extern "C" fn hdr_log_next(
+    h: &mut Handle,
+    alloc: Global,
+    log: &[u8],
+    interval: &mut Interval,
+) -> u32
+    ensures { ReadsNext result log.now interval.old interval.new (held h.old) (held h.new) }
+{
+    let from = interval.next.min(log.len());
+    let (at, next, base, found) = match first_interval(log, from, interval.base()) {
+        Found::End => return LOG_END,
+        Found::Invalid(at) => {
+            interval.next = at;
+            return INVALID_LINE;
+        }
+        Found::Interval(at, next, base, found) => (at, next, base, found),
+    };
+    *interval = Interval::new(at, next, base, &found);
+    let field = found.encoded_histogram();
+    let histogram = match Deserializer::new(alloc).decode_field::<u64>(field) {
+        Ok(histogram) => histogram,
+        Err(error) => return of_field_error(&error),
+    };
+    match h.fill(alloc, histogram) {
+        Ok(()) => OK,
+        Err(_) => of_field_error(&FieldDecodeError::OutOfMemory),
+    }
+}

@@ -1,0 +1,100 @@
+//! The line of an interval, in the caller's memory.
+
+ghost use Rattle.std.specs.Prelude.{◌≡◌, MatchResult, vec_items};
+ghost use Rattle.std.specs.Option.{option_map};
+ghost use Rattle.std.specs.Duration.{as_nanos};
+ghost use Rattle.hdr_log.specs.Tags.{tag_text};
+ghost use Rattle.hdrhistogram.specs.LogLeaving.{IsIntervalText};
+ghost use Rattle.hdrhistogram.specs.V2.{IsV2};
+ghost use Rattle.hdr_c.specs.Calls.{held};
+ghost use Rattle.hdr_c.specs.Lines.{IsLineError, PutsLine, tag_at, time_at};
+
+use crate::handle::Handle;
+use crate::status::{CLOSED, INVALID_TAG, TIME_OUT_OF_RANGE, of_line_error};
+use crate::v2_bytes::put;
+use hdr_log::parts::text;
+use hdrhistogram::Histogram;
+use hdrhistogram::serialization::interval_log::{IntervalLogWriter, IntervalLogWriterError, Tag};
+use hdrhistogram::serialization::{V2SerializeError, V2Serializer};
+use std::alloc::Global;
+use std::time::Duration;
+
+/// Returns the time, or `None` if the nanoseconds are a second or more.
+fn time(seconds: u64, nanos: u32) -> Option<Duration>
+    ensures { option_map as_nanos result ≡ time_at seconds nanos }
+{
+    if nanos >= 1_000_000_000 {
+        return None;
+    }
+    Some(Duration::new(seconds, nanos))
+}
+
+/// Returns the tag of these bytes: `Some(None)` of no bytes, and `None` if they are not a tag.
+fn tag(bytes: &[u8]) -> Option<Option<Tag<'_>>>
+    ensures { option_map (λ tag. option_map tag_text tag) result ≡ tag_at bytes.now }
+{
+    if bytes.is_empty() {
+        return Some(None);
+    }
+    Some(Some(Tag::new(text(bytes)?)?))
+}
+
+/// Returns the line of an interval.
+fn line(
+    alloc: Global,
+    histogram: &Histogram<u64>,
+    start: Duration,
+    duration: Duration,
+    tag: Option<Tag<'_>>,
+) -> Result<Vec<u8>, IntervalLogWriterError<V2SerializeError>>
+    ensures { MatchResult result (λ line. IsIntervalText IsV2 histogram.now (option_map tag_text tag.entry)
+        (as_nanos start) (as_nanos duration) 1 (vec_items line)) (IsLineError histogram.now
+        (as_nanos start) (as_nanos duration)) }
+{
+    let mut line = Vec::new(alloc);
+    let mut serializer = V2Serializer::new(alloc);
+    let mut log = IntervalLogWriter::new(alloc, &mut line, &mut serializer, 1);
+    log.write_histogram(histogram, start, duration, tag)?;
+    drop(log);
+    Ok(line)
+}
+
+/// Puts the line of an interval at the start of `buf`. `needed` is the number of its bytes, also if
+/// `buf` is too short.
+#[unsafe(no_mangle)]
+pub extern "C" fn hdr_log_line(
+    h: &mut Handle,
+    alloc: Global,
+    start_seconds: u64,
+    start_nanos: u32,
+    duration_seconds: u64,
+    duration_nanos: u32,
+    tag_bytes: &[u8],
+    buf: &mut [u8],
+    needed: &mut usize,
+) -> u32
+    ensures unchanged { held h.new ≡ held h.old }
+    ensures line { PutsLine result (held h.old) (time_at start_seconds start_nanos)
+        (time_at duration_seconds duration_nanos) (tag_at tag_bytes.now)
+        buf.old buf.new needed.new }
+{
+    *needed = 0;
+    let Some(start) = time(start_seconds, start_nanos) else {
+        return TIME_OUT_OF_RANGE;
+    };
+    let Some(duration) = time(duration_seconds, duration_nanos) else {
+        return TIME_OUT_OF_RANGE;
+    };
+    let Some(tag) = tag(tag_bytes) else {
+        return INVALID_TAG;
+    };
+    let Some(boxed) = h.take(alloc) else {
+        return CLOSED;
+    };
+    let status = match line(alloc, &boxed.histogram, start, duration, tag) {
+        Ok(line) => put(&line, buf, needed),
+        Err(error) => of_line_error(&error),
+    };
+    h.put(boxed);
+    status
+}

@@ -1,0 +1,67 @@
+//! V2 bytes in the caller's memory.
+
+ghost use Rattle.std.specs.Prelude.{◌≡◌};
+ghost use Rattle.hdr_c.specs.Bytes.{Decodes, Encodes, Puts};
+ghost use Rattle.hdr_c.specs.Calls.{held};
+
+use crate::handle::Handle;
+use crate::status::{BUFFER_TOO_SMALL, CLOSED, OK, of_decode_error, of_encode_error};
+use hdrhistogram::serialization::{DeserializeError, Deserializer, V2Serializer};
+use std::alloc::Global;
+
+/// Copies `bytes` to the start of `buf`. `needed` is their number, also if `buf` is too short.
+pub(crate) fn put(bytes: &[u8], buf: &mut [u8], needed: &mut usize) -> u32
+    ensures { Puts (λ text. text ≡ bytes.now) result buf.old buf.new needed.new }
+{
+    let len = bytes.len();
+    *needed = len;
+    if buf.len() < len {
+        return BUFFER_TOO_SMALL;
+    }
+    buf[..len].copy_from_slice(bytes);
+    OK
+}
+
+/// Encodes the histogram at the start of `buf`. `needed` is the number of its bytes, also if `buf`
+/// is too short.
+#[unsafe(no_mangle)]
+pub extern "C" fn hdr_encode(
+    h: &mut Handle,
+    alloc: Global,
+    buf: &mut [u8],
+    needed: &mut usize,
+) -> u32
+    ensures unchanged { held h.new ≡ held h.old }
+    ensures encoded { Encodes result (held h.old) buf.old buf.new needed.new }
+{
+    *needed = 0;
+    let Some(boxed) = h.take(alloc) else {
+        return CLOSED;
+    };
+    let mut serializer = V2Serializer::new(alloc);
+    let status = match serializer.to_bytes(&boxed.histogram) {
+        Ok(bytes) => put(bytes, buf, needed),
+        Err(error) => of_encode_error(&error),
+    };
+    h.put(boxed);
+    status
+}
+
+/// Decodes the histogram at the start of `bytes`, and frees the one that the handle had. `taken` is
+/// the number of bytes consumed.
+#[unsafe(no_mangle)]
+pub extern "C" fn hdr_decode(h: &mut Handle, alloc: Global, bytes: &[u8], taken: &mut usize) -> u32
+    ensures { Decodes result bytes.now taken.new (held h.old) (held h.new) }
+{
+    *taken = 0;
+    match Deserializer::new(alloc).decode_slice::<u64>(bytes) {
+        Ok((histogram, length)) => {
+            let Ok(()) = h.fill(alloc, histogram) else {
+                return of_decode_error(&DeserializeError::OutOfMemory);
+            };
+            *taken = length;
+            OK
+        }
+        Err(error) => of_decode_error(&error),
+    }
+}

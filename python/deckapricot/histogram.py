@@ -1,0 +1,310 @@
+"""The histogram."""
+
+from __future__ import annotations
+
+from collections.abc import Iterator
+from ctypes import byref, c_size_t, c_uint64
+from fractions import Fraction
+from math import ceil
+from typing import Any, NamedTuple, Optional
+
+from ._library import (
+    BUFFER_TOO_SMALL,
+    OUT_OF_RANGE,
+    TOO_MANY_SAMPLES,
+    U64_MAX,
+    ClassCursor,
+    Handle,
+    Shape,
+    WideFraction,
+    check,
+    error_of,
+    lib,
+)
+from ._values import NOTHING, Number, exact, memory, word, words
+from .errors import DecodeError
+
+_close = lib.close
+
+
+class Class(NamedTuple):
+    """A nonempty class: its values are low to high."""
+
+    low: int
+    high: int
+    count: int
+
+
+class Histogram:
+    """Counts of integers from 0 to 2**64 - 1, to a number of significant digits.
+
+    `digits` is 0 to 5, and `low` the unit, 1 or more. With a `high`, values up to it at least can be recorded, and
+    others are errors. Without one the histogram grows.
+    """
+
+    def __init__(self, digits: int = 3, low: int = 1, high: Optional[int] = None) -> None:
+        self._handle = Handle()
+        self._at = byref(self._handle)
+        digits = min(word(digits, "digits"), 255)
+        if high is None and low == 1:
+            check(lib.init_auto(self._at, digits))
+        else:
+            low = word(low, "low")
+            check(lib.init(self._at, low, min(2 * low, U64_MAX) if high is None else word(high, "high"), digits))
+            self.auto_resize = high is None
+
+    @classmethod
+    def _closed(cls) -> Histogram:
+        histogram = cls.__new__(cls)
+        histogram._handle = Handle()
+        histogram._at = byref(histogram._handle)
+        return histogram
+
+    @classmethod
+    def from_bytes(cls, data: Any, *, auto_resize: bool = False) -> Histogram:
+        """Decodes V2 bytes, uncompressed, of `to_bytes` or of other HdrHistogram libraries."""
+        histogram, taken = cls._closed(), c_size_t()
+        with memory(data) as (address, length):
+            check(lib.decode(histogram._at, address, length, byref(taken)))
+        if taken.value != length:
+            raise DecodeError(f"{length - taken.value} bytes follow the histogram")
+        histogram.auto_resize = auto_resize
+        return histogram
+
+    def to_bytes(self) -> bytes:
+        """Encodes the counts and bounds as V2 bytes, uncompressed. These do not say whether the histogram grows."""
+        needed = c_size_t()
+        status = lib.encode(self._at, NOTHING, 0, byref(needed))
+        while status == BUFFER_TOO_SMALL:
+            buffer = bytearray(needed.value)
+            with memory(buffer) as (address, length):
+                status = lib.encode(self._at, address, length, byref(needed))
+        check(status)
+        return bytes(buffer[: needed.value])
+
+    def copy(self) -> Histogram:
+        """Returns a copy, which is independent."""
+        histogram = self._closed()
+        check(lib.copy(histogram._at, self._at))
+        return histogram
+
+    __copy__ = copy
+
+    def __deepcopy__(self, memo: Any) -> Histogram:
+        return self.copy()
+
+    def __reduce__(self) -> Any:
+        return _unpickled, (self.to_bytes(), self.auto_resize)
+
+    def close(self) -> None:
+        """Frees the memory. Other calls raise ClosedError then, or return 0."""
+        lib.close(self._at)
+
+    def __enter__(self) -> Histogram:
+        return self
+
+    def __exit__(self, *_: Any) -> None:
+        self.close()
+
+    def __del__(self, _close: Any = _close) -> None:
+        if hasattr(self, "_at"):
+            _close(self._at)
+
+    def record(self, value: int, count: int = 1, *, expected_interval: int = 0) -> None:
+        """Records a value `count` times.
+
+        With an expected interval between samples, the samples that are missing since a response was late are recorded
+        too (coordinated omission).
+        """
+        value, count = word(value), word(count, "count")
+        if expected_interval:
+            check(lib.record_correct(self._at, value, count, word(expected_interval, "expected_interval")))
+        else:
+            check(lib.record_n(self._at, value, count))
+
+    def record_saturating(self, value: int, count: int = 1) -> None:
+        """Records a value, or `high` in place of one that has no bin. The histogram never grows."""
+        check(lib.record_saturating(self._at, word(value), word(count, "count")))
+
+    def record_many(self, values: Any) -> int:
+        """Records each value of an iterable or buffer once, and returns their number.
+
+        Arrays of 64-bit integers are not copied: array.array, NumPy arrays, pandas Series. If a value is out of range,
+        those before it are recorded, and their number is `recorded` of the exception.
+        """
+        done = c_size_t()
+        view = words(values)
+        with memory(view) as (address, length):
+            status = lib.record_all(self._at, address, length // 8, byref(done))
+        if status:
+            error = error_of(status)
+            if status == OUT_OF_RANGE:
+                error.args = (f"{error}: the value at index {done.value}",)
+                error.recorded = done.value  # type: ignore[attr-defined]
+            raise error
+        return done.value
+
+    def merge(self, other: Histogram, *, expected_interval: int = 0) -> None:
+        """Adds the counts of another histogram, corrected for an expected interval between samples if there is one."""
+        other = other.copy() if other is self else other
+        if expected_interval:
+            check(lib.add_correct(self._at, other._at, word(expected_interval, "expected_interval")))
+        else:
+            check(lib.add(self._at, other._at))
+
+    def __iadd__(self, other: Any) -> Histogram:
+        if not isinstance(other, Histogram):
+            return NotImplemented
+        self.merge(other)
+        return self
+
+    def subtract(self, other: Histogram) -> None:
+        """Subtracts the counts of another histogram."""
+        other = other.copy() if other is self else other
+        check(lib.subtract(self._at, other._at))
+
+    def reset(self) -> None:
+        """Clears the samples, and the minimum and maximum."""
+        check(lib.reset(self._at))
+
+    def clear(self) -> None:
+        """Clears the samples, but not the minimum and maximum."""
+        check(lib.clear(self._at))
+
+    def _shape(self) -> Shape:
+        shape = Shape()
+        check(lib.shape(self._at, byref(shape)))
+        return shape
+
+    @property
+    def digits(self) -> int:
+        """The number of significant digits."""
+        return int(self._shape().sigfig)
+
+    @property
+    def low(self) -> int:
+        """The lowest value that is told from 0."""
+        return int(self._shape().low)
+
+    @property
+    def high(self) -> int:
+        """The highest value that can be recorded for certain; it increases as the histogram grows."""
+        return int(self._shape().high)
+
+    @property
+    def bins(self) -> int:
+        """The number of bins, of 8 bytes each."""
+        return int(self._shape().bins)
+
+    @property
+    def auto_resize(self) -> bool:
+        """Whether the histogram grows. It can be set."""
+        return bool(self._shape().auto_resize)
+
+    @auto_resize.setter
+    def auto_resize(self, enabled: bool) -> None:
+        check(lib.auto_resize(self._at, bool(enabled)))
+
+    @property
+    def total(self) -> int:
+        """The number of samples, at most 2**64 - 1. `len` is at most 2**63 - 1."""
+        return int(lib.len(self._at))
+
+    def __len__(self) -> int:
+        return min(self.total, 2**63 - 1)
+
+    def __bool__(self) -> bool:
+        return self.total > 0
+
+    @property
+    def min(self) -> int:
+        """The lowest value of the first class recorded, 0 if there is none."""
+        return int(lib.min(self._at))
+
+    @property
+    def min_nonzero(self) -> Optional[int]:
+        """The lowest value recorded past the class of 0, or None."""
+        found = int(lib.min_nz(self._at))
+        return None if found == U64_MAX else found
+
+    @property
+    def max(self) -> int:
+        """The greatest value of the last class recorded, 0 if there is none."""
+        return int(lib.max(self._at))
+
+    @property
+    def mean(self) -> Optional[Fraction]:
+        """The mean, each sample taken as the middle of its class. It is None if there are 2**64 - 1 samples or more."""
+        found = WideFraction()
+        status = lib.mean(self._at, byref(found))
+        if status == TOO_MANY_SAMPLES:
+            return None
+        check(status)
+        return _fraction(found)
+
+    def quantile(self, numerator: Number, denominator: Number = 1) -> int:
+        """Returns the value at a quantile, such as 99, 100 or "0.99" or Fraction(99, 100).
+
+        It is the greatest value of the class of the sample of exact rank. A quantile above 1 counts as 1. A float is
+        taken as the decimal number that Python prints.
+        """
+        quantile = exact(numerator) / exact(denominator)
+        if quantile < 0:
+            raise ValueError(f"the quantile {quantile} is negative")
+        quantile = min(quantile, Fraction(1))
+        if quantile.denominator > U64_MAX:
+            # This has the same rank.
+            total = max(self.total, 1)
+            quantile = Fraction(ceil(quantile * total), total)
+        value = c_uint64()
+        check(lib.value_at_quantile(self._at, quantile.numerator, quantile.denominator, byref(value)))
+        return value.value
+
+    def percentile(self, percent: Number) -> int:
+        """Returns the value at a percentile, such as "99.9", which is exact."""
+        return self.quantile(exact(percent), 100)
+
+    def fraction_below(self, value: int) -> Fraction:
+        """Returns the fraction of samples in the class of `value` or below it, 1 if there are none."""
+        found = WideFraction()
+        check(lib.quantile_below(self._at, word(value), byref(found)))
+        return _fraction(found)
+
+    def count_at(self, value: int) -> int:
+        """Returns the count of the class of `value`; of the last class if it has no bin."""
+        return int(lib.count_at(self._at, word(value)))
+
+    def count_between(self, low: int, high: int) -> int:
+        """Returns the sum of the counts from the class of `low` to that of `high`."""
+        return int(lib.count_between(self._at, word(low, "low"), word(high, "high")))
+
+    def __iter__(self) -> Iterator[Class]:
+        """Yields the nonempty classes in ascending order."""
+        found = ClassCursor()
+        while lib.next_class(self._at, byref(found)):
+            yield Class(found.lowest, found.highest, found.count)
+
+    def __eq__(self, other: object) -> bool:
+        if not isinstance(other, Histogram):
+            return NotImplemented
+        return self is other or bool(lib.equal(self._at, other._at))
+
+    __hash__ = None  # type: ignore[assignment]
+
+    def __repr__(self) -> str:
+        if not self._handle.filled:
+            return "<Histogram: closed>"
+        shape = self._shape()
+        grows = ", grows" if shape.auto_resize else ""
+        return (
+            f"<Histogram: {self.total} samples from {self.min} to {self.max}, "
+            f"digits {shape.sigfig}, low {shape.low}, high {shape.high}{grows}>"
+        )
+
+
+def _fraction(wide: WideFraction) -> Fraction:
+    return Fraction((wide.num_high << 64) + wide.num_low, wide.den)
+
+
+def _unpickled(data: bytes, auto_resize: bool) -> Histogram:
+    return Histogram.from_bytes(data, auto_resize=auto_resize)

@@ -1,0 +1,72 @@
+"""Tests of interval logs: python3 -m unittest discover python/tests, with python on PYTHONPATH."""
+
+from __future__ import annotations
+
+import io
+import tempfile
+import unittest
+from decimal import Decimal
+from fractions import Fraction
+from pathlib import Path
+
+from deckapricot import ClosedError, DecodeError, Histogram, LogError, LogWriter, read_log
+
+FIELD = b"HISTEwAAAAMAAAAAAAAAAwAAAAAAAAABAAAAAAAAAAI/8AAAAAAAAAACCA=="
+
+
+def counted(*values: int) -> Histogram:
+    histogram = Histogram()
+    histogram.record_many(values)
+    return histogram
+
+
+class Logs(unittest.TestCase):
+    def test_round_trip(self) -> None:
+        file = io.BytesIO()
+        log = LogWriter(file)
+        log.write(counted(1, 2, 2, 2, 2), 0, 1, "a")
+        log.write(counted(10**9), Decimal("1.5"), Fraction(1, 4))
+        log.write(counted(), 2.25, "3", "β")
+        self.assertEqual(file.getvalue().split(b"\n")[0], b"Tag=a,0.000,1.000,2.000," + FIELD)
+        first, second, third = read_log(file.getvalue())
+        self.assertEqual((first.tag, first.start_ns, first.duration_ns, first.base_ns), ("a", 0, 10**9, None))
+        self.assertEqual((second.tag, second.start, second.duration), (None, 1.5, 0.25))
+        self.assertEqual((third.tag, third.start_ns, third.duration), ("β", 2_250_000_000, 3.0))
+        self.assertEqual([len(i.histogram) for i in (first, second, third)], [5, 1, 0])
+        self.assertEqual(list(second.histogram), list(counted(10**9)))
+
+    def test_files(self) -> None:
+        with tempfile.TemporaryDirectory() as folder:
+            path = Path(folder) / "log"
+            with LogWriter(path) as log:
+                log.write(counted(7), 1, 2)
+            self.assertEqual([i.histogram.max for i in read_log(path)], [7])
+            self.assertEqual([i.histogram.max for i in read_log(str(path))], [7])
+            with open(path, "rb") as file:
+                self.assertEqual([i.histogram.max for i in read_log(file)], [7])
+
+    def test_base_time(self) -> None:
+        log = b"1.0,1.0,1.0," + FIELD + b"\n#[BaseTime: 100.250 (seconds since epoch)]\n1.0,1.0,1.0," + FIELD + b"\n"
+        self.assertEqual([i.base_ns for i in read_log(log)], [None, 100_250_000_000])
+        self.assertEqual(list(read_log(b"")), [])
+
+    def test_errors(self) -> None:
+        good = b"1.0,1.0,1.0," + FIELD + b"\n"
+        with self.assertRaises(LogError) as context:
+            list(read_log(good + b"1,1\n"))
+        self.assertEqual((context.exception.offset, context.exception.status), (len(good), 24))
+        for log, error in ((b"1.0,1.0,1.0,?\n", LogError), (good[:-1], LogError), (b"1.0,1.0,1.0,HIST\n", DecodeError)):
+            with self.assertRaises(error):
+                list(read_log(log))
+        log = LogWriter(io.BytesIO())
+        for arguments in ((-1, 0), (0, -1), (2**64, 0), (0, 0, "a b"), (0, 0, "a,b"), (0, 0, "a\n")):
+            with self.assertRaises(LogError):
+                log.write(counted(1), *arguments)
+        closed = counted(1)
+        closed.close()
+        with self.assertRaises(ClosedError):
+            log.write(closed, 0, 1)
+
+
+if __name__ == "__main__":
+    unittest.main()
