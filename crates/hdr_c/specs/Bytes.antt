@@ -16,7 +16,7 @@ Puts P status old new needed =
     ((status ≡ 0) × WritesFront P old new needed)
     ⊎ ((status ≡ 11) × (bytes : List ℕ) × P bytes × (needed ≡ length bytes) × (length old < needed) × (new ≡ old))
 
--- the V2 bytes are put into the buffer, or encoding fails and it is unchanged
+-- the V2 bytes are at the start of the buffer now, or encoding fails and it is unchanged
 abbrev pub Encodes : ℕ → Option Plain → List ℕ → List ℕ → ℕ → Type 0
 Encodes status None old new needed = (status ≡ 1) × (needed ≡ 0) × (new ≡ old)
 Encodes status (Some h) old new needed =

@@ -20,18 +20,18 @@ time_at seconds nanos = if nat_lt nanos 1_000_000_000 then Some (seconds * 1_000
 abbrev pub tag_at : List ℕ → Option (Option (List ℕ))
 tag_at bytes = if length bytes == 0 then Some None else (if is_tag bytes then Some (Some bytes) else None)
 
--- why there is no line: a count is too great, a time is out of range, or memory ran out
+-- the error of a line: a count is too great, a time is out of range, or memory ran out
 abbrev pub IsLineError : Plain → ℕ → ℕ → IntervalLogWriterError V2SerializeError → Type 0
 IsLineError h start duration (SerializeError e) = IsSerializeError h e
 IsLineError h start duration TimeOutOfRange = IsTimeInRange start × IsTimeInRange duration → ⊥
 IsLineError h start duration (IoError e) = Unit {0}
 IsLineError h start duration OutOfMemory = Unit {0}
 
--- the status with which nothing is put
+-- the buffer is unchanged, and the status is this
 abbrev pub PutsNone : ℕ → ℕ → List ℕ → List ℕ → ℕ → Type 0
 PutsNone wanted status before after needed = (status ≡ wanted) × (needed ≡ 0) × (after ≡ before)
 
--- the line of an interval is put into the buffer, if its times and its tag are valid and the handle has a histogram
+-- the line of an interval is at the start of the buffer now, if its times and its tag are valid and the handle has a histogram
 abbrev pub PutsLine : ℕ → Option Plain → Option ℕ → Option ℕ → Option (Option (List ℕ)) → List ℕ → List ℕ → ℕ → Type 0
 PutsLine status h None duration tag before after needed = PutsNone 21 status before after needed
 PutsLine status h (Some start) None tag before after needed = PutsNone 21 status before after needed

@@ -59,7 +59,7 @@ fn line(
     Ok(line)
 }
 
-/// Puts the line of an interval at the start of `buf`. `needed` is the number of its bytes, also if
+/// Writes the line of an interval to the start of `buf`. `needed` is the number of its bytes, also if
 /// `buf` is too short.
 #[unsafe(no_mangle)]
 pub extern "C" fn hdr_log_line(

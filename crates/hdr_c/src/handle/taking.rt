@@ -1,4 +1,4 @@
-//! Taking the histogram out of a handle, and putting it back.
+//! Taking the histogram out of a handle, and storing it again.
 
 ghost use Rattle.std.specs.Prelude.{◌≡◌, None, Some, MatchResult, option_map};
 ghost use Rattle.hdr_c.specs.Calls.{held};
@@ -43,7 +43,7 @@ impl Handle {
         }
     }
 
-    /// Puts a histogram into a closed handle.
+    /// Stores a histogram in a closed handle.
     pub(crate) fn put(&mut self, boxed: Box<Held, Global>)
         requires { held self.old ≡ None }
         ensures { held self.new ≡ Some boxed.value }
