@@ -38,7 +38,7 @@ show_progress() {
 
 # Proves and builds a program, as crates/NAME/out/NAME.
 prove() {
-    echo "build.sh: proving and building $1 (about ten minutes at first, seconds after an edit)" >&2
+    echo "build.sh: proving and building $1 (12 minutes or more at first, seconds after an edit)" >&2
     rm -f "crates/$1/out/$1"
     (cd "crates/$1" && exec rt run -- none </dev/null) >target/build.log 2>&1 9>&- &
     child=$!

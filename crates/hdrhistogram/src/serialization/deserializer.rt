@@ -117,8 +117,12 @@ impl Deserializer {
         self.decode_field_into(field, None)
     }
 
-    /// `decode_field` into the memory of `spare`, if that has the same bounds.
-    pub(crate) fn decode_field_into<T: Counter>(
+    /// `decode_field`, into the memory of `spare` if that has the same bounds and digits: as many
+    /// intervals of a log have, one histogram serves all of them. The counts of `spare` are lost.
+    ///
+    /// # Errors
+    /// As `decode_field`.
+    pub fn decode_field_into<T: Counter>(
         &mut self,
         field: &str,
         spare: Option<Histogram<T>>,
