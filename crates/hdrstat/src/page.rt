@@ -4,7 +4,7 @@ use crate::error::StatError;
 use crate::input::{file_at, read_whole};
 use crate::output::print;
 use clap::ArgMatches;
-use hdr_page::{PageError, page, rows};
+use hdr_page::{PageError, PageOptions, page, rows};
 use std::alloc::Global;
 use std::process::ExitCode;
 
@@ -24,10 +24,16 @@ pub(crate) fn show(rt: &HostRuntime, matches: &ArgMatches<'_>) -> Result<ExitCod
     let alloc = rt.alloc();
     let names = matches.get_strs("LOG").unwrap_or(&[]);
     let logs = read_whole(rt, names)?;
+    let options = PageOptions {
+        title: "redis: GET, SET, LRANGE",
+        unit: hdr_summary::units::Unit::from_name("us"),
+        level: None,
+        tag: None,
+    };
     let shown = if matches.get_flag("intervals") {
-        rows(alloc, &logs)
+        rows(alloc, &logs, None)
     } else {
-        page(alloc, &logs)
+        page(alloc, &logs, options)
     };
     match shown {
         Ok(text) => print(rt, text.as_bytes())?,
