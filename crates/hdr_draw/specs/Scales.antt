@@ -11,7 +11,7 @@ pub record Extent : Type 0 where
 unfoldable pub along : Extent → ℕ → ℕ → ℕ
 along e length n = min length ((n - e.from) * length / e.span)
 
--- a value lies at a place of a logarithmic scale of this length
+-- how far along a length a value lies on a logarithmic scale
 pub record IsValuePlace (e : Extent) (length value place : ℕ) : Type 0 where
   pub logarithm : ℕ
   pub of_value : IsLogarithm (max 1 value) logarithm

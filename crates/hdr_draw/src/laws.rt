@@ -9,7 +9,7 @@ pub fn logarithms_ascend()
     ensures { (a b m n : ℕ) → IsLogarithm a m → IsLogarithm b n → a ≤ b → m ≤ n }
 {}
 
-/// Places ascend with their numbers, and on a logarithmic scale with their values.
+/// A greater number is no less far along a scale, nor is a greater value on a logarithmic scale.
 pub fn places_ascend()
     ensures numbers { (e : Extent) (length m n : ℕ) → 0 < e.span → m ≤ n
         → along e length m ≤ along e length n }

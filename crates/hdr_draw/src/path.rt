@@ -80,23 +80,58 @@ pub fn push_levels(
     push_change(text, WIDTH, before, None, joint)
 }
 
-/// Appends the outline of the area between two levels over each of equal parts of a field.
+/// Appends the outlines of the areas between two levels over each of equal parts of a field. A part
+/// without both levels has no area.
 pub fn push_area(
     text: &mut String,
     low: &[Option<u32>],
     high: &[Option<u32>],
 ) -> Result<(), AllocError> {
-    let parts = low.len();
-    for (index, (low, high)) in low.iter().zip(high).enumerate() {
-        if let (Some(low), Some(high)) = (*low, *high) {
-            push_start(text, left_of(index, parts), low)?;
-            push_move(text, "H", left_of(index.saturating_add(1), parts))?;
-            push_move(text, "V", high)?;
-            push_move(text, "H", left_of(index, parts))?;
-            text.push_str("Z")?;
+    let mut from = 0;
+    for index in 0..=low.len() {
+        let has_area = matches!(
+            (low.get(index), high.get(index)),
+            (Some(Some(_)), Some(Some(_)))
+        );
+        if !has_area {
+            if from < index {
+                push_outline(text, low, high, from, index)?;
+            }
+            from = index + 1;
         }
     }
     Ok(())
+}
+
+/// Appends the outline of the area over the parts from an index to another.
+fn push_outline(
+    text: &mut String,
+    low: &[Option<u32>],
+    high: &[Option<u32>],
+    from: usize,
+    to: usize,
+) -> Result<(), AllocError> {
+    let parts = low.len();
+    let mut before = None;
+    for index in from..to {
+        let level = low.get(index).copied().flatten();
+        push_change(text, left_of(index, parts), before, level, Joint::Jump)?;
+        before = level;
+    }
+    push_move(text, "H", left_of(to, parts))?;
+    let mut above = None;
+    for index in (from..to).rev() {
+        let level = high.get(index).copied().flatten();
+        if let (Some(y), true) = (level, level != above) {
+            if above.is_some() {
+                push_move(text, "H", left_of(index.saturating_add(1), parts))?;
+            }
+            push_move(text, "V", y)?;
+            above = level;
+        }
+    }
+    push_move(text, "H", left_of(from, parts))?;
+    text.push_str("Z")
 }
 
 /// Appends a curve through points. Points on a level line are left out, except for its ends.

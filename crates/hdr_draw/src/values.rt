@@ -32,7 +32,7 @@ impl Model for ValueScale {
 #[derive(Clone, Copy, Debug)]
 pub struct Tick {
     pub value: u64,
-    /// Whether there is room for its text.
+    /// Whether its text is drawn: the texts of a scale keep a distance.
     pub has_text: bool,
     /// Whether it is a power of ten.
     pub is_power: bool,

@@ -85,7 +85,7 @@ impl Units {
         push_name(text, amount.name)
     }
 
-    /// Appends a value exactly, as it stands at an axis.
+    /// Appends a value exactly, as the label of an axis.
     pub(crate) fn push_label(self, text: &mut String, value: u64) -> Result<(), AllocError> {
         let Some(log) = self.log else {
             return push_plain_label(text, value);

@@ -1,4 +1,4 @@
-//! Parts of drawings. A drawing's parts lie one below the other, and share the x axis.
+//! Parts of drawings. A drawing's parts lie one below the other, above one x axis.
 
 use crate::amount::Units;
 use crate::clock::TimeStyle;

@@ -180,11 +180,16 @@ pub(crate) fn figures_of<'a>(
     for keys in keys.chunk_by(|a, b| a.tag == b.tag) {
         sums.add_tag(alloc, intervals, keys)?;
     }
-    sums.log.all = Figures::of(&sums.all, sums.level);
-    sums.log
-        .tags
-        .sort_by_key(|tag| (Reverse(tag.figures.count), tag.tag))?;
-    Ok(sums.log)
+    let all = Figures::of(&sums.all, sums.level);
+    let mut log = sums.log;
+    log.all = all;
+    sort_tags(&mut log.tags)?;
+    Ok(log)
+}
+
+/// Sorts tags: those with the most samples first, and then by their names.
+fn sort_tags(tags: &mut Vec<TagFigures<'_>>) -> Result<(), AllocError> {
+    tags.sort_by_key(|tag| (Reverse(tag.figures.count), tag.tag))
 }
 
 impl<'a> Sums<'a> {

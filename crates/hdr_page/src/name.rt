@@ -14,7 +14,7 @@ pub(crate) const AT_CURVE: usize = 20;
 /// The most signs of a title.
 pub(crate) const IN_TITLE: usize = 200;
 
-/// Whether a sign is seen where it stands.
+/// Whether a sign is visible.
 fn is_seen(sign: char) -> bool {
     sign == ' '
         || !matches!(
@@ -30,7 +30,8 @@ fn is_seen(sign: char) -> bool {
         )
 }
 
-/// Returns a text without signs that are not seen, cut to a number of signs.
+/// Returns a text of at most a number of signs. Signs that are invisible are replaced, and an
+/// ellipsis ends a text that is longer.
 pub(crate) fn shown(alloc: Global, name: &str, most: usize) -> Result<String, AllocError> {
     let is_long = name.chars().nth(most).is_some();
     let signs = if is_long {
@@ -48,7 +49,7 @@ pub(crate) fn shown(alloc: Global, name: &str, most: usize) -> Result<String, Al
     Ok(text)
 }
 
-/// Appends a text of a log, cut to a number of signs.
+/// Appends a text of a log, with at most a number of signs.
 pub(crate) fn push_shown(
     alloc: Global,
     text: &mut String,

@@ -1,36 +1,51 @@
 //! Numbers as decimals, by whole numbers alone.
 
-ghost use Rattle.std.specs.Prelude.{◌≡◌, IfSome};
-ghost use Rattle.hdr_page.specs.Numbers.{nearest};
+ghost use Rattle.std.specs.Prelude.{IfSome};
+ghost use Rattle.hdr_page.specs.Numbers.{IsNearest};
 
 use std::alloc::AllocError;
 
 /// The most decimals of a number.
 const MOST_DECIMALS: u32 = 9;
 
-/// Returns `num * parts / den` to the nearest integer, halves up, or `None` if `den` is 0 or the
-/// product overflows.
+/// The units of groups of three digits.
+const GROUPS: [u64; 7] = [
+    1_000_000_000_000_000_000,
+    1_000_000_000_000_000,
+    1_000_000_000_000,
+    1_000_000_000,
+    1_000_000,
+    1_000,
+    1,
+];
+
+/// Returns `num * parts / den` to the nearest integer, halves to the even one, or `None` if `den` is
+/// 0 or the product overflows.
 pub(crate) fn in_parts(num: u128, den: u128, parts: u128) -> Option<u128>
-    ensures { IfSome result (λ n. n ≡ nearest num den parts) }
+    ensures { IfSome result (λ n. IsNearest num den parts n) }
 {
-    num.checked_mul(parts)?
-        .checked_add(den / 2)?
-        .checked_div(den)
+    let product = num.checked_mul(parts)?;
+    let below = product.checked_div(den)?;
+    let rest = product % den;
+    let is_above = rest > den - rest || (rest == den - rest && below % 2 == 1);
+    if is_above {
+        below.checked_add(1)
+    } else {
+        Some(below)
+    }
 }
 
 /// Appends an integer, with a comma between groups of three digits.
 pub(crate) fn push_grouped(text: &mut String, number: u64) -> Result<(), AllocError> {
-    let mut power = 1_000_000_000_000_000_000;
     let mut has_begun = false;
-    for _ in 0..7 {
-        let group = (number / power) % 1_000;
+    for power in GROUPS {
+        let group = number.checked_div(power).unwrap_or(0) % 1_000;
         if has_begun {
             write!(text, ",{group:03}")?;
         } else if group > 0 || power == 1 {
             write!(text, "{group}")?;
             has_begun = true;
         }
-        power = (power / 1_000).max(1);
     }
     Ok(())
 }

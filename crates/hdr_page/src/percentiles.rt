@@ -110,7 +110,12 @@ impl View<'_> {
             "px\" role=\"img\" aria-labelledby=\"{kind}t {kind}d\"><title id=\"{kind}t\">Percentiles of "
         )?;
         self.push_names(alloc, text)?;
-        write!(text, "</title><desc id=\"{kind}d\">")?;
+        let name = if kind == "log" {
+            "logarithmic"
+        } else {
+            "linear"
+        };
+        write!(text, ", {name} scale</title><desc id=\"{kind}d\">")?;
         for (index, tag) in self.drawn().iter().enumerate() {
             text.push_str(if index > 0 { "; " } else { "" })?;
             self.push_tag(alloc, text, tag.tag, AT_CURVE)?;

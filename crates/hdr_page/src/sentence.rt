@@ -265,7 +265,7 @@ impl View<'_> {
         text.push_str(".</p>\n")
     }
 
-    /// Appends the slow times in words.
+    /// Appends the slow times as sentences.
     pub(crate) fn push_description(&self, text: &mut String) -> Result<(), AllocError> {
         if self.slow.named.is_empty() {
             return text.push_str("No slow time.");

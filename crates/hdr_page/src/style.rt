@@ -54,16 +54,16 @@ const HEAT_DARK: [&str; 8] = [
     "#e2e3f2",
 ];
 
-/// What stands before the colours on white.
+/// The style before the colours on white.
 const ROOT: &str = ":root{color-scheme:light dark;--bg:#fff;--ink:#1a1d21;--soft:#575e66;--line:#c9ced4;
 --thin:#e6e9ec;--band:#1a1d2114;";
 
-/// What stands between the colours on white and on black.
+/// The style between the colours on white and those on black.
 const ROOT_DARK: &str = "}
 @media screen and (prefers-color-scheme:dark){:root{--bg:#14171c;--ink:#e9ebee;--soft:#a3abb5;
 --line:#454c55;--thin:#272c33;--band:#ffffff17;";
 
-/// What follows the colours.
+/// The style after the colours.
 const REST: &str = "}}
 *{box-sizing:border-box}
 body{margin:0 auto;padding:20px 24px 40px;max-width:1600px;background:var(--bg);

@@ -87,7 +87,7 @@ impl<'a> View<'a> {
         ValueScale::new(self.log.all.min, self.greatest())
     }
 
-    /// Appends the name of a tag, cut to a number of signs.
+    /// Appends the name of a tag, with at most a number of signs.
     pub(crate) fn push_tag(
         &self,
         alloc: Global,
