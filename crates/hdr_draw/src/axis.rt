@@ -26,7 +26,7 @@ impl Model for Axis {
 }
 
 impl Axis {
-    /// Returns the scale from a number to another. If it is not above the first, the scale is 1 long.
+    /// Returns the scale from a number to another, which is 1 long if that is not above the first.
     pub fn new(from: u64, to: u64) -> Axis
         ensures from { result.from ≡ from }
         ensures span { result.span ≡ max 1 (to - from) }

@@ -83,7 +83,7 @@ fn push_column(
     Ok(())
 }
 
-/// Returns the run, as colour and first row, after a row of this colour. A run that ends is appended.
+/// Returns the run, as colour and first row, after a row of this colour. Appends a run that ends.
 fn continue_run(
     paths: &mut Vec<String>,
     column: usize,

@@ -5,7 +5,7 @@ ghost use Rattle.std.specs.Prelude.{◌≤◌};
 use crate::axis::Axis;
 use crate::logarithm::{OCTAVE, logarithm};
 
-/// A scale from the quantile 0 to the first quantile that is the greatest of some number of samples.
+/// A scale from the quantile 0 to the first one that is the greatest of some number of samples.
 ///
 /// A quantile q is at the logarithm of 1/(1 - q), so p90, p99 and p99.9 are equally far apart.
 #[derive(Debug, Drop)]

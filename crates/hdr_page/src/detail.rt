@@ -44,7 +44,7 @@ pub(crate) fn detail_of(
         }
     }
     Ok(Detail {
-        curve: curve_of(alloc, &sum, quantiles)?,
+        curve: curve_of(alloc, &sum, quantiles, WIDTH)?,
         heat,
     })
 }
@@ -73,10 +73,11 @@ fn add_heat(
 
 /// Returns the curve of quantiles: from the least value to the greatest, each point 6 % nearer to
 /// the quantile 1 than the one before.
-fn curve_of(
+pub(crate) fn curve_of(
     alloc: Global,
     histogram: &Histogram<u64>,
     scale: &QuantileScale,
+    width: u32,
 ) -> Result<Vec<CurvePoint>, AllocError> {
     let mut curve = Vec::new(alloc);
     let all = histogram.len();
@@ -88,7 +89,7 @@ fn curve_of(
         let rank = all.saturating_sub(above).max(1);
         if let Some(quantile) = Quantile::new(rank, all) {
             curve.push(CurvePoint {
-                x: scale.place(all, above, WIDTH),
+                x: scale.place(all, above, width),
                 value: histogram.value_at_quantile(quantile),
             })?;
         }
@@ -96,7 +97,7 @@ fn curve_of(
     }
     if all > 0 {
         curve.push(CurvePoint {
-            x: scale.place_of_last(all, WIDTH),
+            x: scale.place_of_last(all, width),
             value: value_at(histogram, 1, 1),
         })?;
     }

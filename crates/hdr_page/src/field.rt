@@ -109,7 +109,8 @@ impl Field {
         let Field { top, height } = self;
         write!(
             text,
-            "<svg y=\"{top}\" width=\"100%\" height=\"{height}\" viewBox=\"0 0 1000 {height}\" preserveAspectRatio=\"none\">"
+            "<svg y=\"{top}\" width=\"100%\" height=\"{height}\" \
+             viewBox=\"0 0 1000 {height}\" preserveAspectRatio=\"none\">"
         )
     }
 
@@ -209,7 +210,8 @@ impl Field {
         self.push_begin(text)?;
         write!(
             text,
-            "<path class=\"G\" d=\"M0 {height}h1e3\"/><path class=\"g\" d=\"M0 0h1e3\"/><path class=\"{class}\" d=\""
+            "<path class=\"G\" d=\"M0 {height}h1e3\"/><path class=\"g\" d=\"M0 0h1e3\"/>\
+             <path class=\"{class}\" d=\""
         )?;
         push_area(text, &low, &levels)?;
         text.push_str("\"/></svg>")?;
@@ -227,7 +229,7 @@ pub(crate) fn rate(samples: u64, milliseconds: u64) -> u64 {
     u64::try_from(rate).unwrap_or(u64::MAX)
 }
 
-/// Returns the least of 1, 1.5, 2, 3, 4, 5, 6 and 8 times a power of ten that is at or above a rate.
+/// Returns the least of 1, 1.5, 2, 3, 4, 5, 6 and 8 times a power of ten that is not below a rate.
 fn round_rate(rate: u64) -> u64 {
     let mut tens = 1u64;
     for _ in 0..20 {

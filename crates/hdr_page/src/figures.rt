@@ -67,6 +67,8 @@ pub(crate) struct Worst<'a> {
 #[derive(Drop)]
 pub(crate) struct LogFigures<'a> {
     pub all: Figures,
+    /// All samples.
+    pub sum: Histogram<u64>,
     /// The tags, those with the most samples first.
     pub tags: Vec<TagFigures<'a>>,
     /// All tags, at each point of time.
@@ -141,14 +143,13 @@ impl Figures {
     }
 }
 
-/// The sums of intervals: of a point, of a tag and of all.
+/// The sums of intervals: of a point, and of a tag.
 #[derive(Drop)]
 struct Sums<'a> {
     deserializer: Deserializer,
     level: Option<Quantile>,
     point: Histogram<u64>,
     tag: Histogram<u64>,
-    all: Histogram<u64>,
     log: LogFigures<'a>,
 }
 
@@ -169,9 +170,9 @@ pub(crate) fn figures_of<'a>(
         level,
         point: Histogram::new(alloc, DIGITS)?,
         tag: Histogram::new(alloc, DIGITS)?,
-        all: Histogram::new(alloc, DIGITS)?,
         log: LogFigures {
             all: Figures::NONE,
+            sum: Histogram::new(alloc, DIGITS)?,
             tags: Vec::new(alloc),
             totals: vec![in alloc; none; timeline.points]?,
             worst: None,
@@ -180,9 +181,8 @@ pub(crate) fn figures_of<'a>(
     for keys in keys.chunk_by(|a, b| a.tag == b.tag) {
         sums.add_tag(alloc, intervals, keys)?;
     }
-    let all = Figures::of(&sums.all, sums.level);
     let mut log = sums.log;
-    log.all = all;
+    log.all = Figures::of(&log.sum, level);
     sort_tags(&mut log.tags)?;
     Ok(log)
 }
@@ -223,7 +223,7 @@ impl<'a> Sums<'a> {
             }
             self.tag.add(&self.point)?;
         }
-        self.all.add(&self.tag)?;
+        self.log.sum.add(&self.tag)?;
         let index = keys.first().map_or(0, |key| key.tag);
         self.log.tags.push(TagFigures {
             tag: tag_at(intervals, index),

@@ -5,19 +5,20 @@ use crate::error::PageError;
 use crate::name::{IN_TITLE, push_shown};
 use crate::options::PageOptions;
 use crate::style::push_style;
-use crate::view::View;
+use crate::view::{Form, View};
 use std::alloc::Global;
 
 const HEAD: &str = "<!DOCTYPE html>\n<html lang=\"en\"><head><meta charset=\"utf-8\">\
 <meta name=\"viewport\" content=\"width=device-width,initial-scale=1\"><title>";
 
-/// Returns the page of logs: a sentence, the slow times, a table with a row for each tag, and drawings.
+/// Returns the page of logs: a sentence, the slow times, a table with a row for each tag, and
+/// drawings.
 pub fn page(
     alloc: Global,
     logs: &[Vec<u8>],
     options: PageOptions<'_>,
 ) -> Result<String, PageError> {
-    let view = View::new(alloc, logs, options)?;
+    let view = View::new(alloc, logs, options, Form::Html)?;
     let mut text = String::from_str(alloc, HEAD)?;
     push_shown(alloc, &mut text, options.title, IN_TITLE)?;
     text.push_str("</title><style>")?;

@@ -22,6 +22,7 @@ mod slow;
 mod style;
 mod table;
 mod tag_drawing;
+mod terminal;
 mod timeline;
 mod view;
 
@@ -29,3 +30,4 @@ pub use error::PageError;
 pub use html::page;
 pub use options::{PageLevel, PageOptions};
 pub use separated::rows;
+pub use terminal::page_text;

@@ -19,8 +19,8 @@ const GROUPS: [u64; 7] = [
     1,
 ];
 
-/// Returns `num * parts / den` to the nearest integer, halves to the even one, or `None` if `den` is
-/// 0 or the product overflows.
+/// Returns `num * parts / den` to the nearest integer, halves to the even one. Returns `None` if
+/// `den` is 0 or the product overflows.
 pub(crate) fn in_parts(num: u128, den: u128, parts: u128) -> Option<u128>
     ensures { IfSome result (λ n. IsNearest num den parts n) }
 {

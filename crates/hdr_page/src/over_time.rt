@@ -39,7 +39,8 @@ impl View<'_> {
             "<svg class=\"d time\" height=\"{height}\" style=\"--r:"
         )?;
         self.push_right(text)?;
-        text.push_str("px\" role=\"img\" aria-labelledby=\"ot od\"><title id=\"ot\">p99 over time of ")?;
+        text.push_str("px\" role=\"img\" aria-labelledby=\"ot od\"><title id=\"ot\">")?;
+        text.push_str("p99 over time of ")?;
         self.push_names(alloc, text)?;
         text.push_str("</title><desc id=\"od\">")?;
         self.push_description(text)?;

@@ -15,7 +15,7 @@ use std::alloc::{AllocError, Global};
 const CURVES: Field = Field { top: 0, height: 332 };
 
 /// The lines across the x axis: 1/(1 - q), its name, and whether a phone shows that.
-const LINES: [(u64, &str, bool); 12] = [
+pub(crate) const LINES: [(u64, &str, bool); 12] = [
     (1, "0", false),
     (2, "p50", true),
     (10, "p90", true),
@@ -107,7 +107,8 @@ impl View<'_> {
         self.push_right(text)?;
         write!(
             text,
-            "px\" role=\"img\" aria-labelledby=\"{kind}t {kind}d\"><title id=\"{kind}t\">Percentiles of "
+            "px\" role=\"img\" aria-labelledby=\"{kind}t {kind}d\">\
+             <title id=\"{kind}t\">Percentiles of "
         )?;
         self.push_names(alloc, text)?;
         let name = if kind == "log" {

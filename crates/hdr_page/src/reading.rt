@@ -37,7 +37,7 @@ impl Interval<'_> {
 #[derive(Drop)]
 pub(crate) struct Intervals<'a> {
     pub list: Vec<Interval<'a>>,
-    /// The tags in the order in which they were first read. Intervals without a tag have an empty one.
+    /// The tags in the order in which they were first read, an empty one for intervals without.
     pub tags: Vec<&'a str>,
     indices: HashMap<String, usize>,
 }
@@ -87,7 +87,7 @@ impl<'a> Intervals<'a> {
         Ok(())
     }
 
-    /// Adds an interval after this base time, unless it has another tag than the one that is chosen.
+    /// Adds an interval after this base time, unless another tag than its own is chosen.
     fn push(
         &mut self,
         alloc: Global,

@@ -1,7 +1,7 @@
 //! The title, the sentence and the slow times.
 
 use crate::clock::{TimeStyle, push_length};
-use crate::name::{IN_SENTENCE, IN_TABLE, IN_TITLE, push_shown};
+use crate::name::{IN_SENTENCE, IN_TABLE, IN_TITLE};
 use crate::number::push_grouped;
 use crate::slow::{LETTERS, Mark, Measure, SlowTime, TIMES};
 use crate::view::View;
@@ -10,18 +10,21 @@ use std::alloc::{AllocError, Global};
 impl View<'_> {
     /// Appends the title, the sentence and the slow times.
     pub(crate) fn push_words(&self, alloc: Global, text: &mut String) -> Result<(), AllocError> {
-        text.push_str("<h1>")?;
-        push_shown(alloc, text, self.options.title, IN_TITLE)?;
-        text.push_str("</h1>\n")?;
+        self.push_markup(text, "<h1>")?;
+        self.push_shown(alloc, text, self.options.title, IN_TITLE)?;
+        self.push_markup(text, "</h1>")?;
+        text.push_str("\n")?;
         self.push_sentence(alloc, text)?;
         if self.log.all.count == 0 || self.is_instant() {
-            text.push_str("<p class=\"soft\">")?;
+            self.push_markup(text, "<p class=\"soft\">")?;
         } else if self.slow.named.is_empty() {
-            text.push_str("<p class=\"soft\">Never slow: ")?;
+            self.push_markup(text, "<p class=\"soft\">")?;
+            text.push_str("Never slow: ")?;
             self.push_rule(text)?;
         } else {
             self.push_slow_times(alloc, text)?;
-            text.push_str("<p class=\"soft\">Slow: ")?;
+            self.push_markup(text, "<p class=\"soft\">")?;
+            text.push_str("Slow: ")?;
             self.push_rule(text)?;
         }
         self.push_zone(text)
@@ -31,26 +34,36 @@ impl View<'_> {
     fn push_sentence(&self, alloc: Global, text: &mut String) -> Result<(), AllocError> {
         let all = &self.log.all;
         let length = self.timeline.last.saturating_sub(self.timeline.first);
-        text.push_str("<p class=\"say\">")?;
+        self.push_markup(text, "<p class=\"say\">")?;
         if all.count == 0 {
             text.push_str("No samples in ")?;
             push_length(text, length)?;
-            return text.push_str(".</p>\n");
+            text.push_str(".")?;
+            self.push_markup(text, "</p>")?;
+            return text.push_str("\n");
         }
         push_grouped(text, all.count)?;
         text.push_str(" samples in ")?;
         push_length(text, length)?;
         text.push_str(": p50 ")?;
         self.units.push(text, all.p50)?;
-        text.push_str(", <b>p99 ")?;
-        self.units.push(text, all.p99)?;
-        text.push_str("</b>, <b>max ")?;
-        self.units.push(text, all.max)?;
-        text.push_str("</b>")?;
+        text.push_str(", ")?;
+        self.push_bold(text, "p99 ", all.p99)?;
+        text.push_str(", ")?;
+        self.push_bold(text, "max ", all.max)?;
         self.push_worst(alloc, text)?;
         text.push_str(".")?;
         self.push_verdict(text)?;
-        text.push_str("</p>\n")
+        self.push_markup(text, "</p>")?;
+        text.push_str("\n")
+    }
+
+    /// Appends a name and a value, bold.
+    fn push_bold(&self, text: &mut String, name: &str, value: u64) -> Result<(), AllocError> {
+        self.push_markup(text, "<b>")?;
+        text.push_str(name)?;
+        self.units.push(text, value)?;
+        self.push_markup(text, "</b>")
     }
 
     /// Appends when the greatest sample came, and in which tag.
@@ -65,9 +78,8 @@ impl View<'_> {
         if self.is_single() {
             return Ok(());
         }
-        text.push_str(" in <bdi>")?;
-        self.push_tag(alloc, text, worst.tag, IN_TABLE)?;
-        text.push_str("</bdi>")
+        text.push_str(" in ")?;
+        self.push_isolated(alloc, text, worst.tag, IN_TABLE)
     }
 
     /// Appends whether all samples keep the level.
@@ -76,11 +88,15 @@ impl View<'_> {
             return Ok(());
         };
         let found = self.log.all.at_level;
+        text.push_str(" ")?;
+        self.push_markup(text, "<b>")?;
         text.push_str(if found > level.value {
-            " <b>Over the level</b> of "
+            "Over the level"
         } else {
-            " <b>Within the level</b> of "
+            "Within the level"
         })?;
+        self.push_markup(text, "</b>")?;
+        text.push_str(" of ")?;
         level.push_name(text)?;
         text.push_str(" ")?;
         self.units.push_label(text, level.value)?;
@@ -94,18 +110,22 @@ impl View<'_> {
 
     /// Appends a line for each slow time.
     fn push_slow_times(&self, alloc: Global, text: &mut String) -> Result<(), AllocError> {
-        text.push_str("<ul class=\"slow\" aria-label=\"Slow times\">\n")?;
+        self.push_markup(text, "<ul class=\"slow\" aria-label=\"Slow times\">\n")?;
         let peak = self.peak();
         for (time, letter) in self.slow.named.iter().zip(LETTERS) {
-            self.push_slow_time(alloc, text, time, letter, peak)?;
+            let is_peak = match &peak {
+                Some(peak) => !peak.is_further(&time.worst),
+                None => false,
+            };
+            self.push_slow_time(alloc, text, time, letter, is_peak)?;
         }
-        text.push_str("</ul>\n")?;
+        self.push_markup(text, "</ul>\n")?;
         let others = self.slow.others;
         if others > 0 {
-            writeln!(
-                text,
-                "<p class=\"soft\">and {others} more, shorter or less slow</p>"
-            )?;
+            self.push_markup(text, "<p class=\"soft\">")?;
+            write!(text, "and {others} more, shorter or less slow")?;
+            self.push_markup(text, "</p>")?;
+            text.push_str("\n")?;
         }
         Ok(())
     }
@@ -132,23 +152,24 @@ impl View<'_> {
         text: &mut String,
         time: &SlowTime,
         letter: &str,
-        peak: Option<Mark>,
+        is_peak: bool,
     ) -> Result<(), AllocError> {
         let worst = &time.worst;
-        write!(text, "<li><b>{letter}</b> Slow from ")?;
+        self.push_markup(text, "<li><b>")?;
+        text.push_str(letter)?;
+        self.push_markup(text, "</b>")?;
+        text.push_str(" Slow from ")?;
         self.push_span(text, time)?;
         text.push_str(":")?;
         self.push_slow_tags(alloc, text, time)?;
         text.push_str(" ")?;
         self.push_measure(text, worst.measure)?;
         text.push_str(" up to ")?;
-        let is_peak = match &peak {
-            Some(peak) => !peak.is_further(worst),
-            None => false,
-        };
-        text.push_str(if is_peak { "<b>" } else { "" })?;
-        self.units.push(text, worst.value)?;
-        text.push_str(if is_peak { "</b>" } else { "" })?;
+        if is_peak {
+            self.push_bold(text, "", worst.value)?;
+        } else {
+            self.units.push(text, worst.value)?;
+        }
         if time.to.saturating_sub(time.from) > 1 {
             text.push_str(" at ")?;
             self.push_start(text, worst.point)?;
@@ -156,9 +177,13 @@ impl View<'_> {
         if time.tags.iter().filter(|is_slow| **is_slow).count() > 1 {
             self.push_in_tag(alloc, text, worst.tag)?;
         }
-        text.push_str(" <span class=\"soft\">(usually ")?;
+        text.push_str(" ")?;
+        self.push_markup(text, "<span class=\"soft\">")?;
+        text.push_str("(usually ")?;
         self.units.push(text, worst.usual)?;
-        text.push_str(")</span></li>\n")
+        text.push_str(")")?;
+        self.push_markup(text, "</span></li>")?;
+        text.push_str("\n")
     }
 
     /// Appends when a slow time began, and how long it was.
@@ -185,9 +210,8 @@ impl View<'_> {
         let Some(tag) = self.log.tags.get(index) else {
             return Ok(());
         };
-        text.push_str(" in <bdi>")?;
-        self.push_tag(alloc, text, tag.tag, IN_SENTENCE)?;
-        text.push_str("</bdi>")
+        text.push_str(" in ")?;
+        self.push_isolated(alloc, text, tag.tag, IN_SENTENCE)
     }
 
     /// Appends which tags are slow, unless there is one tag alone.
@@ -207,9 +231,8 @@ impl View<'_> {
         let mut named = 0usize;
         for (tag, is_slow) in self.log.tags.iter().zip(time.tags.iter()) {
             if *is_slow && named < 3 {
-                text.push_str(if named == 0 { " <bdi>" } else { ", <bdi>" })?;
-                self.push_tag(alloc, text, tag.tag, IN_SENTENCE)?;
-                text.push_str("</bdi>")?;
+                text.push_str(if named == 0 { " " } else { ", " })?;
+                self.push_isolated(alloc, text, tag.tag, IN_SENTENCE)?;
                 named += 1;
             }
         }
@@ -245,7 +268,8 @@ impl View<'_> {
             }
             None => write!(
                 text,
-                "p99 of a tag {TIMES} times its median over time, or more (with few samples: p90 or p50). "
+                "p99 of a tag {TIMES} times its median over time, or more \
+                 (with few samples: p90 or p50). "
             ),
         }
     }
@@ -262,7 +286,9 @@ impl View<'_> {
         } else {
             text.push_str("Times are since the start, as the log has no clock time")?;
         }
-        text.push_str(".</p>\n")
+        text.push_str(".")?;
+        self.push_markup(text, "</p>")?;
+        text.push_str("\n")
     }
 
     /// Appends the slow times as sentences.

@@ -55,7 +55,8 @@ const HEAT_DARK: [&str; 8] = [
 ];
 
 /// The style before the colours on white.
-const ROOT: &str = ":root{color-scheme:light dark;--bg:#fff;--ink:#1a1d21;--soft:#575e66;--line:#c9ced4;
+const ROOT: &str = ":root{color-scheme:light dark;--bg:#fff;
+--ink:#1a1d21;--soft:#575e66;--line:#c9ced4;
 --thin:#e6e9ec;--band:#1a1d2114;";
 
 /// The style between the colours on white and those on black.

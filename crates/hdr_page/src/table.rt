@@ -58,7 +58,8 @@ pub(crate) fn push_mark(text: &mut String, tag: usize) -> Result<(), AllocError>
     let dash = if tag > 4 { " dash" } else { "" };
     write!(
         text,
-        "<svg class=\"k t{tag}\" width=\"18\" height=\"4\" aria-hidden=\"true\"><path class=\"c{dash}\" d=\"M0 2h18\"/></svg>"
+        "<svg class=\"k t{tag}\" width=\"18\" height=\"4\" aria-hidden=\"true\">\
+         <path class=\"c{dash}\" d=\"M0 2h18\"/></svg>"
     )
 }
 
@@ -98,7 +99,8 @@ impl View<'_> {
         if self.log.tags.len() > DRAWN {
             writeln!(
                 text,
-                "<p class=\"soft\">Drawings show the {DRAWN} tags with the most samples; \"all\" counts every tag.</p>"
+                "<p class=\"soft\">Drawings show the {DRAWN} tags with the most samples; \
+                 \"all\" counts every tag.</p>"
             )?;
         }
         Ok(())

@@ -87,7 +87,8 @@ impl View<'_> {
         let height = ALL.height + AROUND;
         write!(
             text,
-            "<svg class=\"d tag\" height=\"{height}\" role=\"img\" aria-labelledby=\"g{index}t g{index}d\"><title id=\"g{index}t\">"
+            "<svg class=\"d tag\" height=\"{height}\" role=\"img\" \
+             aria-labelledby=\"g{index}t g{index}d\"><title id=\"g{index}t\">"
         )?;
         self.push_tag(alloc, text, tag.tag, AT_CURVE)?;
         text.push_str(" over time: p50, p90, p99 and max, a heat map, samples/s</title>")?;
@@ -169,7 +170,8 @@ impl View<'_> {
         let points = self.timeline.points;
         write!(
             text,
-            "<svg y=\"{top}\" width=\"100%\" height=\"{height}\" viewBox=\"-.5 0 {points} {ROWS}\" preserveAspectRatio=\"none\">"
+            "<svg y=\"{top}\" width=\"100%\" height=\"{height}\" \
+             viewBox=\"-.5 0 {points} {ROWS}\" preserveAspectRatio=\"none\">"
         )?;
         for (colour, path) in detail.heat.paths(alloc)?.iter().enumerate() {
             if !path.is_empty() {
@@ -184,7 +186,8 @@ impl View<'_> {
 /// Appends the colours of a heat map, from one sample to the most.
 fn push_legend(text: &mut String, most: u64) -> Result<(), AllocError> {
     text.push_str(
-        "; heat map: samples in a cell <span style=\"white-space:nowrap\">1 <svg class=\"k\" width=\"72\" height=\"9\" aria-hidden=\"true\">",
+        "; heat map: samples in a cell <span style=\"white-space:nowrap\">1 \
+         <svg class=\"k\" width=\"72\" height=\"9\" aria-hidden=\"true\">",
     )?;
     for colour in 0..COLOURS {
         let x = colour * 9;

@@ -4,7 +4,7 @@ use crate::amount::Units;
 use crate::clock::Clock;
 use crate::error::PageError;
 use crate::figures::{Key, LogFigures, PointFigures, TagFigures, figures_of, keys_of};
-use crate::name::push_shown;
+use crate::name::{push_shown, shown};
 use crate::options::PageOptions;
 use crate::reading::Intervals;
 use crate::slow::{SlowTimes, slow_times};
@@ -16,9 +16,18 @@ use std::alloc::{AllocError, Global};
 /// The most tags that are drawn.
 pub(crate) const DRAWN: usize = 10;
 
+/// The form of a page.
+#[derive(Clone, Copy, PartialEq, Eq)]
+pub(crate) enum Form {
+    Html,
+    /// Text for a terminal.
+    Plain,
+}
+
 /// What a page shows.
 #[derive(Drop)]
 pub(crate) struct View<'a> {
+    pub form: Form,
     pub options: PageOptions<'a>,
     pub units: Units,
     pub timeline: Timeline,
@@ -35,6 +44,7 @@ impl<'a> View<'a> {
         alloc: Global,
         logs: &'a [Vec<u8>],
         options: PageOptions<'a>,
+        form: Form,
     ) -> Result<View<'a>, PageError> {
         let intervals = Intervals::read(alloc, logs, options.tag)?;
         let timeline = Timeline::new(alloc, &intervals.list)?;
@@ -47,6 +57,7 @@ impl<'a> View<'a> {
         let drawn = log.tags.get(..DRAWN).unwrap_or(log.tags.as_slice());
         let slow = slow_times(alloc, drawn, timeline.points, options.level)?;
         Ok(View {
+            form,
             options,
             units: Units::new(options.unit),
             timeline,
@@ -95,7 +106,42 @@ impl<'a> View<'a> {
         tag: &str,
         most: usize,
     ) -> Result<(), AllocError> {
-        push_shown(alloc, text, self.name_of(tag), most)
+        self.push_shown(alloc, text, self.name_of(tag), most)
+    }
+
+    /// Appends the name of a tag whose direction of writing leaves what is around it alone.
+    pub(crate) fn push_isolated(
+        &self,
+        alloc: Global,
+        text: &mut String,
+        tag: &str,
+        most: usize,
+    ) -> Result<(), AllocError> {
+        self.push_markup(text, "<bdi>")?;
+        self.push_tag(alloc, text, tag, most)?;
+        self.push_markup(text, "</bdi>")
+    }
+
+    /// Appends a text of a log, with at most a number of signs.
+    pub(crate) fn push_shown(
+        &self,
+        alloc: Global,
+        text: &mut String,
+        name: &str,
+        most: usize,
+    ) -> Result<(), AllocError> {
+        match self.form {
+            Form::Html => push_shown(alloc, text, name, most),
+            Form::Plain => text.push_str(shown(alloc, name, most)?.as_str()),
+        }
+    }
+
+    /// Appends a tag of HTML, unless the text is plain.
+    pub(crate) fn push_markup(&self, text: &mut String, tag: &str) -> Result<(), AllocError> {
+        match self.form {
+            Form::Html => text.push_str(tag),
+            Form::Plain => Ok(()),
+        }
     }
 
     /// Returns the name of a tag.

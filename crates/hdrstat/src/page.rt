@@ -5,7 +5,7 @@ use crate::input::{file_at, read_whole};
 use crate::output::print;
 use crate::reading::{tag_of, unit_of};
 use clap::ArgMatches;
-use hdr_page::{PageError, PageLevel, PageOptions, page, rows};
+use hdr_page::{PageError, PageLevel, PageOptions, page, page_text, rows};
 use hdr_summary::units::{Unit, parse_amount};
 use std::alloc::Global;
 use std::fs;
@@ -73,6 +73,8 @@ fn text_of(
     };
     let shown = if matches.get_flag("intervals") {
         rows(alloc, logs, tag)
+    } else if matches.get_flag("text") {
+        page_text(alloc, logs, options)
     } else {
         page(alloc, logs, options)
     };

@@ -30,6 +30,10 @@ pub(crate) fn page<'a>(alloc: Global) -> Result<Command<'a>, Error> {
     let level = option(alloc, "level", "NUM/DEN=VALUE", help);
     let tag = option(alloc, "tag", "TAG", "Show the intervals with this tag alone");
     let output = option(alloc, "output", "FILE", "File to write, not standard output").short('o');
+    let text = Arg::new(alloc, "text")
+        .long("text")
+        .action(ArgAction::SetTrue)
+        .help("Print text for a terminal, and no page");
     let intervals = Arg::new(alloc, "intervals")
         .long("intervals")
         .action(ArgAction::SetTrue)
@@ -43,6 +47,7 @@ pub(crate) fn page<'a>(alloc: Global) -> Result<Command<'a>, Error> {
         .arg(level)?
         .arg(tag)?
         .arg(output)?
+        .arg(text)?
         .arg(intervals)?;
     Ok(command)
 }
