@@ -12,8 +12,9 @@ pub(crate) const SPACE: &str = "\u{a0}";
 /// The names of units of time, from the shortest, each 1,000 times the one before.
 const NAMES: [&str; 4] = ["ns", "µs", "ms", "s"];
 
-/// From here on values without a unit have an exponent, and those at an axis.
+/// From here on numbers have an exponent, in a table and at an axis.
 const LONG: u128 = 10_000_000;
+
 const LONG_AT_AXIS: u64 = 100_000;
 
 /// The unit of a log's values, if it is known.
@@ -92,7 +93,7 @@ impl Units {
         };
         let longer = 3u32.saturating_sub(log as u32);
         let split = split_powers(value, 1_000, longer);
-        push_grouped(text, split.number)?;
+        push_plain_label(text, split.number)?;
         match NAMES.get(log.saturating_add(split.power as usize)) {
             Some(name) => push_name(text, name),
             None => Ok(()),
@@ -109,7 +110,7 @@ fn push_name(text: &mut String, name: &str) -> Result<(), AllocError> {
     text.push_str(name)
 }
 
-/// Appends a value without a unit exactly, with an exponent if it is long.
+/// Appends a number exactly, with an exponent if it is long.
 fn push_plain_label(text: &mut String, value: u64) -> Result<(), AllocError> {
     if value < LONG_AT_AXIS {
         return push_grouped(text, value);
@@ -128,7 +129,7 @@ impl Amount {
 
     /// Appends the number: three significant digits, and integers of the log's own unit in full.
     pub(crate) fn push_number(self, text: &mut String) -> Result<(), AllocError> {
-        if self.name.is_empty() && self.num >= self.den.saturating_mul(LONG) {
+        if self.num >= self.den.saturating_mul(LONG) {
             return self.push_with_exponent(text);
         }
         if !self.is_longer && self.num.checked_rem(self.den) == Some(0) {

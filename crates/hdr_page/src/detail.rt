@@ -58,12 +58,7 @@ fn keys_of_tag(keys: &[Key], tag: usize) -> &[Key] {
 }
 
 /// Adds the samples of an interval to a column of a heat map, in their classes' highest values.
-fn add_heat(
-    heat: &mut HeatMap,
-    column: usize,
-    histogram: &Histogram<u64>,
-    scale: &ValueScale,
-) {
+fn add_heat(heat: &mut HeatMap, column: usize, histogram: &Histogram<u64>, scale: &ValueScale) {
     for step in histogram.iter_recorded() {
         let above = scale.place(step.value_iterated_to(), ROWS as u32) as usize;
         let row = (ROWS - 1).saturating_sub(above);

@@ -295,9 +295,6 @@ pub(crate) fn decoded(
 ) -> Result<Histogram<u64>, PageError> {
     match deserializer.decode_field(interval.field) {
         Ok(histogram) => Ok(histogram),
-        Err(cause) => Err(not_decoded(
-            interval,
-            InputError::of_interval(interval.line, cause),
-        )),
+        Err(cause) => Err(not_decoded(interval, InputError::of_interval(interval.line, cause))),
     }
 }

@@ -10,7 +10,10 @@ use hdr_draw::values::ValueScale;
 use std::alloc::{AllocError, Global};
 
 /// The part of the values, and that of samples a second.
-const VALUES: Field = Field { top: 0, height: 272 };
+const VALUES: Field = Field {
+    top: 0,
+    height: 272,
+};
 
 const RATES: Field = Field {
     top: 292,
@@ -18,7 +21,10 @@ const RATES: Field = Field {
 };
 
 /// All parts together.
-const ALL: Field = Field { top: 0, height: 332 };
+const ALL: Field = Field {
+    top: 0,
+    height: 332,
+};
 
 /// The height of a drawing beside its parts: what is above and below.
 pub(crate) const AROUND: u32 = 44;
@@ -84,8 +90,6 @@ impl View<'_> {
             maxima.push(total.max)?;
         }
         let maxima = VALUES.levels(alloc, scale, &maxima)?;
-        let y = last_level(&maxima, VALUES);
-        endings.push(Ending::new(alloc, "max (all)", y, "top")?)?;
         VALUES.push_begin(text)?;
         for (index, tag) in self.drawn().iter().enumerate().rev() {
             let values = Series::P99.values(alloc, tag, self.timeline.points)?;
@@ -100,6 +104,9 @@ impl View<'_> {
         text.push_str("<path class=\"top\" d=\"")?;
         push_levels(text, &maxima, Joint::Gap)?;
         text.push_str("\"/></svg>")?;
+        let y = last_level(&maxima, VALUES);
+        endings.push(Ending::new(alloc, "max (all)", y, "top")?)?;
+        endings.reverse();
         self.push_level_ending(alloc, &mut endings, VALUES, scale)?;
         VALUES.push_endings(text, &mut endings)
     }

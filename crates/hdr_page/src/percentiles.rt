@@ -12,7 +12,10 @@ use hdr_draw::tenths::push_tenths;
 use std::alloc::{AllocError, Global};
 
 /// The part of the curves.
-const CURVES: Field = Field { top: 0, height: 332 };
+const CURVES: Field = Field {
+    top: 0,
+    height: 332,
+};
 
 /// The lines across the x axis: 1/(1 - q), its name, and whether a phone shows that.
 pub(crate) const LINES: [(u64, &str, bool); 12] = [
@@ -87,6 +90,7 @@ impl View<'_> {
             }
         }
         text.push_str("</svg>")?;
+        endings.reverse();
         self.push_level_ending(alloc, &mut endings, CURVES, scale)?;
         CURVES.push_endings(text, &mut endings)?;
         text.push_str("</svg>")

@@ -277,8 +277,7 @@ impl View<'_> {
     /// Appends from when to when the log is, and ends the paragraph.
     fn push_zone(&self, text: &mut String) -> Result<(), AllocError> {
         if self.clock.has_clock() {
-            self.clock
-                .push(text, self.timeline.first, TimeStyle::Full)?;
+            self.clock.push(text, self.timeline.first, TimeStyle::Full)?;
             text.push_str(" to ")?;
             self.clock.push(text, self.timeline.last, TimeStyle::Full)?;
             text.push_str(" UTC, ")?;

@@ -28,7 +28,13 @@ pub fn rows(alloc: Global, logs: &[Vec<u8>], tag: Option<&str>) -> Result<String
             Some(tag) => *tag,
             None => "",
         };
-        write_row(alloc, &mut table, interval, tag, &Figures::of(&histogram, None))?;
+        write_row(
+            alloc,
+            &mut table,
+            interval,
+            tag,
+            &Figures::of(&histogram, None),
+        )?;
     }
     let bytes = table.into_inner().map_err(|_| AllocError)?;
     Ok(String::from_utf8_lossy(alloc, &bytes)?)
@@ -40,11 +46,7 @@ fn write_field(table: &mut Writer<Vec<u8>>, field: &str) -> Result<(), AllocErro
 }
 
 /// Writes a number.
-fn write_number(
-    alloc: Global,
-    table: &mut Writer<Vec<u8>>,
-    number: u64,
-) -> Result<(), AllocError> {
+fn write_number(alloc: Global, table: &mut Writer<Vec<u8>>, number: u64) -> Result<(), AllocError> {
     let text = format!(in alloc; "{number}")?;
     write_field(table, text.as_str())
 }

@@ -93,11 +93,7 @@ impl Mark {
 }
 
 /// Returns the measure of a tag.
-fn measure_of(
-    alloc: Global,
-    tag: &TagFigures<'_>,
-    has_level: bool,
-) -> Result<Measure, AllocError> {
+fn measure_of(alloc: Global, tag: &TagFigures<'_>, has_level: bool) -> Result<Measure, AllocError> {
     if has_level {
         return Ok(Measure::Level);
     }

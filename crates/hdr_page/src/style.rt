@@ -4,54 +4,24 @@ use std::alloc::AllocError;
 
 /// The colours of tags, on white.
 const LIGHT: [&str; 10] = [
-    "#123eb2",
-    "#842b02",
-    "#15a194",
-    "#904e81",
-    "#9f73f7",
-    "#a69239",
-    "#0c82bf",
-    "#5d202f",
-    "#447924",
-    "#5e5656",
+    "#123eb2", "#842b02", "#15a194", "#904e81", "#9f73f7", "#a69239", "#0c82bf", "#5d202f",
+    "#447924", "#5e5656",
 ];
 
 /// The colours of tags, on black.
 const DARK: [&str; 10] = [
-    "#4476ee",
-    "#b4481e",
-    "#30fac2",
-    "#dc6da2",
-    "#c4affd",
-    "#9ba003",
-    "#069ce4",
-    "#eba0a4",
-    "#ade74e",
-    "#6b706b",
+    "#4476ee", "#b4481e", "#30fac2", "#dc6da2", "#c4affd", "#9ba003", "#069ce4", "#eba0a4",
+    "#ade74e", "#6b706b",
 ];
 
 /// The colours of heat maps, on white, from few samples to many.
 const HEAT_LIGHT: [&str; 8] = [
-    "#dcdde8",
-    "#bfc1d4",
-    "#a3a5c0",
-    "#888aab",
-    "#6e6f95",
-    "#55557d",
-    "#3e3c64",
-    "#28244a",
+    "#dcdde8", "#bfc1d4", "#a3a5c0", "#888aab", "#6e6f95", "#55557d", "#3e3c64", "#28244a",
 ];
 
 /// The same on black.
 const HEAT_DARK: [&str; 8] = [
-    "#2b2d3f",
-    "#3f4158",
-    "#555773",
-    "#6c6f8f",
-    "#8588aa",
-    "#a0a3c3",
-    "#bfc1da",
-    "#e2e3f2",
+    "#2b2d3f", "#3f4158", "#555773", "#6c6f8f", "#8588aa", "#a0a3c3", "#bfc1da", "#e2e3f2",
 ];
 
 /// The style before the colours on white.

@@ -118,9 +118,7 @@ impl View<'_> {
         push_grouped(text, figures.count)?;
         text.push_str("<td>")?;
         push_rate(text, figures.count, milliseconds)?;
-        let mean = figures
-            .mean
-            .map(|mean| Amount::of_mean(self.units, mean));
+        let mean = figures.mean.map(|mean| Amount::of_mean(self.units, mean));
         self.push_cell(text, mean, false)?;
         for (value, bold) in columns(figures).iter().zip(bold) {
             let amount = if figures.count > 0 {

@@ -14,7 +14,10 @@ use hdr_draw::path::{push_area, push_levels};
 use std::alloc::{AllocError, Global};
 
 /// The parts of the drawing.
-const VALUES: Field = Field { top: 0, height: 220 };
+const VALUES: Field = Field {
+    top: 0,
+    height: 220,
+};
 
 const HEAT: Field = Field {
     top: 244,
@@ -27,7 +30,10 @@ const RATES: Field = Field {
 };
 
 /// All parts together.
-const ALL: Field = Field { top: 0, height: 470 };
+const ALL: Field = Field {
+    top: 0,
+    height: 470,
+};
 
 /// The lines, from the lowest layer to the uppermost, with their classes.
 const LINES: [(Series, &str); 4] = [

@@ -24,10 +24,7 @@ pub(crate) struct Timeline {
 
 impl Timeline {
     /// Returns the points of time of intervals.
-    pub(crate) fn new(
-        alloc: Global,
-        intervals: &[Interval<'_>],
-    ) -> Result<Timeline, AllocError> {
+    pub(crate) fn new(alloc: Global, intervals: &[Interval<'_>]) -> Result<Timeline, AllocError> {
         let mut first = u64::MAX;
         let mut last = 0;
         let mut lengths = Vec::new(alloc);

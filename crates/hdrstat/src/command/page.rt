@@ -25,11 +25,27 @@ Status: 0; 1 if a log is invalid, or input or output fails; 2 for a usage error.
 pub(crate) fn page<'a>(alloc: Global) -> Result<Command<'a>, Error> {
     let help = "Unit of the values of the logs, which are then shown with units";
     let unit = option(alloc, "unit", "UNIT", help).value_parser(["ns", "us", "ms", "s"].as_slice());
-    let title = option(alloc, "title", "TEXT", "Title of the page [default: Interval log]");
+    let title = option(
+        alloc,
+        "title",
+        "TEXT",
+        "Title of the page [default: Interval log]",
+    );
     let help = "A quantile of each tag, and the greatest value that it should have";
     let level = option(alloc, "level", "NUM/DEN=VALUE", help);
-    let tag = option(alloc, "tag", "TAG", "Show the intervals with this tag alone");
-    let output = option(alloc, "output", "FILE", "File to write, not standard output").short('o');
+    let tag = option(
+        alloc,
+        "tag",
+        "TAG",
+        "Show the intervals with this tag alone",
+    );
+    let output = option(
+        alloc,
+        "output",
+        "FILE",
+        "File to write, not standard output",
+    )
+    .short('o');
     let text = Arg::new(alloc, "text")
         .long("text")
         .action(ArgAction::SetTrue)
