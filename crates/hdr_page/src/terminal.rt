@@ -27,13 +27,37 @@ pub fn page_text(
     options: PageOptions<'_>,
 ) -> Result<String, PageError> {
     let view = View::new(alloc, logs, options, Form::Plain)?;
+    let mut words = String::new(alloc);
+    view.push_words(alloc, &mut words)?;
     let mut text = String::new(alloc);
-    view.push_words(alloc, &mut text)?;
+    push_wrapped(&mut text, words.as_str())?;
     if view.log.all.count > 0 {
         text.push_str("\n")?;
         view.push_blocks(alloc, &mut text)?;
     }
     Ok(text)
+}
+
+/// Appends lines, broken at spaces.
+fn push_wrapped(text: &mut String, words: &str) -> Result<(), AllocError> {
+    for line in words.lines() {
+        let mut column = 0usize;
+        for word in line.split(' ') {
+            let signs = word.chars().count();
+            if column > 0 && column.saturating_add(signs) >= LABEL + COLUMNS {
+                text.push_str("\n")?;
+                column = 0;
+            }
+            if column > 0 {
+                text.push_str(" ")?;
+                column = column.saturating_add(1);
+            }
+            text.push_str(word)?;
+            column = column.saturating_add(signs);
+        }
+        text.push_str("\n")?;
+    }
+    Ok(())
 }
 
 impl View<'_> {
