@@ -2,12 +2,12 @@ use Rattle.std.proofs.Common.{◌≡◌, ℕ, ◌+◌, ◌-◌, ◌<◌, ◌≤�
 use Rattle.std.proofs.lemmas.Grind.{common_steps, elements}
 use Rattle.std.specs.List.{All}
 use Rattle.std.proofs.lemmas.List.Elements.{All-push}
-use Rattle.hdr_draw.specs.Steps.{IsStep, IsAscending, AreSteps}
+use Rattle.hdr_draw.specs.Steps.{IsStep, IsStrictlyAscending, AreSteps}
 
 no_greater : (last x : ℕ) (xs : List ℕ) → All (λ n. n ≤ last) xs → last < x → All (λ n. n ≤ x) xs
 no_greater last x xs a h = search (arith)
 
-ascending : (last x : ℕ) (xs : List ℕ) → IsAscending xs → All (λ n. n ≤ last) xs → last < x → IsAscending (xs ++ x ∷ [])
+ascending : (last x : ℕ) (xs : List ℕ) → IsStrictlyAscending xs → All (λ n. n ≤ last) xs → last < x → IsStrictlyAscending (xs ++ x ∷ [])
 ascending last x xs a e h = grind (arith, elements)
 
 pub pushed : (low high last x : ℕ) (xs : List ℕ) → AreSteps low high last xs → IsStep x → last < x → x ≤ high → AreSteps low high x (xs ++ x ∷ [])

@@ -7,8 +7,8 @@ abbrev pub IsStep : ℕ → Type 0
 IsStep n = (k : ℕ) × ((n ≡ 10 ^ k) ⊎ ((n ≡ 2 * 10 ^ k) ⊎ (n ≡ 5 * 10 ^ k)))
 
 -- each number is below the next
-abbrev pub IsAscending : List ℕ → Type 0
-IsAscending xs = (k : ℕ) → k + 1 < length xs → slice_index xs k < slice_index xs (k + 1)
+abbrev pub IsStrictlyAscending : List ℕ → Type 0
+IsStrictlyAscending xs = (k : ℕ) → k + 1 < length xs → slice_index xs k < slice_index xs (k + 1)
 
 -- ascending steps from low to high, of which none is above last
 pub record AreSteps (low high last : ℕ) (xs : List ℕ) : Type 0 where
@@ -16,4 +16,4 @@ pub record AreSteps (low high last : ℕ) (xs : List ℕ) : Type 0 where
   pub steps : All IsStep xs
   pub inside : All (λ n. (low ≤ n) × (n ≤ high)) xs
   pub ended : All (λ n. n ≤ last) xs
-  pub ascending : IsAscending xs
+  pub ascending : IsStrictlyAscending xs

@@ -2,7 +2,7 @@
 
 ghost use Rattle.std.specs.Prelude.{◌≡◌, ◌<◌, ◌≤◌, ◌*◌, ◌^◌, max, IfOk, IfSome};
 ghost use Rattle.std.specs.List.{All};
-ghost use Rattle.hdr_draw.specs.Steps.{IsStep, IsAscending, AreSteps};
+ghost use Rattle.hdr_draw.specs.Steps.{IsStep, IsStrictlyAscending, AreSteps};
 
 use std::alloc::{AllocError, Global};
 
@@ -72,7 +72,7 @@ fn push_step(
 pub fn steps_between(alloc: Global, low: u64, high: u64) -> Result<Vec<u64>, AllocError>
     ensures steps { IfOk result (λ v. All IsStep v.items) }
     ensures inside { IfOk result (λ v. All (λ n. (low ≤ n) × (n ≤ high)) v.items) }
-    ensures ascending { IfOk result (λ v. IsAscending v.items) }
+    ensures ascending { IfOk result (λ v. IsStrictlyAscending v.items) }
 {
     let mut steps = Vec::new(alloc);
     let mut last = low.saturating_sub(1);
