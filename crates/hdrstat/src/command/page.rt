@@ -31,8 +31,8 @@ pub(crate) fn page<'a>(alloc: Global) -> Result<Command<'a>, Error> {
         "TEXT",
         "Title of the page [default: Interval log]",
     );
-    let help = "A quantile of each tag, and the greatest value that it should have";
-    let level = option(alloc, "level", "NUM/DEN=VALUE", help);
+    let help = "Quantile that each tag should have, such as 99/100=5ms";
+    let level = option(alloc, "level", "LEVEL", help);
     let tag = option(
         alloc,
         "tag",
