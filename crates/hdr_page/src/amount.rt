@@ -91,7 +91,7 @@ impl Units {
         let Some(log) = self.log else {
             return push_plain_label(text, value);
         };
-        let longer = 3u32.saturating_sub(log as u32);
+        let longer = 3u32.saturating_sub(u32::try_from(log).unwrap_or(3));
         let split = split_powers(value, 1_000, longer);
         push_plain_label(text, split.number)?;
         match NAMES.get(log.saturating_add(split.power as usize)) {
