@@ -21,8 +21,8 @@ Examples:
 
 Status: 0; 1 if a log is invalid, or input or output fails; 2 for a usage error.";
 
-/// Returns the command line of `hdrstat page`.
-pub(crate) fn page<'a>(alloc: Global) -> Result<Command<'a>, Error> {
+/// Adds the options of what is shown.
+fn with_content<'a>(alloc: Global, command: Command<'a>) -> Result<Command<'a>, Error> {
     let help = "Unit of the values of the logs, which are then shown with units";
     let unit = option(alloc, "unit", "UNIT", help).value_parser(["ns", "us", "ms", "s"].as_slice());
     let title = option(
@@ -39,6 +39,12 @@ pub(crate) fn page<'a>(alloc: Global) -> Result<Command<'a>, Error> {
         "TAG",
         "Show the intervals with this tag alone",
     );
+    let command = command.arg(unit)?.arg(title)?.arg(level)?.arg(tag)?;
+    Ok(command)
+}
+
+/// Returns the command line of `hdrstat page`.
+pub(crate) fn page<'a>(alloc: Global) -> Result<Command<'a>, Error> {
     let output = option(
         alloc,
         "output",
@@ -57,11 +63,8 @@ pub(crate) fn page<'a>(alloc: Global) -> Result<Command<'a>, Error> {
     let command = Command::new(alloc, "page")
         .about("Make an HTML page of interval logs")
         .after_help(AFTER)
-        .arg(logs(alloc))?
-        .arg(unit)?
-        .arg(title)?
-        .arg(level)?
-        .arg(tag)?
+        .arg(logs(alloc))?;
+    let command = with_content(alloc, command)?
         .arg(output)?
         .arg(text)?
         .arg(intervals)?;
