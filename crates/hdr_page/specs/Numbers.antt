@@ -1,6 +1,7 @@
 -- Fractions as decimals.
-use Rattle.std.specs.Prelude.{ℕ, ◌+◌, ◌*◌, ◌/◌}
+use Rattle.std.specs.Prelude.{ℕ, ◌+◌, ◌*◌, ◌≤◌}
 
--- a fraction as a number of equal parts of 1, to the nearest, halves up
-abbrev pub nearest : ℕ → ℕ → ℕ → ℕ
-nearest num den parts = (num * parts + den / 2) / den
+-- n is a fraction as a number of equal parts of 1, to the nearest: at most half a part above or below
+pub record IsNearest (num den parts n : ℕ) : Type 0 where
+  pub not_below : 2 * (num * parts) ≤ 2 * (n * den) + den
+  pub not_above : 2 * (n * den) ≤ 2 * (num * parts) + den

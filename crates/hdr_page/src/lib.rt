@@ -2,15 +2,32 @@
 //! row for each interval.
 #![tactic(auto)]
 
-mod curve;
+mod amount;
+mod clock;
+mod detail;
+mod ending;
 mod error;
+mod field;
+mod figures;
 mod html;
-mod interval;
+mod name;
 mod number;
+mod options;
 mod over_time;
+mod percentiles;
+mod reading;
+mod sentence;
 mod separated;
-mod svg;
+mod slow;
+mod style;
+mod table;
+mod tag_drawing;
+mod terminal;
+mod timeline;
+mod view;
 
 pub use error::PageError;
 pub use html::page;
+pub use options::{PageLevel, PageOptions};
 pub use separated::rows;
+pub use terminal::page_text;

@@ -1,100 +1,182 @@
-//! Quantiles over time.
+//! The drawing of all tags over time.
 
-use crate::interval::{Answers, Interval};
-use crate::number::thousandths;
-use crate::svg::{HEIGHT, Point, WIDTH, along, push_begin, push_end, push_line, push_mark};
-use hdrhistogram::serialization::interval_log::Tag;
+use crate::clock::push_length;
+use crate::ending::Ending;
+use crate::field::{Field, Scale};
+use crate::name::AT_CURVE;
+use crate::view::{Series, View};
+use hdr_draw::path::{Joint, push_levels};
+use hdr_draw::values::ValueScale;
 use std::alloc::{AllocError, Global};
 
-/// The names of the quantiles that are drawn; `drawn` has the value of each.
-pub(crate) const DRAWN: [&str; 4] = ["50%", "90%", "99%", "100%"];
+/// The part of the values, and that of samples a second.
+const VALUES: Field = Field {
+    top: 0,
+    height: 272,
+};
 
-/// Returns the value of the quantile at this index of `DRAWN`.
-fn drawn(answers: &Answers, place: usize) -> u64 {
-    match place {
-        0 => answers.half,
-        1 => answers.of_10,
-        2 => answers.of_100,
-        _ => answers.all,
+const RATES: Field = Field {
+    top: 292,
+    height: 40,
+};
+
+/// All parts together.
+const ALL: Field = Field {
+    top: 0,
+    height: 332,
+};
+
+/// The height of a drawing beside its parts: what is above and below.
+pub(crate) const AROUND: u32 = 44;
+
+impl View<'_> {
+    /// Appends the drawing of all tags over time.
+    pub(crate) fn push_over_time(
+        &self,
+        alloc: Global,
+        text: &mut String,
+    ) -> Result<(), AllocError> {
+        text.push_str("<figure><h2>Over time: p99 of each tag, max of all</h2><figcaption>")?;
+        self.push_caption(text)?;
+        text.push_str("; below: samples/s of all</figcaption>")?;
+        let height = ALL.height + AROUND;
+        write!(
+            text,
+            "<svg class=\"d time\" height=\"{height}\" style=\"--r:"
+        )?;
+        self.push_right(text)?;
+        text.push_str("px\" role=\"img\" aria-labelledby=\"ot od\"><title id=\"ot\">")?;
+        text.push_str("p99 over time of ")?;
+        self.push_names(alloc, text)?;
+        text.push_str("</title><desc id=\"od\">")?;
+        self.push_description(text)?;
+        text.push_str("</desc>")?;
+        let scale = Scale::Logarithmic(self.p99_scale());
+        self.push_time_axis(alloc, text, ALL)?;
+        VALUES.push_grid(alloc, text, &scale, self.units)?;
+        self.push_bands(text, ALL)?;
+        VALUES.push_level(text, &scale, self.options.level)?;
+        self.push_p99_lines(alloc, text, &scale)?;
+        let mut counts = Vec::new(alloc);
+        for total in &self.log.totals {
+            counts.push(total.count)?;
+        }
+        RATES.push_rates(alloc, text, &counts, self, "sum")?;
+        text.push_str("</svg></figure>\n")
+    }
+
+    /// Returns the scale from the least p99 of a point.
+    fn p99_scale(&self) -> ValueScale {
+        let mut least = self.options.level.map_or(u64::MAX, |level| level.value);
+        for tag in self.drawn() {
+            for point in &tag.points {
+                least = least.min(Series::P99.of(point).unwrap_or(u64::MAX));
+            }
+        }
+        ValueScale::new(least.min(self.greatest()), self.greatest())
+    }
+
+    /// Appends the line of each tag's p99, the greatest values, and the names at their ends.
+    fn push_p99_lines(
+        &self,
+        alloc: Global,
+        text: &mut String,
+        scale: &Scale,
+    ) -> Result<(), AllocError> {
+        let mut endings = Vec::new(alloc);
+        let thin = if self.drawn().len() > 4 { " z" } else { "" };
+        let mut maxima = Vec::new(alloc);
+        for total in &self.log.totals {
+            maxima.push(total.max)?;
+        }
+        let maxima = VALUES.levels(alloc, scale, &maxima)?;
+        VALUES.push_begin(text)?;
+        for (index, tag) in self.drawn().iter().enumerate().rev() {
+            let values = Series::P99.values(alloc, tag, self.timeline.points)?;
+            let levels = VALUES.levels(alloc, scale, &values)?;
+            let dash = if index > 4 { " dash" } else { "" };
+            write!(text, "<path class=\"c{thin} t{index}{dash}\" d=\"")?;
+            push_levels(text, &levels, Joint::Jump)?;
+            text.push_str("\"/>")?;
+            let y = last_level(&levels, VALUES);
+            endings.push(Ending::of_tag(alloc, self, index, tag.tag, y)?)?;
+        }
+        text.push_str("<path class=\"top\" d=\"")?;
+        push_levels(text, &maxima, Joint::Gap)?;
+        text.push_str("\"/></svg>")?;
+        let y = last_level(&maxima, VALUES);
+        endings.push(Ending::new(alloc, "max (all)", y, "top")?)?;
+        endings.reverse();
+        self.push_level_ending(alloc, &mut endings, VALUES, scale)?;
+        VALUES.push_endings(text, &mut endings)
+    }
+
+    /// Adds the end of the level's line, if there is a level.
+    pub(crate) fn push_level_ending(
+        &self,
+        alloc: Global,
+        endings: &mut Vec<Ending>,
+        field: Field,
+        scale: &Scale,
+    ) -> Result<(), AllocError> {
+        let Some(level) = self.options.level else {
+            return Ok(());
+        };
+        let mut name = String::from_str(alloc, "level ")?;
+        self.units.push_label(&mut name, level.value)?;
+        let y = field.y(scale, level.value);
+        endings.push(Ending::new(alloc, name.as_str(), y, "level")?)?;
+        Ok(())
+    }
+
+    /// Appends how long a point is, and what times are.
+    pub(crate) fn push_caption(&self, text: &mut String) -> Result<(), AllocError> {
+        if self.is_instant() {
+            text.push_str("one interval")?;
+        } else {
+            text.push_str("a point is ")?;
+            push_length(text, self.timeline.step)?;
+            let merged = self.timeline.merged;
+            if merged > 1 {
+                write!(text, " ({merged} intervals)")?;
+            }
+        }
+        text.push_str(if self.clock.has_clock() {
+            "; UTC"
+        } else {
+            "; since the start"
+        })
+    }
+
+    /// Appends the width at the right that the names of tags need, in pixels.
+    pub(crate) fn push_right(&self, text: &mut String) -> Result<(), AllocError> {
+        let mut signs = 9;
+        for tag in self.drawn() {
+            signs = signs.max(tag.tag.chars().count().min(AT_CURVE));
+        }
+        let right = 28 + 8 * signs.min(AT_CURVE);
+        write!(text, "{right}")
+    }
+
+    /// Appends the names of the drawn tags.
+    pub(crate) fn push_names(&self, alloc: Global, text: &mut String) -> Result<(), AllocError> {
+        for (index, tag) in self.drawn().iter().enumerate() {
+            if index > 0 {
+                text.push_str(", ")?;
+            }
+            self.push_tag(alloc, text, tag.tag, AT_CURVE)?;
+        }
+        Ok(())
     }
 }
 
-/// The span of time and of values of the intervals of a tag.
-#[derive(Clone, Copy)]
-struct Span {
-    first: u128,
-    last: u128,
-    most: u64,
-}
-
-/// Returns the span of the intervals of a tag, or `None` if it has none.
-fn span_of(intervals: &[Interval<'_>], tag: Option<Tag<'_>>) -> Option<Span> {
-    let mut span: Option<Span> = None;
-    for interval in intervals {
-        if interval.tag == tag {
-            let start = interval.start;
-            let most = interval.answers.all;
-            span = Some(match span {
-                None => Span {
-                    first: start,
-                    last: start,
-                    most,
-                },
-                Some(span) => Span {
-                    first: span.first.min(start),
-                    last: span.last.max(start),
-                    most: span.most.max(most),
-                },
-            });
+/// Returns the last level of a line, or the lower side of its field if it has none.
+pub(crate) fn last_level(levels: &[Option<u32>], field: Field) -> u32 {
+    let mut last = field.tenths();
+    for level in levels {
+        if let Some(level) = level {
+            last = *level;
         }
     }
-    span
-}
-
-/// How many milliseconds one time is after another, as far as 64 bits hold them.
-fn after(first: u128, time: u128) -> u64 {
-    u64::try_from(time.saturating_sub(first)).unwrap_or(u64::MAX)
-}
-
-/// The line of a quantile over the intervals of a tag.
-fn points(
-    alloc: Global,
-    intervals: &[Interval<'_>],
-    tag: Option<Tag<'_>>,
-    span: Span,
-    place: usize,
-) -> Result<Vec<Point>, AllocError> {
-    let whole = after(span.first, span.last);
-    let mut points = Vec::new(alloc);
-    for interval in intervals {
-        if interval.tag == tag {
-            points.push(Point {
-                x: along(after(span.first, interval.start), whole, WIDTH),
-                y: along(drawn(&interval.answers, place), span.most, HEIGHT),
-            })?;
-        }
-    }
-    Ok(points)
-}
-
-/// Adds the drawing of quantiles of the intervals of a tag over time.
-pub(crate) fn push_over_time(
-    alloc: Global,
-    text: &mut String,
-    intervals: &[Interval<'_>],
-    tag: Option<Tag<'_>>,
-) -> Result<(), AllocError> {
-    let Some(span) = span_of(intervals, tag) else {
-        return Ok(());
-    };
-    push_begin(text, span.most)?;
-    let first = thousandths(alloc, span.first, 1_000)?;
-    push_mark(text, 0, first.as_str())?;
-    let last = thousandths(alloc, span.last, 1_000)?;
-    push_mark(text, WIDTH, last.as_str())?;
-    for place in 0..DRAWN.len() {
-        let points = points(alloc, intervals, tag, span, place)?;
-        push_line(text, points.as_slice(), place)?;
-    }
-    push_end(text)
+    last
 }

@@ -1,37 +1,94 @@
 //! A row for each interval of a log.
 
 use crate::error::PageError;
-use crate::interval::{Interval, seen_in};
-use crate::number::thousandths;
+use crate::figures::{Figures, decoded};
+use crate::reading::{Interval, Intervals};
+use csv::{Writer, WriterBuilder};
+use hdr_summary::formats::is_formula;
+use hdrhistogram::serialization::Deserializer;
 use std::alloc::{AllocError, Global};
 
-const HEAD: &str = "start,tag,length,count,50%,90%,99%,99.9%,100%\n";
+const NAMES: [&str; 9] = [
+    "start", "tag", "length", "count", "50%", "90%", "99%", "99.9%", "100%",
+];
 
 /// Returns a row for each interval of logs in order, after a line that names the fields. Times are
-/// in seconds.
-pub fn rows(alloc: Global, logs: &[Vec<u8>]) -> Result<String, PageError> {
-    let seen = seen_in(alloc, logs)?;
-    let mut text = String::from_str(alloc, HEAD)?;
-    for interval in &seen.intervals {
-        push_row(alloc, &mut text, interval)?;
+/// in seconds. A tag that a spreadsheet may take for a formula follows an apostrophe.
+pub fn rows(alloc: Global, logs: &[Vec<u8>], tag: Option<&str>) -> Result<String, PageError> {
+    let intervals = Intervals::read(alloc, logs, tag)?;
+    let mut table = WriterBuilder::new().from_writer(Vec::new(alloc));
+    for name in NAMES {
+        write_field(&mut table, name)?;
     }
-    Ok(text)
+    end_row(&mut table)?;
+    let mut deserializer = Deserializer::new(alloc);
+    for interval in &intervals.list {
+        let histogram = decoded(&mut deserializer, interval)?;
+        let tag = match intervals.tags.get(interval.tag) {
+            Some(tag) => *tag,
+            None => "",
+        };
+        write_row(
+            alloc,
+            &mut table,
+            interval,
+            tag,
+            &Figures::of(&histogram, None),
+        )?;
+    }
+    let bytes = table.into_inner().map_err(|_| AllocError)?;
+    Ok(String::from_utf8_lossy(alloc, &bytes)?)
 }
 
-/// Adds the row of an interval. Its second field is empty where it has no tag.
-fn push_row(alloc: Global, text: &mut String, interval: &Interval<'_>) -> Result<(), AllocError> {
-    let start = thousandths(alloc, interval.start, 1_000)?;
-    let length = thousandths(alloc, interval.length, 1_000)?;
-    let tag = match interval.tag {
-        Some(tag) => tag.as_str(),
-        None => "",
-    };
-    let count = interval.count;
-    write!(text, "{start},{tag},{length},{count}")?;
-    let half = interval.answers.half;
-    let of_10 = interval.answers.of_10;
-    let of_100 = interval.answers.of_100;
-    let of_1000 = interval.answers.of_1000;
-    let all = interval.answers.all;
-    writeln!(text, ",{half},{of_10},{of_100},{of_1000},{all}")
+/// Writes a field.
+fn write_field(table: &mut Writer<Vec<u8>>, field: &str) -> Result<(), AllocError> {
+    table.write_field(field.as_bytes()).map_err(|_| AllocError)
+}
+
+/// Writes a number.
+fn write_number(alloc: Global, table: &mut Writer<Vec<u8>>, number: u64) -> Result<(), AllocError> {
+    let text = format!(in alloc; "{number}")?;
+    write_field(table, text.as_str())
+}
+
+/// Writes milliseconds in seconds.
+fn write_time(
+    alloc: Global,
+    table: &mut Writer<Vec<u8>>,
+    milliseconds: u64,
+) -> Result<(), AllocError> {
+    let whole = milliseconds / 1_000;
+    let part = milliseconds % 1_000;
+    let text = format!(in alloc; "{whole}.{part:03}")?;
+    write_field(table, text.as_str())
+}
+
+/// Ends a row.
+fn end_row(table: &mut Writer<Vec<u8>>) -> Result<(), AllocError> {
+    table.end_record().map_err(|_| AllocError)
+}
+
+/// Writes the row of an interval. Its second field is empty where it has no tag.
+fn write_row(
+    alloc: Global,
+    table: &mut Writer<Vec<u8>>,
+    interval: &Interval<'_>,
+    tag: &str,
+    figures: &Figures,
+) -> Result<(), AllocError> {
+    write_time(alloc, table, interval.start)?;
+    if is_formula(tag) {
+        let text = format!(in alloc; "'{tag}")?;
+        write_field(table, text.as_str())?;
+    } else {
+        write_field(table, tag)?;
+    }
+    write_time(alloc, table, interval.length)?;
+    write_number(alloc, table, figures.count)?;
+    write_number(alloc, table, figures.p50)?;
+    write_number(alloc, table, figures.p90)?;
+    write_number(alloc, table, figures.p99)?;
+    write_number(alloc, table, figures.p999)?;
+    write_number(alloc, table, figures.max)?;
+    end_row(table)
 }

@@ -1,5 +1,5 @@
-# The rows of the table, how many lines are drawn, and that nothing else is fetched or run.
+# The rows of the table, the drawings, and that nothing else is fetched or run. Tags are escaped.
 page=$("$1" page)
-echo "$page" | grep '^<tr><td'
-echo "$page" | grep -c '^<polyline'
+echo "$page" | sed -n 's/<svg.*<\/svg>//; s/^<tr>//p'
+echo "$page" | grep -c '^<figure'
 echo "$page" | grep -c 'http\|src=\|href\|<script\|url(' || :

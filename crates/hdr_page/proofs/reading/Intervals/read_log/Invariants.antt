@@ -1,5 +1,5 @@
 use Rattle.std.proofs.Common.{length}
-use Rattle.hdr_page.proofs.interval.see_log.Given as goal
+use Rattle.hdr_page.proofs.reading.Intervals.read_log.Given as goal
 
 -- the text that is left
 abbrev pub decreases-loop-rest : goal.decreases-loop-rest

@@ -1,0 +1,4 @@
+pub mod Bend
+pub mod Ascending
+pub mod Pushing
+pub mod Divided

@@ -1,0 +1,8 @@
+use Rattle.hdr_draw.proofs.Ascending.{along_ascends, values_ascend}
+use Rattle.hdr_draw.proofs.laws.places_ascend.Goals as goal
+
+pub returns-clause-numbers : goal.returns-clause-numbers
+returns-clause-numbers c = along_ascends
+
+pub returns-clause-values : goal.returns-clause-values
+returns-clause-values c = values_ascend

@@ -1,0 +1,4 @@
+pub mod Letters
+pub mod Logarithm
+pub mod Scales
+pub mod Steps

@@ -1,0 +1,18 @@
+//! The laws of scales, each the contract of an empty function.
+
+ghost use Rattle.std.specs.Prelude.{ℕ, ◌<◌, ◌≤◌};
+ghost use Rattle.hdr_draw.specs.Logarithm.{IsLogarithm};
+ghost use Rattle.hdr_draw.specs.Scales.{Extent, along, IsValuePlace};
+
+/// Logarithms ascend with their values.
+pub fn logarithms_ascend()
+    ensures { (a b m n : ℕ) → IsLogarithm a m → IsLogarithm b n → a ≤ b → m ≤ n }
+{}
+
+/// A greater number is no less far along a scale, nor is a greater value on a logarithmic scale.
+pub fn places_ascend()
+    ensures numbers { (e : Extent) (length m n : ℕ) → 0 < e.span → m ≤ n
+        → along e length m ≤ along e length n }
+    ensures values { (e : Extent) (length a b p q : ℕ) → 0 < e.span
+        → IsValuePlace e length a p → IsValuePlace e length b q → a ≤ b → p ≤ q }
+{}

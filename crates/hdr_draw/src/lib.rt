@@ -1,0 +1,17 @@
+//! Drawings of whole numbers: scales, their steps, paths, heat maps and escaped texts.
+//!
+//! Lengths and coordinates are in tenths of a pixel. Coordinates begin at the upper left.
+#![tactic(auto)]
+
+pub mod axis;
+pub mod escape;
+pub mod heat;
+pub mod labels;
+pub mod laws;
+pub mod logarithm;
+pub mod path;
+pub mod quantiles;
+pub mod steps;
+pub mod tenths;
+pub mod times;
+pub mod values;

@@ -1,0 +1,46 @@
+//! A scale of quantiles, by the logarithm of the inverted distance to 1.
+
+ghost use Rattle.std.specs.Prelude.{◌≤◌};
+
+use crate::axis::Axis;
+use crate::logarithm::{OCTAVE, logarithm};
+
+/// A scale from the quantile 0 to the first one that is the greatest of some number of samples.
+///
+/// A quantile q is at the logarithm of 1/(1 - q), so p90, p99 and p99.9 are equally far apart.
+#[derive(Debug, Drop)]
+pub struct QuantileScale {
+    axis: Axis,
+    end: u64,
+}
+
+impl QuantileScale {
+    /// Returns the scale for at most this number of samples. It reaches p99 at least.
+    pub fn new(samples: u64) -> QuantileScale {
+        let end = (logarithm(samples) + OCTAVE).max(logarithm(100));
+        QuantileScale {
+            axis: Axis::new(0, end),
+            end,
+        }
+    }
+
+    /// Returns how far the quantile is along a width above which a part of all samples lies.
+    pub fn place(&self, all: u64, part: u64, width: u32) -> u32
+        ensures { result ≤ width }
+    {
+        let distance = logarithm(all).saturating_sub(logarithm(part));
+        self.axis.place(distance, width)
+    }
+
+    /// Returns how far the greatest of some samples is along a width: half a sample is above it.
+    pub fn place_of_last(&self, samples: u64, width: u32) -> u32
+        ensures { result ≤ width }
+    {
+        self.axis.place(logarithm(samples) + OCTAVE, width)
+    }
+
+    /// Whether the quantile 1 - 1/`inverse` is on the scale.
+    pub fn has(&self, inverse: u64) -> bool {
+        logarithm(inverse) <= self.end
+    }
+}

@@ -1,0 +1,100 @@
+//! A scale of time: its steps, in milliseconds.
+
+ghost use Rattle.std.specs.Prelude.{◌<◌, ◌≤◌, IfOk, OnOk};
+ghost use Rattle.std.specs.List.{All};
+
+use std::alloc::{AllocError, Global};
+
+/// The steps of time, in seconds: from a second to a month.
+const STEPS: [u64; 21] = [
+    1, 2, 5, 10, 15, 30, 60, 120, 300, 600, 900, 1_800, 3_600, 7_200, 10_800, 21_600, 43_200,
+    86_400, 172_800, 604_800, 2_592_000,
+];
+
+/// The seconds of a minute: the texts of shorter steps have seconds.
+const MINUTE: u64 = 60;
+
+/// A line across the field of a scale of time.
+#[derive(Clone, Copy, Debug)]
+pub struct TimeTick {
+    /// Its time, in milliseconds.
+    pub time: u64,
+    /// Whether a narrow drawing has its text.
+    pub is_coarse: bool,
+}
+
+/// The steps of a scale of time, in seconds.
+#[derive(Clone, Copy, Debug)]
+pub struct TimeSteps {
+    pub step: u64,
+    /// Every how many steps a narrow drawing has a text.
+    pub every: u64,
+    ghost some: { 0 < step },
+}
+
+impl TimeSteps {
+    /// Returns the steps for a span in milliseconds: the shortest of which it has at most eight, or
+    /// five if the texts have seconds.
+    pub fn new(span: u64) -> TimeSteps {
+        let step = step_for(span);
+        let most = if step < MINUTE { 3 } else { 4 };
+        let width = step.saturating_mul(1_000);
+        let every = span.div_ceil(width.saturating_mul(most).max(1));
+        TimeSteps {
+            step,
+            every: every.clamp(1, 8),
+        }
+    }
+
+    /// Whether the texts have seconds.
+    pub fn has_seconds(self) -> bool {
+        self.step < MINUTE
+    }
+
+    /// Returns the multiples of the step from a time to another, at most ten.
+    pub fn ticks(self, alloc: Global, from: u64, to: u64) -> Result<Vec<TimeTick>, AllocError>
+        ensures { IfOk result (λ v. All (λ t. (from ≤ t.time) × (t.time ≤ to)) v.items) }
+    {
+        let width = self.step.saturating_mul(1_000).max(1);
+        let first = from.div_ceil(width);
+        let mut ticks = Vec::new(alloc);
+        for index in 0..10 {
+            let number = first.saturating_add(index);
+            let tick = TimeTick {
+                time: number.saturating_mul(width),
+                is_coarse: number.checked_rem(self.every) == Some(0),
+            };
+            push_inside(&mut ticks, tick, from, to)?;
+        }
+        Ok(ticks)
+    }
+}
+
+/// Adds a line that lies between two times.
+fn push_inside(
+    ticks: &mut Vec<TimeTick>,
+    tick: TimeTick,
+    from: u64,
+    to: u64,
+) -> Result<(), AllocError>
+    requires { All (λ t. (from ≤ t.time) × (t.time ≤ to)) ticks.old.items }
+    ensures { OnOk result (All (λ t. (from ≤ t.time) × (t.time ≤ to)) ticks.new.items) }
+{
+    if tick.time >= from && tick.time <= to {
+        ticks.push(tick)?;
+    }
+    Ok(())
+}
+
+/// Returns the shortest step, in seconds, of which a span in milliseconds has few.
+fn step_for(span: u64) -> u64
+    ensures { 0 < result }
+{
+    for step in STEPS {
+        let most = if step < MINUTE { 5_000 } else { 8_000 };
+        if span <= step.saturating_mul(most) {
+            return step.max(1);
+        }
+    }
+    2_592_000
+}

@@ -1,0 +1,143 @@
+//! The page for a terminal: the sentence, the slow times, and the curve of percentiles of all
+//! samples in blocks.
+
+use crate::detail::curve_of;
+use crate::error::PageError;
+use crate::options::PageOptions;
+use crate::percentiles::LINES;
+use crate::view::{Form, View};
+use hdr_draw::quantiles::QuantileScale;
+use hdr_draw::values::ValueScale;
+use std::alloc::{AllocError, Global};
+
+/// The signs of a label and a space, and of the curve: 80 together.
+const LABEL: usize = 10;
+
+const COLUMNS: usize = 70;
+
+/// The rows of the curve, each of eight blocks.
+const ROWS: u32 = 16;
+
+const BLOCKS: [&str; 9] = [" ", "▁", "▂", "▃", "▄", "▅", "▆", "▇", "█"];
+
+/// Returns the page of logs as text for a terminal with 80 columns.
+pub fn page_text(
+    alloc: Global,
+    logs: &[Vec<u8>],
+    options: PageOptions<'_>,
+) -> Result<String, PageError> {
+    let view = View::new(alloc, logs, options, Form::Plain)?;
+    let mut words = String::new(alloc);
+    view.push_words(alloc, &mut words)?;
+    let mut text = String::new(alloc);
+    push_wrapped(&mut text, words.as_str())?;
+    if view.log.all.count > 0 {
+        text.push_str("\n")?;
+        view.push_blocks(alloc, &mut text)?;
+    }
+    Ok(text)
+}
+
+/// Appends lines, broken at spaces.
+fn push_wrapped(text: &mut String, words: &str) -> Result<(), AllocError> {
+    for line in words.lines() {
+        let mut column = 0usize;
+        for word in line.split(' ') {
+            let signs = word.chars().count();
+            if column > 0 && column.saturating_add(signs) >= LABEL + COLUMNS {
+                text.push_str("\n")?;
+                column = 0;
+            }
+            if column > 0 {
+                text.push_str(" ")?;
+                column = column.saturating_add(1);
+            }
+            text.push_str(word)?;
+            column = column.saturating_add(signs);
+        }
+        text.push_str("\n")?;
+    }
+    Ok(())
+}
+
+impl View<'_> {
+    /// Appends the curve of percentiles.
+    fn push_blocks(&self, alloc: Global, text: &mut String) -> Result<(), AllocError> {
+        let scale = self.scale();
+        let quantiles = QuantileScale::new(self.log.all.count);
+        let heights = self.heights(alloc, &scale, &quantiles)?;
+        for row in (0..ROWS).rev() {
+            self.push_row_label(alloc, text, &scale, row)?;
+            for height in &heights {
+                let blocks = height.saturating_sub(row * 8).min(8) as usize;
+                text.push_str(BLOCKS.get(blocks).copied().unwrap_or(" "))?;
+            }
+            text.push_str("\n")?;
+        }
+        push_axis(alloc, text, &quantiles)
+    }
+
+    /// Returns the height of each column, in eighths of a row.
+    fn heights(
+        &self,
+        alloc: Global,
+        scale: &ValueScale,
+        quantiles: &QuantileScale,
+    ) -> Result<Vec<u32>, AllocError> {
+        let last = COLUMNS - 1;
+        let mut heights = vec![in alloc; 0; COLUMNS]?;
+        for point in curve_of(alloc, &self.log.sum, quantiles, last as u32)? {
+            let above = scale.place(point.value, ROWS * 8);
+            for height in heights.iter_mut().skip(point.x as usize) {
+                *height = above.max(1);
+            }
+        }
+        Ok(heights)
+    }
+
+    /// Appends the label of the greatest step in a row, if it has one, in the signs of a label.
+    fn push_row_label(
+        &self,
+        alloc: Global,
+        text: &mut String,
+        scale: &ValueScale,
+        row: u32,
+    ) -> Result<(), AllocError> {
+        let mut label = String::new(alloc);
+        for tick in scale.ticks(alloc, ROWS * 150)? {
+            let is_here = scale.place(tick.value, ROWS * 8).saturating_sub(1) / 8 == row;
+            if tick.has_text && is_here {
+                label = String::new(alloc);
+                self.units.push_label(&mut label, tick.value)?;
+            }
+        }
+        let signs = label.as_str().chars().count();
+        for _ in signs..LABEL - 1 {
+            text.push_str(" ")?;
+        }
+        text.push_str(label.as_str())?;
+        text.push_str(" ")
+    }
+}
+
+/// Appends the names of percentiles below the curve.
+fn push_axis(
+    alloc: Global,
+    text: &mut String,
+    quantiles: &QuantileScale,
+) -> Result<(), AllocError> {
+    let last = COLUMNS - 1;
+    let mut line = String::new(alloc);
+    for (inverse, name, _) in LINES {
+        let x = LABEL + quantiles.place(inverse, 1, last as u32) as usize;
+        let is_free = line.is_empty() || line.len() < x;
+        if quantiles.has(inverse) && is_free && x + name.len() <= LABEL + COLUMNS {
+            for _ in line.len()..x {
+                line.push_str(" ")?;
+            }
+            line.push_str(name)?;
+        }
+    }
+    text.push_str(line.as_str())?;
+    text.push_str("\n")
+}
