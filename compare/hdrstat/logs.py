@@ -271,7 +271,7 @@ def sums(logs, sigfig, by_tag, tag=None, since=0, until=None):
 def converted(name, data):
     """The intervals of a log, each of which is converted if it has another form."""
     for it in intervals(name, data):
-        if has_other_form(it.field):
+        if has_other_form(it.field.rpartition(b",")[2]):
             it.found(name, lambda _: None)
         yield it
 
