@@ -48,11 +48,11 @@ _hdrstat() {
     "page --title") values=' ' ;;
     "page --level") values=' ' ;;
     "page --tag") values=' ' ;;
-    "summary "?*) options='-p --percentiles -f --format --output-unit -d --digits --decimals --expected-interval --unit --skip-bad -h --help -c --column --delimiter --no-header --from --tag --from-time --to-time --by-tag' ;;
-    "check "?*) options='-i --input --allow-empty -d --digits --decimals --expected-interval --unit --skip-bad -h --help -c --column --delimiter --no-header --from --tag --from-time --to-time --by-tag' ;;
-    "log "?*) options='--tag --time --every -d --digits --decimals --expected-interval --unit --skip-bad -h --help -c --column --delimiter --no-header' ;;
-    "gather "?*) options='-h --help' ;;
-    "convert "?*) options='--to -h --help' ;;
+    "summary "?*) options='-p --percentiles -f --format --output-unit -d --digits --decimals --expected-interval --unit --skip-bad -q --quiet -h --help -c --column --delimiter --no-header --from --tag --from-time --to-time --by-tag' ;;
+    "check "?*) options='-i --input --allow-empty -d --digits --decimals --expected-interval --unit --skip-bad -q --quiet -h --help -c --column --delimiter --no-header --from --tag --from-time --to-time --by-tag' ;;
+    "log "?*) options='--tag --time --every -d --digits --decimals --expected-interval --unit --skip-bad -q --quiet -h --help -c --column --delimiter --no-header' ;;
+    "gather "?*) options='--unsorted -q --quiet -h --help' ;;
+    "convert "?*) options='--to -q --quiet -h --help' ;;
     "page "?*) options='--unit --title --level --tag -o --output --text --intervals -h --help' ;;
     "help "?*) values='summary check log gather convert page' ;;
     *) values='summary check log gather convert page help --help --version' ;;

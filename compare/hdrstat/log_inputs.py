@@ -3,9 +3,10 @@ import base64
 import csv
 import io
 import json
+import zlib
 
 from inputs import FORMATS, USUAL, Case, digits, figures, percentiles, shown
-from logs import CAUSES, decode, encode, gathered, sums
+from logs import CAUSES, decode, encode, gathered, side_by_side, sums
 from model import LIMIT, Failure, Samples, Tally, class_of, Options
 
 TAGS = [None, b"a", b"b", b"GET", b"caf\xc3\xa9", b"=1+1", b"-2", b'say"', b"a;b", b""]
@@ -20,11 +21,25 @@ def random_samples(random):
     return samples
 
 
+def compressed(random, data):
+    """The same bytes, compressed, or at times something else that has the cookie of another form."""
+    if random.random() < 0.02:
+        data = random.choice([b"", data[:3], b"\0" + data])
+    stream = zlib.compress(data, random.randint(0, 9))
+    if random.random() < 0.02:
+        stream = stream[: random.randrange(len(stream))]
+    length = len(stream) + random.choice([0] * 50 + [1, -1])
+    cookie = random.choice([b"\x1c\x84\x93\x14"] * 50 + [bytes.fromhex(it) for it in ("1c849301", "1c849342", "1c849308", "1c849329", "0c72124e", "0c72124f", "1c849315")])
+    return cookie + length.to_bytes(4, "big") + stream
+
+
 def field_of(random, samples):
     """The bytes of a histogram, as a field."""
     least = max(2 * samples.low, samples.greatest or 0)
     high = min(class_of(least, samples.sigfig, samples.low)[1] * random.choice([1, 1, 4]), LIMIT - 1)
     data = encode(samples, high)
+    if random.random() < 0.1:
+        data = compressed(random, data)
     if random.random() < 0.01:
         data = bytearray(data)
         data[random.randrange(len(data))] = random.choice([0, 1, 255, random.randrange(256)])
@@ -46,6 +61,8 @@ def log_text(random, step):
         lines.append(b"#[StartTime: 1700000000.000 (seconds since epoch), some date]")
     if random.random() < 0.3:
         lines.append(b"#[BaseTime: %s (seconds since epoch)]" % seconds(random, random.randint(0, 5000)))
+    if random.random() < 0.1:
+        lines.append(b"#[Values have %d decimals]" % random.choice([0, 1, 3, 3, 18, 19]))
     if random.random() < 0.3:
         lines.append(b'"StartTimestamp","Interval_Length","Interval_Max","Interval_Compressed_Histogram"')
     for at in range(random.choice([0, 1, 3, 8])):
@@ -74,6 +91,10 @@ def log_error(failure):
     name, line, text, why = failure.text
     if why == "log":
         return f"hdrstat: {name}: {line}: `{shown(text)}` is not a line of an interval log\n".encode()
+    if why == "decimals":
+        return f"hdrstat: {name}: {line}: the values have {text[0]} decimals, and those before it {text[1]}\n".encode()
+    if why == "order":
+        return f"hdrstat: {name}: {line}: the interval begins before the one above it; --unsorted gathers such logs\n".encode()
     if why == "interval" and text in CAUSES:
         return f"hdrstat: {name}: {line}: {CAUSES[text]}\n".encode()
     return None
@@ -93,9 +114,9 @@ def case_of(arguments, logs, wanted):
     return Case([*arguments, *files], stdin, files, wanted)
 
 
-def tally_of(samples):
+def tally_of(samples, decimals):
     tally = Tally(Options(samples.sigfig))
-    tally.samples, tally.decimals, tally.interval = samples, 0, 1
+    tally.samples, tally.decimals, tally.interval = samples, decimals, 1
     return tally
 
 
@@ -158,24 +179,25 @@ def log_case(random):
     by_tag = random.random() < 0.3
     arguments += ["--by-tag"] * by_tag
     try:
-        found, coarser = sums(logs, sigfig, by_tag, **chosen)
+        found, coarser, decimals = sums(logs, sigfig, by_tag, **chosen)
     except Failure as failure:
         return case_of(arguments, logs, (b"", log_error(failure), 1))
     if by_tag:
-        out = TAGGED[name]([(tag, figures(tally_of(it), wanted)) for tag, it in found.items()]).encode()
+        out = TAGGED[name]([(tag, figures(tally_of(it, decimals), wanted)) for tag, it in found.items()]).encode()
         return case_of(arguments, logs, (out, None if coarser else b"", 0))
     total = found.get(None) or Samples(sigfig)
-    out = FORMATS[name](figures(tally_of(total), wanted)).encode()
+    out = FORMATS[name](figures(tally_of(total, decimals), wanted)).encode()
     return case_of(arguments, logs, (out, None if coarser else b"", 0))
 
 
 def gather_case(random):
     logs = logs_of(random)
+    arguments, gather = random.choice([(["gather"], side_by_side), (["gather", "--unsorted"], gathered)])
     try:
-        found = gathered(logs)
+        found = gather(logs)
     except Failure as failure:
-        return case_of(["gather"], logs, (None, log_error(failure), 1))
-    return case_of(["gather"], logs, (Gathered(found), b"", 0))
+        return case_of(arguments, logs, (None, log_error(failure), 1))
+    return case_of(arguments, logs, (Gathered(found), b"", 0))
 
 
 class Gathered:

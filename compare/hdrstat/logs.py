@@ -3,12 +3,14 @@ import base64
 import binascii
 import dataclasses
 import re
+import zlib
 
 from model import LIMIT, MARK, SPACE, Failure, Samples, class_of
 
 COOKIE, COMPRESSED, RATIO = bytes.fromhex("1c849313"), bytes.fromhex("1c849314"), bytes.fromhex("3ff0000000000000")
 SECONDS = rb"(\+?)(\d+)\.(\d+)"
 HEADER = re.compile(rb"#\[(StartTime|BaseTime): " + SECONDS + rb" .*\n")
+DECIMALS = re.compile(rb"#\[Values have (\+?\d+) decimals\][ \t\n\f\r]*")
 INTERVAL = re.compile(rb"(?:Tag=([^,\r\n ]*),)?" + SECONDS + b"," + SECONDS + rb",(\d+\.?\d*|\.\d+),(.*)\n")
 CAUSES = {
     "base64": "not base64",
@@ -16,7 +18,17 @@ CAUSES = {
     "feature": "The histogram uses features that this implementation doesn't support",
     "parameters": "The serialized parameters were invalid(e.g. lowest value, highest value, etc)",
     "long": "The encoded array is longer than it should be for the histogram's value range",
+    "end": "An i/o operation failed: unexpected end of file",
+    "no histogram": "not a histogram",
+    "version 0": "a histogram of version 0, and not 2",
+    "version 1": "a histogram of version 1, and not 2",
+    "double": "a double histogram",
+    "incomplete": "the compressed histogram is incomplete",
+    "not inside": "the compressed bytes are not a histogram",
 }
+# Cookies of other forms; the size of a count, in four bits of those of versions 0 and 1, is left out
+OTHER = {0x1c849301: "version 1", 0x1c849302: "version 1", 0x1c849308: "version 0", 0x1c849309: "version 0"}
+DOUBLE = (0x0c72124e, 0x0c72124f)
 
 
 class Undecodable(Exception):
@@ -91,6 +103,35 @@ def numbers_of(payload):
         yield number >> 1 if number % 2 == 0 else -(number >> 1) - 1
 
 
+def has_other_form(field):
+    """Whether the Base64 of a field begins with that of a cookie of another form than plain V2."""
+    return len(field) >= 8 and (field.startswith(b"HIST") and not field.startswith(b"HISTE") or field.startswith(b"DHIST"))
+
+
+def plain(data):
+    """The V2 bytes of a histogram of another form."""
+    cookie = int.from_bytes(data[:4], "big")
+    if cookie in DOUBLE:
+        raise Undecodable("double")
+    if cookie & 0xffffff0f in OTHER:
+        raise Undecodable(OTHER[cookie & 0xffffff0f])
+    if data[:4] != COMPRESSED:
+        raise Undecodable("no histogram")
+    length = int.from_bytes(data[4:8], "big")
+    if len(data) < 8 or length > len(data) - 8:
+        raise Undecodable("incomplete")
+    stream = zlib.decompressobj()
+    try:
+        found = stream.decompress(data[8 : 8 + length])
+    except zlib.error as error:
+        raise Undecodable("stream") from error
+    if not stream.eof or stream.unused_data:
+        raise Undecodable("stream")
+    if found[:4] != COOKIE:
+        raise Undecodable("not inside")
+    return found
+
+
 def decode(data):
     """The samples of V2 bytes, each class at its lowest value."""
     def take(at, size):
@@ -137,13 +178,14 @@ def nanoseconds(plus, seconds, part):
 @dataclasses.dataclass
 class Interval:
     line: int
+    decimals: int
     tag: bytes
     start: int
     duration: int
     field: bytes
 
-    def samples(self, name):
-        """The samples of its histogram, or the failure that names its line."""
+    def found(self, name, read):
+        """What is read from the bytes of its histogram, or the failure that names its line."""
         try:
             try:
                 data = base64.b64decode(self.field, validate=True)
@@ -151,14 +193,22 @@ class Interval:
                 raise Undecodable("base64") from error
             if base64.b64encode(data) != self.field:
                 raise Undecodable("base64")
-            return decode(data)
+            return read(plain(data) if has_other_form(self.field) else data)
         except Undecodable as bad:
             raise Failure((name, f"line {self.line}", str(bad), "interval")) from bad
+
+    def samples(self, name):
+        """The samples of its histogram."""
+        return self.found(name, decode)
+
+    def key(self):
+        """The time in milliseconds, and the tag."""
+        return (self.start + 500_000) // 1_000_000, self.tag is not None, self.tag or b""
 
 
 def intervals(name, data):
     """The intervals of a log, each with its start after the last base time before it."""
-    base = 0
+    base = decimals = 0
     for number, line in enumerate(re.findall(rb".*\n|.+$", data), 1):
         line = line.removeprefix(MARK) if number == 1 else line
         if not line.strip(SPACE):
@@ -170,12 +220,14 @@ def intervals(name, data):
                 continue
             if not found:
                 if line[-1:] == b"\n" and (line[:1] == b"#" or line.startswith(b'"StartTimestamp"')):
+                    said = DECIMALS.fullmatch(line)
+                    decimals = int(said[1]) if said and int(said[1]) <= 18 else decimals
                     continue
                 raise ValueError
             tag, field = found[1], found[9].rstrip(b"\r")
             (tag or b"").decode()
             found[9].decode()
-            yield Interval(number, tag, base + nanoseconds(*found.groups()[1:4]), nanoseconds(*found.groups()[4:7]), field)
+            yield Interval(number, decimals, tag, base + nanoseconds(*found.groups()[1:4]), nanoseconds(*found.groups()[4:7]), field)
         except ValueError as error:
             raise Failure((name, f"line {number}", line.strip(SPACE), "log")) from error
 
@@ -200,25 +252,58 @@ def closed(total):
 
 
 def sums(logs, sigfig, by_tag, tag=None, since=0, until=None):
-    """By tag, the sums of the chosen intervals of logs, in the order of first tags, and how many intervals are coarser than sums."""
-    found, coarser = {}, 0
+    """By tag, the sums of the chosen intervals of logs, in the order of first tags, how many intervals are coarser than sums, and decimals."""
+    found, coarser, decimals = {}, 0, None
     for name, data in logs.items():
         for it in intervals(name, data):
             if (tag is not None and it.tag != tag) or it.start < since or (until is not None and it.start >= until):
                 continue
+            decimals = it.decimals if decimals is None else decimals
+            if it.decimals != decimals:
+                raise Failure((name, f"line {it.line}", (it.decimals, decimals), "decimals"))
             samples = it.samples(name)
             total = found.setdefault(it.tag if by_tag else None, Samples(sigfig))
             coarser += not is_finer(samples, total)
             add(total, samples)
-    return {key: closed(total) for key, total in found.items()}, coarser
+    return {key: closed(total) for key, total in found.items()}, coarser, decimals or 0
+
+
+def converted(name, data):
+    """The intervals of a log, each of which is converted if it has another form."""
+    for it in intervals(name, data):
+        if has_other_form(it.field.rpartition(b",")[2]):
+            it.found(name, lambda _: None)
+        yield it
 
 
 def gathered(logs):
-    """The intervals of logs as one log: by time in milliseconds and tag, each with its duration and samples."""
+    """The intervals of logs in any order as one log: by time in milliseconds and tag, each with its duration and samples."""
+    return sums_by_key([(name, it) for name, data in logs.items() for it in converted(name, data)])
+
+
+def side_by_side(logs):
+    """The intervals of logs in order of time as one log, up to the first failure."""
+    rests = [(name, converted(name, data)) for name, data in logs.items()]
+    nexts = [next(rest, None) for _, rest in rests]
+    out = []
+    while any(nexts):
+        start = min(it.key()[0] for it in nexts if it)
+        taken = []
+        for at, (name, rest) in enumerate(rests):
+            while nexts[at] and nexts[at].key()[0] == start:
+                taken.append((name, nexts[at]))
+                nexts[at] = next(rest, None)
+                if nexts[at] and nexts[at].key()[0] < start:
+                    raise Failure((name, f"line {nexts[at].line}", b"", "order"))
+        out += sums_by_key(taken)
+    return out
+
+
+def sums_by_key(intervals_of_logs):
+    """The sums of intervals of the same time and tag, in ascending order."""
     found = {}
-    for name, data in logs.items():
-        for it in intervals(name, data):
-            found.setdefault(((it.start + 500_000) // 1_000_000, it.tag is not None, it.tag or b""), []).append((name, it))
+    for name, it in intervals_of_logs:
+        found.setdefault(it.key(), []).append((name, it))
     out = []
     for (start, has_tag, tag), parts in sorted(found.items(), key=lambda it: it[0]):
         total = None

@@ -1,3 +1,4 @@
 pub mod Times
 pub mod Sums
 pub mod Parts
+pub mod Lines

@@ -18,6 +18,19 @@ pub struct Place {
     pub line: u64,
 }
 
+impl Place {
+    /// Returns the error of a log that is not read.
+    pub(crate) fn error(self, cause: InputError) -> GatherError {
+        match cause {
+            InputError::OutOfMemory => GatherError::OutOfMemory,
+            cause => GatherError::Input {
+                log: self.log,
+                cause,
+            },
+        }
+    }
+}
+
 /// Why logs are not gathered.
 #[derive(Debug, Drop, Error)]
 pub enum GatherError {
@@ -26,6 +39,9 @@ pub enum GatherError {
     Input { log: usize, cause: InputError },
     #[error("{0}: the interval begins past 64 bits of milliseconds")]
     TooLate(Place),
+    /// It begins before the interval above it.
+    #[error("{0}: the interval begins before the one above it; --unsorted gathers such logs")]
+    NotSorted(Place),
     #[error("{0}: the interval is neither finer nor coarser than others of its time and tag")]
     NotNested(Place),
     #[error("{0}")]
@@ -55,7 +71,9 @@ impl GatherError {
     pub fn log(&self) -> Option<usize> {
         match self {
             GatherError::Input { log, .. } => Some(*log),
-            GatherError::TooLate(place) | GatherError::NotNested(place) => Some(place.log),
+            GatherError::TooLate(place)
+            | GatherError::NotSorted(place)
+            | GatherError::NotNested(place) => Some(place.log),
             _ => None,
         }
     }

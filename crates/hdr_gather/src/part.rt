@@ -1,12 +1,11 @@
 //! The intervals of a log, by time and tag.
 
-ghost use Rattle.std.specs.Prelude.{◌≡◌, ◌+◌, IfSome, OnOk};
+ghost use Rattle.std.specs.Prelude.{◌≡◌, ◌+◌, IfSome};
 ghost use Rattle.std.specs.Duration.{as_nanos};
 ghost use Rattle.hdr_gather.specs.Times.{nearest_millisecond};
 
 use crate::error::{GatherError, Place};
-use hdr_input::log_lines::{entry_of, split_log_line};
-use hdrhistogram::serialization::interval_log::{IntervalLogHistogram, LogEntry, Tag};
+use hdrhistogram::serialization::interval_log::{IntervalLogHistogram, Tag};
 use std::alloc::{AllocError, Global};
 use std::time::Duration;
 
@@ -32,7 +31,7 @@ impl<'a> Part<'a> {
 
 /// Returns a time after a base time, to the nearest millisecond, or `None` if that does not fit 64
 /// bits.
-fn milliseconds(base: Duration, start: Duration) -> Option<u64>
+pub(crate) fn milliseconds(base: Duration, start: Duration) -> Option<u64>
     ensures { IfSome result (λ ms. ms ≡ nearest_millisecond (as_nanos base + as_nanos start)) }
 {
     let nanos = base.as_nanos() + start.as_nanos();
@@ -40,7 +39,7 @@ fn milliseconds(base: Duration, start: Duration) -> Option<u64>
 }
 
 /// Returns the interval of a line, after this base time.
-fn part_of<'a>(
+pub(crate) fn part_of<'a>(
     base: Duration,
     place: Place,
     interval: &IntervalLogHistogram<'a>,
@@ -57,30 +56,16 @@ fn part_of<'a>(
     })
 }
 
-/// Appends the intervals of a log, which has this index among the logs, in its order.
-pub(crate) fn push_parts<'a>(
+/// Returns intervals in order as groups of the same key.
+pub(crate) fn groups_of<'b, 'a>(
     alloc: Global,
-    parts: &mut Vec<Part<'a>>,
-    log: usize,
-    input: &'a [u8],
-) -> Result<(), GatherError> {
-    let mut base = Duration::ZERO;
-    let mut line = 1u64;
-    let mut rest = input;
-    while !rest.is_empty() {
-        let (first, after) = split_log_line(rest, line);
-        match entry_of(alloc, first, line) {
-            Ok(Some(LogEntry::BaseTime(time))) => base = time,
-            Ok(Some(LogEntry::Interval(interval))) => {
-                parts.push(part_of(base, Place { log, line }, &interval)?)?;
-            }
-            Ok(_) => {}
-            Err(cause) => return Err(GatherError::Input { log, cause }),
-        }
-        rest = after;
-        line = line.saturating_add(1);
+    parts: &'b [Part<'a>],
+) -> Result<Vec<&'b [Part<'a>]>, AllocError> {
+    let mut groups = Vec::new(alloc);
+    for group in parts.chunk_by(|a, b| a.key() == b.key()) {
+        groups.push(group)?;
     }
-    Ok(())
+    Ok(groups)
 }
 
 /// Sorts intervals by time and then by tag, ascending. The sort is stable.

@@ -1,8 +1,9 @@
 -- Digits, one by one.
-use Rattle.std.proofs.Common.{◌≡◌, ℕ, suc, ◌+◌, ◌-◌, ◌*◌, ◌<◌, length-drop, ◌&&◌, true, List, [], ◌∷◌, ◌++◌, length, take, drop, get_or, refl, sym, ap, ◌∙◌, arith}
+use Rattle.std.proofs.Common.{◌≡◌, ℕ, suc, ◌+◌, ◌-◌, ◌*◌, ◌<◌, ◌≤◌, ◌^◌, lit<, length-drop, ◌&&◌, true, List, [], ◌∷◌, ◌++◌, length, take, drop, get_or, refl, sym, ap, ◌∙◌, arith}
 use Rattle.std.specs.Char.{is_ascii_digit, digit_value}
 use Rattle.std.specs.List.{list_all}
 use Rattle.std.specs.Str.Parse.{digits_value_after}
+use Rattle.std.proofs.Math.Nat.{pow-suc, pow-le-pow_right}
 use Rattle.std.proofs.Math.Seq.{take-suc}
 use Rattle.std.proofs.lemmas.List.{take_all, take-append-drop}
 use Rattle.std.proofs.lemmas.List.Folds.{list_all_more}
@@ -33,3 +34,12 @@ pub split_at : (text : List ℕ) (i : ℕ) → text ≡ take i text ++ take (len
 split_at text i =
     let w : take (length text - i) (drop i text) ≡ drop i text = take_all (length text - i) (drop i text) (omega (arith, length-drop i text)) in
     sym (ap (λ r. take i text ++ r) w ∙ take-append-drop i text)
+
+-- one more digit of few
+pub few_more : (at value digit : ℕ) → at < 19 → value < 10 ^ at → digit < 10 → (value * 10 + digit < 10 ^ (at + 1)) × (value * 10 + digit < 2 ^ 64)
+few_more at value digit l v d =
+    let next : at + 1 ≡ suc at = omega arith in
+    let more : 10 ^ (at + 1) ≡ 10 ^ at * 10 = ap (λ n. 10 ^ n) next ∙ pow-suc 10 at in
+    let within : at + 1 ≤ 19 = omega arith in
+    let most : 10 ^ (at + 1) ≤ 10 ^ 19 = pow-le-pow_right (lit< tt) within in
+    (omega (arith, more), omega (arith, more, most))

@@ -24,16 +24,18 @@ pub struct Distribution {
 }
 
 impl Distribution {
-    /// Returns the distribution of a histogram, whose numbers are only known by their classes.
-    pub fn of_histogram(histogram: Histogram<u64>) -> Distribution
+    /// Returns the distribution of a histogram, whose numbers are only known by their classes. A
+    /// unit has these decimals, `MOST_DECIMALS` at most.
+    pub fn of_histogram(histogram: Histogram<u64>, decimals: u32) -> Distribution
         ensures same { result.histogram ≡ histogram }
+        ensures decimals { decimals ≤ MOST_DECIMALS → result.decimals ≡ decimals }
     {
         Distribution {
             min: histogram.min(),
             max: histogram.max(),
             histogram,
             sum: None,
-            decimals: 0,
+            decimals: decimals.min(MOST_DECIMALS),
         }
     }
 

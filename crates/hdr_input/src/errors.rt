@@ -36,6 +36,12 @@ pub enum InputError {
         line: u64,
         text: String,
     },
+    #[error("line {line}: the values have {decimals} decimals, and those before it {before}")]
+    OtherDecimals {
+        line: u64,
+        decimals: u32,
+        before: u32,
+    },
     #[error("line {line}: {cause}")]
     Interval {
         line: u64,
@@ -65,6 +71,14 @@ impl From<CreationError> for InputError {
 }
 
 impl InputError {
+    /// Returns the error of a reader.
+    pub(crate) fn of_reading(error: io::Error) -> InputError {
+        match error.kind() {
+            io::ErrorKind::OutOfMemory => InputError::OutOfMemory,
+            _ => InputError::Io(error),
+        }
+    }
+
     /// Returns the error of an interval whose histogram is not decoded.
     pub fn of_interval(line: u64, cause: FieldDecodeError) -> InputError {
         match cause {
@@ -75,12 +89,19 @@ impl InputError {
 }
 
 impl InputError {
-    /// Returns the error of a line whose histogram is not converted.
-    pub fn of_conversion(alloc: Global, line: u64, text: &[u8], cause: ConvertError) -> InputError {
+    /// Returns the error of an interval whose histogram is not converted.
+    pub fn of_conversion(line: u64, cause: ConvertError) -> InputError {
         match cause {
             ConvertError::OutOfMemory => InputError::OutOfMemory,
-            ConvertError::NotALine => not_a_log(alloc, line, text.trim_ascii()),
             cause => InputError::Conversion { line, cause },
+        }
+    }
+
+    /// Returns the error of a line that is not converted.
+    pub fn of_line(alloc: Global, line: u64, text: &[u8], cause: ConvertError) -> InputError {
+        match cause {
+            ConvertError::NotALine => not_a_log(alloc, line, text.trim_ascii()),
+            cause => InputError::of_conversion(line, cause),
         }
     }
 }

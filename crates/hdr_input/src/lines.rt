@@ -4,7 +4,7 @@ ghost use Rattle.std.specs.Prelude.{◌<◌, length};
 
 use crate::cause::Cause;
 use crate::errors::{InputError, Place, bad_number};
-use crate::number::{Number, plain_line};
+use crate::number::{Number, plain_line, plain_number};
 use crate::pieces::LineSink;
 use crate::tally::Tally;
 use std::alloc::Global;
@@ -36,7 +36,10 @@ fn has_delimiter(text: &[u8]) -> bool {
 
 /// Parses and records a number.
 pub(crate) fn record_text(tally: &mut Tally, text: &[u8]) -> Result<(), Cause> {
-    let number = Number::parse(text, tally.fixed_decimals())?;
+    let number = match plain_number(text) {
+        Some(number) => number,
+        None => Number::parse(text, tally.fixed_decimals())?,
+    };
     tally.record(number)
 }
 

@@ -6,8 +6,9 @@ ghost use Rattle.hdr_model.specs.Merging.{after_add};
 ghost use Rattle.hdrhistogram.specs.FieldRead.{IsHeldIn};
 
 use crate::errors::InputError;
-use crate::log_lines::{entry_of, split_log_line};
+use crate::log_lines::{decimals_of, entry_of, split_log_line};
 use crate::pieces::LineSink;
+use crate::plain::plain_field;
 use hdrhistogram::Histogram;
 use hdrhistogram::serialization::Deserializer;
 use hdrhistogram::serialization::interval_log::{
@@ -30,27 +31,30 @@ pub struct TagSum {
 }
 
 impl TagSum {
-    /// Adds the histogram that the field of an interval holds. Returns whether it is coarser than
-    /// the sum.
+    /// Adds the histogram that the field of an interval holds, which is decoded into the memory of
+    /// `spare` and left there. Returns whether it is coarser than the sum.
     fn add_field(
         &mut self,
         deserializer: &mut Deserializer,
+        spare: &mut Option<Histogram<u64>>,
         field: &str,
         line: u64,
     ) -> Result<bool, InputError>
         ensures { OnOk result ((held : Plain) × IsHeldIn (2 ^ 64 - 1) field.now held
             × (self.new.histogram ≡ after_add (2 ^ 64 - 1) self.old.histogram held)) }
     {
-        let source: Histogram<u64> = match deserializer.decode_field(field) {
+        let source = match deserializer.decode_field_into(field, spare.take()) {
             Ok(source) => source,
             Err(cause) => return Err(InputError::of_interval(line, cause)),
         };
         let is_coarser = !source.refines(&self.histogram);
         // A histogram that grows accepts every value, so this fails only if memory runs out.
         match self.histogram.add_from(&source) {
-            Ok(()) => Ok(is_coarser),
-            Err(_) => Err(InputError::OutOfMemory),
+            Ok(()) => {}
+            Err(_) => return Err(InputError::OutOfMemory),
         }
+        *spare = Some(source);
+        Ok(is_coarser)
     }
 }
 
@@ -71,8 +75,15 @@ pub struct LogSums<'a> {
     indices: HashMap<String, usize>,
     untagged: Option<usize>,
     deserializer: Deserializer,
+    /// The histogram that was added last: the next one is decoded into its memory.
+    spare: Option<Histogram<u64>>,
+    /// The field of an interval that is not plain, converted.
+    plain: Vec<u8>,
     /// The base time of the log.
     base: Duration,
+    /// The decimals of the log's values, and those of all values so far.
+    log_decimals: u32,
+    decimals: Option<u32>,
 }
 
 impl<'a> LogSums<'a> {
@@ -93,13 +104,38 @@ impl<'a> LogSums<'a> {
             indices: HashMap::new(alloc),
             untagged: None,
             deserializer: Deserializer::new(alloc),
+            spare: None,
+            plain: Vec::new(alloc),
             base: Duration::ZERO,
+            log_decimals: 0,
+            decimals: None,
         }
     }
 
-    /// Begins another log. Its intervals begin at the epoch, until it has a base time.
+    /// Begins another log. Its intervals begin at the epoch, until it has a base time, and its
+    /// values are integers, unless a comment has their decimals.
     pub fn begin_log(&mut self) {
         self.base = Duration::ZERO;
+        self.log_decimals = 0;
+    }
+
+    /// Returns the decimals of the values.
+    pub fn decimals(&self) -> u32 {
+        self.decimals.unwrap_or(0)
+    }
+
+    /// Returns an error if the values of a line have other decimals than those before.
+    fn check_decimals(&mut self, line: u64) -> Result<(), InputError> {
+        let decimals = self.log_decimals;
+        let before = *self.decimals.get_or_insert(decimals);
+        if before == decimals {
+            return Ok(());
+        }
+        Err(InputError::OtherDecimals {
+            line,
+            decimals,
+            before,
+        })
     }
 
     /// Returns the index of the sum of a tag, which is added if it is new.
@@ -149,12 +185,16 @@ impl<'a> LogSums<'a> {
         interval: &IntervalLogHistogram<'_>,
         line: u64,
     ) -> Result<(), InputError> {
+        self.check_decimals(line)?;
         let index = self.index_of(alloc, interval.tag())?;
         let Some(sum) = self.sums.get_mut(index) else {
             return Ok(());
         };
-        let field = interval.encoded_histogram();
-        if sum.add_field(&mut self.deserializer, field, line)? {
+        let field = match plain_field(alloc, interval.encoded_histogram(), &mut self.plain) {
+            Ok(field) => field,
+            Err(cause) => return Err(InputError::of_conversion(line, cause)),
+        };
+        if sum.add_field(&mut self.deserializer, &mut self.spare, field, line)? {
             self.coarser = self.coarser.saturating_add(1);
         }
         self.chosen = self.chosen.saturating_add(1);
@@ -170,7 +210,7 @@ impl<'a> LogSums<'a> {
                     self.add(alloc, &interval, number)?;
                 }
             }
-            _ => {}
+            _ => self.log_decimals = decimals_of(line).unwrap_or(self.log_decimals),
         }
         Ok(())
     }

@@ -1,14 +1,12 @@
 //! Decimal numbers, and their values in units.
 
-ghost use Rattle.std.specs.Prelude.{◌≡◌, ◌<◌, ◌≤◌, true, length, IfSome, SomeIff};
+ghost use Rattle.std.specs.Prelude.{◌≡◌, ◌+◌, ◌-◌, ◌^◌, ◌<◌, ◌≤◌, true, length, IfSome, SomeIff};
 ghost use Rattle.std.specs.Char.{is_ascii_digit, digit_value};
 ghost use Rattle.hdr_input.specs.Numbers.{in_units, BeginsWithDigits, BeginsWithPart};
 ghost use Rattle.hdr_input.specs.Numbers.{BeginsWithNumber, EndsLine};
 
 use crate::cause::Cause;
-use crate::distribution::MOST_DECIMALS;
 use crate::wide::parse_wide;
-use hdr_log::parts::append_digit;
 
 /// A decimal number: `12.50` is 1250 by 2 decimals.
 #[derive(Debug, Clone, Copy, PartialEq, Eq)]
@@ -29,21 +27,31 @@ fn digit(byte: u8) -> Option<u64>
     }
 }
 
-/// Appends the digits that a text begins with to a number, and returns it with the rest. Returns
-/// `None` if nothing follows the digits, or on overflow.
+/// The most digits of a number whose line is parsed at once: each such number fits 64 bits.
+const MOST_DIGITS: usize = 18;
+
+/// Appends the digits that a text begins with to a number of `before` digits, and returns it with
+/// the rest. Returns `None` if there are more than `MOST_DIGITS`.
 #[inline(always)]
-fn leading_digits(start: u64, text: &[u8]) -> Option<(u64, &[u8])>
+fn leading_digits(start: u64, before: usize, text: &[u8]) -> Option<(u64, &[u8])>
+    requires few { before ≤ MOST_DIGITS }
+    requires small { start < 10 ^ before }
     ensures length { IfSome result (λ p. length p.1.now ≤ length text.now) }
     ensures value { IfSome result (λ p. BeginsWithDigits start text.now p.0 p.1.now) }
+    ensures small { IfSome result (λ p. p.0 < 10 ^ (before + (length text.now - length p.1.now))) }
+    ensures few { IfSome result (λ p. before + length text.now ≤ MOST_DIGITS + length p.1.now) }
 {
     let mut value = start;
-    for (at, byte) in text.iter().enumerate() {
-        match digit(*byte) {
-            Some(digit) => value = append_digit(value, digit)?,
+    for at in 0..text.len().min(MOST_DIGITS + 1 - before) {
+        match digit(text[at]) {
+            Some(digit) => value = value * 10 + digit,
             None => return Some((value, &text[at..])),
         }
     }
-    None
+    if text.len() > MOST_DIGITS - before {
+        return None;
+    }
+    Some((value, &text[text.len()..]))
 }
 
 /// Returns what follows an end of line, LF or CR LF, that a text begins with.
@@ -66,12 +74,13 @@ pub(crate) fn plain_line(text: &[u8]) -> Option<(Number, &[u8])>
     ensures length { IfSome result (λ p. length p.1.now < length text.now) }
     ensures value { IfSome result (λ p. BeginsWithNumber text.now p.0.digits p.0.decimals p.1.now) }
 {
-    let (digits, rest) = leading_digits(0, text)?;
-    if rest.len() == text.len() {
+    let (digits, rest) = leading_digits(0, 0, text)?;
+    let before = text.len() - rest.len();
+    if before == 0 {
         return None;
     }
     if let [b'.', fraction @ ..] = rest {
-        return plain_fraction(digits, fraction);
+        return plain_fraction(digits, before, fraction);
     }
     let after = after_line_end(rest)?;
     Some((
@@ -83,21 +92,48 @@ pub(crate) fn plain_line(text: &[u8]) -> Option<(Number, &[u8])>
     ))
 }
 
-/// Parses the digits after a point, to the end of the line, as those of a number that has `whole`
-/// before the point.
+/// Parses the digits after a point, to the end of the line, as those of a number that has `whole`,
+/// which are `before` digits, before the point.
 #[inline(always)]
-fn plain_fraction(whole: u64, fraction: &[u8]) -> Option<(Number, &[u8])>
+fn plain_fraction(whole: u64, before: usize, fraction: &[u8]) -> Option<(Number, &[u8])>
+    requires few { before ≤ MOST_DIGITS }
+    requires small { whole < 10 ^ before }
     ensures length { IfSome result (λ p. length p.1.now < length fraction.now) }
     ensures value { IfSome result
         (λ p. BeginsWithPart whole fraction.now p.0.digits p.0.decimals p.1.now) }
 {
-    let (digits, rest) = leading_digits(whole, fraction)?;
-    let decimals = u32::try_from(fraction.len() - rest.len()).ok()?;
-    if decimals > MOST_DECIMALS {
-        return None;
-    }
+    let (digits, rest) = leading_digits(whole, before, fraction)?;
+    let decimals = (fraction.len() - rest.len()) as u32;
     let after = after_line_end(rest)?;
     Some((Number { digits, decimals }, after))
+}
+
+/// Parses a number that is digits with at most a point after the first or a later one.
+pub(crate) fn plain_number(text: &[u8]) -> Option<Number> {
+    let (digits, rest) = leading_digits(0, 0, text)?;
+    let before = text.len() - rest.len();
+    match rest {
+        _ if before == 0 => None,
+        [] => Some(Number {
+            digits,
+            decimals: 0,
+        }),
+        [b'.', fraction @ ..] => whole_fraction(digits, before, fraction),
+        _ => None,
+    }
+}
+
+/// Parses the digits after a point, as `plain_fraction` does, to the end of the text.
+fn whole_fraction(whole: u64, before: usize, fraction: &[u8]) -> Option<Number>
+    requires few { before ≤ MOST_DIGITS }
+    requires small { whole < 10 ^ before }
+{
+    let (digits, rest) = leading_digits(whole, before, fraction)?;
+    if !rest.is_empty() {
+        return None;
+    }
+    let decimals = fraction.len() as u32;
+    Some(Number { digits, decimals })
 }
 
 impl Number {

@@ -3,7 +3,7 @@
 use crate::errors::InputError;
 use crate::log_lines::split_log_line;
 use crate::pieces::LineSink;
-use hdr_convert::{Form, convert_line};
+use hdr_convert::{ConvertError, Form, convert_field, convert_line};
 use memchr::memrchr;
 use std::alloc::Global;
 
@@ -29,24 +29,45 @@ impl<S: LineSink> PlainLines<S> {
         let PlainLines { sink, converted: _ } = self;
         sink
     }
+}
 
-    /// The sink of the lines.
-    pub fn sink(&mut self) -> &mut S {
-        &mut self.sink
+/// The least length of a field whose form is known: the Base64 of the four bytes of a cookie.
+const FORM_LEN: usize = 8;
+
+/// Whether a field is a histogram of another form than plain V2: compressed, of an older version, or
+/// of floating-point values. Each form is a prefix of the Base64 of its first bytes.
+fn is_other_form(field: &[u8]) -> bool {
+    let is_other = field.starts_with(b"HIST") && !field.starts_with(b"HISTE");
+    field.len() >= FORM_LEN && (is_other || field.starts_with(b"DHIST"))
+}
+
+/// Returns the field of a plain histogram: `field`, or what it is converted to, in `buffer`.
+///
+/// # Errors
+/// Returns an error if a field of another form is not converted, or if an allocation fails.
+pub fn plain_field<'a>(
+    alloc: Global,
+    field: &'a str,
+    buffer: &'a mut Vec<u8>,
+) -> Result<&'a str, ConvertError> {
+    if !is_other_form(field.as_bytes()) {
+        return Ok(field);
+    }
+    buffer.clear();
+    convert_field(alloc, field, Form::Plain, buffer)?;
+    str::from_utf8(buffer).map_err(|_| ConvertError::NotBase64)
+}
+
+/// Whether the last field of a line is a histogram of another form.
+fn has_other_form(line: &[u8]) -> bool {
+    match memrchr(b',', line) {
+        Some(comma) => is_other_form(line[comma + 1..].trim_ascii_end()),
+        None => false,
     }
 }
 
-/// Whether the last field of a line is a histogram of another form than plain V2: compressed, of an older version, or of
-/// floating-point values. Each form is a prefix of the Base64 of its first bytes.
-fn is_other_form(line: &[u8]) -> bool {
-    let field = match memrchr(b',', line) {
-        Some(comma) => &line[comma + 1..],
-        None => return false,
-    };
-    (field.starts_with(b"HIST") && !field.starts_with(b"HISTE")) || field.starts_with(b"DHIST")
-}
-
-/// Appends lines with plain histograms. The first of them has this number.
+/// Appends lines with plain histograms, up to the first one that is not converted. The first line
+/// has this number.
 fn convert_lines(
     alloc: Global,
     lines: &[u8],
@@ -57,21 +78,43 @@ fn convert_lines(
     let mut number = first;
     while !rest.is_empty() {
         let (line, after) = split_log_line(rest, number);
-        if !is_other_form(line) {
-            converted.extend_from_slice(line)?;
-        } else if let Err(cause) = convert_line(alloc, line, Form::Plain, converted) {
-            return Err(InputError::of_conversion(alloc, number, line, cause));
-        }
+        push_plain_line(alloc, line, number, converted)?;
         rest = after;
         number = number.saturating_add(1);
     }
     Ok(())
 }
 
+/// Appends the line of this number, with a plain histogram. On error `converted` is unchanged.
+///
+/// # Errors
+/// Returns an error if a histogram of another form is not converted, or if an allocation fails.
+pub fn push_plain_line(
+    alloc: Global,
+    line: &[u8],
+    number: u64,
+    converted: &mut Vec<u8>,
+) -> Result<(), InputError> {
+    if !has_other_form(line) {
+        return Ok(converted.extend_from_slice(line)?);
+    }
+    let len = converted.len();
+    match convert_line(alloc, line, Form::Plain, converted) {
+        Ok(()) => Ok(()),
+        Err(cause) => {
+            converted.truncate(len);
+            Err(InputError::of_line(alloc, number, line, cause))
+        }
+    }
+}
+
 impl<S: LineSink> LineSink for PlainLines<S> {
     fn take_lines(&mut self, alloc: Global, lines: &[u8], first: u64) -> Result<u64, InputError> {
         self.converted.clear();
-        convert_lines(alloc, lines, first, &mut self.converted)?;
-        self.sink.take_lines(alloc, &self.converted, first)
+        let conversion = convert_lines(alloc, lines, first, &mut self.converted);
+        // An error of a line before the one that is not converted comes first.
+        let next = self.sink.take_lines(alloc, &self.converted, first)?;
+        conversion?;
+        Ok(next)
     }
 }

@@ -1,10 +1,10 @@
 //! Numbers, recorded as they come.
 
-ghost use Rattle.std.specs.Prelude.{◌≡◌, ◌≢◌, ◌<◌, ◌≤◌, ◌^◌, ◌-◌, ◌⊎◌, ℕ, min, max};
+ghost use Rattle.std.specs.Prelude.{◌≡◌, ◌≢◌, ◌<◌, ◌≤◌, ◌^◌, ◌-◌, ℕ, min, max};
 ghost use Rattle.std.specs.Prelude.{Some, Ok, OnOk, IfOk};
 ghost use Rattle.hdr_input.specs.Numbers.{in_units};
 ghost use Rattle.hdr_model.specs.Recording.{after_record};
-ghost use Rattle.hdr_model.specs.Correction.{after_correct};
+ghost use Rattle.hdr_input.specs.Recorded.{after_number};
 
 use crate::cause::Cause;
 use crate::distribution::{Distribution, MOST_DECIMALS};
@@ -112,10 +112,12 @@ impl Tally {
         ensures plain { OnOk result (self.old.decimals ≡ Some number.decimals
             → self.old.interval ≡ 0
             → self.new.histogram ≡ after_record (2 ^ 64 - 1) self.old.histogram number.digits 1) }
-        ensures other { OnOk result ((decimals : ℕ) → self.old.decimals ≡ Some decimals
-            → (decimals ≢ number.decimals) ⊎ (0 < self.old.interval) → self.new.histogram
-            ≡ after_correct (2 ^ 64 - 1) self.old.histogram
-            (in_units number.digits number.decimals decimals) 1 self.old.interval) }
+        ensures rounded { OnOk result ((decimals : ℕ) → self.old.decimals ≡ Some decimals
+            → decimals ≢ number.decimals → self.new.histogram
+            ≡ after_number self.old.histogram number decimals self.old.interval) }
+        ensures corrected { OnOk result ((decimals : ℕ) → self.old.decimals ≡ Some decimals
+            → 0 < self.old.interval → self.new.histogram
+            ≡ after_number self.old.histogram number decimals self.old.interval) }
         ensures min { OnOk result (self.old.decimals ≡ Some number.decimals → self.old.interval ≡ 0
             → self.new.min ≡ min self.old.min number.digits) }
         ensures max { OnOk result (self.old.decimals ≡ Some number.decimals → self.old.interval ≡ 0
@@ -133,8 +135,8 @@ impl Tally {
     #[inline(never)]
     fn record_other(&mut self, number: Number) -> Result<(), Cause>
         ensures { OnOk result ((decimals : ℕ) → self.old.decimals ≡ Some decimals
-            → self.new.histogram ≡ after_correct (2 ^ 64 - 1) self.old.histogram
-            (in_units number.digits number.decimals decimals) 1 self.old.interval) }
+            → self.new.histogram
+            ≡ after_number self.old.histogram number decimals self.old.interval) }
     {
         let units = self.units_of(number)?;
         let done = self.histogram.record_correct(units, self.interval);

@@ -1,6 +1,7 @@
 //! `hdrstat check`.
 
 use crate::error::StatError;
+use crate::files::Console;
 use crate::input::read_parts;
 use crate::output::print;
 use crate::reading::{parse_reading, unit_of};
@@ -78,7 +79,7 @@ pub(crate) fn check(rt: &HostRuntime, matches: &ArgMatches<'_>) -> Result<ExitCo
     let arguments = matches.get_strs("LEVEL").unwrap_or(&[]);
     let levels = levels_of(alloc, arguments, unit_of(matches))?;
     let names = matches.get_strs("input").unwrap_or(&[]);
-    let parts = read_parts(rt, names, &reading)?;
+    let parts = read_parts(Console::new(rt, matches), names, &reading)?;
     if is_empty(&parts) && !matches.get_flag("allow-empty") {
         let _ = eprintln!(rt; "hdrstat: no numbers; --allow-empty accepts an empty input");
         return Ok(ExitCode::from(BROKEN));

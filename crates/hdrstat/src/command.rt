@@ -8,7 +8,7 @@ mod page;
 mod reading;
 mod summary;
 
-use clap::{Arg, Command, Error};
+use clap::{Arg, ArgAction, Command, Error};
 use std::alloc::Global;
 
 const ABOUT: &str = "Percentiles of latencies and other numbers, by HDR histograms";
@@ -23,6 +23,15 @@ Examples:
 /// Returns an option that has a value.
 fn option<'a>(alloc: Global, id: &'a str, name: &'a str, help: &'a str) -> Arg<'a> {
     Arg::new(alloc, id).long(id).value_name(name).help(help)
+}
+
+/// Returns the option that turns the progress line off.
+fn quiet<'a>(alloc: Global) -> Arg<'a> {
+    Arg::new(alloc, "quiet")
+        .short('q')
+        .long("quiet")
+        .action(ArgAction::SetTrue)
+        .help("Do not show on a terminal how much of a file is read")
 }
 
 /// Returns the logs of a subcommand.

@@ -1,6 +1,7 @@
 //! `hdrstat convert`.
 
 use crate::error::StatError;
+use crate::files::Console;
 use crate::input::read_log_lines;
 use crate::output::print;
 use clap::ArgMatches;
@@ -53,7 +54,7 @@ fn convert_lines(
             converted.extend_from_slice(line)?;
         } else if let Err(cause) = convert_line(alloc, line, form, converted) {
             converted.truncate(len);
-            return Err(InputError::of_conversion(alloc, number, line, cause));
+            return Err(InputError::of_line(alloc, number, line, cause));
         }
         rest = after;
         number = number.saturating_add(1);
@@ -67,14 +68,14 @@ pub(crate) fn convert(rt: &HostRuntime, matches: &ArgMatches<'_>) -> Result<Exit
         Some("compressed") => Form::Compressed,
         _ => Form::Plain,
     };
-    let names = matches.get_strs("LOG").unwrap_or(&[]);
     let mut conversion = Conversion {
         rt,
         form,
         converted: Vec::new(rt.alloc()),
         failed: None,
     };
-    let read = read_log_lines(rt, names, &mut conversion);
+    let names = matches.get_strs("LOG").unwrap_or(&[]);
+    let read = read_log_lines(Console::new(rt, matches), names, &mut conversion);
     let Conversion { failed, .. } = conversion;
     match failed {
         Some(error) => Err(error),

@@ -1,6 +1,7 @@
 //! Files and standard input.
 
 use crate::error::StatError;
+use crate::files::{Console, shown};
 use crate::reading::{Reading, Source, Table};
 use hdr_input::columns::{Columns, Layout, RowSink, guess_delimiter, read_rows};
 use hdr_input::intervals::Intervals;
@@ -11,9 +12,8 @@ use hdr_input::{Distribution, InputError, Recording, Tally};
 use hdr_summary::figures::Tagged;
 use hdrhistogram::Histogram;
 use hdrhistogram::serialization::interval_log::IntervalChoice;
-use std::alloc::{AllocError, Global};
-use std::fs::File;
-use std::io::{BufRead, BufReader, ErrorKind, Read};
+use std::alloc::Global;
+use std::io::{BufRead, BufReader, Read};
 
 /// What takes the contents of files.
 trait FileSink {
@@ -37,9 +37,9 @@ impl FileSink for Numbers<'_> {
     }
 }
 
-impl FileSink for PlainLines<LogSums<'_>> {
+impl FileSink for LogSums<'_> {
     fn take<R: Read + Drop>(&mut self, alloc: Global, mut reader: R) -> Result<(), InputError> {
-        self.sink().begin_log();
+        self.begin_log();
         read_lines(alloc, &mut reader, LONGEST, self)
     }
 }
@@ -125,58 +125,48 @@ fn read_table<R: Read + Drop, S: RowSink>(
 }
 
 /// Reads a file; `-` is standard input.
-fn read_file<S: FileSink>(rt: &HostRuntime, name: &str, sink: &mut S) -> Result<(), StatError> {
-    let alloc = rt.alloc();
-    if name == "-" {
-        return match sink.take(alloc, rt.stdin()) {
-            Ok(()) => Ok(()),
-            Err(cause) => Err(StatError::input(alloc, "standard input", cause)),
-        };
-    }
-    let file = match File::open(rt, name) {
-        Ok(file) => file,
-        Err(cause) => return Err(StatError::file(alloc, name, cause)),
-    };
-    match sink.take(alloc, file) {
+fn read_file<S: FileSink>(console: Console<'_>, name: &str, sink: &mut S) -> Result<(), StatError> {
+    let alloc = console.rt.alloc();
+    match sink.take(alloc, console.open(name)?) {
         Ok(()) => Ok(()),
-        Err(cause) => Err(StatError::input(alloc, name, cause)),
+        Err(cause) => Err(StatError::input(alloc, shown(name), cause)),
     }
 }
 
-/// Reads files in their order, or standard input if there are none.
+/// Reads files in their order, or standard input if no names are given.
 fn read_files<S: FileSink>(
-    rt: &HostRuntime,
+    console: Console<'_>,
     names: &[&str],
     sink: &mut S,
 ) -> Result<(), StatError> {
     if names.is_empty() {
-        return read_file(rt, "-", sink);
+        return read_file(console, "-", sink);
     }
     for name in names {
-        read_file(rt, *name, sink)?;
+        read_file(console, *name, sink)?;
     }
     Ok(())
 }
 
 /// Returns the numbers of files. The number of lines skipped is printed on standard error.
 pub(crate) fn read_numbers(
-    rt: &HostRuntime,
+    console: Console<'_>,
     names: &[&str],
     recording: Recording,
     table: Option<Table<'_>>,
 ) -> Result<Tally, StatError> {
-    let tally = match Tally::new(rt.alloc(), recording) {
+    let tally = match Tally::new(console.rt.alloc(), recording) {
         Ok(tally) => tally,
         Err(_) => return Err(StatError::OutOfMemory),
     };
     let mut numbers = Numbers { tally, table };
-    read_files(rt, names, &mut numbers)?;
-    tell_skipped(rt, &numbers.tally);
+    read_files(console, names, &mut numbers)?;
+    print_skipped(console.rt, &numbers.tally);
     Ok(numbers.tally)
 }
 
 /// Prints the number of lines skipped on standard error, if there are any.
-fn tell_skipped(rt: &HostRuntime, tally: &Tally) {
+fn print_skipped(rt: &HostRuntime, tally: &Tally) {
     let skipped = tally.skipped;
     if skipped > 0 {
         let _ = eprintln!(rt; "hdrstat: {skipped} bad lines skipped");
@@ -185,14 +175,14 @@ fn tell_skipped(rt: &HostRuntime, tally: &Tally) {
 
 /// Returns the numbers of a column of files, cut into intervals of this length in nanoseconds.
 pub(crate) fn read_intervals<'a>(
-    rt: &HostRuntime,
+    console: Console<'_>,
     names: &[&str],
     recording: Recording,
     table: Table<'a>,
     time: &'a str,
     length: u64,
 ) -> Result<Intervals, StatError> {
-    let intervals = match Intervals::new(rt.alloc(), recording, length) {
+    let intervals = match Intervals::new(console.rt.alloc(), recording, length) {
         Ok(intervals) => intervals,
         Err(_) => return Err(StatError::OutOfMemory),
     };
@@ -201,8 +191,8 @@ pub(crate) fn read_intervals<'a>(
         table,
         time,
     };
-    read_files(rt, names, &mut numbers)?;
-    tell_skipped(rt, &numbers.intervals.tally);
+    read_files(console, names, &mut numbers)?;
+    print_skipped(console.rt, &numbers.intervals.tally);
     Ok(numbers.intervals)
 }
 
@@ -211,7 +201,8 @@ pub(crate) fn read_whole(rt: &HostRuntime, names: &[&str]) -> Result<Vec<Vec<u8>
     let mut contents = Contents {
         files: Vec::new(rt.alloc()),
     };
-    read_files(rt, names, &mut contents)?;
+    let is_quiet = true;
+    read_files(Console { rt, is_quiet }, names, &mut contents)?;
     Ok(contents.files)
 }
 
@@ -229,47 +220,33 @@ impl<S: LineSink> FileSink for LogLines<'_, S> {
 
 /// Passes the lines of logs to `sink`.
 pub(crate) fn read_log_lines<S: LineSink>(
-    rt: &HostRuntime,
+    console: Console<'_>,
     names: &[&str],
     sink: &mut S,
 ) -> Result<(), StatError> {
-    read_files(rt, names, &mut LogLines { sink })
-}
-
-/// Returns the name of the file at an index, or that of all files without an index, for an error.
-pub(crate) fn file_at(
-    alloc: Global,
-    names: &[&str],
-    index: Option<usize>,
-) -> Result<String, AllocError> {
-    let name = match index {
-        Some(index) => names.get(index).copied().unwrap_or("-"),
-        None => "the logs",
-    };
-    String::from_str(alloc, if name == "-" { "standard input" } else { name })
+    read_files(console, names, &mut LogLines { sink })
 }
 
 /// Returns the sums of logs. If intervals are coarser than their sum, their number is printed on
 /// standard error.
 fn read_logs(
-    rt: &HostRuntime,
+    console: Console<'_>,
     names: &[&str],
     sigfig: u8,
     choice: IntervalChoice<'_>,
     is_by_tag: bool,
 ) -> Result<Vec<Tagged>, StatError> {
-    let alloc = rt.alloc();
-    let sums = LogSums::new(alloc, choice, sigfig, is_by_tag);
-    let mut lines = PlainLines::new(alloc, sums);
-    read_files(rt, names, &mut lines)?;
-    let sums = lines.into_sink();
+    let alloc = console.rt.alloc();
+    let mut sums = LogSums::new(alloc, choice, sigfig, is_by_tag);
+    read_files(console, names, &mut sums)?;
     let coarser = sums.coarser;
     let chosen = sums.chosen;
     if coarser > 0 {
-        let _ = eprintln!(rt;
+        let _ = eprintln!(console.rt;
             "hdrstat: {coarser} of {chosen} intervals coarser than {sigfig} digits"
         );
     }
+    let decimals = sums.decimals();
     let mut parts = Vec::new(alloc);
     if sums.sums.is_empty() && !is_by_tag {
         let empty = match Histogram::new(alloc, sigfig) {
@@ -278,13 +255,13 @@ fn read_logs(
         };
         parts.push(Tagged {
             tag: None,
-            distribution: Distribution::of_histogram(empty),
+            distribution: Distribution::of_histogram(empty, decimals),
         })?;
     }
     for sum in sums.sums {
         parts.push(Tagged {
             tag: sum.tag,
-            distribution: Distribution::of_histogram(sum.histogram),
+            distribution: Distribution::of_histogram(sum.histogram, decimals),
         })?;
     }
     Ok(parts)
@@ -292,16 +269,16 @@ fn read_logs(
 
 /// Returns the distributions of files: one, or one for each tag.
 pub(crate) fn read_parts(
-    rt: &HostRuntime,
+    console: Console<'_>,
     names: &[&str],
     reading: &Reading<'_>,
 ) -> Result<Vec<Tagged>, StatError> {
     let recording = reading.recording;
     match reading.source {
         Source::Numbers(table) => {
-            let tally = read_numbers(rt, names, recording, table)?;
+            let tally = read_numbers(console, names, recording, table)?;
             let distribution = tally.into_distribution();
-            let mut parts = Vec::new(rt.alloc());
+            let mut parts = Vec::new(console.rt.alloc());
             parts.push(Tagged {
                 tag: None,
                 distribution,
@@ -309,7 +286,7 @@ pub(crate) fn read_parts(
             Ok(parts)
         }
         Source::Log { choice, is_by_tag } => {
-            read_logs(rt, names, recording.sigfig, choice, is_by_tag)
+            read_logs(console, names, recording.sigfig, choice, is_by_tag)
         }
     }
 }

@@ -1,6 +1,7 @@
 //! `hdrstat log`.
 
 use crate::error::StatError;
+use crate::files::Console;
 use crate::input::{read_intervals, read_numbers};
 use crate::output::print;
 use crate::reading::{nanoseconds_of, recording_of, table_of, tag_of};
@@ -75,15 +76,16 @@ pub(crate) fn log(rt: &HostRuntime, matches: &ArgMatches<'_>) -> Result<ExitCode
     let recording = recording_of(alloc, matches)?;
     let table = table_of(alloc, matches)?;
     let tag = tag_of(alloc, matches)?;
+    let console = Console::new(rt, matches);
     let names = matches.get_strs("FILE").unwrap_or(&[]);
     let length = length_of(alloc, matches)?;
     let output = match (table, matches.get_str("time"), length) {
         (Some(table), Some(time), Some(length)) => {
-            let mut intervals = read_intervals(rt, names, recording, table, time, length)?;
+            let mut intervals = read_intervals(console, names, recording, table, time, length)?;
             interval_log(alloc, &mut intervals, length, tag)?
         }
         _ => {
-            let tally = read_numbers(rt, names, recording, table)?;
+            let tally = read_numbers(console, names, recording, table)?;
             single_log(alloc, &tally.histogram, tally.decimals(), tag)?
         }
     };

@@ -5,11 +5,13 @@ mod check;
 mod command;
 mod convert;
 mod error;
+mod files;
 mod gather;
 mod input;
 mod log;
 mod output;
 mod page;
+mod progress;
 mod reading;
 mod summary;
 
@@ -22,8 +24,8 @@ use std::process::ExitCode;
 /// The status of a usage error.
 const USAGE: u8 = 2;
 
-/// Prints a usage error of clap, or the help or the version.
-fn answer(rt: &HostRuntime, error: &clap::Error) -> ExitCode {
+/// Prints a usage error of clap, or the help or the version, and returns the status.
+fn print_of_clap(rt: &HostRuntime, error: &clap::Error) -> ExitCode {
     match error.print(rt) {
         Ok(()) => ExitCode::from(if error.use_stderr() { USAGE } else { 0 }),
         Err(error) => fail(rt, "", &StatError::Output(error)),
@@ -82,11 +84,11 @@ fn main(rt: HostRuntime) -> ExitCode {
     };
     let command = match command::hdrstat(rt.alloc()) {
         Ok(command) => command,
-        Err(error) => return answer(&rt, &error),
+        Err(error) => return print_of_clap(&rt, &error),
     };
     let matches = match command.try_get_matches_from(words.as_slice()) {
         Ok(matches) => matches,
-        Err(error) => return answer(&rt, &error),
+        Err(error) => return print_of_clap(&rt, &error),
     };
     match matches.subcommand() {
         Some((name, matches)) => run(&rt, name, matches),

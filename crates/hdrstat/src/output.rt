@@ -1,7 +1,33 @@
 //! Standard output.
 
 use crate::error::StatError;
-use std::io::Write;
+use std::io::{self, Stdout, Write};
+
+/// Standard output, to which writes are complete: one that is interrupted is retried.
+#[derive(Drop)]
+pub(crate) struct Output {
+    stdout: Stdout,
+}
+
+impl Output {
+    /// Returns standard output.
+    pub(crate) fn new(rt: &HostRuntime) -> Output {
+        Output {
+            stdout: rt.stdout(),
+        }
+    }
+}
+
+impl Write for Output {
+    fn write(&mut self, bytes: &[u8]) -> io::Result<usize> {
+        self.stdout.write_all(bytes)?;
+        Ok(bytes.len())
+    }
+
+    fn flush(&mut self) -> io::Result<()> {
+        self.stdout.flush()
+    }
+}
 
 /// Prints bytes.
 pub(crate) fn print(rt: &HostRuntime, bytes: &[u8]) -> Result<(), StatError> {

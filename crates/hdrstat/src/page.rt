@@ -1,7 +1,8 @@
 //! `hdrstat page`.
 
 use crate::error::StatError;
-use crate::input::{file_at, read_whole};
+use crate::files::file_at;
+use crate::input::read_whole;
 use crate::output::print;
 use crate::reading::{tag_of, unit_of};
 use clap::ArgMatches;

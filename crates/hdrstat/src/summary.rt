@@ -1,6 +1,7 @@
 //! `hdrstat summary`.
 
 use crate::error::StatError;
+use crate::files::Console;
 use crate::input::read_parts;
 use crate::output::print;
 use crate::reading::{parse_reading, unit_of};
@@ -67,7 +68,7 @@ pub(crate) fn summary(rt: &HostRuntime, matches: &ArgMatches<'_>) -> Result<Exit
         has_tags,
     };
     let names = matches.get_strs("FILE").unwrap_or(&[]);
-    let parts = read_parts(rt, names, &reading)?;
+    let parts = read_parts(Console::new(rt, matches), names, &reading)?;
     let text = text(alloc, &parts, &layout)?;
     print(rt, text.as_bytes())?;
     Ok(ExitCode::SUCCESS)

@@ -1,1 +1,1 @@
-"$1" gather | "$1" gather
+"$1" gather --unsorted | "$1" gather

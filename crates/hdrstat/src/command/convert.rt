@@ -1,6 +1,6 @@
 //! The command line of `hdrstat convert`.
 
-use crate::command::{logs, option};
+use crate::command::{logs, option, quiet};
 use clap::{Command, Error};
 use std::alloc::Global;
 
@@ -23,6 +23,7 @@ pub(crate) fn convert<'a>(alloc: Global) -> Result<Command<'a>, Error> {
         .about("Convert interval logs from and to those of other HdrHistogram libraries")
         .after_help(AFTER)
         .arg(to)?
+        .arg(quiet(alloc))?
         .arg(logs(alloc))?;
     Ok(command)
 }

@@ -1,6 +1,6 @@
 //! The options of the input, which several subcommands have.
 
-use crate::command::option;
+use crate::command::{option, quiet};
 use clap::builder::ValueParser;
 use clap::{Arg, ArgAction, Command, Error, value_parser};
 use std::alloc::Global;
@@ -85,7 +85,8 @@ pub(crate) fn with_recording<'a>(
         .arg(decimals)?
         .arg(interval)?
         .arg(unit)?
-        .arg(skip_bad)?;
+        .arg(skip_bad)?
+        .arg(quiet(alloc))?;
     Ok(command)
 }
 

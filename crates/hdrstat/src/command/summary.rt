@@ -12,7 +12,8 @@ with # are skipped. With --column it is a table, and with --from log an interval
 
 A percentile is the top of its class: with 3 digits it is at most 0.1 % above the number
 of its rank. Count, min, mean and max of numbers are exact; those of logs are by class.
-The values of a log are integers, in the unit that its writer chose.
+The values of a log are integers, in the unit that its writer chose, or have the decimals
+that `hdrstat log` wrote in a comment.
 
 A load generator that waits for an answer before it sends the next request measures one
 long latency, and omits those of the requests that were due meanwhile.

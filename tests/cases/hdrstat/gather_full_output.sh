@@ -1,0 +1,1 @@
+"$1" gather >/dev/full
