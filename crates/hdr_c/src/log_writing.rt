@@ -1,6 +1,6 @@
 //! The line of an interval, in the caller's memory.
 
-ghost use Rattle.std.specs.Prelude.{◌≡◌, MatchResult, vec_items};
+ghost use Rattle.std.specs.Prelude.{◌≡◌, IfErr, IfOk, vec_items};
 ghost use Rattle.std.specs.Option.{option_map};
 ghost use Rattle.std.specs.Duration.{as_nanos};
 ghost use Rattle.hdr_log.specs.Tags.{tag_text};
@@ -47,9 +47,9 @@ fn line(
     duration: Duration,
     tag: Option<Tag<'_>>,
 ) -> Result<Vec<u8>, IntervalLogWriterError<V2SerializeError>>
-    ensures { MatchResult result (λ line. IsIntervalText IsV2 histogram.now (option_map tag_text tag.entry)
-        (as_nanos start) (as_nanos duration) 1 (vec_items line)) (IsLineError histogram.now
-        (as_nanos start) (as_nanos duration)) }
+    ensures line { IfOk result (λ line. IsIntervalText IsV2 histogram.now (option_map tag_text tag.entry)
+        (as_nanos start) (as_nanos duration) 1 (vec_items line)) }
+    ensures err { IfErr result (IsLineError histogram.now (as_nanos start) (as_nanos duration)) }
 {
     let mut line = Vec::new(alloc);
     let mut serializer = V2Serializer::new(alloc);

@@ -112,9 +112,8 @@ impl Tally {
         ensures plain { OnOk result (self.old.decimals ≡ Some number.decimals
             → self.old.interval ≡ 0
             → self.new.histogram ≡ after_record (2 ^ 64 - 1) self.old.histogram number.digits 1) }
-        ensures rounded { OnOk result ((decimals : ℕ) → self.old.decimals ≡ Some decimals
-            → decimals ≢ number.decimals → self.new.histogram
-            ≡ after_number self.old.histogram number decimals self.old.interval) }
+        ensures rounded { OnOk result ((d : ℕ) → self.old.decimals ≡ Some d → d ≢ number.decimals
+            → self.new.histogram ≡ after_number self.old.histogram number d self.old.interval) }
         ensures corrected { OnOk result ((decimals : ℕ) → self.old.decimals ≡ Some decimals
             → 0 < self.old.interval → self.new.histogram
             ≡ after_number self.old.histogram number decimals self.old.interval) }
