@@ -1,3 +1,4 @@
 mod AsBox
+mod Bounds
 mod LogSteps
 pub mod Runs

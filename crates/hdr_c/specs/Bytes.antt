@@ -1,11 +1,11 @@
 -- V2 bytes in the caller's memory.
 use Rattle.std.specs.Prelude.{◌≡◌, ◌⊎◌, ◌-◌, ◌^◌, ◌<◌, ℕ, List, Option, Some, None, length}
 use Rattle.hdr_model.specs.Plain.{Plain}
-use Rattle.hdrhistogram.specs.Defects.{defect_of_error, FailsBy}
+use Rattle.hdrhistogram.specs.Defects.{defect_of_error, FailsBy, RunsOutOnly}
 use Rattle.hdrhistogram.specs.Streams.{WritesFront}
 use Rattle.hdrhistogram.specs.SerializeRefusals.{IsToBytesError}
 use Rattle.hdrhistogram.specs.V2.{IsV2}
-use Rattle.hdrhistogram.specs.V2Read.{IsReadAs, v2_at}
+use Rattle.hdrhistogram.specs.V2Read.{HasBounds, IsReadAs, v2_at}
 use Rattle.hdrhistogram.specs.declared.serialization.errors.DeserializeError.{DeserializeError}
 use Rattle.hdrhistogram.specs.declared.serialization.errors.V2SerializeError.{V2SerializeError}
 use Rattle.hdr_c.specs.Status.{decode_status, encode_status}
@@ -28,4 +28,5 @@ abbrev pub Decodes : ℕ → List ℕ → ℕ → Option Plain → Option Plain 
 Decodes status text taken old new =
     ((status ≡ 0) × ((h : Plain) × (new ≡ Some h) × IsReadAs (2 ^ 64 - 1) text h taken))
     ⊎ ((e : DeserializeError) × (status ≡ decode_status e) × FailsBy (defect_of_error e) (v2_at (2 ^ 64 - 1) text)
+      × RunsOutOnly (HasBounds text) e
     × (taken ≡ 0) × (new ≡ old))
