@@ -28,5 +28,5 @@ abbrev pub Decodes : ℕ → List ℕ → ℕ → Option Plain → Option Plain 
 Decodes status text taken old new =
     ((status ≡ 0) × ((h : Plain) × (new ≡ Some h) × IsReadAs (2 ^ 64 - 1) text h taken))
     ⊎ ((e : DeserializeError) × (status ≡ decode_status e) × FailsBy (defect_of_error e) (v2_at (2 ^ 64 - 1) text)
-      × RunsOutOnly (HasBounds text) e
+    × RunsOutOnly (HasBounds text) e
     × (taken ≡ 0) × (new ≡ old))

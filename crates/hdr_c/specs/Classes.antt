@@ -23,6 +23,7 @@ pub record IsClassAt (h : Plain) (from at : ℕ) (c : Class) : Type 0 where
   pub highest : c.highest ≡ top_of (resolution h) c.lowest
   pub count : c.count ≡ slice_index h.counts at
 
-abbrev pub IsClass : Plain → ℕ → Bool → Class → Type 0
-IsClass h from true c = (at : ℕ) × IsClassAt h from at c
-IsClass h from false c = AllZeroFrom h.counts from
+-- the next class is stored, or there is none and nothing is stored
+abbrev pub IsNextClass : Plain → Bool → Class → Class → Type 0
+IsNextClass h true old new = (at : ℕ) × IsClassAt h old.next at new
+IsNextClass h false old new = AllZeroFrom h.counts old.next × (new ≡ old)

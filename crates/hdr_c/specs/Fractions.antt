@@ -9,14 +9,14 @@ use Rattle.hdr_c.specs.declared.queries.Shape.{Shape}
 abbrev pub IsFraction : Ratio → WideFraction → Type 0
 IsFraction q s = (s.num_low ≡ q.num % 2 ^ 64) × (s.num_high ≡ q.num / 2 ^ 64) × (s.den ≡ min q.den (2 ^ 64 - 1))
 
--- a mean, or status 13 if there is none
-abbrev pub IsMean : ℕ → Option Ratio → WideFraction → Type 0
-IsMean status None s = status ≡ 13
-IsMean status (Some q) s = (status ≡ 0) × IsFraction q s
+-- a mean is stored, or there is none: the status is then 13, and nothing is stored
+abbrev pub IsMean : ℕ → Option Ratio → WideFraction → WideFraction → Type 0
+IsMean status None old new = (status ≡ 13) × (new ≡ old)
+IsMean status (Some q) old new = (status ≡ 0) × IsFraction q new
 
--- the value at a quantile, or status 12 if the denominator is 0
-abbrev pub IsQuantile : ℕ → ℕ → ℕ → ℕ → Type 0
-IsQuantile status den value at_quantile = (den ≡ 0 → status ≡ 12) × (0 < den → (status ≡ 0) × (value ≡ at_quantile))
+-- the value at a quantile is stored, or the denominator is 0: the status is then 12, and nothing is stored
+abbrev pub IsQuantile : ℕ → ℕ → ℕ → ℕ → ℕ → Type 0
+IsQuantile status den old new at_quantile = (den ≡ 0 → (status ≡ 12) × (new ≡ old)) × (0 < den → (status ≡ 0) × (new ≡ at_quantile))
 
 abbrev pub IsShape : Plain → Shape → Type 0
 IsShape h s =

@@ -2,7 +2,7 @@
 
 ghost use Rattle.std.specs.Prelude.{◌≡◌, MatchOption, false};
 ghost use Rattle.hdr_c.specs.Calls.{Reads, held};
-ghost use Rattle.hdr_c.specs.Classes.{AllZeroFrom, IsClass, IsNextNonzero};
+ghost use Rattle.hdr_c.specs.Classes.{AllZeroFrom, IsNextClass, IsNextNonzero};
 
 use crate::handle::Handle;
 use std::alloc::Global;
@@ -33,7 +33,7 @@ fn next_nonzero(counters: &[u64], from: usize) -> Option<usize>
 /// Stores the first nonempty class from the bin `class.next` on. Returns `false` if there is none.
 #[unsafe(no_mangle)]
 pub extern "C" fn hdr_next_class(h: &mut Handle, alloc: Global, class: &mut Class) -> bool
-    ensures { Reads (held h.old) (held h.new) (λ p. IsClass p class.old.next result class.new)
+    ensures { Reads (held h.old) (held h.new) (λ p. IsNextClass p result class.old class.new)
         (result ≡ false) }
 {
     let Some(boxed) = h.take(alloc) else {

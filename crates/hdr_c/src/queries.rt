@@ -100,7 +100,7 @@ pub extern "C" fn hdr_max(h: &mut Handle, alloc: Global) -> u64
 /// Stores the mean of the samples, each taken as the middle of its class.
 #[unsafe(no_mangle)]
 pub extern "C" fn hdr_mean(h: &mut Handle, alloc: Global, fraction: &mut WideFraction) -> u32
-    ensures { Reads (held h.old) (held h.new) (λ p. IsMean result (mean p) fraction.new) (result ≡ 1) }
+    ensures { Reads (held h.old) (held h.new) (λ p. IsMean result (mean p) fraction.old fraction.new) (result ≡ 1) }
 {
     let Some(boxed) = h.take(alloc) else {
         return CLOSED;
@@ -125,7 +125,7 @@ pub extern "C" fn hdr_value_at_quantile(
     den: u64,
     value: &mut u64,
 ) -> u32
-    ensures { Reads (held h.old) (held h.new) (λ p. IsQuantile result den value.new
+    ensures { Reads (held h.old) (held h.new) (λ p. IsQuantile result den value.old value.new
         (value_at_quantile p (record { num = num; den = den }))) (result ≡ 1) }
 {
     let Some(boxed) = h.take(alloc) else {
