@@ -93,6 +93,8 @@ def log_error(failure):
         return f"hdrstat: {name}: {line}: `{shown(text)}` is not a line of an interval log\n".encode()
     if why == "decimals":
         return f"hdrstat: {name}: {line}: the values have {text[0]} decimals, and those before it {text[1]}\n".encode()
+    if why == "other decimals":
+        return f"hdrstat: {name}: {line}: the values have {text[0]} decimals, and others {text[1]}; write the logs by the same --decimals\n".encode()
     if why == "order":
         return f"hdrstat: {name}: {line}: the interval begins before the one above it; --unsorted gathers such logs\n".encode()
     if why == "interval" and text in CAUSES:

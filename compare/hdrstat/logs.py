@@ -278,13 +278,23 @@ def converted(name, data):
 
 def gathered(logs):
     """The intervals of logs in any order as one log: by time in milliseconds and tag, each with its duration and samples."""
-    return sums_by_key([(name, it) for name, data in logs.items() for it in converted(name, data)])
+    found = [(name, it) for name, data in logs.items() for it in converted(name, data)]
+    check_decimals(found, max((it.decimals for _, it in found), default=0))
+    return sums_by_key(found)
+
+
+def check_decimals(intervals_of_logs, decimals):
+    """Fails if the values of an interval have other decimals."""
+    for name, it in intervals_of_logs:
+        if it.decimals != decimals:
+            raise Failure((name, f"line {it.line}", (it.decimals, decimals), "other decimals"))
 
 
 def side_by_side(logs):
     """The intervals of logs in order of time as one log, up to the first failure."""
     rests = [(name, converted(name, data)) for name, data in logs.items()]
     nexts = [next(rest, None) for _, rest in rests]
+    decimals = max((it.decimals for it in nexts if it), default=0)
     out = []
     while any(nexts):
         start = min(it.key()[0] for it in nexts if it)
@@ -295,6 +305,7 @@ def side_by_side(logs):
                 nexts[at] = next(rest, None)
                 if nexts[at] and nexts[at].key()[0] < start:
                     raise Failure((name, f"line {nexts[at].line}", b"", "order"))
+        check_decimals(taken, decimals)
         out += sums_by_key(taken)
     return out
 

@@ -7,27 +7,29 @@ use std::io::ErrorKind;
 use std::process::ExitCode;
 
 /// Returns the arguments of the command line, without the program's name.
-fn words_given(rt: &HostRuntime) -> Result<Vec<String>, Fault> {
-    let mut words = match env::args(rt) {
-        Ok(words) => words,
+fn arguments(rt: &HostRuntime) -> Result<Vec<String>, Fault> {
+    let mut arguments = match env::args(rt) {
+        Ok(arguments) => arguments,
         Err(e) if e.kind() == ErrorKind::OutOfMemory => return Err(Fault::NoMemory),
         Err(_) => return Err(Fault::Usage),
     };
-    let _name = words.next();
-    match words.collect(rt.alloc()) {
-        Ok(words) => Ok(words),
-        Err(_) => Err(Fault::NoMemory),
-    }
+    let _name = arguments.next();
+    Ok(arguments.collect(rt.alloc())?)
 }
 
 /// Runs the program on the streams of the process. Nothing of the output is held back: each report and each interval is one
 /// write.
 fn hdr(rt: &HostRuntime) -> Result<(), Fault> {
-    let words = words_given(rt)?;
+    let arguments = arguments(rt)?;
     let mut output = RetryWriter {
         writer: rt.stdout(),
     };
-    run(rt.alloc(), words.as_slice(), &mut rt.stdin(), &mut output)
+    run(
+        rt.alloc(),
+        arguments.as_slice(),
+        &mut rt.stdin(),
+        &mut output,
+    )
 }
 
 fn main(rt: HostRuntime) -> ExitCode {

@@ -192,8 +192,6 @@ impl Counter for u64 {
 pub fn saturating_from<T: Counter>(number: u128) -> T
     ensures { T.number result ≡ min number T.greatest }
 {
-    match u64::try_from(number) {
-        Ok(number) => T::from_u64(number).unwrap_or(T::max_value()),
-        Err(_) => T::max_value(),
-    }
+    let number = u64::try_from(number).unwrap_or(u64::MAX);
+    T::from_u64(number).unwrap_or(T::max_value())
 }

@@ -69,6 +69,15 @@ impl Model for Fraction {
     ghost inverse = { λ r. record { num = r.num; den = r.den } };
 }
 
+impl Fraction {
+    /// Returns the fraction `num / den`.
+    pub fn new(num: u128, den: u128) -> Fraction
+        ensures { result ≡ record { num = num; den = den } }
+    {
+        Fraction { num, den }
+    }
+}
+
 /// Writes `num/den`.
 impl fmt::Display for Fraction {
     fn fmt<W: fmt::Write>(&self, f: &mut fmt::Formatter<W>) -> fmt::Result {

@@ -78,10 +78,7 @@ impl<T: Counter> IterationValue<T> {
         ensures { result
             ≡ record { num = self.now.quantile.num * 100; den = self.now.quantile.den } }
     {
-        Fraction {
-            num: self.quantile.num * 100,
-            den: self.quantile.den,
-        }
+        Fraction::new(self.quantile.num * 100, self.quantile.den)
     }
 
     /// The quantile iterated to, if the iterator steps by quantiles; otherwise the same as `quantile`.

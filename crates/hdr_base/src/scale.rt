@@ -82,8 +82,8 @@ impl Scale {
         ensures bound { result < 2 ^ 24 }
     {
         let bucket = self.bucket(value);
-        let first = (bucket as usize) << (self.digits - 1);
-        first + (value >> (self.unit as u32 + bucket)) as usize
+        let offset = (bucket as usize) << (self.digits - 1);
+        offset + (value >> (self.unit as u32 + bucket)) as usize
     }
 
     /// Returns the width of a value's class: the least power of two, not below the unit, that keeps the digits.

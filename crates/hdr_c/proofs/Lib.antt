@@ -1,4 +1,5 @@
 mod AsBox
 mod Bounds
+mod Creating
 mod LogSteps
 pub mod Runs

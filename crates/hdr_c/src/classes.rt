@@ -5,6 +5,7 @@ ghost use Rattle.hdr_c.specs.Calls.{Reads, held};
 ghost use Rattle.hdr_c.specs.Classes.{AllZeroFrom, IsNextClass, IsNextNonzero};
 
 use crate::handle::Handle;
+use hdrhistogram::Histogram;
 use std::alloc::Global;
 
 /// A nonempty class: its least and greatest value, and its count. `next` is the index of the bin
@@ -18,16 +19,14 @@ pub struct Class {
     pub count: u64,
 }
 
-/// Returns the index of the first nonzero counter from index `from` on.
-fn next_nonzero(counters: &[u64], from: usize) -> Option<usize>
-    ensures { MatchOption result (AllZeroFrom counters.now from) (IsNextNonzero counters.now from) }
+/// Returns the index of the first nonempty bin from `from` on.
+fn next_nonempty(histogram: &Histogram<u64>, from: usize) -> Option<usize>
+    ensures { MatchOption result (AllZeroFrom histogram.now.counts from)
+        (IsNextNonzero histogram.now.counts from) }
 {
-    for at in from..counters.len() {
-        if counters[at] != 0 {
-            return Some(at);
-        }
-    }
-    None
+    let bins = histogram.distinct_values();
+    let at = histogram.next_filled(from.min(bins));
+    (at < bins).then_some(at)
 }
 
 /// Stores the first nonempty class from the bin `class.next` on. Returns `false` if there is none.
@@ -41,7 +40,7 @@ pub extern "C" fn hdr_next_class(h: &mut Handle, alloc: Global, class: &mut Clas
     };
     let histogram = &boxed.histogram;
     let mut found = false;
-    if let Some(at) = next_nonzero(histogram.counters(), class.next) {
+    if let Some(at) = next_nonempty(histogram, class.next) {
         let lowest = histogram.bin_value(at).unwrap_or(0);
         *class = Class {
             next: at.saturating_add(1),

@@ -2,12 +2,25 @@
 
 ghost use Rattle.std.specs.Prelude.{◌≡◌, None, true, false};
 ghost use Rattle.hdr_model.specs.Recording.{after_clear, after_reset};
-ghost use Rattle.hdr_c.specs.Calls.{Changes, Copies, Creates, held};
+ghost use Rattle.hdr_c.specs.Calls.{Changes, Copies, Creates, Stores, held};
 
 use crate::handle::Handle;
-use crate::status::{CLOSED, OK, of_creation_error};
+use crate::status::{CLOSED, OK, OUT_OF_MEMORY, of_creation_error};
 use hdrhistogram::{CreationError, Histogram};
 use std::alloc::{AllocError, Global};
+
+/// Stores a histogram that was created in the handle, and frees the one that the handle had.
+fn store(h: &mut Handle, alloc: Global, created: Result<Histogram<u64>, CreationError>) -> u32
+    ensures { Stores result created (held h.old) (held h.new) }
+{
+    match created {
+        Ok(histogram) => match h.fill(alloc, histogram) {
+            Ok(()) => OK,
+            Err(AllocError) => OUT_OF_MEMORY,
+        },
+        Err(error) => of_creation_error(&error),
+    }
+}
 
 /// Creates a histogram with fixed bounds (`Histogram::new_with_bounds`), and frees the one that the
 /// handle had.
@@ -15,13 +28,11 @@ use std::alloc::{AllocError, Global};
 pub extern "C" fn hdr_init(h: &mut Handle, alloc: Global, low: u64, high: u64, sigfig: u8) -> u32
     ensures { Creates result low high sigfig false (held h.old) (held h.new) }
 {
-    match Histogram::new_with_bounds(alloc, low, high, sigfig) {
-        Ok(histogram) => match h.fill(alloc, histogram) {
-            Ok(()) => OK,
-            Err(AllocError) => of_creation_error(&CreationError::OutOfMemory),
-        },
-        Err(error) => of_creation_error(&error),
-    }
+    store(
+        h,
+        alloc,
+        Histogram::new_with_bounds(alloc, low, high, sigfig),
+    )
 }
 
 /// Creates a histogram that grows (`Histogram::new`), and frees the one that the handle had.
@@ -29,13 +40,7 @@ pub extern "C" fn hdr_init(h: &mut Handle, alloc: Global, low: u64, high: u64, s
 pub extern "C" fn hdr_init_auto(h: &mut Handle, alloc: Global, sigfig: u8) -> u32
     ensures { Creates result 1 2 sigfig true (held h.old) (held h.new) }
 {
-    match Histogram::new(alloc, sigfig) {
-        Ok(histogram) => match h.fill(alloc, histogram) {
-            Ok(()) => OK,
-            Err(AllocError) => of_creation_error(&CreationError::OutOfMemory),
-        },
-        Err(error) => of_creation_error(&error),
-    }
+    store(h, alloc, Histogram::new(alloc, sigfig))
 }
 
 /// Frees the histogram. A closed handle is unchanged.
@@ -57,13 +62,7 @@ pub extern "C" fn hdr_copy_distinct(h: &mut Handle, alloc: Global, source: &mut 
     };
     let copy = boxed.histogram.clone();
     source.put(boxed);
-    match copy {
-        Ok(histogram) => match h.fill(alloc, histogram) {
-            Ok(()) => OK,
-            Err(AllocError) => of_creation_error(&CreationError::OutOfMemory),
-        },
-        Err(error) => of_creation_error(&error),
-    }
+    store(h, alloc, copy)
 }
 
 /// Clears the samples, the least value and the greatest (`Histogram::reset`).

@@ -1,11 +1,33 @@
 //! Adding, subtracting and comparing histograms.
 
-ghost use Rattle.std.specs.Prelude.{◌≡◌};
-ghost use Rattle.hdr_c.specs.Calls.{Adds, AddsCorrected, Compares, Subtracts, held};
+ghost use Rattle.std.specs.Prelude.{◌≡◌, MatchOption};
+ghost use Rattle.hdr_c.specs.Calls.{Adds, AddsCorrected, Compares, Subtracts};
+ghost use Rattle.hdr_c.specs.Calls.{LeavesBoth, TakesBoth, held};
 
 use crate::handle::Handle;
+use crate::held::Held;
 use crate::status::{CLOSED, of_addition, of_recording, of_subtraction};
 use std::alloc::Global;
+
+/// Takes the histograms out of two handles, which are closed then. Returns `None`, and leaves both
+/// unchanged, if one is closed.
+fn take_both(
+    h: &mut Handle,
+    alloc: Global,
+    other: &mut Handle,
+) -> Option<(Box<Held, Global>, Box<Held, Global>)>
+    ensures { MatchOption result
+        (LeavesBoth (held h.old) (held other.old) (held h.new) (held other.new))
+        (λ b. TakesBoth b.0.value b.1.value (held h.old) (held other.old)
+        (held h.new) (held other.new)) }
+{
+    let first = h.take(alloc)?;
+    let Some(second) = other.take(alloc) else {
+        h.put(first);
+        return None;
+    };
+    Some((first, second))
+}
 
 /// Adds another histogram (`Histogram::add`).
 #[unsafe(no_mangle)]
@@ -13,11 +35,7 @@ pub extern "C" fn hdr_add_distinct(h: &mut Handle, alloc: Global, source: &mut H
     ensures added { Adds result (held h.old) (held source.old) (held h.new) }
     ensures unchanged { held source.new ≡ held source.old }
 {
-    let Some(mut boxed) = h.take(alloc) else {
-        return CLOSED;
-    };
-    let Some(other) = source.take(alloc) else {
-        h.put(boxed);
+    let Some((mut boxed, other)) = take_both(h, alloc, source) else {
         return CLOSED;
     };
     let status = of_addition(boxed.histogram.add(&other.histogram));
@@ -37,11 +55,7 @@ pub extern "C" fn hdr_add_correct_distinct(
     ensures added { AddsCorrected result interval (held h.old) (held source.old) (held h.new) }
     ensures unchanged { held source.new ≡ held source.old }
 {
-    let Some(mut boxed) = h.take(alloc) else {
-        return CLOSED;
-    };
-    let Some(other) = source.take(alloc) else {
-        h.put(boxed);
+    let Some((mut boxed, other)) = take_both(h, alloc, source) else {
         return CLOSED;
     };
     let status = of_recording(boxed.histogram.add_correct(&other.histogram, interval));
@@ -56,11 +70,7 @@ pub extern "C" fn hdr_subtract_distinct(h: &mut Handle, alloc: Global, other: &m
     ensures subtracted { Subtracts result (held h.old) (held other.old) (held h.new) }
     ensures unchanged { held other.new ≡ held other.old }
 {
-    let Some(mut boxed) = h.take(alloc) else {
-        return CLOSED;
-    };
-    let Some(subtrahend) = other.take(alloc) else {
-        h.put(boxed);
+    let Some((mut boxed, subtrahend)) = take_both(h, alloc, other) else {
         return CLOSED;
     };
     let status = of_subtraction(boxed.histogram.subtract(&subtrahend.histogram));
@@ -76,11 +86,7 @@ pub extern "C" fn hdr_equal_distinct(h: &mut Handle, alloc: Global, other: &mut 
     ensures unchanged { held h.new ≡ held h.old }
     ensures other_unchanged { held other.new ≡ held other.old }
 {
-    let Some(boxed) = h.take(alloc) else {
-        return false;
-    };
-    let Some(second) = other.take(alloc) else {
-        h.put(boxed);
+    let Some((boxed, second)) = take_both(h, alloc, other) else {
         return false;
     };
     let same = boxed.histogram.equals(&second.histogram);

@@ -3,7 +3,7 @@
 ghost use Rattle.std.specs.Prelude.{◌≡◌, ◌↔◌, MatchResult, MatchOption, IsTrue, false, true, ◌+◌, ◌*◌, ◌<◌, ◌≤◌, IfSome, SomeIff, IfErr, length, map, slice_index, unwrap_or};
 ghost use Rattle.hdr_base.specs.Classes.{most_bins, bin_of, bucket, resolution_of, value_of, top_of};
 ghost use Rattle.hdr_model.specs.Plain.{IsPlain, resolution, reach, block_of, empty_plain, max_of, min_nz_of, min_of};
-ghost use Rattle.hdr_model.specs.Refusals.{IsCreationError, IsBounds, IsBeyondLow};
+ghost use Rattle.hdr_model.specs.Refusals.{IsCreationError, IsBounds, IsForGreatLow};
 ghost use Rattle.hdr_model.specs.Merging.{highest_top};
 ghost use Rattle.hdr_model.specs.declared.errors.CreationError.TheVariants.{OutOfMemory};
 
@@ -75,7 +75,7 @@ impl<T: Counter> Histogram<T> {
     ) -> Result<Histogram<T>, CreationError>
         ensures made { MatchResult result (λ h. (h ≡ empty_plain low high sigfig false)
             × IsBounds low high sigfig) (IsCreationError low high sigfig) }
-        ensures beyond { IfErr result (IsBeyondLow low) }
+        ensures beyond { IfErr result (IsForGreatLow low) }
     {
         let scale = scale_for(low, high, sigfig)?;
         Histogram::empty(alloc, scale, Bounds::fixed(low, high, sigfig))
@@ -105,7 +105,7 @@ impl<T: Counter> Histogram<T> {
     pub fn new_with_max(alloc: Global, high: u64, sigfig: u8) -> Result<Histogram<T>, CreationError>
         ensures made { MatchResult result (λ h. (h ≡ empty_plain 1 high sigfig false)
             × IsBounds 1 high sigfig) (IsCreationError 1 high sigfig) }
-        ensures beyond { IfErr result (IsBeyondLow 1) }
+        ensures beyond { IfErr result (IsForGreatLow 1) }
     {
         Histogram::new_with_bounds(alloc, 1, high, sigfig)
     }
@@ -117,7 +117,7 @@ impl<T: Counter> Histogram<T> {
     pub fn new(alloc: Global, sigfig: u8) -> Result<Histogram<T>, CreationError>
         ensures made { MatchResult result (λ h. (h ≡ empty_plain 1 2 sigfig true)
             × IsBounds 1 2 sigfig) (IsCreationError 1 2 sigfig) }
-        ensures beyond { IfErr result (IsBeyondLow 1) }
+        ensures beyond { IfErr result (IsForGreatLow 1) }
     {
         let mut histogram = Histogram::new_with_bounds(alloc, 1, 2, sigfig)?;
         histogram.bounds.auto_resize = true;

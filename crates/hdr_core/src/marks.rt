@@ -1,17 +1,18 @@
-//! The two marks of a histogram: the classes that enclose all nonempty ones.
+//! The two marks of a histogram: the highest class that was recorded, and the lowest one other than
+//! class 0. No class above the top mark holds samples, and none between class 0 and the lower mark.
 
 ghost use Rattle.std.specs.Prelude.{◌≡◌, ◌+◌, ◌-◌, ◌^◌, ◌<◌, None, IfSome};
 ghost use Rattle.hdr_model.specs.Marks.{later_mark, earlier_mark, later_of, earlier_of, top_by, lower_by};
 
 use std::marker::Model;
 
-/// A top mark and a lower mark, each a class or none. A mark is one number with a value for none,
-/// so that one comparison decides whether it has to be widened.
+/// A top mark and a lower mark, each the index of a class or none. A mark is kept as one number with
+/// a value for none, so that one comparison decides whether a recorded class changes it.
 #[derive(Debug, Drop)]
 pub(crate) struct Marks {
-    /// The number of classes up to the top mark, 0 for none.
+    /// The index of the top mark plus 1, or 0 for none.
     classes: usize,
-    /// The number of the class before the lower mark, `usize::MAX` for none.
+    /// The index of the lower mark minus 1, or `usize::MAX` for none.
     before: usize,
 }
 
@@ -74,8 +75,8 @@ impl Marks {
         self.before.checked_add(1)
     }
 
-    /// Widens both marks to include `class`. Class 0 never becomes the lower mark. The fast path is
-    /// a class that both include already.
+    /// Makes `class` the top mark if it is later, and the lower mark if it is earlier and not class 0.
+    /// Mostly neither is so, and one comparison for each decides it.
     #[inline(always)]
     pub(crate) fn widen(&mut self, class: usize)
         requires { class < 2 ^ 32 }
@@ -89,7 +90,7 @@ impl Marks {
         }
     }
 
-    /// Widens both marks by a class.
+    /// As `widen`, without the comparisons.
     #[cold]
     #[inline(never)]
     fn widen_to(&mut self, class: usize)

@@ -77,17 +77,18 @@ pub record AreSections (block section len : ℕ) : Type 0 where
   pub section_is : section ≡ section_of block len
   pub whole : len % block ≡ 0
 
--- the sums are those of the numbers' blocks: each one is what its block adds to the sum before it
-pub record AreSums (block : ℕ) (numbers sums : List ℕ) : Type 0 where
-  pub some : 1 ≤ block
+-- the sums are those of the numbers' sections, of this length: each one is what its section adds to
+-- the sum before it
+pub record AreSums (section : ℕ) (numbers sums : List ℕ) : Type 0 where
+  pub some : 1 ≤ section
   pub few : length numbers ≤ most_bins
-  pub whole : length numbers ≡ length sums * block
-  pub each : (k : ℕ) → k < length sums → sum_below numbers (k * block) + slice_index sums k ≡ sum_below numbers ((k + 1) * block)
+  pub whole : length numbers ≡ length sums * section
+  pub each : (k : ℕ) → k < length sums → sum_below numbers (k * section) + slice_index sums k ≡ sum_below numbers ((k + 1) * section)
   pub fits : All (λ n. n ≤ 18446744073709551615) numbers
 
--- the exponent of a block that is a power of two, if it is kept
+-- the binary exponent of a length that is a power of two, if it is kept
 abbrev pub IsShift : ℕ → Option ℕ → Type 0
-IsShift block shift = IfSome shift (λ s. (s < 64) × (block ≡ 2 ^ s))
+IsShift len shift = IfSome shift (λ s. (s < 64) × (len ≡ 2 ^ s))
 
 -- what is true of counters in blocks: their sums are those of the blocks' sections, the exponent is a section's, and no number
 -- is above the greatest counter
@@ -118,23 +119,23 @@ abbrev pub with_number : Blocks → ℕ → ℕ → Blocks
 with_number b i n = record { block = b.block; numbers = slice_set b.numbers i n }
 
 -- what is true of counters that are being set: the first are in the list, and the others are 0. The
--- capacity is enough for all, and the sums are those of the blocks
-pub record AreOpen (greatest block len capacity : ℕ) (numbers sums : List ℕ) (shift : Option ℕ) : Type 0 where
-  pub some : 1 ≤ block
+-- capacity is enough for all, and the sums are those of the sections, of this length
+pub record AreOpen (greatest section len capacity : ℕ) (numbers sums : List ℕ) (shift : Option ℕ) : Type 0 where
+  pub some : 1 ≤ section
   pub few : len ≤ most_bins
-  pub whole : len ≡ length sums * block
+  pub whole : len ≡ length sums * section
   pub within : length numbers ≤ len
   pub room : len ≤ capacity
-  pub kept : AreSums block (with_zeros numbers len) sums
-  pub shift_is : IsShift block shift
+  pub kept : AreSums section (with_zeros numbers len) sums
+  pub shift_is : IsShift section shift
   pub fit : All (λ n. n ≤ greatest) numbers
 
--- from index `next` on all numbers are 0, and the indices from there to `end` lie in block k.
+-- from index `next` on all numbers are 0, and the indices from there to `end` lie in section k.
 -- Before index `first` all numbers are 0, but for number 0
-pub record IsAt (block k next end first : ℕ) (numbers : List ℕ) : Type 0 where
+pub record IsAt (section k next end first : ℕ) (numbers : List ℕ) : Type 0 where
   pub rest : (j : ℕ) → next ≤ j → slice_index numbers j ≡ 0
-  pub from : k * block ≤ next
-  pub to : end ≤ (k + 1) * block
+  pub from : k * section ≤ next
+  pub to : end ≤ (k + 1) * section
   pub at_hand : end ≤ length numbers
   pub within : next ≤ length numbers
   pub some : 0 < first

@@ -11,7 +11,7 @@ impl<T: Counter> Counts<T> {
     /// Adds the counters of `source`, in blocks of the same length, element by element, as far as
     /// both have them. Each counter saturates at `T::max_value()`. A section of `source` whose sum
     /// is 0 is skipped.
-    pub fn add_capped<F: Counter>(&mut self, source: &Counts<F>)
+    pub fn add_all<F: Counter>(&mut self, source: &Counts<F>)
         requires { self.old.block ≡ source.now.block }
         ensures { self.new ≡ record {
           block = self.old.block;
@@ -30,7 +30,7 @@ impl<T: Counter> Counts<T> {
         );
     }
 
-    /// As `add_capped`, for a source whose sections have another length.
+    /// As `add_all`, for a source whose sections have another length.
     fn add_one_by_one<F: Counter>(&mut self, source: &Counts<F>)
         ensures { self.new ≡ record {
           block = self.old.block;

@@ -137,10 +137,7 @@ impl<T: Counter> CountsBuilder<T> {
         ensures unchanged { result ≡ false → self.new ≡ self.old }
         ensures at_most { length self.old.numbers ≤ most_bins }
     {
-        if i < self.next || i >= self.end {
-            return false;
-        }
-        if i + 1 >= self.end {
+        if i < self.next || i >= self.end || i + 1 >= self.end {
             return false;
         }
         self.set(i, first);

@@ -41,10 +41,8 @@ impl<T: Counter> Counts<T> {
         ensures empty { (i : ℕ) → from ≤ i → i < result → slice_index self.now.numbers i ≡ 0 }
         ensures filled { result < length self.now.numbers → 0 < slice_index self.now.numbers result }
     {
-        if from < self.counters.len() {
-            if self.counters[from].as_u64() > 0 {
-                return from;
-            }
+        if from < self.counters.len() && self.counters[from].as_u64() > 0 {
+            return from;
         }
         self.filled_near(from)
     }

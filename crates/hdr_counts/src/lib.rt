@@ -17,15 +17,15 @@ use clearing::clear_sections;
 pub use counts_builder::CountsBuilder;
 use hdr_base::{Counter, Ticks};
 pub use search::Search;
-use search::{position_of_rank, position_of_rank_counted, sum_of_sums};
+use search::{position_in_section, position_of_rank_counted, sum_of_sums};
 use std::alloc::{AllocError, Global};
 use std::marker::Model;
 
 /// Counters in blocks of one length, seen as that length and the list of their numbers.
 ///
-/// The sum of each section is kept. Blocks below 32 counters are one section together, and a long
-/// block has several of one length. Each counter takes the memory of a `T`, and each section 16 bytes. There are at most
-/// 6,291,456 counters, as many as the largest histogram has bins.
+/// The sum of each section is kept. If blocks have fewer than 32 counters, all counters are one
+/// section. Otherwise a block is one section, or, from 1,024 counters on, several of equal length.
+/// Each counter takes the memory of a `T`, and each section 16 bytes. There are at most 6,291,456 counters, as many as the largest histogram has bins.
 #[derive(Debug, Drop)]
 pub struct Counts<T: Counter> {
     counters: Vec<T>,
@@ -262,8 +262,9 @@ impl<T: Counter> Counts<T> {
     {
         let from = k * self.section;
         let counters = &self.counters[from..from + self.section];
-        match position_of_rank(counters, rest, self.sums[k]) {
+        match position_in_section(counters, rest, self.sums[k]) {
             Some(place) => from + place,
+            // Cannot occur: the sum of the section reaches `rest`.
             None => from,
         }
     }
@@ -282,16 +283,18 @@ fn section_len(block: usize, len: usize) -> usize
     own_section(block)
 }
 
-/// Returns the length of the sections of a block that has sections of its own.
+/// Returns the length of the sections of a block that has sections of its own: 256 for blocks from
+/// 1,024 counters on, 1,024 from 16,384 on, and 4,096 from 131,072 on. Below these it is the length
+/// of the block.
 #[tactic(auto, unfolding(crate::specs::Blocks::own_section))]
 fn own_section(block: usize) -> usize
     requires { 1 ≤ block }
     ensures value { result ≡ own_section block }
     ensures nonzero { 1 ≤ result }
 {
-    let short = part_len(block, 1024, 256, block);
-    let medium = part_len(block, 16_384, 1024, short);
-    part_len(block, 131_072, 4096, medium)
+    let from_1024 = part_len(block, 1024, 256, block);
+    let from_16_384 = part_len(block, 16_384, 1024, from_1024);
+    part_len(block, 131_072, 4096, from_16_384)
 }
 
 /// Returns `section` if `block` is at least `least` and a multiple of it, or `otherwise` if not.

@@ -112,7 +112,11 @@ pub(crate) fn position_of_rank_counted<T: Counter>(
 
 /// Returns the first index at which the running sum reaches `rest`, or `None` if there is none.
 /// `whole` is the sum of all counters. If it fits a `u64`, `FEW` counters are added up at once.
-pub(crate) fn position_of_rank<T: Counter>(counters: &[T], rest: u64, whole: u128) -> Option<usize>
+pub(crate) fn position_in_section<T: Counter>(
+    counters: &[T],
+    rest: u64,
+    whole: u128,
+) -> Option<usize>
     requires nonzero { 1 ≤ rest }
     requires at_most { length counters.now ≤ most_bins }
     requires whole { whole ≡ sum (map T.number counters.now) }

@@ -1,4 +1,7 @@
 pub mod Letters
 pub mod Logarithm
+pub mod Numbers
+pub mod Paths
+pub mod Rows
 pub mod Scales
 pub mod Steps

@@ -1,8 +1,7 @@
 //! Texts in HTML.
 
-ghost use Rattle.std.specs.Prelude.{◌≡◌, ◌++◌, OnOk, List, ℕ, string_bytes};
-ghost use Rattle.std.specs.List.{flat_map};
-ghost use Rattle.hdr_draw.specs.Letters.{escaped};
+ghost use Rattle.std.specs.Prelude.{◌≡◌, ◌++◌, OnOk, string_bytes};
+ghost use Rattle.hdr_draw.specs.Letters.{escaped, escaped_text};
 
 use std::alloc::AllocError;
 
@@ -23,8 +22,7 @@ fn push_letter(text: &mut String, letter: char) -> Result<(), AllocError>
 
 /// Appends a text as HTML writes it.
 pub fn push_escaped(text: &mut String, plain: &str) -> Result<(), AllocError>
-    ensures { OnOk result ((letters : List ℕ)
-        × (string_bytes text.new ≡ string_bytes text.old ++ flat_map escaped letters)) }
+    ensures { OnOk result (string_bytes text.new ≡ string_bytes text.old ++ escaped_text plain.now) }
 {
     for letter in plain.chars() {
         push_letter(text, letter)?;

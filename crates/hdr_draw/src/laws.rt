@@ -1,6 +1,7 @@
-//! The laws of scales, each the contract of an empty function.
+//! The laws of scales and of escaped texts, each the contract of an empty function.
 
-ghost use Rattle.std.specs.Prelude.{ℕ, ◌<◌, ◌≤◌};
+ghost use Rattle.std.specs.Prelude.{ℕ, List, ◌≡◌, ◌<◌, ◌≤◌, IsUtf8};
+ghost use Rattle.hdr_draw.specs.Letters.{escaped_text, unescaped};
 ghost use Rattle.hdr_draw.specs.Logarithm.{IsLogarithm};
 ghost use Rattle.hdr_draw.specs.Scales.{Extent, along, IsValuePlace};
 
@@ -15,4 +16,9 @@ pub fn places_ascend()
         → along e length m ≤ along e length n }
     ensures values { (e : Extent) (length a b p q : ℕ) → 0 < e.span
         → IsValuePlace e length a p → IsValuePlace e length b q → a ≤ b → p ≤ q }
+{}
+
+/// A browser reads an escaped text as the text itself.
+pub fn escaped_texts_read_back()
+    ensures { (text : List ℕ) → IsUtf8 text → unescaped (escaped_text text) ≡ text }
 {}

@@ -5,12 +5,13 @@ ghost use Rattle.hdr_draw.specs.Scales.{IsValuePlace};
 
 use crate::axis::Axis;
 use crate::logarithm::logarithm;
+use crate::rows::Rows;
 use crate::steps::{step_above, step_below, steps_between};
 use std::alloc::{AllocError, Global};
 use std::marker::Model;
 
 /// The least distance of two texts, in tenths.
-const GAP: u32 = 150;
+pub const GAP: u32 = 150;
 
 /// A logarithmic scale of values, from a step to another. 0 is at its low end.
 #[derive(Debug, Drop)]
@@ -58,11 +59,16 @@ impl ValueScale {
         self.axis.place(logarithm(value), height)
     }
 
+    /// Returns the rows of a heat map over the scale.
+    pub fn rows(&self, alloc: Global) -> Result<Rows, AllocError> {
+        Rows::new(alloc, self.low, self.high)
+    }
+
     /// Returns the steps of the scale that have a line in a field of this height.
     pub fn ticks(&self, alloc: Global, height: u32) -> Result<Vec<Tick>, AllocError> {
         let decade = self.place(self.low.saturating_mul(10), height);
         let octave = self.place(self.low.saturating_mul(2), height);
-        let every = 150u32.div_ceil(decade.max(1)).max(1);
+        let every = GAP.div_ceil(decade.max(1)).max(1);
         let mut ticks = Vec::new(alloc);
         for step in steps_between(alloc, self.low, self.high)? {
             let is_power = step / 10u64.pow(step.max(1).ilog10()) == 1;

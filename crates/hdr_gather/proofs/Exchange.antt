@@ -1,20 +1,13 @@
 -- Samples in another order, and samples that fit.
-use Rattle.std.proofs.Common.{◌≡◌, ℕ, ◌-◌, ◌^◌, ◌<◌, ◌≤◌, eqb, List, [], ◌∷◌, ◌++◌, length, length-append, arith}
+use Rattle.std.proofs.Common.{◌≡◌, ℕ, ◌-◌, ◌^◌, ◌<◌, ◌≤◌, eqb, List, ◌++◌, length, length-append, arith}
 use Rattle.std.specs.List.{All}
-use Rattle.std.proofs.lemmas.List.Elements.{All-nil, All-cons, All-head, All-tail, All-append}
+use Rattle.std.proofs.lemmas.List.Elements.{All-append}
 use Rattle.std.proofs.lemmas.List.Sums.{count_by-le-length}
 use Rattle.hdr_base.specs.Classes.{Resolution, bin_of}
 use Rattle.hdr_model.specs.Plain.{Plain, resolution, reach}
 use Rattle.hdr_model.specs.Samples.{StandsFor, Fits, in_class}
 use Rattle.hdr_model.proofs.MergingStands.{in_class-append, StandsFor-swap}
-
-all_front : (P : ℕ → Type 0) (A B : List ℕ) → All P (A ++ B) → All P A
-all_front P [] B h = All-nil P
-all_front P (x ∷ A) B h = All-cons P x A (All-head P x (A ++ B) h) (all_front P A B (All-tail P x (A ++ B) h))
-
-all_behind : (P : ℕ → Type 0) (A B : List ℕ) → All P (A ++ B) → All P B
-all_behind P [] B h = h
-all_behind P (x ∷ A) B h = all_behind P A B (All-tail P x (A ++ B) h)
+use Rattle.hdr_gather.proofs.Parts.{all_front, all_behind}
 
 in_class-exchange : (g : Resolution) (i : ℕ) (A B : List ℕ) → in_class g i (A ++ B) ≡ in_class g i (B ++ A)
 in_class-exchange g i A B = omega (arith, in_class-append g i A B, in_class-append g i B A)

@@ -1,2 +1,5 @@
+pub mod Parts
 pub mod Exchange
 pub mod Summing
+pub mod Ascending
+pub mod Readers

@@ -2,3 +2,4 @@ pub mod Times
 pub mod Sums
 pub mod Parts
 pub mod Lines
+pub mod Logs

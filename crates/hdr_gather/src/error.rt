@@ -3,7 +3,7 @@
 use hdr_input::InputError;
 use hdrhistogram::AdditionError;
 use hdrhistogram::serialization::V2SerializeError;
-use hdrhistogram::serialization::interval_log::IntervalLogWriterError;
+use hdrhistogram::serialization::interval_log::{CommentError, IntervalLogWriterError};
 use std::alloc::{AllocError, AllocFailed};
 use std::io;
 use thiserror::Error;
@@ -36,7 +36,10 @@ impl Place {
 pub enum GatherError {
     /// The log of this index is not read.
     #[error("{cause}")]
-    Input { log: usize, cause: InputError },
+    Input {
+        log: usize,
+        cause: InputError,
+    },
     #[error("{0}: the interval begins past 64 bits of milliseconds")]
     TooLate(Place),
     /// It begins before the interval above it.
@@ -44,6 +47,12 @@ pub enum GatherError {
     NotSorted(Place),
     #[error("{0}: the interval is neither finer nor coarser than others of its time and tag")]
     NotNested(Place),
+    #[error("{place}: the values have {decimals} decimals, and others {others}; write the logs by the same --decimals")]
+    OtherDecimals {
+        place: Place,
+        decimals: u32,
+        others: u32,
+    },
     #[error("{0}")]
     Add(#[from] AdditionError),
     #[error("{0}")]
@@ -56,6 +65,12 @@ pub enum GatherError {
 
 impl From<AllocError> for GatherError {
     fn from(_error: AllocError) -> GatherError {
+        GatherError::OutOfMemory
+    }
+}
+
+impl From<CommentError> for GatherError {
+    fn from(_error: CommentError) -> GatherError {
         GatherError::OutOfMemory
     }
 }
@@ -73,7 +88,8 @@ impl GatherError {
             GatherError::Input { log, .. } => Some(*log),
             GatherError::TooLate(place)
             | GatherError::NotSorted(place)
-            | GatherError::NotNested(place) => Some(place.log),
+            | GatherError::NotNested(place)
+            | GatherError::OtherDecimals { place, .. } => Some(place.log),
             _ => None,
         }
     }

@@ -1,41 +1,46 @@
 //! Logs that are gathered: side by side, or read first.
 
+ghost use Rattle.std.specs.Prelude.{◌≡◌, ◌≤◌, ◌↔◌, ℕ, List, OnOk, IfOk, IfSome, vec_items};
+ghost use Rattle.std.specs.List.{All};
+ghost use Rattle.std.specs.Io.KnownBytes.{Appends};
+ghost use Rattle.hdrhistogram.specs.LogStarts.{new_start, IsStartText};
+ghost use Rattle.hdrhistogram.specs.LogWriters.{sink, divisor_of, IsSameLog};
+ghost use Rattle.hdr_gather.specs.Logs.{WritesFrom, WritesLog, IsFrom};
+
 use crate::error::GatherError;
 use crate::part::{Part, in_order};
 use crate::reader::{Held, LogReader};
 use crate::write_parts;
+use hdr_input::log_lines::decimals_comment;
 use hdrhistogram::serialization::V2Serializer;
-use hdrhistogram::serialization::interval_log::IntervalLogWriterBuilder;
+use hdrhistogram::serialization::interval_log::{IntervalLogWriter, IntervalLogWriterBuilder};
 use std::alloc::Global;
 use std::io::{Read, Write};
 
 /// Writes the log of what logs hold, with one interval for each tag and time. The logs are read side
 /// by side, and each has to be in order of time: of no log is more held than the intervals that
-/// begin at one time.
+/// begin at one time. If a comment has the decimals of the values, the log begins with it.
 ///
 /// # Errors
-/// Returns `NotSorted` if an interval of a log begins before the one above it. What precedes an
-/// error may have been written.
+/// Returns `NotSorted` if an interval of a log begins before the one above it, and `OtherDecimals`
+/// if its values have other decimals than others. What precedes an error may have been written.
 pub fn gather_sorted<R: Read + Drop, W: Write>(
     alloc: Global,
     logs: &mut [LogReader<R>],
     output: &mut W,
-) -> Result<(), GatherError> {
-    let mut serializer = V2Serializer::new(alloc);
-    let builder = IntervalLogWriterBuilder::new(alloc);
-    let mut log = builder.begin_log_with(output, &mut serializer)?;
+) -> Result<(), GatherError>
+    ensures { OnOk result (WritesLog (W.contents output.old) (W.contents output.new)) }
+{
     for reader in logs.iter_mut() {
         let _none = reader.advance(alloc)?;
     }
-    for _ in 0..u64::MAX {
-        let Some(start) = first_start(logs) else {
-            break;
-        };
-        let held = take_held(alloc, logs, start)?;
-        let mut parts = parts_of(alloc, &held)?;
-        in_order(&mut parts)?;
-        write_parts(alloc, &parts, &mut log)?;
-    }
+    let decimals = logs
+        .iter()
+        .filter_map(|reader| reader.next_decimals())
+        .max();
+    let mut serializer = V2Serializer::new(alloc);
+    let mut log = begin_log(alloc, decimals, output, &mut serializer)?;
+    write_in_order(alloc, logs, decimals.unwrap_or(0), &mut log)?;
     drop(log);
     Ok(())
 }
@@ -46,18 +51,75 @@ pub fn gather_unsorted<R: Read + Drop, W: Write>(
     alloc: Global,
     logs: &mut [LogReader<R>],
     output: &mut W,
-) -> Result<(), GatherError> {
+) -> Result<(), GatherError>
+    ensures { OnOk result (WritesLog (W.contents output.old) (W.contents output.new)) }
+{
     let mut held = Vec::new(alloc);
     for reader in logs.iter_mut() {
         take_all(alloc, reader, &mut held)?;
     }
-    let mut parts = parts_of(alloc, &held)?;
+    let decimals = held.iter().filter_map(|held| held.decimals()).max();
+    let mut parts = parts_of(alloc, &held, decimals.unwrap_or(0))?;
     in_order(&mut parts)?;
     let mut serializer = V2Serializer::new(alloc);
-    let builder = IntervalLogWriterBuilder::new(alloc);
-    let mut log = builder.begin_log_with(output, &mut serializer)?;
+    let mut log = begin_log(alloc, decimals, output, &mut serializer)?;
     write_parts(alloc, &parts, &mut log)?;
     drop(log);
+    Ok(())
+}
+
+/// Returns the start of a log with the decimals of its values in a comment, if they are given.
+fn builder_of(alloc: Global, decimals: Option<u32>) -> Result<IntervalLogWriterBuilder, GatherError>
+    ensures { IfOk result (λ builder. (comments : List (List ℕ))
+        × (builder ≡ record new_start { comments = comments })) }
+{
+    let mut builder = IntervalLogWriterBuilder::new(alloc);
+    let Some(decimals) = decimals else {
+        return Ok(builder);
+    };
+    let comment = decimals_comment(alloc, decimals)?;
+    builder.add_comment(comment.as_str())?;
+    Ok(builder)
+}
+
+/// Begins a log with the decimals of its values in a comment, if they are given.
+fn begin_log<'a, 'b, W: Write>(
+    alloc: Global,
+    decimals: Option<u32>,
+    output: &'a mut W,
+    serializer: &'b mut V2Serializer,
+) -> Result<IntervalLogWriter<'a, 'b, W, V2Serializer>, GatherError>
+    ensures writer { IfOk result (λ log. (sink log).ghost_name ≡ output.entry.ghost_name) }
+    ensures divisor { IfOk result (λ log. divisor_of log ≡ 1) }
+    ensures written { IfOk result (λ log. (comments : List (List ℕ)) × (header : List ℕ)
+        × IsStartText (record new_start { comments = comments }) header
+        × Appends (W.contents output.old) (W.contents (sink log).now) header) }
+{
+    let builder = builder_of(alloc, decimals)?;
+    Ok(builder.begin_log_with(output, serializer)?)
+}
+
+/// Writes the intervals of logs in order of time, from the next one of each log on.
+fn write_in_order<R: Read + Drop, W: Write>(
+    alloc: Global,
+    logs: &mut [LogReader<R>],
+    decimals: u32,
+    log: &mut IntervalLogWriter<'_, '_, W, V2Serializer>,
+) -> Result<(), GatherError>
+    requires { divisor_of log.old ≡ 1 }
+    ensures same_log { IsSameLog log.old log.new }
+    ensures written { OnOk result ((high : ℕ) × WritesFrom 0 high (W.contents (sink log.old).now)
+        (W.contents (sink log.new).now)) }
+{
+    for _ in 0..u64::MAX {
+        let Some(start) = first_start(logs) else {
+            break;
+        };
+        let held = take_held(alloc, logs, start)?;
+        let mut parts = parts_of(alloc, &held, decimals)?;
+        in_order(&mut parts)?;
+        write_parts(alloc, &parts, log)?;
+    }
     Ok(())
 }
 
@@ -78,15 +140,25 @@ fn take_all<R: Read + Drop>(
     Ok(())
 }
 
+/// Returns the earlier of two times that there may be.
+fn earlier(one: Option<u64>, other: Option<u64>) -> Option<u64>
+    ensures { (low : ℕ) → IfSome result (λ t. low ≤ t)
+        ↔ (IfSome one (λ t. low ≤ t) × IfSome other (λ t. low ≤ t)) }
+{
+    match (one, other) {
+        (Some(one), Some(other)) => Some(one.min(other)),
+        (None, other) => other,
+        (one, None) => one,
+    }
+}
+
 /// Returns when the first of the next intervals of logs begins.
-fn first_start<R: Read + Drop>(logs: &[LogReader<R>]) -> Option<u64> {
+fn first_start<R: Read + Drop>(logs: &[LogReader<R>]) -> Option<u64>
+    ensures { (low : ℕ) → IfSome result (λ t. low ≤ t) ↔ All (IsFrom low) logs.now }
+{
     let mut first = None;
     for reader in logs {
-        first = match (first, reader.next_start()) {
-            (Some(first), Some(start)) if start < first => Some(start),
-            (None, start) => start,
-            (first, _) => first,
-        };
+        first = earlier(first, reader.next_start());
     }
     first
 }
@@ -96,31 +168,70 @@ fn take_held<R: Read + Drop>(
     alloc: Global,
     logs: &mut [LogReader<R>],
     start: u64,
-) -> Result<Vec<Held>, GatherError> {
+) -> Result<Vec<Held>, GatherError>
+    requires { All (IsFrom start) logs.old }
+    ensures rest { OnOk result (All (IsFrom start) logs.new) }
+    ensures taken { IfOk result (λ taken. All (λ held. held.start ≡ start) (vec_items taken)) }
+{
     let mut taken = Vec::new(alloc);
     for reader in logs.iter_mut() {
-        for _ in 0..u64::MAX {
-            if reader.next_start() != Some(start) {
-                break;
-            }
-            if let Some(held) = reader.advance(alloc)? {
-                taken.push(held)?;
-            }
-            if reader.next_start().is_some_and(|next| next < start) {
-                return Err(GatherError::NotSorted(reader.place()));
-            }
-        }
+        take_from(alloc, reader, start, &mut taken)?;
     }
     Ok(taken)
 }
 
-/// Returns the intervals of lines.
-fn parts_of(alloc: Global, lines: &[Held]) -> Result<Vec<Part<'_>>, GatherError> {
-    let mut parts = Vec::new(alloc);
-    for held in lines {
-        if let Some(part) = held.part(alloc)? {
-            parts.push(part)?;
+/// Appends the intervals of a log that begin at this time, up to the first that begins later.
+fn take_from<R: Read + Drop>(
+    alloc: Global,
+    reader: &mut LogReader<R>,
+    start: u64,
+    taken: &mut Vec<Held>,
+) -> Result<(), GatherError>
+    requires rest { IsFrom start reader.old }
+    requires taken { All (λ held. held.start ≡ start) (vec_items taken.old) }
+    ensures rest { OnOk result (IsFrom start reader.new) }
+    ensures taken { OnOk result (All (λ held. held.start ≡ start) (vec_items taken.new)) }
+{
+    for _ in 0..u64::MAX {
+        if reader.next_start() != Some(start) {
+            break;
+        }
+        if let Some(held) = reader.advance(alloc)? {
+            taken.push(held)?;
+        }
+        if reader.next_start().is_some_and(|next| next < start) {
+            return Err(GatherError::NotSorted(reader.place()));
         }
     }
+    Ok(())
+}
+
+/// Returns the intervals of lines, whose values all have these decimals.
+fn parts_of(alloc: Global, lines: &[Held], decimals: u32) -> Result<Vec<Part<'_>>, GatherError>
+    ensures { IfOk result (λ parts. (start : ℕ) → All (λ held. held.start ≡ start) lines.now
+        → All (λ part. part.start ≡ start) (vec_items parts)) }
+{
+    let mut parts = Vec::new(alloc);
+    for held in lines {
+        push_part(alloc, held, decimals, &mut parts)?;
+    }
     Ok(parts)
+}
+
+/// Appends the interval of a line, whose values have these decimals.
+fn push_part<'a>(
+    alloc: Global,
+    held: &'a Held,
+    decimals: u32,
+    parts: &mut Vec<Part<'a>>,
+) -> Result<(), GatherError>
+    ensures { OnOk result ((start : ℕ) → held.now.start ≡ start
+        → All (λ part. part.start ≡ start) (vec_items parts.old)
+        → All (λ part. part.start ≡ start) (vec_items parts.new)) }
+{
+    held.check_decimals(decimals)?;
+    if let Some(part) = held.part(alloc)? {
+        parts.push(part)?;
+    }
+    Ok(())
 }

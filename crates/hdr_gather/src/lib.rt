@@ -10,10 +10,12 @@
 //! the longest of its parts.
 #![tactic(auto)]
 
-ghost use Rattle.std.specs.Prelude.{◌≡◌, ℕ, List, OnOk};
+ghost use Rattle.std.specs.Prelude.{◌≡◌, ℕ, List, OnOk, IfOk};
 ghost use Rattle.std.specs.Io.KnownBytes.{Appends};
 ghost use Rattle.hdrhistogram.specs.LogWriters.{sink, divisor_of, IsSameLog};
+ghost use Rattle.hdrhistogram.specs.LogStarts.{new_start, IsStartText};
 ghost use Rattle.hdr_gather.specs.Lines.{IsLineOf};
+ghost use Rattle.hdr_gather.specs.Logs.{Writes};
 
 mod error;
 mod gathering;
@@ -25,7 +27,7 @@ pub use error::{GatherError, Place};
 pub use gathering::{gather_sorted, gather_unsorted};
 use hdrhistogram::serialization::V2Serializer;
 use hdrhistogram::serialization::interval_log::IntervalLogWriter;
-use part::{Part, groups_of};
+use part::{Part, same_key};
 pub use reader::LogReader;
 use std::alloc::Global;
 use std::io::Write;
@@ -57,12 +59,16 @@ pub(crate) fn write_parts<W: Write>(
     log: &mut IntervalLogWriter<'_, '_, W, V2Serializer>,
 ) -> Result<(), GatherError>
     requires { divisor_of log.old ≡ 1 }
-    ensures { IsSameLog log.old log.new }
+    ensures same_log { IsSameLog log.old log.new }
+    ensures written { OnOk result (Writes parts.now (W.contents (sink log.old).now)
+        (W.contents (sink log.new).now)) }
 {
-    for group in &groups_of(alloc, parts)? {
-        if let Some((first, others)) = group.split_first() {
-            write_sum(alloc, first, others, log)?;
-        }
+    let mut at = 0;
+    while at < parts.len() {
+        let first = &parts[at];
+        let end = at + 1 + same_key(first, &parts[at + 1..]);
+        write_sum(alloc, first, &parts[at + 1..end], log)?;
+        at = end;
     }
     Ok(())
 }

@@ -1,12 +1,14 @@
 //! The intervals of a log, by time and tag.
 
-ghost use Rattle.std.specs.Prelude.{◌≡◌, ◌+◌, IfSome};
+ghost use Rattle.std.specs.Prelude.{◌≡◌, ◌≤◌, ◌+◌, ℕ, IfSome, OnOk, length, vec_items};
+ghost use Rattle.std.specs.List.Sorted.{IsPermutation};
+ghost use Rattle.hdr_gather.specs.Logs.{Ascend};
 ghost use Rattle.std.specs.Duration.{as_nanos};
 ghost use Rattle.hdr_gather.specs.Times.{nearest_millisecond};
 
-use crate::error::{GatherError, Place};
+use crate::error::Place;
 use hdrhistogram::serialization::interval_log::{IntervalLogHistogram, Tag};
-use std::alloc::{AllocError, Global};
+use std::alloc::AllocError;
 use std::time::Duration;
 
 /// An interval of the input. Its texts are slices of it.
@@ -38,37 +40,36 @@ pub(crate) fn milliseconds(base: Duration, start: Duration) -> Option<u64>
     u64::try_from((nanos + 500_000) / 1_000_000).ok()
 }
 
-/// Returns the interval of a line, after this base time.
-pub(crate) fn part_of<'a>(
-    base: Duration,
-    place: Place,
-    interval: &IntervalLogHistogram<'a>,
-) -> Result<Part<'a>, GatherError> {
-    let Some(start) = milliseconds(base, interval.start_timestamp()) else {
-        return Err(GatherError::TooLate(place));
-    };
-    Ok(Part {
+/// Returns the interval of a line, which begins at this time.
+pub(crate) fn part_of<'a>(start: u64, place: Place, interval: &IntervalLogHistogram<'a>) -> Part<'a>
+    ensures { result.start ≡ start }
+{
+    Part {
         start,
         tag: interval.tag(),
         duration: interval.duration(),
         field: interval.encoded_histogram(),
         place,
-    })
+    }
 }
 
-/// Returns intervals in order as groups of the same key.
-pub(crate) fn groups_of<'b, 'a>(
-    alloc: Global,
-    parts: &'b [Part<'a>],
-) -> Result<Vec<&'b [Part<'a>]>, AllocError> {
-    let mut groups = Vec::new(alloc);
-    for group in parts.chunk_by(|a, b| a.key() == b.key()) {
-        groups.push(group)?;
-    }
-    Ok(groups)
+/// Returns the number of intervals at the start of `others` that have the key of `first`.
+pub(crate) fn same_key(first: &Part<'_>, others: &[Part<'_>]) -> usize
+    ensures { result ≤ length others.now }
+{
+    let key = first.key();
+    others
+        .iter()
+        .position(|part| part.key() != key)
+        .unwrap_or(others.len())
 }
 
 /// Sorts intervals by time and then by tag, ascending. The sort is stable.
-pub(crate) fn in_order(parts: &mut Vec<Part<'_>>) -> Result<(), AllocError> {
-    parts.sort_by_key(|part| part.key())
+pub(crate) fn in_order(parts: &mut Vec<Part<'_>>) -> Result<(), AllocError>
+    ensures permutation { IsPermutation (vec_items parts.old) (vec_items parts.new) }
+    ensures ascending { OnOk result ((high : ℕ) × Ascend 0 high (vec_items parts.new)) }
+{
+    parts.sort_by_key(|part| part.tag)?;
+    parts.sort_by_key(|part| part.start)?;
+    Ok(())
 }

@@ -1,9 +1,12 @@
 //! A log that is read interval by interval.
 
+ghost use Rattle.std.specs.Prelude.{◌≡◌, IfOk, IfSome};
+ghost use Rattle.hdr_gather.specs.Logs.{next_start};
+
 use crate::error::{GatherError, Place};
 use crate::part::{Part, milliseconds, part_of};
 use hdr_input::InputError;
-use hdr_input::log_lines::{entry_of, read_line, split_log_line};
+use hdr_input::log_lines::{decimals_of, entry_of, read_line, split_log_line};
 use hdr_input::plain::push_plain_line;
 use hdrhistogram::serialization::interval_log::{IntervalLogHistogram, LogEntry};
 use std::alloc::Global;
@@ -15,20 +18,42 @@ use std::time::Duration;
 pub(crate) struct Held {
     /// When it begins, in milliseconds since the epoch.
     pub start: u64,
-    /// The last base time before it.
-    base: Duration,
+    /// The decimals of its values, if a comment before it has them.
+    decimals: Option<u32>,
     /// The line, whose histogram is plain.
     line: Vec<u8>,
     place: Place,
 }
 
 impl Held {
+    /// Returns the decimals of its values, if a comment before it has them.
+    pub(crate) fn decimals(&self) -> Option<u32> {
+        self.decimals
+    }
+
+    /// Returns an error if its values have other decimals than `others`. Values are integers if no
+    /// comment has their decimals.
+    pub(crate) fn check_decimals(&self, others: u32) -> Result<(), GatherError> {
+        let decimals = self.decimals.unwrap_or(0);
+        if decimals == others {
+            return Ok(());
+        }
+        let place = self.place;
+        Err(GatherError::OtherDecimals {
+            place,
+            decimals,
+            others,
+        })
+    }
+
     /// Returns the interval.
-    pub(crate) fn part(&self, alloc: Global) -> Result<Option<Part<'_>>, GatherError> {
+    pub(crate) fn part(&self, alloc: Global) -> Result<Option<Part<'_>>, GatherError>
+        ensures { IfOk result (λ part. IfSome part (λ p. p.start ≡ self.now.start)) }
+    {
         let place = self.place;
         match entry_of(alloc, &self.line, place.line) {
             Ok(Some(LogEntry::Interval(interval))) => {
-                Ok(Some(part_of(self.base, place, &interval)?))
+                Ok(Some(part_of(self.start, place, &interval)))
             }
             Ok(_) => Ok(None),
             Err(cause) => Err(place.error(cause)),
@@ -45,6 +70,8 @@ pub struct LogReader<R> {
     /// The number of the last line that was read.
     line: u64,
     base: Duration,
+    /// The decimals of the last comment that has them.
+    decimals: Option<u32>,
     next: Option<Held>,
 }
 
@@ -59,17 +86,27 @@ impl<R: Read + Drop> LogReader<R> {
             reader: BufReader::new(alloc, reader)?,
             line: 0,
             base: Duration::ZERO,
+            decimals: None,
             next: None,
         })
     }
 
     /// Returns when the next interval begins, or `None` at the end of the log.
-    pub(crate) fn next_start(&self) -> Option<u64> {
+    pub(crate) fn next_start(&self) -> Option<u64>
+        ensures { result ≡ next_start self.now }
+    {
         self.next.as_ref().map(|held| held.start)
     }
 
+    /// Returns the decimals of the next interval's values, if a comment has them.
+    pub(crate) fn next_decimals(&self) -> Option<u32> {
+        self.next.as_ref().and_then(|held| held.decimals)
+    }
+
     /// Reads up to the next interval, and returns the one before, which there is not at first.
-    pub(crate) fn advance(&mut self, alloc: Global) -> Result<Option<Held>, GatherError> {
+    pub(crate) fn advance(&mut self, alloc: Global) -> Result<Option<Held>, GatherError>
+        ensures { IfOk result (λ held. held ≡ self.old.next) }
+    {
         let held = self.next.take();
         self.next = self.read(alloc)?;
         Ok(held)
@@ -88,7 +125,7 @@ impl<R: Read + Drop> LogReader<R> {
                     let start = start_of(self.base, place, &interval)?;
                     return Ok(Some(self.held(start, line)));
                 }
-                Ok(_) => {}
+                Ok(_) => self.decimals = decimals_of(&line).or(self.decimals),
                 Err(cause) => return Err(place.error(cause)),
             }
         }
@@ -99,7 +136,7 @@ impl<R: Read + Drop> LogReader<R> {
     fn held(&self, start: u64, line: Vec<u8>) -> Held {
         Held {
             start,
-            base: self.base,
+            decimals: self.decimals,
             line,
             place: self.place(),
         }

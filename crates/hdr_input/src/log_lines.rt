@@ -8,7 +8,7 @@ use crate::errors::{InputError, Place, bad_number, not_a_log};
 use crate::logs::LONGEST;
 use hdrhistogram::serialization::interval_log::{IntervalLogIterator, LogEntry};
 use memchr::memchr;
-use std::alloc::Global;
+use std::alloc::{AllocError, Global};
 use std::io::{BufRead, Read};
 
 /// Returns a line without a byte order mark, which only the first line may have.
@@ -37,7 +37,7 @@ const DECIMALS_END: &[u8] = b" decimals]";
 
 /// Returns the decimals of a log's values, if the line is the comment that has them: the values are
 /// in units of the last decimal.
-pub(crate) fn decimals_of(line: &[u8]) -> Option<u32> {
+pub fn decimals_of(line: &[u8]) -> Option<u32> {
     if !line.starts_with(DECIMALS_START) {
         return None;
     }
@@ -49,6 +49,11 @@ pub(crate) fn decimals_of(line: &[u8]) -> Option<u32> {
     let number = line.get(DECIMALS_START.len()..end)?;
     let decimals = str::from_utf8(number).ok()?.parse::<u32>().ok()?;
     (decimals <= MOST_DECIMALS).then_some(decimals)
+}
+
+/// Returns the comment that has the decimals of a log's values, as `decimals_of` reads it.
+pub fn decimals_comment(alloc: Global, decimals: u32) -> Result<String, AllocError> {
+    format!(in alloc; "[Values have {decimals} decimals]")
 }
 
 /// Reads the line of this number with its LF, if it has one, or returns `None` at the end.

@@ -76,11 +76,7 @@ fn end_after<T: Counter>(bins: &Bins<'_, T>, end: Option<u64>, index: usize) -> 
     requires { index < bins_in bins.now }
     ensures { result ≡ end_at bins.now end index }
 {
-    match end {
-        Some(end) => Some(end),
-        None if index >= bins.last() => Some(bins.top(index)),
-        None => None,
-    }
+    end.or((index >= bins.last()).then_some(bins.top(index)))
 }
 
 /// Whether no level follows this one.

@@ -207,10 +207,7 @@ fn value_at<T: Counter>(
     requires { index < bins_in bins.now }
     ensures { result ≡ item_at bins.now index picked total (T.number count_at_index) since }
 {
-    let quantile = Fraction {
-        num: u128::from(total),
-        den: u128::from(bins.total()),
-    };
+    let quantile = Fraction::new(u128::from(total), u128::from(bins.total()));
     let value = match picked.level {
         Some(level) => level,
         None => bins.top(index),

@@ -62,10 +62,7 @@ impl Tick {
         ensures { result ≡ tick_of self.now.per_half self.now.number }
     {
         let whole = self.whole();
-        Fraction {
-            num: whole - self.left_after(),
-            den: whole,
-        }
+        Fraction::new(whole - self.left_after(), whole)
     }
 
     /// The least count whose fraction of `total` is at least the tick. It is computed from the distances to 1 and to `total`,

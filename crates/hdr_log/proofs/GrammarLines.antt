@@ -8,7 +8,7 @@ use Rattle.std.proofs.lemmas.List.Folds.{list_all-append}
 use Rattle.std.proofs.lemmas.Fmt.{digits_decimal, decimal_nonempty}
 use Rattle.hdr_log.specs.Parts.{split_at_byte}
 use Rattle.hdr_log.specs.Grammar.{after_front, is_tag, is_tag_byte, tag_of, is_decimal, without_crs, time_before, interval_of}
-use Rattle.hdr_log.specs.Texts.{three_digits, thousandths, tag_front, interval_line, AreTags}
+use Rattle.hdr_log.specs.Texts.{three_digits, thousandths_text, tag_front, interval_line, AreTags}
 use Rattle.hdr_log.proofs.PartsDigits.{own}
 use Rattle.hdr_log.proofs.PartsFronts.{parted_front}
 use Rattle.hdr_log.proofs.TextsTimes.{not_among, three_digits_all, time_of_thousandths}
@@ -25,25 +25,25 @@ digits_begin [] ys n h = absurd (omega arith)
 digits_begin (x ∷ xs) ys n h = (x, xs ++ ys, refl, grind arith)
 
 -- a printed number starts with a digit
-pub begins : (t : ℕ) → t / 1000 < 2 ^ 64 → (x : ℕ) × (more : List ℕ) × (thousandths t ≡ x ∷ more) × (is_ascii_digit x ≡ true)
-unfolding thousandths
+pub begins : (t : ℕ) → t / 1000 < 2 ^ 64 → (x : ℕ) × (more : List ℕ) × (thousandths_text t ≡ x ∷ more) × (is_ascii_digit x ≡ true)
+unfolding thousandths_text
 begins t h = digits_begin (decimal (t / 1000)) (46 ∷ three_digits (t % 1000)) (decimal_nonempty (t / 1000) h) (digits_decimal own (t / 1000) h)
 
-pub no_byte : (b t : ℕ) → is_ascii_digit b ≡ false → (46 == b) ≡ false → t / 1000 < 2 ^ 64 → list_all (λ x. not (x == b)) (thousandths t) ≡ true
-unfolding thousandths
+pub no_byte : (b t : ℕ) → is_ascii_digit b ≡ false → (46 == b) ≡ false → t / 1000 < 2 ^ 64 → list_all (λ x. not (x == b)) (thousandths_text t) ≡ true
+unfolding thousandths_text
 no_byte b t n e h =
     let whole : list_all (λ x. not (x == b)) (decimal (t / 1000)) ≡ true = not_among b (decimal (t / 1000)) n (digits_decimal own (t / 1000) h) in
     let rest : list_all (λ x. not (x == b)) (three_digits (t % 1000)) ≡ true = not_among b (three_digits (t % 1000)) n (three_digits_all (t % 1000) (omega arith)) in
     list_all-append (λ x. not (x == b)) (decimal (t / 1000)) (46 ∷ three_digits (t % 1000)) ∙ (rw (whole, e, rest) refl)
 
-pub number_parted : (t : ℕ) (rest : List ℕ) → t / 1000 < 2 ^ 64 → split_at_byte 44 (thousandths t ++ 44 ∷ rest) ≡ Some (thousandths t, rest)
-number_parted t rest h = parted_front 44 (thousandths t) rest (no_byte 44 t refl refl h)
+pub number_parted : (t : ℕ) (rest : List ℕ) → t / 1000 < 2 ^ 64 → split_at_byte 44 (thousandths_text t ++ 44 ∷ rest) ≡ Some (thousandths_text t, rest)
+number_parted t rest h = parted_front 44 (thousandths_text t) rest (no_byte 44 t refl refl h)
 
 some_digits : (n : ℕ) → not (n == 0 && false) ≡ true
 some_digits n = grind arith
 
-pub decimal_printed : (t : ℕ) → t / 1000 < 2 ^ 64 → is_decimal (thousandths t) ≡ true
-unfolding thousandths
+pub decimal_printed : (t : ℕ) → t / 1000 < 2 ^ 64 → is_decimal (thousandths_text t) ≡ true
+unfolding thousandths_text
 decimal_printed t h =
     let p : split_at_byte 46 (decimal (t / 1000) ++ 46 ∷ three_digits (t % 1000)) ≡ Some (decimal (t / 1000), three_digits (t % 1000)) = parted_front 46 (decimal (t / 1000)) (three_digits (t % 1000)) (not_among 46 (decimal (t / 1000)) refl (digits_decimal own (t / 1000) h)) in
     let a : list_all is_ascii_digit (decimal (t / 1000)) ≡ true = digits_decimal own (t / 1000) h in
@@ -70,33 +70,33 @@ some_tag : (tag rest after_tag line : List ℕ) → split_at_byte 44 rest ≡ So
 some_tag tag rest after_tag line p ok = rw (p, ok) refl
 
 -- the tag is read, and what follows it
-pub tag_read : (tag : Option (List ℕ)) (t : ℕ) (rest : List ℕ) → AreTags tag → t / 1000 < 2 ^ 64 → tag_of (after_front (codes "Tag=") (tag_front tag ++ (thousandths t ++ rest))) (tag_front tag ++ (thousandths t ++ rest)) ≡ Some (tag, thousandths t ++ rest)
+pub tag_read : (tag : Option (List ℕ)) (t : ℕ) (rest : List ℕ) → AreTags tag → t / 1000 < 2 ^ 64 → tag_of (after_front (codes "Tag=") (tag_front tag ++ (thousandths_text t ++ rest))) (tag_front tag ++ (thousandths_text t ++ rest)) ≡ Some (tag, thousandths_text t ++ rest)
 tag_read None t rest ok h =
-    let b : (x : ℕ) × (more : List ℕ) × (thousandths t ≡ x ∷ more) × (is_ascii_digit x ≡ true) = begins t h in
+    let b : (x : ℕ) × (more : List ℕ) × (thousandths_text t ≡ x ∷ more) × (is_ascii_digit x ≡ true) = begins t h in
     let o : after_front (codes "Tag=") ((b.0 ∷ b.1) ++ rest) ≡ None = after_front-other 84 b.0 (codes "ag=") (b.1 ++ rest) (not_t b.0 b.3) in
-    let e : thousandths t ≡ b.0 ∷ b.1 = b.2 in
-    let n : after_front (codes "Tag=") (thousandths t ++ rest) ≡ None = ap (λ x. after_front (codes "Tag=") (x ++ rest)) e ∙ o in
-    ap (λ o. tag_of o (thousandths t ++ rest)) n
+    let e : thousandths_text t ≡ b.0 ∷ b.1 = b.2 in
+    let n : after_front (codes "Tag=") (thousandths_text t ++ rest) ≡ None = ap (λ x. after_front (codes "Tag=") (x ++ rest)) e ∙ o in
+    ap (λ o. tag_of o (thousandths_text t ++ rest)) n
 tag_read (Some tag) t rest ok h =
-    let g : (codes "Tag=" ++ tag ++ 44 ∷ []) ++ (thousandths t ++ rest) ≡ codes "Tag=" ++ (tag ++ 44 ∷ (thousandths t ++ rest)) = regroup (codes "Tag=") tag (thousandths t ++ rest) in
-    let f : after_front (codes "Tag=") ((codes "Tag=" ++ tag ++ 44 ∷ []) ++ (thousandths t ++ rest)) ≡ Some (tag ++ 44 ∷ (thousandths t ++ rest)) = ap (after_front (codes "Tag=")) g ∙ after_front-whole (codes "Tag=") (tag ++ 44 ∷ (thousandths t ++ rest)) in
-    let p : split_at_byte 44 (tag ++ 44 ∷ (thousandths t ++ rest)) ≡ Some (tag, thousandths t ++ rest) = parted_front 44 tag (thousandths t ++ rest) (tag_no_comma tag (tag_bytes tag ok)) in
-    ap (λ o. tag_of o ((codes "Tag=" ++ tag ++ 44 ∷ []) ++ (thousandths t ++ rest))) f ∙ some_tag tag (tag ++ 44 ∷ (thousandths t ++ rest)) (thousandths t ++ rest) ((codes "Tag=" ++ tag ++ 44 ∷ []) ++ (thousandths t ++ rest)) p ok
+    let g : (codes "Tag=" ++ tag ++ 44 ∷ []) ++ (thousandths_text t ++ rest) ≡ codes "Tag=" ++ (tag ++ 44 ∷ (thousandths_text t ++ rest)) = regroup (codes "Tag=") tag (thousandths_text t ++ rest) in
+    let f : after_front (codes "Tag=") ((codes "Tag=" ++ tag ++ 44 ∷ []) ++ (thousandths_text t ++ rest)) ≡ Some (tag ++ 44 ∷ (thousandths_text t ++ rest)) = ap (after_front (codes "Tag=")) g ∙ after_front-whole (codes "Tag=") (tag ++ 44 ∷ (thousandths_text t ++ rest)) in
+    let p : split_at_byte 44 (tag ++ 44 ∷ (thousandths_text t ++ rest)) ≡ Some (tag, thousandths_text t ++ rest) = parted_front 44 tag (thousandths_text t ++ rest) (tag_no_comma tag (tag_bytes tag ok)) in
+    ap (λ o. tag_of o ((codes "Tag=" ++ tag ++ 44 ∷ []) ++ (thousandths_text t ++ rest))) f ∙ some_tag tag (tag ++ 44 ∷ (thousandths_text t ++ rest)) (thousandths_text t ++ rest) ((codes "Tag=" ++ tag ++ 44 ∷ []) ++ (thousandths_text t ++ rest)) p ok
 
-pub time_read : (b t : ℕ) (rest : List ℕ) → is_ascii_digit b ≡ false → (46 == b) ≡ false → t / 1000 < 2 ^ 64 → time_before b (thousandths t ++ b ∷ rest) ≡ Some (t * 1_000_000, rest)
+pub time_read : (b t : ℕ) (rest : List ℕ) → is_ascii_digit b ≡ false → (46 == b) ≡ false → t / 1000 < 2 ^ 64 → time_before b (thousandths_text t ++ b ∷ rest) ≡ Some (t * 1_000_000, rest)
 unfolding time_before
 time_read b t rest n e h =
-    let p : split_at_byte b (thousandths t ++ b ∷ rest) ≡ Some (thousandths t, rest) = parted_front b (thousandths t) rest (no_byte b t n e h) in
+    let p : split_at_byte b (thousandths_text t ++ b ∷ rest) ≡ Some (thousandths_text t, rest) = parted_front b (thousandths_text t) rest (no_byte b t n e h) in
     rw (p, time_of_thousandths t h) refl
 
 -- what the line says
 pub interval_read : (tag : Option (List ℕ)) (start duration max : ℕ) (field : List ℕ) → AreTags tag → start / 1000 < 2 ^ 64 → duration / 1000 < 2 ^ 64 → max / 1000 < 2 ^ 64 → is_utf8 field ≡ true → without_crs field ≡ field →
-    interval_of (interval_line tag start duration max field) ≡ Some (record { tag = tag; start = start * 1_000_000; duration = duration * 1_000_000; max = thousandths max; field = field })
+    interval_of (interval_line tag start duration max field) ≡ Some (record { tag = tag; start = start * 1_000_000; duration = duration * 1_000_000; max = thousandths_text max; field = field })
 unfolding interval_of
 interval_read tag start duration max field ok hs hd hm u w =
-    let t : tag_of (after_front (codes "Tag=") (interval_line tag start duration max field)) (interval_line tag start duration max field) ≡ Some (tag, thousandths start ++ 44 ∷ (thousandths duration ++ 44 ∷ (thousandths max ++ 44 ∷ field))) = tag_read tag start (44 ∷ (thousandths duration ++ 44 ∷ (thousandths max ++ 44 ∷ field))) ok hs in
-    let p1 : time_before 44 (thousandths start ++ 44 ∷ (thousandths duration ++ 44 ∷ (thousandths max ++ 44 ∷ field))) ≡ Some (start * 1_000_000, thousandths duration ++ 44 ∷ (thousandths max ++ 44 ∷ field)) = time_read 44 start _ refl refl hs in
-    let p2 : time_before 44 (thousandths duration ++ 44 ∷ (thousandths max ++ 44 ∷ field)) ≡ Some (duration * 1_000_000, thousandths max ++ 44 ∷ field) = time_read 44 duration _ refl refl hd in
-    let p3 : split_at_byte 44 (thousandths max ++ 44 ∷ field) ≡ Some (thousandths max, field) = number_parted max field hm in
-    let m : is_decimal (thousandths max) ≡ true = decimal_printed max hm in
+    let t : tag_of (after_front (codes "Tag=") (interval_line tag start duration max field)) (interval_line tag start duration max field) ≡ Some (tag, thousandths_text start ++ 44 ∷ (thousandths_text duration ++ 44 ∷ (thousandths_text max ++ 44 ∷ field))) = tag_read tag start (44 ∷ (thousandths_text duration ++ 44 ∷ (thousandths_text max ++ 44 ∷ field))) ok hs in
+    let p1 : time_before 44 (thousandths_text start ++ 44 ∷ (thousandths_text duration ++ 44 ∷ (thousandths_text max ++ 44 ∷ field))) ≡ Some (start * 1_000_000, thousandths_text duration ++ 44 ∷ (thousandths_text max ++ 44 ∷ field)) = time_read 44 start _ refl refl hs in
+    let p2 : time_before 44 (thousandths_text duration ++ 44 ∷ (thousandths_text max ++ 44 ∷ field)) ≡ Some (duration * 1_000_000, thousandths_text max ++ 44 ∷ field) = time_read 44 duration _ refl refl hd in
+    let p3 : split_at_byte 44 (thousandths_text max ++ 44 ∷ field) ≡ Some (thousandths_text max, field) = number_parted max field hm in
+    let m : is_decimal (thousandths_text max) ≡ true = decimal_printed max hm in
     rw (t, p1, p2, p3) (rw (m, w, u) refl)

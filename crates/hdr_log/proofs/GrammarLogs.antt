@@ -8,7 +8,7 @@ use Rattle.std.specs.Option.{option_map, option_or}
 use Rattle.std.specs.Str.{is_utf8}
 use Rattle.hdr_log.specs.Parts.{parts, split_at_byte, number_of}
 use Rattle.hdr_log.specs.Grammar.{after_front, Entry, Start, Base, Span, time_of, interval_of, header_of, entry_of, is_skipped, and_then, time_before, readings, without_crs}
-use Rattle.hdr_log.specs.Texts.{thousandths, with_line_feed, lines_text, tag_front, interval_line, start_line, AreTags}
+use Rattle.hdr_log.specs.Texts.{thousandths_text, with_line_feed, lines_text, tag_front, interval_line, start_line, AreTags}
 use Rattle.hdr_log.specs.Pieces.{and_entry, header_said, is_read}
 use Rattle.hdr_log.proofs.PartsFronts.{parted_front, parted_whole}
 use Rattle.hdr_log.proofs.GrammarSteps.{readings_step, readings_nothing}
@@ -74,24 +74,24 @@ no_interval : (line : List ℕ) → interval_of (35 ∷ line) ≡ None
 unfolding interval_of
 no_interval line = let t : time_before 44 (35 ∷ line) ≡ None = before_none_by 44 line (split_at_byte 44 (35 ∷ line)) refl refl in rw t refl
 
-pub interval_begins : (tag : Option (List ℕ)) (t : ℕ) (rest : List ℕ) → t / 1000 < 2 ^ 64 → (x : ℕ) × (more : List ℕ) × (tag_front tag ++ (thousandths t ++ rest) ≡ x ∷ more) × ((35 == x) ≡ false)
-interval_begins None t rest h = let b : (x : ℕ) × (more : List ℕ) × (thousandths t ≡ x ∷ more) × (is_ascii_digit x ≡ true) = begins t h in (b.0, b.1 ++ rest, ap (λ s. s ++ rest) b.2, not_hash b.0 b.3)
-interval_begins (Some tag) t rest h = (84, codes "ag=" ++ tag ++ 44 ∷ [] ++ (thousandths t ++ rest), refl, refl)
+pub interval_begins : (tag : Option (List ℕ)) (t : ℕ) (rest : List ℕ) → t / 1000 < 2 ^ 64 → (x : ℕ) × (more : List ℕ) × (tag_front tag ++ (thousandths_text t ++ rest) ≡ x ∷ more) × ((35 == x) ≡ false)
+interval_begins None t rest h = let b : (x : ℕ) × (more : List ℕ) × (thousandths_text t ≡ x ∷ more) × (is_ascii_digit x ≡ true) = begins t h in (b.0, b.1 ++ rest, ap (λ s. s ++ rest) b.2, not_hash b.0 b.3)
+interval_begins (Some tag) t rest h = (84, codes "ag=" ++ tag ++ 44 ∷ [] ++ (thousandths_text t ++ rest), refl, refl)
 
 pub interval_entry : (tag : Option (List ℕ)) (start duration max : ℕ) (field : List ℕ) → AreTags tag → start / 1000 < 2 ^ 64 → duration / 1000 < 2 ^ 64 → max / 1000 < 2 ^ 64 → is_utf8 field ≡ true → without_crs field ≡ field →
-    entry_of (interval_line tag start duration max field) ≡ Some (Span (record { tag = tag; start = start * 1_000_000; duration = duration * 1_000_000; max = thousandths max; field = field }))
+    entry_of (interval_line tag start duration max field) ≡ Some (Span (record { tag = tag; start = start * 1_000_000; duration = duration * 1_000_000; max = thousandths_text max; field = field }))
 unfolding entry_of
 interval_entry tag start duration max field ok hs hd hm u w =
-    let b : (x : ℕ) × (more : List ℕ) × (interval_line tag start duration max field ≡ x ∷ more) × ((35 == x) ≡ false) = interval_begins tag start (44 ∷ (thousandths duration ++ 44 ∷ (thousandths max ++ 44 ∷ field))) hs in
+    let b : (x : ℕ) × (more : List ℕ) × (interval_line tag start duration max field ≡ x ∷ more) × ((35 == x) ≡ false) = interval_begins tag start (44 ∷ (thousandths_text duration ++ 44 ∷ (thousandths_text max ++ 44 ∷ field))) hs in
     let s : header_of (codes "#[StartTime: ") (interval_line tag start duration max field) ≡ None = ap (header_of (codes "#[StartTime: ")) b.2 ∙ no_header b.0 b.1 (codes "[StartTime: ") b.3 in
     let t : header_of (codes "#[BaseTime: ") (interval_line tag start duration max field) ≡ None = ap (header_of (codes "#[BaseTime: ")) b.2 ∙ no_header b.0 b.1 (codes "[BaseTime: ") b.3 in
     rw (s, t, interval_read tag start duration max field ok hs hd hm u w) refl
 
 -- a header is read
-pub header_read : (name : List ℕ) (t : ℕ) (rest : List ℕ) → t / 1000 < 2 ^ 64 → header_of name (name ++ (thousandths t ++ 32 ∷ rest)) ≡ Some (t * 1_000_000)
+pub header_read : (name : List ℕ) (t : ℕ) (rest : List ℕ) → t / 1000 < 2 ^ 64 → header_of name (name ++ (thousandths_text t ++ 32 ∷ rest)) ≡ Some (t * 1_000_000)
 unfolding header_of
 header_read name t rest h =
-    let b : after_front name (name ++ (thousandths t ++ 32 ∷ rest)) ≡ Some (thousandths t ++ 32 ∷ rest) = after_front-whole name (thousandths t ++ 32 ∷ rest) in
+    let b : after_front name (name ++ (thousandths_text t ++ 32 ∷ rest)) ≡ Some (thousandths_text t ++ 32 ∷ rest) = after_front-whole name (thousandths_text t ++ 32 ∷ rest) in
     rw (b, time_read 32 t rest refl refl h) refl
 
 pub start_entry : (t : ℕ) → t / 1000 < 2 ^ 64 → entry_of (start_line t) ≡ Some (Start (t * 1_000_000))

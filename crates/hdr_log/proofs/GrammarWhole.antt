@@ -6,7 +6,7 @@ use Rattle.std.proofs.lemmas.Option.{none-some}
 use Rattle.std.proofs.lemmas.List.Folds.{list_all-append}
 use Rattle.hdr_log.specs.Parts.{parts}
 use Rattle.hdr_log.specs.Grammar.{Entry, Start, Base, header_of, entry_of, reading, is_tag, is_tag_byte}
-use Rattle.hdr_log.specs.Texts.{thousandths, with_line_feed, lines_text, comment_line, start_line, base_line, divisor_line, tag_front, interval_line, AreTags}
+use Rattle.hdr_log.specs.Texts.{thousandths_text, with_line_feed, lines_text, comment_line, start_line, base_line, divisor_line, tag_front, interval_line, AreTags}
 use Rattle.hdr_log.specs.Pieces.{and_entry, Piece, Comment, StartsAt, BasedAt, Divided, Measured, lines_of, piece_text, header_said, headers_said, said_by, IsPiece, text_of, is_read}
 use Rattle.hdr_log.proofs.GrammarLines.{no_byte}
 use Rattle.hdr_log.proofs.GrammarLogs.{IsLine, entries_of, lines_read, header_read, start_entry, interval_entry, comment_entry, comment_skipped}
@@ -53,9 +53,9 @@ base_entry t h = let n : header_of (codes "#[StartTime: ") (base_line t) ≡ Non
     let r : header_of (codes "#[BaseTime: ") (base_line t) ≡ Some (t * 1_000_000) = header_read (codes "#[BaseTime: ") t (codes "(seconds since epoch)]") h in
     rw (n, r) refl
 
-header_whole : (name : List ℕ) (t : ℕ) → no_lf name ≡ true → t / 1000 < 2 ^ 64 → no_lf (name ++ (thousandths t ++ codes " (seconds since epoch)]")) ≡ true
-header_whole name t n h = let k : no_lf (thousandths t) ≡ true = no_byte 10 t refl refl h in
-    list_all-append (λ b. not (b == 10)) name (thousandths t ++ codes " (seconds since epoch)]") ∙ ap₂ ◌&&◌ n (list_all-append (λ b. not (b == 10)) (thousandths t) (codes " (seconds since epoch)]") ∙ ap₂ ◌&&◌ k refl)
+header_whole : (name : List ℕ) (t : ℕ) → no_lf name ≡ true → t / 1000 < 2 ^ 64 → no_lf (name ++ (thousandths_text t ++ codes " (seconds since epoch)]")) ≡ true
+header_whole name t n h = let k : no_lf (thousandths_text t) ≡ true = no_byte 10 t refl refl h in
+    list_all-append (λ b. not (b == 10)) name (thousandths_text t ++ codes " (seconds since epoch)]") ∙ ap₂ ◌&&◌ n (list_all-append (λ b. not (b == 10)) (thousandths_text t) (codes " (seconds since epoch)]") ∙ ap₂ ◌&&◌ k refl)
 
 tag_no_lf : (tag : List ℕ) → list_all is_tag_byte tag ≡ true → no_lf tag ≡ true
 tag_no_lf [] h = refl
@@ -80,20 +80,20 @@ unfolding header_of
 no_header_said rest = refl
 
 divisor_is_line : (d : ℕ) → no_lf (divisor_line d) ≡ true → IsLine (divisor_line d)
-divisor_is_line d w = record { whole = w; known = λ n. comment_skipped (codes "[MaxValueDivisor: " ++ (thousandths (1000 * d) ++ codes "]")) }
+divisor_is_line d w = record { whole = w; known = λ n. comment_skipped (codes "[MaxValueDivisor: " ++ (thousandths_text (1000 * d) ++ codes "]")) }
 
 pub piece_lines : (p : Piece) → IsPiece p → AllByRecursion IsLine (lines_of p) × (entries_of (lines_of p) ≡ said_by p)
 piece_lines (Comment text) h = (comment_lines_are (parts 10 text) (parts_whole text), comment_says (parts 10 text))
 piece_lines (StartsAt t) h = ((entry_line (start_line t) (Start (t * 1_000_000)) (header_whole (codes "#[StartTime: ") t refl h) (start_entry t h), tt), ap (λ o. and_entry o []) (start_entry t h))
 piece_lines (BasedAt t) h = ((entry_line (base_line t) (Base (t * 1_000_000)) (header_whole (codes "#[BaseTime: ") t refl h) (base_entry t h), tt), ap (λ o. and_entry o []) (base_entry t h))
 piece_lines (Divided d) h =
-    let w : no_lf (divisor_line d) ≡ true = joined (codes "#[MaxValueDivisor: ") (thousandths (1000 * d) ++ codes "]") refl (joined (thousandths (1000 * d)) (codes "]") (no_byte 10 (1000 * d) refl refl (divided d h)) refl) in
-    ((divisor_is_line d w, tt), ap (λ o. and_entry o []) (comment_entry (codes "[MaxValueDivisor: " ++ (thousandths (1000 * d) ++ codes "]")) ∙ no_header_said (thousandths (1000 * d) ++ codes "]")))
+    let w : no_lf (divisor_line d) ≡ true = joined (codes "#[MaxValueDivisor: ") (thousandths_text (1000 * d) ++ codes "]") refl (joined (thousandths_text (1000 * d)) (codes "]") (no_byte 10 (1000 * d) refl refl (divided d h)) refl) in
+    ((divisor_is_line d w, tt), ap (λ o. and_entry o []) (comment_entry (codes "[MaxValueDivisor: " ++ (thousandths_text (1000 * d) ++ codes "]")) ∙ no_header_said (thousandths_text (1000 * d) ++ codes "]")))
 piece_lines (Measured tag start duration max field) h =
-    let n1 : no_lf (thousandths start) ≡ true = no_byte 10 start refl refl h.1 in
-    let n2 : no_lf (thousandths duration) ≡ true = no_byte 10 duration refl refl h.2 in
-    let n3 : no_lf (thousandths max) ≡ true = no_byte 10 max refl refl h.3 in
-    let w : no_lf (interval_line tag start duration max field) ≡ true = joined (tag_front tag) _ (front_whole tag h.0) (joined (thousandths start) _ n1 (joined (thousandths duration) _ n2 (joined (thousandths max) (44 ∷ field) n3 h.4.line))) in
+    let n1 : no_lf (thousandths_text start) ≡ true = no_byte 10 start refl refl h.1 in
+    let n2 : no_lf (thousandths_text duration) ≡ true = no_byte 10 duration refl refl h.2 in
+    let n3 : no_lf (thousandths_text max) ≡ true = no_byte 10 max refl refl h.3 in
+    let w : no_lf (interval_line tag start duration max field) ≡ true = joined (tag_front tag) _ (front_whole tag h.0) (joined (thousandths_text start) _ n1 (joined (thousandths_text duration) _ n2 (joined (thousandths_text max) (44 ∷ field) n3 h.4.line))) in
     let e = interval_entry tag start duration max field h.0 h.1 h.2 h.3 h.4.text h.4.whole in
     ((entry_line _ _ w e, tt), ap (λ o. and_entry o []) e)
 

@@ -9,7 +9,7 @@ use Rattle.std.proofs.lemmas.Str.Parse.{without_leading_plus_none, not_in_digits
 use Rattle.std.proofs.lemmas.Fmt.{digits_decimal, digits_value-decimal, decimal_nonempty}
 use Rattle.hdr_log.specs.Parts.{split_at_byte, is_digits, number_of}
 use Rattle.hdr_log.specs.Grammar.{nanos_of, time_of}
-use Rattle.hdr_log.specs.Texts.{three_digits, thousandths}
+use Rattle.hdr_log.specs.Texts.{three_digits, thousandths_text}
 use Rattle.hdr_log.proofs.PartsDigits.{own, are_digits, number_of_digits}
 use Rattle.hdr_log.proofs.PartsFronts.{parted_front}
 
@@ -62,8 +62,8 @@ no_plus n rest h =
 whole : (t : ℕ) → t / 1000 * 1_000_000_000 + t % 1000 * 1_000_000 ≡ t * 1_000_000
 whole t = omega arith
 
-pub time_of_thousandths : (t : ℕ) → t / 1000 < 2 ^ 64 → time_of (thousandths t) ≡ Some (t * 1_000_000)
-unfolding time_of thousandths
+pub time_of_thousandths : (t : ℕ) → t / 1000 < 2 ^ 64 → time_of (thousandths_text t) ≡ Some (t * 1_000_000)
+unfolding time_of thousandths_text
 time_of_thousandths t h =
     let p : split_at_byte 46 (decimal (t / 1000) ++ 46 ∷ three_digits (t % 1000)) ≡ Some (decimal (t / 1000), three_digits (t % 1000)) = parted_front 46 (decimal (t / 1000)) (three_digits (t % 1000)) (not_among 46 (decimal (t / 1000)) refl (digits_decimal own (t / 1000) h)) in
     let w : without_leading_plus (decimal (t / 1000) ++ 46 ∷ three_digits (t % 1000)) ≡ decimal (t / 1000) ++ 46 ∷ three_digits (t % 1000) = no_plus (t / 1000) (46 ∷ three_digits (t % 1000)) h in

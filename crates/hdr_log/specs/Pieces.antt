@@ -5,7 +5,7 @@ use Rattle.std.specs.Option.{option_map, option_or}
 use Rattle.std.specs.Str.{is_utf8}
 use Rattle.hdr_log.specs.Parts.{parts}
 use Rattle.hdr_log.specs.Grammar.{Entry, Start, Base, Span, Interval, interval_of, header_of, without_crs}
-use Rattle.hdr_log.specs.Texts.{thousandths, lines_text, comment_line, start_line, base_line, divisor_line, interval_line, AreTags}
+use Rattle.hdr_log.specs.Texts.{thousandths_text, lines_text, comment_line, start_line, base_line, divisor_line, interval_line, AreTags}
 
 -- a comment, a start time, a base time, a divisor of greatest values, or an interval: tag, start, duration, greatest
 -- value and field. Times and greatest values are in thousandths.
@@ -45,7 +45,7 @@ headers_said (part ∷ parts) = and_entry (header_said part) (headers_said parts
 
 -- what is read of an interval
 abbrev pub interval_said : Option (List ℕ) → ℕ → ℕ → ℕ → List ℕ → Interval
-interval_said tag start duration max field = record { tag = tag; start = start * 1_000_000; duration = duration * 1_000_000; max = thousandths max; field = field }
+interval_said tag start duration max field = record { tag = tag; start = start * 1_000_000; duration = duration * 1_000_000; max = thousandths_text max; field = field }
 
 -- the line of an interval is parsed as this
 abbrev pub IsIntervalRead : Option (List ℕ) → ℕ → ℕ → ℕ → List ℕ → Type 0

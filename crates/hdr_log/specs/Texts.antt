@@ -11,8 +11,8 @@ abbrev pub three_digits : ℕ → List ℕ
 three_digits n = (48 + n / 100) ∷ (48 + n / 10 % 10) ∷ (48 + n % 10) ∷ []
 
 -- a number of thousandths: its integer part, a point, and three digits
-unfoldable pub thousandths : ℕ → List ℕ
-thousandths t = decimal (t / 1000) ++ 46 ∷ three_digits (t % 1000)
+unfoldable pub thousandths_text : ℕ → List ℕ
+thousandths_text t = decimal (t / 1000) ++ 46 ∷ three_digits (t % 1000)
 
 -- nanoseconds to the nearest thousandth of a second, halves up
 abbrev pub to_thousandths : ℕ → ℕ
@@ -39,13 +39,13 @@ abbrev pub comment_line : List ℕ → List ℕ
 comment_line part = 35 ∷ part
 
 abbrev pub start_line : ℕ → List ℕ
-start_line t = codes "#[StartTime: " ++ (thousandths t ++ codes " (seconds since epoch)]")
+start_line t = codes "#[StartTime: " ++ (thousandths_text t ++ codes " (seconds since epoch)]")
 
 abbrev pub base_line : ℕ → List ℕ
-base_line t = codes "#[BaseTime: " ++ (thousandths t ++ codes " (seconds since epoch)]")
+base_line t = codes "#[BaseTime: " ++ (thousandths_text t ++ codes " (seconds since epoch)]")
 
 abbrev pub divisor_line : ℕ → List ℕ
-divisor_line d = codes "#[MaxValueDivisor: " ++ (thousandths (1000 * d) ++ codes "]")
+divisor_line d = codes "#[MaxValueDivisor: " ++ (thousandths_text (1000 * d) ++ codes "]")
 
 abbrev pub tag_front : Option (List ℕ) → List ℕ
 tag_front None = []
@@ -54,7 +54,7 @@ tag_front (Some tag) = codes "Tag=" ++ tag ++ 44 ∷ []
 -- an interval's line; times and the greatest value are in thousandths
 abbrev pub interval_line : Option (List ℕ) → ℕ → ℕ → ℕ → List ℕ → List ℕ
 interval_line tag start duration max field =
-    tag_front tag ++ (thousandths start ++ 44 ∷ (thousandths duration ++ 44 ∷ (thousandths max ++ 44 ∷ field)))
+    tag_front tag ++ (thousandths_text start ++ 44 ∷ (thousandths_text duration ++ 44 ∷ (thousandths_text max ++ 44 ∷ field)))
 
 -- what is allowed as a tag
 abbrev pub AreTags : Option (List ℕ) → Type 0

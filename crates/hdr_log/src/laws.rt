@@ -4,12 +4,12 @@ ghost use Rattle.std.specs.Prelude.{◌≡◌, ℕ, ◌*◌, ◌/◌, ◌<◌, �
 ghost use Rattle.std.specs.List.{AllByRecursion, flat_map};
 ghost use Rattle.base64.specs.GeneralPurpose.{IsBytes};
 ghost use Rattle.hdr_log.specs.Grammar.{reading, time_of};
-ghost use Rattle.hdr_log.specs.Texts.{thousandths, base64_of, base64_bytes};
+ghost use Rattle.hdr_log.specs.Texts.{thousandths_text, base64_of, base64_bytes};
 ghost use Rattle.hdr_log.specs.Pieces.{Piece, Measured, IsField, IsPiece, IsIntervalRead, text_of, said_by, is_read};
 
 /// A time that is printed is read back to the thousandth of a second.
 pub fn time_is_read()
-    ensures { (t : ℕ) → t / 1000 < 2 ^ 64 → time_of (thousandths t) ≡ Some (t * 1_000_000) }
+    ensures { (t : ℕ) → t / 1000 < 2 ^ 64 → time_of (thousandths_text t) ≡ Some (t * 1_000_000) }
 {}
 
 /// Reading the line of an interval returns its tag, its times, its greatest value and its field.

@@ -54,8 +54,7 @@ fn time_before(text: &[u8], byte: u8) -> Option<(Duration, &[u8])>
     ensures { option_map (λ p. (as_nanos p.0, p.1.now)) result ≡ time_before byte text.now }
 {
     let (seconds, rest) = split_once(text, byte)?;
-    let time = time(seconds)?;
-    Some((time, rest))
+    Some((time(seconds)?, rest))
 }
 
 /// Parses a header of this name, and returns its time.
@@ -64,8 +63,7 @@ fn header(line: &[u8], name: &[u8]) -> Option<Duration>
     ensures { option_map as_nanos result ≡ header_of name.now line.now }
 {
     let rest = strip(line, name)?;
-    let (time, _) = time_before(rest, b' ')?;
-    Some(time)
+    Some(time_before(rest, b' ')?.0)
 }
 
 /// Whether a text is one digit or more, with at most one point.

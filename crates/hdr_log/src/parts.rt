@@ -41,9 +41,7 @@ pub(crate) fn split_line(text: &[u8]) -> Option<(&[u8], &[u8])>
     ensures length { IfSome result (λ p. length p.0.now + 1 + length p.1.now ≡ length text.now) }
 {
     let at = line_end(text)?;
-    let line = &text[..at];
-    let rest = &text[at + 1..];
-    Some((line, rest))
+    Some((&text[..at], &text[at + 1..]))
 }
 
 /// Splits at the first `byte`, and returns what comes before it and after it, or `None` if there is none.

@@ -6,7 +6,7 @@ ghost use Rattle.std.specs.Fmt.{decimal};
 ghost use Rattle.std.specs.Option.{option_map};
 ghost use Rattle.std.specs.Duration.{as_nanos};
 ghost use Rattle.hdr_log.specs.Tags.{tag_text};
-ghost use Rattle.hdr_log.specs.Texts.{AreBytes, thousandths, to_thousandths, IsTimeInRange, max_thousandths, with_line_feed, comment_line, tag_front, AreTags, base64_of};
+ghost use Rattle.hdr_log.specs.Texts.{AreBytes, thousandths_text, to_thousandths, IsTimeInRange, max_thousandths, with_line_feed, comment_line, tag_front, AreTags, base64_of};
 ghost use Rattle.hdr_log.specs.Pieces.{Comment, StartsAt, BasedAt, Divided, Measured, piece_text, IsPiece};
 
 use crate::parts::split_once;
@@ -17,7 +17,7 @@ use std::alloc::AllocError;
 use std::io::Write;
 use std::time::Duration;
 
-/// Returns a time to the nearest thousandth of a second, or `None` if its seconds do not fit 64 bits.
+/// Returns the number of thousandths of a second of a time, rounded, or `None` if its seconds do not fit 64 bits.
 pub fn thousandths(time: Duration) -> Option<u128>
     ensures value { SomeIff result (IsTimeInRange (as_nanos time))
         (to_thousandths (as_nanos time)) }
@@ -27,7 +27,7 @@ pub fn thousandths(time: Duration) -> Option<u128>
     (rounded / 1000 < 1 << 64).then_some(rounded)
 }
 
-/// Returns a greatest value in units of the divisor, to the nearest thousandth.
+/// Returns `max / divisor` in thousandths, rounded.
 pub fn scaled(max: u64, divisor: u64) -> u128
     requires { 0 < divisor }
     ensures value { result ≡ max_thousandths max divisor }
@@ -43,10 +43,10 @@ fn push_decimal(text: &mut Vec<u8>, number: u64) -> Result<(), AllocError>
 }
 
 /// Appends a number of thousandths.
-#[tactic(auto, unfolding(crate::specs::Texts::thousandths))]
+#[tactic(auto, unfolding(crate::specs::Texts::thousandths_text))]
 fn push_thousandths(text: &mut Vec<u8>, number: u128) -> Result<(), AllocError>
     requires { number / 1000 < 2 ^ 64 }
-    ensures { OnOk result (text.new.items ≡ text.old.items ++ thousandths number) }
+    ensures { OnOk result (text.new.items ≡ text.old.items ++ thousandths_text number) }
 {
     push_decimal(text, (number / 1000) as u64)?;
     let rest = (number % 1000) as u16;
@@ -56,8 +56,7 @@ fn push_thousandths(text: &mut Vec<u8>, number: u128) -> Result<(), AllocError>
         b'0' + (rest / 10 % 10) as u8,
         b'0' + (rest % 10) as u8,
     ];
-    text.extend_from_slice(&digits)?;
-    Ok(())
+    text.extend_from_slice(&digits)
 }
 
 fn push_comment_line(text: &mut Vec<u8>, part: &[u8]) -> Result<(), AllocError>
@@ -66,8 +65,7 @@ fn push_comment_line(text: &mut Vec<u8>, part: &[u8]) -> Result<(), AllocError>
 {
     text.push(b'#')?;
     text.extend_from_slice(part)?;
-    text.push(b'\n')?;
-    Ok(())
+    text.extend_from_slice(b"\n")
 }
 
 /// Appends a comment, with each of its lines on a line of its own.
@@ -86,13 +84,12 @@ pub fn push_comment(text: &mut Vec<u8>, comment: &str) -> Result<(), AllocError>
 fn push_line(text: &mut Vec<u8>, front: &[u8], number: u128, end: &[u8]) -> Result<(), AllocError>
     requires { number / 1000 < 2 ^ 64 }
     ensures { OnOk result (text.new.items ≡ text.old.items ++ with_line_feed
-        (front.now ++ (thousandths number ++ end.now))) }
+        (front.now ++ (thousandths_text number ++ end.now))) }
 {
     text.extend_from_slice(front)?;
     push_thousandths(text, number)?;
     text.extend_from_slice(end)?;
-    text.push(b'\n')?;
-    Ok(())
+    text.extend_from_slice(b"\n")
 }
 
 /// Appends the header of a start time in thousandths of a second.
@@ -118,13 +115,13 @@ pub fn push_divisor(text: &mut Vec<u8>, divisor: u64) -> Result<(), AllocError>
     push_line(text, b"#[MaxValueDivisor: ", 1000 * divisor as u128, b"]")
 }
 
-fn push_number(text: &mut Vec<u8>, number: u128) -> Result<(), AllocError>
+/// Appends a number of thousandths and a comma.
+fn push_number_field(text: &mut Vec<u8>, number: u128) -> Result<(), AllocError>
     requires { number / 1000 < 2 ^ 64 }
-    ensures { OnOk result (text.new.items ≡ text.old.items ++ thousandths number ++ 44 ∷ []) }
+    ensures { OnOk result (text.new.items ≡ text.old.items ++ thousandths_text number ++ 44 ∷ []) }
 {
     push_thousandths(text, number)?;
-    text.push(b',')?;
-    Ok(())
+    text.extend_from_slice(b",")
 }
 
 fn push_tag(text: &mut Vec<u8>, tag: Option<Tag<'_>>) -> Result<(), AllocError>
@@ -175,9 +172,9 @@ pub fn push_interval(
     ensures bytes { AreBytes bytes.now }
 {
     push_tag(text, tag)?;
-    push_number(text, start)?;
-    push_number(text, duration)?;
-    push_number(text, max)?;
+    push_number_field(text, start)?;
+    push_number_field(text, duration)?;
+    push_number_field(text, max)?;
     push_base64(text, bytes)?;
     text.push(b'\n')?;
     Ok(())

@@ -37,6 +37,7 @@ pub record IsPlain (greatest : ℕ) (h : Plain) : Type 0 where
   pub numbers_fit : All (λ n. n ≤ greatest) h.counts
   pub total_fits : h.total < 2 ^ 64
   pub total_covers : min (sum h.counts) (2 ^ 64 - 1) ≤ h.total
+  -- the total is 0 exactly if all counters are
   pub empty : h.total ≡ 0 → sum h.counts ≡ 0
   pub nothing : sum h.counts ≡ 0 → h.total ≡ 0
   pub top_in_bins : IfSome h.top_mark (λ i. i < length h.counts)

@@ -41,10 +41,10 @@ IsCreationError low high sigfig make.CannotRepresentSigFigBeyondLow = (0 < low) 
 IsCreationError low high sigfig make.UsizeTypeTooSmall = ⊥
 IsCreationError low high sigfig make.OutOfMemory = IsBounds low high sigfig
 
--- all digits fit beyond a low below 2 ^ 46, so that no such low is an error
-abbrev pub IsBeyondLow : ℕ → CreationError → Type 0
-IsBeyondLow low make.CannotRepresentSigFigBeyondLow = 2 ^ 46 ≤ low
-IsBeyondLow low _ = Unit {0}
+-- the error that unit and digits exceed 63 bits comes only for a low from 2 ^ 46 on
+abbrev pub IsForGreatLow : ℕ → CreationError → Type 0
+IsForGreatLow low make.CannotRepresentSigFigBeyondLow = 2 ^ 46 ≤ low
+IsForGreatLow low _ = Unit {0}
 
 -- growing to a value past the reach is an error if the bins may not grow, and otherwise only if the allocation fails
 abbrev pub IsResizeError : Plain → ℕ → AdditionError → Type 0

@@ -27,6 +27,7 @@ abbrev pub EachTo : {C : Type 0} → (C → State → State → Type 0) → (Lis
 EachTo CallTo fits [] s t = t ≡ s
 EachTo CallTo fits (call ∷ calls) s t = (r : State) × CallTo call s r × fits r.samples × EachTo CallTo fits calls r t
 
+-- a histogram stands for the samples of a state, and its bins were last made for the state's value
 abbrev pub StandsAt : Plain → State → Type 0
 StandsAt h s = StandsFor h s.samples × (h.high ≡ s.high)
 

@@ -1,9 +1,9 @@
 //! A row for each interval of a log.
 
-use crate::error::PageError;
-use crate::figures::{Figures, decoded};
-use crate::reading::{Interval, Intervals};
 use csv::{Writer, WriterBuilder};
+use hdr_figures::error::PageError;
+use hdr_figures::figures::{Figures, decoded};
+use hdr_figures::reading::{Interval, Intervals};
 use hdr_summary::formats::is_formula;
 use hdrhistogram::serialization::Deserializer;
 use std::alloc::{AllocError, Global};

@@ -1,10 +1,11 @@
 //! The table of tags.
 
-use crate::amount::Amount;
-use crate::figures::Figures;
-use crate::name::IN_TABLE;
-use crate::number::{push_grouped, push_rate};
-use crate::view::{DRAWN, View};
+use hdr_charts::legend::push_mark;
+use hdr_draw::number::{push_grouped, push_rate};
+use hdr_figures::figures::Figures;
+use hdr_view::amount::Amount;
+use hdr_view::name::IN_TABLE;
+use hdr_view::view::{DRAWN, View};
 use std::alloc::{AllocError, Global};
 
 /// The rows that are shown at once.
@@ -53,105 +54,102 @@ fn bold_values(alloc: Global, view: &View<'_>) -> Result<[Option<u64>; COLUMNS],
     Ok(bold)
 }
 
-/// Appends the line of a drawn tag.
-pub(crate) fn push_mark(text: &mut String, tag: usize) -> Result<(), AllocError> {
-    let dash = if tag > 4 { " dash" } else { "" };
-    write!(
-        text,
-        "<svg class=\"k t{tag}\" width=\"18\" height=\"4\" aria-hidden=\"true\">\
-         <path class=\"c{dash}\" d=\"M0 2h18\"/></svg>"
-    )
+/// Appends the table.
+pub(crate) fn push_table(
+    view: &View<'_>,
+    alloc: Global,
+    text: &mut String,
+) -> Result<(), AllocError> {
+    let bold = bold_values(alloc, view)?;
+    text.push_str(HEAD)?;
+    if !view.is_single() {
+        let length = view.timeline.last.saturating_sub(view.timeline.first);
+        text.push_str("<tr class=all><th scope=row>all")?;
+        push_row(view, text, &view.log.all, length, &[None; COLUMNS])?;
+    }
+    let open = view.log.tags.len().min(OPEN);
+    for (index, tag) in view.log.tags.iter().enumerate() {
+        if index == open {
+            let more = view.log.tags.len().saturating_sub(open) as u64;
+            text.push_str("</tbody></table>\n<details><summary>")?;
+            push_grouped(text, more)?;
+            text.push_str(" more tags</summary>")?;
+            text.push_str(HEAD)?;
+        }
+        text.push_str("<tr><th scope=row>")?;
+        if index < DRAWN && !view.is_single() {
+            push_mark(text, index)?;
+        }
+        text.push_str("<bdi>")?;
+        view.push_tag(alloc, text, tag.tag, IN_TABLE)?;
+        text.push_str("</bdi>")?;
+        push_row(view, text, &tag.figures, tag.length, &bold)?;
+    }
+    text.push_str("</tbody></table>")?;
+    if view.log.tags.len() > open {
+        text.push_str("</details>")?;
+    }
+    text.push_str("\n")?;
+    if view.log.tags.len() > DRAWN {
+        writeln!(
+            text,
+            "<p class=\"soft\">Drawings show the {DRAWN} tags with the most samples; \
+             \"all\" counts every tag.</p>"
+        )?;
+    }
+    Ok(())
 }
 
-impl View<'_> {
-    /// Appends the table.
-    pub(crate) fn push_table(&self, alloc: Global, text: &mut String) -> Result<(), AllocError> {
-        let bold = bold_values(alloc, self)?;
-        text.push_str(HEAD)?;
-        if !self.is_single() {
-            let length = self.timeline.last.saturating_sub(self.timeline.first);
-            text.push_str("<tr class=all><th scope=row>all")?;
-            self.push_row(text, &self.log.all, length, &[None; COLUMNS])?;
-        }
-        let open = self.log.tags.len().min(OPEN);
-        for (index, tag) in self.log.tags.iter().enumerate() {
-            if index == open {
-                let more = self.log.tags.len().saturating_sub(open) as u64;
-                text.push_str("</tbody></table>\n<details><summary>")?;
-                push_grouped(text, more)?;
-                text.push_str(" more tags</summary>")?;
-                text.push_str(HEAD)?;
-            }
-            text.push_str("<tr><th scope=row>")?;
-            if index < DRAWN && !self.is_single() {
-                push_mark(text, index)?;
-            }
-            text.push_str("<bdi>")?;
-            self.push_tag(alloc, text, tag.tag, IN_TABLE)?;
-            text.push_str("</bdi>")?;
-            self.push_row(text, &tag.figures, tag.length, &bold)?;
-        }
-        text.push_str("</tbody></table>")?;
-        if self.log.tags.len() > open {
-            text.push_str("</details>")?;
-        }
-        text.push_str("\n")?;
-        if self.log.tags.len() > DRAWN {
-            writeln!(
-                text,
-                "<p class=\"soft\">Drawings show the {DRAWN} tags with the most samples; \
-                 \"all\" counts every tag.</p>"
-            )?;
-        }
-        Ok(())
-    }
-
-    /// Appends the cells of a row after its name.
-    fn push_row(
-        &self,
-        text: &mut String,
-        figures: &Figures,
-        milliseconds: u64,
-        bold: &[Option<u64>; COLUMNS],
-    ) -> Result<(), AllocError> {
-        text.push_str("<td>")?;
-        push_grouped(text, figures.count)?;
-        text.push_str("<td>")?;
-        push_rate(text, figures.count, milliseconds)?;
-        let mean = figures.mean.map(|mean| Amount::of_mean(self.units, mean));
-        self.push_cell(text, mean, false)?;
-        for (value, bold) in columns(figures).iter().zip(bold) {
-            let amount = if figures.count > 0 {
-                Some(self.units.amount(u128::from(*value), 1))
-            } else {
-                None
-            };
-            self.push_cell(text, amount, amount.is_some() && *bold == Some(*value))?;
-        }
-        text.push_str("\n")
-    }
-
-    /// Appends a cell.
-    fn push_cell(
-        &self,
-        text: &mut String,
-        amount: Option<Amount>,
-        is_bold: bool,
-    ) -> Result<(), AllocError> {
-        text.push_str(if is_bold { "<td class=w>" } else { "<td>" })?;
-        let name = match amount {
-            Some(amount) => {
-                amount.push_number(text)?;
-                amount.name
-            }
-            None => {
-                text.push_str("–")?;
-                ""
-            }
+/// Appends the cells of a row after its name.
+fn push_row(
+    view: &View<'_>,
+    text: &mut String,
+    figures: &Figures,
+    milliseconds: u64,
+    bold: &[Option<u64>; COLUMNS],
+) -> Result<(), AllocError> {
+    text.push_str("<td>")?;
+    push_grouped(text, figures.count)?;
+    text.push_str("<td>")?;
+    push_rate(text, figures.count, milliseconds)?;
+    let mean = figures.mean.map(|mean| Amount::of_mean(view.units, mean));
+    push_cell(view, text, mean, false)?;
+    for (value, bold) in columns(figures).iter().zip(bold) {
+        let amount = if figures.count > 0 {
+            Some(view.units.amount(u128::from(*value), 1))
+        } else {
+            None
         };
-        if self.units.is_known() {
-            write!(text, "<i>{name}</i>")?;
-        }
-        Ok(())
+        push_cell(
+            view,
+            text,
+            amount,
+            amount.is_some() && *bold == Some(*value),
+        )?;
     }
+    text.push_str("\n")
+}
+
+/// Appends a cell.
+fn push_cell(
+    view: &View<'_>,
+    text: &mut String,
+    amount: Option<Amount>,
+    is_bold: bool,
+) -> Result<(), AllocError> {
+    text.push_str(if is_bold { "<td class=w>" } else { "<td>" })?;
+    let name = match amount {
+        Some(amount) => {
+            amount.push_number(text)?;
+            amount.name
+        }
+        None => {
+            text.push_str("–")?;
+            ""
+        }
+    };
+    if view.units.is_known() {
+        write!(text, "<i>{name}</i>")?;
+    }
+    Ok(())
 }

@@ -1,13 +1,13 @@
 //! The page for a terminal: the sentence, the slow times, and the curve of percentiles of all
 //! samples in blocks.
 
-use crate::detail::curve_of;
-use crate::error::PageError;
-use crate::options::PageOptions;
-use crate::percentiles::LINES;
-use crate::view::{Form, View};
+use hdr_charts::detail::curve_of;
+use hdr_charts::percentiles::LINES;
 use hdr_draw::quantiles::QuantileScale;
 use hdr_draw::values::ValueScale;
+use hdr_figures::error::PageError;
+use hdr_view::options::PageOptions;
+use hdr_view::view::{Form, View};
 use std::alloc::{AllocError, Global};
 
 /// The signs of a label and a space, and of the curve: 80 together.
@@ -33,7 +33,7 @@ pub fn page_text(
     push_wrapped(&mut text, words.as_str())?;
     if view.log.all.count > 0 {
         text.push_str("\n")?;
-        view.push_blocks(alloc, &mut text)?;
+        push_blocks(&view, alloc, &mut text)?;
     }
     Ok(text)
 }
@@ -60,64 +60,62 @@ fn push_wrapped(text: &mut String, words: &str) -> Result<(), AllocError> {
     Ok(())
 }
 
-impl View<'_> {
-    /// Appends the curve of percentiles.
-    fn push_blocks(&self, alloc: Global, text: &mut String) -> Result<(), AllocError> {
-        let scale = self.scale();
-        let quantiles = QuantileScale::new(self.log.all.count);
-        let heights = self.heights(alloc, &scale, &quantiles)?;
-        for row in (0..ROWS).rev() {
-            self.push_row_label(alloc, text, &scale, row)?;
-            for height in &heights {
-                let blocks = height.saturating_sub(row * 8).min(8) as usize;
-                text.push_str(BLOCKS.get(blocks).copied().unwrap_or(" "))?;
-            }
-            text.push_str("\n")?;
+/// Appends the curve of percentiles.
+fn push_blocks(view: &View<'_>, alloc: Global, text: &mut String) -> Result<(), AllocError> {
+    let scale = view.scale();
+    let quantiles = QuantileScale::new(view.log.all.count);
+    let heights = heights(view, alloc, &scale, &quantiles)?;
+    for row in (0..ROWS).rev() {
+        push_row_label(view, alloc, text, &scale, row)?;
+        for height in &heights {
+            let blocks = height.saturating_sub(row * 8).min(8) as usize;
+            text.push_str(BLOCKS.get(blocks).copied().unwrap_or(" "))?;
         }
-        push_axis(alloc, text, &quantiles)
+        text.push_str("\n")?;
     }
+    push_axis(alloc, text, &quantiles)
+}
 
-    /// Returns the height of each column, in eighths of a row.
-    fn heights(
-        &self,
-        alloc: Global,
-        scale: &ValueScale,
-        quantiles: &QuantileScale,
-    ) -> Result<Vec<u32>, AllocError> {
-        let last = COLUMNS - 1;
-        let mut heights = vec![in alloc; 0; COLUMNS]?;
-        for point in curve_of(alloc, &self.log.sum, quantiles, last as u32)? {
-            let above = scale.place(point.value, ROWS * 8);
-            for height in heights.iter_mut().skip(point.x as usize) {
-                *height = above.max(1);
-            }
+/// Returns the height of each column, in eighths of a row.
+fn heights(
+    view: &View<'_>,
+    alloc: Global,
+    scale: &ValueScale,
+    quantiles: &QuantileScale,
+) -> Result<Vec<u32>, AllocError> {
+    let last = COLUMNS - 1;
+    let mut heights = vec![in alloc; 0; COLUMNS]?;
+    for point in curve_of(alloc, &view.log.sum, quantiles, last as u32)? {
+        let above = scale.place(point.value, ROWS * 8);
+        for height in heights.iter_mut().skip(point.x as usize) {
+            *height = above.max(1);
         }
-        Ok(heights)
     }
+    Ok(heights)
+}
 
-    /// Appends the label of the greatest step in a row, if it has one, in the signs of a label.
-    fn push_row_label(
-        &self,
-        alloc: Global,
-        text: &mut String,
-        scale: &ValueScale,
-        row: u32,
-    ) -> Result<(), AllocError> {
-        let mut label = String::new(alloc);
-        for tick in scale.ticks(alloc, ROWS * 150)? {
-            let is_here = scale.place(tick.value, ROWS * 8).saturating_sub(1) / 8 == row;
-            if tick.has_text && is_here {
-                label = String::new(alloc);
-                self.units.push_label(&mut label, tick.value)?;
-            }
+/// Appends the label of the greatest step in a row, if it has one, in the signs of a label.
+fn push_row_label(
+    view: &View<'_>,
+    alloc: Global,
+    text: &mut String,
+    scale: &ValueScale,
+    row: u32,
+) -> Result<(), AllocError> {
+    let mut label = String::new(alloc);
+    for tick in scale.ticks(alloc, ROWS * 150)? {
+        let is_here = scale.place(tick.value, ROWS * 8).saturating_sub(1) / 8 == row;
+        if tick.has_text && is_here {
+            label = String::new(alloc);
+            view.units.push_label(&mut label, tick.value)?;
         }
-        let signs = label.as_str().chars().count();
-        for _ in signs..LABEL - 1 {
-            text.push_str(" ")?;
-        }
-        text.push_str(label.as_str())?;
-        text.push_str(" ")
     }
+    let signs = label.as_str().chars().count();
+    for _ in signs..LABEL - 1 {
+        text.push_str(" ")?;
+    }
+    text.push_str(label.as_str())?;
+    text.push_str(" ")
 }
 
 /// Appends the names of percentiles below the curve.
@@ -128,7 +126,7 @@ fn push_axis(
 ) -> Result<(), AllocError> {
     let last = COLUMNS - 1;
     let mut line = String::new(alloc);
-    for (inverse, name, _) in LINES {
+    for (inverse, name) in LINES {
         let x = LABEL + quantiles.place(inverse, 1, last as u32) as usize;
         let is_free = line.is_empty() || line.len() < x;
         if quantiles.has(inverse) && is_free && x + name.len() <= LABEL + COLUMNS {

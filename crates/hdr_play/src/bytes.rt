@@ -122,6 +122,12 @@ fn decode_front<T: Counter>(alloc: Global, h: &mut Histogram<T>, digits: &str) -
     decode(alloc, h, bytes.as_slice())
 }
 
+/// Decodes a field into the memory of a copy of the histogram, which the decoded one replaces.
+fn decode_field_into<T: Counter>(alloc: Global, h: &mut Histogram<T>, text: &str) -> Outcome {
+    let spare = Some(h.clone()?);
+    put(h, Deserializer::new(alloc).decode_field_into(text, spare)?)
+}
+
 /// A call on a histogram and bytes.
 pub fn of_histogram<T: Counter>(
     alloc: Global,
@@ -135,6 +141,7 @@ pub fn of_histogram<T: Counter>(
         ("decode", _) => decode_front(alloc, h, text),
         ("decode_alone", _) => decode(alloc, h, bytes_of(alloc, text)?.as_slice()),
         ("decode_field", _) => put(h, Deserializer::new(alloc).decode_field(text)?),
+        ("decode_field_into", _) => decode_field_into(alloc, h, text),
         _ => Err(Refusal::NoCall),
     }
 }

@@ -27,3 +27,14 @@ IsOnSide Below units decimals digits other = units * 10 ^ other < digits * 10 ^ 
 IsOnSide AtMost units decimals digits other = units * 10 ^ other ≤ digits * 10 ^ decimals
 IsOnSide Above units decimals digits other = digits * 10 ^ decimals < units * 10 ^ other
 IsOnSide AtLeast units decimals digits other = digits * 10 ^ decimals ≤ units * 10 ^ other
+
+-- a figure has a value: without numbers only a count has one
+abbrev pub HasValue : Distribution → Measure → Type 0
+HasValue d Count = Unit {0}
+HasValue d Min = 0 < d.histogram.total
+HasValue d Max = 0 < d.histogram.total
+HasValue d (Quantile q) = 0 < d.histogram.total
+
+-- a level is kept: its figure is on its side, or has no value
+abbrev pub IsKept : Distribution → Measure → Side → ℕ → ℕ → Type 0
+IsKept d measure side digits decimals = HasValue d measure → IsOnSide side (units_of d measure) (decimals_of d measure) digits decimals

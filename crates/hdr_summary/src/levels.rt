@@ -1,7 +1,8 @@
 //! Levels that figures have to keep, such as `p99<=200ms`.
 
 ghost use Rattle.std.specs.Prelude.{◌≡◌, ◌≤◌, ◌↔◌, IsTrue};
-ghost use Rattle.hdr_summary.specs.Levels.{IsOnSide, units_of, decimals_of};
+ghost use Rattle.std.specs.List.{All};
+ghost use Rattle.hdr_summary.specs.Levels.{IsOnSide, units_of, decimals_of, HasValue, IsKept};
 
 use crate::decimals::decimal;
 use crate::percentile::parse_percentile;
@@ -124,16 +125,24 @@ fn decimals_of(distribution: &Distribution, measure: Measure) -> u32
 }
 
 impl Level<'_> {
-    /// Whether the figure of a distribution is on the side of the level.
+    /// Whether the level's figure has a value: without numbers only a count has one.
+    fn has_value(&self, distribution: &Distribution) -> bool
+        ensures { IsTrue result ↔ HasValue distribution.now self.now.measure }
+    {
+        match self.measure {
+            Measure::Count => true,
+            _ => !distribution.histogram.is_empty(),
+        }
+    }
+
+    /// Whether the level is kept: its figure is on its side, or has no value.
     pub fn is_kept(&self, distribution: &Distribution) -> bool
-        ensures { IsTrue result ↔ IsOnSide self.now.side
-            (units_of distribution.now self.now.measure)
-            (decimals_of distribution.now self.now.measure)
+        ensures { IsTrue result ↔ IsKept distribution.now self.now.measure self.now.side
             self.now.number.digits self.now.number.decimals }
     {
         let units = units_of(distribution, self.measure);
         let decimals = decimals_of(distribution, self.measure);
-        is_on_side(units, decimals, self.side, self.number)
+        !self.has_value(distribution) || is_on_side(units, decimals, self.side, self.number)
     }
 
     /// Returns the value of the level's figure as a decimal. Without numbers only a count has one.
@@ -142,11 +151,19 @@ impl Level<'_> {
         alloc: Global,
         distribution: &Distribution,
     ) -> Result<Option<String>, AllocError> {
-        if distribution.histogram.is_empty() && !matches!(self.measure, Measure::Count) {
+        if !self.has_value(distribution) {
             return Ok(None);
         }
         let units = units_of(distribution, self.measure);
         let decimals = decimals_of(distribution, self.measure);
         Ok(Some(decimal(alloc, u128::from(units), decimals)?))
     }
+}
+
+/// Whether a distribution keeps all levels.
+pub fn keeps_all(distribution: &Distribution, levels: &[Level<'_>]) -> bool
+    ensures { IsTrue result ↔ All (λ level. IsKept distribution.now level.measure level.side
+        level.number.digits level.number.decimals) levels.now }
+{
+    levels.iter().all(|level| level.is_kept(distribution))
 }

@@ -5,7 +5,8 @@ use hdrhistogram::serialization::v2_serializer::{
     counts_array_max_encoded_size, encode_counts, varint_write, zig_zag_encode,
 };
 use hdrhistogram::serialization::{
-    DeserializeError, Deserializer, Serializer, V2SerializeError, V2Serializer, deserializer,
+    DeserializeError, Deserializer, FieldDecodeError, Serializer, V2SerializeError, V2Serializer,
+    deserializer,
 };
 use hdrhistogram::{Counter, Histogram};
 use std::alloc::{AllocError, Global};
@@ -76,6 +77,23 @@ pub fn decode_slice<T: Counter>(
     bytes: &[u8],
 ) -> Result<(Histogram<T>, usize), DeserializeError> {
     deserializer.decode_slice(bytes)
+}
+
+/// The histogram of an interval's field.
+pub fn decode_field<T: Counter>(
+    deserializer: &mut Deserializer,
+    field: &str,
+) -> Result<Histogram<T>, FieldDecodeError> {
+    deserializer.decode_field(field)
+}
+
+/// Into the memory of the histogram that was decoded before, if there was one.
+pub fn decode_field_into<T: Counter>(
+    deserializer: &mut Deserializer,
+    field: &str,
+    spare: Option<Histogram<T>>,
+) -> Result<Histogram<T>, FieldDecodeError> {
+    deserializer.decode_field_into(field, spare)
 }
 
 /// Every reason, and no other.

@@ -9,7 +9,7 @@ pub use Rattle.hdr_log.specs.Grammar.{Entry, Span, reading, Start, Base}
 pub use Rattle.hdr_log.specs.Parts.{parts, ◌>>=◌, is_digits}
 pub use Rattle.hdr_log.specs.Pieces.{Piece, IsPiece, piece_text, text_of, said_by, is_read}
 pub use Rattle.hdr_log.specs.Tags.{tag_text}
-pub use Rattle.hdr_log.specs.Texts.{thousandths, to_thousandths, max_thousandths, base64_of, base64_bytes}
+pub use Rattle.hdr_log.specs.Texts.{thousandths_text, to_thousandths, max_thousandths, base64_of, base64_bytes}
 pub use Rattle.hdr_model.specs.Joining.{after_adds, IsPart, AreParts, joined_samples, AnswersRanked}
 pub use Rattle.hdr_model.specs.Plain.{Plain, empty_plain, IsPlain, resolution, max_of}
 pub use Rattle.hdr_model.specs.Recording.{after_reset}
@@ -17,8 +17,8 @@ pub use Rattle.hdr_model.specs.Runs.{StandsWhereFits, State}
 pub use Rattle.hdr_tool.specs.Arguments.{Task, Report, Log, Merge, greatest_into, filter_of, task_of, sigfig_of, fraction_of, are_fractions, figures_of, log_of, Options, no_options, options_of, view_of_options, view_of_task}
 pub use Rattle.hdr_tool.specs.Commands.{Command, Apply, End, command_of, number_lines, first_number, alone, count_of, record_of, correct_of, end_tag_of, end_of, command_of_fields, BeginsWith, AreNumbers, FirstLine, parts_of_rest}
 pub use Rattle.hdr_tool.specs.LogMerges.{at_command, ends_of, AfterCommand, EndsWith, IsEnd, chosen_of, LogThenMerge}
-pub use Rattle.hdr_tool.specs.Outcomes.{Cause, Shortage, Output, Input, Misuse, cause_of, Goes, RunsAll, OnInput, whatever, Fails, Writes, ReadsTo, ReadsAll, CommandNeeds, LinesNeed, Needs}
-pub use Rattle.hdr_tool.specs.Program.{Interval, Run, ended_by, run_command, run_end, run_lines, run_rest, IsLogText, Logged, LoggedFirst, merge_fault, prepend, run_input, Reported, Outputs, at_end, as_reached, outputs_of, MergeReported, Unread, told, OneOutcome, Outcome, has_too_great_count, IsReport, quantile_line}
+pub use Rattle.hdr_tool.specs.Outcomes.{Cause, Resource, Output, Input, Misuse, cause_of, IsStep, RunsAll, OnInput, whatever_follows, Fails, Writes, ReadsTo, ReadsAll, CommandNeeds, LinesNeed, Needs}
+pub use Rattle.hdr_tool.specs.Program.{Interval, Run, ended_by, run_command, run_end, lines_run, rest_run, IsLogText, Logged, LoggedFirst, merge_fault, prepend, input_run, Reported, Outputs, at_end, as_reached, outputs_of, MergeReported, Unread, told, OneOutcome, Outcome, has_too_great_count, IsReport, quantile_line}
 pub use Rattle.hdr_tool.specs.declared.fault.Fault.{Fault}
 pub use Rattle.hdr_tool.specs.declared.fault.Fault.TheVariants.{Usage, NotACommand, NotWritten, NoMemory, CannotRead, CannotWrite}
 pub use Rattle.hdrhistogram.specs.Chosen.{Filter, is_chosen, Every, view_of_filter}

@@ -1,5 +1,5 @@
 -- The histograms of a log that `log` wrote: what they stand for, and the result of merging them.
-use Rattle.hdr_tool.proofs.Common.{◌≡◌, ℕ, ◌-◌, ◌^◌, List, [], ◌∷◌, Option, Some, None, IfSome, refl, sym, subst, ◌+◌, ◌*◌, ◌<◌, Bool, true, false, cond, arith, length, slice_index, ◌++◌, MatchOption, Result, Ok, Err, map, ap, ◌∙◌, Resolution, Plain, IsPlain, resolution, empty_plain, max_of, after_reset, after_call, CallTo, IsCallOf, StandsWhereFits, State, Call, Reset, Command, Apply, End, command_of, at_command, ends_of, AfterCommand, EndsWith, IsEnd, AllZip, chosen_of, LogThenMerge, AllByRecursion, enumerate_from, Ratio, after_adds, Entry, Span, reading, thousandths, to_thousandths, max_thousandths, base64_of, base64_bytes, Piece, IsPiece, piece_text, text_of, said_by, is_read, IsV2, interval_piece, IsIntervalText, told_of, v2_at, IsReadAs, IsReadBack, ReadsV2, Filter, is_chosen, Merging, new_merging, past_interval, with_interval, BytesMerge, FieldMerges, IntervalMerges, MergesOn, EntriesMerge, DeserializeError, MergeError, Fault, Usage, parts, Run, ended_by, prepend, run_command, run_lines, IsLogText, has_too_great_count, IsReport, Task, greatest_into, filter_of, result_err, result_map_both, merge_fault, Reported, MergeReported, outputs_of, append-nil}
+use Rattle.hdr_tool.proofs.Common.{◌≡◌, ℕ, ◌-◌, ◌^◌, List, [], ◌∷◌, Option, Some, None, IfSome, refl, sym, subst, ◌+◌, ◌*◌, ◌<◌, Bool, true, false, cond, arith, length, slice_index, ◌++◌, MatchOption, Result, Ok, Err, map, ap, ◌∙◌, Resolution, Plain, IsPlain, resolution, empty_plain, max_of, after_reset, after_call, CallTo, IsCallOf, StandsWhereFits, State, Call, Reset, Command, Apply, End, command_of, at_command, ends_of, AfterCommand, EndsWith, IsEnd, AllZip, chosen_of, LogThenMerge, AllByRecursion, enumerate_from, Ratio, after_adds, Entry, Span, reading, thousandths_text, to_thousandths, max_thousandths, base64_of, base64_bytes, Piece, IsPiece, piece_text, text_of, said_by, is_read, IsV2, interval_piece, IsIntervalText, told_of, v2_at, IsReadAs, IsReadBack, ReadsV2, Filter, is_chosen, Merging, new_merging, past_interval, with_interval, BytesMerge, FieldMerges, IntervalMerges, MergesOn, EntriesMerge, DeserializeError, MergeError, Fault, Usage, parts, Run, ended_by, prepend, run_command, lines_run, IsLogText, has_too_great_count, IsReport, Task, greatest_into, filter_of, result_err, result_map_both, merge_fault, Reported, MergeReported, outputs_of, append-nil}
 use Rattle.hdr_tool.proofs.CommandsLines.{IsLineCommand, command_fine}
 use Rattle.std.specs.List.{cons_option, flat_map}
 use Rattle.hdr_log.specs.Grammar.{Interval}
@@ -98,14 +98,14 @@ command_ends k h None onward tail last e t = no_error _ last e
 command_ends k h (Some (Apply call)) onward tail last e t = t _ e
 command_ends k h (Some (End start duration tag)) onward tail last e t = end_ends (has_too_great_count h) (record { holds = h; tag = tag; start = start; duration = duration }) _ (onward (after_reset h)) (tail (after_reset h)) last e (t (after_reset h))
 
-ends_are : (lines : List (ℕ × List ℕ)) (h last : Plain) → (run_lines true h lines).ended ≡ Ok last → (run_lines true h lines).intervals ≡ ends_of h lines
+ends_are : (lines : List (ℕ × List ℕ)) (h last : Plain) → (lines_run true h lines).ended ≡ Ok last → (lines_run true h lines).intervals ≡ ends_of h lines
 ends_are [] h last e = refl
 ends_are ((k, []) ∷ lines) h last e = ends_are lines h last e
-ends_are ((k, b ∷ line) ∷ lines) h last e = command_ends k h (command_of (b ∷ line)) (λ g. run_lines true g lines) (λ g. ends_of g lines) last e (λ g f. ends_are lines g last f)
+ends_are ((k, b ∷ line) ∷ lines) h last e = command_ends k h (command_of (b ∷ line)) (λ g. lines_run true g lines) (λ g. ends_of g lines) last e (λ g f. ends_are lines g last f)
 
 -- what is read of an interval
 abbrev interval_of : Logged → Interval
-interval_of i = record { tag = i.tag; start = to_thousandths (i.start * 1_000_000) * 1_000_000; duration = to_thousandths (i.duration * 1_000_000) * 1_000_000; max = thousandths (max_thousandths (max_of i.histogram) 1); field = base64_of i.bytes }
+interval_of i = record { tag = i.tag; start = to_thousandths (i.start * 1_000_000) * 1_000_000; duration = to_thousandths (i.duration * 1_000_000) * 1_000_000; max = thousandths_text (max_thousandths (max_of i.histogram) 1); field = base64_of i.bytes }
 
 abbrev span_of : Logged → Entry
 span_of i = Span (interval_of i)
@@ -187,12 +187,12 @@ no_fault (Err f) e = absurd (let g = e in cc)
 
 -- the parts joined
 merged_log : (h : Plain) (lines : List (ℕ × List ℕ)) (fewer greatest : ℕ) (filter : Filter) (quantiles : List Ratio) (written text : List ℕ) (fault : Option Fault) → ReadsBack → AllByRecursion (λ (e : run.Interval Plain). IsPlain (2 ^ 64 - 1) e.holds) (ends_of h lines)
-    → IsLogText (run_lines true h lines).intervals written × (None ≡ result_err (run_lines true h lines).ended) → MergeReported greatest filter fewer quantiles written text fault
+    → IsLogText (lines_run true h lines).intervals written × (None ≡ result_err (lines_run true h lines).ended) → MergeReported greatest filter fewer quantiles written text fault
     → (fault ≡ None) × ((ks : List Plain) × AllZip IsReadBack (chosen_of filter (ends_of h lines)) ks × IsReport (after_adds greatest (empty_plain 1 2 fewer true) ks) quantiles text)
 merged_log h lines fewer greatest filter quantiles written text fault back plain d t =
-    let ok = no_fault (run_lines true h lines).ended d.1 in
+    let ok = no_fault (lines_run true h lines).ended d.1 in
     let L : List (run.Interval Plain) → Type 0 = λ es. Logs es written in
-    let l : Logs (ends_of h lines) written = subst L (ends_are lines h ok.0 ok.1) (logs_of (run_lines true h lines).intervals written d.0) in
+    let l : Logs (ends_of h lines) written = subst L (ends_are lines h ok.0 ok.1) (logs_of (lines_run true h lines).intervals written d.0) in
     let P : List (run.Interval Plain) → Type 0 = λ es. AllByRecursion (λ (e : run.Interval Plain). IsPlain (2 ^ 64 - 1) e.holds) es in
     let R : List (Result Entry ℕ) → Type 0 = λ xs. EntriesMerge greatest filter xs (new_merging fewer) t.0 in
     let read : reading written ≡ map is_read (map span_of l.intervals) = ap reading l.text_is ∙ log_read l.intervals l.each in

@@ -1,5 +1,5 @@
 -- What a task returns, by the result of its lines or its log.
-use Rattle.hdr_tool.proofs.Common.{◌≡◌, ℕ, List, [], ◌∷◌, ◌++◌, length, true, false, Option, Some, None, Result, Ok, Err, refl, sym, ap, ◌∙◌, subst, arith, Appends, IsAtEnd, Ratio, Plain, empty_plain, AppendsFront, Fault, Run, run_command, run_lines, IsLogText, Outputs, at_end, as_reached, Cause, Shortage, Output, Input, Misuse, cause_of, RunsAll, OnInput, Fails, LoggedFirst, Writes, ReadsTo, merge_fault, Command, Apply, End, command_of, number_lines, Task, Report, Log, Merge, run_input, result_err, Reported, outputs_of, MergeReported, Filter, IsMergeError, MergeError}
+use Rattle.hdr_tool.proofs.Common.{◌≡◌, ℕ, List, [], ◌∷◌, ◌++◌, length, true, false, Option, Some, None, Result, Ok, Err, refl, sym, ap, ◌∙◌, subst, arith, Appends, IsAtEnd, Ratio, Plain, empty_plain, AppendsFront, Fault, Run, run_command, lines_run, IsLogText, Outputs, at_end, as_reached, Cause, Resource, Output, Input, Misuse, cause_of, RunsAll, OnInput, Fails, LoggedFirst, Writes, ReadsTo, merge_fault, Command, Apply, End, command_of, number_lines, Task, Report, Log, Merge, input_run, result_err, Reported, outputs_of, MergeReported, Filter, IsMergeError, MergeError}
 use Rattle.hdr_tool.specs.Program.{Interval}
 use Rattle.hdr_tool.proofs.OutcomesRuns.{fails_on, appends_nothing, appends_both, some_input}
 use Rattle.hdrhistogram.specs.declared.serialization.interval_log.merge.MergeError.TheVariants.{Creation, Parse, Base64, Decode, OutOfMemory}
@@ -11,10 +11,10 @@ command_quiet k h None onward q = refl
 command_quiet k h (Some (Apply call)) onward q = q _
 command_quiet k h (Some (End start duration tag)) onward q = refl
 
-quiet : (lines : List (ℕ × List ℕ)) (h : Plain) → (run_lines false h lines).intervals ≡ []
+quiet : (lines : List (ℕ × List ℕ)) (h : Plain) → (lines_run false h lines).intervals ≡ []
 quiet [] h = refl
 quiet ((k, []) ∷ lines) h = quiet lines h
-quiet ((k, b ∷ line) ∷ lines) h = command_quiet k h (command_of (b ∷ line)) (λ g. run_lines false g lines) (λ g. quiet lines g)
+quiet ((k, b ∷ line) ∷ lines) h = command_quiet k h (command_of (b ∷ line)) (λ g. lines_run false g lines) (λ g. quiet lines g)
 
 front_none : (is js : List (Interval Plain)) → is ++ js ≡ [] → is ≡ []
 front_none [] js e = refl
@@ -30,7 +30,7 @@ no_front o n t e a = omega (arith, a.1, ap length e)
 module _ (sigfig : ℕ) (quantiles : List Ratio) (input : List ℕ) (o n : Option (List ℕ)) where
   -- what a report's lines wrote is nothing
   abbrev run : Run
-  run = run_input false sigfig input
+  run = input_run false sigfig input
 
   none : run.intervals ≡ []
   none = quiet (number_lines 1 (Some input)) (empty_plain 1 2 sigfig true)
@@ -48,7 +48,7 @@ module _ (sigfig : ℕ) (quantiles : List Ratio) (input : List ℕ) (o n : Optio
       nothing (λ text l g. absurd (no_front o n text (nothing text l) g)) a.0
 
   reads_by : (f : Fault) (m : Option (List ℕ)) (c : Cause) → Fails (as_reached run) o n c f → ReadsTo (λ _. Unit {0}) m c → ReadsTo IsAtEnd m c
-  reads_by f m Shortage a e = tt
+  reads_by f m Resource a e = tt
   reads_by f m Output a e = absurd (no_front o n a.0 (nothing a.0 a.1) a.2)
   reads_by f m Input a e = e
   reads_by f m Misuse a e = tt
@@ -68,13 +68,13 @@ module _ (sigfig : ℕ) (quantiles : List Ratio) (input : List ℕ) (o n : Optio
 -- not all of the input is read, or memory runs out before; nothing may be written, whatever the task
 nothing_early : (task : Task) (input : List ℕ) → (outputs_of task input).early []
 nothing_early (Report sigfig quantiles) input = refl
-nothing_early (Log sigfig) input = ([], (run_input true sigfig input).intervals, refl, refl)
+nothing_early (Log sigfig) input = ([], (input_run true sigfig input).intervals, refl, refl)
 nothing_early (Merge options sigfig quantiles) input = refl
 
-pub unread : (task : Task) (i o : Option (List ℕ)) (f : Fault) → cause_of f ≡ Shortage → OnInput i (λ input. Fails (outputs_of task input) o o (cause_of f) f)
+pub unread : (task : Task) (i o : Option (List ℕ)) (f : Fault) → cause_of f ≡ Resource → OnInput i (λ input. Fails (outputs_of task input) o o (cause_of f) f)
 unread task i o f e =
     let x = some_input i in
-    let none : Fails (outputs_of task x.0) o o Shortage f = ([], nothing_early task x.0, appends_nothing o) in (x.0, x.1, rw e none)
+    let none : Fails (outputs_of task x.0) o o Resource f = ([], nothing_early task x.0, appends_nothing o) in (x.0, x.1, rw e none)
 
 pub merge_refused : (greatest : ℕ) (filter : Filter) (sigfig : ℕ) (quantiles : List Ratio) (input : List ℕ) (o : Option (List ℕ)) (e : MergeError) → IsMergeError greatest filter sigfig input e
     → Writes {A = Unit {0}} (at_end (MergeReported greatest filter sigfig quantiles input)) o o (Err (merge_fault e))

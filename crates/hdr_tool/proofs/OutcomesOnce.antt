@@ -1,5 +1,5 @@
 -- Arguments and an input have one outcome.
-use Rattle.hdr_tool.proofs.Common.{◌≡◌, ℕ, ◌+◌, ◌-◌, ◌*◌, ◌^◌, Bool, true, false, List, [], ◌∷◌, ◌++◌, Option, Some, None, MatchOption, Result, Ok, Err, refl, sym, ap, ◌∙◌, subst, MatchBool, codes, option_map, Ratio, Plain, Entry, Start, Base, Span, reading, piece_text, base64_bytes, IsV2, IsWrittenAlike, v2_at, ReadsV2, Filter, Every, interval_piece, Merging, new_merging, with_interval, BytesMerge, FieldMerges, IntervalMerges, EntryMerges, MergesOn, EntriesMerge, AreChosen, DeserializeError, MergeError, Fault, Usage, Task, Report, Log, Merge, task_of, greatest_into, filter_of, merge_fault, quantile_line, has_too_great_count, run_input, Reported, result_map_both, outputs_of, Unread, told, OneOutcome}
+use Rattle.hdr_tool.proofs.Common.{◌≡◌, ℕ, ◌+◌, ◌-◌, ◌*◌, ◌^◌, Bool, true, false, List, [], ◌∷◌, ◌++◌, Option, Some, None, MatchOption, Result, Ok, Err, refl, sym, ap, ◌∙◌, subst, MatchBool, codes, option_map, Ratio, Plain, Entry, Start, Base, Span, reading, piece_text, base64_bytes, IsV2, IsWrittenAlike, v2_at, ReadsV2, Filter, Every, interval_piece, Merging, new_merging, with_interval, BytesMerge, FieldMerges, IntervalMerges, EntryMerges, MergesOn, EntriesMerge, AreChosen, DeserializeError, MergeError, Fault, Usage, Task, Report, Log, Merge, task_of, greatest_into, filter_of, merge_fault, quantile_line, has_too_great_count, input_run, Reported, result_map_both, outputs_of, Unread, told, OneOutcome}
 use Rattle.std.specs.List.{flat_map}
 use Rattle.std.specs.Fmt.{decimal}
 use Rattle.hex.specs.Hex.{encode_lower}
@@ -103,8 +103,8 @@ merged_once once quantiles (Err d) (Ok n) a b f g same p q = absurd same
 
 task_once : Once → (task : Task) (input a b : List ℕ) (f g : Option Fault) → (outputs_of task input).whole a f → (outputs_of task input).whole b g → (a ≡ b) × (option_map told f ≡ option_map told g)
 task_once once (Report sigfig quantiles) input a b f g p q =
-    let h = reported_once once quantiles (run_input false sigfig input).ended a b f g p q in (h.0, ap (option_map told) h.1)
-task_once once (Log sigfig) input a b f g p q = (text_once once (run_input true sigfig input).intervals a b p.0 q.0, ap (option_map told) (p.1 ∙ sym q.1))
+    let h = reported_once once quantiles (input_run false sigfig input).ended a b f g p q in (h.0, ap (option_map told) h.1)
+task_once once (Log sigfig) input a b f g p q = (text_once once (input_run true sigfig input).intervals a b p.0 q.0, ap (option_map told) (p.1 ∙ sym q.1))
 task_once once (Merge options sigfig quantiles) input a b f g p q =
     merged_once once quantiles p.0 q.0 a b f g (merge_once once (greatest_into options.into) (filter_of options) (reading input) (new_merging sigfig) p.0 q.0 p.1 q.1) p.2 q.2
 

@@ -36,30 +36,31 @@ LinesNeed is_log h [] = ⊥
 LinesNeed is_log h ((k, []) ∷ lines) = LinesNeed is_log h lines
 LinesNeed is_log h ((k, b ∷ line) ∷ lines) = CommandNeeds is_log h (command_of (b ∷ line)) (λ g. LinesNeed is_log g lines)
 
--- a part runs out of memory only if it needs memory, and all lines need what a part needs
+-- memory may run out in a part of the lines only if it is needed there. `Whole more` says that the
+-- part with `more` lines after it needs memory, and `Onward more` that these alone do
 abbrev pub Needs : {M A : Type 0} → (M → Type 0) → (M → Type 0) → Result A Fault → Type 0
 Needs {M = M} Whole Onward (Ok a) = (more : M) → Onward more → Whole more
 Needs {M = M} Whole Onward (Err NoMemory) = (more : M) → Whole more
 Needs Whole Onward (Err f) = Unit
 
--- what ends a run early: memory or the reader, the writer, the contents of the input, or the
--- arguments
+-- what ends a run early: memory that runs out or a reader that fails (Resource), a writer that fails
+-- (Output), the contents of the input, or the arguments (Misuse)
 pub data Cause : Type 0 where
-  Shortage : Cause
+  Resource : Cause
   Output : Cause
   Input : Cause
   Misuse : Cause
 
 abbrev pub cause_of : Fault → Cause
-cause_of NoMemory = Shortage
-cause_of CannotRead = Shortage
+cause_of NoMemory = Resource
+cause_of CannotRead = Resource
 cause_of CannotWrite = Output
 cause_of Usage = Misuse
 cause_of f = Input
 
 -- what a run that fails has written
 abbrev pub Fails : Outputs → Option (List ℕ) → Option (List ℕ) → Cause → Fault → Type 0
-Fails outputs old new Shortage f = (text : List ℕ) × outputs.early text × Appends old new text
+Fails outputs old new Resource f = (text : List ℕ) × outputs.early text × Appends old new text
 Fails outputs old new Output f = (text : List ℕ) × outputs.begun text × AppendsFront old new text
 Fails outputs old new Input f = (text : List ℕ) × outputs.whole text (Some f) × Appends old new text
 Fails outputs old new Misuse f = ⊥
@@ -77,17 +78,18 @@ RunsAll run old new result = Writes (as_reached run) old new result × IfOk resu
 abbrev pub OnInput : Option (List ℕ) → (List ℕ → Type 0) → Type 0
 OnInput known P = (input : List ℕ) × IfSome known (λ bytes. input ≡ bytes) × P input
 
--- outputs, whatever follows
-abbrev pub whatever : {M : Type 0} → (M → Outputs) → Outputs
-whatever {M = M} outputs =
+-- the outputs of a part of a run: those that hold whatever lines follow it
+abbrev pub whatever_follows : {M : Type 0} → (M → Outputs) → Outputs
+whatever_follows {M = M} outputs =
     record { whole = λ text fault. (more : M) → (outputs more).whole text fault; early = λ text. (more : M) → (outputs more).early text; begun = λ text. (more : M) → (outputs more).begun text }
 
--- whatever follows, the run is the intervals that are written, and then what is still to come; or
--- it fails, and its first intervals are written
-abbrev pub Goes : {M A : Type 0} → (M → Run) → (M → Run) → Option (List ℕ) → Option (List ℕ) → Result A Fault → Type 0
-Goes {M = M} whole onward old new (Ok a) =
+-- one step of a run. Whatever lines follow, the run from before the step (`whole`) is the intervals
+-- that the step writes and then the run from after it (`onward`); or the step fails, and the first
+-- intervals are written
+abbrev pub IsStep : {M A : Type 0} → (M → Run) → (M → Run) → Option (List ℕ) → Option (List ℕ) → Result A Fault → Type 0
+IsStep {M = M} whole onward old new (Ok a) =
     (is : List (Interval Plain)) × ((text : List ℕ) × IsLogText is text × Appends old new text) × ((more : M) → whole more ≡ prepend is (onward more))
-Goes whole onward old new (Err f) = Fails (whatever (λ more. as_reached (whole more))) old new (cause_of f) f
+IsStep whole onward old new (Err f) = Fails (whatever_follows (λ more. as_reached (whole more))) old new (cause_of f) f
 
 -- all of the input is read before a `Fault` of it is returned. Leaves holds of the rest of the
 -- input if the writer fails.

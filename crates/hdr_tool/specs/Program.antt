@@ -67,18 +67,18 @@ run_command true k h (Some (End start duration tag)) onward = run_end k h start 
 run_command is_log k h c onward = ended_by (Err (NotACommand k))
 
 -- numbered lines in order, up to the first `Fault`; an empty one changes nothing
-abbrev pub run_lines : Bool → Plain → List (ℕ × List ℕ) → Run
-run_lines is_log h [] = ended_by (Ok h)
-run_lines is_log h ((k, []) ∷ lines) = run_lines is_log h lines
-run_lines is_log h ((k, b ∷ line) ∷ lines) = run_command is_log k h (command_of (b ∷ line)) (λ g. run_lines is_log g lines)
+abbrev pub lines_run : Bool → Plain → List (ℕ × List ℕ) → Run
+lines_run is_log h [] = ended_by (Ok h)
+lines_run is_log h ((k, []) ∷ lines) = lines_run is_log h lines
+lines_run is_log h ((k, b ∷ line) ∷ lines) = run_command is_log k h (command_of (b ∷ line)) (λ g. lines_run is_log g lines)
 
 -- the lines of the rest of a text, the first of which has this number, and then more lines
-abbrev pub run_rest : Bool → Plain → ℕ → Option (List ℕ) → List (ℕ × List ℕ) → Run
-run_rest is_log h number left more = run_lines is_log h (number_lines number left ++ more)
+abbrev pub rest_run : Bool → Plain → ℕ → Option (List ℕ) → List (ℕ × List ℕ) → Run
+rest_run is_log h number left more = lines_run is_log h (number_lines number left ++ more)
 
 -- the lines of an input, run on an empty histogram that grows: those of a report, and those of a log
-abbrev pub run_input : Bool → ℕ → List ℕ → Run
-run_input is_log sigfig input = run_lines is_log (empty_plain 1 2 sigfig true) (number_lines 1 (Some input))
+abbrev pub input_run : Bool → ℕ → List ℕ → Run
+input_run is_log sigfig input = lines_run is_log (empty_plain 1 2 sigfig true) (number_lines 1 (Some input))
 
 -- the text of intervals, one after another
 abbrev pub IsLogText : List (Interval Plain) → List ℕ → Type 0
@@ -112,12 +112,13 @@ abbrev pub MergeReported : ℕ → Filter → ℕ → List Ratio → List ℕ �
 MergeReported greatest filter sigfig quantiles input text fault =
     (r : Result Merging MergeError) × Merges greatest filter sigfig input r × Reported quantiles (result_map_both (λ m. m.histogram) merge_fault r) text fault
 
--- what a run may have written: all of its output, with the `Fault` that ends it; what memory that
--- runs out or a reader that fails leaves (early); and what is being written if the writer fails,
--- which then has a proper prefix of it (begun)
+-- the texts that a run may have written, by how it ends
 pub record Outputs : Type 1 where
+  -- all of its output, and the `Fault` that ends it, if one does
   pub whole : List ℕ → Option Fault → Type 0
+  -- what is written when memory runs out or the reader fails
   pub early : List ℕ → Type 0
+  -- a text of which the writer has a proper prefix when it fails
   pub begun : List ℕ → Type 0
 
 -- a report is written at the end
@@ -130,8 +131,8 @@ as_reached run = record { whole = Logged run; early = LoggedFirst run; begun = L
 
 -- the outputs of a task: a report of the histogram after the lines, a log, or a report of a merged log
 abbrev pub outputs_of : Task → List ℕ → Outputs
-outputs_of (Report sigfig quantiles) input = at_end (Reported quantiles (run_input false sigfig input).ended)
-outputs_of (Log sigfig) input = as_reached (run_input true sigfig input)
+outputs_of (Report sigfig quantiles) input = at_end (Reported quantiles (input_run false sigfig input).ended)
+outputs_of (Log sigfig) input = as_reached (input_run true sigfig input)
 outputs_of (Merge options sigfig quantiles) input = at_end (MergeReported (greatest_into options.into) (filter_of options) sigfig quantiles input)
 
 -- what is left of the input if the writer fails: a log is written while its input is read, and ends

@@ -15,11 +15,11 @@ use std::time::Duration;
 /// The task that the arguments request.
 #[derive(Clone, Copy)]
 pub(crate) enum Task<'a> {
-    /// Report these quantiles, with a histogram of this many digits.
+    /// Report these quantiles, with a histogram of this many significant digits.
     Report(u8, &'a [String]),
-    /// Write a log, with a histogram of this many digits.
+    /// Write a log, with a histogram of this many significant digits.
     Log(u8),
-    /// Report these quantiles of a log's chosen intervals, with a histogram of this many digits.
+    /// Report these quantiles of a log's chosen intervals, with a histogram of this many significant digits.
     Merge(Options<'a>, u8, &'a [String]),
 }
 
@@ -62,7 +62,7 @@ pub(crate) fn parse(arguments: &[String]) -> Option<Task<'_>>
     let (name, arguments) = arguments.split_first()?;
     let name = name.as_bytes();
     if name == b"report".as_slice() {
-        let (sigfig, quantiles) = figures(arguments)?;
+        let (sigfig, quantiles) = sigfig_and_quantiles(arguments)?;
         Some(Task::Report(sigfig, quantiles))
     } else if name == b"log".as_slice() {
         let [digit] = arguments else {
@@ -71,14 +71,14 @@ pub(crate) fn parse(arguments: &[String]) -> Option<Task<'_>>
         Some(Task::Log(sigfig(digit.as_bytes())?))
     } else if name == b"merge".as_slice() {
         let (options, arguments) = take_options(arguments)?;
-        let (sigfig, quantiles) = figures(arguments)?;
+        let (sigfig, quantiles) = sigfig_and_quantiles(arguments)?;
         Some(Task::Merge(options, sigfig, quantiles))
     } else {
         None
     }
 }
 
-/// Parses the options before the digits, and returns them with the arguments from the digits on.
+/// Parses the options before SIGFIG, and returns them with the arguments from SIGFIG on.
 /// Returns `None` if an option is invalid or set twice.
 fn take_options(arguments: &[String]) -> Option<(Options<'_>, &[String])>
     ensures { option_map (λ p. (view_of_options p.0, map string_bytes p.1.now)) result
@@ -141,22 +141,18 @@ fn with_option<'a>(options: Options<'a>, name: &[u8], value: &'a str) -> Option<
 fn counter(name: &[u8]) -> Option<CounterType>
     ensures { result ≡ counter_of name.now }
 {
-    if name == b"u8".as_slice() {
-        Some(CounterType::U8)
-    } else if name == b"u16".as_slice() {
-        Some(CounterType::U16)
-    } else if name == b"u32".as_slice() {
-        Some(CounterType::U32)
-    } else if name == b"u64".as_slice() {
-        Some(CounterType::U64)
-    } else {
-        None
+    match name {
+        b"u8" => Some(CounterType::U8),
+        b"u16" => Some(CounterType::U16),
+        b"u32" => Some(CounterType::U32),
+        b"u64" => Some(CounterType::U64),
+        _ => None,
     }
 }
 
-/// Parses the digits, and returns them with the arguments after them. Returns `None` unless these
-/// are quantiles, one or more.
-fn figures(arguments: &[String]) -> Option<(u8, &[String])>
+/// Parses SIGFIG, the number of significant digits, and returns it with the arguments after it.
+/// Returns `None` unless these are quantiles, one or more.
+fn sigfig_and_quantiles(arguments: &[String]) -> Option<(u8, &[String])>
     ensures { option_map (λ f. (f.0, filter_map fraction_of (map string_bytes f.1.now))) result
         ≡ figures_of (map string_bytes arguments.now) }
 {

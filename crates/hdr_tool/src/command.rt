@@ -1,4 +1,6 @@
-//! The commands of lines.
+//! The commands of lines: `r V [N]` records the value V, N times; `s V [N]` records it clamped to the
+//! bins; `c V I [N]` records it corrected at the expected interval I; `clear` and `reset` are calls
+//! of the histogram; `end START DURATION [TAG]` ends an interval of a log.
 
 ghost use Rattle.std.specs.Prelude.{◌≡◌, IfSome, Some, None};
 ghost use Rattle.std.specs.Option.{option_map};

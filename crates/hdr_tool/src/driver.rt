@@ -6,14 +6,14 @@ ghost use Rattle.hdr_model.specs.Plain.{IsPlain};
 ghost use Rattle.hdr_log.specs.Tags.{tag_text};
 ghost use Rattle.hdrhistogram.specs.LogWriters.{sink, divisor_of, IsSameLog};
 ghost use Rattle.hdr_tool.specs.Commands.{number_lines};
-ghost use Rattle.hdr_tool.specs.Outcomes.{LinesNeed, Needs, Goes, RunsAll, OnInput, ReadsAll};
-ghost use Rattle.hdr_tool.specs.Program.{run_end, run_lines, run_rest, run_input};
+ghost use Rattle.hdr_tool.specs.Outcomes.{LinesNeed, Needs, IsStep, RunsAll, OnInput, ReadsAll};
+ghost use Rattle.hdr_tool.specs.Program.{run_end, lines_run, rest_run, input_run};
 
 use crate::command::{Command, parse, value_line};
 use crate::fault::Fault;
 use crate::lines::split_first;
 use crate::parts::{replace, take_lines};
-use crate::stream::{PIECE, read_piece, told_at_end};
+use crate::stream::{PIECE, fault_after_rest, read_piece};
 use hdrhistogram::Histogram;
 use hdrhistogram::serialization::interval_log::{IntervalLogWriter, IntervalLogWriterError, Tag};
 use hdrhistogram::serialization::{V2SerializeError, V2Serializer};
@@ -21,8 +21,8 @@ use std::alloc::Global;
 use std::io::{Read, Write};
 use std::time::Duration;
 
-/// Shows that every histogram is plain (`IsPlain`). It has no effect.
-fn is_plain(histogram: &Histogram<u64>)
+/// For the prover alone: the histogram is plain (`IsPlain`). It does nothing.
+fn show_plain(histogram: &Histogram<u64>)
     ensures { IsPlain (2 ^ 64 - 1) histogram.now }
 {
     let _bins = histogram.distinct_values();
@@ -39,12 +39,12 @@ fn end<W: Write>(
 ) -> Result<(), Fault>
     requires { divisor_of log.old ≡ 1 }
     ensures same_log { IsSameLog log.old log.new }
-    ensures goes { Goes (run_end line histogram.old start duration (option_map tag_text tag.entry))
+    ensures goes { IsStep (run_end line histogram.old start duration (option_map tag_text tag.entry))
         (λ next. next histogram.new)
         (W.contents (sink log.old).now) (W.contents (sink log.new).now) result }
     ensures grows { histogram.new.auto_resize ≡ histogram.old.auto_resize }
 {
-    is_plain(histogram);
+    show_plain(histogram);
     let start = Duration::from_millis(start);
     let duration = Duration::from_millis(duration);
     match log.write_histogram(histogram, start, duration, tag) {
@@ -73,13 +73,13 @@ fn run_line<W: Write>(
     line: &[u8],
     log: &mut IntervalLogWriter<'_, '_, W, V2Serializer>,
 ) -> Result<(), Fault>
-    // Greatest values are not divided, and the histogram grows.
+    // The log's divisor of greatest values is 1, and auto-resize is on.
     requires divisor { divisor_of log.old ≡ 1 }
     requires grows { histogram.old.auto_resize ≡ true }
     // What is written, and when memory may run out.
     ensures same_log { IsSameLog log.old log.new }
-    ensures goes { Goes (λ more. run_lines is_log histogram.old ((number, line.now) ∷ more))
-        (run_lines is_log histogram.new)
+    ensures goes { IsStep (λ more. lines_run is_log histogram.old ((number, line.now) ∷ more))
+        (lines_run is_log histogram.new)
         (W.contents (sink log.old).now) (W.contents (sink log.new).now) result }
     ensures memory { Needs (λ more. LinesNeed is_log histogram.old ((number, line.now) ∷ more))
         (LinesNeed is_log histogram.new) result }
@@ -110,41 +110,42 @@ fn run_lines<W: Write>(
     text: &[u8],
     log: &mut IntervalLogWriter<'_, '_, W, V2Serializer>,
 ) -> Result<u64, Fault>
-    // Greatest values are not divided, and the histogram grows.
+    // The log's divisor of greatest values is 1, and auto-resize is on.
     requires divisor { divisor_of log.old ≡ 1 }
     requires grows { histogram.old.auto_resize ≡ true }
     // What is written, and when memory may run out.
     ensures same_log { IsSameLog log.old log.new }
-    ensures goes { Goes (run_rest is_log histogram.old number (Some text.now))
-        (run_lines is_log histogram.new)
+    ensures goes { IsStep (rest_run is_log histogram.old number (Some text.now))
+        (lines_run is_log histogram.new)
         (W.contents (sink log.old).now) (W.contents (sink log.new).now) result }
     ensures memory { Needs (λ more. LinesNeed is_log histogram.old
         (number_lines number (Some text.now) ++ more)) (LinesNeed is_log histogram.new) result }
-    // The histogram still grows, and the numbers of lines go on.
+    // Auto-resize stays on, and the numbers of lines go on.
     ensures grows { histogram.new.auto_resize ≡ true }
     ensures next { IfOk result (λ next. next
         ≡ number + length (number_lines number (Some text.now))) }
 {
-    let mut next = number;
+    let mut current = number;
     let mut left = Some(text);
     while let Some(text) = left {
-        let Some(number) = next.checked_add(1) else {
+        // No input has 2^64 lines.
+        let Some(following) = current.checked_add(1) else {
             return Err(Fault::CannotRead);
         };
         if let Some((call, after)) = value_line(text) {
             let Ok(()) = histogram.apply(&call) else {
                 return Err(Fault::NoMemory);
             };
-            next = number;
+            current = following;
             left = Some(after);
             continue;
         }
         let (line, after) = split_first(text, b'\n');
-        run_line(is_log, histogram, next, line, log)?;
-        next = number;
+        run_line(is_log, histogram, current, line, log)?;
+        current = following;
         left = after;
     }
-    Ok(next)
+    Ok(current)
 }
 
 /// Runs the lines of all of the input as they are read, up to the first error, and returns the
@@ -157,20 +158,21 @@ fn run_input<R: Read, W: Write>(
     piece: &mut [u8],
     log: &mut IntervalLogWriter<'_, '_, W, V2Serializer>,
 ) -> Result<Histogram<u64>, Fault>
-    // Greatest values are not divided, the histogram grows, and `piece` is not empty.
+    // The log's divisor of greatest values is 1, auto-resize is on, and `piece` is not empty.
     requires divisor { divisor_of log.old ≡ 1 }
     requires grows { histogram.auto_resize ≡ true }
     requires nonempty { 0 < length piece.old }
     // What is written.
     ensures same_log { IsSameLog log.old log.new }
     ensures runs { OnInput (R.remaining reader.old) (λ input. RunsAll
-        (run_lines is_log histogram (number_lines 1 (Some input)))
+        (lines_run is_log histogram (number_lines 1 (Some input)))
         (W.contents (sink log.old).now) (W.contents (sink log.new).now) result) }
     // What is read.
     ensures reads { ReadsAll (λ _. Unit {0}) (R.remaining reader.new) result }
 {
     let mut carry = Vec::new(alloc);
     let mut number = 1;
+    // The loop is bounded as those of `stream.rt`.
     for _ in 0..u64::MAX {
         let count = read_piece(reader, piece)?;
         if count == 0 {
@@ -182,7 +184,7 @@ fn run_input<R: Read, W: Write>(
         };
         number = match run_lines(is_log, &mut histogram, number, &carry, log) {
             Ok(next) => next,
-            Err(fault) => return Err(told_at_end(reader, piece, fault)),
+            Err(fault) => return Err(fault_after_rest(reader, piece, fault)),
         };
         replace(&mut carry, tail)?;
     }
@@ -198,7 +200,7 @@ pub(crate) fn run_task<R: Read, W: Write>(
     reader: &mut R,
     writer: &mut W,
 ) -> Result<Histogram<u64>, Fault>
-    ensures runs { OnInput (R.remaining reader.old) (λ input. RunsAll (run_input is_log sigfig input)
+    ensures runs { OnInput (R.remaining reader.old) (λ input. RunsAll (input_run is_log sigfig input)
         (W.contents writer.old) (W.contents writer.new) result) }
     ensures reads { ReadsAll (λ _. Unit {0}) (R.remaining reader.new) result }
 {

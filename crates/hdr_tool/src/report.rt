@@ -12,22 +12,7 @@ use hdrhistogram::{Counter, Histogram, Quantile};
 use std::alloc::{AllocError, Global};
 use std::io::Write;
 
-/// Appends the line of a quantile to `text`.
-fn push_quantile<T: Counter>(
-    text: &mut String,
-    histogram: &Histogram<T>,
-    quantile: Quantile,
-) -> Result<(), AllocError>
-    ensures { OnOk result (string_bytes text.new ≡ string_bytes text.old
-        ++ quantile_line histogram.now quantile) }
-{
-    let num = quantile.num();
-    let den = quantile.den();
-    let value = histogram.value_at_quantile(quantile);
-    writeln!(text, "{num}/{den} {value}")
-}
-
-/// Appends the lines of the quantiles, in order.
+/// Appends a line for each quantile, in order.
 fn push_quantiles<T: Counter>(
     text: &mut String,
     histogram: &Histogram<T>,
@@ -37,7 +22,8 @@ fn push_quantiles<T: Counter>(
         (quantile_line histogram.now) quantiles.now) }
 {
     for quantile in quantiles {
-        push_quantile(text, histogram, *quantile)?;
+        let value = histogram.value_at_quantile(*quantile);
+        writeln!(text, "{}/{} {value}", quantile.num(), quantile.den())?;
     }
     Ok(())
 }

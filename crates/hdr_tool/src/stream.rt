@@ -1,9 +1,11 @@
 //! Reads inputs and writes outputs. Interrupted reads and writes are retried, whatever the command.
+//! Loops that end with the input are bounded by `u64::MAX`, since each loop has to be proved to end;
+//! no input reaches that bound.
 
 ghost use Rattle.std.specs.Prelude.{◌≡◌, ◌<◌, ◌≤◌, [], length, take, OnOk, IfOk, IfErr, IfSome, ◌⊎◌};
 ghost use Rattle.std.specs.Io.KnownBytes.{Appends, Consumes, IsAtEnd};
 ghost use Rattle.hdrhistogram.specs.Streams.{AppendsFront};
-ghost use Rattle.hdr_tool.specs.Outcomes.{Shortage, Input, cause_of, ReadsTo};
+ghost use Rattle.hdr_tool.specs.Outcomes.{Resource, Input, cause_of, ReadsTo};
 
 use crate::fault::Fault;
 use std::alloc::Global;
@@ -18,7 +20,7 @@ pub(crate) fn read_to_end<R: Read>(alloc: Global, reader: &mut R) -> Result<Vec<
     ensures ok { IfOk result (λ input. IfSome (R.remaining reader.old)
         (λ bytes. input.items ≡ bytes)) }
     ensures end { OnOk result (IsAtEnd (R.remaining reader.new)) }
-    ensures err { IfErr result (λ f. cause_of f ≡ Shortage) }
+    ensures err { IfErr result (λ f. cause_of f ≡ Resource) }
 {
     let mut piece = vec![in alloc; 0u8; PIECE]?;
     let mut input = Vec::new(alloc);
@@ -33,7 +35,7 @@ fn read_pieces<R: Read>(reader: &mut R, piece: &mut [u8], input: &mut Vec<u8>) -
     ensures ok { OnOk result
         (Consumes (R.remaining reader.old) (R.remaining reader.new) input.new.items) }
     ensures end { OnOk result (IsAtEnd (R.remaining reader.new)) }
-    ensures err { IfErr result (λ f. cause_of f ≡ Shortage) }
+    ensures err { IfErr result (λ f. cause_of f ≡ Resource) }
 {
     for _ in 0..u64::MAX {
         let count = read_piece(reader, piece)?;
@@ -68,12 +70,11 @@ pub(crate) fn read_piece<R: Read>(reader: &mut R, piece: &mut [u8]) -> Result<us
     Err(Fault::CannotRead)
 }
 
-/// Returns the error of a run in which a line has the error `fault`. The rest of the input is read
-/// first and dropped; if the reader fails meanwhile, that error is returned instead. An error of
-/// memory or of a stream is returned at once.
-pub(crate) fn told_at_end<R: Read>(reader: &mut R, piece: &mut [u8], fault: Fault) -> Fault
+/// Reads the rest of the input, drops it, and returns `fault`, the error of a line. If the reader fails
+/// meanwhile, that error is returned instead. An error of memory or of a stream is returned at once.
+pub(crate) fn fault_after_rest<R: Read>(reader: &mut R, piece: &mut [u8], fault: Fault) -> Fault
     requires { 0 < length piece.old }
-    ensures told { (result ≡ fault) ⊎ ((cause_of fault ≡ Input) × (cause_of result ≡ Shortage)) }
+    ensures fault { (result ≡ fault) ⊎ ((cause_of fault ≡ Input) × (cause_of result ≡ Resource)) }
     ensures end { ReadsTo (λ _. Unit {0}) (R.remaining reader.new) (cause_of result) }
 {
     if matches!(

@@ -1,5 +1,5 @@
 -- The Adler-32 checksum.
-use Rattle.std.specs.Prelude.{ℕ, ◌+◌, ◌*◌, ◌%◌, List, [], ◌∷◌, length}
+use Rattle.std.specs.Prelude.{ℕ, ◌+◌, ◌*◌, ◌%◌, List, [], ◌∷◌}
 
 -- The sums of bytes that follow others: of the bytes themselves, and of these sums after each byte. Both are reduced.
 abbrev pub sums_after : ℕ → ℕ → List ℕ → ℕ

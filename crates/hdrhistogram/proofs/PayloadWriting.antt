@@ -210,13 +210,14 @@ encode_run counts out to old index next written further e some h zeros full more
       small = small_past counts index next e.small zeros;
     }
 
--- the next nonempty bin after an empty one
-pub past_empty : (counts : List ℕ) (index next : ℕ) → index < length counts → get_or counts index 0 ≡ 0 → index ≤ next → (next < length counts → 0 < get_or counts next 0) → index < next
-past_empty counts index next h empty on full =
-    ⊎_elim (λ (lt : index < next). lt) (λ (le : next ≤ index).
-    let same : next ≡ index = omega arith in
-    absurd (omega (arith, full (omega arith), ap (λ i. get_or counts i 0) same, empty)))
-    (cases_lt index next)
+-- the numbers from an empty one on are empty, if those after it are
+pub empty_from : (counts : List ℕ) (index next : ℕ) → get_or counts index 0 ≡ 0 → ((i : ℕ) → index + 1 ≤ i → i < next → get_or counts i 0 ≡ 0)
+    → (i : ℕ) → index ≤ i → i < next → get_or counts i 0 ≡ 0
+empty_from counts index next empty rest i le lt =
+    ⊎_elim (λ (after : index < i). rest i (omega arith) lt) (λ (here : i ≤ index).
+    let same : i ≡ index = omega arith in
+    ap (λ k. get_or counts k 0) same ∙ empty)
+    (cases_lt index i)
 
 -- a nonempty bin
 pub encode_full : (counts out to old : List ℕ) (index written further : ℕ) → IsEncodedTo counts out old index written → index < length counts

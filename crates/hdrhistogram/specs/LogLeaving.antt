@@ -8,8 +8,8 @@ use Rattle.hdrhistogram.specs.Streams.{AppendsFront}
 use Rattle.hdrhistogram.specs.declared.serialization.interval_log.errors.IntervalLogWriterError.{IntervalLogWriterError}
 use Rattle.hdrhistogram.specs.declared.serialization.interval_log.errors.IntervalLogWriterError.TheVariants.{SerializeError, IoError, TimeOutOfRange, OutOfMemory}
 
--- Output of which P holds is not written: after an i/o error a proper prefix of it is, and after
--- any other error nothing. Q holds of the serializer's error.
+-- On error at most a part of the output is written, of which P holds: a proper prefix after an i/o
+-- error, and nothing after any other. Q holds of the serializer's error.
 abbrev pub WriteFails : {E : Type 0} → (List ℕ → Type 0) → (E → Type 0) → Option (List ℕ) → Option (List ℕ) → IntervalLogWriterError E → Type 0
 WriteFails P Q old new (SerializeError e) = Q e × Keeps old new
 WriteFails P Q old new (IoError e) = (text : List ℕ) × P text × AppendsFront old new text

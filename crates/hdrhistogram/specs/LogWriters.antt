@@ -15,8 +15,8 @@ abbrev pub sink : {W S : Type 0} → IntervalLogWriter W S → MutBor W
 sink log = log.writer
 
 -- the serializer of histograms
-abbrev pub maker : {W S : Type 0} → IntervalLogWriter W S → MutBor S
-maker log = log.serializer
+abbrev pub serializer_of : {W S : Type 0} → IntervalLogWriter W S → MutBor S
+serializer_of log = log.serializer
 
 -- the divisor of greatest values
 abbrev pub divisor_of : {W S : Type 0} → IntervalLogWriter W S → ℕ
@@ -25,7 +25,7 @@ divisor_of log = log.max_value_divisor
 -- it still has the same writer, serializer and divisor
 pub record IsSameLog {W S : Type 0} (old new : IntervalLogWriter W S) : Type 0 where
   pub writer : (sink new).ghost_name ≡ (sink old).ghost_name
-  pub serializer : (maker new).ghost_name ≡ (maker old).ghost_name
+  pub serializer : (serializer_of new).ghost_name ≡ (serializer_of old).ghost_name
   pub divisor : divisor_of new ≡ divisor_of old
 
 -- the line that a writer writes of a histogram's interval, by the arguments of the call

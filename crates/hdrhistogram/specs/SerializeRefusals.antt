@@ -21,8 +21,8 @@ IsSerializeError h UsizeTypeTooSmall = ⊥
 IsSerializeError h (IoError e) = Unit {0}
 IsSerializeError h OutOfMemory = Unit {0}
 
--- the histogram is not written: after an i/o error a proper prefix of its bytes is, and after any
--- other error nothing
+-- on error at most a part of the bytes is written: a proper prefix after an i/o error, and nothing
+-- after any other
 abbrev pub SerializeFails : Plain → Option (List ℕ) → Option (List ℕ) → V2SerializeError → Type 0
 SerializeFails h old new CountNotSerializable = HasTooGreatCount h × Keeps old new
 SerializeFails h old new UsizeTypeTooSmall = ⊥

@@ -1,13 +1,14 @@
 //! `hdrstat check`.
 
+use crate::console_of;
 use crate::error::StatError;
-use crate::files::Console;
-use crate::input::read_parts;
 use crate::output::print;
-use crate::reading::{parse_reading, unit_of};
 use clap::ArgMatches;
+use hdr_files::input::read_parts;
+use hdr_options::UsageError;
+use hdr_options::reading::{parse_reading, unit_of};
 use hdr_summary::figures::Tagged;
-use hdr_summary::levels::{Level, parse_level};
+use hdr_summary::levels::{Level, keeps_all, parse_level};
 use hdr_summary::units::Unit;
 use std::alloc::Global;
 use std::process::ExitCode;
@@ -30,26 +31,23 @@ fn levels_of<'a>(
             },
             None => {
                 let why = "is not a level, such as p99<200, max<=1.5 or, with --unit, p99<200ms";
-                return Err(StatError::usage(alloc, *argument, why));
+                return Err(UsageError::new(alloc, *argument, why).into());
             }
         }
     }
     Ok(levels)
 }
 
-/// Appends a line for each level of a distribution, and returns whether all are kept.
+/// Appends a line for each level of a distribution.
 fn push_verdicts(
     alloc: Global,
     text: &mut String,
     part: &Tagged,
     levels: &[Level<'_>],
-) -> Result<bool, StatError> {
-    let mut all_kept = true;
+) -> Result<(), StatError> {
     for level in levels {
         let value = level.value(alloc, &part.distribution)?;
-        // Without a value no level is broken: an empty input is accepted.
-        let is_kept = value.is_none() || level.is_kept(&part.distribution);
-        all_kept = all_kept && is_kept;
+        let is_kept = level.is_kept(&part.distribution);
         let word = if is_kept { "kept" } else { "broken" };
         let written = level.text;
         write!(text, "{word} {written} ")?;
@@ -62,7 +60,7 @@ fn push_verdicts(
         }
         text.push('\n')?;
     }
-    Ok(all_kept)
+    Ok(())
 }
 
 /// Whether nothing was recorded.
@@ -79,17 +77,18 @@ pub(crate) fn check(rt: &HostRuntime, matches: &ArgMatches<'_>) -> Result<ExitCo
     let arguments = matches.get_strs("LEVEL").unwrap_or(&[]);
     let levels = levels_of(alloc, arguments, unit_of(matches))?;
     let names = matches.get_strs("input").unwrap_or(&[]);
-    let parts = read_parts(Console::new(rt, matches), names, &reading)?;
+    let parts = read_parts(console_of(rt, matches), names, &reading)?;
     if is_empty(&parts) && !matches.get_flag("allow-empty") {
         let _ = eprintln!(rt; "hdrstat: no numbers; --allow-empty accepts an empty input");
         return Ok(ExitCode::from(BROKEN));
     }
     let mut text = String::new(alloc);
-    let mut all_kept = true;
     for part in &parts {
-        let kept = push_verdicts(alloc, &mut text, part, &levels)?;
-        all_kept = all_kept && kept;
+        push_verdicts(alloc, &mut text, part, &levels)?;
     }
     print(rt, text.as_bytes())?;
+    let all_kept = parts
+        .iter()
+        .all(|part| keeps_all(&part.distribution, &levels));
     Ok(ExitCode::from(if all_kept { 0 } else { BROKEN }))
 }

@@ -1,11 +1,11 @@
 //! `hdrstat convert`.
 
+use crate::console_of;
 use crate::error::StatError;
-use crate::files::Console;
-use crate::input::read_log_lines;
 use crate::output::print;
 use clap::ArgMatches;
 use hdr_convert::{Form, convert_line};
+use hdr_files::input::read_log_lines;
 use hdr_input::InputError;
 use hdr_input::log_lines::split_log_line;
 use hdr_input::pieces::LineSink;
@@ -75,10 +75,13 @@ pub(crate) fn convert(rt: &HostRuntime, matches: &ArgMatches<'_>) -> Result<Exit
         failed: None,
     };
     let names = matches.get_strs("LOG").unwrap_or(&[]);
-    let read = read_log_lines(Console::new(rt, matches), names, &mut conversion);
+    let read = read_log_lines(console_of(rt, matches), names, &mut conversion);
     let Conversion { failed, .. } = conversion;
     match failed {
         Some(error) => Err(error),
-        None => read.map(|()| ExitCode::SUCCESS),
+        None => {
+            read?;
+            Ok(ExitCode::SUCCESS)
+        }
     }
 }

@@ -1,11 +1,15 @@
 //! Why the program does not do what its arguments ask for.
 
+ghost use Rattle.std.specs.Prelude.{◌≡◌};
+ghost use Rattle.hdrstat.specs.Statuses.{status_of};
+
+use hdr_files::FileError;
 use hdr_gather::GatherError;
-use hdr_input::InputError;
+use hdr_options::UsageError;
 use hdr_page::PageError;
 use hdrhistogram::serialization::V2SerializeError;
 use hdrhistogram::serialization::interval_log::{CommentError, IntervalLogWriterError};
-use std::alloc::{AllocError, AllocFailed, Global};
+use std::alloc::{AllocError, AllocFailed};
 use std::io;
 use thiserror::Error;
 
@@ -15,12 +19,9 @@ pub(crate) enum StatError {
     /// An argument is invalid in a way that clap does not check.
     #[error("{0}")]
     Usage(String),
-    /// A file, or standard input, is not read.
-    #[error("{file}: {cause}")]
-    Input { file: String, cause: InputError },
-    /// A file is not opened.
-    #[error("{file}: {cause}")]
-    File { file: String, cause: io::Error },
+    /// Files are not read, or one is not written.
+    #[error("{0}")]
+    Files(FileError),
     /// Logs are not gathered.
     #[error("{file}: {cause}")]
     Gather { file: String, cause: GatherError },
@@ -47,28 +48,20 @@ impl From<CommentError> for StatError {
     }
 }
 
-impl StatError {
-    /// Returns the usage error of an argument: the argument in quotes, and what follows.
-    pub(crate) fn usage(alloc: Global, argument: &str, text: &str) -> StatError {
-        match format!(in alloc; "'{argument}' {text}") {
-            Ok(text) => StatError::Usage(text),
-            Err(_) => StatError::OutOfMemory,
+impl From<UsageError> for StatError {
+    fn from(error: UsageError) -> StatError {
+        match error {
+            UsageError::Argument(text) => StatError::Usage(text),
+            UsageError::OutOfMemory => StatError::OutOfMemory,
         }
     }
+}
 
-    /// Returns the error of a file that is not read.
-    pub(crate) fn input(alloc: Global, file: &str, cause: InputError) -> StatError {
-        match (String::from_str(alloc, file), cause) {
-            (Err(_), _) | (_, InputError::OutOfMemory) => StatError::OutOfMemory,
-            (Ok(file), cause) => StatError::Input { file, cause },
-        }
-    }
-
-    /// Returns the error of a file that is not opened.
-    pub(crate) fn file(alloc: Global, file: &str, cause: io::Error) -> StatError {
-        match String::from_str(alloc, file) {
-            Ok(file) => StatError::File { file, cause },
-            Err(_) => StatError::OutOfMemory,
+impl From<FileError> for StatError {
+    fn from(error: FileError) -> StatError {
+        match error {
+            FileError::OutOfMemory => StatError::OutOfMemory,
+            error => StatError::Files(error),
         }
     }
 }
@@ -76,5 +69,17 @@ impl StatError {
 impl<T: Drop> From<AllocFailed<T>> for StatError {
     fn from(_error: AllocFailed<T>) -> StatError {
         StatError::OutOfMemory
+    }
+}
+
+impl StatError {
+    /// Returns the exit status: 2 for a usage error, and 1 for any other.
+    pub(crate) fn status(&self) -> u8
+        ensures { result ≡ status_of self.now }
+    {
+        match self {
+            StatError::Usage(_) => 2,
+            _ => 1,
+        }
     }
 }

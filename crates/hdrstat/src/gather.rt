@@ -1,9 +1,11 @@
 //! `hdrstat gather`.
 
+use crate::console_of;
 use crate::error::StatError;
-use crate::files::{Console, Input, file_at};
 use crate::output::Output;
 use clap::ArgMatches;
+use hdr_files::console::file_at;
+use hdr_files::{Console, Input};
 use hdr_gather::{GatherError, LogReader, gather_sorted, gather_unsorted};
 use hdrhistogram::serialization::interval_log::IntervalLogWriterError;
 use std::alloc::Global;
@@ -59,7 +61,7 @@ pub(crate) fn gather_logs(
 ) -> Result<ExitCode, StatError> {
     let alloc = rt.alloc();
     let names = matches.get_strs("LOG").unwrap_or(&[]);
-    let mut logs = readers(Console::new(rt, matches), names)?;
+    let mut logs = readers(console_of(rt, matches), names)?;
     let mut output = Output::new(rt);
     let gathered = if matches.get_flag("unsorted") {
         gather_unsorted(alloc, &mut logs, &mut output)

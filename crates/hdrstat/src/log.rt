@@ -1,23 +1,20 @@
 //! `hdrstat log`.
 
+use crate::console_of;
 use crate::error::StatError;
-use crate::files::Console;
-use crate::input::{read_intervals, read_numbers};
 use crate::output::print;
-use crate::reading::{nanoseconds_of, recording_of, table_of, tag_of};
 use clap::ArgMatches;
+use hdr_files::input::{read_intervals, read_numbers};
 use hdr_input::intervals::Intervals;
+use hdr_input::log_lines::decimals_comment;
+use hdr_options::UsageError;
+use hdr_options::reading::{nanoseconds_of, recording_of, table_of, tag_of};
 use hdrhistogram::Histogram;
 use hdrhistogram::serialization::V2Serializer;
 use hdrhistogram::serialization::interval_log::{IntervalLogWriterBuilder, Tag};
 use std::alloc::Global;
 use std::process::ExitCode;
 use std::time::Duration;
-
-/// Returns the comment of a log, which has the decimals of its values.
-fn comment_of(alloc: Global, decimals: u32) -> Result<String, StatError> {
-    Ok(format!(in alloc; "[Values have {decimals} decimals]")?)
-}
 
 /// Returns a log with one interval, which begins at 0 and has no length.
 fn single_log(
@@ -26,7 +23,7 @@ fn single_log(
     decimals: u32,
     tag: Option<Tag<'_>>,
 ) -> Result<Vec<u8>, StatError> {
-    let comment = comment_of(alloc, decimals)?;
+    let comment = decimals_comment(alloc, decimals)?;
     let mut output = Vec::new(alloc);
     let mut serializer = V2Serializer::new(alloc);
     let mut builder = IntervalLogWriterBuilder::new(alloc);
@@ -44,7 +41,7 @@ fn interval_log(
     length: u64,
     tag: Option<Tag<'_>>,
 ) -> Result<Vec<u8>, StatError> {
-    let comment = comment_of(alloc, intervals.tally.decimals())?;
+    let comment = decimals_comment(alloc, intervals.tally.decimals())?;
     intervals.intervals.sort_by_key(|interval| interval.number)?;
     let mut output = Vec::new(alloc);
     let mut serializer = V2Serializer::new(alloc);
@@ -65,7 +62,7 @@ fn length_of(alloc: Global, matches: &ArgMatches<'_>) -> Result<Option<u64>, Sta
     let length = nanoseconds_of(alloc, matches, "every")?;
     if length == Some(0) {
         let text = matches.get_str("every").unwrap_or("0");
-        return Err(StatError::usage(alloc, text, "is not a length above 0"));
+        return Err(UsageError::new(alloc, text, "is not a length above 0").into());
     }
     Ok(length)
 }
@@ -76,7 +73,7 @@ pub(crate) fn log(rt: &HostRuntime, matches: &ArgMatches<'_>) -> Result<ExitCode
     let recording = recording_of(alloc, matches)?;
     let table = table_of(alloc, matches)?;
     let tag = tag_of(alloc, matches)?;
-    let console = Console::new(rt, matches);
+    let console = console_of(rt, matches);
     let names = matches.get_strs("FILE").unwrap_or(&[]);
     let length = length_of(alloc, matches)?;
     let output = match (table, matches.get_str("time"), length) {

@@ -2,27 +2,32 @@
 #![tactic(auto)]
 
 mod check;
-mod command;
 mod convert;
 mod error;
-mod files;
 mod gather;
-mod input;
 mod log;
 mod output;
 mod page;
-mod progress;
-mod reading;
 mod summary;
 
 use clap::ArgMatches;
 use error::StatError;
+use hdr_files::Console;
+use hdr_options::command;
 use std::env;
 use std::io::{self, ErrorKind};
 use std::process::ExitCode;
 
 /// The status of a usage error.
 const USAGE: u8 = 2;
+
+/// Returns the process with the choice of the arguments.
+fn console_of<'a>(rt: &'a HostRuntime, matches: &ArgMatches<'_>) -> Console<'a> {
+    Console {
+        rt,
+        is_quiet: matches.get_flag("quiet"),
+    }
+}
 
 /// Prints a usage error of clap, or the help or the version, and returns the status.
 fn print_of_clap(rt: &HostRuntime, error: &clap::Error) -> ExitCode {
@@ -39,14 +44,13 @@ fn fail(rt: &HostRuntime, subcommand: &str, error: &StatError) -> ExitCode {
             let _ = eprintln!(rt;
                 "error: {text}\n\nFor more information, try 'hdrstat {subcommand} --help'."
             );
-            return ExitCode::from(USAGE);
         }
         StatError::Output(cause) if cause.kind() == ErrorKind::BrokenPipe => {}
         error => {
             let _ = eprintln!(rt; "hdrstat: {error}");
         }
     }
-    ExitCode::FAILURE
+    ExitCode::from(error.status())
 }
 
 /// Runs a subcommand.

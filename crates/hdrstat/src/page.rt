@@ -1,11 +1,13 @@
 //! `hdrstat page`.
 
 use crate::error::StatError;
-use crate::files::file_at;
-use crate::input::read_whole;
 use crate::output::print;
-use crate::reading::{tag_of, unit_of};
 use clap::ArgMatches;
+use hdr_files::FileError;
+use hdr_files::console::file_at;
+use hdr_files::input::read_whole;
+use hdr_options::UsageError;
+use hdr_options::reading::{tag_of, unit_of};
 use hdr_page::{PageError, PageLevel, PageOptions, page, page_text, rows};
 use hdr_summary::units::{Unit, parse_amount};
 use std::alloc::Global;
@@ -49,7 +51,7 @@ fn level_of(
         Some(level) => Ok(Some(level)),
         None => {
             let why = "is not a level, such as 99/100=5000 or, with --unit, 99/100=5ms";
-            Err(StatError::usage(alloc, text, why))
+            Err(UsageError::new(alloc, text, why).into())
         }
     }
 }
@@ -94,7 +96,7 @@ pub(crate) fn show(rt: &HostRuntime, matches: &ArgMatches<'_>) -> Result<ExitCod
     match matches.get_str("output") {
         Some(file) => {
             if let Err(cause) = fs::write(rt, file, text.as_str()) {
-                return Err(StatError::file(alloc, file, cause));
+                return Err(FileError::open(alloc, file, cause).into());
             }
         }
         None => print(rt, text.as_bytes())?,

@@ -1,11 +1,12 @@
 //! `hdrstat summary`.
 
+use crate::console_of;
 use crate::error::StatError;
-use crate::files::Console;
-use crate::input::read_parts;
 use crate::output::print;
-use crate::reading::{parse_reading, unit_of};
 use clap::ArgMatches;
+use hdr_files::input::read_parts;
+use hdr_options::UsageError;
+use hdr_options::reading::{parse_reading, unit_of};
 use hdr_summary::decimals::Conversion;
 use hdr_summary::formats::{Format, Layout, text};
 use hdr_summary::percentile::{Percentile, parse_percentile};
@@ -27,7 +28,7 @@ fn percentiles_of<'a>(
             },
             None => {
                 let why = "is not a percentile from 0 to 100, such as 50, p99.9 or 99%";
-                return Err(StatError::usage(alloc, *argument, why));
+                return Err(UsageError::new(alloc, *argument, why).into());
             }
         }
     }
@@ -43,7 +44,7 @@ fn conversion_of(alloc: Global, matches: &ArgMatches<'_>) -> Result<Conversion, 
         (Some(from), Some(to)) => Ok(Conversion::new(from, to)),
         _ => {
             let why = "is a unit of the output, which needs that of the numbers by --unit";
-            Err(StatError::usage(alloc, name, why))
+            Err(UsageError::new(alloc, name, why).into())
         }
     }
 }
@@ -59,7 +60,7 @@ pub(crate) fn summary(rt: &HostRuntime, matches: &ArgMatches<'_>) -> Result<Exit
     let has_tags = matches.get_flag("by-tag");
     if has_tags && format == Format::Hgrm {
         let why = "has one distribution: choose a tag by --tag, and leave --by-tag out";
-        return Err(StatError::usage(alloc, "hgrm", why));
+        return Err(UsageError::new(alloc, "hgrm", why).into());
     }
     let layout = Layout {
         format,
@@ -68,7 +69,7 @@ pub(crate) fn summary(rt: &HostRuntime, matches: &ArgMatches<'_>) -> Result<Exit
         has_tags,
     };
     let names = matches.get_strs("FILE").unwrap_or(&[]);
-    let parts = read_parts(Console::new(rt, matches), names, &reading)?;
+    let parts = read_parts(console_of(rt, matches), names, &reading)?;
     let text = text(alloc, &parts, &layout)?;
     print(rt, text.as_bytes())?;
     Ok(ExitCode::SUCCESS)

@@ -2,7 +2,7 @@
 
 ghost use Rattle.std.specs.Prelude.{◌≡◌, ◌+◌, ◌-◌, ◌*◌, ◌<◌, ◌≤◌, false, MatchResult, IfErr};
 ghost use Rattle.hdr_base.specs.Classes.{resolution_of};
-ghost use Rattle.hdr_model.specs.Refusals.{IsCreationError, IsBounds, IsBeyondLow};
+ghost use Rattle.hdr_model.specs.Refusals.{IsCreationError, IsBounds, IsForGreatLow};
 
 use hdr_base::Scale;
 use hdr_model::CreationError;
@@ -34,7 +34,7 @@ impl Bounds {
 pub(super) fn scale_for(low: u64, high: u64, sigfig: u8) -> Result<Scale, CreationError>
     ensures made { MatchResult result (λ s. (s ≡ resolution_of low sigfig) × IsBounds low high sigfig)
         (IsCreationError low high sigfig) }
-    ensures beyond { IfErr result (IsBeyondLow low) }
+    ensures beyond { IfErr result (IsForGreatLow low) }
 {
     if low < 1 {
         return Err(CreationError::LowIsZero);

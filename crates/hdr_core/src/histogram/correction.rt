@@ -55,9 +55,9 @@ impl<T: Counter> Histogram<T> {
         self.record_n_correct_counted(value, count, interval, &mut Ticks::new())
     }
 
-    /// As `record_n_correct`. `ticks` grows by one for each counter that is updated after the
-    /// first. There is one for each class that holds a missing value, and so no more than there are
-    /// bins. On error `ticks` is unchanged.
+    /// As `record_n_correct`. `ticks` grows by one for each class that holds a missing value, and so
+    /// by no more than there are bins. The update for `value` itself is not counted. On error `ticks`
+    /// is unchanged.
     #[inline(always)]
     pub fn record_n_correct_counted(
         &mut self,
@@ -86,12 +86,7 @@ impl<T: Counter> Histogram<T> {
     {
         self.record_n(value, count)?;
         if has_missing(value, interval) {
-            self.add_missing(
-                value.saturating_sub(interval),
-                count.as_u64(),
-                interval,
-                ticks,
-            );
+            self.add_missing(value - interval, count.as_u64(), interval, ticks);
         }
         Ok(())
     }
@@ -158,12 +153,12 @@ impl<T: Counter> Histogram<T> {
     {
         let scale = self.scale;
         let width = scale.width(first);
-        let bin = scale.bin(first) - (first / width) as usize;
-        let few = (width / interval).saturating_sub(1);
+        let offset = scale.bin(first) - (first / width) as usize;
+        let guess = (width / interval).saturating_sub(1);
         let mut next = first;
         while next >= start {
-            let values = values_in_class(next, width, interval, few);
-            self.add_counted(bin + (next / width) as usize, values, count, ticks);
+            let values = values_in_class(next, width, interval, guess);
+            self.add_counted(offset + (next / width) as usize, values, count, ticks);
             next -= values * interval;
         }
         next
@@ -186,41 +181,43 @@ impl<T: Counter> Histogram<T> {
     }
 }
 
-/// Whether samples may be missing before `value`, an interval apart; if not, none are.
+/// Whether `value` is at least two intervals, so that samples are missing before it.
 #[inline(always)]
 pub(super) fn has_missing(value: u64, interval: u64) -> bool
-    ensures step { result ≡ true → 0 < interval }
+    ensures step { result ≡ true → (0 < interval) × (interval ≤ value) }
     ensures none { result ≡ false → missing value interval ≡ [] }
 {
     interval > 0 && value / 2 >= interval
 }
 
-/// Returns the number of values in the class of `next`, from it on down to the interval, an
-/// interval apart.
-fn values_in_class(next: u64, width: u64, interval: u64, few: u64) -> u64
+/// Returns the number of the values `next`, `next - interval`, .. that are in the class of `next`
+/// and at least `interval`. `width` is that of the class, which holds `guess` or `guess + 1` steps of
+/// the interval.
+fn values_in_class(next: u64, width: u64, interval: u64, guess: u64) -> u64
     requires nonzero { (0 < interval) × (interval ≤ next) × (0 < width) }
-    requires fits { few * interval < 2 ^ 64 }
+    requires fits { guess * interval < 2 ^ 64 }
     ensures { result ≡ min (next % width) (next - interval) / interval + 1 }
 {
     if width <= interval {
         return 1;
     }
-    steps((next % width).min(next - interval), interval, few) + 1
+    steps((next % width).min(next - interval), interval, guess) + 1
 }
 
-/// Returns the number of intervals in `span`. Tries `few` and `few + 1` before it divides.
-fn steps(span: u64, interval: u64, few: u64) -> u64
+/// Returns the quotient `span / interval`. Tries `guess` and `guess + 1` first, since a division
+/// takes longer.
+fn steps(span: u64, interval: u64, guess: u64) -> u64
     requires nonzero { 0 < interval }
-    requires fits { few * interval < 2 ^ 64 }
+    requires fits { guess * interval < 2 ^ 64 }
     ensures { result ≡ span / interval }
 {
-    let tried = few * interval;
+    let tried = guess * interval;
     if span < tried || (span - tried) / 2 >= interval {
         return span / interval;
     }
     if span - tried < interval {
-        few
+        guess
     } else {
-        few + 1
+        guess + 1
     }
 }

@@ -12,8 +12,8 @@ use hdr_model::{AdditionError, RecordError};
 use std::alloc::AllocError;
 
 impl<T: Counter> Histogram<T> {
-    /// Makes bins up to `value` if it has none, and sets `high` to its reach. On error `self` is
-    /// unchanged.
+    /// If `value` has no bin, makes bins up to its reach, and sets `high` to that reach. On error
+    /// `self` is unchanged.
     pub(super) fn resize_for(&mut self, value: u64) -> Result<(), RecordError>
         ensures ok { OnOk result (self.new ≡ with_bins_for self.old value) }
         ensures plain { IsPlain T.greatest self.old }
@@ -26,8 +26,8 @@ impl<T: Counter> Histogram<T> {
         Ok(())
     }
 
-    /// Makes bins up to `value` if it has none, and sets `high` to `value`. On error `self` is
-    /// unchanged.
+    /// If `value` has no bin, makes bins up to its reach, and sets `high` to `value`. On error `self`
+    /// is unchanged.
     pub(super) fn resize_for_add(&mut self, value: u64) -> Result<(), AdditionError>
         ensures ok { OnOk result (self.new ≡ with_room self.old value) }
         ensures plain { IsPlain T.greatest self.old }
@@ -41,8 +41,8 @@ impl<T: Counter> Histogram<T> {
         }
     }
 
-    /// Makes bins up to the argument `high` if `value` has none, and stores `high`. On error `self`
-    /// is unchanged.
+    /// If `value` has no bin, makes bins up to the reach of the argument `high`, and stores that
+    /// argument as the bound. On error `self` is unchanged.
     fn resize_to(&mut self, value: u64, high: u64) -> Result<(), RecordError>
         requires { value ≤ high }
         ensures ok { OnOk result (((value ≤ reach self.old) × (self.new ≡ self.old))

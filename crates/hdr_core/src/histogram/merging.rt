@@ -128,7 +128,7 @@ impl<T: Counter> Histogram<T> {
         requires { same_bins self.old source.now ≡ true }
         ensures { self.new ≡ after_add_same_bins T.greatest self.old source.now }
     {
-        self.counts.add_capped(&source.counts);
+        self.counts.add_all(&source.counts);
         if self.total == 0 {
             self.total = source.total;
             self.marks = source.marks.same();
@@ -147,7 +147,7 @@ impl<T: Counter> Histogram<T> {
             (resolution source.now) source.now.top_mark) }
     {
         let counts = &source.counts;
-        self.counts.add_capped(counts);
+        self.counts.add_all(counts);
         self.total = self.total.saturating_add(capped_sum(counts));
         self.marks.widen_if(counts.next_nonzero());
         self.marks.widen_if(source.marks.top());

@@ -128,12 +128,7 @@ impl<T: Counter> Histogram<T> {
     {
         self.record_inside(value, count);
         if has_missing(value, interval) {
-            self.add_missing(
-                value.saturating_sub(interval),
-                count,
-                interval,
-                &mut Ticks::new(),
-            );
+            self.add_missing(value - interval, count, interval, &mut Ticks::new());
         }
     }
 }

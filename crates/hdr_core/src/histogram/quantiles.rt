@@ -22,13 +22,13 @@ impl<T: Counter> Histogram<T> {
             → IsTopNear self.now (ranked_sample quantile S) result }
     {
         let rank = rank_of(quantile.num(), u128::from(quantile.den()), self.total);
-        self.value_at_bin(quantile.num(), self.position_of_rank(rank))
+        self.value_at_rank(quantile.num(), rank, self.counts.position_of_rank(rank))
     }
 
     /// As `value_at_quantile`. `ticks` grows by one for each read of a block's sum or of a counter.
     /// There are at most as many reads as there are blocks and counters in a block together. A
     /// block holds half as many bins as the first bucket. Its sum is added up from those of its
-    /// sections, or at 0 and 1 digits from its counters, and costs one tick.
+    /// sections, or at `sigfig` 0 and 1 from its counters, and costs one tick.
     pub fn value_at_quantile_counted(&self, quantile: Quantile, ticks: &mut Ticks) -> u64
         requires { ticks.old ≤ 2 ^ 63 }
         ensures value { result ≡ value_at_quantile self.now quantile }
@@ -55,19 +55,11 @@ impl<T: Counter> Histogram<T> {
     {
         let den = u128::from(percentile.den()) * 100;
         let rank = rank_of(percentile.num(), den, self.total);
-        self.value_at_bin(percentile.num(), self.position_of_rank(rank))
+        self.value_at_rank(percentile.num(), rank, self.counts.position_of_rank(rank))
     }
 
-    /// Returns the first bin at which the sum of the counters up to it reaches `rank`.
-    fn position_of_rank(&self, rank: u64) -> Option<usize>
-        requires { 1 ≤ rank }
-        ensures index { result ≡ position_of_rank self.now.counts rank }
-        ensures within { IfSome result (λ i. i < length self.now.counts) }
-    {
-        self.counts.position_of_rank(rank)
-    }
-
-    /// As `position_of_rank`, and counts a tick for each read.
+    /// Returns the first bin at which the sum of the counters up to it reaches `rank`, and counts a
+    /// tick for each read.
     fn find(&self, rank: u64, ticks: &mut Ticks) -> Option<usize>
         requires nonzero { 1 ≤ rank }
         requires ticks_fit { ticks.old ≤ 2 ^ 63 }
@@ -79,7 +71,8 @@ impl<T: Counter> Histogram<T> {
         self.counts.find(rank, ticks)
     }
 
-    /// As `value_at_bin`, for the first bin at which the running sum reaches `rank`.
+    /// As `value_at_bin`. `place` is the result of a search for `rank`, which the contract alone
+    /// speaks of.
     pub(super) fn value_at_rank(&self, num: u64, rank: u64, place: Option<usize>) -> u64
         requires nonzero { 1 ≤ rank }
         requires first { MatchOption place (sum self.now.counts < rank)

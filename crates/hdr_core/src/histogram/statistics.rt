@@ -59,10 +59,7 @@ impl<T: Counter> Histogram<T> {
             return Fraction { num: 1, den: 1 };
         }
         let up_to: u64 = saturating_from(self.counts.sum_to(self.held_bin(value)));
-        Fraction {
-            num: u128::from(up_to),
-            den: u128::from(self.total),
-        }
+        Fraction::new(u128::from(up_to), u128::from(self.total))
     }
 
     /// As `quantile_below`, times 100.
@@ -72,10 +69,7 @@ impl<T: Counter> Histogram<T> {
         ensures den { 0 < result.den }
     {
         let share = self.quantile_below(value);
-        Fraction {
-            num: share.num * 100,
-            den: share.den,
-        }
+        Fraction::new(share.num * 100, share.den)
     }
 
     /// Returns the mean of the samples, each taken as the value in the middle of its class: the
@@ -91,10 +85,7 @@ impl<T: Counter> Histogram<T> {
         if self.total == 0 {
             return Some(Fraction { num: 0, den: 1 });
         }
-        Some(Fraction {
-            num: self.weighed(),
-            den: u128::from(self.total),
-        })
+        Some(Fraction::new(self.weighed(), u128::from(self.total)))
     }
 
     /// Returns the sum of the counters, each times the value in the middle of its class.

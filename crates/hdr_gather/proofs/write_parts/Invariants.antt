@@ -1,10 +1,16 @@
-use Rattle.std.proofs.Common.{◌≡◌}
-use Rattle.hdrhistogram.specs.LogWriters.{divisor_of, IsSameLog}
+use Rattle.std.proofs.Common.{◌≡◌, ◌≤◌, ◌-◌, take, length}
+use Rattle.hdrhistogram.specs.LogWriters.{sink, divisor_of, IsSameLog}
+use Rattle.hdr_gather.specs.Logs.{Writes}
 use Rattle.hdr_gather.proofs.write_parts.Given as goal
 
--- the log stays the same, but for what is written
-abbrev pub invariant-loop-group : goal.invariant-loop-group
-invariant-loop-group g l = record {
+-- the intervals so far are written
+abbrev pub invariant-loop-at : goal.invariant-loop-at
+invariant-loop-at g l = record {
   divisor : divisor_of l.log ≡ 1;
   same : IsSameLog l.initial.log l.log;
+  within : l.at ≤ length l.parts;
+  written : Writes (take l.at l.parts) (g.W.Write.contents (sink l.initial.log).now) (g.W.Write.contents (sink l.log).now);
 }
+
+abbrev pub decreases-loop-at : goal.decreases-loop-at
+decreases-loop-at g l = length l.parts - l.at

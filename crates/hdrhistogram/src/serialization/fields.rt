@@ -63,11 +63,7 @@ fn check_sigfig(sigfig: u32) -> Result<u8, DeserializeError>
     ensures no_out_of_memory { IfErr result (RunsOutOnly ⊥) }
     ensures value { IfOk result (λ n. n ≡ sigfig) }
 {
-    if sigfig > 255 {
-        Err(DeserializeError::InvalidParameters)
-    } else {
-        Ok(sigfig as u8)
-    }
+    u8::try_from(sigfig).map_err(|_| DeserializeError::InvalidParameters)
 }
 
 #[tactic(auto, unfolding(crate::specs::V2Read::ratio_defect))]

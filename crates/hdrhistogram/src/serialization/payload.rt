@@ -28,7 +28,8 @@ pub fn counts_array_max_encoded_size(length: usize) -> Option<usize>
     length.checked_mul(9)
 }
 
-/// Returns the number of bins that are written: those up to the top mark's, or 1 without a mark.
+/// Returns the number of bins that are written: those up to the top mark's. Without a mark `max` is
+/// 0, and the first bin alone is written.
 pub(crate) fn written_bins<T: Counter>(h: &Histogram<T>) -> usize
     ensures value { result ≡ written_bins h.now }
     ensures within { result ≤ length h.now.counts }
@@ -38,12 +39,14 @@ pub(crate) fn written_bins<T: Counter>(h: &Histogram<T>) -> usize
     let bins = h.distinct_values();
     match h.bin_of(h.max()) {
         Some(bin) => bin + 1,
+        // Cannot occur: `max` has a bin.
         None => bins,
     }
 }
 
 /// Returns a bound of the payload's length in bytes: nine for each bin that is written. If that is
-/// above `SMALL_ROOM`, the bound is at most nine for each nonempty bin and each run beside these.
+/// above `SMALL_ROOM`, the bound is at most nine for each nonempty bin, for a run before each of
+/// them, and for a last run.
 pub(crate) fn payload_room<T: Counter>(h: &Histogram<T>) -> usize
     ensures enough { enough_bytes (written_counts h.now) ≤ result }
     ensures near { result ≤ max 1048576 (enough_bytes (written_counts h.now)) }
@@ -92,8 +95,8 @@ fn put_number(buf: &mut [u8], at: usize, number: u64) -> usize
     at + varint_write(number, &mut buf[at..])
 }
 
-/// Writes a run of empty bins at the offset `at`, and returns the offset after it. The number of a
-/// run of one is 0; otherwise it is -n, which zig-zag encodes as 2n - 1.
+/// Writes a run of n empty bins at the offset `at`, and returns the offset after it. A run of one is
+/// written as its count 0, and a longer one as -n, which zig-zag encodes as 2n - 1.
 #[inline]
 fn put_run(buf: &mut [u8], at: usize, empty: u64) -> usize
     // A run that is not empty, nine bytes for it, and a number that zig-zag encodes.
@@ -158,7 +161,7 @@ pub(crate) fn encode_within<T: Counter>(
     while bin < bins {
         let count = count_of(counters, bin);
         if count == 0 {
-            let filled = h.next_filled(bin).min(bins);
+            let filled = h.next_filled(bin + 1).min(bins);
             written = put_run(buf, written, (filled - bin) as u64);
             bin = filled;
             continue;
@@ -166,6 +169,7 @@ pub(crate) fn encode_within<T: Counter>(
         if count > GREATEST_COUNT {
             return Err(V2SerializeError::CountNotSerializable);
         }
+        // Zig-zag encodes a number that is not negative as its double.
         written = put_number(buf, written, 2 * count);
         bin += 1;
     }

@@ -75,8 +75,9 @@ impl V2Serializer {
     /// Returns the V2 bytes of a histogram, borrowed from the serializer's own buffer: at most 40
     /// bytes and nine for each bin up to the top mark's.
     ///
-    /// The buffer grows first, and once. If nine bytes for each bin are more than 1 MiB, it grows
-    /// to at most nine bytes for each nonempty bin and for each run of empty ones.
+    /// The buffer grows once at most, before anything is encoded. If nine bytes for each bin are more
+    /// than 1 MiB, it grows to at most nine bytes for each nonempty bin, for a run before each of
+    /// them, and for a last run.
     ///
     /// # Errors
     /// Returns `OutOfMemory` if the buffer can't grow, and then `CountNotSerializable` if a count

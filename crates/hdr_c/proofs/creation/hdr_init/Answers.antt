@@ -1,6 +1,6 @@
-use Rattle.std.proofs.Common.{inr}
-use Rattle.hdr_model.specs.declared.errors.CreationError.TheVariants.{OutOfMemory}
+use Rattle.std.proofs.Common.{false}
+use Rattle.hdr_c.proofs.Creating.{creates}
 use Rattle.hdr_c.proofs.creation.hdr_init.Goals as goal
 
-pub returns-in-Err-fill : goal.returns-in-Err-fill
-returns-in-Err-fill c = inr (OutOfMemory, c.of_creation_error.ensures, c.in-Ok.ensures.made.1, c.in-Err-fill.ensures)
+pub returns : goal.returns
+returns c = creates c.store.result c.args.low c.args.high c.args.sigfig false _ _ c.new_with_bounds.result c.new_with_bounds.ensures.made c.store.ensures

@@ -1,6 +1,6 @@
-use Rattle.std.proofs.Common.{inr}
-use Rattle.hdr_model.specs.declared.errors.CreationError.TheVariants.{OutOfMemory}
+use Rattle.std.proofs.Common.{true}
+use Rattle.hdr_c.proofs.Creating.{creates}
 use Rattle.hdr_c.proofs.creation.hdr_init_auto.Goals as goal
 
-pub returns-in-Err-fill : goal.returns-in-Err-fill
-returns-in-Err-fill c = inr (OutOfMemory, c.of_creation_error.ensures, c.in-Ok.ensures.made.1, c.in-Err-fill.ensures)
+pub returns : goal.returns
+returns c = creates c.store.result 1 2 c.args.sigfig true _ _ c.new.result c.new.ensures.made c.store.ensures

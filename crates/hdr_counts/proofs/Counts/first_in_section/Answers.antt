@@ -5,8 +5,8 @@ use Rattle.hdr_counts.proofs.BlocksSums.{blocks_more, block-sum-read}
 use Rattle.hdr_counts.proofs.BlocksPlaces.{first-in-part}
 use Rattle.hdr_counts.proofs.Counts.first_in_section.Goals as goal
 
-pub position_of_rank-requires-clause-whole : goal.position_of_rank-requires-clause-whole
-position_of_rank-requires-clause-whole g c =
+pub position_in_section-requires-clause-whole : goal.position_in_section-requires-clause-whole
+position_in_section-requires-clause-whole g c =
     let n = g.T.Counter.number in
     let s = c.self.inside in
     let k = c.args.k in

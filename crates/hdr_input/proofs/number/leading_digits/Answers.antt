@@ -1,4 +1,4 @@
-use Rattle.std.proofs.Common.{◌≡◌, ◌<◌, ◌+◌, ◌*◌, ◌^◌, length, take, get_or, subst, sym, arith}
+use Rattle.std.proofs.Common.{◌≡◌, ◌<◌, ◌+◌, ◌*◌, ◌^◌, length, take, get_or, subst, arith}
 use Rattle.std.specs.Char.{digit_value}
 use Rattle.hdr_input.proofs.Digits.{Reads, Reads-more, few_more, split_at}
 use Rattle.hdr_input.proofs.number.leading_digits.Goals as goal

@@ -51,7 +51,7 @@ loop-preserved-in_default g c =
 pub returns-in-Err-clause-runs : goal.returns-in-Err-clause-runs
 returns-in-Err-clause-runs g c =
     stopped c.loop.invariant.streamed (g.R.Read.remaining c.read_piece.new.reader) (g.W.Write.contents (sink c.run_lines-in-loop.new.log).now) (take c.in_ok-count.count c.read_piece.new.piece) c.deref-in-loop.result.now c.in-Some.tail.now c.in_ok-count.ensures.ok
-    (rw c.in-Some.is at c.in_ok-tail.ensures.parts ∙ ap (λ t. t ++ 10 ∷ c.in-Some.tail.now) (sym c.deref-in-loop.ensures.value)) c.in-Err.fault c.told_at_end.result c.run_lines-in-loop.new.histogram c.told_at_end.ensures.told c.in-Err.ensures.goes
+    (rw c.in-Some.is at c.in_ok-tail.ensures.parts ∙ ap (λ t. t ++ 10 ∷ c.in-Some.tail.now) (sym c.deref-in-loop.ensures.value)) c.in-Err.fault c.fault_after_rest.result c.run_lines-in-loop.new.histogram c.fault_after_rest.ensures.fault c.in-Err.ensures.goes
 
 pub returns-in_err-replace-clause-runs : goal.returns-in_err-replace-clause-runs
 returns-in_err-replace-clause-runs g c =

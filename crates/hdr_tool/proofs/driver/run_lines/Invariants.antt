@@ -1,4 +1,4 @@
-use Rattle.hdr_tool.proofs.Common.{◌≡◌, ℕ, ◌+◌, ◌++◌, List, true, Some, Ok, length, option_map, sink, IsSameLog, number_lines, run_rest, LinesNeed, Goes}
+use Rattle.hdr_tool.proofs.Common.{◌≡◌, ℕ, ◌+◌, ◌++◌, List, true, Some, Ok, length, option_map, sink, IsSameLog, number_lines, rest_run, LinesNeed, IsStep}
 use Rattle.hdr_tool.proofs.LinesParts.{left_length}
 use Rattle.hdr_tool.proofs.driver.run_lines.Given as goal
 
@@ -6,11 +6,11 @@ use Rattle.hdr_tool.proofs.driver.run_lines.Given as goal
 abbrev pub invariant-loop-left : goal.invariant-loop-left
 invariant-loop-left g l = record {
   same : IsSameLog l.fn.log l.log;
-  goes : Goes {A = Unit {0}} (run_rest l.fn.is_log l.fn.histogram l.fn.number (Some l.fn.text)) (run_rest l.fn.is_log l.histogram l.next (option_map (λ t. t.now) l.left))
+  goes : IsStep {A = Unit {0}} (rest_run l.fn.is_log l.fn.histogram l.fn.number (Some l.fn.text)) (rest_run l.fn.is_log l.histogram l.current (option_map (λ t. t.now) l.left))
       (g.W.Write.contents (sink l.fn.log).now) (g.W.Write.contents (sink l.log).now) (Ok tt);
-  memory : (more : List (ℕ × List ℕ)) → LinesNeed l.fn.is_log l.histogram (number_lines l.next (option_map (λ t. t.now) l.left) ++ more) → LinesNeed l.fn.is_log l.fn.histogram (number_lines l.fn.number (Some l.fn.text) ++ more);
+  memory : (more : List (ℕ × List ℕ)) → LinesNeed l.fn.is_log l.histogram (number_lines l.current (option_map (λ t. t.now) l.left) ++ more) → LinesNeed l.fn.is_log l.fn.histogram (number_lines l.fn.number (Some l.fn.text) ++ more);
   grows : l.histogram.auto_resize ≡ true;
-  counts : l.next + length (number_lines l.next (option_map (λ t. t.now) l.left)) ≡ l.fn.number + length (number_lines l.fn.number (Some l.fn.text));
+  counts : l.current + length (number_lines l.current (option_map (λ t. t.now) l.left)) ≡ l.fn.number + length (number_lines l.fn.number (Some l.fn.text));
 }
 
 abbrev pub decreases-loop-left : goal.decreases-loop-left

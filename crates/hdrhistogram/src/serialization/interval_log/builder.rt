@@ -8,7 +8,7 @@ ghost use Rattle.std.specs.Io.KnownBytes.{Appends};
 ghost use Rattle.hdr_log.specs.Pieces.{Comment, StartsAt, BasedAt, piece_text, text_of};
 ghost use Rattle.hdrhistogram.specs.LogStarts.{new_start, thousandths_set, AreSmall, time_pieces, divisor_pieces, start_pieces, IsStartText, AreTimesInRange};
 ghost use Rattle.hdrhistogram.specs.LogLeaving.{WritesText, IsNoSerializeError, is_time_error};
-ghost use Rattle.hdrhistogram.specs.LogWriters.{sink, maker, divisor_of};
+ghost use Rattle.hdrhistogram.specs.LogWriters.{sink, serializer_of, divisor_of};
 
 use crate::serialization::interval_log::errors::{CommentError, IntervalLogWriterError};
 use crate::serialization::interval_log::writer::{IntervalLogWriter, write_text};
@@ -155,11 +155,11 @@ impl IntervalLogWriterBuilder {
         serializer: &'b mut S,
     ) -> Result<IntervalLogWriter<'a, 'b, W, S>, IntervalLogWriterError<S::SerializeError>>
         ensures writer { IfOk result (λ log. (sink log).ghost_name ≡ writer.entry.ghost_name) }
-        ensures serializer { IfOk result (λ log. (maker log).ghost_name
+        ensures serializer { IfOk result (λ log. (serializer_of log).ghost_name
             ≡ serializer.entry.ghost_name) }
         ensures written { IfOk result (λ log. (text : List ℕ) × IsStartText self.now text
             × Appends (W.contents writer.old) (W.contents (sink log).now) text) }
-        ensures lent { IfOk result (λ log. ((maker log).now ≡ serializer.old)
+        ensures lent { IfOk result (λ log. ((serializer_of log).now ≡ serializer.old)
             × (divisor_of log ≡ self.now.divisor)) }
         ensures time { (is_time_error result ≡ false) ↔ AreTimesInRange self.now }
         ensures plain { self.now ≡ new_start → IfErr result (λ _. ⊥) }

@@ -45,7 +45,7 @@ pub(crate) fn write_text<W: Write, E>(
 }
 
 impl<'a, 'b, W: Write, S: Serializer> IntervalLogWriter<'a, 'b, W, S> {
-    ghost use Rattle.hdrhistogram.specs.LogWriters.{sink, maker, divisor_of, IsSameLog, IsLineFor};
+    ghost use Rattle.hdrhistogram.specs.LogWriters.{sink, serializer_of, divisor_of, IsSameLog, IsLineFor};
 
     /// Creates a writer that continues a log. Greatest values are divided by `max_value_divisor`,
     /// which is at least 1. The call writes nothing, not even the divisor's header.
@@ -57,9 +57,9 @@ impl<'a, 'b, W: Write, S: Serializer> IntervalLogWriter<'a, 'b, W, S> {
     ) -> IntervalLogWriter<'a, 'b, W, S>
         requires { 0 < max_value_divisor }
         ensures writer { (sink result).ghost_name ≡ writer.entry.ghost_name }
-        ensures serializer { (maker result).ghost_name ≡ serializer.entry.ghost_name }
+        ensures serializer { (serializer_of result).ghost_name ≡ serializer.entry.ghost_name }
         ensures holds { (sink result).now ≡ writer.old }
-        ensures makes { (maker result).now ≡ serializer.old }
+        ensures makes { (serializer_of result).now ≡ serializer.old }
         ensures divisor { divisor_of result ≡ max_value_divisor }
     {
         IntervalLogWriter {
@@ -82,7 +82,7 @@ impl<'a, 'b, W: Write, S: Serializer> IntervalLogWriter<'a, 'b, W, S> {
         comment: &str,
     ) -> Result<(), IntervalLogWriterError<S::SerializeError>>
         ensures same_log { IsSameLog self.old self.new }
-        ensures unchanged { (maker self.new).now ≡ (maker self.old).now }
+        ensures unchanged { (serializer_of self.new).now ≡ (serializer_of self.old).now }
         ensures leaves { WritesText (λ text. text ≡ piece_text (Comment comment.now)) (λ _. ⊥)
             (W.contents (sink self.old).now) (W.contents (sink self.new).now) result }
         ensures time { is_time_error result ≡ false }
@@ -113,7 +113,7 @@ impl<'a, 'b, W: Write, S: Serializer> IntervalLogWriter<'a, 'b, W, S> {
         ensures leaves { WritesText (IsLineFor self.old S.writes h.now tag.entry start_timestamp
             duration) (S.may_fail_with h.now) (W.contents (sink self.old).now)
             (W.contents (sink self.new).now) result }
-        ensures early { is_time_error result ≡ true → (maker self.new).now ≡ (maker self.old).now }
+        ensures early { is_time_error result ≡ true → (serializer_of self.new).now ≡ (serializer_of self.old).now }
         ensures time { (is_time_error result ≡ false)
             ↔ (IsTimeInRange (as_nanos start_timestamp) × IsTimeInRange (as_nanos duration)) }
     {
@@ -133,11 +133,11 @@ impl<'a, 'b, W: Write, S: Serializer> IntervalLogWriter<'a, 'b, W, S> {
 }
 
 impl<W, S> Drop for IntervalLogWriter<'_, '_, W, S> {
-    ghost use Rattle.hdrhistogram.specs.LogWriters.{sink, maker};
+    ghost use Rattle.hdrhistogram.specs.LogWriters.{sink, serializer_of};
 
     fn drop(self)
         ensures writer { self.exit.0.now ≡ (sink self.entry).now }
-        ensures serializer { self.exit.1.0.now ≡ (maker self.entry).now }
+        ensures serializer { self.exit.1.0.now ≡ (serializer_of self.entry).now }
     {
         let IntervalLogWriter {
             writer: _,

@@ -36,8 +36,8 @@ found g c =
       span_is = λ span is. omega (arith, is, ge, ap (λ v. x % v) width, place-span (resolution h) x c.args.first one);
     }
 
-pub overflow_sub-bin : goal.overflow_sub-bin
-overflow_sub-bin g c =
+pub overflow_sub-offset : goal.overflow_sub-offset
+overflow_sub-offset g c =
     let le = place-le-bin c.self.inside.scale c.args.first in
     omega (arith, c.bin.ensures.value, le, ap (λ w. c.args.first / w) c.width-width.ensures.value)
 

@@ -15,10 +15,10 @@ total g c = c.saturating_add-self-inside.ensures ∙ ap (λ k. min (c.self.insid
 pub invariant_of-self : goal.invariant_of-self
 invariant_of-self g c =
     let same : length c.self.inside.counts.numbers ≡ length c.source.inside.counts.numbers = ap (λ (p : Plain). length p.counts) c.self.view_is ∙ (same-bins c.args.self.now c.args.source.now c.requires).1 ∙ sym (ap (λ (p : Plain). length p.counts) c.source.view_is) in
-    let numbers : c.add_capped.new.self.numbers ≡ capped_sums g.T.Counter.greatest c.self.inside.counts.numbers c.source.inside.counts.numbers = ap (λ (b : Blocks). b.numbers) c.add_capped.ensures in
+    let numbers : c.add_all.new.self.numbers ≡ capped_sums g.T.Counter.greatest c.self.inside.counts.numbers c.source.inside.counts.numbers = ap (λ (b : Blocks). b.numbers) c.add_all.ensures in
     record {
       scale = c.self.invariant.scale;
-      block = ap (λ (b : Blocks). b.block) c.add_capped.ensures ∙ c.self.invariant.block;
+      block = ap (λ (b : Blocks). b.block) c.add_all.ensures ∙ c.self.invariant.block;
       plain = rw (numbers, c.same-self-inside.ensures)
           (IsPlain-taken g.T.Counter.greatest g.F.Counter.greatest (plain_of c.self.inside) (plain_of c.source.inside) g.met.T.Counter.one_fits same c.self.invariant.plain c.source.invariant.plain c.if-self-eq0.true);
     }
@@ -26,10 +26,10 @@ invariant_of-self g c =
 pub invariant_of-self-else-self-eq0 : goal.invariant_of-self-else-self-eq0
 invariant_of-self-else-self-eq0 g c =
     let same : length c.self.inside.counts.numbers ≡ length c.source.inside.counts.numbers = ap (λ (p : Plain). length p.counts) c.self.view_is ∙ (same-bins c.args.self.now c.args.source.now c.requires).1 ∙ sym (ap (λ (p : Plain). length p.counts) c.source.view_is) in
-    let numbers : c.add_capped.new.self.numbers ≡ capped_sums g.T.Counter.greatest c.self.inside.counts.numbers c.source.inside.counts.numbers = ap (λ (b : Blocks). b.numbers) c.add_capped.ensures in
+    let numbers : c.add_all.new.self.numbers ≡ capped_sums g.T.Counter.greatest c.self.inside.counts.numbers c.source.inside.counts.numbers = ap (λ (b : Blocks). b.numbers) c.add_all.ensures in
     record {
       scale = c.self.invariant.scale;
-      block = ap (λ (b : Blocks). b.block) c.add_capped.ensures ∙ c.self.invariant.block;
+      block = ap (λ (b : Blocks). b.block) c.add_all.ensures ∙ c.self.invariant.block;
       plain = rw (numbers, total g c, c.widen_by.ensures)
           (IsPlain-summed g.T.Counter.greatest g.F.Counter.greatest (plain_of c.self.inside) (plain_of c.source.inside) g.met.T.Counter.one_fits same c.self.invariant.plain c.source.invariant.plain c.if-self-eq0.false);
     }
@@ -39,7 +39,7 @@ returns-then-self-eq0 g c =
     let h = plain_of c.self.inside in
     let s = plain_of c.source.inside in
     let greatest = g.T.Counter.greatest in
-    ap (λ ns. record h { counts = ns; total = s.total; top_mark = c.same-self-inside.result.top; lower_mark = c.same-self-inside.result.lower }) (ap (λ (b : Blocks). b.numbers) c.add_capped.ensures)
+    ap (λ ns. record h { counts = ns; total = s.total; top_mark = c.same-self-inside.result.top; lower_mark = c.same-self-inside.result.lower }) (ap (λ (b : Blocks). b.numbers) c.add_all.ensures)
     ∙ ap (λ (m : MarkPair). record h { counts = capped_sums greatest h.counts s.counts; total = s.total; top_mark = m.top; lower_mark = m.lower }) c.same-self-inside.ensures
     ∙ joined-empty greatest h s c.if-self-eq0.true
     ∙ ap (λ (p : Plain). after_add_same_bins greatest p s) c.self.view_is ∙ ap (λ (p : Plain). after_add_same_bins greatest c.args.self.now p) c.source.view_is
@@ -50,7 +50,7 @@ returns-else-self-eq0 g c =
     let s = plain_of c.source.inside in
     let greatest = g.T.Counter.greatest in
     let m = c.widen_by.new.self in
-    ap (λ ns. record h { counts = ns; total = c.saturating_add-self-inside.result; top_mark = m.top; lower_mark = m.lower }) (ap (λ (b : Blocks). b.numbers) c.add_capped.ensures)
+    ap (λ ns. record h { counts = ns; total = c.saturating_add-self-inside.result; top_mark = m.top; lower_mark = m.lower }) (ap (λ (b : Blocks). b.numbers) c.add_all.ensures)
     ∙ ap (λ t. record h { counts = capped_sums greatest h.counts s.counts; total = t; top_mark = m.top; lower_mark = m.lower }) (total g c)
     ∙ ap (λ (m : MarkPair). record h { counts = capped_sums greatest h.counts s.counts; total = min (h.total + min (sum s.counts) (2 ^ 64 - 1)) (2 ^ 64 - 1); top_mark = m.top; lower_mark = m.lower }) c.widen_by.ensures
     ∙ joined-some greatest h s c.if-self-eq0.false

@@ -20,7 +20,7 @@ made : (g : given.Over) (c : After-widen_if-2 g)
     → let h = plain_of c.self.inside in
     let s = plain_of c.source.inside in
     let m = c.widen_if-2.new.self in
-    record h { counts = c.add_capped.new.self.numbers; total = c.saturating_add-self-inside.result; top_mark = m.top; lower_mark = m.lower }
+    record h { counts = c.add_all.new.self.numbers; total = c.saturating_add-self-inside.result; top_mark = m.top; lower_mark = m.lower }
     ≡ after_records g.T.Counter.greatest h (classes_from (resolution s) 0 s.counts ++ top_class (resolution s) s.top_mark)
 made g c =
     let h = plain_of c.self.inside in
@@ -32,7 +32,7 @@ made g c =
     let marks : m ≡ record { top = later_of (later_of h.top_mark first) s.top_mark; lower = earlier_of (earlier_of h.lower_mark first) s.top_mark } =
     c.widen_if-2.ensures ∙ ap (λ (v : MarkPair). record { top = later_of v.top c.top.result; lower = earlier_of v.lower c.top.result }) c.widen_if.ensures
     ∙ ap (λ t. record { top = later_of (later_of h.top_mark first) t; lower = earlier_of (earlier_of h.lower_mark first) t }) c.top.ensures in
-    ap (λ ns. record h { counts = ns; total = c.saturating_add-self-inside.result; top_mark = m.top; lower_mark = m.lower }) (ap (λ (b : Blocks). b.numbers) c.add_capped.ensures)
+    ap (λ ns. record h { counts = ns; total = c.saturating_add-self-inside.result; top_mark = m.top; lower_mark = m.lower }) (ap (λ (b : Blocks). b.numbers) c.add_all.ensures)
     ∙ ap (λ t. record h { counts = capped_sums greatest h.counts s.counts; total = t; top_mark = m.top; lower_mark = m.lower }) total
     ∙ ap (λ (v : MarkPair). record h { counts = capped_sums greatest h.counts s.counts; total = min (h.total + min (sum s.counts) (2 ^ 64 - 1)) (2 ^ 64 - 1); top_mark = v.top; lower_mark = v.lower }) marks
     ∙ fronts-are greatest g.F.Counter.greatest h s first c.self.invariant.plain c.source.invariant.plain (rw (← c.self.view_is, ← c.source.view_is) at c.requires.same_classes) (rw (← c.self.view_is, ← c.source.view_is) at c.requires.in_range)
@@ -55,7 +55,7 @@ invariant_of-self g c =
     let room : max_of s ≤ reach h = rw (← c.self.view_is, ← c.source.view_is) at c.requires.in_range in
     record {
       scale = c.self.invariant.scale;
-      block = ap (λ (b : Blocks). b.block) c.add_capped.ensures ∙ c.self.invariant.block;
+      block = ap (λ (b : Blocks). b.block) c.add_all.ensures ∙ c.self.invariant.block;
       plain = subst (λ (w : Plain). IsPlain greatest w) (sym (made g (goal.at.invariant_of-self g c).After-widen_if-2))
           (IsPlain-each greatest h (classes_from (resolution s) 0 s.counts ++ top_class (resolution s) s.top_mark) g.met.T.Counter.one_fits c.self.invariant.plain (classes-inside g.F.Counter.greatest s (reach h) c.source.invariant.plain room));
     }

@@ -13,4 +13,4 @@ pub returns-clause-value : goal.returns-clause-value
 returns-clause-value g c =
     let h = c.args.self.now in
     let total_is : c.self.inside.total ≡ h.total = ap (λ (p : Plain). p.total) c.self.view_is in
-    rw (c.weighed.ensures, c.from.ensures, total_is) (sym (mean-some h (omega (arith, c.if-self-eq0.false, total_is)) (omega (arith, c.if-self.false, total_is, c.self.invariant.plain.total_fits))))
+    rw (c.new.ensures, c.weighed.ensures, c.from.ensures, total_is) (sym (mean-some h (omega (arith, c.if-self-eq0.false, total_is)) (omega (arith, c.if-self.false, total_is, c.self.invariant.plain.total_fits))))

@@ -15,7 +15,7 @@ returns-clause-value g c =
     let num_is : c.from.result ≡ min (sum (take (held_bin h c.args.value + 1) h.counts)) (2 ^ 64 - 1) =
     c.from.ensures ∙ c.saturating_from-up_to.ensures
     ∙ ap (λ n. min n (2 ^ 64 - 1)) (c.sum_to.ensures ∙ ap (λ (p : Plain). sum (take (c.held_bin.result + 1) p.counts)) c.self.view_is ∙ ap (λ k. sum (take (k + 1) h.counts)) c.held_bin.ensures.value) in
-    rw (num_is, c.from-2.ensures, total_is) (sym (share-of-some h c.args.value (omega (arith, c.if-self-eq0.false, total_is))))
+    rw (c.new.ensures, num_is, c.from-2.ensures, total_is) (sym (share-of-some h c.args.value (omega (arith, c.if-self-eq0.false, total_is))))
 
 pub returns-clause-samples : goal.returns-clause-samples
 returns-clause-samples g c = λ S stands some.

@@ -1,4 +1,4 @@
-use Rattle.std.proofs.Common.{◌≡◌, ◌∙◌, ◌+◌, ◌++◌, ◌∷◌, [], length, replicate, ap, sym, subst, arith, append_assoc, append-nil}
+use Rattle.std.proofs.Common.{◌≡◌, ◌∙◌, ◌+◌, ◌-◌, ◌++◌, ◌∷◌, [], length, replicate, ap, sym, subst, arith, append_assoc, append-nil}
 use Rattle.hdr_base.specs.Classes.{Resolution}
 use Rattle.hdr_model.specs.Plain.{Plain, resolution}
 use Rattle.hdr_model.specs.Recording.{after_record, after_records, samples_of}
@@ -15,11 +15,11 @@ use Rattle.hdr_core.proofs.histogram.Histogram.record_n_correct_counted.Goals.{A
 
 pub add_missing-requires-clause-within : goal.add_missing-requires-clause-within
 add_missing-requires-clause-within g c =
-    rw (c.in_ok-record_n.ensures.ok) (omega (arith, c.saturating_sub.ensures, recorded-holds g.T.Counter.greatest c.args.self.now c.args.value (g.T.Counter.number c.args.count)))
+    rw (c.in_ok-record_n.ensures.ok) (omega (arith, recorded-holds g.T.Counter.greatest c.args.self.now c.args.value (g.T.Counter.number c.args.count)))
 
 -- the values that are recorded after the first
-list : (g : given.Over) (c : After-add_missing g) → down_to c.saturating_sub.result c.args.interval ≡ missing c.args.value c.args.interval
-list g c = ap (λ x. down_to x c.args.interval) c.saturating_sub.ensures ∙ sym (missing-down c.args.value c.args.interval (c.has_missing.ensures.step c.if-has_missing.true))
+list : (g : given.Over) (c : After-add_missing g) → down_to (c.args.value - c.args.interval) c.args.interval ≡ missing c.args.value c.args.interval
+list g c = sym (missing-down c.args.value c.args.interval (c.has_missing.ensures.step c.if-has_missing.true).0)
 
 none : (g : given.Over) (c : Else-has_missing g) → missing c.args.value c.args.interval ≡ []
 none g c = c.has_missing.ensures.none c.if-has_missing.false
@@ -32,8 +32,8 @@ returns-then-has_missing-clause-ok g c =
     let v = c.args.value in
     let i = c.args.interval in
     c.add_missing.ensures.state
-    ∙ ap (λ (h : Plain). after_records greatest h (each_times c.as_u64.result (down_to c.saturating_sub.result i))) c.in_ok-record_n.ensures.ok
-    ∙ ap (λ k. after_records greatest (after_record greatest c.args.self.now v n) (each_times k (down_to c.saturating_sub.result i))) c.as_u64.ensures.value
+    ∙ ap (λ (h : Plain). after_records greatest h (each_times c.as_u64.result (down_to (c.args.value - c.args.interval) i))) c.in_ok-record_n.ensures.ok
+    ∙ ap (λ k. after_records greatest (after_record greatest c.args.self.now v n) (each_times k (down_to (c.args.value - c.args.interval) i))) c.as_u64.ensures.value
     ∙ ap (λ xs. after_records greatest (after_record greatest c.args.self.now v n) (each_times n xs)) (list g c)
 
 pub returns-then-has_missing-clause-ticks : goal.returns-then-has_missing-clause-ticks
@@ -58,14 +58,14 @@ returns-then-has_missing-clause-samples g c = λ S stands fits.
     let n = g.T.Counter.number c.args.count in
     let v = c.args.value in
     let i = c.args.interval in
-    let joined : S ++ samples_of (each_times n (v ∷ missing v i)) ≡ (S ++ replicate n v) ++ samples_of (each_times c.as_u64.result (down_to c.saturating_sub.result i)) =
+    let joined : S ++ samples_of (each_times n (v ∷ missing v i)) ≡ (S ++ replicate n v) ++ samples_of (each_times c.as_u64.result (down_to (c.args.value - c.args.interval) i)) =
     sym (append_assoc S (replicate n v) (samples_of (each_times n (missing v i)))) ∙ ap (λ xs. (S ++ replicate n v) ++ samples_of (each_times n xs)) (sym (list g c))
-    ∙ ap (λ k. (S ++ replicate n v) ++ samples_of (each_times k (down_to c.saturating_sub.result i))) (sym c.as_u64.ensures.value) in
+    ∙ ap (λ k. (S ++ replicate n v) ++ samples_of (each_times k (down_to (c.args.value - c.args.interval) i))) (sym c.as_u64.ensures.value) in
     let all = subst (λ xs. Fits greatest (resolution c.args.self.now) xs) joined fits in
     let first = c.in_ok-record_n.ensures.samples S stands (Fits-front greatest (resolution c.args.self.now) (S ++ replicate n v) _ all) in
     let same : resolution c.record_n.new.self ≡ resolution c.args.self.now = ap (λ (h : Plain). resolution h) c.in_ok-record_n.ensures.ok ∙ resolution-recorded greatest c.args.self.now v n in
     subst (λ xs. StandsFor c.add_missing.new.self xs) (sym joined)
-    (c.add_missing.ensures.samples (S ++ replicate n v) first (subst (λ (k : Resolution). Fits greatest k ((S ++ replicate n v) ++ samples_of (each_times c.as_u64.result (down_to c.saturating_sub.result i)))) (sym same) all))
+    (c.add_missing.ensures.samples (S ++ replicate n v) first (subst (λ (k : Resolution). Fits greatest k ((S ++ replicate n v) ++ samples_of (each_times c.as_u64.result (down_to (c.args.value - c.args.interval) i)))) (sym same) all))
 
 pub returns-then-has_missing-clause-high : goal.returns-then-has_missing-clause-high
 returns-then-has_missing-clause-high g c =

@@ -3,7 +3,7 @@ use Rattle.std.proofs.lemmas.List.{get_or-take, take-map}
 use Rattle.std.proofs.lemmas.Grind.{common_steps}
 use Rattle.hdrhistogram.specs.Payload.{IsPayload, enough_bytes}
 use Rattle.hdrhistogram.proofs.V2Bins.{all-small}
-use Rattle.hdrhistogram.proofs.PayloadWriting.{encode_start, encode_run, encode_full, encode_end, past_empty, run_is, count_is, room_for_full, room_for_run, room_for_all}
+use Rattle.hdrhistogram.proofs.PayloadWriting.{encode_start, encode_run, encode_full, encode_end, empty_from, run_is, count_is, room_for_full, room_for_run, room_for_all}
 use Rattle.hdrhistogram.proofs.serialization.payload.encode_within.Goals as goal
 
 pub loop-bin-init : goal.loop-bin-init
@@ -43,13 +43,12 @@ loop-bin-preserved-then-count-eq0 g c =
     let size : length counts ≡ bins = length-take-le bins h.counts c.written_bins-bins.ensures.within in
     let here : c.count_of-count.result ≡ get_or counts bin 0 = c.count_of-count.ensures ∙ ap (λ l. get_or l bin 0) (sym (take-map g.T.Counter.number bins c.counters.result.now) ∙ ap (take bins) c.counters.ensures) in
     let next = c.next_filled.result in
-    let inside : bin < length h.counts = omega (arith, c.loop-bin-test.true, c.written_bins-bins.ensures.within) in
     let empty : get_or h.counts bin 0 ≡ 0 = sym (get_or-take bins h.counts bin 0 c.loop-bin-test.true) ∙ sym here ∙ c.if-count-eq0.true in
-    let later : bin < next = past_empty h.counts bin next inside empty c.next_filled.ensures.onward c.next_filled.ensures.filled in
+    let later : bin < next = omega (arith, c.next_filled.ensures.onward) in
     record {
       encoded = encode_run counts _ c.put_run-written.new.buf c.args.buf.now bin filled _ c.put_run-written.result c.loop-bin.invariant.encoded
           (omega (arith, later, c.min-filled.ensures, c.loop-bin-test.true)) (omega (arith, size, c.min-filled.ensures))
-          (λ i le lt. get_or-take bins h.counts i 0 (omega (arith, lt, c.min-filled.ensures)) ∙ c.next_filled.ensures.empty i le (omega (arith, lt, c.min-filled.ensures)))
+          (λ i le lt. get_or-take bins h.counts i 0 (omega (arith, lt, c.min-filled.ensures)) ∙ empty_from h.counts bin next empty c.next_filled.ensures.empty i le (omega (arith, lt, c.min-filled.ensures)))
           (λ before none. absurd (omega (
             arith,
             c.next_filled.ensures.filled (omega (arith, before, size, c.min-filled.ensures, c.written_bins-bins.ensures.within)),
@@ -98,28 +97,10 @@ returns-clause-ok g c =
     all-small g.T.Counter.greatest (2 ^ 63) h (omega arith) c.written_bins-bins.ensures.plain small
 
 pub put_run-written-requires-clause-nonzero : goal.put_run-written-requires-clause-nonzero
-put_run-written-requires-clause-nonzero g c =
-    let h = c.args.h.now in
-    let bins = c.written_bins-bins.result in
-    let bin = c.loop-bin.bin in
-    let next = c.next_filled.result in
-    let read : c.count_of-count.result ≡ get_or (take bins h.counts) bin 0 = c.count_of-count.ensures ∙ ap (λ l. get_or l bin 0) (sym (take-map g.T.Counter.number bins c.counters.result.now) ∙ ap (take bins) c.counters.ensures) in
-    let inside : bin < length h.counts = omega (arith, c.loop-bin-test.true, c.written_bins-bins.ensures.within) in
-    let empty : get_or h.counts bin 0 ≡ 0 = sym (get_or-take bins h.counts bin 0 c.loop-bin-test.true) ∙ sym read ∙ c.if-count-eq0.true in
-    let later : bin < next = past_empty h.counts bin next inside empty c.next_filled.ensures.onward c.next_filled.ensures.filled in
-    omega (arith, later, c.min-filled.ensures, c.loop-bin-test.true)
+put_run-written-requires-clause-nonzero g c = omega (arith, c.next_filled.ensures.onward, c.min-filled.ensures, c.loop-bin-test.true)
 
 pub loop-bin-smaller-then-count-eq0 : goal.loop-bin-smaller-then-count-eq0
-loop-bin-smaller-then-count-eq0 g c =
-    let h = c.args.h.now in
-    let bins = c.written_bins-bins.result in
-    let bin = c.loop-bin.bin in
-    let next = c.next_filled.result in
-    let read : c.count_of-count.result ≡ get_or (take bins h.counts) bin 0 = c.count_of-count.ensures ∙ ap (λ l. get_or l bin 0) (sym (take-map g.T.Counter.number bins c.counters.result.now) ∙ ap (take bins) c.counters.ensures) in
-    let inside : bin < length h.counts = omega (arith, c.loop-bin-test.true, c.written_bins-bins.ensures.within) in
-    let empty : get_or h.counts bin 0 ≡ 0 = sym (get_or-take bins h.counts bin 0 c.loop-bin-test.true) ∙ sym read ∙ c.if-count-eq0.true in
-    let later : bin < next = past_empty h.counts bin next inside empty c.next_filled.ensures.onward c.next_filled.ensures.filled in
-    omega (arith, later, c.min-filled.ensures, c.loop-bin-test.true)
+loop-bin-smaller-then-count-eq0 g c = omega (arith, c.next_filled.ensures.onward, c.min-filled.ensures, c.loop-bin-test.true)
 
 pub returns-then-count-gt-GREATEST_COUNT-clause-err : goal.returns-then-count-gt-GREATEST_COUNT-clause-err
 returns-then-count-gt-GREATEST_COUNT-clause-err g c =

@@ -1,0 +1,156 @@
+//! Names at the ends of curves.
+
+use crate::field::{Field, Scale};
+use hdr_draw::escape::push_escaped;
+use hdr_draw::tenths::push_tenths;
+use hdr_draw::values::GAP;
+use hdr_view::name::{AT_CURVE, columns, columns_of, shown};
+use hdr_view::view::View;
+use std::alloc::{AllocError, Global};
+
+/// The columns of a name that a phone shows.
+const ON_PHONE: usize = 8;
+
+/// A name at the end of a curve.
+#[derive(Drop)]
+pub(crate) struct Ending {
+    /// The name, escaped.
+    pub name: String,
+    /// Where the curve ends, in tenths below the upper side.
+    pub y: u32,
+    /// The class of the curve, or nothing for a name without a line.
+    pub class: String,
+}
+
+impl Ending {
+    /// Returns the end of a curve.
+    pub(crate) fn new(
+        alloc: Global,
+        name: &str,
+        y: u32,
+        class: &str,
+    ) -> Result<Ending, AllocError> {
+        Ok(Ending {
+            name: String::from_str(alloc, name)?,
+            y,
+            class: String::from_str(alloc, class)?,
+        })
+    }
+
+    /// Returns the end of the curve of a tag, with a name of 20 columns, or eight on a phone.
+    pub(crate) fn of_tag(
+        alloc: Global,
+        view: &View<'_>,
+        index: usize,
+        tag: &str,
+        y: u32,
+    ) -> Result<Ending, AllocError> {
+        let shown = shown(alloc, view.name_of(tag), AT_CURVE)?;
+        let mut name = String::new(alloc);
+        let mut first = String::new(alloc);
+        let mut rest = String::new(alloc);
+        let mut taken = 0usize;
+        for sign in shown.as_str().chars() {
+            taken = taken.saturating_add(columns_of(sign));
+            if taken <= ON_PHONE {
+                first.push(sign)?;
+            } else {
+                rest.push(sign)?;
+            }
+        }
+        push_escaped(&mut name, first.as_str())?;
+        if columns(rest.as_str(), 1) > 1 {
+            name.push_str("<tspan class=\"n\">")?;
+            push_escaped(&mut name, rest.as_str())?;
+            name.push_str("</tspan><tspan class=\"s\">…</tspan>")?;
+        } else {
+            push_escaped(&mut name, rest.as_str())?;
+        }
+        let dash = if index > 4 { " dash" } else { "" };
+        Ok(Ending {
+            name,
+            y,
+            class: format!(in alloc; "c t{index}{dash}")?,
+        })
+    }
+}
+
+/// Moves names apart, down and then up, so that each keeps its distance within a height.
+fn move_apart(endings: &mut Vec<Ending>, height: u32) -> Result<(), AllocError> {
+    endings.sort_by_key(|ending| ending.y)?;
+    let mut least = 40;
+    for ending in endings.iter_mut() {
+        ending.y = ending.y.max(least);
+        least = ending.y.saturating_add(GAP);
+    }
+    let mut most = height;
+    for ending in endings.iter_mut().rev() {
+        ending.y = ending.y.min(most);
+        most = ending.y.saturating_sub(GAP);
+    }
+    Ok(())
+}
+
+/// Adds the end of the level's line, if there is a level.
+pub(crate) fn push_level_ending(
+    view: &View<'_>,
+    alloc: Global,
+    endings: &mut Vec<Ending>,
+    field: Field,
+    scale: &Scale,
+) -> Result<(), AllocError> {
+    let Some(level) = view.options.level else {
+        return Ok(());
+    };
+    let mut name = String::from_str(alloc, "level ")?;
+    view.units.push_label(&mut name, level.value)?;
+    let y = field.y(scale, level.value);
+    endings.push(Ending::new(alloc, name.as_str(), y, "level")?)?;
+    Ok(())
+}
+
+/// Returns the last level of a line, or the lower side of its field if it has none.
+pub(crate) fn last_level(levels: &[Option<u32>], field: Field) -> u32 {
+    let mut last = field.tenths();
+    for level in levels {
+        if let Some(level) = level {
+            last = *level;
+        }
+    }
+    last
+}
+
+impl Field {
+    /// Appends names at the right, and a piece of the line of each.
+    pub(crate) fn push_endings(
+        self,
+        text: &mut String,
+        endings: &mut Vec<Ending>,
+    ) -> Result<(), AllocError> {
+        move_apart(endings, self.tenths())?;
+        let Field { top, height } = self;
+        write!(
+            text,
+            "<svg x=\"100%\" y=\"{top}\" width=\"18\" height=\"{height}\">"
+        )?;
+        for ending in endings.iter() {
+            if !ending.class.is_empty() {
+                let class = ending.class.as_str();
+                write!(text, "<path class=\"{class}\" d=\"M5 ")?;
+                push_tenths(text, ending.y)?;
+                text.push_str("h12\"/>")?;
+            }
+        }
+        text.push_str("</svg>")?;
+        for ending in endings.iter() {
+            let shift = if ending.class.is_empty() { 6 } else { 21 };
+            write!(text, "<text x=\"100%\" dx=\"{shift}\" y=\"")?;
+            let y = top.saturating_add(4).saturating_mul(10);
+            push_tenths(text, y.saturating_add(ending.y))?;
+            text.push_str("\">")?;
+            text.push_str(ending.name.as_str())?;
+            text.push_str("</text>")?;
+        }
+        Ok(())
+    }
+}

@@ -1,0 +1,147 @@
+//! The intervals of logs, not decoded yet.
+
+use crate::error::PageError;
+use hdr_input::InputError;
+use hdr_input::log_lines::{entry_of, split_log_line};
+use hdrhistogram::serialization::interval_log::{IntervalLogHistogram, LogEntry};
+use std::alloc::{AllocError, Global};
+use std::collections::HashMap;
+use std::time::Duration;
+
+/// Nanoseconds in a millisecond.
+const MILLISECOND: u128 = 1_000_000;
+
+/// An interval of a log.
+#[derive(Drop)]
+pub struct Interval<'a> {
+    /// The index of its tag.
+    pub tag: usize,
+    /// When it began, in milliseconds since the epoch, and how long it was, in milliseconds.
+    pub start: u64,
+    pub length: u64,
+    /// The index of its log, and its line.
+    pub log: usize,
+    pub line: u64,
+    /// Its histogram in Base64.
+    pub field: &'a str,
+}
+
+impl Interval<'_> {
+    /// Returns when it ended, in milliseconds since the epoch.
+    pub fn end(&self) -> u64 {
+        self.start.saturating_add(self.length)
+    }
+}
+
+/// The intervals of logs, in order.
+#[derive(Drop)]
+pub struct Intervals<'a> {
+    pub list: Vec<Interval<'a>>,
+    /// The tags in the order in which they were first read, an empty one for intervals without.
+    pub tags: Vec<&'a str>,
+    indices: HashMap<String, usize>,
+}
+
+impl<'a> Intervals<'a> {
+    /// Returns the intervals of logs, or those with one tag.
+    pub fn read(
+        alloc: Global,
+        logs: &'a [Vec<u8>],
+        tag: Option<&str>,
+    ) -> Result<Intervals<'a>, PageError> {
+        let mut intervals = Intervals {
+            list: Vec::new(alloc),
+            tags: Vec::new(alloc),
+            indices: HashMap::new(alloc),
+        };
+        for (index, log) in logs.iter().enumerate() {
+            intervals.read_log(alloc, index, log, tag)?;
+        }
+        Ok(intervals)
+    }
+
+    /// Adds the intervals of the log of this index.
+    fn read_log(
+        &mut self,
+        alloc: Global,
+        log: usize,
+        bytes: &'a [u8],
+        tag: Option<&str>,
+    ) -> Result<(), PageError> {
+        let mut base = Duration::ZERO;
+        let mut line = 1u64;
+        let mut rest = bytes;
+        while !rest.is_empty() {
+            let (first, after) = split_log_line(rest, line);
+            match entry_of(alloc, first, line) {
+                Ok(Some(LogEntry::BaseTime(time))) => base = time,
+                Ok(Some(LogEntry::Interval(interval))) => {
+                    self.push(alloc, base, log, line, &interval, tag)?;
+                }
+                Ok(_) => {}
+                Err(cause) => return Err(PageError::Input { log, cause }),
+            }
+            rest = after;
+            line = line.saturating_add(1);
+        }
+        Ok(())
+    }
+
+    /// Adds an interval after this base time, unless another tag than its own is chosen.
+    fn push(
+        &mut self,
+        alloc: Global,
+        base: Duration,
+        log: usize,
+        line: u64,
+        interval: &IntervalLogHistogram<'a>,
+        chosen: Option<&str>,
+    ) -> Result<(), AllocError> {
+        let tag = match interval.tag() {
+            Some(tag) => tag.as_str(),
+            None => "",
+        };
+        if chosen.is_some_and(|chosen| chosen != tag) {
+            return Ok(());
+        }
+        let tag = self.index_of(alloc, tag)?;
+        let start = base.as_nanos() + interval.start_timestamp().as_nanos();
+        self.list.push(Interval {
+            tag,
+            start: in_milliseconds(start),
+            length: in_milliseconds(interval.duration().as_nanos()),
+            log,
+            line,
+            field: interval.encoded_histogram(),
+        })?;
+        Ok(())
+    }
+
+    /// Returns the index of a tag, which is added if it is new.
+    fn index_of(&mut self, alloc: Global, tag: &'a str) -> Result<usize, AllocError> {
+        if let Some(index) = self.indices.get(tag) {
+            return Ok(*index);
+        }
+        let index = self.tags.len();
+        self.tags.push(tag)?;
+        let key = String::from_str(alloc, tag)?;
+        match self.indices.insert(key, index) {
+            Ok(_) => Ok(index),
+            Err(_) => Err(AllocError),
+        }
+    }
+}
+
+/// Returns nanoseconds in milliseconds, to the nearest, as far as 64 bits hold them.
+fn in_milliseconds(nanoseconds: u128) -> u64 {
+    let milliseconds = nanoseconds.saturating_add(MILLISECOND / 2) / MILLISECOND;
+    u64::try_from(milliseconds).unwrap_or(u64::MAX)
+}
+
+/// Returns the error of an interval that is not decoded.
+pub fn not_decoded(interval: &Interval<'_>, cause: InputError) -> PageError {
+    PageError::Input {
+        log: interval.log,
+        cause,
+    }
+}

@@ -1,0 +1,96 @@
+//! Points of time, each of which merges some intervals.
+
+use crate::reading::Interval;
+use std::alloc::{AllocError, Global};
+
+/// The most points of time.
+const MOST: u64 = 200;
+
+/// The first time that is a time of a clock, in milliseconds: 366 days after the epoch.
+const CLOCK_FROM: u64 = 31_622_400_000;
+
+/// The points of time of a log, in milliseconds since the epoch.
+#[derive(Clone, Copy)]
+pub struct Timeline {
+    /// When the first interval began, and the last one ended.
+    pub first: u64,
+    pub last: u64,
+    /// The number of intervals of a tag that are merged to a point.
+    pub merged: u64,
+    /// The length of a point.
+    pub step: u64,
+    pub points: usize,
+}
+
+impl Timeline {
+    /// Returns the points of time of intervals.
+    pub fn new(alloc: Global, intervals: &[Interval<'_>]) -> Result<Timeline, AllocError> {
+        let mut first = u64::MAX;
+        let mut last = 0;
+        let mut lengths = Vec::new(alloc);
+        for interval in intervals {
+            first = first.min(interval.start);
+            last = last.max(interval.end());
+            lengths.push(interval.length)?;
+        }
+        lengths.sort()?;
+        let usual = match lengths.get(lengths.len() / 2) {
+            Some(0) | None => 1_000,
+            Some(usual) => *usual,
+        };
+        let first = first.min(last);
+        Ok(Timeline::of_span(first, last, usual))
+    }
+
+    /// Returns the points of time from a time to another, of intervals of a usual length.
+    fn of_span(first: u64, last: u64, usual: u64) -> Timeline {
+        let span = last.saturating_sub(first).max(usual);
+        let merged = parts(span, usual, 1_000).div_ceil(MOST).max(1);
+        let step = usual.saturating_mul(merged).max(1);
+        Timeline {
+            first,
+            last,
+            merged,
+            step,
+            points: parts(span, step, 1_000_000).clamp(1, MOST) as usize,
+        }
+    }
+
+    /// Whether the times are those of a clock.
+    pub fn has_clock(&self) -> bool {
+        self.first > CLOCK_FROM
+    }
+
+    /// Returns the point of a time.
+    pub fn point_of(&self, time: u64) -> usize {
+        let point = time.saturating_sub(self.first) / self.step.max(1);
+        (point as usize).min(self.points.saturating_sub(1))
+    }
+
+    /// Returns when a point begins.
+    pub fn start_of(&self, point: usize) -> u64 {
+        let after = self.step.saturating_mul(point as u64);
+        self.first.saturating_add(after)
+    }
+
+    /// Returns how much of a point is before the end.
+    pub fn length_of(&self, point: usize) -> u64 {
+        self.last
+            .saturating_sub(self.start_of(point))
+            .min(self.step)
+            .max(1)
+    }
+
+    /// Returns the length of all points.
+    pub fn span(&self) -> u64 {
+        self.step.saturating_mul(self.points as u64)
+    }
+}
+
+/// Returns how many parts of some length a span has, rounded up after rounding to some fraction of
+/// a part, since intervals are seldom equally long.
+fn parts(span: u64, length: u64, fraction: u64) -> u64 {
+    let length = u128::from(length.max(1));
+    let rounded = (u128::from(span) * u128::from(fraction) + length / 2) / length;
+    u64::try_from(rounded.div_ceil(u128::from(fraction.max(1)))).unwrap_or(u64::MAX)
+}

@@ -1,0 +1,44 @@
+-- Gathered logs: which lines they have, and in which order.
+use Rattle.std.specs.Prelude.{◌≡◌, ℕ, ◌≤◌, List, [], ◌∷◌, ◌++◌, Option, IfSome}
+use Rattle.std.specs.List.{flat_map}
+use Rattle.std.specs.Option.{option_map}
+use Rattle.std.specs.Io.KnownBytes.{Appends}
+use Rattle.hdrhistogram.specs.LogStarts.{new_start, IsStartText}
+use Rattle.hdr_gather.specs.declared.part.Part.{Part}
+use Rattle.hdr_gather.specs.declared.reader.LogReader.{LogReader}
+use Rattle.hdr_gather.specs.Lines.{IsLineOf}
+
+-- intervals begin in order of time, from `low` to `high`
+unfoldable pub Ascend : ℕ → ℕ → List Part → Type 0
+Ascend low high [] = low ≤ high
+Ascend low high (first ∷ others) = (low ≤ first.start) × Ascend first.start high others
+
+-- a line for each group of intervals, which are one and others that it is merged with
+unfoldable pub AreLinesOf : List (Part × List Part) → List ℕ → Type 0
+AreLinesOf [] text = text ≡ []
+AreLinesOf (group ∷ groups) text =
+    (line : List ℕ) × (rest : List ℕ) × (text ≡ line ++ rest) × IsLineOf group.0 group.1 line × AreLinesOf groups rest
+
+-- intervals were written in their order, each of them in one line
+abbrev pub Writes : List Part → Option (List ℕ) → Option (List ℕ) → Type 0
+Writes parts old new =
+    (groups : List (Part × List Part)) × (text : List ℕ)
+    × (flat_map (λ group. group.0 ∷ group.1) groups ≡ parts) × AreLinesOf groups text × Appends old new text
+
+-- intervals were written that begin in order of time, from `low` to `high`
+abbrev pub WritesFrom : ℕ → ℕ → Option (List ℕ) → Option (List ℕ) → Type 0
+WritesFrom low high old new = (parts : List Part) × Ascend low high parts × Writes parts old new
+
+-- comments were written, and then intervals in order of time
+abbrev pub WritesLog : Option (List ℕ) → Option (List ℕ) → Type 0
+WritesLog old new =
+    (comments : List (List ℕ)) × (header : List ℕ) × (between : Option (List ℕ)) × (high : ℕ)
+    × IsStartText (record new_start { comments = comments }) header × Appends old between header × WritesFrom 0 high between new
+
+-- when the next interval of a log begins, if it has one
+abbrev pub next_start : {R : Type 0} → LogReader R → Option ℕ
+next_start reader = option_map (λ held. held.start) reader.next
+
+-- it begins at this time or later
+abbrev pub IsFrom : {R : Type 0} → ℕ → LogReader R → Type 0
+IsFrom low reader = IfSome (next_start reader) (λ start. low ≤ start)

@@ -1,0 +1,174 @@
+//! Times as texts: in UTC, or since the start if a log has no times of a clock.
+
+use crate::amount::SPACE;
+use hdr_draw::number::{Decimal, push_grouped};
+use hdr_figures::timeline::Timeline;
+use jiff::Timestamp;
+use jiff::civil::DateTime;
+use jiff::tz::Offset;
+use std::alloc::AllocError;
+
+const DAY: u64 = 86_400_000;
+
+const HOUR: u64 = 3_600_000;
+
+const MONTHS: [&str; 12] = [
+    "January",
+    "February",
+    "March",
+    "April",
+    "May",
+    "June",
+    "July",
+    "August",
+    "September",
+    "October",
+    "November",
+    "December",
+];
+
+/// The units of lengths of time, in seconds.
+const LENGTHS: [(u64, &str); 4] = [(86_400, "d"), (3_600, "h"), (60, "min"), (1, "s")];
+
+/// How a time is written.
+#[derive(Clone, Copy, PartialEq, Eq)]
+pub enum TimeStyle {
+    /// With seconds, and with the day if the log has several.
+    Full,
+    /// Without seconds if they are 0, and midnight as a day.
+    Short,
+    /// The same with seconds.
+    ShortWithSeconds,
+}
+
+/// Writes the times of a log.
+#[derive(Clone, Copy)]
+pub struct Clock {
+    first: u64,
+    has_clock: bool,
+    has_days: bool,
+    has_hours: bool,
+}
+
+/// Returns the date and time of milliseconds since the epoch, in UTC.
+fn civil(time: u64) -> Option<DateTime> {
+    let seconds = i64::try_from(time / 1_000).ok()?;
+    let timestamp = Timestamp::from_second(seconds).ok()?;
+    Some(Offset::UTC.to_datetime(timestamp))
+}
+
+/// Returns the name of a month.
+fn month_name(date: DateTime) -> &'static str {
+    let index = u8::try_from(date.month()).unwrap_or(1).saturating_sub(1);
+    match MONTHS.get(index as usize) {
+        Some(name) => *name,
+        None => "",
+    }
+}
+
+/// Appends a day such as `26 Nov`.
+fn push_day(text: &mut String, date: DateTime) -> Result<(), AllocError> {
+    let day = date.day();
+    let name = month_name(date);
+    let month = name.get(..3).unwrap_or(name);
+    write!(text, "{day} {month}")
+}
+
+impl Clock {
+    /// Returns the clock of a log.
+    pub fn new(timeline: &Timeline) -> Clock {
+        let has_clock = timeline.has_clock();
+        Clock {
+            first: timeline.first,
+            has_clock,
+            has_days: has_clock && timeline.first / DAY != timeline.last / DAY,
+            has_hours: timeline.last.saturating_sub(timeline.first) >= HOUR,
+        }
+    }
+
+    /// Whether times are those of a clock.
+    pub fn has_clock(self) -> bool {
+        self.has_clock
+    }
+
+    /// Appends a time, in milliseconds since the epoch.
+    pub fn push(self, text: &mut String, time: u64, style: TimeStyle) -> Result<(), AllocError> {
+        if !self.has_clock {
+            return self.push_since_start(text, time);
+        }
+        let in_day = time % DAY / 1_000;
+        if self.has_days {
+            if let Some(date) = civil(time) {
+                if style == TimeStyle::Full {
+                    push_day(text, date)?;
+                    text.push_str(" ")?;
+                } else if in_day == 0 {
+                    return push_day(text, date);
+                }
+            }
+        }
+        let hours = in_day / 3_600;
+        let minutes = in_day / 60 % 60;
+        let seconds = in_day % 60;
+        write!(text, "{hours:02}:{minutes:02}")?;
+        if style == TimeStyle::Short && seconds == 0 {
+            return Ok(());
+        }
+        write!(text, ":{seconds:02}")
+    }
+
+    /// Appends a time since the start.
+    fn push_since_start(self, text: &mut String, time: u64) -> Result<(), AllocError> {
+        let since = time.saturating_sub(self.first).saturating_add(500) / 1_000;
+        let seconds = since % 60;
+        if self.has_hours {
+            let hours = since / 3_600;
+            let minutes = since / 60 % 60;
+            return write!(text, "{hours}:{minutes:02}:{seconds:02}");
+        }
+        let minutes = since / 60;
+        write!(text, "{minutes}:{seconds:02}")
+    }
+
+    /// Appends the day of a time with its year, such as `25 November 2026`.
+    pub fn push_date(self, text: &mut String, time: u64) -> Result<(), AllocError> {
+        let Some(date) = civil(time) else {
+            return Ok(());
+        };
+        let day = date.day();
+        let month = month_name(date);
+        let year = date.year();
+        write!(text, "{day} {month} {year}")
+    }
+}
+
+/// Appends a length of time in at most two units, from milliseconds.
+pub fn push_length(text: &mut String, milliseconds: u64) -> Result<(), AllocError> {
+    if milliseconds < 10_000 && milliseconds % 1_000 != 0 {
+        Decimal::of_fraction(u128::from(milliseconds), 1_000)
+            .trimmed()
+            .push(text)?;
+        text.push_str(" s")?;
+        return Ok(());
+    }
+    let mut rest = milliseconds.saturating_add(500) / 1_000;
+    let mut written = 0u32;
+    for (size, name) in LENGTHS {
+        if rest >= size && written < 2 {
+            if written > 0 {
+                text.push_str(SPACE)?;
+            }
+            push_grouped(text, rest / size.max(1))?;
+            text.push_str(SPACE)?;
+            text.push_str(name)?;
+            rest %= size.max(1);
+            written += 1;
+        } else if written > 0 {
+            break;
+        }
+    }
+    if written == 0 {
+        text.push_str("0 s")?;
+    }
+    Ok(())
+}

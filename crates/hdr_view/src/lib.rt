@@ -1,0 +1,10 @@
+//! What a page shows, and its texts: numbers with units, times, names, and the sentence on all
+//! samples with the slow times.
+#![tactic(auto)]
+
+pub mod amount;
+pub mod clock;
+pub mod name;
+pub mod options;
+pub mod sentence;
+pub mod view;

@@ -1,0 +1,309 @@
+//! The title, the sentence and the slow times.
+
+use crate::clock::{TimeStyle, push_length};
+use crate::name::{IN_SENTENCE, IN_TABLE, IN_TITLE};
+use crate::options::push_percentile;
+use crate::view::View;
+use hdr_draw::number::push_grouped;
+use hdr_figures::slow::{LETTERS, Mark, Measure, SlowTime, TIMES};
+use std::alloc::{AllocError, Global};
+
+impl View<'_> {
+    /// Appends the title, the sentence and the slow times.
+    pub fn push_words(&self, alloc: Global, text: &mut String) -> Result<(), AllocError> {
+        self.push_markup(text, "<h1>")?;
+        self.push_shown(alloc, text, self.options.title, IN_TITLE)?;
+        self.push_markup(text, "</h1>")?;
+        text.push_str("\n")?;
+        self.push_sentence(alloc, text)?;
+        if self.log.all.count == 0 || self.is_instant() {
+            self.push_markup(text, "<p class=\"soft\">")?;
+        } else if self.slow.named.is_empty() {
+            self.push_markup(text, "<p class=\"soft\">")?;
+            text.push_str("Never slow: ")?;
+            self.push_rule(text)?;
+        } else {
+            self.push_slow_times(alloc, text)?;
+            self.push_markup(text, "<p class=\"soft\">")?;
+            text.push_str("Slow: ")?;
+            self.push_rule(text)?;
+        }
+        self.push_zone(text)
+    }
+
+    /// Appends the sentence on all samples.
+    fn push_sentence(&self, alloc: Global, text: &mut String) -> Result<(), AllocError> {
+        let all = &self.log.all;
+        let length = self.timeline.last.saturating_sub(self.timeline.first);
+        self.push_markup(text, "<p class=\"say\">")?;
+        if all.count == 0 {
+            text.push_str("No samples in ")?;
+            push_length(text, length)?;
+            text.push_str(".")?;
+            self.push_markup(text, "</p>")?;
+            return text.push_str("\n");
+        }
+        push_grouped(text, all.count)?;
+        text.push_str(" samples in ")?;
+        push_length(text, length)?;
+        text.push_str(": p50 ")?;
+        self.units.push(text, all.p50)?;
+        text.push_str(", ")?;
+        self.push_bold(text, "p99 ", all.p99)?;
+        text.push_str(", ")?;
+        self.push_bold(text, "max ", all.max)?;
+        self.push_worst(alloc, text)?;
+        text.push_str(".")?;
+        self.push_verdict(text)?;
+        self.push_markup(text, "</p>")?;
+        text.push_str("\n")
+    }
+
+    /// Appends a name and a value, bold.
+    fn push_bold(&self, text: &mut String, name: &str, value: u64) -> Result<(), AllocError> {
+        self.push_markup(text, "<b>")?;
+        text.push_str(name)?;
+        self.units.push(text, value)?;
+        self.push_markup(text, "</b>")
+    }
+
+    /// Appends when the greatest sample came, and in which tag.
+    fn push_worst(&self, alloc: Global, text: &mut String) -> Result<(), AllocError> {
+        let Some(worst) = self.log.worst else {
+            return Ok(());
+        };
+        if !self.is_instant() {
+            text.push_str(" at ")?;
+            self.clock.push(text, worst.start, TimeStyle::Full)?;
+        }
+        if self.is_single() {
+            return Ok(());
+        }
+        text.push_str(" in ")?;
+        self.push_isolated(alloc, text, worst.tag, IN_TABLE)
+    }
+
+    /// Appends whether all samples keep the level.
+    fn push_verdict(&self, text: &mut String) -> Result<(), AllocError> {
+        let Some(level) = self.options.level else {
+            return Ok(());
+        };
+        let found = self.log.all.at_level;
+        text.push_str(" ")?;
+        self.push_markup(text, "<b>")?;
+        text.push_str(if found > level.value {
+            "Over the level"
+        } else {
+            "Within the level"
+        })?;
+        self.push_markup(text, "</b>")?;
+        text.push_str(" of ")?;
+        push_percentile(text, level)?;
+        text.push_str(" ")?;
+        self.units.push_label(text, level.value)?;
+        if level.num.saturating_mul(100) != level.den.saturating_mul(99) {
+            text.push_str(" (")?;
+            self.units.push(text, found)?;
+            text.push_str(")")?;
+        }
+        text.push_str(".")
+    }
+
+    /// Appends a line for each slow time.
+    fn push_slow_times(&self, alloc: Global, text: &mut String) -> Result<(), AllocError> {
+        self.push_markup(text, "<ul class=\"slow\" aria-label=\"Slow times\">\n")?;
+        let peak = self.peak();
+        for (time, letter) in self.slow.named.iter().zip(LETTERS) {
+            let is_peak = match &peak {
+                Some(peak) => !peak.is_further(&time.worst),
+                None => false,
+            };
+            self.push_slow_time(alloc, text, time, letter, is_peak)?;
+        }
+        self.push_markup(text, "</ul>\n")?;
+        let others = self.slow.others;
+        if others > 0 {
+            self.push_markup(text, "<p class=\"soft\">")?;
+            write!(text, "and {others} more, shorter or less slow")?;
+            self.push_markup(text, "</p>")?;
+            text.push_str("\n")?;
+        }
+        Ok(())
+    }
+
+    /// Returns the mark of a slow time that is the most times its usual value.
+    fn peak(&self) -> Option<Mark> {
+        let mut peak: Option<Mark> = None;
+        for time in &self.slow.named {
+            let is_further = match &peak {
+                Some(peak) => time.worst.is_further(peak),
+                None => true,
+            };
+            if is_further {
+                peak = Some(time.worst);
+            }
+        }
+        peak
+    }
+
+    /// Appends the line of a slow time.
+    fn push_slow_time(
+        &self,
+        alloc: Global,
+        text: &mut String,
+        time: &SlowTime,
+        letter: &str,
+        is_peak: bool,
+    ) -> Result<(), AllocError> {
+        let worst = &time.worst;
+        self.push_markup(text, "<li><b>")?;
+        text.push_str(letter)?;
+        self.push_markup(text, "</b>")?;
+        text.push_str(" Slow from ")?;
+        self.push_span(text, time)?;
+        text.push_str(":")?;
+        self.push_slow_tags(alloc, text, time)?;
+        text.push_str(" ")?;
+        self.push_measure(text, worst.measure)?;
+        text.push_str(" up to ")?;
+        if is_peak {
+            self.push_bold(text, "", worst.value)?;
+        } else {
+            self.units.push(text, worst.value)?;
+        }
+        if time.to.saturating_sub(time.from) > 1 {
+            text.push_str(" at ")?;
+            self.push_start(text, worst.point)?;
+        }
+        if time.tags.iter().filter(|is_slow| **is_slow).count() > 1 {
+            self.push_in_tag(alloc, text, worst.tag)?;
+        }
+        text.push_str(" ")?;
+        self.push_markup(text, "<span class=\"soft\">")?;
+        text.push_str("(usually ")?;
+        self.units.push(text, worst.usual)?;
+        text.push_str(")")?;
+        self.push_markup(text, "</span></li>")?;
+        text.push_str("\n")
+    }
+
+    /// Appends when a slow time began, and how long it was.
+    fn push_span(&self, text: &mut String, time: &SlowTime) -> Result<(), AllocError> {
+        self.push_start(text, time.from)?;
+        text.push_str(" for ")?;
+        let points = time.to.saturating_sub(time.from) as u64;
+        push_length(text, self.timeline.step.saturating_mul(points))
+    }
+
+    /// Appends when a point begins.
+    fn push_start(&self, text: &mut String, point: usize) -> Result<(), AllocError> {
+        let start = self.timeline.start_of(point);
+        self.clock.push(text, start, TimeStyle::Full)
+    }
+
+    /// Appends the tag of an index, after `in`.
+    fn push_in_tag(
+        &self,
+        alloc: Global,
+        text: &mut String,
+        index: usize,
+    ) -> Result<(), AllocError> {
+        let Some(tag) = self.log.tags.get(index) else {
+            return Ok(());
+        };
+        text.push_str(" in ")?;
+        self.push_isolated(alloc, text, tag.tag, IN_SENTENCE)
+    }
+
+    /// Appends which tags are slow, unless there is one tag alone.
+    fn push_slow_tags(
+        &self,
+        alloc: Global,
+        text: &mut String,
+        time: &SlowTime,
+    ) -> Result<(), AllocError> {
+        if self.is_single() {
+            return Ok(());
+        }
+        let slow = time.tags.iter().filter(|is_slow| **is_slow).count();
+        if slow == self.log.tags.len() {
+            return text.push_str(" all tags,");
+        }
+        let mut named = 0usize;
+        for (tag, is_slow) in self.log.tags.iter().zip(time.tags.iter()) {
+            if *is_slow && named < 3 {
+                text.push_str(if named == 0 { " " } else { ", " })?;
+                self.push_isolated(alloc, text, tag.tag, IN_SENTENCE)?;
+                named += 1;
+            }
+        }
+        if slow > named {
+            let more = slow - named;
+            write!(text, " and {more} more")?;
+        }
+        text.push_str(",")
+    }
+
+    /// Appends the name of a measure.
+    pub fn push_measure(&self, text: &mut String, measure: Measure) -> Result<(), AllocError> {
+        match (measure, self.options.level) {
+            (Measure::P50, _) => text.push_str("p50"),
+            (Measure::P90, _) => text.push_str("p90"),
+            (Measure::Level, Some(level)) => push_percentile(text, level),
+            _ => text.push_str("p99"),
+        }
+    }
+
+    /// Appends what slow means.
+    fn push_rule(&self, text: &mut String) -> Result<(), AllocError> {
+        match self.options.level {
+            Some(level) => {
+                push_percentile(text, level)?;
+                text.push_str(" of a tag above ")?;
+                self.units.push_label(text, level.value)?;
+                text.push_str(". ")
+            }
+            None => write!(
+                text,
+                "p99 of a tag {TIMES} times its median over time, or more \
+                 (with few samples: p90 or p50). "
+            ),
+        }
+    }
+
+    /// Appends from when to when the log is, and ends the paragraph.
+    fn push_zone(&self, text: &mut String) -> Result<(), AllocError> {
+        if self.clock.has_clock() {
+            self.clock.push(text, self.timeline.first, TimeStyle::Full)?;
+            text.push_str(" to ")?;
+            self.clock.push(text, self.timeline.last, TimeStyle::Full)?;
+            text.push_str(" UTC, ")?;
+            self.clock.push_date(text, self.timeline.first)?;
+        } else {
+            text.push_str("Times are since the start, as the log has no clock time")?;
+        }
+        text.push_str(".")?;
+        self.push_markup(text, "</p>")?;
+        text.push_str("\n")
+    }
+
+    /// Appends the slow times as sentences.
+    pub fn push_description(&self, text: &mut String) -> Result<(), AllocError> {
+        if self.slow.named.is_empty() {
+            return text.push_str("No slow time.");
+        }
+        for (time, letter) in self.slow.named.iter().zip(LETTERS) {
+            if time.from != self.slow.named.first().map_or(0, |first| first.from) {
+                text.push_str(" ")?;
+            }
+            write!(text, "{letter}: slow from ")?;
+            self.push_start(text, time.from)?;
+            text.push_str(", ")?;
+            self.push_measure(text, time.worst.measure)?;
+            text.push_str(" up to ")?;
+            self.units.push(text, time.worst.value)?;
+            text.push_str(".")?;
+        }
+        Ok(())
+    }
+}

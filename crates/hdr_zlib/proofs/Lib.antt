@@ -1,0 +1,10 @@
+pub mod BitLaws
+pub mod BlockLaws
+pub mod CanonicalLaws
+pub mod CodeLaws
+pub mod DecodingLaws
+pub mod LookupLaws
+pub mod PlaceLaws
+pub mod RowLaws
+pub mod StoredLaws
+pub mod SymbolLaws

@@ -1,0 +1,9 @@
+-- Exit statuses.
+use Rattle.std.specs.Prelude.{ℕ}
+use Rattle.hdrstat.specs.declared.error.StatError.{StatError}
+use Rattle.hdrstat.specs.declared.error.StatError.TheVariants.{Usage}
+
+-- the status of an error: 2 of the usage, 1 of the input or the output
+abbrev pub status_of : StatError → ℕ
+status_of (Usage text) = 2
+status_of e = 1
