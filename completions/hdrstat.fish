@@ -63,7 +63,7 @@ complete -c hdrstat -n '__fish_seen_subcommand_from convert' -s q -l quiet -d 'D
 complete -c hdrstat -n '__fish_seen_subcommand_from convert' -s h -l help -d 'Print help'
 complete -c hdrstat -n '__fish_seen_subcommand_from page' -l unit -x -a 'ns us ms s' -d 'Unit of the values of the logs, which are then shown with units'
 complete -c hdrstat -n '__fish_seen_subcommand_from page' -l title -x -d 'Title of the page'
-complete -c hdrstat -n '__fish_seen_subcommand_from page' -l level -x -d 'Quantile that each tag should have, such as 99/100=5ms'
+complete -c hdrstat -n '__fish_seen_subcommand_from page' -l level -x -d 'Quantile, and the value that it should not exceed, such as 99/100=5ms'
 complete -c hdrstat -n '__fish_seen_subcommand_from page' -l tag -x -d 'Show the intervals with this tag alone'
 complete -c hdrstat -n '__fish_seen_subcommand_from page' -s o -l output -r -F -d 'File to write, not standard output'
 complete -c hdrstat -n '__fish_seen_subcommand_from page' -l text -d 'Print text for a terminal, and no page'

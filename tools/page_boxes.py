@@ -1,13 +1,15 @@
 """The faults of a page by the boxes of its drawings' own texts, for tools/page_check where there is no browser.
 
 The style's lengths are those of crates/hdr_page/src/style.rt. A letter is as wide as in Arial, which most of the style's fonts have
-nearly the widths of; a mark that combines adds nothing to the width, and a third of a line to the height.
+nearly the widths of; a mark that combines adds nothing to the width, and a third of a line to the height. A name at a curve's end is
+in a box that reaches to the right side of its drawing, where a browser cuts it.
 """
 import html.parser
 import re
 import unicodedata
 
 SIZE, ASCENT, DESCENT = 12, 0.905, 0.212
+BASELINE = 11.5
 NARROW = 700
 WIDTHS = {**dict.fromkeys("0123456789_aebdghnopqu$?L\u00b5", 0.556), **dict.fromkeys("ijl'|", 0.222), **dict.fromkeys(" .,:;/!tfI[]\u00a0\\", 0.278),
           **dict.fromkeys("r()-\u2010`{}", 0.333), **dict.fromkeys("cksvxyzJ", 0.5), **dict.fromkeys("mM", 0.833), **dict.fromkeys("wCDHNRU", 0.722),
@@ -19,7 +21,7 @@ class Texts(html.parser.HTMLParser):
 
     def __init__(self):
         super().__init__()
-        self.drawings, self.open, self.field, self.text, self.skip, self.spans = [], 0, None, None, None, []
+        self.drawings, self.open, self.field, self.text, self.skip, self.above = [], 0, None, None, None, 0
 
     def handle_starttag(self, tag, attrs):
         attrs = {name: value or "" for name, value in attrs}
@@ -28,23 +30,23 @@ class Texts(html.parser.HTMLParser):
                 right = re.search(r"--r:(\d+)px", attrs.get("style", ""))
                 self.drawings.append({"class": attrs["class"], "height": float(attrs["height"]), "right": float(right[1]) if right else 0,
                                       "texts": [], "paths": []})
-            self.field = [float(part) for part in attrs.get("viewbox", "").split()]
+            self.field, self.above = [float(part) for part in attrs.get("viewbox", "").split()], float(attrs.get("y", 0))
             self.open += 1
         elif self.open and tag in ("title", "desc"):
             self.skip = tag
         elif self.open and tag == "text":
             self.text = {**attrs, "parts": []}
-        elif tag == "tspan":
-            self.spans.append(attrs.get("class", ""))
+        elif self.open and tag == "foreignobject":
+            self.text = {"x": "100%", "dx": "6", "y": self.above + float(attrs["y"]) + BASELINE, "is_cut": True, "parts": []}
+        elif tag == "div" and self.text and attrs.get("class") == "o":
+            self.text["dx"] = "21"
         elif self.open and tag == "path":
             self.drawings[-1]["paths"].append((self.field, attrs.get("d", ""), attrs.get("class", "")))
 
     def handle_endtag(self, tag):
         if tag == self.skip:
             self.skip = None
-        elif tag == "tspan":
-            self.spans.pop()
-        elif tag == "text" and self.text:
+        elif tag in ("text", "foreignobject") and self.text:
             self.drawings[-1]["texts"].append(self.text)
             self.text = None
         elif tag == "svg" and self.open:
@@ -52,7 +54,7 @@ class Texts(html.parser.HTMLParser):
 
     def handle_data(self, data):
         if self.text is not None and not self.skip:
-            self.text["parts"].append((self.spans[-1] if self.spans else "", data))
+            self.text["parts"].append(data)
 
 
 def width_of(text):
@@ -77,14 +79,15 @@ def boxes(drawing, left, width, page_width):
         classes = text.get("class", "").split()
         if is_narrow and "n" in classes:
             continue
-        shown = "".join(part for kind, part in text["parts"] if kind not in ("n" if is_narrow else "s").split())
+        shown = "".join(text["parts"])
         wide, marks = width_of(shown)
         x = text["x"]
         at = left + 60 + (inner * float(x[:-1]) / 100 if x.endswith("%") else float(x)) + float(text.get("dx", 0))
         at -= wide if "e" in classes else wide / 2 if "m" in classes else 0
         y = float(text["y"])
         rise = max(0, marks - 2) * SIZE / 3
-        yield shown, (at, y - ASCENT * SIZE - rise, at + wide, y + DESCENT * SIZE)
+        end = min(at + wide, left + width) if "is_cut" in text else at + wide
+        yield shown, (at, y - ASCENT * SIZE - rise, end, y + DESCENT * SIZE)
 
 
 def points(path):

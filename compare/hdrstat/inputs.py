@@ -8,6 +8,7 @@ REASONS = {
     "no number": "is not a number; --skip-bad ignores such lines",
     "table": "is not a number; --column reads a column of a table, --from log an interval log",
     "negative": "is negative, and a histogram counts numbers from 0; --skip-bad ignores such lines",
+    "many decimals": "has more than 18 decimals; --decimals rounds it",
     "decimals": "has more decimals than the numbers before it; set them by --decimals",
     "large": "is too large: in units of its last decimal (--decimals) it has to be below 2^64",
     "no field": "is a row without that column; --skip-bad ignores such rows",
@@ -134,7 +135,10 @@ def percentiles(random):
         text = decimal_text(number, places)
         if text not in [it for it, _, _ in found]:
             found.append((text, number, 100 * 10**places))
-    return ",".join(random.choice(["", "p"]) + text + random.choice(["", "%"]) for text, _, _ in found), found
+    texts = [text for text, _, _ in found]
+    if random.random() < 0.2:
+        texts.append(random.choice(texts))
+    return ",".join(random.choice(["", "p"]) + text + random.choice(["", "%"]) for text in texts), found
 
 
 USUAL = [("50", 50, 100), ("90", 90, 100), ("99", 99, 100), ("99.9", 999, 1000)]
@@ -250,6 +254,8 @@ def table(random, decimals, delimiter, names):
         if random.random() < odd:
             row = row[: random.randint(0, 3)]
         rows.append(row)
+    if rows and random.random() < 0.1:
+        rows[0] = random.choice([[b"1", b"2", b"2"], [b"2", b"7", b"7"], [b"7", b"2"]])
     end = random.choice([b"\n", b"\n", b"\r\n"])
     return end.join(delimiter.join(field(random, it, delimiter) for it in row) for row in rows) + random.choice([b"", end])
 

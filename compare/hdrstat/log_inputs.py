@@ -6,7 +6,7 @@ import json
 import zlib
 
 from inputs import FORMATS, USUAL, Case, digits, figures, percentiles, shown
-from logs import CAUSES, decode, encode, gathered, side_by_side, sums
+from logs import CAUSES, RATIO, bin_of, decode, encode, gathered, side_by_side, sums
 from model import LIMIT, Failure, Samples, Tally, class_of, Options
 
 TAGS = [None, b"a", b"b", b"GET", b"caf\xc3\xa9", b"=1+1", b"-2", b'say"', b"a;b", b""]
@@ -29,8 +29,26 @@ def compressed(random, data):
     if random.random() < 0.02:
         stream = stream[: random.randrange(len(stream))]
     length = len(stream) + random.choice([0] * 50 + [1, -1])
-    cookie = random.choice([b"\x1c\x84\x93\x14"] * 50 + [bytes.fromhex(it) for it in ("1c849301", "1c849342", "1c849308", "1c849329", "0c72124e", "0c72124f", "1c849315")])
+    cookie = random.choice([b"\x1c\x84\x93\x14"] * 50 + [bytes.fromhex(it) for it in ("1c849301", "1c849311", "1c849312", "1c849342", "1c849308", "1c849329", "0c72124e", "0c72124f", "1c849315")])
     return cookie + length.to_bytes(4, "big") + stream
+
+
+def old(random, samples, high):
+    """The bytes of version 0 or 1 of the same samples, at times compressed."""
+    counts = {bin_of(lowest, samples.sigfig, samples.low): count for lowest, count in samples.counts.items()}
+    width, version, bins = random.choice([2, 4, 8]), random.randrange(2), max(counts, default=0) + 1
+    counters = b"".join(counts.get(bin, 0).to_bytes(width, "big") for bin in range(bins))
+    bounds = samples.low.to_bytes(8, "big") + high.to_bytes(8, "big")
+    digits, cookie = samples.sigfig.to_bytes(4, "big"), (0x1c849301 if version else 0x1c849308) | width << 4
+    head = len(counters).to_bytes(4, "big") + bytes(4) + digits + bounds + RATIO if version else digits + bounds + samples.len().to_bytes(8, "big")
+    data = cookie.to_bytes(4, "big") + head + counters
+    if random.random() < 0.05:
+        data = bytearray(data)
+        data[random.randrange(len(data))] = random.choice([0, 1, 255, random.randrange(256)])
+    if random.random() < 0.5:
+        stream = zlib.compress(data)
+        data = (cookie + 1).to_bytes(4, "big") + len(stream).to_bytes(4, "big") + stream
+    return data
 
 
 def field_of(random, samples):
@@ -38,7 +56,9 @@ def field_of(random, samples):
     least = max(2 * samples.low, samples.greatest or 0)
     high = min(class_of(least, samples.sigfig, samples.low)[1] * random.choice([1, 1, 4]), LIMIT - 1)
     data = encode(samples, high)
-    if random.random() < 0.1:
+    if random.random() < 0.05 and bin_of(high, samples.sigfig, samples.low) < 20000:
+        data = old(random, samples, high)
+    elif random.random() < 0.1:
         data = compressed(random, data)
     if random.random() < 0.01:
         data = bytearray(data)

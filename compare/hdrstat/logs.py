@@ -20,14 +20,16 @@ CAUSES = {
     "long": "The encoded array is longer than it should be for the histogram's value range",
     "end": "An i/o operation failed: unexpected end of file",
     "no histogram": "not a histogram",
-    "version 0": "a histogram of version 0, and not 2",
-    "version 1": "a histogram of version 1, and not 2",
+    "version 0": "a histogram of version 0 with counters of an unknown width",
+    "version 1": "a histogram of version 1 with counters of an unknown width",
     "double": "a double histogram",
-    "incomplete": "the compressed histogram is incomplete",
+    "scaled": "a histogram with shifted or scaled values",
+    "bounds": "the bounds, the digits or a count of the histogram are invalid",
+    "incomplete": "the histogram is incomplete",
     "not inside": "the compressed bytes are not a histogram",
 }
-# Cookies of other forms; the size of a count, in four bits of those of versions 0 and 1, is left out
-OTHER = {0x1c849301: "version 1", 0x1c849302: "version 1", 0x1c849308: "version 0", 0x1c849309: "version 0"}
+# Cookies of versions 0 and 1, and of compressed ones; the width of a counter, in four of their bits, is left out
+OLD, OLD_COMPRESSED = {0x1c849308: 0, 0x1c849301: 1}, (0x1c849309, 0x1c849302)
 DOUBLE = (0x0c72124e, 0x0c72124f)
 
 
@@ -72,9 +74,8 @@ def varint(number):
     return bytes(out + bytes([number]))
 
 
-def encode(samples, high):
-    """The V2 bytes of samples."""
-    counts = {bin_of(lowest, samples.sigfig, samples.low): count for lowest, count in samples.counts.items() if count}
+def v2(counts, sigfig, low, high):
+    """The V2 bytes of the counts of bins."""
     payload, at = bytearray(), 0
     for index in sorted(counts):
         empty = index - at
@@ -83,8 +84,14 @@ def encode(samples, high):
         payload += varint(2 * counts[index])
         at = index + 1
     payload = bytes(payload) or b"\0"
-    numbers = (len(payload), 0, samples.sigfig)
-    return COOKIE + b"".join(it.to_bytes(4, "big") for it in numbers) + samples.low.to_bytes(8, "big") + high.to_bytes(8, "big") + RATIO + payload
+    numbers = (len(payload), 0, sigfig)
+    return COOKIE + b"".join(it.to_bytes(4, "big") for it in numbers) + low.to_bytes(8, "big") + high.to_bytes(8, "big") + RATIO + payload
+
+
+def encode(samples, high):
+    """The V2 bytes of samples."""
+    counts = {bin_of(lowest, samples.sigfig, samples.low): count for lowest, count in samples.counts.items() if count}
+    return v2(counts, samples.sigfig, samples.low, high)
 
 
 def numbers_of(payload):
@@ -105,18 +112,43 @@ def numbers_of(payload):
 
 def has_other_form(field):
     """Whether the Base64 of a field begins with that of a cookie of another form than plain V2."""
-    return len(field) >= 8 and (field.startswith(b"HIST") and not field.startswith(b"HISTE") or field.startswith(b"DHIST"))
+    return len(field) >= 8 and (field.startswith(b"HIST") and not field.startswith(b"HISTEw") or field.startswith(b"DHIST"))
 
 
-def plain(data):
-    """The V2 bytes of a histogram of another form."""
+def are_bounds(low, high, sigfig):
+    """Whether a histogram can have these bounds and digits."""
+    return 1 <= low < LIMIT // 2 and high >= 2 * low and sigfig <= 5 and low.bit_length() - 1 + bits_of(sigfig) <= 63 + (sigfig == 0)
+
+
+def is_old(data):
+    """Whether bytes start as those of version 0 or 1."""
     cookie = int.from_bytes(data[:4], "big")
-    if cookie in DOUBLE:
-        raise Undecodable("double")
-    if cookie & 0xffffff0f in OTHER:
-        raise Undecodable(OTHER[cookie & 0xffffff0f])
-    if data[:4] != COMPRESSED:
-        raise Undecodable("no histogram")
+    return cookie & 0xffffff0f in OLD and cookie >> 4 & 15 in (2, 4, 8)
+
+
+def of_old(data):
+    """The V2 bytes of a histogram of version 0 or 1."""
+    version, width = OLD[int.from_bytes(data[:4], "big") & 0xffffff0f], data[3] >> 4
+    places, size = ((12, 16, 24), 40) if version else ((4, 8, 16), 32)
+    if len(data) < size:
+        raise Undecodable("incomplete")
+    sigfig, low, high = (int.from_bytes(data[at : at + wide], "big") for at, wide in zip(places, (4, 8, 8)))
+    length = int.from_bytes(data[4:8], "big") if version else len(data) - size
+    if length > len(data) - size:
+        raise Undecodable("incomplete")
+    if version and (any(data[8:12]) or data[32:40] != RATIO):
+        raise Undecodable("scaled")
+    if not are_bounds(low, high, sigfig):
+        raise Undecodable("bounds")
+    bins = min(bins_to(high, sigfig, low), length // width)
+    counters = [int.from_bytes(data[size + width * bin : size + width * (bin + 1)], "big") for bin in range(bins)]
+    if any(data[size + width * bins : size + length]) or any(it >= 1 << 63 for it in counters):
+        raise Undecodable("bounds")
+    return v2({bin: count for bin, count in enumerate(counters) if count}, sigfig, low, high)
+
+
+def inflated(data):
+    """The bytes that a compressed histogram holds."""
     length = int.from_bytes(data[4:8], "big")
     if len(data) < 8 or length > len(data) - 8:
         raise Undecodable("incomplete")
@@ -127,6 +159,24 @@ def plain(data):
         raise Undecodable("stream") from error
     if not stream.eof or stream.unused_data:
         raise Undecodable("stream")
+    return found
+
+
+def plain(data):
+    """The V2 bytes of a histogram of another form."""
+    cookie = int.from_bytes(data[:4], "big")
+    if is_old(data):
+        return of_old(data)
+    if cookie & 0xffffff0f in OLD:
+        raise Undecodable(f"version {OLD[cookie & 0xffffff0f]}")
+    if cookie & 0xffffff0f in OLD_COMPRESSED:
+        found = inflated(data)
+        if not is_old(found):
+            raise Undecodable("no histogram")
+        return of_old(found)
+    if data[:4] != COMPRESSED:
+        raise Undecodable("double" if cookie in DOUBLE else "no histogram")
+    found = inflated(data)
     if found[:4] != COOKIE:
         raise Undecodable("not inside")
     return found
@@ -153,7 +203,7 @@ def decode(data):
     low, high = take(16, 8), take(24, 8)
     if take(32, 8) != int.from_bytes(RATIO, "big"):
         raise Undecodable("feature")
-    if not 1 <= low <= LIMIT // 2 - 1 or high < 2 * low or sigfig > 5 or low.bit_length() - 1 + bits_of(sigfig) > 63 + (sigfig == 0):
+    if not are_bounds(low, high, sigfig):
         raise Undecodable("parameters")
     take(40, length)
     samples, at, bins = Samples(sigfig, 1 << low.bit_length() - 1), 0, bins_to(high, sigfig, low)
@@ -193,7 +243,7 @@ class Interval:
                 raise Undecodable("base64") from error
             if base64.b64encode(data) != self.field:
                 raise Undecodable("base64")
-            return read(plain(data) if has_other_form(self.field) else data)
+            return read(plain(data) if has_other_form(self.field) and data[:4] != COOKIE else data)
         except Undecodable as bad:
             raise Failure((name, f"line {self.line}", str(bad), "interval")) from bad
 

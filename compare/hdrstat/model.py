@@ -140,7 +140,9 @@ class Tally:
 
     def record(self, digits, decimals):
         if self.options.decimals is None and decimals - beyond_wide(digits) > MOST_DECIMALS:
-            raise Bad("decimals")
+            if digits:
+                raise Bad("many decimals")
+            decimals = MOST_DECIMALS
         if self.options.decimals is None and digits >= LIMIT:
             raise Bad("large")
         if self.decimals is None:
@@ -168,7 +170,7 @@ class Tally:
             self.refuse(name, row, text, str(bad), "row")
 
     def refuse(self, name, number, text, why, place="line"):
-        if self.options.skips_bad and why != "decimals":
+        if self.options.skips_bad and why not in ("decimals", "many decimals"):
             self.skipped += 1
             return
         raise Failure((name, f"{place} {number}", text[:40], why))
@@ -193,15 +195,16 @@ class Tally:
         if not found:
             return
         names = [it.strip(SPACE) for it in found[0]]
-        is_named = options.has_header and options.column in names
+        is_number = re.fullmatch(rb"\+?\d+", options.column) and 0 < int(options.column) < LIMIT
+        is_named = options.has_header and options.column in names and not (is_number and int(options.column) <= len(names))
         if is_named:
             index = names.index(options.column)
-        elif re.fullmatch(rb"\+?\d+", options.column) and 0 < int(options.column) < LIMIT:
+        elif is_number:
             index = int(options.column) - 1
         else:
             raise Failure((name, options.column, found[0], "no column"))
         for number, fields in enumerate(found, 1):
-            if number == 1 and (is_named or options.has_header and not is_number(fields, index)):
+            if number == 1 and (is_named or options.has_header and not has_number(fields, index)):
                 continue
             if index >= len(fields):
                 self.refuse(name, number, b"".join(fields), "no field", "row")
@@ -209,7 +212,7 @@ class Tally:
                 self.take(name, number, fields[index].strip(SPACE))
 
 
-def is_number(fields, index):
+def has_number(fields, index):
     """Whether the field of a row is a number, at least one that is negative or too large."""
     try:
         return index < len(fields) and bool(parse_number(fields[index].strip(SPACE)))

@@ -1,5 +1,8 @@
 //! What needs the samples of a tag once more: its curve of quantiles, and its heat map.
 
+ghost use Rattle.std.specs.Prelude.{◌≤◌, IfOk};
+ghost use Rattle.std.specs.List.{All};
+
 use hdr_draw::heat::{HeatMap, ROWS};
 use hdr_draw::path::WIDTH;
 use hdr_draw::quantiles::QuantileScale;
@@ -73,7 +76,9 @@ pub fn curve_of(
     histogram: &Histogram<u64>,
     scale: &QuantileScale,
     width: u32,
-) -> Result<Vec<CurvePoint>, AllocError> {
+) -> Result<Vec<CurvePoint>, AllocError>
+    ensures { IfOk result (λ v. All (λ p. p.x ≤ width) v.items) }
+{
     let mut curve = Vec::new(alloc);
     let all = histogram.len();
     let mut above = all;

@@ -1,15 +1,15 @@
 //! Names at the ends of curves.
 
 use crate::field::{Field, Scale};
-use hdr_draw::escape::push_escaped;
+use crate::legend::line_class;
 use hdr_draw::tenths::push_tenths;
 use hdr_draw::values::GAP;
-use hdr_view::name::{AT_CURVE, columns, columns_of, shown};
+use hdr_view::name::AT_CURVE;
 use hdr_view::view::View;
 use std::alloc::{AllocError, Global};
 
-/// The columns of a name that a phone shows.
-const ON_PHONE: usize = 8;
+/// How far the upper side of a name is above the end of its curve, in pixels.
+const RISE: i64 = 8;
 
 /// A name at the end of a curve.
 #[derive(Drop)]
@@ -37,7 +37,7 @@ impl Ending {
         })
     }
 
-    /// Returns the end of the curve of a tag, with a name of 20 columns, or eight on a phone.
+    /// Returns the end of the curve of a tag, with a name of 20 columns.
     pub(crate) fn of_tag(
         alloc: Global,
         view: &View<'_>,
@@ -45,33 +45,27 @@ impl Ending {
         tag: &str,
         y: u32,
     ) -> Result<Ending, AllocError> {
-        let shown = shown(alloc, view.name_of(tag), AT_CURVE)?;
         let mut name = String::new(alloc);
-        let mut first = String::new(alloc);
-        let mut rest = String::new(alloc);
-        let mut taken = 0usize;
-        for sign in shown.as_str().chars() {
-            taken = taken.saturating_add(columns_of(sign));
-            if taken <= ON_PHONE {
-                first.push(sign)?;
-            } else {
-                rest.push(sign)?;
-            }
-        }
-        push_escaped(&mut name, first.as_str())?;
-        if columns(rest.as_str(), 1) > 1 {
-            name.push_str("<tspan class=\"n\">")?;
-            push_escaped(&mut name, rest.as_str())?;
-            name.push_str("</tspan><tspan class=\"s\">…</tspan>")?;
-        } else {
-            push_escaped(&mut name, rest.as_str())?;
-        }
-        let dash = if index > 4 { " dash" } else { "" };
+        view.push_tag(alloc, &mut name, tag, AT_CURVE)?;
         Ok(Ending {
             name,
             y,
-            class: format!(in alloc; "c t{index}{dash}")?,
+            class: line_class(alloc, index)?,
         })
+    }
+
+    /// Appends the name, in a box that reaches to the right side of the drawing. A browser ends a
+    /// longer name in an ellipsis.
+    fn push_name(&self, text: &mut String) -> Result<(), AllocError> {
+        text.push_str("<foreignObject y=\"")?;
+        push_tenths(text, self.y)?;
+        text.push_str(if self.class.is_empty() {
+            "\"><div dir=\"auto\">"
+        } else {
+            "\"><div class=\"o\" dir=\"auto\">"
+        })?;
+        text.push_str(self.name.as_str())?;
+        text.push_str("</div></foreignObject>")
     }
 }
 
@@ -142,15 +136,11 @@ impl Field {
             }
         }
         text.push_str("</svg>")?;
+        let above = i64::from(top) - RISE;
+        write!(text, "<svg x=\"100%\" y=\"{above}\">")?;
         for ending in endings.iter() {
-            let shift = if ending.class.is_empty() { 6 } else { 21 };
-            write!(text, "<text x=\"100%\" dx=\"{shift}\" y=\"")?;
-            let y = top.saturating_add(4).saturating_mul(10);
-            push_tenths(text, y.saturating_add(ending.y))?;
-            text.push_str("\">")?;
-            text.push_str(ending.name.as_str())?;
-            text.push_str("</text>")?;
+            ending.push_name(text)?;
         }
-        Ok(())
+        text.push_str("</svg>")
     }
 }

@@ -1,18 +1,17 @@
 //! Parts of drawings. A drawing's parts lie one below the other, above one x axis.
 
+ghost use Rattle.std.specs.Prelude.{◌≡◌, ◌≤◌, ◌+◌, ◌-◌, ◌*◌, ◌^◌, min};
+
 use hdr_draw::axis::Axis;
-use hdr_draw::number::{push_rate, scientific};
 use hdr_draw::path::{Joint, Path};
 use hdr_draw::steps::step_above;
 use hdr_draw::tenths::push_tenths;
 use hdr_draw::values::{Tick, ValueScale};
+use hdr_figures::figures::TagFigures;
 use hdr_figures::level::PageLevel;
 use hdr_view::amount::Units;
-use hdr_view::view::View;
+use hdr_view::view::{Series, View};
 use std::alloc::{AllocError, Global};
-
-/// From here on a rate in 1,000 seconds has an exponent, beside the drawing.
-const LONG_RATE: u64 = 1_000_000_000;
 
 /// A part of a drawing: where it begins, and its height, in pixels.
 #[derive(Clone, Copy)]
@@ -41,7 +40,9 @@ impl Scale {
     }
 
     /// Returns how far above the low end a value is along a height in tenths.
-    fn place(&self, value: u64, height: u32) -> u32 {
+    fn place(&self, value: u64, height: u32) -> u32
+        ensures { result ≤ height }
+    {
         match self {
             Scale::Logarithmic(scale) => scale.place(value, height),
             Scale::Linear { high, .. } => Axis::new(0, *high).place(value, height),
@@ -72,17 +73,23 @@ impl Scale {
 
 impl Field {
     /// Returns the height in tenths.
-    pub(crate) fn tenths(self) -> u32 {
+    pub(crate) fn tenths(self) -> u32
+        ensures { result ≡ min (self.height * 10) (2 ^ 32 - 1) }
+    {
         self.height.saturating_mul(10)
     }
 
     /// Returns the lower side.
-    pub(crate) fn bottom(self) -> u32 {
+    pub(crate) fn bottom(self) -> u32
+        ensures { result ≡ min (self.top + self.height) (2 ^ 32 - 1) }
+    {
         self.top.saturating_add(self.height)
     }
 
     /// Returns how far a value is below the upper side, in tenths.
-    pub(crate) fn y(self, scale: &Scale, value: u64) -> u32 {
+    pub(crate) fn y(self, scale: &Scale, value: u64) -> u32
+        ensures { result ≤ self.height * 10 }
+    {
         let height = self.tenths();
         height.saturating_sub(scale.place(value, height))
     }
@@ -102,6 +109,19 @@ impl Field {
             })?;
         }
         Ok(levels)
+    }
+
+    /// Returns how far the values of a tag over time are below the upper side.
+    pub(crate) fn levels_of(
+        self,
+        alloc: Global,
+        view: &View<'_>,
+        tag: &TagFigures<'_>,
+        series: Series,
+        scale: &Scale,
+    ) -> Result<Vec<Option<u32>>, AllocError> {
+        let values = series.values(alloc, tag, view.timeline.points)?;
+        self.levels(alloc, scale, &values)
     }
 
     /// Begins the part, which stretches with the page. It ends with `</svg>`.
@@ -143,7 +163,7 @@ impl Field {
     }
 
     /// Appends a text at the y axis, this many tenths below the upper side.
-    fn push_at_axis(self, text: &mut String, tenths: u32) -> Result<(), AllocError> {
+    pub(crate) fn push_at_axis(self, text: &mut String, tenths: u32) -> Result<(), AllocError> {
         text.push_str("<text x=\"0\" dx=\"-8\" y=\"")?;
         let y = self.top.saturating_add(4).saturating_mul(10);
         push_tenths(text, y.saturating_add(tenths))?;
@@ -211,43 +231,6 @@ impl Field {
         push_tenths(text, self.y(scale, level.value))?;
         text.push_str("h1e3\"/></svg>")
     }
-
-    /// Appends samples a second over time, as an area above 0.
-    pub(crate) fn push_rates(
-        self,
-        alloc: Global,
-        text: &mut String,
-        counts: &[u64],
-        view: &View<'_>,
-        class: &str,
-    ) -> Result<(), AllocError> {
-        let mut rates = Vec::new(alloc);
-        for (point, count) in counts.iter().enumerate() {
-            rates.push(rate(*count, view.timeline.length_of(point)))?;
-        }
-        let high = round_rate(rates.iter().copied().max().unwrap_or(0));
-        let axis = Axis::new(0, high);
-        let mut low = Vec::new(alloc);
-        let mut levels = Vec::new(alloc);
-        for rate in &rates {
-            low.push(Some(self.tenths()))?;
-            let above = axis.place(*rate, self.tenths());
-            levels.push(Some(self.tenths().saturating_sub(above)))?;
-        }
-        let height = self.height;
-        self.push_begin(text)?;
-        write!(
-            text,
-            "<path class=\"G\" d=\"M0 {height}h1e3\"/><path class=\"g\" d=\"M0 0h1e3\"/>"
-        )?;
-        self.push_area(alloc, text, class, &low, &levels)?;
-        text.push_str("</svg>")?;
-        self.push_at_axis(text, 0)?;
-        push_rate_label(text, high)?;
-        text.push_str("/s</text>")?;
-        self.push_at_axis(text, self.tenths())?;
-        text.push_str("0</text>")
-    }
 }
 
 /// Appends a path of a class.
@@ -255,35 +238,4 @@ pub(crate) fn push_path(text: &mut String, class: &str, path: &Path) -> Result<(
     write!(text, "<path class=\"{class}\" d=\"")?;
     path.push_to(text)?;
     text.push_str("\"/>")
-}
-
-/// Returns a number of samples in 1,000 seconds, from one in some milliseconds.
-pub(crate) fn rate(samples: u64, milliseconds: u64) -> u64 {
-    let rate = u128::from(samples) * 1_000_000 / u128::from(milliseconds.max(1));
-    u64::try_from(rate).unwrap_or(u64::MAX)
-}
-
-/// Appends a number of samples in 1,000 seconds as a rate a second, with an exponent if it is long.
-fn push_rate_label(text: &mut String, rate: u64) -> Result<(), AllocError> {
-    if rate < LONG_RATE {
-        return push_rate(text, rate, 1_000_000);
-    }
-    let (decimal, power) = scientific(u128::from(rate), 1_000);
-    decimal.trimmed().push(text)?;
-    write!(text, "e{power}")
-}
-
-/// Returns the least of 1, 1.5, 2, 3, 4, 5, 6 and 8 times a power of ten that is not below a rate.
-fn round_rate(rate: u64) -> u64 {
-    let mut tens = 1u64;
-    for _ in 0..20 {
-        for tenths in [10u64, 15, 20, 30, 40, 50, 60, 80] {
-            let high = tens.saturating_mul(tenths);
-            if high >= rate {
-                return high;
-            }
-        }
-        tens = tens.saturating_mul(10);
-    }
-    u64::MAX
 }

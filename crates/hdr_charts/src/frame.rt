@@ -4,7 +4,7 @@ use crate::field::{Field, Scale};
 use hdr_draw::axis::Axis;
 use hdr_draw::path::{WIDTH, left_of};
 use hdr_draw::tenths::push_tenths;
-use hdr_draw::times::TimeSteps;
+use hdr_draw::times::{TimeSteps, TimeTick};
 use hdr_figures::slow::LETTERS;
 use hdr_view::clock::{TimeStyle, push_length};
 use hdr_view::name::{AT_CURVE, columns};
@@ -54,8 +54,8 @@ impl Frame<'_> {
         write!(text, "<desc id=\"{id}d\">{description}</desc>")
     }
 
-    /// Appends what is behind the lines of a drawing over time: the x axis, the grid of each part
-    /// with values, the slow times, and the level in the first part.
+    /// Appends what is behind the lines of a drawing over time: axis, grids, slow times, and the
+    /// level in the first part.
     pub(crate) fn push_background(
         self,
         view: &View<'_>,
@@ -78,15 +78,11 @@ impl Frame<'_> {
 
 /// Appends how long a point is, and what times are.
 pub(crate) fn push_caption(view: &View<'_>, text: &mut String) -> Result<(), AllocError> {
-    if view.is_instant() {
-        text.push_str("one interval")?;
-    } else {
-        text.push_str("a point is ")?;
-        push_length(text, view.timeline.step)?;
-        let merged = view.timeline.merged;
-        if merged > 1 {
-            write!(text, " ({merged} intervals)")?;
-        }
+    text.push_str("a point is ")?;
+    push_length(text, view.timeline.step)?;
+    let merged = view.timeline.merged;
+    if merged > 1 {
+        write!(text, " ({merged} intervals)")?;
     }
     text.push_str(if view.clock.has_clock() {
         "; UTC"
@@ -99,7 +95,7 @@ pub(crate) fn push_caption(view: &View<'_>, text: &mut String) -> Result<(), All
 fn push_right(view: &View<'_>, text: &mut String) -> Result<(), AllocError> {
     let mut most = 9;
     for tag in view.drawn() {
-        most = most.max(columns(tag.tag, AT_CURVE).min(AT_CURVE));
+        most = most.max(columns(tag.tag, AT_CURVE));
     }
     let right = 28 + 8 * most.min(AT_CURVE);
     write!(text, "{right}")
@@ -141,15 +137,7 @@ fn push_time_axis(
     };
     let axis = Axis::new(from, from.saturating_add(span));
     let ticks = steps.ticks(alloc, from, from.saturating_add(span))?;
-    let height = field.height;
-    field.push_begin(text)?;
-    text.push_str("<path class=\"g\" d=\"")?;
-    for tick in &ticks {
-        text.push_str("M")?;
-        push_tenths(text, axis.place(tick.time, WIDTH))?;
-        write!(text, " 0v{height}")?;
-    }
-    text.push_str("\"/></svg>")?;
+    push_time_grid(text, field, axis, &ticks)?;
     for tick in &ticks {
         push_below(text, axis.place(tick.time, WIDTH), field, tick.is_coarse)?;
         let after = tick.time.saturating_sub(from);
@@ -158,6 +146,24 @@ fn push_time_axis(
         text.push_str("</text>")?;
     }
     Ok(())
+}
+
+/// Appends the lines across the x axis of a drawing over time.
+fn push_time_grid(
+    text: &mut String,
+    field: Field,
+    axis: Axis,
+    ticks: &[TimeTick],
+) -> Result<(), AllocError> {
+    let height = field.height;
+    field.push_begin(text)?;
+    text.push_str("<path class=\"g\" d=\"")?;
+    for tick in ticks {
+        text.push_str("M")?;
+        push_tenths(text, axis.place(tick.time, WIDTH))?;
+        write!(text, " 0v{height}")?;
+    }
+    text.push_str("\"/></svg>")
 }
 
 /// Appends the slow times: a band and a letter of each.
@@ -188,7 +194,8 @@ fn push_bands(view: &View<'_>, text: &mut String, field: Field) -> Result<(), Al
     Ok(())
 }
 
-/// Begins a text below a field, at some tenths of its width. A narrow drawing has the coarse ones.
+/// Begins a text below a field. `x` is in ten-thousandths of its width. A narrow drawing has the
+/// coarse ones.
 pub(crate) fn push_below(
     text: &mut String,
     x: u32,

@@ -1,12 +1,26 @@
-//! Samples of lines and colours beside a name.
+//! Keys of lines and colours.
 
 use hdr_draw::heat::COLOURS;
 use hdr_draw::number::push_grouped;
-use std::alloc::AllocError;
+use std::alloc::{AllocError, Global};
+
+/// The tags with the most samples, whose lines have no dashes.
+const SOLID: usize = 5;
+
+/// Returns the class of the dashes of a tag's line.
+fn dash_of(tag: usize) -> &'static str {
+    if tag < SOLID { "" } else { " dash" }
+}
+
+/// Returns the classes of the line of a drawn tag.
+pub(crate) fn line_class(alloc: Global, tag: usize) -> Result<String, AllocError> {
+    let dash = dash_of(tag);
+    format!(in alloc; "c t{tag}{dash}")
+}
 
 /// Appends the line of a drawn tag.
 pub fn push_mark(text: &mut String, tag: usize) -> Result<(), AllocError> {
-    let dash = if tag > 4 { " dash" } else { "" };
+    let dash = dash_of(tag);
     write!(
         text,
         "<svg class=\"k t{tag}\" width=\"18\" height=\"4\" aria-hidden=\"true\">\

@@ -9,4 +9,5 @@ mod frame;
 pub mod legend;
 mod over_time;
 pub mod percentiles;
+mod rates;
 mod tag_drawing;

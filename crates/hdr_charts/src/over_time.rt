@@ -3,6 +3,7 @@
 use crate::ending::{Ending, last_level, push_level_ending};
 use crate::field::{Field, Scale};
 use crate::frame::{Frame, push_caption, push_names};
+use crate::legend::line_class;
 use hdr_draw::path::Joint;
 use hdr_draw::values::ValueScale;
 use hdr_view::view::{Series, View};
@@ -81,10 +82,9 @@ fn push_p99_lines(
     let maxima = VALUES.levels(alloc, scale, &maxima)?;
     VALUES.push_begin(text)?;
     for (index, tag) in view.drawn().iter().enumerate().rev() {
-        let values = Series::P99.values(alloc, tag, view.timeline.points)?;
-        let levels = VALUES.levels(alloc, scale, &values)?;
-        let dash = if index > 4 { " dash" } else { "" };
-        let class = format!(in alloc; "c{thin} t{index}{dash}")?;
+        let levels = VALUES.levels_of(alloc, view, tag, Series::P99, scale)?;
+        let mut class = line_class(alloc, index)?;
+        class.push_str(thin)?;
         VALUES.push_levels(alloc, text, class.as_str(), &levels, Joint::Jump)?;
         let y = last_level(&levels, VALUES);
         endings.push(Ending::of_tag(alloc, view, index, tag.tag, y)?)?;

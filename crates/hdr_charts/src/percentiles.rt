@@ -4,6 +4,7 @@ use crate::detail::{CurvePoint, Detail};
 use crate::ending::{Ending, push_level_ending};
 use crate::field::{Field, Scale, push_path};
 use crate::frame::{Frame, push_below, push_names};
+use crate::legend::line_class;
 use hdr_draw::path::{Path, Point, WIDTH};
 use hdr_draw::quantiles::QuantileScale;
 use hdr_draw::tenths::push_tenths;
@@ -38,8 +39,8 @@ const DESK: u32 = 3_500;
 
 const PHONE: u32 = 2_960;
 
-/// Half the width of a sign, the space at the left of the part, and the least distance of names.
-const HALF_SIGN: u64 = 34;
+/// Half a character's width, the space at the left of the part, and the least distance of names.
+const HALF_CHARACTER: u64 = 34;
 
 const LEFT: u64 = 600;
 
@@ -110,8 +111,7 @@ fn push_curves(
     let mut endings = Vec::new(alloc);
     CURVES.push_begin(text)?;
     for (index, (tag, detail)) in view.drawn().iter().zip(details).enumerate().rev() {
-        let dash = if index > 4 { " dash" } else { "" };
-        let class = format!(in alloc; "c t{index}{dash}")?;
+        let class = line_class(alloc, index)?;
         let mut path = Path::new(alloc, CURVES.tenths());
         path.add_curve(&points(alloc, &detail.curve, scale)?)?;
         push_path(text, class.as_str(), &path)?;
@@ -175,7 +175,7 @@ fn push_quantile_axis(view: &View<'_>, text: &mut String, scale: &Scale) -> Resu
     CURVES.push_begin(text)?;
     text.push_str("<path class=\"g\" d=\"")?;
     for (inverse, _) in LINES {
-        if quantiles.has(inverse) {
+        if quantiles.contains(inverse) {
             text.push_str("M")?;
             push_tenths(text, quantiles.place(inverse, 1, WIDTH))?;
             write!(text, " 0v{height}")?;
@@ -205,8 +205,8 @@ fn push_quantile_names(text: &mut String, quantiles: &QuantileScale) -> Result<(
         let x = quantiles.place(inverse, 1, WIDTH);
         let is_start = inverse == 1;
         let is_free = !is_start || median >= LEAST_MEDIAN;
-        if quantiles.has(inverse) && is_free && desk.take(x, name) {
-            let is_coarse = !is_start && phone.take(x, name);
+        if quantiles.contains(inverse) && is_free && desk.try_push(x, name) {
+            let is_coarse = !is_start && phone.try_push(x, name);
             push_below(text, x, CURVES, is_coarse)?;
             write!(text, "{name}</text>")?;
         }
@@ -229,8 +229,8 @@ impl Names {
     }
 
     /// Adds a name whose middle is at `x`, unless the last one is too near.
-    fn take(&mut self, x: u32, name: &str) -> bool {
-        let half = (name.len() as u64).saturating_mul(HALF_SIGN);
+    fn try_push(&mut self, x: u32, name: &str) -> bool {
+        let half = (name.len() as u64).saturating_mul(HALF_CHARACTER);
         let middle = u64::from(x) * u64::from(self.width) / u64::from(WIDTH);
         let begin = middle.saturating_add(LEFT).saturating_sub(half);
         if begin < self.end {

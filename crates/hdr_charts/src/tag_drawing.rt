@@ -2,11 +2,11 @@
 
 use crate::detail::Detail;
 use crate::ending::{Ending, last_level};
-use crate::field::{Field, Scale, rate};
+use crate::field::{Field, Scale};
 use crate::frame::{Frame, push_caption};
 use crate::legend::{push_legend, push_mark};
+use crate::rates::rate_range;
 use hdr_draw::heat::ROWS;
-use hdr_draw::number::push_rate;
 use hdr_figures::figures::TagFigures;
 use hdr_view::name::{AT_CURVE, IN_TABLE};
 use hdr_view::view::{Series, View};
@@ -34,7 +34,7 @@ const ALL: Field = Field {
     height: 470,
 };
 
-/// The lines, from the lowest layer to the uppermost, with their classes.
+/// The lines, from the lowest layer to the uppermost, with their names.
 const LINES: [(Series, &str); 4] = [
     (Series::P90, "p90"),
     (Series::P99, "p99"),
@@ -106,21 +106,13 @@ fn description_of(
 ) -> Result<String, AllocError> {
     let mut least = u64::MAX;
     let mut greatest = 0;
-    let mut slowest = u64::MAX;
-    let mut fastest = 0;
     for point in &tag.points {
         if let Some(p99) = Series::P99.of(point) {
             least = least.min(p99);
             greatest = greatest.max(p99);
         }
-        let length = view.timeline.length_of(point.point);
-        let rate = rate(point.figures.count, length);
-        slowest = slowest.min(rate);
-        fastest = fastest.max(rate);
     }
-    if tag.points.len() < view.timeline.points {
-        slowest = 0;
-    }
+    let (slowest, fastest) = rate_range(view, tag);
     let mut text = String::from_str(alloc, "p99 between ")?;
     view.units.push(&mut text, least.min(greatest))?;
     text.push_str(" and ")?;
@@ -128,9 +120,9 @@ fn description_of(
     text.push_str("; max ")?;
     view.units.push(&mut text, tag.figures.max)?;
     text.push_str("; ")?;
-    push_rate(&mut text, slowest, 1_000_000)?;
+    slowest.push(&mut text)?;
     text.push_str(" to ")?;
-    push_rate(&mut text, fastest, 1_000_000)?;
+    fastest.push(&mut text)?;
     text.push_str(" samples/s. ")?;
     view.push_description(&mut text)?;
     Ok(text)
@@ -144,17 +136,13 @@ fn push_tag_lines(
     tag: &TagFigures<'_>,
     scale: &Scale,
 ) -> Result<(), AllocError> {
-    let points = view.timeline.points;
-    let low = Series::P50.values(alloc, tag, points)?;
-    let high = Series::P99.values(alloc, tag, points)?;
-    let low = VALUES.levels(alloc, scale, &low)?;
-    let high = VALUES.levels(alloc, scale, &high)?;
+    let low = VALUES.levels_of(alloc, view, tag, Series::P50, scale)?;
+    let high = VALUES.levels_of(alloc, view, tag, Series::P99, scale)?;
     VALUES.push_begin(text)?;
     VALUES.push_area(alloc, text, "area", &low, &high)?;
     let mut endings = Vec::new(alloc);
     for (series, name) in LINES {
-        let values = series.values(alloc, tag, points)?;
-        let levels = VALUES.levels(alloc, scale, &values)?;
+        let levels = VALUES.levels_of(alloc, view, tag, series, scale)?;
         let class = match series {
             Series::Max => "top",
             _ => name,

@@ -1,9 +1,13 @@
 //! The bytes of a histogram, compressed and not.
 
-ghost use Rattle.std.specs.Prelude.{◌≡◌, ◌↔◌, IfOk};
-ghost use Rattle.hdr_convert.specs.Forms.{IsPlain, IsCompressed};
+ghost use Rattle.std.specs.Prelude.{◌≡◌, ◌↔◌, ◌⊎◌, IfOk};
+ghost use Rattle.hdr_model.specs.Plain.{Plain};
+ghost use Rattle.hdrhistogram.specs.V2.{IsV2};
+ghost use Rattle.hdr_convert.specs.Forms.{IsPlain, IsCompressed, Compresses};
+ghost use Rattle.hdr_convert.specs.Old.{IsOld, IsVersion0, IsVersion1};
 
 use crate::errors::ConvertError;
+use crate::old::{VERSION_0, VERSION_1, is_old, v2_of_old};
 use byteorder::{BigEndian, ByteOrder};
 use hdr_zlib::{Level, deflate, inflate};
 use std::alloc::Global;
@@ -12,6 +16,13 @@ use std::alloc::Global;
 const V2: u32 = 0x1c84_9313;
 
 const COMPRESSED_V2: u32 = 0x1c84_9314;
+
+/// The same of versions 0 and 1, whose other bits have the width of a counter.
+const COMPRESSED_0: u32 = 0x1c84_9309;
+
+const COMPRESSED_1: u32 = 0x1c84_9302;
+
+const OLD_MASK: u32 = 0xffff_ff0f;
 
 /// The length of what precedes a zlib stream: four bytes as above, and the length of the stream.
 const HEADER_LEN: usize = 8;
@@ -40,57 +51,86 @@ pub fn form_of(bytes: &[u8]) -> Result<Form, ConvertError>
         return Err(ConvertError::NotAHistogram);
     }
     let cookie = BigEndian::read_u32(bytes);
-    // Versions 0 and 1 have the size of a count in four of these bits.
-    match cookie & 0xffff_ff0f {
+    match cookie & OLD_MASK {
         _ if cookie == V2 => Ok(Form::Plain),
         _ if cookie == COMPRESSED_V2 => Ok(Form::Compressed),
-        0x1c84_9301 | 0x1c84_9302 => Err(ConvertError::OldVersion(1)),
-        0x1c84_9308 | 0x1c84_9309 => Err(ConvertError::OldVersion(0)),
+        VERSION_1 | COMPRESSED_1 => Err(ConvertError::OldVersion(1)),
+        VERSION_0 | COMPRESSED_0 => Err(ConvertError::OldVersion(0)),
         _ if cookie == 0x0c72_124e || cookie == 0x0c72_124f => Err(ConvertError::DoubleHistogram),
         _ => Err(ConvertError::NotAHistogram),
     }
 }
 
-/// Returns the V2 bytes of a histogram of either form.
+/// Returns the V2 bytes of a histogram of either form, or of one of version 0 or 1.
 ///
 /// # Errors
 /// Returns an error if `bytes` are of neither form, if the zlib stream is invalid or would take more than the greatest V2
-/// bytes, or if an allocation fails.
+/// bytes, or if an allocation fails. Of version 0 or 1, returns an error if its values are shifted or scaled, or if no histogram
+/// has its bounds and counts.
+#[tactic(auto, using(crate::proofs::Cookies::old_not_plain, crate::proofs::Cookies::old_not_compressed))]
 pub fn v2_bytes(alloc: Global, bytes: Vec<u8>) -> Result<Vec<u8>, ConvertError>
     ensures plain { IsPlain bytes.items → result ≡ Ok bytes }
     ensures v2 { IfOk result (λ v2. IsPlain v2.items) }
+    ensures inside { IsCompressed bytes.items → IfOk result (λ v2. Compresses bytes.items v2.items) }
+    ensures old { IsOld bytes.items → IfOk result (λ v2. (h : Plain) × IsV2 h v2.items
+        × (IsVersion0 bytes.items h ⊎ IsVersion1 bytes.items h)) }
 {
-    match form_of(&bytes)? {
-        Form::Plain => Ok(bytes),
-        Form::Compressed => decompressed(alloc, &bytes),
+    if is_old(&bytes) {
+        return v2_of_old(alloc, &bytes);
+    }
+    match form_of(&bytes) {
+        Ok(Form::Plain) => Ok(bytes),
+        Ok(Form::Compressed) => v2_inside(alloc, &bytes),
+        Err(_) if is_old_compressed(&bytes) => v2_of_old(alloc, &decompressed(alloc, &bytes)?),
+        Err(error) => Err(error),
     }
 }
 
-/// Returns the bytes of a histogram of either form, compressed.
+/// Returns the bytes of a histogram of either form, or of version 0 or 1, as compressed V2 bytes.
 ///
 /// # Errors
-/// Returns an error if `bytes` are of neither form, if the stream's length exceeds 32 bits, or if an allocation fails.
+/// As `v2_bytes`, unless `bytes` are compressed V2 bytes. Returns `OutOfMemory` if the stream's length exceeds 32 bits.
 pub fn compressed(alloc: Global, bytes: Vec<u8>) -> Result<Vec<u8>, ConvertError>
     ensures compressed { IsCompressed bytes.items → result ≡ Ok bytes }
     ensures starts { IfOk result (λ packed. IsCompressed packed.items) }
 {
-    match form_of(&bytes)? {
-        Form::Compressed => Ok(bytes),
-        Form::Plain => {
-            let stream = deflate(alloc, &bytes, Level::Huffman)?;
-            let len = u32::try_from(stream.len()).map_err(|_| ConvertError::OutOfMemory)?;
-            let mut output = Vec::new(alloc);
-            output.extend_from_slice(&COMPRESSED_V2.to_be_bytes())?;
-            output.extend_from_slice(&len.to_be_bytes())?;
-            output.extend_from_slice(&stream)?;
-            Ok(output)
-        }
+    if let Ok(Form::Compressed) = form_of(&bytes) {
+        return Ok(bytes);
+    }
+    let plain = v2_bytes(alloc, bytes)?;
+    let stream = deflate(alloc, &plain, Level::Huffman)?;
+    let len = u32::try_from(stream.len()).map_err(|_| ConvertError::OutOfMemory)?;
+    let mut output = Vec::new(alloc);
+    output.extend_from_slice(&COMPRESSED_V2.to_be_bytes())?;
+    output.extend_from_slice(&len.to_be_bytes())?;
+    output.extend_from_slice(&stream)?;
+    Ok(output)
+}
+
+/// Returns the V2 bytes that compressed ones hold.
+fn v2_inside(alloc: Global, bytes: &[u8]) -> Result<Vec<u8>, ConvertError>
+    ensures v2 { IfOk result (λ v2. IsPlain v2.items) }
+    ensures inside { IfOk result (λ v2. Compresses bytes.now v2.items) }
+{
+    let plain = decompressed(alloc, bytes)?;
+    match form_of(&plain) {
+        Ok(Form::Plain) => Ok(plain),
+        _ => Err(ConvertError::NotV2Inside),
     }
 }
 
-/// Returns the V2 bytes of compressed ones. Bytes after the stream are ignored.
+/// Whether bytes start as a compressed histogram of version 0 or 1.
+fn is_old_compressed(bytes: &[u8]) -> bool {
+    bytes.len() >= 4
+        && matches!(
+            BigEndian::read_u32(bytes) & OLD_MASK,
+            COMPRESSED_0 | COMPRESSED_1
+        )
+}
+
+/// Returns the bytes that a compressed histogram holds. Bytes after the stream are ignored.
 fn decompressed(alloc: Global, bytes: &[u8]) -> Result<Vec<u8>, ConvertError>
-    ensures { IfOk result (λ v2. IsPlain v2.items) }
+    ensures { IfOk result (λ inside. Compresses bytes.now inside.items) }
 {
     if bytes.len() < HEADER_LEN {
         return Err(ConvertError::Incomplete);
@@ -100,9 +140,5 @@ fn decompressed(alloc: Global, bytes: &[u8]) -> Result<Vec<u8>, ConvertError>
     if len > rest.len() {
         return Err(ConvertError::Incomplete);
     }
-    let plain = inflate(alloc, &rest[..len], MAX_LEN)?;
-    match form_of(&plain) {
-        Ok(Form::Plain) => Ok(plain),
-        _ => Err(ConvertError::NotV2Inside),
-    }
+    Ok(inflate(alloc, &rest[..len], MAX_LEN)?)
 }

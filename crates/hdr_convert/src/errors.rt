@@ -1,6 +1,8 @@
 //! Why a histogram is not converted.
 
 use hdr_zlib::InflateError;
+use hdrhistogram::CreationError;
+use hdrhistogram::serialization::V2SerializeError;
 use std::alloc::{AllocError, AllocFailed};
 use thiserror::Error;
 
@@ -17,13 +19,19 @@ pub enum ConvertError {
     #[error("not a histogram")]
     NotAHistogram,
     /// The bytes start as those of a version before V2.
-    #[error("a histogram of version {0}, and not 2")]
+    #[error("a histogram of version {0} with counters of an unknown width")]
     OldVersion(u8),
+    /// A histogram of version 1 shifts its values, or has a ratio other than 1.
+    #[error("a histogram with shifted or scaled values")]
+    Unsupported,
+    /// No histogram has the bounds, the digits or the counts of one of version 0 or 1.
+    #[error("the bounds, the digits or a count of the histogram are invalid")]
+    Bounds,
     /// The bytes start as those of a histogram of floating-point values.
     #[error("a double histogram")]
     DoubleHistogram,
-    /// The bytes end before the compressed histogram does.
-    #[error("the compressed histogram is incomplete")]
+    /// The bytes end before the histogram does.
+    #[error("the histogram is incomplete")]
     Incomplete,
     /// What is compressed does not start as V2 bytes.
     #[error("the compressed bytes are not a histogram")]
@@ -41,6 +49,24 @@ impl From<InflateError> for ConvertError {
         match error {
             InflateError::OutOfMemory => ConvertError::OutOfMemory,
             _ => ConvertError::Inflate(error),
+        }
+    }
+}
+
+impl From<CreationError> for ConvertError {
+    fn from(error: CreationError) -> ConvertError {
+        match error {
+            CreationError::OutOfMemory => ConvertError::OutOfMemory,
+            _ => ConvertError::Bounds,
+        }
+    }
+}
+
+impl From<V2SerializeError> for ConvertError {
+    fn from(error: V2SerializeError) -> ConvertError {
+        match error {
+            V2SerializeError::OutOfMemory => ConvertError::OutOfMemory,
+            _ => ConvertError::Bounds,
         }
     }
 }

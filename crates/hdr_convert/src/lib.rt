@@ -7,6 +7,7 @@
 mod bytes;
 mod errors;
 mod line;
+mod old;
 
 pub use bytes::{Form, compressed, form_of, v2_bytes};
 pub use errors::ConvertError;

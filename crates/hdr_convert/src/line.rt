@@ -4,12 +4,14 @@ ghost use Rattle.std.specs.Prelude.{◌≡◌, ◌++◌, ℕ, List, [], IfOk, On
 ghost use Rattle.hdr_log.specs.Grammar.{reading};
 ghost use Rattle.hdr_log.specs.Texts.{base64_of};
 ghost use Rattle.hdr_convert.specs.Forms.{HasForm};
+ghost use Rattle.hdr_convert.specs.Lines.{IsConverted, IsLineIn};
 
 use crate::bytes::{Form, compressed, v2_bytes};
 use crate::errors::ConvertError;
 use base64::engine::general_purpose::STANDARD;
 use hdr_log::field::{FieldError, decoded};
 use hdr_log::{IntervalLogIterator, LogEntry};
+use memchr::memrchr;
 use std::alloc::Global;
 
 /// Appends a line of a log, which ends in a line feed, with the histogram of an interval in `form`. Other lines and other
@@ -26,19 +28,36 @@ pub fn convert_line(
 ) -> Result<(), ConvertError>
     ensures other { reading line.now ≡ [] → OnOk result (output.new.items
         ≡ output.old.items ++ line.now) }
+    ensures line { OnOk result ((text : List ℕ) × IsLineIn form line.now text
+        × (output.new.items ≡ output.old.items ++ text)) }
 {
     match IntervalLogIterator::new(line).next() {
         Some(Ok(LogEntry::Interval(interval))) => {
-            let field = interval.encoded_histogram();
-            let end = line.iter().rposition(|byte| *byte == b',').unwrap_or(0);
-            output.extend_from_slice(&line[..end])?;
-            output.push(b',')?;
-            convert_field(alloc, field, form, output)?;
-            Ok(output.push(b'\n')?)
+            convert_interval(alloc, line, interval.encoded_histogram(), form, output)
         }
         Some(Err(_)) => Err(ConvertError::NotALine),
         _ => Ok(output.extend_from_slice(line)?),
     }
+}
+
+/// Appends the line of an interval, whose histogram is `field`, with the histogram in `form`.
+fn convert_interval(
+    alloc: Global,
+    line: &[u8],
+    field: &str,
+    form: Form,
+    output: &mut Vec<u8>,
+) -> Result<(), ConvertError>
+    ensures { OnOk result ((text : List ℕ) × IsConverted form line.now text
+        × (output.new.items ≡ output.old.items ++ text)) }
+{
+    let Some(comma) = memrchr(b',', line) else {
+        return Err(ConvertError::NotALine);
+    };
+    output.extend_from_slice(&line[..comma])?;
+    output.push(b',')?;
+    convert_field(alloc, field, form, output)?;
+    Ok(output.push(b'\n')?)
 }
 
 /// Returns a histogram of either form in `form`.

@@ -8,21 +8,26 @@ use Rattle.std.proofs.lemmas.Str.{encodes-chars, inside_one}
 use mathlib.Core.List.{append-nil}
 use Rattle.hdr_draw.specs.Letters.{escaped, escaped_text, unescaped, read_html}
 
--- no byte of these is an &
+-- no byte of these is an & or a <
 abbrev Free : List ℕ → Type 0
-Free bs = (k : ℕ) → k < length bs → get_or bs k 0 ≡ 38 → ⊥
+Free bs = (k : ℕ) → k < length bs → (get_or bs k 0 ≡ 38 → ⊥) × (get_or bs k 0 ≡ 60 → ⊥)
 
 copied : (bs rest : List ℕ) → Free bs → read_html false [] (bs ++ rest) ≡ bs ++ read_html false [] rest
 copied [] rest f = refl
 copied (b ∷ bs) rest f =
-    let n : (b == 38) ≡ false = ne_eqb b 38 (f 0 (omega arith)) in
+    let g : (b ≡ 38 → ⊥) × (b ≡ 60 → ⊥) = f 0 (omega arith) in
+    let n : (b == 38) ≡ false = ne_eqb b 38 g.0 in
+    let m : (b == 60) ≡ false = ne_eqb b 60 g.1 in
     let i : read_html false [] (bs ++ rest) ≡ bs ++ read_html false [] rest = copied bs rest (λ k l. f (suc k) (omega arith)) in
-    rw (n, i) refl
+    rw (n, m, i) refl
 
-free : (c : ℕ) → (c ≡ 38 → ⊥) → Free (encode_utf8 c)
-free c n k l e =
-    let i : c ≡ get_or (encode_utf8 c) k 0 = inside_one c [] (encode_utf8 c) k (sym (append-nil _)) l (omega (arith, e)) in
-    n (i ∙ e)
+is_byte : (c k byte : ℕ) → byte < 128 → k < length (encode_utf8 c) → get_or (encode_utf8 c) k 0 ≡ byte → c ≡ byte
+is_byte c k byte h l e =
+    let i : c ≡ get_or (encode_utf8 c) k 0 = inside_one c [] (encode_utf8 c) k (sym (append-nil _)) l (omega (arith, h, e)) in
+    i ∙ e
+
+free : (c : ℕ) → (c ≡ 38 → ⊥) → (c ≡ 60 → ⊥) → Free (encode_utf8 c)
+free c n m k l = (λ e. n (is_byte c k 38 (omega arith) l e), λ e. m (is_byte c k 60 (omega arith) l e))
 
 abbrev Reads : ℕ → Type 0
 Reads c = (rest : List ℕ) → read_html false [] (escaped c ++ rest) ≡ encode_utf8 c ++ read_html false [] rest
@@ -52,7 +57,7 @@ unfolding escaped
 as_it_is c a b d e f = rw (ne_eqb c 38 a, ne_eqb c 60 b, ne_eqb c 62 d, ne_eqb c 34 e, ne_eqb c 39 f) refl
 
 others : (c : ℕ) → (c ≡ 38 → ⊥) → (c ≡ 60 → ⊥) → (c ≡ 62 → ⊥) → (c ≡ 34 → ⊥) → (c ≡ 39 → ⊥) → Reads c
-others c a b d e f rest = rw (as_it_is c a b d e f) (copied (encode_utf8 c) rest (free c a))
+others c a b d e f rest = rw (as_it_is c a b d e f) (copied (encode_utf8 c) rest (free c a b))
 
 read_letter : (c : ℕ) → Reads c
 read_letter c = elim (cases_eq c 38) [

@@ -4,4 +4,6 @@ pub mod Pushing
 pub mod Bounds
 pub mod Digits
 pub mod Divided
+pub mod Decimals
 pub mod Escaping
+pub mod Grouping

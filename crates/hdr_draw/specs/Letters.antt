@@ -4,17 +4,17 @@ use Rattle.std.specs.Char.{encode_utf8}
 use Rattle.std.specs.List.{flat_map}
 use Rattle.std.specs.Str.{bytes_eq}
 
--- how a letter is written in HTML: the five that HTML reserves as their entities
+-- how a character is written in HTML: the five that HTML reserves as their entities
 unfoldable pub escaped : ℕ → List ℕ
-escaped letter =
-    if letter == 38 then codes "&amp;"
-    else (if letter == 60 then codes "&lt;"
-    else (if letter == 62 then codes "&gt;"
-    else (if letter == 34 then codes "&quot;"
-    else (if letter == 39 then codes "&#39;"
-    else encode_utf8 letter))))
+escaped character =
+    if character == 38 then codes "&amp;"
+    else (if character == 60 then codes "&lt;"
+    else (if character == 62 then codes "&gt;"
+    else (if character == 34 then codes "&quot;"
+    else (if character == 39 then codes "&#39;"
+    else encode_utf8 character))))
 
--- a text as HTML writes it: each of its letters
+-- a text as HTML writes it: each of its characters
 unfoldable pub escaped_text : List ℕ → List ℕ
 escaped_text text = flat_map escaped (chars text)
 
@@ -28,10 +28,10 @@ entity name =
     else (if bytes_eq name (codes "#39") then 39 ∷ []
     else []))))
 
--- what a browser reads, after an & and a name up to here if in_entity
+-- what a browser reads up to a <, which begins a tag; after an & and a name up to here if in_entity
 abbrev pub read_html : Bool → List ℕ → List ℕ → List ℕ
 read_html in_entity name [] = []
-read_html false name (b ∷ bs) = if b == 38 then read_html true [] bs else b ∷ read_html false [] bs
+read_html false name (b ∷ bs) = if b == 38 then read_html true [] bs else (if b == 60 then [] else b ∷ read_html false [] bs)
 read_html true name (b ∷ bs) = if b == 59 then entity name ++ read_html false [] bs else read_html true (name ++ b ∷ []) bs
 
 -- the text that a browser reads

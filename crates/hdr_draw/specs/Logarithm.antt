@@ -5,7 +5,7 @@ use Rattle.std.specs.Prelude.{◌≡◌, ℕ, ◌+◌, ◌-◌, ◌*◌, ◌/◌
 unfoldable pub bend : ℕ → ℕ
 bend part = part * (86 * 65536 - 22 * part) / (64 * 65536)
 
--- n is the logarithm of a value to the base of 2, in 65,536ths
+-- n approximates the logarithm of a value to the base of 2, in 65,536ths; at powers of 2 it is exact
 pub record IsLogarithm (value n : ℕ) : Type 0 where
   pub bits : ℕ
   pub at_least : 2 ^ bits ≤ value

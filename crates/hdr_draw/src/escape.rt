@@ -5,18 +5,18 @@ ghost use Rattle.hdr_draw.specs.Letters.{escaped, escaped_text};
 
 use std::alloc::AllocError;
 
-/// Appends a letter as HTML writes it.
+/// Appends a character as HTML writes it.
 #[tactic(auto, unfolding(crate::specs::Letters::escaped))]
-fn push_letter(text: &mut String, letter: char) -> Result<(), AllocError>
-    ensures { OnOk result (string_bytes text.new ≡ string_bytes text.old ++ escaped letter) }
+fn push_char(text: &mut String, character: char) -> Result<(), AllocError>
+    ensures { OnOk result (string_bytes text.new ≡ string_bytes text.old ++ escaped character) }
 {
-    match letter {
+    match character {
         '&' => text.push_str("&amp;"),
         '<' => text.push_str("&lt;"),
         '>' => text.push_str("&gt;"),
         '"' => text.push_str("&quot;"),
         '\'' => text.push_str("&#39;"),
-        _ => text.push(letter),
+        _ => text.push(character),
     }
 }
 
@@ -24,8 +24,8 @@ fn push_letter(text: &mut String, letter: char) -> Result<(), AllocError>
 pub fn push_escaped(text: &mut String, plain: &str) -> Result<(), AllocError>
     ensures { OnOk result (string_bytes text.new ≡ string_bytes text.old ++ escaped_text plain.now) }
 {
-    for letter in plain.chars() {
-        push_letter(text, letter)?;
+    for character in plain.chars() {
+        push_char(text, character)?;
     }
     Ok(())
 }

@@ -18,7 +18,7 @@ pub fn places_ascend()
         → IsValuePlace e length a p → IsValuePlace e length b q → a ≤ b → p ≤ q }
 {}
 
-/// A browser reads an escaped text as the text itself.
+/// A browser, which replaces NUL and CR, reads an escaped text without these as the text itself.
 pub fn escaped_texts_read_back()
     ensures { (text : List ℕ) → IsUtf8 text → unescaped (escaped_text text) ≡ text }
 {}

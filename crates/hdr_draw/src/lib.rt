@@ -1,6 +1,7 @@
 //! Drawings of whole numbers: scales, their steps, paths, heat maps and escaped texts.
 //!
-//! Lengths and coordinates are in tenths of a pixel. Coordinates begin at the upper left.
+//! Heights are in tenths of a pixel, and widths in ten-thousandths of the field's. Coordinates
+//! begin at the upper left.
 #![tactic(auto)]
 
 pub mod axis;

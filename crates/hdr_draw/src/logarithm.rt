@@ -19,8 +19,8 @@ fn bend(part: u64) -> u64
     part * (86 * OCTAVE - 22 * part) / (64 * OCTAVE)
 }
 
-/// Returns the logarithm of a value to the base of 2, that of 1 for 0. It is at most 0.008 from the
-/// true one.
+/// Returns an approximate logarithm to the base of 2, less than 0.0082 below or above; 0 is taken
+/// as 1.
 pub fn logarithm(value: u64) -> u64
     ensures is { IsLogarithm (max 1 value) result }
     ensures bound { result ≤ 64 * 65536 }

@@ -1,23 +1,12 @@
 //! Numbers as decimals, by whole numbers alone.
 
-ghost use Rattle.std.specs.Prelude.{◌≡◌, ◌≤◌, ◌<◌, ◌+◌, ◌-◌, ◌*◌, ◌^◌, IfSome, IfNone};
-ghost use Rattle.hdr_draw.specs.Numbers.{IsNearest};
+ghost use Rattle.std.specs.Prelude.{ℕ, List, ◌≡◌, ◌≤◌, ◌<◌, ◌+◌, ◌-◌, ◌*◌, ◌/◌, ◌%◌, ◌^◌, ◌++◌, IfSome, IfNone, OnOk, string_bytes};
+ghost use Rattle.hdr_draw.specs.Numbers.{IsDecimalOf, IsNearest, decimal_text, exponent, grouped, last_digits};
 
 use std::alloc::AllocError;
 
 /// The most decimals of a number.
 const MOST_DECIMALS: u32 = 9;
-
-/// The units of groups of three digits.
-const GROUPS: [u64; 7] = [
-    1_000_000_000_000_000_000,
-    1_000_000_000_000_000,
-    1_000_000_000_000,
-    1_000_000_000,
-    1_000_000,
-    1_000,
-    1,
-];
 
 /// Returns `num * parts / den` to the nearest integer, halves to the even one. Returns `None` if
 /// `den` is 0 or the product overflows.
@@ -37,16 +26,45 @@ pub fn in_parts(num: u128, den: u128, parts: u128) -> Option<u128>
 }
 
 /// Appends an integer, with a comma between groups of three digits.
-pub fn push_grouped(text: &mut String, number: u64) -> Result<(), AllocError> {
-    let mut has_begun = false;
-    for power in GROUPS {
-        let group = number.checked_div(power).unwrap_or(0) % 1_000;
-        if has_begun {
-            write!(text, ",{group:03}")?;
-        } else if group > 0 || power == 1 {
-            write!(text, "{group}")?;
-            has_begun = true;
-        }
+pub fn push_grouped(text: &mut String, number: u64) -> Result<(), AllocError>
+    ensures { OnOk result (string_bytes text.new ≡ string_bytes text.old ++ grouped number) }
+{
+    push_groups(text, u128::from(number))
+}
+
+/// Appends an integer of any size, with a comma between groups of three digits.
+#[tactic(auto, unfolding(crate::specs::Numbers::grouped))]
+fn push_groups(text: &mut String, number: u128) -> Result<(), AllocError>
+    ensures { OnOk result (string_bytes text.new ≡ string_bytes text.old ++ grouped number) }
+{
+    if number < 1_000 {
+        let group = number as u16;
+        return write!(text, "{group}");
+    }
+    push_groups(text, number / 1_000)?;
+    text.push_str(",")?;
+    push_last_digits(text, number, 3)
+}
+
+/// Returns the digit of an integer at an index from its end.
+fn digit_at(number: u128, index: u32) -> u8
+    ensures is { result ≡ number / 10 ^ index % 10 }
+    ensures within { result < 10 }
+{
+    match 10u128.checked_pow(index) {
+        Some(power) => (number / power.max(1) % 10) as u8,
+        None => 0,
+    }
+}
+
+/// Appends the last digits of an integer.
+fn push_last_digits(text: &mut String, number: u128, digits: u32) -> Result<(), AllocError>
+    ensures { OnOk result (string_bytes text.new ≡ string_bytes text.old
+        ++ last_digits digits number) }
+{
+    for index in 0..digits {
+        let digit = digit_at(number, digits - 1 - index);
+        write!(text, "{digit}")?;
     }
     Ok(())
 }
@@ -59,11 +77,13 @@ pub struct Decimal {
 }
 
 impl Decimal {
-    /// Returns a fraction with three significant digits, or as an integer from 100 on.
+    /// Returns a fraction with three significant digits but at most nine decimals, or as an integer
+    /// from 100 on.
     pub fn of_fraction(num: u128, den: u128) -> Decimal
         ensures nearest { 0 < den → num * 10 ^ 9 + 1 < 2 ^ 128
             → IsNearest num den (10 ^ result.decimals) result.parts }
         ensures few { result.decimals ≤ 9 }
+        ensures digits { result.decimals < 9 → 100 ≤ result.parts }
     {
         for decimals in 0..MOST_DECIMALS {
             if let Some(parts) = in_parts(num, den, 10u128.pow(decimals)) {
@@ -81,6 +101,7 @@ impl Decimal {
     /// Returns the decimal without zeros at its end.
     pub fn trimmed(self) -> Decimal
         ensures few { result.decimals ≤ self.decimals }
+        ensures short { 0 < result.decimals → 0 < result.parts % 10 }
         ensures same { result.parts * 10 ^ (self.decimals - result.decimals) ≡ self.parts }
     {
         let mut decimal = self;
@@ -94,24 +115,28 @@ impl Decimal {
         decimal
     }
 
+    /// Returns the integer part of the decimal.
+    fn whole(self) -> u128
+        ensures { result ≡ self.parts / 10 ^ self.decimals }
+    {
+        match 10u128.checked_pow(self.decimals) {
+            Some(one) => self.parts / one.max(1),
+            None => 0,
+        }
+    }
+
     /// Appends the decimal.
-    pub fn push(self, text: &mut String) -> Result<(), AllocError> {
-        let one = 10u128.checked_pow(self.decimals).unwrap_or(1);
-        let whole = self.parts.checked_div(one).unwrap_or(0);
-        push_grouped(text, u64::try_from(whole).unwrap_or(u64::MAX))?;
+    #[tactic(auto, unfolding(crate::specs::Numbers::decimal_text))]
+    pub fn push(self, text: &mut String) -> Result<(), AllocError>
+        ensures { OnOk result (string_bytes text.new ≡ string_bytes text.old
+            ++ decimal_text self.parts self.decimals) }
+    {
         if self.decimals == 0 {
-            return Ok(());
+            return push_groups(text, self.parts);
         }
+        push_groups(text, self.whole())?;
         text.push_str(".")?;
-        let mut rest = self.parts.checked_rem(one).unwrap_or(0);
-        let mut unit = one / 10;
-        for _ in 0..self.decimals {
-            let digit = rest.checked_div(unit).unwrap_or(0);
-            write!(text, "{digit}")?;
-            rest = rest.checked_rem(unit).unwrap_or(0);
-            unit /= 10;
-        }
-        Ok(())
+        push_last_digits(text, self.parts, self.decimals)
     }
 }
 
@@ -136,13 +161,37 @@ pub fn scientific(num: u128, den: u128) -> (Decimal, u32)
     (Decimal::of_fraction(num, tens), power)
 }
 
-/// Appends a number for each second: an integer from 100 on, below with three significant digits.
-pub fn push_rate(text: &mut String, samples: u64, milliseconds: u64) -> Result<(), AllocError> {
+/// Appends an exponent of ten, unless it is 0.
+#[tactic(auto, unfolding(crate::specs::Numbers::exponent))]
+pub fn push_exponent(text: &mut String, power: u32) -> Result<(), AllocError>
+    ensures { OnOk result (string_bytes text.new ≡ string_bytes text.old ++ exponent power) }
+{
+    if power == 0 {
+        return Ok(());
+    }
+    write!(text, "e{power}")
+}
+
+/// Appends a fraction with three significant digits, or as an integer from 100 on. Zeros at the end
+/// of its decimals are left out.
+pub fn push_fraction(text: &mut String, num: u128, den: u128) -> Result<(), AllocError>
+    requires some { 0 < den }
+    requires fits { num * 10 ^ 9 + 1 < 2 ^ 128 }
+    ensures { OnOk result ((added : List ℕ) × IsDecimalOf num den added
+        × (string_bytes text.new ≡ string_bytes text.old ++ added)) }
+{
+    Decimal::of_fraction(num, den).trimmed().push(text)
+}
+
+/// Appends a number of samples in some milliseconds as a number for each second, and 0 if there is
+/// no time.
+pub fn push_rate(text: &mut String, samples: u64, milliseconds: u64) -> Result<(), AllocError>
+    ensures { 0 < milliseconds → OnOk result ((added : List ℕ)
+        × IsDecimalOf (samples * 1000) milliseconds added
+        × (string_bytes text.new ≡ string_bytes text.old ++ added)) }
+{
     if milliseconds == 0 {
         return text.push_str("0");
     }
-    let num = u128::from(samples) * 1_000;
-    Decimal::of_fraction(num, u128::from(milliseconds))
-        .trimmed()
-        .push(text)
+    push_fraction(text, u128::from(samples) * 1_000, u128::from(milliseconds))
 }

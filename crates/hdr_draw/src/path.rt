@@ -1,8 +1,9 @@
 //! Paths of lines and areas.
 
-ghost use Rattle.std.specs.Prelude.{◌≡◌, ◌≤◌, ◌++◌, OnOk, IfOk, [], ◌∷◌, string_bytes};
+ghost use Rattle.std.specs.Prelude.{◌≡◌, ◌≤◌, ◌++◌, OnOk, IfOk, [], ◌∷◌, max, string_bytes};
 ghost use Rattle.std.specs.List.{flat_map};
 ghost use Rattle.hdr_draw.specs.Paths.{IsInside, step_text, tenths};
+ghost use Rattle.hdr_draw.specs.Scales.{along};
 
 use crate::axis::Axis;
 use crate::tenths::push_tenths;
@@ -62,8 +63,10 @@ impl Model for Path {
 }
 
 /// Returns the left side of the part of this index, of equal parts of the width of a field.
+#[tactic(auto, unfolding(crate::specs::Scales::along))]
 pub fn left_of(index: usize, parts: usize) -> u32
-    ensures { result ≤ 10000 }
+    ensures is { result ≡ along (record { from = 0; span = max 1 parts }) WIDTH index }
+    ensures within { result ≤ WIDTH }
 {
     Axis::new(0, parts as u64).place(index as u64, WIDTH)
 }

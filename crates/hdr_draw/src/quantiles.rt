@@ -5,7 +5,7 @@ ghost use Rattle.std.specs.Prelude.{◌≤◌};
 use crate::axis::Axis;
 use crate::logarithm::{OCTAVE, logarithm};
 
-/// A scale from the quantile 0 to the first one that is the greatest of some number of samples.
+/// A scale from the quantile 0 to 1 - 1/(2n) for n samples, or to p99 if that is greater.
 ///
 /// A quantile q is at the logarithm of 1/(1 - q), so p90, p99 and p99.9 are equally far apart.
 #[derive(Debug, Drop)]
@@ -24,7 +24,7 @@ impl QuantileScale {
         }
     }
 
-    /// Returns how far the quantile is along a width above which a part of all samples lies.
+    /// Returns the distance along `width` of the quantile that `part` of `all` samples are above.
     pub fn place(&self, all: u64, part: u64, width: u32) -> u32
         ensures { result ≤ width }
     {
@@ -40,7 +40,7 @@ impl QuantileScale {
     }
 
     /// Whether the quantile 1 - 1/`inverse` is on the scale.
-    pub fn has(&self, inverse: u64) -> bool {
+    pub fn contains(&self, inverse: u64) -> bool {
         logarithm(inverse) <= self.end
     }
 }

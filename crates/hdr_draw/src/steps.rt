@@ -7,7 +7,7 @@ ghost use Rattle.hdr_draw.specs.Steps.{IsStep, IsStrictlyAscending, AreSteps};
 use std::alloc::{AllocError, Global};
 
 /// The number of steps that 64 bits hold.
-const STEPS: u32 = 59;
+const STEPS: u32 = 58;
 
 /// Returns the greatest step at or below a value, 1 for 0.
 pub fn step_below(value: u64) -> u64

@@ -8,8 +8,11 @@ use std::alloc::{AllocError, Global};
 /// The steps of time, in seconds: from a second to a month.
 const STEPS: [u64; 21] = [
     1, 2, 5, 10, 15, 30, 60, 120, 300, 600, 900, 1_800, 3_600, 7_200, 10_800, 21_600, 43_200,
-    86_400, 172_800, 604_800, 2_592_000,
+    86_400, 172_800, 604_800, MONTH,
 ];
+
+/// The seconds of a month of 30 days.
+const MONTH: u64 = 2_592_000;
 
 /// The seconds of a minute: the texts of shorter steps have seconds.
 const MINUTE: u64 = 60;
@@ -27,7 +30,7 @@ pub struct TimeTick {
 #[derive(Clone, Copy, Debug)]
 pub struct TimeSteps {
     pub step: u64,
-    /// Every how many steps a narrow drawing has a text.
+    /// A narrow drawing labels every `every`-th tick.
     pub every: u64,
     ghost some: { 0 < step },
 }
@@ -86,7 +89,8 @@ fn push_inside(
     Ok(())
 }
 
-/// Returns the shortest step, in seconds, of which a span in milliseconds has few.
+/// Returns the shortest step, in seconds, that a span in milliseconds has at most eight of, or five
+/// below a minute. Past a month it is a multiple of a month.
 fn step_for(span: u64) -> u64
     ensures { 0 < result }
 {
@@ -96,5 +100,5 @@ fn step_for(span: u64) -> u64
             return step.max(1);
         }
     }
-    2_592_000
+    span.div_ceil(8_000 * MONTH).max(1).saturating_mul(MONTH)
 }

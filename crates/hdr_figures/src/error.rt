@@ -8,7 +8,7 @@ use thiserror::Error;
 /// Why logs are not shown.
 #[derive(Debug, Drop, Error)]
 pub enum PageError {
-    /// The log of this index is not read.
+    /// The log at this index is invalid.
     #[error("{cause}")]
     Input { log: usize, cause: InputError },
     #[error("{0}")]

@@ -1,7 +1,10 @@
 //! The figures of tags, and of their points of time.
 
+ghost use Rattle.std.specs.Prelude.{◌≡◌, ◌<◌};
+ghost use Rattle.hdr_figures.specs.Figures.{AreFiguresOf, value_at};
+
 use crate::error::PageError;
-use crate::reading::{Interval, Intervals, not_decoded};
+use crate::reading::{Interval, Intervals};
 use crate::timeline::Timeline;
 use hdr_input::InputError;
 use hdrhistogram::serialization::Deserializer;
@@ -54,7 +57,7 @@ pub struct Total {
     pub max: Option<u64>,
 }
 
-/// The interval that has the greatest value, first.
+/// The first interval with the greatest value.
 #[derive(Clone, Copy)]
 pub struct Worst<'a> {
     pub value: u64,
@@ -103,7 +106,9 @@ pub fn keys_of(
 }
 
 /// Returns the value at a quantile.
-pub fn value_at(histogram: &Histogram<u64>, num: u64, den: u64) -> u64 {
+pub fn value_at(histogram: &Histogram<u64>, num: u64, den: u64) -> u64
+    ensures { 0 < den → result ≡ value_at histogram.now num den }
+{
     match Quantile::new(num, den) {
         Some(quantile) => histogram.value_at_quantile(quantile),
         None => 0,
@@ -125,7 +130,9 @@ impl Figures {
     };
 
     /// Returns the figures of a histogram.
-    pub fn of(histogram: &Histogram<u64>, level: Option<Quantile>) -> Figures {
+    pub fn of(histogram: &Histogram<u64>, level: Option<Quantile>) -> Figures
+        ensures { AreFiguresOf histogram.now result }
+    {
         Figures {
             count: histogram.len(),
             mean: histogram.mean(),
@@ -202,37 +209,38 @@ impl<'a> Sums<'a> {
     ) -> Result<(), PageError> {
         self.tag.reset();
         let mut points = Vec::new(alloc);
-        let mut begin = u64::MAX;
-        let mut end = 0;
         for keys in keys.chunk_by(|a, b| a.point == b.point) {
-            self.point.reset();
-            for key in keys {
-                if let Some(interval) = intervals.list.get(key.interval) {
-                    begin = begin.min(interval.start);
-                    end = end.max(interval.end());
-                    self.add_interval(intervals, key, interval)?;
-                }
-            }
-            let figures = Figures::of(&self.point, self.level);
             if let Some(key) = keys.first() {
+                let figures = self.add_point(intervals, keys)?;
                 self.add_total(key.point, &figures);
                 points.push(PointFigures {
                     point: key.point,
                     figures,
                 })?;
             }
-            self.tag.add(&self.point)?;
         }
         self.log.sum.add(&self.tag)?;
         let index = keys.first().map_or(0, |key| key.tag);
         self.log.tags.push(TagFigures {
-            tag: tag_at(intervals, index),
+            tag: intervals.tag_at(index),
             index,
             figures: Figures::of(&self.tag, self.level),
-            length: end.saturating_sub(begin),
+            length: length_of(intervals, keys),
             points,
         })?;
         Ok(())
+    }
+
+    /// Adds the intervals of a point of a tag, and returns the figures of their samples.
+    fn add_point(&mut self, intervals: &Intervals<'a>, keys: &[Key]) -> Result<Figures, PageError> {
+        self.point.reset();
+        for key in keys {
+            if let Some(interval) = intervals.list.get(key.interval) {
+                self.add_interval(intervals, key, interval)?;
+            }
+        }
+        self.tag.add(&self.point)?;
+        Ok(Figures::of(&self.point, self.level))
     }
 
     /// Adds an interval to its point.
@@ -245,26 +253,26 @@ impl<'a> Sums<'a> {
         let histogram = decoded(&mut self.deserializer, interval)?;
         self.point.add(&histogram)?;
         if !histogram.is_empty() {
-            self.see_worst(Worst {
+            self.update_worst(Worst {
                 value: value_at(&histogram, 1, 1),
                 interval: key.interval,
                 start: interval.start,
-                tag: tag_at(intervals, interval.tag),
+                tag: intervals.tag_at(interval.tag),
             });
         }
         Ok(())
     }
 
     /// Keeps an interval if it has the greatest value so far, or comes first with it.
-    fn see_worst(&mut self, seen: Worst<'a>) {
+    fn update_worst(&mut self, other: Worst<'a>) {
         let is_worse = match &self.log.worst {
             Some(worst) => {
-                (seen.value, Reverse(seen.interval)) > (worst.value, Reverse(worst.interval))
+                (other.value, Reverse(other.interval)) > (worst.value, Reverse(worst.interval))
             }
             None => true,
         };
         if is_worse {
-            self.log.worst = Some(seen);
+            self.log.worst = Some(other);
         }
     }
 
@@ -280,12 +288,18 @@ impl<'a> Sums<'a> {
     }
 }
 
-/// Returns the tag of an index.
-fn tag_at<'a>(intervals: &Intervals<'a>, index: usize) -> &'a str {
-    match intervals.tags.get(index) {
-        Some(tag) => *tag,
-        None => "",
+/// Returns how long a tag was seen, in milliseconds: from the start of its first interval to the
+/// end of its last one.
+fn length_of(intervals: &Intervals<'_>, keys: &[Key]) -> u64 {
+    let mut start = u64::MAX;
+    let mut end = 0;
+    for key in keys {
+        if let Some(interval) = intervals.list.get(key.interval) {
+            start = start.min(interval.start);
+            end = end.max(interval.end());
+        }
     }
+    end.saturating_sub(start)
 }
 
 /// Returns the histogram of an interval.
@@ -295,6 +309,9 @@ pub fn decoded(
 ) -> Result<Histogram<u64>, PageError> {
     match deserializer.decode_field(interval.field) {
         Ok(histogram) => Ok(histogram),
-        Err(cause) => Err(not_decoded(interval, InputError::of_interval(interval.line, cause))),
+        Err(cause) => Err(PageError::Input {
+            log: interval.log,
+            cause: InputError::of_interval(interval.line, cause),
+        }),
     }
 }

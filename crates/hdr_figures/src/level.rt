@@ -1,8 +1,11 @@
 //! The level of a quantile.
 
+ghost use Rattle.std.specs.Prelude.{◌≡◌, ◌<◌, SomeIff};
+
 use hdrhistogram::Quantile;
 
-/// A level that a quantile of each tag has to keep: at most this value, in the unit of the log.
+/// A quantile of all samples, and of those of a tag at a point of time, with the value in the unit of
+/// the log that it should not exceed.
 #[derive(Clone, Copy)]
 pub struct PageLevel {
     pub num: u64,
@@ -12,7 +15,9 @@ pub struct PageLevel {
 
 impl PageLevel {
     /// Returns the quantile of the level.
-    pub fn quantile(self) -> Option<Quantile> {
+    pub fn quantile(self) -> Option<Quantile>
+        ensures { SomeIff result (0 < self.den) (record { num = self.num; den = self.den }) }
+    {
         Quantile::new(self.num, self.den)
     }
 }

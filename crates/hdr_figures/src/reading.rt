@@ -1,7 +1,8 @@
 //! The intervals of logs, not decoded yet.
 
+ghost use Rattle.std.specs.Prelude.{◌≡◌, ◌+◌, ◌-◌, ◌/◌, ◌^◌, min};
+
 use crate::error::PageError;
-use hdr_input::InputError;
 use hdr_input::log_lines::{entry_of, split_log_line};
 use hdrhistogram::serialization::interval_log::{IntervalLogHistogram, LogEntry};
 use std::alloc::{AllocError, Global};
@@ -16,7 +17,8 @@ const MILLISECOND: u128 = 1_000_000;
 pub struct Interval<'a> {
     /// The index of its tag.
     pub tag: usize,
-    /// When it began, in milliseconds since the epoch, and how long it was, in milliseconds.
+    /// When it began, in milliseconds since the epoch or, if the log has no base time, since some
+    /// start, and how long it was, in milliseconds.
     pub start: u64,
     pub length: u64,
     /// The index of its log, and its line.
@@ -28,7 +30,9 @@ pub struct Interval<'a> {
 
 impl Interval<'_> {
     /// Returns when it ended, in milliseconds since the epoch.
-    pub fn end(&self) -> u64 {
+    pub fn end(&self) -> u64
+        ensures { result ≡ min (self.now.start + self.now.length) (2 ^ 64 - 1) }
+    {
         self.start.saturating_add(self.length)
     }
 }
@@ -117,6 +121,14 @@ impl<'a> Intervals<'a> {
         Ok(())
     }
 
+    /// Returns the tag of an index.
+    pub fn tag_at(&self, index: usize) -> &'a str {
+        match self.tags.get(index) {
+            Some(tag) => *tag,
+            None => "",
+        }
+    }
+
     /// Returns the index of a tag, which is added if it is new.
     fn index_of(&mut self, alloc: Global, tag: &'a str) -> Result<usize, AllocError> {
         if let Some(index) = self.indices.get(tag) {
@@ -133,15 +145,9 @@ impl<'a> Intervals<'a> {
 }
 
 /// Returns nanoseconds in milliseconds, to the nearest, as far as 64 bits hold them.
-fn in_milliseconds(nanoseconds: u128) -> u64 {
+fn in_milliseconds(nanoseconds: u128) -> u64
+    ensures { result ≡ min ((nanoseconds + 500000) / 1000000) (2 ^ 64 - 1) }
+{
     let milliseconds = nanoseconds.saturating_add(MILLISECOND / 2) / MILLISECOND;
     u64::try_from(milliseconds).unwrap_or(u64::MAX)
-}
-
-/// Returns the error of an interval that is not decoded.
-pub fn not_decoded(interval: &Interval<'_>, cause: InputError) -> PageError {
-    PageError::Input {
-        log: interval.log,
-        cause,
-    }
 }

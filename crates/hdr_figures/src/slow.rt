@@ -1,5 +1,8 @@
 //! Slow times: runs of points at which a tag is far above its usual value, or above the level.
 
+ghost use Rattle.std.specs.Prelude.{◌↔◌, IsTrue};
+ghost use Rattle.hdr_figures.specs.Figures.{IsFurther};
+
 use crate::figures::{Figures, TagFigures};
 use crate::level::PageLevel;
 use hdr_draw::logarithm::logarithm;
@@ -18,7 +21,8 @@ pub const LETTERS: [&str; NAMED] = ["A", "B", "C", "D", "E"];
 /// The least that a point adds to the weight of its slow time: the logarithm of 1.01.
 const LEAST_WEIGHT: u64 = 941;
 
-/// The figure by which a tag is slow: one that has at least ten samples above it at a usual point.
+/// The figure by which a tag is slow: p99 if it has 1,000 samples or more at a usual point, p90
+/// from 100 on, and otherwise p50; or the quantile of the level.
 #[derive(Clone, Copy, PartialEq, Eq, PartialOrd, Ord)]
 pub enum Measure {
     P50,
@@ -69,8 +73,7 @@ impl Measure {
 }
 
 impl Mark {
-    /// Whether this one shows more than another: by a further quantile, or how many times the usual
-    /// value it is.
+    /// Whether the measure is a higher quantile, or the same one and further above its usual value.
     fn exceeds(&self, other: &Mark) -> bool {
         if self.measure != other.measure {
             return self.measure > other.measure;
@@ -79,7 +82,10 @@ impl Mark {
     }
 
     /// Whether this one is more times its usual value than another.
-    pub fn is_further(&self, other: &Mark) -> bool {
+    pub fn is_further(&self, other: &Mark) -> bool
+        ensures { IsTrue result
+            ↔ IsFurther self.now.value self.now.usual other.now.value other.now.usual }
+    {
         u128::from(self.value) * u128::from(other.usual.max(1))
             > u128::from(other.value) * u128::from(self.usual.max(1))
     }
@@ -111,6 +117,21 @@ fn measure_of(alloc: Global, tag: &TagFigures<'_>, has_level: bool) -> Result<Me
     })
 }
 
+/// Returns the median of a measure of a tag over time, or 1 without samples.
+fn usual_of(alloc: Global, tag: &TagFigures<'_>, measure: Measure) -> Result<u64, AllocError> {
+    let mut values = Vec::new(alloc);
+    for point in &tag.points {
+        if point.figures.count > 0 {
+            values.push(measure.of(&point.figures))?;
+        }
+    }
+    values.sort()?;
+    Ok(match values.get(values.len().saturating_sub(1) / 2) {
+        Some(usual) => *usual,
+        None => 1,
+    })
+}
+
 /// Adds the slow points of a tag.
 fn push_marks(
     alloc: Global,
@@ -120,17 +141,7 @@ fn push_marks(
     level: Option<PageLevel>,
 ) -> Result<(), AllocError> {
     let measure = measure_of(alloc, tag, level.is_some())?;
-    let mut values = Vec::new(alloc);
-    for point in &tag.points {
-        if point.figures.count > 0 {
-            values.push(measure.of(&point.figures))?;
-        }
-    }
-    values.sort()?;
-    let usual = match values.get(values.len().saturating_sub(1) / 2) {
-        Some(usual) => *usual,
-        None => 1,
-    };
+    let usual = usual_of(alloc, tag, measure)?;
     let least = match level {
         Some(level) => level.value.saturating_add(1),
         None => usual.saturating_mul(TIMES).max(2),
@@ -208,6 +219,11 @@ fn add_point(
 }
 
 impl SlowTime {
+    /// Returns the number of tags that are slow.
+    pub fn slow_count(&self) -> usize {
+        self.tags.iter().filter(|is_slow| **is_slow).count()
+    }
+
     /// Adds the marks of a point.
     fn add(&mut self, marks: &[Mark]) {
         let mut weight = LEAST_WEIGHT;

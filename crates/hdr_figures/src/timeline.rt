@@ -1,5 +1,7 @@
 //! Points of time, each of which merges some intervals.
 
+ghost use Rattle.std.specs.Prelude.{◌≡◌, ◌≤◌, ◌<◌, ◌+◌, ◌-◌, ◌*◌, ◌/◌, ◌^◌, ◌↔◌, IfOk, IsTrue, max, min};
+
 use crate::reading::Interval;
 use std::alloc::{AllocError, Global};
 
@@ -15,7 +17,7 @@ pub struct Timeline {
     /// When the first interval began, and the last one ended.
     pub first: u64,
     pub last: u64,
-    /// The number of intervals of a tag that are merged to a point.
+    /// The number of intervals of the usual length that a point has.
     pub merged: u64,
     /// The length of a point.
     pub step: u64,
@@ -24,7 +26,9 @@ pub struct Timeline {
 
 impl Timeline {
     /// Returns the points of time of intervals.
-    pub fn new(alloc: Global, intervals: &[Interval<'_>]) -> Result<Timeline, AllocError> {
+    pub fn new(alloc: Global, intervals: &[Interval<'_>]) -> Result<Timeline, AllocError>
+        ensures { IfOk result (λ t. (1 ≤ t.points) × (t.points ≤ 200)) }
+    {
         let mut first = u64::MAX;
         let mut last = 0;
         let mut lengths = Vec::new(alloc);
@@ -43,7 +47,9 @@ impl Timeline {
     }
 
     /// Returns the points of time from a time to another, of intervals of a usual length.
-    fn of_span(first: u64, last: u64, usual: u64) -> Timeline {
+    fn of_span(first: u64, last: u64, usual: u64) -> Timeline
+        ensures { (1 ≤ result.points) × (result.points ≤ 200) }
+    {
         let span = last.saturating_sub(first).max(usual);
         let merged = parts(span, usual, 1_000).div_ceil(MOST).max(1);
         let step = usual.saturating_mul(merged).max(1);
@@ -57,24 +63,34 @@ impl Timeline {
     }
 
     /// Whether the times are those of a clock.
-    pub fn has_clock(&self) -> bool {
-        self.first > CLOCK_FROM
+    pub fn has_clock(&self) -> bool
+        ensures { IsTrue result ↔ 31622400000 ≤ self.now.first }
+    {
+        self.first >= CLOCK_FROM
     }
 
     /// Returns the point of a time.
-    pub fn point_of(&self, time: u64) -> usize {
+    pub fn point_of(&self, time: u64) -> usize
+        ensures { result
+            ≡ min ((time - self.now.first) / max 1 self.now.step) (self.now.points - 1) }
+    {
         let point = time.saturating_sub(self.first) / self.step.max(1);
         (point as usize).min(self.points.saturating_sub(1))
     }
 
     /// Returns when a point begins.
-    pub fn start_of(&self, point: usize) -> u64 {
+    pub fn start_of(&self, point: usize) -> u64
+        ensures { result ≡ min (self.now.first + self.now.step * point) (2 ^ 64 - 1) }
+    {
         let after = self.step.saturating_mul(point as u64);
         self.first.saturating_add(after)
     }
 
     /// Returns how much of a point is before the end.
-    pub fn length_of(&self, point: usize) -> u64 {
+    pub fn length_of(&self, point: usize) -> u64
+        ensures some { 0 < result }
+        ensures within { result ≤ max 1 self.now.step }
+    {
         self.last
             .saturating_sub(self.start_of(point))
             .min(self.step)
@@ -82,7 +98,9 @@ impl Timeline {
     }
 
     /// Returns the length of all points.
-    pub fn span(&self) -> u64 {
+    pub fn span(&self) -> u64
+        ensures { result ≡ min (self.now.step * self.now.points) (2 ^ 64 - 1) }
+    {
         self.step.saturating_mul(self.points as u64)
     }
 }

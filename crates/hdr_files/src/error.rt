@@ -11,7 +11,7 @@ pub enum FileError {
     /// A file, or standard input, is not read.
     #[error("{file}: {cause}")]
     Input { file: String, cause: InputError },
-    /// A file is not opened.
+    /// A file is not opened, or not written.
     #[error("{file}: {cause}")]
     Open { file: String, cause: io::Error },
     #[error("out of memory")]

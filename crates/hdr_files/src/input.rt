@@ -112,10 +112,13 @@ fn read_table<R: Read + Drop, S: RowSink>(
         };
         return read_rows(alloc, reader, columns, layout, sink);
     }
-    let mut reader = BufReader::new(alloc, reader).map_err(InputError::Io)?;
+    let mut reader = match BufReader::new(alloc, reader) {
+        Ok(reader) => reader,
+        Err(error) => return Err(InputError::of_reading(error)),
+    };
     let delimiter = match reader.fill_buf() {
         Ok(start) => guess_delimiter(start),
-        Err(error) => return Err(InputError::Io(error)),
+        Err(error) => return Err(InputError::of_reading(error)),
     };
     let layout = Layout {
         delimiter,
@@ -197,7 +200,7 @@ pub fn read_intervals<'a>(
 }
 
 /// Returns the lines of logs, with plain histograms.
-pub fn read_whole(rt: &HostRuntime, names: &[&str]) -> Result<Vec<Vec<u8>>, FileError> {
+pub fn read_plain_logs(rt: &HostRuntime, names: &[&str]) -> Result<Vec<Vec<u8>>, FileError> {
     let mut contents = Contents {
         files: Vec::new(rt.alloc()),
     };
@@ -227,6 +230,17 @@ pub fn read_log_lines<S: LineSink>(
     read_files(console, names, &mut LogLines { sink })
 }
 
+/// Prints on standard error how many of the chosen intervals are coarser than their sum, if any are.
+fn print_coarser(rt: &HostRuntime, sums: &LogSums<'_>, sigfig: u8) {
+    let coarser = sums.coarser;
+    let chosen = sums.chosen;
+    if coarser > 0 {
+        let _ = eprintln!(rt;
+            "hdrstat: {coarser} of {chosen} intervals coarser than {sigfig} digits"
+        );
+    }
+}
+
 /// Returns the sums of logs. If intervals are coarser than their sum, their number is printed on
 /// standard error.
 fn read_logs(
@@ -239,13 +253,7 @@ fn read_logs(
     let alloc = console.rt.alloc();
     let mut sums = LogSums::new(alloc, choice, sigfig, is_by_tag);
     read_files(console, names, &mut sums)?;
-    let coarser = sums.coarser;
-    let chosen = sums.chosen;
-    if coarser > 0 {
-        let _ = eprintln!(console.rt;
-            "hdrstat: {coarser} of {chosen} intervals coarser than {sigfig} digits"
-        );
-    }
+    print_coarser(console.rt, &sums, sigfig);
     let decimals = sums.decimals();
     let mut parts = Vec::new(alloc);
     if sums.sums.is_empty() && !is_by_tag {

@@ -7,6 +7,6 @@ pub mod input;
 mod progress;
 pub mod reading;
 
-pub use console::{Console, Input};
+pub use console::{Console, Input, LateInput};
 pub use error::FileError;
 pub use reading::{Reading, Source, Table};

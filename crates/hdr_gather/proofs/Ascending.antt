@@ -1,14 +1,15 @@
 -- Intervals in order of time, one after another, and their lines.
-use Rattle.std.proofs.Common.{◌≡◌, ℕ, suc, ◌≤◌, ◌<◌, ◌+◌, List, [], ◌∷◌, ◌++◌, Option, Some, None, take, drop, length, get_or, refl, sym, ap, subst, ◌∙◌, append_assoc, arith}
+use Rattle.std.proofs.Common.{◌≡◌, ℕ, suc, ◌≤◌, ◌<◌, ◌+◌, List, [], ◌∷◌, ◌++◌, Option, Some, None, take, drop, length, get_or, refl, sym, ap, subst, ◌∙◌, append_assoc, arith, map}
 use Rattle.std.specs.List.{All, flat_map}
 use Rattle.std.specs.List.Sorted.{IsNonDecreasingBy}
 use Rattle.std.proofs.Math.Seq.{take-suc, take-add}
-use Rattle.std.proofs.lemmas.List.{append-nil, take_all}
+use Rattle.std.proofs.lemmas.List.{append-nil, map-append, take_all}
 use Rattle.std.proofs.lemmas.List.Concat.{flat_map-append}
 use Rattle.std.proofs.lemmas.List.Elements.{All-head, All-tail}
 use Rattle.std.specs.Io.KnownBytes.{Appends}
 use Rattle.hdr_gather.specs.declared.part.Part.{Part}
 use Rattle.hdr_gather.specs.Lines.{IsLineOf}
+use Rattle.hdr_gather.specs.Intervals.{Timed, timed_of}
 use Rattle.hdr_gather.specs.Logs.{Ascend, AreLinesOf, Writes, WritesFrom}
 
 pub ascend_lower : (a b high : ℕ) (ps : List Part) → a ≤ b → Ascend b high ps → Ascend a high ps
@@ -79,14 +80,15 @@ pub writes_all : (o n : Option (List ℕ)) (ps : List Part) (i : ℕ) → length
 writes_all o n ps i l s = subst (λ qs. Writes qs o n) (take_all i ps l) s
 
 -- intervals after intervals
-pub writes_then : (a b c d : ℕ) (o m n : Option (List ℕ)) (ps : List Part) → WritesFrom a b o m → b ≤ c → Ascend c d ps → Writes ps m n → WritesFrom a d o n
-writes_then a b c d o m n ps s l ascend t =
-    (s.0 ++ ps, ascend_append a b d s.0 ps s.1 (ascend_lower b c d ps l ascend), writes_both s.0 ps o m n s.2 t)
+pub writes_then : (a b c d : ℕ) (all more : List Timed) (o m n : Option (List ℕ)) (ps : List Part) → WritesFrom a b all o m → b ≤ c → Ascend c d ps → map timed_of ps ≡ more → Writes ps m n → WritesFrom a d (all ++ more) o n
+writes_then a b c d all more o m n ps s l ascend are t =
+    let both : map timed_of (s.0 ++ ps) ≡ all ++ more = map-append timed_of s.0 ps ∙ ap (λ x. x ++ map timed_of ps) s.2 ∙ ap (λ x. all ++ x) are in
+    (s.0 ++ ps, ascend_append a b d s.0 ps s.1 (ascend_lower b c d ps l ascend), both, writes_both s.0 ps o m n s.3 t)
 
 -- no intervals
-pub writes_nothing : (low : ℕ) (o : Option (List ℕ)) → WritesFrom low low o o
+pub writes_nothing : (low : ℕ) (o : Option (List ℕ)) → WritesFrom low low [] o o
 unfolding Ascend
-writes_nothing low o = let same : low ≤ low = omega arith in ([], same, writes_none o)
+writes_nothing low o = let same : low ≤ low = omega arith in ([], same, refl, writes_none o)
 
 sorted_tail : (p : Part) (ps : List Part) → IsNonDecreasingBy (λ q. q.start) (p ∷ ps) → IsNonDecreasingBy (λ q. q.start) ps
 sorted_tail p ps h = λ i j d l m. h (suc i) (suc j) d (omega (arith, l)) (omega (arith, m))

@@ -3,3 +3,5 @@ pub mod Exchange
 pub mod Summing
 pub mod Ascending
 pub mod Readers
+pub mod Texts
+pub mod Left

@@ -2,4 +2,5 @@ pub mod Times
 pub mod Sums
 pub mod Parts
 pub mod Lines
+pub mod Intervals
 pub mod Logs

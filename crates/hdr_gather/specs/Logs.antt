@@ -1,12 +1,13 @@
 -- Gathered logs: which lines they have, and in which order.
-use Rattle.std.specs.Prelude.{◌≡◌, ℕ, ◌≤◌, List, [], ◌∷◌, ◌++◌, Option, IfSome}
-use Rattle.std.specs.List.{flat_map}
+use Rattle.std.specs.Prelude.{◌≡◌, ℕ, ◌≤◌, List, [], ◌∷◌, ◌++◌, Option, IfSome, map}
+use Rattle.std.specs.List.{All, flat_map}
 use Rattle.std.specs.Option.{option_map}
 use Rattle.std.specs.Io.KnownBytes.{Appends}
 use Rattle.hdrhistogram.specs.LogStarts.{new_start, IsStartText}
 use Rattle.hdr_gather.specs.declared.part.Part.{Part}
 use Rattle.hdr_gather.specs.declared.reader.LogReader.{LogReader}
 use Rattle.hdr_gather.specs.Lines.{IsLineOf}
+use Rattle.hdr_gather.specs.Intervals.{Timed, timed_of, IsKnown, IsReady, AreLeft}
 
 -- intervals begin in order of time, from `low` to `high`
 unfoldable pub Ascend : ℕ → ℕ → List Part → Type 0
@@ -25,15 +26,27 @@ Writes parts old new =
     (groups : List (Part × List Part)) × (text : List ℕ)
     × (flat_map (λ group. group.0 ∷ group.1) groups ≡ parts) × AreLinesOf groups text × Appends old new text
 
--- intervals were written that begin in order of time, from `low` to `high`
-abbrev pub WritesFrom : ℕ → ℕ → Option (List ℕ) → Option (List ℕ) → Type 0
-WritesFrom low high old new = (parts : List Part) × Ascend low high parts × Writes parts old new
+-- these intervals were written, which begin in order of time, from `low` to `high`
+abbrev pub WritesFrom : ℕ → ℕ → List Timed → Option (List ℕ) → Option (List ℕ) → Type 0
+WritesFrom low high all old new = (parts : List Part) × Ascend low high parts × (map timed_of parts ≡ all) × Writes parts old new
 
--- comments were written, and then intervals in order of time
-abbrev pub WritesLog : Option (List ℕ) → Option (List ℕ) → Type 0
-WritesLog old new =
-    (comments : List (List ℕ)) × (header : List ℕ) × (between : Option (List ℕ)) × (high : ℕ)
-    × IsStartText (record new_start { comments = comments }) header × Appends old between header × WritesFrom 0 high between new
+-- the start of a log was written: comments
+abbrev pub WritesStart : Option (List ℕ) → Option (List ℕ) → Type 0
+WritesStart old new = (comments : List (List ℕ)) × (header : List ℕ) × IsStartText (record new_start { comments = comments }) header × Appends old new header
+
+-- comments were written, and then these intervals, in order of time
+abbrev pub WritesLog : List Timed → Option (List ℕ) → Option (List ℕ) → Type 0
+WritesLog all old new = (between : Option (List ℕ)) × (high : ℕ) × WritesStart old between × WritesFrom 0 high all between new
+
+-- the intervals that readers have left were written in order of time: all of them, if the readers are ready
+abbrev pub WritesRest : {R : Type 0} → (R → Option (List ℕ)) → List (LogReader R) → Option (List ℕ) → Option (List ℕ) → Type 0
+WritesRest remaining readers old new =
+    (high : ℕ) × (all : List Timed) × WritesFrom 0 high all old new × (All (IsReady remaining) readers → AreLeft remaining readers all)
+
+-- a log was written of all intervals that readers have left, if the bytes that are not read yet are known
+abbrev pub Gathers : {R : Type 0} → (R → Option (List ℕ)) → List (LogReader R) → Option (List ℕ) → Option (List ℕ) → Type 0
+Gathers remaining readers old new =
+    (all : List Timed) × WritesLog all old new × (All (IsKnown remaining) readers → AreLeft remaining readers all)
 
 -- when the next interval of a log begins, if it has one
 abbrev pub next_start : {R : Type 0} → LogReader R → Option ℕ

@@ -5,7 +5,6 @@ use hdrhistogram::AdditionError;
 use hdrhistogram::serialization::V2SerializeError;
 use hdrhistogram::serialization::interval_log::{CommentError, IntervalLogWriterError};
 use std::alloc::{AllocError, AllocFailed};
-use std::io;
 use thiserror::Error;
 
 /// A line of one of several logs.
@@ -54,11 +53,11 @@ pub enum GatherError {
         others: u32,
     },
     #[error("{0}")]
-    Add(#[from] AdditionError),
+    Add(AdditionError),
     #[error("{0}")]
-    Write(#[from] IntervalLogWriterError<V2SerializeError>),
-    #[error("{0}")]
-    Io(#[from] io::Error),
+    Write(IntervalLogWriterError<V2SerializeError>),
+    #[error("a log has 2^64 lines or more")]
+    TooManyLines,
     #[error("out of memory")]
     OutOfMemory,
 }
@@ -66,6 +65,27 @@ pub enum GatherError {
 impl From<AllocError> for GatherError {
     fn from(_error: AllocError) -> GatherError {
         GatherError::OutOfMemory
+    }
+}
+
+impl From<AdditionError> for GatherError {
+    fn from(error: AdditionError) -> GatherError {
+        match error {
+            AdditionError::OutOfMemory => GatherError::OutOfMemory,
+            error => GatherError::Add(error),
+        }
+    }
+}
+
+impl From<IntervalLogWriterError<V2SerializeError>> for GatherError {
+    fn from(error: IntervalLogWriterError<V2SerializeError>) -> GatherError {
+        match error {
+            IntervalLogWriterError::OutOfMemory
+            | IntervalLogWriterError::SerializeError(V2SerializeError::OutOfMemory) => {
+                GatherError::OutOfMemory
+            }
+            error => GatherError::Write(error),
+        }
     }
 }
 

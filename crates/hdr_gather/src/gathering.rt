@@ -1,11 +1,13 @@
 //! Logs that are gathered: side by side, or read first.
 
-ghost use Rattle.std.specs.Prelude.{◌≡◌, ◌≤◌, ◌↔◌, ℕ, List, OnOk, IfOk, IfSome, vec_items};
+ghost use Rattle.std.specs.Prelude.{◌≡◌, ◌≤◌, ◌↔◌, ◌++◌, ℕ, List, [], Some, OnOk, IfOk, IfSome, map, vec_items};
 ghost use Rattle.std.specs.List.{All};
 ghost use Rattle.std.specs.Io.KnownBytes.{Appends};
 ghost use Rattle.hdrhistogram.specs.LogStarts.{new_start, IsStartText};
 ghost use Rattle.hdrhistogram.specs.LogWriters.{sink, divisor_of, IsSameLog};
-ghost use Rattle.hdr_gather.specs.Logs.{WritesFrom, WritesLog, IsFrom};
+ghost use Rattle.hdr_gather.specs.Intervals.{Timed, held_interval, intervals_of, timed_of};
+ghost use Rattle.hdr_gather.specs.Intervals.{HasLeft, AreLeft, Loses, Takes, IsKnown, IsReady};
+ghost use Rattle.hdr_gather.specs.Logs.{Gathers, WritesStart, WritesRest, next_start, IsFrom};
 
 use crate::error::GatherError;
 use crate::part::{Part, in_order};
@@ -17,9 +19,9 @@ use hdrhistogram::serialization::interval_log::{IntervalLogWriter, IntervalLogWr
 use std::alloc::Global;
 use std::io::{Read, Write};
 
-/// Writes the log of what logs hold, with one interval for each tag and time. The logs are read side
-/// by side, and each has to be in order of time: of no log is more held than the intervals that
-/// begin at one time. If a comment has the decimals of the values, the log begins with it.
+/// Merges logs, and writes the result as one log, with one interval for each tag and time. The logs
+/// are read side by side, and each has to be in order of time: at most the intervals of one start
+/// are kept in memory. If a comment has the decimals of the values, the log begins with it.
 ///
 /// # Errors
 /// Returns `NotSorted` if an interval of a log begins before the one above it, and `OtherDecimals`
@@ -29,11 +31,10 @@ pub fn gather_sorted<R: Read + Drop, W: Write>(
     logs: &mut [LogReader<R>],
     output: &mut W,
 ) -> Result<(), GatherError>
-    ensures { OnOk result (WritesLog (W.contents output.old) (W.contents output.new)) }
+    ensures { OnOk result (Gathers R.remaining logs.old (W.contents output.old)
+        (W.contents output.new)) }
 {
-    for reader in logs.iter_mut() {
-        let _none = reader.advance(alloc)?;
-    }
+    begin_logs(alloc, logs)?;
     let decimals = logs
         .iter()
         .filter_map(|reader| reader.next_decimals())
@@ -45,19 +46,17 @@ pub fn gather_sorted<R: Read + Drop, W: Write>(
     Ok(())
 }
 
-/// Writes the log of what logs hold, as `gather_sorted` does. The logs may be in any order of time:
-/// all of them are read first.
+/// Merges logs, as `gather_sorted` does. They may be in any order of time: all of them are read
+/// first, one after another.
 pub fn gather_unsorted<R: Read + Drop, W: Write>(
     alloc: Global,
     logs: &mut [LogReader<R>],
     output: &mut W,
 ) -> Result<(), GatherError>
-    ensures { OnOk result (WritesLog (W.contents output.old) (W.contents output.new)) }
+    ensures { OnOk result (Gathers R.remaining logs.old (W.contents output.old)
+        (W.contents output.new)) }
 {
-    let mut held = Vec::new(alloc);
-    for reader in logs.iter_mut() {
-        take_all(alloc, reader, &mut held)?;
-    }
+    let held = take_logs(alloc, logs)?;
     let decimals = held.iter().filter_map(|held| held.decimals()).max();
     let mut parts = parts_of(alloc, &held, decimals.unwrap_or(0))?;
     in_order(&mut parts)?;
@@ -91,15 +90,27 @@ fn begin_log<'a, 'b, W: Write>(
 ) -> Result<IntervalLogWriter<'a, 'b, W, V2Serializer>, GatherError>
     ensures writer { IfOk result (λ log. (sink log).ghost_name ≡ output.entry.ghost_name) }
     ensures divisor { IfOk result (λ log. divisor_of log ≡ 1) }
-    ensures written { IfOk result (λ log. (comments : List (List ℕ)) × (header : List ℕ)
-        × IsStartText (record new_start { comments = comments }) header
-        × Appends (W.contents output.old) (W.contents (sink log).now) header) }
+    ensures written { IfOk result (λ log. WritesStart (W.contents output.old)
+        (W.contents (sink log).now)) }
 {
     let builder = builder_of(alloc, decimals)?;
     Ok(builder.begin_log_with(output, serializer)?)
 }
 
-/// Writes the intervals of logs in order of time, from the next one of each log on.
+/// Reads up to the first interval of each log.
+fn begin_logs<R: Read + Drop>(alloc: Global, logs: &mut [LogReader<R>]) -> Result<(), GatherError>
+    ensures left { OnOk result (Loses R.remaining logs.old logs.new []) }
+    ensures ready { OnOk result (All (IsKnown R.remaining) logs.old
+        → All (IsReady R.remaining) logs.new) }
+{
+    for reader in logs.iter_mut() {
+        reader.begin(alloc)?;
+    }
+    Ok(())
+}
+
+/// Writes the intervals of logs in order of time, from the next one of each log on. Takes time in
+/// proportion to the number of starts times the number of logs.
 fn write_in_order<R: Read + Drop, W: Write>(
     alloc: Global,
     logs: &mut [LogReader<R>],
@@ -108,19 +119,34 @@ fn write_in_order<R: Read + Drop, W: Write>(
 ) -> Result<(), GatherError>
     requires { divisor_of log.old ≡ 1 }
     ensures same_log { IsSameLog log.old log.new }
-    ensures written { OnOk result ((high : ℕ) × WritesFrom 0 high (W.contents (sink log.old).now)
+    ensures written { OnOk result (WritesRest R.remaining logs.old (W.contents (sink log.old).now)
         (W.contents (sink log.new).now)) }
 {
     for _ in 0..u64::MAX {
         let Some(start) = first_start(logs) else {
-            break;
+            return Ok(());
         };
         let held = take_held(alloc, logs, start)?;
         let mut parts = parts_of(alloc, &held, decimals)?;
         in_order(&mut parts)?;
         write_parts(alloc, &parts, log)?;
     }
-    Ok(())
+    Err(GatherError::TooManyLines)
+}
+
+/// Takes all intervals of logs.
+fn take_logs<R: Read + Drop>(
+    alloc: Global,
+    logs: &mut [LogReader<R>],
+) -> Result<Vec<Held>, GatherError>
+    ensures { IfOk result (λ taken. All (IsKnown R.remaining) logs.old
+        → AreLeft R.remaining logs.old (intervals_of (vec_items taken))) }
+{
+    let mut taken = Vec::new(alloc);
+    for reader in logs.iter_mut() {
+        take_all(alloc, reader, &mut taken)?;
+    }
+    Ok(taken)
 }
 
 /// Appends all intervals of a log.
@@ -128,16 +154,38 @@ fn take_all<R: Read + Drop>(
     alloc: Global,
     reader: &mut LogReader<R>,
     taken: &mut Vec<Held>,
-) -> Result<(), GatherError> {
+) -> Result<(), GatherError>
+    ensures left { OnOk result (Takes R.remaining reader.old reader.new (vec_items taken.old)
+        (vec_items taken.new)) }
+    ensures known { OnOk result (IsKnown R.remaining reader.old → IsKnown R.remaining reader.new) }
+    ensures end { OnOk result (IsKnown R.remaining reader.old → HasLeft R.remaining reader.new []) }
+{
     for _ in 0..u64::MAX {
-        if let Some(held) = reader.advance(alloc)? {
-            taken.push(held)?;
-        }
+        take_next(alloc, reader, taken)?;
         if reader.next_start().is_none() {
-            break;
+            return Ok(());
         }
     }
-    Ok(())
+    Err(GatherError::TooManyLines)
+}
+
+/// Appends the next interval of a log, which there is not at first, and reads up to the one after it.
+fn take_next<R: Read + Drop>(
+    alloc: Global,
+    reader: &mut LogReader<R>,
+    taken: &mut Vec<Held>,
+) -> Result<(), GatherError>
+    ensures left { OnOk result (Takes R.remaining reader.old reader.new (vec_items taken.old)
+        (vec_items taken.new)) }
+    ensures ready { OnOk result (IsKnown R.remaining reader.old → IsReady R.remaining reader.new) }
+    ensures start { OnOk result ((start : ℕ) → next_start reader.old ≡ Some start
+        → All (λ held. held.start ≡ start) (vec_items taken.old)
+        → All (λ held. held.start ≡ start) (vec_items taken.new)) }
+{
+    match reader.advance(alloc)? {
+        Some(held) => Ok(taken.push(held)?),
+        None => Ok(()),
+    }
 }
 
 /// Returns the earlier of two times that there may be.
@@ -171,6 +219,10 @@ fn take_held<R: Read + Drop>(
 ) -> Result<Vec<Held>, GatherError>
     requires { All (IsFrom start) logs.old }
     ensures rest { OnOk result (All (IsFrom start) logs.new) }
+    ensures ready { OnOk result (All (IsReady R.remaining) logs.old
+        → All (IsReady R.remaining) logs.new) }
+    ensures left { IfOk result (λ taken. Loses R.remaining logs.old logs.new
+        (intervals_of (vec_items taken))) }
     ensures taken { IfOk result (λ taken. All (λ held. held.start ≡ start) (vec_items taken)) }
 {
     let mut taken = Vec::new(alloc);
@@ -190,15 +242,16 @@ fn take_from<R: Read + Drop>(
     requires rest { IsFrom start reader.old }
     requires taken { All (λ held. held.start ≡ start) (vec_items taken.old) }
     ensures rest { OnOk result (IsFrom start reader.new) }
+    ensures ready { OnOk result (IsReady R.remaining reader.old → IsReady R.remaining reader.new) }
+    ensures left { OnOk result (Takes R.remaining reader.old reader.new (vec_items taken.old)
+        (vec_items taken.new)) }
     ensures taken { OnOk result (All (λ held. held.start ≡ start) (vec_items taken.new)) }
 {
     for _ in 0..u64::MAX {
         if reader.next_start() != Some(start) {
             break;
         }
-        if let Some(held) = reader.advance(alloc)? {
-            taken.push(held)?;
-        }
+        take_next(alloc, reader, taken)?;
         if reader.next_start().is_some_and(|next| next < start) {
             return Err(GatherError::NotSorted(reader.place()));
         }
@@ -208,8 +261,9 @@ fn take_from<R: Read + Drop>(
 
 /// Returns the intervals of lines, whose values all have these decimals.
 fn parts_of(alloc: Global, lines: &[Held], decimals: u32) -> Result<Vec<Part<'_>>, GatherError>
-    ensures { IfOk result (λ parts. (start : ℕ) → All (λ held. held.start ≡ start) lines.now
+    ensures start { IfOk result (λ parts. (start : ℕ) → All (λ held. held.start ≡ start) lines.now
         → All (λ part. part.start ≡ start) (vec_items parts)) }
+    ensures all { IfOk result (λ parts. map timed_of (vec_items parts) ≡ intervals_of lines.now) }
 {
     let mut parts = Vec::new(alloc);
     for held in lines {
@@ -225,13 +279,15 @@ fn push_part<'a>(
     decimals: u32,
     parts: &mut Vec<Part<'a>>,
 ) -> Result<(), GatherError>
-    ensures { OnOk result ((start : ℕ) → held.now.start ≡ start
+    ensures start { OnOk result ((start : ℕ) → held.now.start ≡ start
         → All (λ part. part.start ≡ start) (vec_items parts.old)
         → All (λ part. part.start ≡ start) (vec_items parts.new)) }
+    ensures all { OnOk result (map timed_of (vec_items parts.new)
+        ≡ map timed_of (vec_items parts.old) ++ held_interval held.now) }
 {
     held.check_decimals(decimals)?;
-    if let Some(part) = held.part(alloc)? {
-        parts.push(part)?;
+    match held.part(alloc)? {
+        Some(part) => Ok(parts.push(part)?),
+        None => Ok(()),
     }
-    Ok(())
 }

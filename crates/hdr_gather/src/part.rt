@@ -4,6 +4,8 @@ ghost use Rattle.std.specs.Prelude.{◌≡◌, ◌≤◌, ◌+◌, ℕ, IfSome, 
 ghost use Rattle.std.specs.List.Sorted.{IsPermutation};
 ghost use Rattle.hdr_gather.specs.Logs.{Ascend};
 ghost use Rattle.std.specs.Duration.{as_nanos};
+ghost use Rattle.hdr_log.specs.Reading.{view_of_interval};
+ghost use Rattle.hdr_gather.specs.Intervals.{timed, timed_of};
 ghost use Rattle.hdr_gather.specs.Times.{nearest_millisecond};
 
 use crate::error::Place;
@@ -42,7 +44,7 @@ pub(crate) fn milliseconds(base: Duration, start: Duration) -> Option<u64>
 
 /// Returns the interval of a line, which begins at this time.
 pub(crate) fn part_of<'a>(start: u64, place: Place, interval: &IntervalLogHistogram<'a>) -> Part<'a>
-    ensures { result.start ≡ start }
+    ensures { timed_of result ≡ timed start (view_of_interval interval.now) }
 {
     Part {
         start,
@@ -64,7 +66,7 @@ pub(crate) fn same_key(first: &Part<'_>, others: &[Part<'_>]) -> usize
         .unwrap_or(others.len())
 }
 
-/// Sorts intervals by time and then by tag, ascending. The sort is stable.
+/// Sorts intervals by time. Those of one time are sorted by tag, which is not proved.
 pub(crate) fn in_order(parts: &mut Vec<Part<'_>>) -> Result<(), AllocError>
     ensures permutation { IsPermutation (vec_items parts.old) (vec_items parts.new) }
     ensures ascending { OnOk result ((high : ℕ) × Ascend 0 high (vec_items parts.new)) }

@@ -25,10 +25,7 @@ fn histogram_of(
             histogram.auto(true);
             Ok(histogram)
         }
-        Err(cause) => Err(GatherError::Input {
-            log: place.log,
-            cause: InputError::of_interval(place.line, cause),
-        }),
+        Err(cause) => Err(place.error(InputError::of_interval(place.line, cause))),
     }
 }
 

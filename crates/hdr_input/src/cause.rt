@@ -15,11 +15,20 @@ pub enum Cause {
     /// It has more decimals than a unit, and is not to be rounded.
     #[error("has more decimals than the numbers before it; set them by --decimals")]
     MoreDecimals,
+    /// It has more decimals than a unit can have, and is not to be rounded.
+    #[error("has more than 18 decimals; --decimals rounds it")]
+    TooManyDecimals,
     #[error("is too large: in units of its last decimal (--decimals) it has to be below 2^64")]
     TooLarge,
-    /// Its line is longer than the buffer of the input.
-    #[error("begins a line of more than 65536 bytes")]
-    TooLong,
+    /// It is a time, and negative.
+    #[error("is a time before 0; --skip-bad ignores such rows")]
+    NegativeTime,
+    /// It is a time, and too large.
+    #[error("is too large for a time in seconds")]
+    TimeTooLarge,
+    /// Its line has at least this number of bytes, which is the limit of the input.
+    #[error("begins a line of {0} bytes or more")]
+    TooLong(usize),
     /// Its row ends before the column.
     #[error("is a row without that column; --skip-bad ignores such rows")]
     NoField,
@@ -30,9 +39,9 @@ pub enum Cause {
 impl Cause {
     /// Whether `--skip-bad` ignores a line for this cause. Decimals are not rounded silently.
     pub fn may_be_skipped(self) -> bool {
-        matches!(
+        !matches!(
             self,
-            Cause::NotANumber | Cause::Table | Cause::Negative | Cause::TooLarge | Cause::NoField
+            Cause::MoreDecimals | Cause::TooManyDecimals | Cause::TooLong(_) | Cause::OutOfMemory
         )
     }
 }

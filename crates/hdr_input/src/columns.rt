@@ -32,6 +32,14 @@ pub struct Indices {
     pub time: Option<usize>,
 }
 
+/// A column that was found.
+#[derive(Clone, Copy)]
+struct Found {
+    index: usize,
+    /// Whether it was found by its name.
+    is_named: bool,
+}
+
 /// What takes the rows of a table.
 pub trait RowSink {
     /// Takes the row of this number, counted from 1. A row of names is a row, and is not taken.
@@ -47,7 +55,7 @@ pub trait RowSink {
 /// Converts an error of the table's reader.
 fn reading_error(error: csv::Error) -> InputError {
     match error.into_kind() {
-        ErrorKind::Io(error) => InputError::Io(error),
+        ErrorKind::Io(error) => InputError::of_reading(error),
         _ => InputError::OutOfMemory,
     }
 }
@@ -62,6 +70,14 @@ fn index_of_name(names: &ByteRecord, wanted: &str) -> Option<usize> {
 /// Parses the number of a column, counted from 1, to its index.
 fn index_of_number(wanted: &str) -> Option<usize> {
     wanted.parse::<usize>().ok()?.checked_sub(1)
+}
+
+/// Whether there is an index, and it is below a length.
+fn is_within(index: Option<usize>, len: usize) -> bool {
+    match index {
+        Some(index) => index < len,
+        None => false,
+    }
 }
 
 /// Returns the names of a first row, with commas between them.
@@ -93,26 +109,24 @@ fn has_number(row: &ByteRecord, index: usize) -> bool {
     }
 }
 
-/// Whether the first row is a row of names: if it has the name of the column, or if the field of
-/// the column is not a number.
-fn is_header(row: &ByteRecord, wanted: &str, index: usize) -> bool {
-    index_of_name(row, wanted).is_some() || !has_number(row, index)
-}
-
-/// Returns the index of a column.
+/// Finds a column. A number of a column of the first row, from 1, comes before a name.
 fn find_column(
     alloc: Global,
     names: &ByteRecord,
     wanted: &str,
     layout: Layout,
-) -> Result<usize, InputError> {
-    let named = if layout.has_header {
+) -> Result<Found, InputError> {
+    let number = index_of_number(wanted);
+    let named = if layout.has_header && !is_within(number, names.len()) {
         index_of_name(names, wanted)
     } else {
         None
     };
-    match named.or(index_of_number(wanted)) {
-        Some(index) => Ok(index),
+    match named.or(number) {
+        Some(index) => Ok(Found {
+            index,
+            is_named: named.is_some(),
+        }),
         None => Err(no_column(alloc, names, wanted)),
     }
 }
@@ -122,22 +136,29 @@ fn next_row<R: Read>(rows: &mut Reader<R>, row: &mut ByteRecord) -> Result<bool,
     rows.read_byte_record(row).map_err(reading_error)
 }
 
-/// Returns the indices of columns.
+/// Returns the indices of columns, and whether the first row is a row of names: if a column is
+/// found by its name, or if the field of the numbers' column is not a number.
 fn find_columns(
     alloc: Global,
     names: &ByteRecord,
     columns: Columns<'_>,
     layout: Layout,
-) -> Result<Indices, InputError> {
+) -> Result<(Indices, bool), InputError> {
     let value = find_column(alloc, names, columns.value, layout)?;
     let time = match columns.time {
         Some(wanted) => Some(find_column(alloc, names, wanted, layout)?),
         None => None,
     };
-    Ok(Indices { value, time })
+    let is_named = value.is_named || time.is_some_and(|time| time.is_named);
+    let is_header = layout.has_header && (is_named || !has_number(names, value.index));
+    let indices = Indices {
+        value: value.index,
+        time: time.map(|time| time.index),
+    };
+    Ok((indices, is_header))
 }
 
-/// Reads a table to its end. A column has a name in the first row, or a number from 1.
+/// Reads a table to its end. A column has a number from 1, or a name in the first row.
 pub fn read_rows<R: Read + Drop, S: RowSink>(
     alloc: Global,
     reader: R,
@@ -154,8 +175,8 @@ pub fn read_rows<R: Read + Drop, S: RowSink>(
     if !next_row(&mut rows, &mut row)? {
         return Ok(());
     }
-    let indices = find_columns(alloc, &row, columns, layout)?;
-    if !layout.has_header || !is_header(&row, columns.value, indices.value) {
+    let (indices, is_header) = find_columns(alloc, &row, columns, layout)?;
+    if !is_header {
         sink.take_row(alloc, &row, indices, 1)?;
     }
     for before in 1..u64::MAX {

@@ -72,7 +72,7 @@ impl From<CreationError> for InputError {
 
 impl InputError {
     /// Returns the error of a reader.
-    pub(crate) fn of_reading(error: io::Error) -> InputError {
+    pub fn of_reading(error: io::Error) -> InputError {
         match error.kind() {
             io::ErrorKind::OutOfMemory => InputError::OutOfMemory,
             _ => InputError::Io(error),
@@ -86,9 +86,7 @@ impl InputError {
             cause => InputError::Interval { line, cause },
         }
     }
-}
 
-impl InputError {
     /// Returns the error of an interval whose histogram is not converted.
     pub fn of_conversion(line: u64, cause: ConvertError) -> InputError {
         match cause {

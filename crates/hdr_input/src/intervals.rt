@@ -83,12 +83,11 @@ impl Intervals {
         }
     }
 
-    /// Records a number in the interval of its time.
-    fn record(&mut self, alloc: Global, time: &[u8], text: &[u8]) -> Result<(), Cause> {
-        let time = Number::parse(time, Some(TIME_DECIMALS))?.digits;
+    /// Records a number in the interval of a time in nanoseconds.
+    fn record(&mut self, alloc: Global, time: u64, text: &[u8]) -> Result<(), Cause> {
         let number = Number::parse(text, self.tally.fixed_decimals())?;
         let units = self.tally.units_of(number)?;
-        let missing = self.tally.interval();
+        let missing = self.tally.interval;
         let interval = self.interval_at(time);
         let index = self.index_of(alloc, interval)?;
         self.last = index;
@@ -99,6 +98,16 @@ impl Intervals {
             },
             None => Ok(()),
         }
+    }
+}
+
+/// Parses a time in seconds, and returns it in nanoseconds, to the nearest.
+fn parse_time(text: &[u8]) -> Result<u64, Cause> {
+    match Number::parse(text, Some(TIME_DECIMALS)) {
+        Ok(time) => Ok(time.digits),
+        Err(Cause::Negative) => Err(Cause::NegativeTime),
+        Err(Cause::TooLarge) => Err(Cause::TimeTooLarge),
+        Err(cause) => Err(cause),
     }
 }
 
@@ -120,6 +129,10 @@ impl RowSink for Intervals {
                 row.as_slice(),
                 Cause::NoField,
             );
+        };
+        let time = match parse_time(time) {
+            Ok(time) => time,
+            Err(cause) => return skip_or_err(alloc, &mut self.tally, place, time, cause),
         };
         match self.record(alloc, time, text) {
             Ok(()) => Ok(()),

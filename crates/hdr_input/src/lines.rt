@@ -51,7 +51,7 @@ pub(crate) fn skip_or_err(
     text: &[u8],
     cause: Cause,
 ) -> Result<(), InputError> {
-    if tally.skips(cause) {
+    if tally.count_if_skipped(cause) {
         return Ok(());
     }
     Err(bad_number(alloc, place, text, cause))

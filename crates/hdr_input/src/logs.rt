@@ -1,7 +1,8 @@
 //! The histograms of interval logs, added as their lines are read.
 
-ghost use Rattle.std.specs.Prelude.{◌≡◌, ◌-◌, ◌^◌, OnOk};
-ghost use Rattle.hdr_model.specs.Plain.{Plain};
+ghost use Rattle.std.specs.Prelude.{◌≡◌, ◌-◌, ◌^◌, ◌↔◌, IfOk, IsTrue};
+ghost use Rattle.hdr_base.specs.Classes.{IsFiner};
+ghost use Rattle.hdr_model.specs.Plain.{Plain, resolution};
 ghost use Rattle.hdr_model.specs.Merging.{after_add};
 ghost use Rattle.hdrhistogram.specs.FieldRead.{IsHeldIn};
 
@@ -40,8 +41,9 @@ impl TagSum {
         field: &str,
         line: u64,
     ) -> Result<bool, InputError>
-        ensures { OnOk result ((held : Plain) × IsHeldIn (2 ^ 64 - 1) field.now held
-            × (self.new.histogram ≡ after_add (2 ^ 64 - 1) self.old.histogram held)) }
+        ensures { IfOk result (λ coarser. (held : Plain) × IsHeldIn (2 ^ 64 - 1) field.now held
+            × (self.new.histogram ≡ after_add (2 ^ 64 - 1) self.old.histogram held)
+            × (IsTrue coarser ↔ (IsFiner (resolution held) (resolution self.old.histogram) → ⊥))) }
     {
         let source = match deserializer.decode_field_into(field, spare.take()) {
             Ok(source) => source,

@@ -1,6 +1,6 @@
 //! Decimal numbers, and their values in units.
 
-ghost use Rattle.std.specs.Prelude.{◌≡◌, ◌+◌, ◌-◌, ◌^◌, ◌<◌, ◌≤◌, true, length, IfSome, SomeIff};
+ghost use Rattle.std.specs.Prelude.{◌≡◌, ◌+◌, ◌-◌, ◌*◌, ◌^◌, ◌<◌, ◌≤◌, min, true, length, IfSome, SomeIff};
 ghost use Rattle.std.specs.Char.{is_ascii_digit, digit_value};
 ghost use Rattle.hdr_input.specs.Numbers.{in_units, BeginsWithDigits, BeginsWithPart};
 ghost use Rattle.hdr_input.specs.Numbers.{BeginsWithNumber, EndsLine};
@@ -160,16 +160,24 @@ impl Number {
         }
     }
 
-    /// Divides the number by 10 to the power of `times`.
-    pub fn divided_by_ten(self, times: u32) -> Number {
-        Number {
+    /// Divides the number by 10 to the power of `times`. Returns `None` on overflow.
+    pub fn divided_by_ten(self, times: u32) -> Option<Number>
+        ensures digits { IfSome result (λ n. n.digits ≡ self.digits) }
+        ensures decimals { IfSome result (λ n. n.decimals ≡ self.decimals + times) }
+    {
+        Some(Number {
             digits: self.digits,
-            decimals: self.decimals.saturating_add(times),
-        }
+            decimals: self.decimals.checked_add(times)?,
+        })
     }
 
     /// Multiplies the number by 10 to the power of `times`. Returns `None` on overflow.
-    pub fn times_ten(self, times: u32) -> Option<Number> {
+    pub fn times_ten(self, times: u32) -> Option<Number>
+        ensures digits { IfSome result (λ n. n.digits
+            ≡ self.digits * 10 ^ (times - min times self.decimals)) }
+        ensures decimals { IfSome result (λ n. n.decimals
+            ≡ self.decimals - min times self.decimals) }
+    {
         let fewer = times.min(self.decimals);
         let factor = 10u64.checked_pow(times - fewer)?;
         Some(Number {

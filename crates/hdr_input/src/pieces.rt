@@ -26,27 +26,28 @@ fn read_some<R: Read>(reader: &mut R, buffer: &mut [u8]) -> Result<usize, InputE
         match reader.read(buffer) {
             Ok(count) => return Ok(count),
             Err(e) if e.kind() == ErrorKind::Interrupted => {}
-            Err(e) => return Err(InputError::Io(e)),
+            Err(e) => return Err(InputError::of_reading(e)),
         }
     }
     Err(InputError::Io(io::Error::from(ErrorKind::Interrupted)))
 }
 
-/// Returns the length of the complete lines of a piece: all of it, if it is the last piece of the
-/// input.
-fn complete_len(piece: &[u8], is_last: bool) -> usize
+/// Returns the length of the complete lines of a piece, whose first `held` bytes end none: all of
+/// it, if it is the last piece of the input.
+fn complete_len(piece: &[u8], held: usize, is_last: bool) -> usize
+    requires { held ≤ length piece.now }
     ensures { result ≤ length piece.now }
 {
     if is_last {
         return piece.len();
     }
-    match memrchr(b'\n', piece) {
-        Some(at) => at + 1,
+    match memrchr(b'\n', &piece[held..]) {
+        Some(at) => held + at + 1,
         None => 0,
     }
 }
 
-/// Doubles a buffer that a part of one line fills, unless the line would be longer than `longest`.
+/// Doubles a buffer that a part of one line fills, unless the line has `longest` bytes or more.
 fn make_room(
     alloc: Global,
     buffer: &mut Vec<u8>,
@@ -61,14 +62,15 @@ fn make_room(
         return Ok(());
     }
     if len >= longest {
-        return Err(bad_number(alloc, Place::Line(line), buffer, Cause::TooLong));
+        let cause = Cause::TooLong(longest);
+        return Err(bad_number(alloc, Place::Line(line), buffer, cause));
     }
     let more = len.saturating_add(len).min(longest).max(held);
     buffer.resize(more, 0)?;
     Ok(())
 }
 
-/// Reads all lines of a reader, none longer than `longest`.
+/// Reads all lines of a reader. Without its LF each has fewer than `longest` bytes.
 pub fn read_lines<R: Read, S: LineSink>(
     alloc: Global,
     reader: &mut R,
@@ -82,12 +84,14 @@ pub fn read_lines<R: Read, S: LineSink>(
         make_room(alloc, &mut buffer, held, longest, line)?;
         let count = read_some(reader, &mut buffer[held..])?;
         let end = held + count;
-        let complete = complete_len(&buffer[..end], count == 0);
+        let complete = complete_len(&buffer[..end], held, count == 0);
         line = sink.take_lines(alloc, &buffer[..complete], line)?;
         if count == 0 {
             return Ok(());
         }
-        buffer.copy_within(complete..end, 0);
+        if complete > 0 {
+            buffer.copy_within(complete..end, 0);
+        }
         held = end - complete;
     }
     Ok(())

@@ -1,5 +1,8 @@
 //! Logs whose histograms are compressed, read as if they were not.
 
+ghost use Rattle.std.specs.Prelude.{◌≡◌, ◌++◌, ℕ, List, OnOk};
+ghost use Rattle.hdr_input.specs.Lines.{IsPlainOf};
+
 use crate::errors::InputError;
 use crate::log_lines::split_log_line;
 use crate::pieces::LineSink;
@@ -35,9 +38,9 @@ impl<S: LineSink> PlainLines<S> {
 const FORM_LEN: usize = 8;
 
 /// Whether a field is a histogram of another form than plain V2: compressed, of an older version, or
-/// of floating-point values. Each form is a prefix of the Base64 of its first bytes.
+/// of floating-point values. A plain one has fewer than 2^28 bytes, so its Base64 begins with HISTEw.
 fn is_other_form(field: &[u8]) -> bool {
-    let is_other = field.starts_with(b"HIST") && !field.starts_with(b"HISTE");
+    let is_other = field.starts_with(b"HIST") && !field.starts_with(b"HISTEw");
     field.len() >= FORM_LEN && (is_other || field.starts_with(b"DHIST"))
 }
 
@@ -59,7 +62,7 @@ pub fn plain_field<'a>(
 }
 
 /// Whether the last field of a line is a histogram of another form.
-fn has_other_form(line: &[u8]) -> bool {
+pub fn has_other_form(line: &[u8]) -> bool {
     match memrchr(b',', line) {
         Some(comma) => is_other_form(line[comma + 1..].trim_ascii_end()),
         None => false,
@@ -94,7 +97,10 @@ pub fn push_plain_line(
     line: &[u8],
     number: u64,
     converted: &mut Vec<u8>,
-) -> Result<(), InputError> {
+) -> Result<(), InputError>
+    ensures { OnOk result ((text : List ℕ) × IsPlainOf line.now text
+        × (converted.new.items ≡ converted.old.items ++ text)) }
+{
     if !has_other_form(line) {
         return Ok(converted.extend_from_slice(line)?);
     }

@@ -1,10 +1,9 @@
 //! Numbers, recorded as they come.
 
-ghost use Rattle.std.specs.Prelude.{◌≡◌, ◌≢◌, ◌<◌, ◌≤◌, ◌^◌, ◌-◌, ℕ, min, max};
-ghost use Rattle.std.specs.Prelude.{Some, Ok, OnOk, IfOk};
+ghost use Rattle.std.specs.Prelude.{◌≡◌, ◌≤◌, ℕ, min, max};
+ghost use Rattle.std.specs.Prelude.{Some, Ok, OnOk, IfOk, IsSome, MatchOption};
 ghost use Rattle.hdr_input.specs.Numbers.{in_units};
-ghost use Rattle.hdr_model.specs.Recording.{after_record};
-ghost use Rattle.hdr_input.specs.Recorded.{after_number};
+ghost use Rattle.hdr_input.specs.Recorded.{after_number, IsInterval, IsLeast};
 
 use crate::cause::Cause;
 use crate::distribution::{Distribution, MOST_DECIMALS};
@@ -33,9 +32,9 @@ pub struct Tally {
     pub histogram: Histogram<u64>,
     recording: Recording,
     /// The decimals of a unit: those of the recording, or of the first number.
-    decimals: Option<u32>,
-    /// The expected interval in units.
-    interval: u64,
+    pub decimals: Option<u32>,
+    /// The expected interval in units, 0 for none.
+    pub interval: u64,
     pub min: u64,
     pub max: u64,
     pub sum: u128,
@@ -45,7 +44,11 @@ pub struct Tally {
 
 impl Tally {
     /// Returns an empty tally.
-    pub fn new(alloc: Global, recording: Recording) -> Result<Tally, CreationError> {
+    pub fn new(alloc: Global, recording: Recording) -> Result<Tally, CreationError>
+        ensures decimals { IfOk result (λ tally. tally.decimals ≡ recording.decimals) }
+        ensures interval { IfOk result (λ tally. MatchOption recording.decimals
+            (tally.interval ≡ 0) (λ decimals. IsInterval recording.interval decimals tally.interval)) }
+    {
         let interval = match recording.decimals {
             Some(decimals) => recording.interval.rounded(decimals).unwrap_or(u64::MAX),
             None => 0,
@@ -62,18 +65,13 @@ impl Tally {
         })
     }
 
-    /// Whether a line that is bad for this cause is skipped. It is counted if so.
-    pub(crate) fn skips(&mut self, cause: Cause) -> bool {
-        let skips = self.recording.skips_bad && cause.may_be_skipped();
-        if skips {
+    /// Counts a line that is bad for this cause, if such lines are skipped, and returns whether.
+    pub(crate) fn count_if_skipped(&mut self, cause: Cause) -> bool {
+        let is_skipped = self.recording.skips_bad && cause.may_be_skipped();
+        if is_skipped {
             self.skipped = self.skipped.saturating_add(1);
         }
-        skips
-    }
-
-    /// Returns the expected interval in units, 0 for none.
-    pub(crate) fn interval(&self) -> u64 {
-        self.interval
+        is_skipped
     }
 
     /// Returns the decimals of a unit.
@@ -108,23 +106,24 @@ impl Tally {
 
     /// Records a number.
     #[inline(always)]
+    #[tactic(auto, using(crate::proofs::Units::units_same, crate::proofs::Units::after_alone))]
     pub fn record(&mut self, number: Number) -> Result<(), Cause>
-        ensures plain { OnOk result (self.old.decimals ≡ Some number.decimals
-            → self.old.interval ≡ 0
-            → self.new.histogram ≡ after_record (2 ^ 64 - 1) self.old.histogram number.digits 1) }
-        ensures rounded { OnOk result ((d : ℕ) → self.old.decimals ≡ Some d → d ≢ number.decimals
-            → self.new.histogram ≡ after_number self.old.histogram number d self.old.interval) }
-        ensures corrected { OnOk result ((decimals : ℕ) → self.old.decimals ≡ Some decimals
-            → 0 < self.old.interval → self.new.histogram
-            ≡ after_number self.old.histogram number decimals self.old.interval) }
-        ensures min { OnOk result (self.old.decimals ≡ Some number.decimals → self.old.interval ≡ 0
-            → self.new.min ≡ min self.old.min number.digits) }
-        ensures max { OnOk result (self.old.decimals ≡ Some number.decimals → self.old.interval ≡ 0
-            → self.new.max ≡ max self.old.max number.digits) }
+        ensures recorded { OnOk result ((decimals : ℕ) → self.new.decimals ≡ Some decimals
+            → self.new.histogram
+            ≡ after_number self.old.histogram number decimals self.new.interval) }
+        ensures min { OnOk result ((decimals : ℕ) → self.new.decimals ≡ Some decimals → (least : ℕ)
+            × IsLeast (in_units number.digits number.decimals decimals) self.new.interval least
+            × (self.new.min ≡ min self.old.min least)) }
+        ensures max { OnOk result ((decimals : ℕ) → self.new.decimals ≡ Some decimals
+            → self.new.max
+            ≡ max self.old.max (in_units number.digits number.decimals decimals)) }
+        ensures set { OnOk result (IsSome self.new.decimals) }
+        ensures unit { (decimals : ℕ) → self.old.decimals ≡ Some decimals
+            → (self.new.decimals ≡ Some decimals) × (self.new.interval ≡ self.old.interval) }
     {
         if self.decimals == Some(number.decimals) && self.interval == 0 {
             let done = self.histogram.record(number.digits);
-            return self.after(done, number.digits, number.digits);
+            return self.update_extremes(done, number.digits, number.digits);
         }
         self.record_other(number)
     }
@@ -133,21 +132,37 @@ impl Tally {
     /// is expected.
     #[inline(never)]
     fn record_other(&mut self, number: Number) -> Result<(), Cause>
-        ensures { OnOk result ((decimals : ℕ) → self.old.decimals ≡ Some decimals
+        ensures recorded { OnOk result ((decimals : ℕ) → self.new.decimals ≡ Some decimals
             → self.new.histogram
-            ≡ after_number self.old.histogram number decimals self.old.interval) }
+            ≡ after_number self.old.histogram number decimals self.new.interval) }
+        ensures min { OnOk result ((decimals : ℕ) → self.new.decimals ≡ Some decimals → (least : ℕ)
+            × IsLeast (in_units number.digits number.decimals decimals) self.new.interval least
+            × (self.new.min ≡ min self.old.min least)) }
+        ensures max { OnOk result ((decimals : ℕ) → self.new.decimals ≡ Some decimals
+            → self.new.max
+            ≡ max self.old.max (in_units number.digits number.decimals decimals)) }
+        ensures set { OnOk result (IsSome self.new.decimals) }
+        ensures unit { (decimals : ℕ) → self.old.decimals ≡ Some decimals
+            → (self.new.decimals ≡ Some decimals) × (self.new.interval ≡ self.old.interval) }
     {
         let units = self.units_of(number)?;
         let done = self.histogram.record_correct(units, self.interval);
-        self.after(done, least_of(units, self.interval), units)
+        self.update_extremes(done, least_of(units, self.interval), units)
     }
 
     /// Widens the extremes by a value that was recorded, and by the least of the samples recorded
     /// with it.
     #[inline(always)]
-    fn after(&mut self, done: Result<(), RecordError>, least: u64, value: u64) -> Result<(), Cause>
+    fn update_extremes(
+        &mut self,
+        done: Result<(), RecordError>,
+        least: u64,
+        value: u64,
+    ) -> Result<(), Cause>
         ensures done { OnOk result (done ≡ Ok tt) }
-        ensures same { self.new.histogram ≡ self.old.histogram }
+        ensures histogram { self.new.histogram ≡ self.old.histogram }
+        ensures decimals { self.new.decimals ≡ self.old.decimals }
+        ensures interval { self.new.interval ≡ self.old.interval }
         ensures min { OnOk result (self.new.min ≡ min self.old.min least) }
         ensures max { OnOk result (self.new.max ≡ max self.old.max value) }
     {
@@ -165,12 +180,17 @@ impl Tally {
 
     /// Returns a number in units. The first number determines the unit, unless the recording does.
     pub(crate) fn units_of(&mut self, number: Number) -> Result<u64, Cause>
-        ensures { IfOk result (λ units. (decimals : ℕ) → self.old.decimals ≡ Some decimals
-            → (units ≡ in_units number.digits number.decimals decimals) × (self.new ≡ self.old)) }
+        ensures units { IfOk result (λ units. (decimals : ℕ) → self.new.decimals ≡ Some decimals
+            → units ≡ in_units number.digits number.decimals decimals) }
+        ensures set { OnOk result (IsSome self.new.decimals) }
+        ensures unit { (decimals : ℕ) → self.old.decimals ≡ Some decimals → self.new ≡ self.old }
+        ensures histogram { self.new.histogram ≡ self.old.histogram }
+        ensures min { self.new.min ≡ self.old.min }
+        ensures max { self.new.max ≡ self.old.max }
     {
         let decimals = match self.decimals {
             Some(decimals) => decimals,
-            None => self.decide(number.decimals),
+            None => self.set_decimals(number.decimals),
         };
         if number.decimals > decimals && self.recording.decimals.is_none() {
             return Err(Cause::MoreDecimals);
@@ -180,7 +200,12 @@ impl Tally {
 
     /// Sets the decimals of a unit: those of a number, or of the expected interval if these are
     /// more, but at most 18.
-    fn decide(&mut self, decimals: u32) -> u32 {
+    fn set_decimals(&mut self, decimals: u32) -> u32
+        ensures decimals { self.new.decimals ≡ Some result }
+        ensures histogram { self.new.histogram ≡ self.old.histogram }
+        ensures min { self.new.min ≡ self.old.min }
+        ensures max { self.new.max ≡ self.old.max }
+    {
         let decimals = decimals
             .max(self.recording.interval.decimals)
             .min(MOST_DECIMALS);
@@ -196,9 +221,10 @@ impl Tally {
 
 /// Returns the least of a value and of its missing samples at an expected interval, 0 for none.
 fn least_of(value: u64, interval: u64) -> u64
-    ensures { result ≤ value }
+    ensures least { IsLeast value interval result }
+    ensures bound { result ≤ value }
 {
-    if interval > 0 && value / interval >= 2 {
+    if interval > 0 && value / 2 >= interval {
         return interval + value % interval;
     }
     value

@@ -142,13 +142,17 @@ impl Wide {
         }
     }
 
-    /// Returns the exact number. One with a fraction has the decimals of its text, 18 at most.
+    /// Returns the exact number. One with a fraction has the decimals of its text, 18 at most; a 0
+    /// with more has 18.
     fn exact(self) -> Result<Number, Cause> {
         let decimals = 0i64.saturating_sub(self.exponent).max(0);
-        if decimals > i64::from(MOST_DECIMALS) {
-            return Err(Cause::MoreDecimals);
+        if decimals <= i64::from(MOST_DECIMALS) {
+            self.rounded(decimals as u32)
+        } else if self.is_zero() {
+            self.rounded(MOST_DECIMALS)
+        } else {
+            Err(Cause::TooManyDecimals)
         }
-        self.rounded(decimals as u32)
     }
 
     /// Returns the number rounded to `decimals`, halves up.

@@ -25,7 +25,7 @@ pub fn page(
     text.push_str("</title><style>")?;
     push_style(&mut text)?;
     text.push_str("</style></head><body>\n")?;
-    view.push_words(alloc, &mut text)?;
+    view.push_summary(alloc, &mut text)?;
     if !view.log.tags.is_empty() {
         push_table(&view, alloc, &mut text)?;
     }

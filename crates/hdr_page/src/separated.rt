@@ -24,20 +24,12 @@ pub fn rows(alloc: Global, logs: &[Vec<u8>], tag: Option<&str>) -> Result<String
     let mut deserializer = Deserializer::new(alloc);
     for interval in &intervals.list {
         let histogram = decoded(&mut deserializer, interval)?;
-        let tag = match intervals.tags.get(interval.tag) {
-            Some(tag) => *tag,
-            None => "",
-        };
-        write_row(
-            alloc,
-            &mut table,
-            interval,
-            tag,
-            &Figures::of(&histogram, None),
-        )?;
+        let tag = intervals.tag_at(interval.tag);
+        let figures = Figures::of(&histogram, None);
+        write_row(alloc, &mut table, interval, tag, &figures)?;
     }
     let bytes = table.into_inner().map_err(|_| AllocError)?;
-    Ok(String::from_utf8_lossy(alloc, &bytes)?)
+    String::from_utf8(bytes).map_err(|_| PageError::OutOfMemory)
 }
 
 /// Writes a field.

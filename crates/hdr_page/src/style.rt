@@ -62,11 +62,13 @@ tr.all>*{font-weight:500;border-color:var(--line)}tr.all .w{font-weight:700}
 summary{cursor:pointer;padding:6px 0}
 .two{display:grid;grid-template-columns:minmax(0,1fr);gap:26px 36px;margin-top:22px}
 figure{margin:0;min-width:0;position:relative}
-.d{display:block;width:100%;overflow:visible;margin-top:2px}
+.d{display:block;width:100%;overflow:visible;margin-top:2px;padding:18px var(--w) 0 60px}
 .d svg{overflow:visible}
-.time{padding:18px var(--r) 0 60px}.tag{padding:18px 56px 0 60px}
-text{font-size:12px;fill:var(--soft);unicode-bidi:isolate}
-.s{display:none}
+.time{--w:var(--r)}.tag{--w:56px}
+text,.d div{font-size:12px;fill:var(--soft)}
+foreignObject{width:var(--w);height:15px}
+.d div{padding-left:6px;overflow:hidden;text-overflow:ellipsis;white-space:nowrap;
+line-height:15px;text-align:left;color:var(--soft)}.d .o{padding-left:21px}
 .e{text-anchor:end}.m{text-anchor:middle}text.b{fill:var(--ink)}
 path{fill:none;vector-effect:non-scaling-stroke;stroke-linejoin:round}
 .g{stroke:var(--thin)}.G{stroke:var(--line)}
@@ -86,8 +88,8 @@ fill:var(--soft);fill-opacity:.45}
 grid-template-columns:minmax(0,1fr);max-width:900px}}
 @media(max-width:700px){
 body{padding:14px 16px 32px}.say{font-size:18px}
-.time{padding-right:min(var(--r),92px)}
-.n{display:none}.s{display:inline}.c{stroke-width:1.5}.p50{stroke-width:2}
+.time{--w:min(var(--r),92px)}
+.n{display:none}.c{stroke-width:1.5}.p50{stroke-width:2}
 table,thead,tbody{display:block}thead{display:none}
 table{white-space:normal}
 tr{display:grid;grid-template-columns:repeat(3,minmax(0,1fr));gap:1px 12px;padding:7px 0;

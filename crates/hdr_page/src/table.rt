@@ -2,7 +2,7 @@
 
 use hdr_charts::legend::push_mark;
 use hdr_draw::number::{push_grouped, push_rate};
-use hdr_figures::figures::Figures;
+use hdr_figures::figures::{Figures, TagFigures};
 use hdr_view::amount::Amount;
 use hdr_view::name::IN_TABLE;
 use hdr_view::view::{DRAWN, View};
@@ -67,26 +67,15 @@ pub(crate) fn push_table(
         text.push_str("<tr class=all><th scope=row>all")?;
         push_row(view, text, &view.log.all, length, &[None; COLUMNS])?;
     }
-    let open = view.log.tags.len().min(OPEN);
+    let more = view.log.tags.len().saturating_sub(OPEN);
     for (index, tag) in view.log.tags.iter().enumerate() {
-        if index == open {
-            let more = view.log.tags.len().saturating_sub(open) as u64;
-            text.push_str("</tbody></table>\n<details><summary>")?;
-            push_grouped(text, more)?;
-            text.push_str(" more tags</summary>")?;
-            text.push_str(HEAD)?;
+        if index == OPEN {
+            push_fold(text, more)?;
         }
-        text.push_str("<tr><th scope=row>")?;
-        if index < DRAWN && !view.is_single() {
-            push_mark(text, index)?;
-        }
-        text.push_str("<bdi>")?;
-        view.push_tag(alloc, text, tag.tag, IN_TABLE)?;
-        text.push_str("</bdi>")?;
-        push_row(view, text, &tag.figures, tag.length, &bold)?;
+        push_tag_row(view, alloc, text, index, tag, &bold)?;
     }
     text.push_str("</tbody></table>")?;
-    if view.log.tags.len() > open {
+    if more > 0 {
         text.push_str("</details>")?;
     }
     text.push_str("\n")?;
@@ -98,6 +87,35 @@ pub(crate) fn push_table(
         )?;
     }
     Ok(())
+}
+
+/// Ends the table, and begins one of more tags that is opened by a click.
+fn push_fold(text: &mut String, more: usize) -> Result<(), AllocError> {
+    text.push_str("</tbody></table>\n<details><summary>")?;
+    push_grouped(text, more as u64)?;
+    text.push_str(if more == 1 {
+        " more tag</summary>"
+    } else {
+        " more tags</summary>"
+    })?;
+    text.push_str(HEAD)
+}
+
+/// Appends the row of a tag.
+fn push_tag_row(
+    view: &View<'_>,
+    alloc: Global,
+    text: &mut String,
+    index: usize,
+    tag: &TagFigures<'_>,
+    bold: &[Option<u64>; COLUMNS],
+) -> Result<(), AllocError> {
+    text.push_str("<tr><th scope=row>")?;
+    if index < DRAWN && !view.is_single() {
+        push_mark(text, index)?;
+    }
+    view.push_isolated(alloc, text, tag.tag, IN_TABLE)?;
+    push_row(view, text, &tag.figures, tag.length, bold)
 }
 
 /// Appends the cells of a row after its name.
@@ -112,7 +130,10 @@ fn push_row(
     push_grouped(text, figures.count)?;
     text.push_str("<td>")?;
     push_rate(text, figures.count, milliseconds)?;
-    let mean = figures.mean.map(|mean| Amount::of_mean(view.units, mean));
+    let mean = match figures.mean {
+        Some(mean) => Amount::of_mean(view.units, mean),
+        None => None,
+    };
     push_cell(view, text, mean, false)?;
     for (value, bold) in columns(figures).iter().zip(bold) {
         let amount = if figures.count > 0 {
@@ -138,18 +159,12 @@ fn push_cell(
     is_bold: bool,
 ) -> Result<(), AllocError> {
     text.push_str(if is_bold { "<td class=w>" } else { "<td>" })?;
-    let name = match amount {
-        Some(amount) => {
-            amount.push_number(text)?;
-            amount.name
-        }
-        None => {
-            text.push_str("–")?;
-            ""
-        }
-    };
-    if view.units.is_known() {
-        write!(text, "<i>{name}</i>")?;
+    match amount {
+        Some(amount) => amount.push_in_cell(text),
+        None => text.push_str(if view.units.is_known() {
+            "–<i></i>"
+        } else {
+            "–"
+        }),
     }
-    Ok(())
 }

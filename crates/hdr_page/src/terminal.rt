@@ -4,13 +4,14 @@
 use hdr_charts::detail::curve_of;
 use hdr_charts::percentiles::LINES;
 use hdr_draw::quantiles::QuantileScale;
-use hdr_draw::values::ValueScale;
+use hdr_draw::values::{Tick, ValueScale};
 use hdr_figures::error::PageError;
+use hdr_view::name::columns;
 use hdr_view::options::PageOptions;
 use hdr_view::view::{Form, View};
 use std::alloc::{AllocError, Global};
 
-/// The signs of a label and a space, and of the curve: 80 together.
+/// The columns of a label and a space, and of the curve: 80 together.
 const LABEL: usize = 10;
 
 const COLUMNS: usize = 70;
@@ -27,10 +28,10 @@ pub fn page_text(
     options: PageOptions<'_>,
 ) -> Result<String, PageError> {
     let view = View::new(alloc, logs, options, Form::Plain)?;
-    let mut words = String::new(alloc);
-    view.push_words(alloc, &mut words)?;
+    let mut summary = String::new(alloc);
+    view.push_summary(alloc, &mut summary)?;
     let mut text = String::new(alloc);
-    push_wrapped(&mut text, words.as_str())?;
+    push_wrapped(&mut text, summary.as_str())?;
     if view.log.all.count > 0 {
         text.push_str("\n")?;
         push_blocks(&view, alloc, &mut text)?;
@@ -39,12 +40,12 @@ pub fn page_text(
 }
 
 /// Appends lines, broken at spaces.
-fn push_wrapped(text: &mut String, words: &str) -> Result<(), AllocError> {
-    for line in words.lines() {
+fn push_wrapped(text: &mut String, summary: &str) -> Result<(), AllocError> {
+    for line in summary.lines() {
         let mut column = 0usize;
         for word in line.split(' ') {
-            let signs = word.chars().count();
-            if column > 0 && column.saturating_add(signs) >= LABEL + COLUMNS {
+            let width = columns(word, usize::MAX);
+            if column > 0 && column.saturating_add(width) >= LABEL + COLUMNS {
                 text.push_str("\n")?;
                 column = 0;
             }
@@ -53,7 +54,7 @@ fn push_wrapped(text: &mut String, words: &str) -> Result<(), AllocError> {
                 column = column.saturating_add(1);
             }
             text.push_str(word)?;
-            column = column.saturating_add(signs);
+            column = column.saturating_add(width);
         }
         text.push_str("\n")?;
     }
@@ -65,8 +66,9 @@ fn push_blocks(view: &View<'_>, alloc: Global, text: &mut String) -> Result<(), 
     let scale = view.scale();
     let quantiles = QuantileScale::new(view.log.all.count);
     let heights = heights(view, alloc, &scale, &quantiles)?;
+    let ticks = scale.ticks(alloc, ROWS * 150)?;
     for row in (0..ROWS).rev() {
-        push_row_label(view, alloc, text, &scale, row)?;
+        push_row_label(view, alloc, text, &scale, &ticks, row)?;
         for height in &heights {
             let blocks = height.saturating_sub(row * 8).min(8) as usize;
             text.push_str(BLOCKS.get(blocks).copied().unwrap_or(" "))?;
@@ -94,24 +96,25 @@ fn heights(
     Ok(heights)
 }
 
-/// Appends the label of the greatest step in a row, if it has one, in the signs of a label.
+/// Appends the label of the greatest step in a row, if it has one, in the columns of a label.
 fn push_row_label(
     view: &View<'_>,
     alloc: Global,
     text: &mut String,
     scale: &ValueScale,
+    ticks: &[Tick],
     row: u32,
 ) -> Result<(), AllocError> {
     let mut label = String::new(alloc);
-    for tick in scale.ticks(alloc, ROWS * 150)? {
+    for tick in ticks {
         let is_here = scale.place(tick.value, ROWS * 8).saturating_sub(1) / 8 == row;
         if tick.has_text && is_here {
             label = String::new(alloc);
             view.units.push_label(&mut label, tick.value)?;
         }
     }
-    let signs = label.as_str().chars().count();
-    for _ in signs..LABEL - 1 {
+    let width = columns(label.as_str(), LABEL);
+    for _ in width..LABEL - 1 {
         text.push_str(" ")?;
     }
     text.push_str(label.as_str())?;
@@ -129,7 +132,7 @@ fn push_axis(
     for (inverse, name) in LINES {
         let x = LABEL + quantiles.place(inverse, 1, last as u32) as usize;
         let is_free = line.is_empty() || line.len() < x;
-        if quantiles.has(inverse) && is_free && x + name.len() <= LABEL + COLUMNS {
+        if quantiles.contains(inverse) && is_free && x + name.len() <= LABEL + COLUMNS {
             for _ in line.len()..x {
                 line.push_str(" ")?;
             }

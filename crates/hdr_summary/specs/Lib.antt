@@ -1,3 +1,4 @@
 pub mod Decimals
 pub mod Levels
 pub mod Percent
+pub mod Units

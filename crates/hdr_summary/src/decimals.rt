@@ -2,6 +2,7 @@
 
 ghost use Rattle.std.specs.Prelude.{◌≡◌, IfSome};
 ghost use Rattle.hdr_summary.specs.Decimals.{nearest};
+ghost use Rattle.hdr_summary.specs.Units.{Converts};
 
 use crate::units::Unit;
 use std::alloc::{AllocError, Global};
@@ -57,7 +58,9 @@ impl Conversion {
     };
 
     /// Returns the conversion from a unit to another.
-    pub fn new(from: Unit, to: Unit) -> Conversion {
+    pub fn new(from: Unit, to: Unit) -> Conversion
+        ensures { Converts result from to }
+    {
         let from = from.decimals();
         let to = to.decimals();
         Conversion {

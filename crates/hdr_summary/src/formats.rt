@@ -89,7 +89,7 @@ pub(crate) fn or_none<'a>(figure: &'a Figure, none: &'a str) -> &'a str {
     }
 }
 
-/// Returns the text of distributions. One of HdrHistogram's format has the first alone.
+/// Returns the text of distributions. In HdrHistogram's format they follow one another.
 pub fn text(alloc: Global, parts: &[Tagged], layout: &Layout<'_>) -> Result<String, AllocError> {
     let mut text = String::new(alloc);
     match layout.format {
@@ -118,7 +118,7 @@ fn push_rows(
         Format::Csv => separated::push_separated(alloc, text, rows, layout.has_tags, b','),
         Format::Tsv => separated::push_separated(alloc, text, rows, layout.has_tags, b'\t'),
         Format::Json => json::push_json(alloc, text, rows, layout.has_tags),
-        _ if layout.has_tags => table::push_tagged(text, rows),
+        _ if layout.has_tags => table::push_tagged(alloc, text, rows),
         _ => table::push_figures(text, rows),
     }
 }

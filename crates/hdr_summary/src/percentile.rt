@@ -44,9 +44,9 @@ pub fn quantile(whole: &[u8], part: &[u8]) -> Option<Quantile>
 }
 
 /// Parses a percentile such as `p99`, `99.9` or `99%`.
-pub fn parse_percentile(word: &str) -> Option<Percentile<'_>> {
-    let word = word.strip_prefix('p').unwrap_or(word);
-    let digits = word.strip_suffix('%').unwrap_or(word);
+pub fn parse_percentile(text: &str) -> Option<Percentile<'_>> {
+    let text = text.strip_prefix('p').unwrap_or(text);
+    let digits = text.strip_suffix('%').unwrap_or(text);
     let (whole, part) = match split_once(digits.as_bytes(), b'.') {
         Some((whole, part)) => (whole, part),
         None => (digits.as_bytes(), b"0".as_slice()),

@@ -1,6 +1,7 @@
 //! Units of time, and amounts in them.
 
 ghost use Rattle.std.specs.Prelude.{◌≡◌, ◌≤◌, IfSome};
+ghost use Rattle.hdr_summary.specs.Units.{unit_name, exponent, IsSameTime};
 
 use hdr_input::Number;
 use hdr_input::distribution::MOST_DECIMALS;
@@ -19,7 +20,9 @@ impl Unit {
     pub const NAMES: [&'static str; 4] = ["ns", "us", "ms", "s"];
 
     /// Returns the unit of this name.
-    pub fn from_name(name: &str) -> Option<Unit> {
+    pub fn from_name(name: &str) -> Option<Unit>
+        ensures { IfSome result (λ unit. name.now ≡ unit_name unit) }
+    {
         match name {
             "ns" => Some(Unit::Nanoseconds),
             "us" => Some(Unit::Microseconds),
@@ -31,7 +34,8 @@ impl Unit {
 
     /// Returns the decimals of a second that the unit is one of.
     pub fn decimals(self) -> u32
-        ensures { result ≤ 9 }
+        ensures value { result ≡ exponent self }
+        ensures few { result ≤ 9 }
     {
         match self {
             Unit::Nanoseconds => 9,
@@ -58,11 +62,13 @@ fn split_unit(text: &str) -> (&str, Option<Unit>) {
 }
 
 /// Returns the number of one unit in another, or `None` on overflow.
-pub fn in_unit(number: Number, from: Unit, to: Unit) -> Option<Number> {
+pub fn in_unit(number: Number, from: Unit, to: Unit) -> Option<Number>
+    ensures { IfSome result (λ n. IsSameTime number from n to) }
+{
     let from = from.decimals();
     let to = to.decimals();
     if to <= from {
-        Some(number.divided_by_ten(from - to))
+        number.divided_by_ten(from - to)
     } else {
         number.times_ten(to - from)
     }

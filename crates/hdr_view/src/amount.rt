@@ -1,10 +1,11 @@
 //! Values with their units.
 
-ghost use Rattle.std.specs.Prelude.{◌≡◌, ◌*◌, IfSome};
-ghost use Rattle.hdr_view.specs.Amounts.{IsInUnit};
+ghost use Rattle.std.specs.Prelude.{ℕ, List, Option, None, Some, ◌≡◌, ◌<◌, ◌≤◌, ◌+◌, ◌*◌, ◌^◌, ◌++◌, ◌↔◌, IfSome, IfNone, IsTrue, IsSome, OnOk, string_bytes};
+ghost use Rattle.hdr_draw.specs.Numbers.{IsDecimalOf};
+ghost use Rattle.hdr_view.specs.Amounts.{IsExact, IsInUnit, IsLabel, IsValueText, box_text, longer_by, unit_name, unit_text};
 
 use hdr_draw::labels::split_powers;
-use hdr_draw::number::{Decimal, push_grouped, scientific};
+use hdr_draw::number::{Decimal, push_exponent, push_grouped, scientific};
 use hdr_summary::units::Unit;
 use hdrhistogram::Fraction;
 use std::alloc::AllocError;
@@ -12,151 +13,231 @@ use std::alloc::AllocError;
 /// A space at which a line is not broken.
 pub const SPACE: &str = "\u{a0}";
 
-/// The names of units of time, from the shortest, each 1,000 times the one before.
-const NAMES: [&str; 4] = ["ns", "µs", "ms", "s"];
+/// The index of the longest unit of time.
+const LONGEST: usize = 3;
 
 /// From here on numbers have an exponent, in a table and at an axis.
 const LONG: u128 = 10_000_000;
 
 const LONG_AT_AXIS: u64 = 100_000;
 
+/// The most zeros at the end of an integer of 64 bits.
+const MOST_ZEROS: u32 = 19;
+
 /// The unit of a log's values, if it is known.
 #[derive(Clone, Copy)]
 pub struct Units {
-    /// The index of its name.
-    log: Option<usize>,
+    /// The index of the unit, from nanoseconds.
+    pub unit: Option<usize>,
 }
 
 /// A fraction of some unit.
 #[derive(Clone, Copy)]
 pub struct Amount {
-    num: u128,
-    den: u128,
+    pub num: u128,
+    pub den: u128,
+    /// The index of the unit, from nanoseconds, if it is known.
+    pub unit: Option<usize>,
     /// Whether the unit is longer than that of the log, so that its integers are rounded.
     is_longer: bool,
-    pub name: &'static str,
+}
+
+/// Returns the name of a unit.
+fn name_of(unit: usize) -> &'static str
+    ensures { result.now ≡ unit_name unit }
+{
+    match unit {
+        0 => "ns",
+        1 => "µs",
+        2 => "ms",
+        _ => "s",
+    }
 }
 
 impl Units {
     /// Returns the unit of values.
     pub fn new(unit: Option<Unit>) -> Units {
         Units {
-            log: unit.map(|unit| match unit {
+            unit: unit.map(|unit| match unit {
                 Unit::Nanoseconds => 0,
                 Unit::Microseconds => 1,
                 Unit::Milliseconds => 2,
-                Unit::Seconds => 3,
+                Unit::Seconds => LONGEST,
             }),
         }
     }
 
     /// Whether the unit is known.
-    pub fn is_known(self) -> bool {
-        self.log.is_some()
+    pub fn is_known(self) -> bool
+        ensures { IsTrue result ↔ IsSome self.unit }
+    {
+        self.unit.is_some()
     }
 
     /// Returns an amount in the longest unit of which it is one or more, after rounding.
     pub fn amount(self, num: u128, den: u128) -> Amount
-        ensures { IsInUnit num den result.num result.den }
+        ensures { IsInUnit self.unit num den result.unit result.num result.den }
     {
         let mut amount = Amount {
             num,
             den,
+            unit: self.unit,
             is_longer: false,
-            name: "",
         };
-        let Some(log) = self.log else {
-            return amount;
-        };
-        for (index, name) in NAMES.iter().enumerate() {
-            if index == log {
-                amount.name = *name;
-            } else if index > log {
-                match longer(amount) {
-                    Some(longer) => amount = Amount {
-                        name: *name,
-                        ..longer
-                    },
-                    None => return amount,
-                }
+        for _ in 0..LONGEST {
+            match longer(amount) {
+                Some(longer) => amount = longer,
+                None => return amount,
             }
         }
         amount
     }
 
     /// Appends a value with its unit.
-    pub fn push(self, text: &mut String, value: u64) -> Result<(), AllocError> {
+    pub fn push(self, text: &mut String, value: u64) -> Result<(), AllocError>
+        ensures { OnOk result ((added : List ℕ) × IsValueText self.unit value added
+            × (string_bytes text.new ≡ string_bytes text.old ++ added)) }
+    {
         let amount = self.amount(u128::from(value), 1);
         amount.push_number(text)?;
-        push_name(text, amount.name)
+        push_unit(text, amount.unit)
     }
 
     /// Appends a value exactly, as the label of an axis.
-    pub fn push_label(self, text: &mut String, value: u64) -> Result<(), AllocError> {
-        let Some(log) = self.log else {
-            return push_plain_label(text, value);
-        };
-        let longer = 3u32.saturating_sub(u32::try_from(log).unwrap_or(3));
-        let split = split_powers(value, 1_000, longer);
-        push_plain_label(text, split.number)?;
-        match NAMES.get(log.saturating_add(split.power as usize)) {
-            Some(name) => push_name(text, name),
-            None => Ok(()),
+    pub fn push_label(self, text: &mut String, value: u64) -> Result<(), AllocError>
+        ensures { OnOk result ((added : List ℕ) × IsLabel self.unit value added
+            × (string_bytes text.new ≡ string_bytes text.old ++ added)) }
+    {
+        match self.unit {
+            Some(unit) => push_label_in(text, value, unit),
+            None => push_exact(text, value),
         }
     }
 }
 
 /// Returns an amount in a unit that is 1,000 times as long, if it is one or more there.
 fn longer(amount: Amount) -> Option<Amount>
-    ensures { IfSome result (λ a. (a.num ≡ amount.num) × (a.den ≡ amount.den * 1000)) }
+    ensures unit { IfSome result (λ a. IsSome amount.unit × (a.unit ≡ longer_by 1 amount.unit)) }
+    ensures same { IfSome result (λ a. (a.num ≡ amount.num) × (a.den ≡ amount.den * 1000)) }
+    ensures at_least { IfSome result (λ a. a.den * 9995 ≤ a.num * 10000) }
 {
+    let unit = amount.unit?;
+    if unit >= LONGEST {
+        return None;
+    }
     let den = amount.den.checked_mul(1_000)?;
-    if amount.num.saturating_mul(10_000) < den.saturating_mul(9_995) {
+    let least = den.checked_mul(9_995)?;
+    if amount.num.saturating_mul(10_000) < least {
         return None;
     }
     Some(Amount {
         den,
+        unit: Some(unit + 1),
         is_longer: true,
         ..amount
     })
 }
 
-/// Appends a space and the name of a unit, if it has one.
-fn push_name(text: &mut String, name: &str) -> Result<(), AllocError> {
-    if name.is_empty() {
+/// Appends a space and the name of a unit, if it is known.
+fn push_unit(text: &mut String, unit: Option<usize>) -> Result<(), AllocError>
+    ensures { OnOk result (string_bytes text.new ≡ string_bytes text.old ++ unit_text unit) }
+{
+    let Some(unit) = unit else {
         return Ok(());
-    }
+    };
     text.push_str(SPACE)?;
-    text.push_str(name)
+    text.push_str(name_of(unit))
 }
 
-/// Appends a number exactly, with an exponent if it is long.
-fn push_plain_label(text: &mut String, value: u64) -> Result<(), AllocError> {
-    if value < LONG_AT_AXIS {
-        return push_grouped(text, value);
+/// Appends the name of a unit in a box, if it is known.
+fn push_box(text: &mut String, unit: Option<usize>) -> Result<(), AllocError>
+    ensures { OnOk result (string_bytes text.new ≡ string_bytes text.old ++ box_text unit) }
+{
+    let Some(unit) = unit else {
+        return Ok(());
+    };
+    text.push_str("<i>")?;
+    text.push_str(name_of(unit))?;
+    text.push_str("</i>")
+}
+
+/// Appends a value exactly, as the label of an axis, in a unit or a longer one.
+fn push_label_in(text: &mut String, value: u64, unit: usize) -> Result<(), AllocError>
+    ensures { OnOk result ((added : List ℕ) × IsLabel (Some unit) value added
+        × (string_bytes text.new ≡ string_bytes text.old ++ added)) }
+{
+    let longer = LONGEST.saturating_sub(unit) as u32;
+    let split = split_powers(value, 1_000, longer);
+    push_exact(text, split.number)?;
+    push_unit(text, Some(unit.saturating_add(split.power as usize)))
+}
+
+/// Returns the most zeros at the end of a label that become an exponent: none if the label is short
+/// with them, or has more than three other digits.
+fn most_zeros(value: u64) -> u32 {
+    let other_digits = split_powers(value, 10, MOST_ZEROS).number;
+    if value < LONG_AT_AXIS || other_digits >= 1_000 {
+        0
+    } else {
+        MOST_ZEROS
     }
-    let split = split_powers(value, 10, 20);
-    let number = split.number;
-    let power = split.power;
-    write!(text, "{number}e{power}")
+}
+
+/// Appends an integer exactly, with an exponent if it is long and round.
+fn push_exact(text: &mut String, value: u64) -> Result<(), AllocError>
+    ensures { OnOk result ((added : List ℕ) × IsExact value added
+        × (string_bytes text.new ≡ string_bytes text.old ++ added)) }
+{
+    let split = split_powers(value, 10, most_zeros(value));
+    push_grouped(text, split.number)?;
+    push_exponent(text, split.power)
+}
+
+/// Returns a fraction as an integer, or `None` if it is none of 64 bits.
+fn integer(num: u128, den: u128) -> Option<u64>
+    ensures { IfSome result (λ n. n * den ≡ num) }
+{
+    if num.checked_rem(den)? != 0 {
+        return None;
+    }
+    u64::try_from(num.checked_div(den)?).ok()
 }
 
 impl Amount {
-    /// Returns the amount of a mean.
-    pub fn of_mean(units: Units, mean: Fraction) -> Amount {
-        units.amount(mean.num, mean.den)
+    /// Returns the amount of a mean, or `None` if its sum is 2^128 / 1,000 or more.
+    pub fn of_mean(units: Units, mean: Fraction) -> Option<Amount>
+        ensures is { IfSome result
+            (λ a. IsInUnit units.unit mean.num mean.den a.unit a.num a.den) }
+        ensures fits { IfNone result (2 ^ 128 ≤ mean.num * 1000) }
+    {
+        mean.num.checked_mul(1_000)?;
+        Some(units.amount(mean.num, mean.den))
+    }
+
+    /// Appends the amount as the content of a table's cell, with its unit in a box.
+    pub fn push_in_cell(self, text: &mut String) -> Result<(), AllocError>
+        ensures { 0 < self.den → self.num * 10 ^ 9 + 1 < 2 ^ 128 → OnOk result ((number : List ℕ)
+            × IsDecimalOf self.num self.den number
+            × (string_bytes text.new ≡ string_bytes text.old ++ (number ++ box_text self.unit))) }
+    {
+        self.push_number(text)?;
+        push_box(text, self.unit)
     }
 
     /// Appends the number: three significant digits, and integers of the log's own unit in full.
-    pub fn push_number(self, text: &mut String) -> Result<(), AllocError> {
+    pub fn push_number(self, text: &mut String) -> Result<(), AllocError>
+        ensures { 0 < self.den → self.num * 10 ^ 9 + 1 < 2 ^ 128 → OnOk result ((added : List ℕ)
+            × IsDecimalOf self.num self.den added
+            × (string_bytes text.new ≡ string_bytes text.old ++ added)) }
+    {
         if self.num >= self.den.saturating_mul(LONG) {
             let (decimal, power) = scientific(self.num, self.den);
             decimal.push(text)?;
-            return write!(text, "e{power}");
+            return push_exponent(text, power);
         }
-        if !self.is_longer && self.num.checked_rem(self.den) == Some(0) {
-            let whole = self.num.checked_div(self.den).unwrap_or(0);
-            return push_grouped(text, u64::try_from(whole).unwrap_or(u64::MAX));
+        match integer(self.num, self.den) {
+            Some(integer) if !self.is_longer => return push_grouped(text, integer),
+            _ => {}
         }
         Decimal::of_fraction(self.num, self.den).push(text)
     }

@@ -130,7 +130,8 @@ impl Clock {
         write!(text, "{minutes}:{seconds:02}")
     }
 
-    /// Appends the day of a time with its year, such as `25 November 2026`.
+    /// Appends the day of a time with its year after a comma, such as `, 25 November 2026`. A year
+    /// past 9999 is left out.
     pub fn push_date(self, text: &mut String, time: u64) -> Result<(), AllocError> {
         let Some(date) = civil(time) else {
             return Ok(());
@@ -138,7 +139,7 @@ impl Clock {
         let day = date.day();
         let month = month_name(date);
         let year = date.year();
-        write!(text, "{day} {month} {year}")
+        write!(text, ", {day} {month} {year}")
     }
 }
 
@@ -148,8 +149,8 @@ pub fn push_length(text: &mut String, milliseconds: u64) -> Result<(), AllocErro
         Decimal::of_fraction(u128::from(milliseconds), 1_000)
             .trimmed()
             .push(text)?;
-        text.push_str(" s")?;
-        return Ok(());
+        text.push_str(SPACE)?;
+        return text.push_str("s");
     }
     let mut rest = milliseconds.saturating_add(500) / 1_000;
     let mut written = 0u32;
@@ -168,7 +169,9 @@ pub fn push_length(text: &mut String, milliseconds: u64) -> Result<(), AllocErro
         }
     }
     if written == 0 {
-        text.push_str("0 s")?;
+        text.push_str("0")?;
+        text.push_str(SPACE)?;
+        text.push_str("s")?;
     }
     Ok(())
 }

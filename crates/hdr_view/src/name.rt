@@ -1,28 +1,33 @@
 //! Names that come from a log.
 
+ghost use Rattle.std.specs.Prelude.{ℕ, List, ◌≡◌, ◌++◌, OnOk, string_bytes};
+ghost use Rattle.hdr_draw.specs.Letters.{escaped_text};
+
 use hdr_draw::escape::push_escaped;
 use std::alloc::{AllocError, Global};
 use unicode::properties::GeneralCategory;
 use unicode_width::UnicodeWidthChar;
 
-/// The most columns of a tag in a table, in a sentence and at the end of a curve.
+/// The most columns of a tag in a table, and in the sentence on all samples.
 pub const IN_TABLE: usize = 40;
 
-pub const IN_SENTENCE: usize = 24;
+/// The most columns of a tag in the line of a slow time.
+pub const IN_SLOW_TIME: usize = 24;
 
+/// The most columns of a tag at the end of a curve.
 pub const AT_CURVE: usize = 20;
 
 /// The most columns of a title.
 pub const IN_TITLE: usize = 200;
 
-/// The most marks that combine with a sign: more of them reach the lines above and below.
+/// The most marks that combine with a character: more of them reach the lines above and below.
 const MOST_MARKS: usize = 2;
 
-/// Whether a sign is visible.
-fn is_seen(sign: char) -> bool {
-    sign == ' '
+/// Whether a character is visible.
+fn is_visible(character: char) -> bool {
+    character == ' '
         || !matches!(
-            GeneralCategory::for_char(sign),
+            GeneralCategory::for_char(character),
             GeneralCategory::Control
                 | GeneralCategory::Format
                 | GeneralCategory::Surrogate
@@ -34,31 +39,35 @@ fn is_seen(sign: char) -> bool {
         )
 }
 
-/// Whether a sign combines with the one before it.
-fn is_mark(sign: char) -> bool {
+/// Whether a character combines with the one before it.
+fn is_mark(character: char) -> bool {
     matches!(
-        GeneralCategory::for_char(sign),
+        GeneralCategory::for_char(character),
         GeneralCategory::NonspacingMark
             | GeneralCategory::EnclosingMark
             | GeneralCategory::SpacingMark
     )
 }
 
-/// Returns a sign, or one that replaces it if it is invisible.
-fn visible(sign: char) -> char {
-    if is_seen(sign) { sign } else { '\u{fffd}' }
+/// Returns a character, or one that replaces it if it is invisible.
+fn visible(character: char) -> char {
+    if is_visible(character) {
+        character
+    } else {
+        '\u{fffd}'
+    }
 }
 
-/// Returns the columns that a sign takes: two if it is wide, and none if it combines.
-pub fn columns_of(sign: char) -> usize {
-    sign.width().unwrap_or(1)
+/// Returns the columns that a character takes: two if it is wide, and none if it combines.
+fn columns_of(character: char) -> usize {
+    character.width().unwrap_or(1)
 }
 
 /// Returns the columns of a name. It stops once they are more than `most`.
 pub fn columns(name: &str, most: usize) -> usize {
     let mut columns = 0usize;
-    for sign in name.chars() {
-        columns = columns.saturating_add(columns_of(visible(sign)));
+    for character in name.chars() {
+        columns = columns.saturating_add(columns_of(visible(character)));
         if columns > most {
             break;
         }
@@ -66,27 +75,27 @@ pub fn columns(name: &str, most: usize) -> usize {
     columns
 }
 
-/// Returns a text of at most a number of columns. Signs that are invisible are replaced, marks past
-/// the second of a sign are left out, and an ellipsis ends a text that is longer.
+/// Returns a text of at most a number of columns. Characters that are invisible are replaced, marks
+/// past the second of a character are left out, and an ellipsis ends a text that is longer.
 pub fn shown(alloc: Global, name: &str, most: usize) -> Result<String, AllocError> {
     let is_long = columns(name, most) > most;
     let limit = most.saturating_sub(if is_long { 1 } else { 0 });
     let mut text = String::new(alloc);
     let mut taken = 0usize;
     let mut marks = 0usize;
-    for sign in name.chars() {
-        marks = if is_mark(sign) {
+    for character in name.chars() {
+        marks = if is_mark(character) {
             marks.saturating_add(1)
         } else {
             0
         };
-        let sign = visible(sign);
-        taken = taken.saturating_add(columns_of(sign));
+        let character = visible(character);
+        taken = taken.saturating_add(columns_of(character));
         if taken > limit {
             break;
         }
         if marks <= MOST_MARKS {
-            text.push(sign)?;
+            text.push(character)?;
         }
     }
     if is_long {
@@ -95,13 +104,16 @@ pub fn shown(alloc: Global, name: &str, most: usize) -> Result<String, AllocErro
     Ok(text)
 }
 
-/// Appends a text of a log, with at most a number of columns.
+/// Appends a text of a log as HTML writes it, with at most a number of columns.
 pub fn push_shown(
     alloc: Global,
     text: &mut String,
     name: &str,
     most: usize,
-) -> Result<(), AllocError> {
+) -> Result<(), AllocError>
+    ensures { OnOk result ((shown : List ℕ)
+        × (string_bytes text.new ≡ string_bytes text.old ++ escaped_text shown)) }
+{
     let shown = shown(alloc, name, most)?;
     push_escaped(text, shown.as_str())
 }

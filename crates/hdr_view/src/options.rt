@@ -1,6 +1,9 @@
 //! How a page is made.
 
-use hdr_draw::number::Decimal;
+ghost use Rattle.std.specs.Prelude.{ℕ, List, ◌≡◌, ◌<◌, ◌*◌, ◌++◌, OnOk, codes, string_bytes};
+ghost use Rattle.hdr_draw.specs.Numbers.{IsDecimalOf};
+
+use hdr_draw::number::{Decimal, in_parts};
 use hdr_figures::level::PageLevel;
 use hdr_summary::units::Unit;
 use std::alloc::AllocError;
@@ -17,14 +20,16 @@ pub struct PageOptions<'a> {
 }
 
 /// Appends the percentile of a level, such as `p99.9`.
-pub(crate) fn push_percentile(text: &mut String, level: PageLevel) -> Result<(), AllocError> {
+pub(crate) fn push_percentile(text: &mut String, level: PageLevel) -> Result<(), AllocError>
+    ensures { 0 < level.den → OnOk result ((added : List ℕ)
+        × IsDecimalOf (level.num * 100) level.den added
+        × (string_bytes text.new ≡ string_bytes text.old ++ (codes "p" ++ added))) }
+{
     text.push_str("p")?;
-    let den = u128::from(level.den);
-    let parts = (u128::from(level.num) * 1_000_000 + den / 2).checked_div(den);
-    Decimal {
-        parts: parts.unwrap_or(0),
-        decimals: 4,
-    }
-    .trimmed()
-    .push(text)
+    let percent = u128::from(level.num) * 100;
+    let Some(parts) = in_parts(percent, u128::from(level.den), 100_000_000) else {
+        return Ok(());
+    };
+    let decimal = Decimal { parts, decimals: 8 };
+    decimal.trimmed().push(text)
 }

@@ -1,16 +1,16 @@
 //! The title, the sentence and the slow times.
 
 use crate::clock::{TimeStyle, push_length};
-use crate::name::{IN_SENTENCE, IN_TABLE, IN_TITLE};
+use crate::name::{IN_SLOW_TIME, IN_TABLE, IN_TITLE};
 use crate::options::push_percentile;
-use crate::view::View;
+use crate::view::{DRAWN, View};
 use hdr_draw::number::push_grouped;
 use hdr_figures::slow::{LETTERS, Mark, Measure, SlowTime, TIMES};
 use std::alloc::{AllocError, Global};
 
 impl View<'_> {
     /// Appends the title, the sentence and the slow times.
-    pub fn push_words(&self, alloc: Global, text: &mut String) -> Result<(), AllocError> {
+    pub fn push_summary(&self, alloc: Global, text: &mut String) -> Result<(), AllocError> {
         self.push_markup(text, "<h1>")?;
         self.push_shown(alloc, text, self.options.title, IN_TITLE)?;
         self.push_markup(text, "</h1>")?;
@@ -44,7 +44,11 @@ impl View<'_> {
             return text.push_str("\n");
         }
         push_grouped(text, all.count)?;
-        text.push_str(" samples in ")?;
+        text.push_str(if all.count == 1 {
+            " sample in "
+        } else {
+            " samples in "
+        })?;
         push_length(text, length)?;
         text.push_str(": p50 ")?;
         self.units.push(text, all.p50)?;
@@ -155,7 +159,6 @@ impl View<'_> {
         letter: &str,
         is_peak: bool,
     ) -> Result<(), AllocError> {
-        let worst = &time.worst;
         self.push_markup(text, "<li><b>")?;
         text.push_str(letter)?;
         self.push_markup(text, "</b>")?;
@@ -164,6 +167,25 @@ impl View<'_> {
         text.push_str(":")?;
         self.push_slow_tags(alloc, text, time)?;
         text.push_str(" ")?;
+        self.push_slowest(alloc, text, time, is_peak)?;
+        text.push_str(" ")?;
+        self.push_markup(text, "<span class=\"soft\">")?;
+        text.push_str("(usually ")?;
+        self.units.push(text, time.worst.usual)?;
+        text.push_str(")")?;
+        self.push_markup(text, "</span></li>")?;
+        text.push_str("\n")
+    }
+
+    /// Appends the measure at the worst point of a slow time, when that was, and in which tag.
+    fn push_slowest(
+        &self,
+        alloc: Global,
+        text: &mut String,
+        time: &SlowTime,
+        is_peak: bool,
+    ) -> Result<(), AllocError> {
+        let worst = &time.worst;
         self.push_measure(text, worst.measure)?;
         text.push_str(" up to ")?;
         if is_peak {
@@ -175,24 +197,18 @@ impl View<'_> {
             text.push_str(" at ")?;
             self.push_start(text, worst.point)?;
         }
-        if time.tags.iter().filter(|is_slow| **is_slow).count() > 1 {
+        if time.slow_count() > 1 {
             self.push_in_tag(alloc, text, worst.tag)?;
         }
-        text.push_str(" ")?;
-        self.push_markup(text, "<span class=\"soft\">")?;
-        text.push_str("(usually ")?;
-        self.units.push(text, worst.usual)?;
-        text.push_str(")")?;
-        self.push_markup(text, "</span></li>")?;
-        text.push_str("\n")
+        Ok(())
     }
 
     /// Appends when a slow time began, and how long it was.
     fn push_span(&self, text: &mut String, time: &SlowTime) -> Result<(), AllocError> {
         self.push_start(text, time.from)?;
         text.push_str(" for ")?;
-        let points = time.to.saturating_sub(time.from) as u64;
-        push_length(text, self.timeline.step.saturating_mul(points))
+        let end = self.timeline.start_of(time.to).min(self.timeline.last);
+        push_length(text, end.saturating_sub(self.timeline.start_of(time.from)))
     }
 
     /// Appends when a point begins.
@@ -212,7 +228,7 @@ impl View<'_> {
             return Ok(());
         };
         text.push_str(" in ")?;
-        self.push_isolated(alloc, text, tag.tag, IN_SENTENCE)
+        self.push_isolated(alloc, text, tag.tag, IN_SLOW_TIME)
     }
 
     /// Appends which tags are slow, unless there is one tag alone.
@@ -225,7 +241,7 @@ impl View<'_> {
         if self.is_single() {
             return Ok(());
         }
-        let slow = time.tags.iter().filter(|is_slow| **is_slow).count();
+        let slow = time.slow_count();
         if slow == self.log.tags.len() {
             return text.push_str(" all tags,");
         }
@@ -233,7 +249,7 @@ impl View<'_> {
         for (tag, is_slow) in self.log.tags.iter().zip(time.tags.iter()) {
             if *is_slow && named < 3 {
                 text.push_str(if named == 0 { " " } else { ", " })?;
-                self.push_isolated(alloc, text, tag.tag, IN_SENTENCE)?;
+                self.push_isolated(alloc, text, tag.tag, IN_SLOW_TIME)?;
                 named += 1;
             }
         }
@@ -254,20 +270,34 @@ impl View<'_> {
         }
     }
 
-    /// Appends what slow means.
+    /// Appends when a time is slow.
     fn push_rule(&self, text: &mut String) -> Result<(), AllocError> {
         match self.options.level {
             Some(level) => {
                 push_percentile(text, level)?;
-                text.push_str(" of a tag above ")?;
+                self.push_searched(text)?;
+                text.push_str(" above ")?;
                 self.units.push_label(text, level.value)?;
                 text.push_str(". ")
             }
-            None => write!(
-                text,
-                "p99 of a tag {TIMES} times its median over time, or more \
-                 (with few samples: p90 or p50). "
-            ),
+            None => {
+                text.push_str("p99")?;
+                self.push_searched(text)?;
+                write!(
+                    text,
+                    " {TIMES} times its median over time, or more \
+                     (with few samples: p90 or p50). "
+                )
+            }
+        }
+    }
+
+    /// Appends which tags are searched for slow times: those that are drawn.
+    fn push_searched(&self, text: &mut String) -> Result<(), AllocError> {
+        if self.log.tags.len() > DRAWN {
+            write!(text, " of one of the {DRAWN} tags with the most samples")
+        } else {
+            text.push_str(" of a tag")
         }
     }
 
@@ -277,7 +307,7 @@ impl View<'_> {
             self.clock.push(text, self.timeline.first, TimeStyle::Full)?;
             text.push_str(" to ")?;
             self.clock.push(text, self.timeline.last, TimeStyle::Full)?;
-            text.push_str(" UTC, ")?;
+            text.push_str(" UTC")?;
             self.clock.push_date(text, self.timeline.first)?;
         } else {
             text.push_str("Times are since the start, as the log has no clock time")?;
@@ -292,8 +322,8 @@ impl View<'_> {
         if self.slow.named.is_empty() {
             return text.push_str("No slow time.");
         }
-        for (time, letter) in self.slow.named.iter().zip(LETTERS) {
-            if time.from != self.slow.named.first().map_or(0, |first| first.from) {
+        for (index, (time, letter)) in self.slow.named.iter().zip(LETTERS).enumerate() {
+            if index > 0 {
                 text.push_str(" ")?;
             }
             write!(text, "{letter}: slow from ")?;

@@ -1,5 +1,8 @@
 //! What a page shows.
 
+ghost use Rattle.std.specs.Prelude.{◌≡◌, ◌≤◌, ◌<◌, ◌↔◌, IfNone, IfSome, IsTrue, length};
+ghost use Rattle.hdr_view.specs.Views.{figure_of};
+
 use crate::amount::Units;
 use crate::clock::Clock;
 use crate::name::{push_shown, shown};
@@ -70,7 +73,9 @@ impl<'a> View<'a> {
     }
 
     /// Returns the tags that are drawn.
-    pub fn drawn(&self) -> &[TagFigures<'a>] {
+    pub fn drawn(&self) -> &[TagFigures<'a>]
+        ensures { length result.now ≤ 10 }
+    {
         self.log
             .tags
             .get(..DRAWN)
@@ -83,19 +88,34 @@ impl<'a> View<'a> {
     }
 
     /// Whether the log has one point of time.
-    pub fn is_instant(&self) -> bool {
+    pub fn is_instant(&self) -> bool
+        ensures { IsTrue result ↔ self.now.timeline.points ≤ 1 }
+    {
         self.timeline.points <= 1
     }
 
+    /// Returns the least value, or the level if that is less.
+    fn least(&self) -> u64 {
+        let least = self.log.all.min;
+        match self.options.level {
+            Some(level) => least.min(level.value),
+            None => least,
+        }
+    }
+
     /// Returns the greatest value, or the level if that is greater.
-    pub fn greatest(&self) -> u64 {
+    pub fn greatest(&self) -> u64
+        ensures some { 1 ≤ result }
+        ensures above { self.now.log.all.max ≤ result }
+        ensures level { IfSome self.now.options.level (λ l. l.value ≤ result) }
+    {
         let level = self.options.level.map_or(0, |level| level.value);
         self.log.all.max.max(level).max(1)
     }
 
-    /// Returns the scale of all values.
+    /// Returns the scale of all values, and of the level.
     pub fn scale(&self) -> ValueScale {
-        ValueScale::new(self.log.all.min, self.greatest())
+        ValueScale::new(self.least(), self.greatest())
     }
 
     /// Appends the name of a tag, with at most a number of columns.
@@ -109,7 +129,8 @@ impl<'a> View<'a> {
         self.push_shown(alloc, text, self.name_of(tag), most)
     }
 
-    /// Appends the name of a tag whose direction of writing leaves what is around it alone.
+    /// Appends the name of a tag in `<bdi>`, so that its direction does not affect the text around
+    /// it.
     pub fn push_isolated(
         &self,
         alloc: Global,
@@ -145,7 +166,9 @@ impl<'a> View<'a> {
     }
 
     /// Returns the name of a tag.
-    pub fn name_of<'n>(&self, tag: &'n str) -> &'n str {
+    pub fn name_of<'n>(&self, tag: &'n str) -> &'n str
+        ensures { 0 < length tag.now → result.now ≡ tag.now }
+    {
         if !tag.is_empty() {
             return tag;
         }
@@ -176,7 +199,10 @@ impl Series {
     }
 
     /// Returns the value of a point, or `None` without samples.
-    pub fn of(self, point: &PointFigures) -> Option<u64> {
+    pub fn of(self, point: &PointFigures) -> Option<u64>
+        ensures none { IfNone result (point.now.figures.count ≡ 0) }
+        ensures value { IfSome result (λ v. v ≡ figure_of self point.now.figures) }
+    {
         if point.figures.count == 0 {
             return None;
         }

@@ -1,8 +1,14 @@
 pub mod Adler
 pub mod Bits
 pub mod Blocks
+pub mod CodedBlocks
 pub mod Codes
+pub mod Copies
+pub mod Headers
+pub mod Lengths
+pub mod Reading
 pub mod Stored
 pub mod Stream
 pub mod Symbols
 pub mod Table
+pub mod Writing

@@ -48,9 +48,9 @@ fn push_verdicts(
     for level in levels {
         let value = level.value(alloc, &part.distribution)?;
         let is_kept = level.is_kept(&part.distribution);
-        let word = if is_kept { "kept" } else { "broken" };
-        let written = level.text;
-        write!(text, "{word} {written} ")?;
+        let verdict = if is_kept { "kept" } else { "broken" };
+        let level_text = level.text;
+        write!(text, "{verdict} {level_text} ")?;
         match &value {
             Some(value) => text.push_str(value.as_str())?,
             None => text.push('-')?,

@@ -1,4 +1,4 @@
-//! Why the program does not do what its arguments ask for.
+//! Errors of the program, and their exit statuses.
 
 ghost use Rattle.std.specs.Prelude.{◌≡◌};
 ghost use Rattle.hdrstat.specs.Statuses.{status_of};
@@ -29,7 +29,7 @@ pub(crate) enum StatError {
     #[error("{file}: {cause}")]
     Page { file: String, cause: PageError },
     #[error("cannot make the log: {0}")]
-    Log(#[from] IntervalLogWriterError<V2SerializeError>),
+    Log(IntervalLogWriterError<V2SerializeError>),
     #[error("cannot write the output: {0}")]
     Output(io::Error),
     #[error("out of memory")]
@@ -39,6 +39,18 @@ pub(crate) enum StatError {
 impl From<AllocError> for StatError {
     fn from(_error: AllocError) -> StatError {
         StatError::OutOfMemory
+    }
+}
+
+impl From<IntervalLogWriterError<V2SerializeError>> for StatError {
+    fn from(error: IntervalLogWriterError<V2SerializeError>) -> StatError {
+        match error {
+            IntervalLogWriterError::OutOfMemory
+            | IntervalLogWriterError::SerializeError(V2SerializeError::OutOfMemory) => {
+                StatError::OutOfMemory
+            }
+            error => StatError::Log(error),
+        }
     }
 }
 

@@ -5,7 +5,7 @@ use crate::error::StatError;
 use crate::output::Output;
 use clap::ArgMatches;
 use hdr_files::console::file_at;
-use hdr_files::{Console, Input};
+use hdr_files::{Console, LateInput};
 use hdr_gather::{GatherError, LogReader, gather_sorted, gather_unsorted};
 use hdrhistogram::serialization::interval_log::IntervalLogWriterError;
 use std::alloc::Global;
@@ -26,44 +26,50 @@ fn failed(alloc: Global, names: &[&str], cause: GatherError) -> StatError {
     }
 }
 
-/// Opens the log of this index, to be read by itself.
+/// Returns a reader of the log of this index, whose file is open already if `is_open`.
 fn reader<'a>(
     console: Console<'a>,
     index: usize,
-    name: &str,
-) -> Result<LogReader<Input<'a>>, StatError> {
-    let alloc = console.rt.alloc();
-    match LogReader::new(alloc, index, console.open(name)?) {
+    name: &'a str,
+    is_open: bool,
+) -> Result<LogReader<LateInput<'a>>, StatError> {
+    let mut input = LateInput::new(console, name);
+    if is_open {
+        input.open()?;
+    }
+    match LogReader::new(console.rt.alloc(), index, input) {
         Ok(log) => Ok(log),
         Err(_) => Err(StatError::OutOfMemory),
     }
 }
 
-/// Opens logs, or standard input if no names are given.
+/// Returns readers of logs, or of standard input if no names are given.
 fn readers<'a>(
     console: Console<'a>,
-    names: &[&str],
-) -> Result<Vec<LogReader<Input<'a>>>, StatError> {
+    names: &[&'a str],
+    are_open: bool,
+) -> Result<Vec<LogReader<LateInput<'a>>>, StatError> {
     let mut logs = Vec::new(console.rt.alloc());
     if names.is_empty() {
-        logs.push(reader(console, 0, "-")?)?;
+        logs.push(reader(console, 0, "-", are_open)?)?;
     }
     for (index, name) in names.iter().enumerate() {
-        logs.push(reader(console, index, *name)?)?;
+        logs.push(reader(console, index, *name, are_open)?)?;
     }
     Ok(logs)
 }
 
-/// Prints the log of what logs hold.
+/// Merges logs, and prints the result as one log. Logs in any order are opened one after another.
 pub(crate) fn gather_logs(
     rt: &HostRuntime,
     matches: &ArgMatches<'_>,
 ) -> Result<ExitCode, StatError> {
     let alloc = rt.alloc();
     let names = matches.get_strs("LOG").unwrap_or(&[]);
-    let mut logs = readers(console_of(rt, matches), names)?;
+    let is_unsorted = matches.get_flag("unsorted");
+    let mut logs = readers(console_of(rt, matches), names, !is_unsorted)?;
     let mut output = Output::new(rt);
-    let gathered = if matches.get_flag("unsorted") {
+    let gathered = if is_unsorted {
         gather_unsorted(alloc, &mut logs, &mut output)
     } else {
         gather_sorted(alloc, &mut logs, &mut output)

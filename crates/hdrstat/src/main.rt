@@ -11,6 +11,7 @@ mod page;
 mod summary;
 
 use clap::ArgMatches;
+use clap::error::ErrorKind as UsageErrorKind;
 use error::StatError;
 use hdr_files::Console;
 use hdr_options::command;
@@ -31,6 +32,9 @@ fn console_of<'a>(rt: &'a HostRuntime, matches: &ArgMatches<'_>) -> Console<'a> 
 
 /// Prints a usage error of clap, or the help or the version, and returns the status.
 fn print_of_clap(rt: &HostRuntime, error: &clap::Error) -> ExitCode {
+    if error.kind() == UsageErrorKind::OutOfMemory {
+        return fail(rt, "", &StatError::OutOfMemory);
+    }
     match error.print(rt) {
         Ok(()) => ExitCode::from(if error.use_stderr() { USAGE } else { 0 }),
         Err(error) => fail(rt, "", &StatError::Output(error)),
@@ -79,9 +83,9 @@ fn bad_arguments(rt: &HostRuntime, error: &io::Error) -> ExitCode {
 }
 
 fn main(rt: HostRuntime) -> ExitCode {
-    let words: Vec<String> = match env::args(&rt) {
-        Ok(words) => match words.collect(rt.alloc()) {
-            Ok(words) => words,
+    let arguments: Vec<String> = match env::args(&rt) {
+        Ok(arguments) => match arguments.collect(rt.alloc()) {
+            Ok(arguments) => arguments,
             Err(_) => return fail(&rt, "", &StatError::OutOfMemory),
         },
         Err(error) => return bad_arguments(&rt, &error),
@@ -90,7 +94,7 @@ fn main(rt: HostRuntime) -> ExitCode {
         Ok(command) => command,
         Err(error) => return print_of_clap(&rt, &error),
     };
-    let matches = match command.try_get_matches_from(words.as_slice()) {
+    let matches = match command.try_get_matches_from(arguments.as_slice()) {
         Ok(matches) => matches,
         Err(error) => return print_of_clap(&rt, &error),
     };

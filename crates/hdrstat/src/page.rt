@@ -5,7 +5,7 @@ use crate::output::print;
 use clap::ArgMatches;
 use hdr_files::FileError;
 use hdr_files::console::file_at;
-use hdr_files::input::read_whole;
+use hdr_files::input::read_plain_logs;
 use hdr_options::UsageError;
 use hdr_options::reading::{tag_of, unit_of};
 use hdr_page::{PageError, PageLevel, PageOptions, page, page_text, rows};
@@ -56,26 +56,31 @@ fn level_of(
     }
 }
 
+/// Returns what the arguments say of a page.
+fn options_of<'a>(alloc: Global, matches: &ArgMatches<'a>) -> Result<PageOptions<'a>, StatError> {
+    let unit = unit_of(matches);
+    let tag = match tag_of(alloc, matches)? {
+        Some(tag) => Some(tag.as_str()),
+        None => None,
+    };
+    Ok(PageOptions {
+        title: matches.get_str("title").unwrap_or("Interval log"),
+        unit,
+        level: level_of(alloc, matches, unit)?,
+        tag,
+    })
+}
+
 /// Returns the text of logs that the arguments ask for.
 fn text_of(
     alloc: Global,
     matches: &ArgMatches<'_>,
     names: &[&str],
     logs: &[Vec<u8>],
+    options: PageOptions<'_>,
 ) -> Result<String, StatError> {
-    let unit = unit_of(matches);
-    let tag = match tag_of(alloc, matches)? {
-        Some(tag) => Some(tag.as_str()),
-        None => None,
-    };
-    let options = PageOptions {
-        title: matches.get_str("title").unwrap_or("Interval log"),
-        unit,
-        level: level_of(alloc, matches, unit)?,
-        tag,
-    };
     let shown = if matches.get_flag("intervals") {
-        rows(alloc, logs, tag)
+        rows(alloc, logs, options.tag)
     } else if matches.get_flag("text") {
         page_text(alloc, logs, options)
     } else {
@@ -90,9 +95,10 @@ fn text_of(
 /// Writes a page of logs, or a row for each of their intervals.
 pub(crate) fn show(rt: &HostRuntime, matches: &ArgMatches<'_>) -> Result<ExitCode, StatError> {
     let alloc = rt.alloc();
+    let options = options_of(alloc, matches)?;
     let names = matches.get_strs("LOG").unwrap_or(&[]);
-    let logs = read_whole(rt, names)?;
-    let text = text_of(alloc, matches, names, &logs)?;
+    let logs = read_plain_logs(rt, names)?;
+    let text = text_of(alloc, matches, names, &logs, options)?;
     match matches.get_str("output") {
         Some(file) => {
             if let Err(cause) = fs::write(rt, file, text.as_str()) {

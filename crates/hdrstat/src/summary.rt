@@ -14,22 +14,30 @@ use hdr_summary::units::Unit;
 use std::alloc::Global;
 use std::process::ExitCode;
 
-/// Parses percentiles.
+/// Whether percentiles have one of this text.
+fn have_text(percentiles: &[Percentile<'_>], digits: &str) -> bool {
+    percentiles
+        .iter()
+        .any(|percentile| percentile.digits == digits)
+}
+
+/// Parses percentiles. One that is written as another before it is left out.
 fn percentiles_of<'a>(
     alloc: Global,
     arguments: &[&'a str],
 ) -> Result<Vec<Percentile<'a>>, StatError> {
     let mut percentiles = Vec::new(alloc);
     for argument in arguments {
-        match parse_percentile(*argument) {
-            Some(percentile) => match percentiles.push(percentile) {
-                Ok(()) => {}
-                Err(_) => return Err(StatError::OutOfMemory),
-            },
-            None => {
-                let why = "is not a percentile from 0 to 100, such as 50, p99.9 or 99%";
-                return Err(UsageError::new(alloc, *argument, why).into());
-            }
+        let Some(percentile) = parse_percentile(*argument) else {
+            let why = "is not a percentile from 0 to 100, such as 50, p99.9 or 99%";
+            return Err(UsageError::new(alloc, *argument, why).into());
+        };
+        if have_text(&percentiles, percentile.digits) {
+            continue;
+        }
+        match percentiles.push(percentile) {
+            Ok(()) => {}
+            Err(_) => return Err(StatError::OutOfMemory),
         }
     }
     Ok(percentiles)

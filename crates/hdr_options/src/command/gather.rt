@@ -7,10 +7,10 @@ use std::alloc::Global;
 const AFTER: &str = "\
 Intervals of the same tag that begin at the same time become one, with the samples of all.
 They are written in order of time and then of tag. The output can be gathered again.
-Each log has to be in order of time, as logs are written: they are read side by side, in constant
-memory, and an interval is written once all logs are past its start.
+Each log has to be in order of time, as logs are written: they are read side by side, in the
+memory of the intervals of one start, which are written once all logs are past it.
 
-Example:
+Examples:
   hdrstat gather host1.log host2.log >all.log
   cat host1.log host2.log | hdrstat gather --unsorted >all.log
 

@@ -2,6 +2,7 @@
 
 use crate::command::{logs, option};
 use clap::{Arg, ArgAction, Command, Error};
+use hdr_summary::units::Unit;
 use std::alloc::Global;
 
 const AFTER: &str = "\
@@ -9,8 +10,8 @@ The page begins with a sentence on all samples, and with the times that were slo
 row for each tag. Drawings show the percentiles over time, all percentiles, and a heat map of each
 of the ten tags with the most samples. The page has no script, and needs no other file.
 
-A time is slow if the p99 of a tag is at least 4 times its median over time, or with --level if
-its quantile is above the level.
+A time is slow if the p99 of one of these tags is at least 4 times its median over time, or with
+--level if its quantile is above the level. The sentence compares the level with all samples.
 
 CSV is that of RFC 4180. An apostrophe stands before a tag that a spreadsheet may take for a
 formula, which is one that begins with =, +, -, @, a tab or a CR.
@@ -24,14 +25,14 @@ Status: 0; 1 if a log is invalid, or input or output fails; 2 for a usage error.
 /// Adds the options of what is shown.
 fn with_content<'a>(alloc: Global, command: Command<'a>) -> Result<Command<'a>, Error> {
     let help = "Unit of the values of the logs, which are then shown with units";
-    let unit = option(alloc, "unit", "UNIT", help).value_parser(["ns", "us", "ms", "s"].as_slice());
+    let unit = option(alloc, "unit", "UNIT", help).value_parser(Unit::NAMES.as_slice());
     let title = option(
         alloc,
         "title",
         "TEXT",
         "Title of the page [default: Interval log]",
     );
-    let help = "Quantile that each tag should have, such as 99/100=5ms";
+    let help = "Quantile, and the value that it should not exceed, such as 99/100=5ms";
     let level = option(alloc, "level", "LEVEL", help);
     let tag = option(
         alloc,

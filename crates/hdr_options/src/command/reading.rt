@@ -3,6 +3,7 @@
 use crate::command::{option, quiet};
 use clap::builder::ValueParser;
 use clap::{Arg, ArgAction, Command, Error, value_parser};
+use hdr_summary::units::Unit;
 use std::alloc::Global;
 
 const TABLES: &str = "Tables";
@@ -75,7 +76,7 @@ pub(crate) fn with_recording<'a>(
     let help = "Add the missing samples, if one was due each TIME";
     let interval = option(alloc, "expected-interval", "TIME", help);
     let help = "Unit of the numbers, so that other arguments may have one, as 200ms";
-    let unit = option(alloc, "unit", "UNIT", help).value_parser(["ns", "us", "ms", "s"].as_slice());
+    let unit = option(alloc, "unit", "UNIT", help).value_parser(Unit::NAMES.as_slice());
     let skip_bad = Arg::new(alloc, "skip-bad")
         .long("skip-bad")
         .action(ArgAction::SetTrue)

@@ -4,6 +4,7 @@ use crate::command::option;
 use crate::command::reading::with_reading;
 use clap::builder::ValueParser;
 use clap::{Arg, ArgAction, Command, Error};
+use hdr_summary::units::Unit;
 use std::alloc::Global;
 
 const AFTER: &str = "\
@@ -11,11 +12,12 @@ Input: a number on each line, such as 12, 0.5 or 1e-3; empty lines and lines tha
 with # are skipped. With --column it is a table, and with --from log an interval log.
 
 A percentile is the top of its class: with 3 digits it is at most 0.1 % above the number
-of its rank. Count, min, mean and max of numbers are exact; those of logs are by class.
+of its rank. Count, min and max of numbers are exact, and so is the mean, unless
+--expected-interval is given; those of logs are by class.
 The values of a log are integers, in the unit that its writer chose, or have the decimals
 that `hdrstat log` wrote in a comment.
 
-A load generator that waits for an answer before it sends the next request measures one
+A load generator that waits for a response before it sends the next request measures one
 long latency, and omits those of the requests that were due meanwhile.
 --expected-interval 10ms adds these: 50ms, if one was due each 10ms, adds 40, 30, 20, 10.
 
@@ -43,7 +45,7 @@ fn with_output<'a>(alloc: Global, command: Command<'a>) -> Result<Command<'a>, E
         .default_value("table");
     let unit = option(alloc, "output-unit", "UNIT", "Unit of the output")
         .requires_arg("unit")?
-        .value_parser(["ns", "us", "ms", "s"].as_slice());
+        .value_parser(Unit::NAMES.as_slice());
     let command = command.arg(percentiles)?.arg(format)?.arg(unit)?;
     Ok(command)
 }

@@ -98,7 +98,7 @@ fn texts_of_conversion(rt: HostRuntime) -> Result<(), Fail> {
     says(
         &rt,
         &ConvertError::OldVersion(1),
-        "a histogram of version 1, and not 2",
+        "a histogram of version 1 with counters of an unknown width",
     )?;
     says(&rt, &ConvertError::DoubleHistogram, "a double histogram")?;
     let error = ConvertError::Inflate(InflateError::Checksum);

@@ -50,7 +50,8 @@ pub fn push_hgrm(
     push_footer(alloc, text, distribution, conversion)
 }
 
-/// Appends the row of a step. The last has no 1/(1 - q).
+/// Appends the row of a step. No value is above the greatest number, and the last row has no
+/// 1/(1 - q).
 fn push_row(
     alloc: Global,
     text: &mut String,
@@ -59,7 +60,8 @@ fn push_row(
     step: &IterationValue<u64>,
     count: u64,
 ) -> Result<(), AllocError> {
-    let value = value(alloc, distribution, step.value_iterated_to(), conversion)?;
+    let units = step.value_iterated_to().min(distribution.max);
+    let value = value(alloc, distribution, units, conversion)?;
     let quantile = step.quantile_iterated_to();
     let share = fraction(alloc, quantile.num, quantile.den, 12)?;
     if quantile.num >= quantile.den {

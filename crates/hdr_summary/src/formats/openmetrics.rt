@@ -56,6 +56,35 @@ fn quantile_text(alloc: Global, percentile: &Percentile<'_>) -> Result<String, A
     String::from_str(alloc, without_zeros(text.as_str()))
 }
 
+/// Whether two percentiles name one quantile.
+fn have_one_quantile(one: &Percentile<'_>, other: &Percentile<'_>) -> bool {
+    u128::from(one.quantile.num()) * u128::from(other.quantile.den())
+        == u128::from(other.quantile.num()) * u128::from(one.quantile.den())
+}
+
+/// Appends a line for each quantile that percentiles name.
+fn push_quantiles(
+    alloc: Global,
+    text: &mut String,
+    part: &Tagged,
+    layout: &Layout<'_>,
+) -> Result<(), AllocError> {
+    let distribution = &part.distribution;
+    for (index, percentile) in layout.percentiles.iter().enumerate() {
+        let mut percentiles = layout.percentiles.iter();
+        let first = percentiles.position(|one| have_one_quantile(one, percentile));
+        if first != Some(index) {
+            continue;
+        }
+        let quantile = quantile_text(alloc, percentile)?;
+        text.push_str("hdrstat_value")?;
+        push_labels(text, part, Some(quantile.as_str()))?;
+        let units = u128::from(distribution.value_at_quantile(percentile.quantile));
+        push_value(alloc, text, distribution, units, layout)?;
+    }
+    Ok(())
+}
+
 /// Appends a line with a value.
 fn push_value(
     alloc: Global,
@@ -79,13 +108,7 @@ fn push_summary(
 ) -> Result<(), AllocError> {
     let distribution = &part.distribution;
     if !distribution.histogram.is_empty() {
-        for percentile in layout.percentiles {
-            let quantile = quantile_text(alloc, percentile)?;
-            text.push_str("hdrstat_value")?;
-            push_labels(text, part, Some(quantile.as_str()))?;
-            let units = u128::from(distribution.value_at_quantile(percentile.quantile));
-            push_value(alloc, text, distribution, units, layout)?;
-        }
+        push_quantiles(alloc, text, part, layout)?;
     }
     if let Some(sum) = distribution.sum {
         text.push_str("hdrstat_value_sum")?;

@@ -2,7 +2,7 @@
 
 use crate::figures::Figure;
 use crate::formats::{Row, or_none};
-use std::alloc::AllocError;
+use std::alloc::{AllocError, Global};
 
 /// What a table shows in place of a tag that an interval does not have.
 const NO_TAG: &str = "(no tag)";
@@ -73,6 +73,22 @@ fn width(rows: &[Row<'_>], index: usize) -> usize {
     width
 }
 
+/// Returns the widths of the columns.
+fn widths(alloc: Global, rows: &[Row<'_>]) -> Result<Vec<usize>, AllocError> {
+    let mut widths = Vec::new(alloc);
+    if let Some(first) = rows.first() {
+        for index in 0..first.figures.len() {
+            widths.push(width(rows, index))?;
+        }
+    }
+    Ok(widths)
+}
+
+/// Returns the width of the column at an index.
+fn width_at(widths: &[usize], index: usize) -> usize {
+    widths.get(index).copied().unwrap_or(0)
+}
+
 /// Appends a text to the right of its column.
 fn push_cell(text: &mut String, cell: &str, width: usize) -> Result<(), AllocError> {
     text.push_str("  ")?;
@@ -81,7 +97,12 @@ fn push_cell(text: &mut String, cell: &str, width: usize) -> Result<(), AllocErr
 }
 
 /// Appends a line of names, and a line for each tag.
-pub(crate) fn push_tagged(text: &mut String, rows: &[Row<'_>]) -> Result<(), AllocError> {
+pub(crate) fn push_tagged(
+    alloc: Global,
+    text: &mut String,
+    rows: &[Row<'_>],
+) -> Result<(), AllocError> {
+    let widths = widths(alloc, rows)?;
     let mut tags = "tag".len();
     for row in rows {
         tags = tags.max(char_count(tag_of(row)));
@@ -90,12 +111,12 @@ pub(crate) fn push_tagged(text: &mut String, rows: &[Row<'_>]) -> Result<(), All
         text.push_str("tag")?;
         push_spaces(text, tags.saturating_sub("tag".len()))?;
         for (index, figure) in first.figures.iter().enumerate() {
-            push_cell(text, figure.name.as_str(), width(rows, index))?;
+            push_cell(text, figure.name.as_str(), width_at(&widths, index))?;
         }
         text.push('\n')?;
     }
     for row in rows {
-        push_row(text, rows, row, tags)?;
+        push_row(text, &widths, row, tags)?;
     }
     Ok(())
 }
@@ -103,7 +124,7 @@ pub(crate) fn push_tagged(text: &mut String, rows: &[Row<'_>]) -> Result<(), All
 /// Appends the line of a tag.
 fn push_row(
     text: &mut String,
-    rows: &[Row<'_>],
+    widths: &[usize],
     row: &Row<'_>,
     tags: usize,
 ) -> Result<(), AllocError> {
@@ -111,7 +132,7 @@ fn push_row(
     text.push_str(tag)?;
     push_spaces(text, tags.saturating_sub(char_count(tag)))?;
     for (index, figure) in row.figures.iter().enumerate() {
-        push_cell(text, or_none(figure, "-"), width(rows, index))?;
+        push_cell(text, or_none(figure, "-"), width_at(widths, index))?;
     }
     text.push('\n')
 }

@@ -7,6 +7,6 @@ use Rattle.hdr_draw.proofs.escape.push_escaped.Goals as goal
 pub returns : goal.returns
 unfolding escaped_text
 returns c =
-    let t = YieldsList-end (YieldsList-from_chars c.args.plain.now c.utf8.plain cc) c.loop-letter.yielded _ c.loop-letter.yielded_by _ _ c.in-None.is c.next.ensures.steps in
-    let e : c.loop-letter.yielded ≡ chars c.args.plain.now = sym (map-id _) ∙ t.0 in
-    rw (← e) c.loop-letter.invariant
+    let t = YieldsList-end (YieldsList-from_chars c.args.plain.now c.utf8.plain cc) c.loop-character.yielded _ c.loop-character.yielded_by _ _ c.in-None.is c.next.ensures.steps in
+    let e : c.loop-character.yielded ≡ chars c.args.plain.now = sym (map-id _) ∙ t.0 in
+    rw (← e) c.loop-character.invariant

@@ -1,14 +1,12 @@
-use Rattle.hdr_view.proofs.Amounts.{in_longer}
-use Rattle.hdr_view.proofs.amount.Units.amount.Goals.{then-index-log, else-index-log+then-index-log-2+in-Some-longer, else-index-log+else-index-log-2}
+use Rattle.hdr_view.proofs.Amounts.{begun, longer_unit}
 use Rattle.hdr_view.proofs.amount.Units.amount.Goals as goal
 
-pub loop-index-preserved : goal.loop-index-preserved
-loop-index-preserved c =
-    let i = c.loop-index.invariant in
-    elim c.if-index-log.branch [
-      | then-index-log w ↦ rw w.amount-is i
-      | else-index-log+then-index-log-2+in-Some-longer w ↦
-          let e = w.in-Some-longer.ensures in
-          rw w.amount-is (in_longer _ _ _ _ _ _ i e.0 e.1)
-      | else-index-log+else-index-log-2 w ↦ rw w.amount-is i
-    ]
+pub loop-init : goal.loop-init
+loop-init c = begun c.args.self.unit c.args.num c.args.den
+
+pub loop-preserved : goal.loop-preserved
+loop-preserved c =
+    let a = c.loop.amount in
+    let b = c.in-Some.longer in
+    let e = c.in-Some.ensures in
+    longer_unit c.args.self.unit a.unit b.unit c.args.num c.args.den a.num a.den b.num b.den c.loop.invariant e.unit.0 e.unit.1 e.same.0 e.same.1 e.at_least

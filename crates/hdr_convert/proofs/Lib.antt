@@ -1,0 +1,3 @@
+pub mod Commas
+mod Cookies
+mod CounterLaws

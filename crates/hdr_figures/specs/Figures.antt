@@ -1,0 +1,25 @@
+-- The figures of a histogram.
+use Rattle.std.specs.Prelude.{◌≡◌, ℕ, ◌*◌, ◌<◌, max}
+use Rattle.hdr_model.specs.Plain.{Plain, min_of}
+use Rattle.hdr_model.specs.Quantiles.{value_at_quantile}
+use Rattle.hdr_model.specs.Statistics.{mean}
+use Rattle.hdr_figures.specs.declared.figures.Figures.{Figures}
+
+-- the value at the quantile num / den
+abbrev pub value_at : Plain → ℕ → ℕ → ℕ
+value_at h num den = value_at_quantile h (record { num = num; den = den })
+
+-- the figures are the library's, of one histogram
+pub record AreFiguresOf (h : Plain) (f : Figures) : Type 0 where
+  pub count : f.count ≡ h.total
+  pub mean : f.mean ≡ mean h
+  pub min : f.min ≡ min_of h
+  pub p50 : f.p50 ≡ value_at h 1 2
+  pub p90 : f.p90 ≡ value_at h 9 10
+  pub p99 : f.p99 ≡ value_at h 99 100
+  pub p999 : f.p999 ≡ value_at h 999 1000
+  pub max : f.max ≡ value_at h 1 1
+
+-- a value is more times its usual one than another: their fractions are compared, 0 as 1
+abbrev pub IsFurther : ℕ → ℕ → ℕ → ℕ → Type 0
+IsFurther value usual other other_usual = other * max 1 usual < value * max 1 other_usual

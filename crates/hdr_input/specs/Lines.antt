@@ -1,0 +1,35 @@
+-- The lines of interval logs, and what they say.
+use Rattle.std.specs.Prelude.{◌≡◌, ℕ, Bool, if◌then◌else◌, List, [], ◌∷◌, Option, Some, None, IfSome, unwrap_or, Result}
+use Rattle.std.specs.List.{list_all}
+use Rattle.std.specs.Char.{is_ascii_whitespace}
+use Rattle.std.specs.Io.KnownBytes.{IsAtEnd}
+use Rattle.std.specs.Io.BufRead.{take_through, drop_through, DropsThrough}
+use Rattle.hdr_log.specs.Grammar.{Entry, reading, after_front}
+use Rattle.hdr_convert.specs.Lines.{IsLineIn}
+use Rattle.hdr_convert.specs.declared.bytes.Form.TheVariants.{Plain}
+
+-- the next line is read, through its LF, or what is left; there is none at the end
+abbrev pub ReadsLine : Option (List ℕ) → Option (List ℕ) → Option (List ℕ) → Type 0
+ReadsLine old new None = IsAtEnd old × DropsThrough old new 10
+ReadsLine old new (Some line) = IfSome old (λ text. line ≡ take_through 10 text) × DropsThrough old new 10
+
+-- the lines of a text, each with its LF, which only the last may lack
+abbrev pub AreLines : List (List ℕ) → List ℕ → Type 0
+AreLines [] text = text ≡ []
+AreLines (line ∷ lines) text = (line ≡ take_through 10 text) × AreLines lines (drop_through 10 text)
+
+-- a line without a byte order mark, which only the first line may have
+abbrev pub without_mark : Bool → List ℕ → List ℕ
+without_mark is_first line = if is_first then unwrap_or (after_front (239 ∷ 187 ∷ 191 ∷ []) line) line else line
+
+-- a line with a plain histogram, which a line with another one is converted to
+abbrev pub IsPlainOf : List ℕ → List ℕ → Type 0
+IsPlainOf line plain = IsLineIn Plain line plain
+
+abbrev pub first_of : List (Result Entry ℕ) → Option (Result Entry ℕ)
+first_of [] = None
+first_of (item ∷ items) = Some item
+
+-- what a line says: nothing if it is blank
+unfoldable pub said_by : List ℕ → Option (Result Entry ℕ)
+said_by line = if list_all is_ascii_whitespace line then None else first_of (reading line)
