@@ -1,7 +1,7 @@
 # make: proves and builds the programs, target/hdr and target/hdrstat. make check: the gate.
 # make install: installs them below PREFIX, with manual pages, completions and the library for C. make dist: an archive of the
 # same, in dist. make install-c: installs the library for C alone.
-# make test: all rows and cases, in seconds; make test ROW=NAME or CASE=NAME: one of them. docs/TESTING.md says more.
+# make test: all rows and cases; make test ROW=NAME or CASE=NAME: one of them. docs/TESTING.md says more.
 # make edits: the wrong bodies alone, which the prover has to refuse: those of crates/*/edits and of crates/*/further-edits.
 # make quick: proves what has changed since the last commit, over the work that earlier checks kept, and plays the tests.
 # make bench: times beside the Rust crate hdrhistogram (compare/run says where that comes from).

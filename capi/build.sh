@@ -20,11 +20,26 @@ is_fresh() {
     [ -z "$(find $folders -name out -prune -o \( -name '*.rt' -o -name '*.antt' \) -newer "$proved" -print)" ]
 }
 
+# Prints every 30 seconds that the proof goes on, while this script runs.
+show_progress() {
+    seconds=0
+    while sleep 30 >/dev/null 2>&1 && kill -0 $$ 2>/dev/null; do
+        seconds=$((seconds + 30))
+        echo "capi/build.sh: hdr_c: proving for $seconds seconds" >&2
+    done
+}
+
 if ! is_fresh; then
+    echo "capi/build.sh: proving and building hdr_c (minutes at first, seconds after an edit)" >&2
+    show_progress &
+    ticker=$!
+    trap 'kill "$ticker" 2>/dev/null || :' EXIT
     (cd crates/hdr_c && rt lib) >"$out/build.log" 2>&1 || {
         tail -20 "$out/build.log" >&2
         exit 1
     }
+    kill "$ticker"
+    trap - EXIT
     touch "$proved"
 fi
 

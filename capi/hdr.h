@@ -16,9 +16,9 @@
  * A `struct hdr_histogram` is a handle. It is closed, or it owns a histogram. It is HDR_CLOSED to begin with.
  *
  * A call returns HDR_OK, or the status of an error. The histogram is unchanged on error; only `hdr_record_all` keeps
- * the values before the one in error. A closed handle may be passed to each call: the status is HDR_E_CLOSED, any other
- * result 0 or false. So a second `hdr_close` does nothing, and a handle may be closed after an error of `hdr_init`.
- * All numbers may be passed. Each call returns.
+ * the values before the one in error. A closed handle may be passed to each call. Calls that create its histogram do
+ * so; others return an error (HDR_E_CLOSED, unless another applies too), 0 or false. So a second `hdr_close` does
+ * nothing, and a handle may be closed after an error of `hdr_init`. Any number is a valid argument.
  *
  * The code behind these calls is proved for a caller that ensures the following. Nothing checks it, except HDR_CHECK:
  *
@@ -80,7 +80,7 @@ enum {
     HDR_E_HIGH_LESS_THAN_TWICE_LOW = 6, /* `high` is less than 2 * `low` */
     HDR_E_SIGFIG_EXCEEDS_MAX = 7,       /* `sigfig` exceeds 5 */
     HDR_E_SIGFIG_BEYOND_LOW = 8,        /* `low` and `sigfig` need more than 63 bits together */
-    HDR_E_COUNT_TOO_GREAT = 9,          /* a count would be negative, or an encoded count exceeds 64 bits */
+    HDR_E_COUNT_TOO_GREAT = 9,          /* a count would be negative */
     HDR_E_COUNT_NOT_SERIALIZABLE = 10,  /* a count is 2^63 or more */
     HDR_E_BUFFER_TOO_SMALL = 11,        /* the buffer is shorter than `needed` */
     HDR_E_ZERO_DENOMINATOR = 12,        /* the denominator of a quantile is 0 */
@@ -90,7 +90,7 @@ enum {
     HDR_E_UNSUPPORTED_FEATURE = 16,     /* the encoded histogram is compressed, shifted or scaled */
     HDR_E_INVALID_PARAMETERS = 17,      /* the encoded bounds and digits are invalid */
     HDR_E_ENCODED_ARRAY_TOO_LONG = 18,  /* an encoded count has no bin */
-    HDR_E_USIZE_TOO_SMALL = 19,         /* does not occur on 64-bit machines */
+    HDR_E_USIZE_TOO_SMALL = 19,         /* the encoded counts have 2^64 bins or more */
     HDR_E_SAME_HANDLE = 20,             /* both arguments are one handle */
     HDR_E_TIME_OUT_OF_RANGE = 21,       /* a start or a duration cannot be written, or nanos are 10^9 or more */
     HDR_E_INVALID_TAG = 22,             /* a tag is not UTF-8, or has a comma, a space or a line break */
@@ -107,6 +107,7 @@ struct hdr_fraction {
     uint64_t den;
 };
 
+/* The bounds and significant digits, the number of bins, of 8 bytes each, and whether the histogram grows. */
 struct hdr_shape {
     uint64_t low;
     uint64_t high;
@@ -143,15 +144,19 @@ struct hdr_interval {
     size_t tag_length;
 };
 
-/* Returns a static English text for a status, without a line break; also for a number that is no status. */
+/* Returns a static English text for a status, without a line break; also for a number that is not a status. */
 const char *hdr_strerror(hdr_status status);
 
-/* Returns the version of the library, such as "1.0.0". */
+/* Returns the version of the library, such as "2.0.0". */
 const char *hdr_version(void);
 
 /* Creating, copying and freeing. On HDR_OK the histogram that `h` had before is freed. */
 
-/* Creates a histogram of values up to `high` at least, in units of `low`, which does not grow. Errors: 2, 4 to 8. */
+/*
+ * Creates a histogram for values from 0 to at least `high` that does not grow. It keeps `sigfig` significant digits,
+ * 0 to 5, but may count values that differ by less than `low` together. `low` is 1 to UINT64_MAX / 2, and `high` at
+ * least 2 * `low`. Errors: 2, 4 to 8.
+ */
 hdr_status hdr_init(struct hdr_histogram *h, uint64_t low, uint64_t high, uint8_t sigfig) HDR_NONNULL;
 
 /* Creates a histogram that grows with the values recorded. Errors: 2, 7. */
@@ -240,7 +245,10 @@ hdr_status hdr_quantile_below(struct hdr_histogram *HDR_RESTRICT h, uint64_t val
 /* Returns the count of the class of `value`; of the last class if `value` has no bin. */
 uint64_t hdr_count_at(struct hdr_histogram *h, uint64_t value) HDR_NONNULL;
 
-/* Returns the sum of the counts from the class of `low` to that of `high`, UINT64_MAX if it is greater. */
+/*
+ * Returns the sum of the counts from the class of `low` to that of `high`, UINT64_MAX if it is greater. Returns 0 if
+ * the class of `low` is later.
+ */
 uint64_t hdr_count_between(struct hdr_histogram *h, uint64_t low, uint64_t high) HDR_NONNULL;
 
 /* Stores the bounds, the number of bins, and whether the histogram grows. Error: 1. */
@@ -264,7 +272,7 @@ hdr_status hdr_encode(struct hdr_histogram *HDR_RESTRICT h, uint8_t *HDR_RESTRIC
 
 /*
  * Decodes the histogram at the start of `bytes`, which replaces that of `h`. It does not grow. `taken` is the number of
- * bytes consumed, 0 on error. Errors: 2, 9, 14 to 18.
+ * bytes consumed, 0 on error. Errors: 2, 14 to 19.
  */
 hdr_status hdr_decode(struct hdr_histogram *HDR_RESTRICT h, const uint8_t *HDR_RESTRICT bytes, size_t length,
                       size_t *HDR_RESTRICT taken) HDR_NONNULL;
@@ -273,8 +281,8 @@ hdr_status hdr_decode(struct hdr_histogram *HDR_RESTRICT h, const uint8_t *HDR_R
 
 /*
  * Writes the line of one interval, with its line feed, at the start of `buf`. `needed` is its length, also with
- * HDR_E_BUFFER_TOO_SMALL, and 0 on other errors. Nanoseconds are less than 1000000000; milliseconds are written. A
- * `tag_length` of 0 means no tag. Errors: 1, 2, 10, 11, 21, 22.
+ * HDR_E_BUFFER_TOO_SMALL, and 0 on other errors. Nanoseconds are less than 1000000000; times are rounded to
+ * milliseconds. A `tag_length` of 0 means no tag. Errors: 1, 2, 10, 11, 21, 22.
  */
 hdr_status hdr_log_line(struct hdr_histogram *HDR_RESTRICT h, uint64_t start_seconds, uint32_t start_nanos,
                         uint64_t duration_seconds, uint32_t duration_nanos, const uint8_t *HDR_RESTRICT tag,
@@ -284,9 +292,10 @@ hdr_status hdr_log_line(struct hdr_histogram *HDR_RESTRICT h, uint64_t start_sec
 /*
  * Reads the next interval of a log, from the offset `interval->next` on. Its histogram replaces that of `h`, and does
  * not grow. After the last interval the status is HDR_LOG_END, and the interval is unchanged, so that a log that grows
- * can be read on. With HDR_E_INVALID_LINE `next` alone is set, to the offset of the line. On other errors the interval
- * is stored without its histogram, and the next call continues after it.
- * Errors: 2, 9, 14 to 18, 24, 25.
+ * can be read on. With HDR_E_INVALID_LINE `next` alone is set, to the offset of the line. A last line without a line
+ * feed is one. To read it once it is complete, pass the interval as it was before this call: base times before the line
+ * are not stored. On other errors the interval is stored without its histogram, and the next call continues after it.
+ * Errors: 2, 14 to 19, 24, 25.
  *     for (struct hdr_interval i = {0}; hdr_log_next(&h, log, length, &i) == HDR_OK;)
  */
 hdr_status hdr_log_next(struct hdr_histogram *HDR_RESTRICT h, const uint8_t *HDR_RESTRICT log, size_t length,

@@ -36,6 +36,7 @@ def build_wheel(wheel_directory: str, config_settings: object = None, metadata_d
     if LIBRARY.exists():
         files[f"{name}/{LIBRARY.name}"] = LIBRARY.read_bytes()
     metadata = {"Metadata-Version": "2.1", "Name": name, "Version": version, "Summary": _project("description")}
+    metadata["Requires-Python"] = _project("requires-python")
     files[f"{info}/METADATA"] = "".join(f"{key}: {text}\n" for key, text in metadata.items()).encode()
     files[f"{info}/WHEEL"] = f"Wheel-Version: 1.0\nGenerator: backend\nRoot-Is-Purelib: false\nTag: {tag}\n".encode()
     record = "".join(_record(path, content) for path, content in files.items()) + f"{info}/RECORD,,\n"

@@ -169,6 +169,17 @@ static hdr_status decoded(struct hdr_histogram *h, size_t at, uint8_t byte, size
     return hdr_decode(h, bytes, length, &taken);
 }
 
+/* The same header, and two runs of 2^63 empty bins. */
+static hdr_status decoded_runs(struct hdr_histogram *h)
+{
+    uint8_t bytes[58] = {0x1c, 0x84, 0x93, 0x13, 0, 0, 0, 18, 0, 0, 0, 0, 0, 0, 0, 0, 0, 0, 0, 0, 0,
+                         0, 0, 1, 0, 0, 0, 0, 0, 0, 0, 2, 0x3f, 0xf0};
+    size_t taken = 0;
+
+    memset(bytes + 40, 0xff, 18);
+    return hdr_decode(h, bytes, sizeof bytes, &taken);
+}
+
 static void decoding(void)
 {
     struct hdr_histogram h = HDR_CLOSED;
@@ -181,6 +192,7 @@ static void decoding(void)
     CHECK(decoded(&h, 32, 0x40, 42) == HDR_E_UNSUPPORTED_FEATURE);
     CHECK(decoded(&h, 15, 6, 42) == HDR_E_INVALID_PARAMETERS && decoded(&h, 23, 0, 42) == HDR_E_INVALID_PARAMETERS);
     CHECK(decoded(&h, 40, 0x13, 42) == HDR_E_ENCODED_ARRAY_TOO_LONG);
+    CHECK(decoded_runs(&h) == HDR_E_USIZE_TOO_SMALL);
     CHECK(hdr_len(&h) == 1 && hdr_count_at(&h, 1) == 1);
     hdr_close(&h);
 }

@@ -73,8 +73,7 @@ static void damage(struct bytes *b)
 
 static bool is_decode_status(hdr_status status)
 {
-    return status == HDR_OK || status == HDR_E_COUNT_TOO_GREAT ||
-           (status >= HDR_E_BYTES_END_EARLY && status <= HDR_E_ENCODED_ARRAY_TOO_LONG);
+    return status == HDR_OK || (status >= HDR_E_BYTES_END_EARLY && status <= HDR_E_USIZE_TOO_SMALL);
 }
 
 static uint64_t seen[HDR_E_INVALID_ARGUMENT + 1];

@@ -32,8 +32,9 @@ def error_text(failure):
     name, line, text, why = failure.text
     if why == "no column":
         names = ""
-        for it in text:
-            names += (", " if names else "") + it.decode("utf-8", "replace")
+        for it in text[:20]:
+            names += (", " if names else "") + shown(it)
+        names += ", ..." if len(text) > 20 else ""
         return f"{name}: no column `{line.decode()}`: give one of {names}, or a number from 1"
     return f"{name}: {line}: `{shown(text)}` {REASONS[why]}"
 
@@ -218,7 +219,7 @@ def summary_case(random, arguments, chosen, data, take):
     except Failure as failure:
         return Case(arguments, stdin, files, (b"", f"hdrstat: {error_text(failure)}\n".encode(), 1))
     if tally.skipped:
-        skipped = f"hdrstat: {tally.skipped} bad lines skipped\n".encode()
+        skipped = f"hdrstat: bad lines skipped: {tally.skipped}\n".encode()
     return Case(arguments, stdin, files, (FORMATS[name](figures(tally, wanted, shift)).encode(), skipped, 0))
 
 

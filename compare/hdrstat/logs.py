@@ -134,15 +134,16 @@ def of_old(data):
         raise Undecodable("incomplete")
     sigfig, low, high = (int.from_bytes(data[at : at + wide], "big") for at, wide in zip(places, (4, 8, 8)))
     length = int.from_bytes(data[4:8], "big") if version else len(data) - size
-    if length > len(data) - size:
+    if length > len(data) - size or length % width:
+        raise Undecodable("incomplete")
+    counters = [int.from_bytes(data[at : at + width], "big") for at in range(size, size + length, width)]
+    if not version and sum(counters) < int.from_bytes(data[24:32], "big"):
         raise Undecodable("incomplete")
     if version and (any(data[8:12]) or data[32:40] != RATIO):
         raise Undecodable("scaled")
     if not are_bounds(low, high, sigfig):
         raise Undecodable("bounds")
-    bins = min(bins_to(high, sigfig, low), length // width)
-    counters = [int.from_bytes(data[size + width * bin : size + width * (bin + 1)], "big") for bin in range(bins)]
-    if any(data[size + width * bins : size + length]) or any(it >= 1 << 63 for it in counters):
+    if any(counters[bins_to(high, sigfig, low) :]) or any(it >= 1 << 63 for it in counters):
         raise Undecodable("bounds")
     return v2({bin: count for bin, count in enumerate(counters) if count}, sigfig, low, high)
 
@@ -302,11 +303,14 @@ def closed(total):
 
 
 def sums(logs, sigfig, by_tag, tag=None, since=0, until=None):
-    """By tag, the sums of the chosen intervals of logs, in the order of first tags, how many intervals are coarser than sums, and decimals."""
+    """By tag, the sums of the chosen intervals of logs, in the order of first tags, how many intervals are coarser than sums, and decimals.
+
+    An empty `tag` chooses the intervals without one.
+    """
     found, coarser, decimals = {}, 0, None
     for name, data in logs.items():
         for it in intervals(name, data):
-            if (tag is not None and it.tag != tag) or it.start < since or (until is not None and it.start >= until):
+            if (tag is not None and it.tag != (tag or None)) or it.start < since or (until is not None and it.start >= until):
                 continue
             decimals = it.decimals if decimals is None else decimals
             if it.decimals != decimals:

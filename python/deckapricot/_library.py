@@ -19,6 +19,7 @@ OUT_OF_RANGE = 3
 BUFFER_TOO_SMALL = 11
 TOO_MANY_SAMPLES = 13
 LOG_END = 23
+INVALID_LINE = 24
 
 _CLASSES: dict[int, type[errors.HistogramError]] = {
     1: errors.ClosedError,
@@ -119,7 +120,8 @@ _CALLS: dict[str, tuple[Any, list[Any]]] = {
     "log_next": (c_uint32, [c_void_p, c_size_t, POINTER(IntervalCursor)]),
 }
 
-_LOCK = threading.Lock()
+# A garbage collection may run within a call, and close another histogram.
+_LOCK = threading.RLock()
 
 
 def locked(call: Callable[..., Any]) -> Callable[..., Any]:

@@ -7,14 +7,14 @@ import sys
 from array import array
 from collections.abc import Iterator
 from contextlib import contextmanager
-from ctypes import POINTER, byref, c_char_p, c_int, c_ssize_t, c_void_p, py_object
+from ctypes import POINTER, byref, c_char_p, c_int, c_size_t, c_ssize_t, c_void_p, py_object
 from decimal import Decimal
 from fractions import Fraction
 from numbers import Rational
 from operator import index
 from typing import Any, Union
 
-from ._library import U64_MAX
+from ._library import BUFFER_TOO_SMALL, U64_MAX, check
 
 Number = Union[int, float, str, Decimal, Fraction, Rational]
 
@@ -58,6 +58,18 @@ def memory(source: Any) -> Iterator[tuple[int, int]]:
         yield buffer.buf or NOTHING, buffer.len
     finally:
         _release_buffer(byref(buffer))
+
+
+def written(call: Any, *arguments: Any) -> bytes:
+    """Returns the bytes that a call writes. Its last arguments are a buffer, its length, and the number of bytes."""
+    needed = c_size_t(4096)
+    status = BUFFER_TOO_SMALL
+    while status == BUFFER_TOO_SMALL:
+        buffer = bytearray(needed.value)
+        with memory(buffer) as (address, length):
+            status = call(*arguments, address, length, byref(needed))
+    check(status)
+    return bytes(buffer[: needed.value])
 
 
 def words(values: Any) -> memoryview:

@@ -30,7 +30,9 @@ class CountError(HistogramError, ValueError):
 
 
 class DecodeError(HistogramError, ValueError):
-    """Bytes are not a V2 histogram."""
+    """Bytes are not a V2 histogram. `offset` is that of the line read, of a log."""
+
+    offset: Optional[int] = None
 
 
 class LogError(HistogramError, ValueError):

@@ -5,11 +5,11 @@ from __future__ import annotations
 from collections.abc import Iterator
 from ctypes import byref, c_size_t, c_uint64
 from fractions import Fraction
+from functools import partial
 from math import ceil
 from typing import Any, NamedTuple, Optional
 
 from ._library import (
-    BUFFER_TOO_SMALL,
     OUT_OF_RANGE,
     TOO_MANY_SAMPLES,
     U64_MAX,
@@ -21,7 +21,7 @@ from ._library import (
     error_of,
     lib,
 )
-from ._values import NOTHING, Number, exact, memory, word, words
+from ._values import Number, exact, memory, word, words, written
 from .errors import DecodeError
 
 _close = lib.close
@@ -38,8 +38,8 @@ class Class(NamedTuple):
 class Histogram:
     """Counts of integers from 0 to 2**64 - 1, to a number of significant digits.
 
-    `digits` is 0 to 5, and `low` the unit, 1 or more. With a `high`, values up to it at least can be recorded, and
-    others are errors. Without one the histogram grows.
+    `digits` is 0 to 5. Values that differ by less than `low`, which is 1 or more, may be counted together. With a
+    `high`, values from 0 to at least that can be recorded, and others are errors. Without one the histogram grows.
     """
 
     def __init__(self, digits: int = 3, low: int = 1, high: Optional[int] = None) -> None:
@@ -51,7 +51,8 @@ class Histogram:
         else:
             low = word(low, "low")
             check(lib.init(self._at, low, min(2 * low, U64_MAX) if high is None else word(high, "high"), digits))
-            self.auto_resize = high is None
+            if high is None:
+                self.auto_resize = True
 
     @classmethod
     def _closed(cls) -> Histogram:
@@ -73,14 +74,7 @@ class Histogram:
 
     def to_bytes(self) -> bytes:
         """Encodes the counts and bounds as V2 bytes, uncompressed. These do not say whether the histogram grows."""
-        needed = c_size_t()
-        status = lib.encode(self._at, NOTHING, 0, byref(needed))
-        while status == BUFFER_TOO_SMALL:
-            buffer = bytearray(needed.value)
-            with memory(buffer) as (address, length):
-                status = lib.encode(self._at, address, length, byref(needed))
-        check(status)
-        return bytes(buffer[: needed.value])
+        return written(lib.encode, self._at)
 
     def copy(self) -> Histogram:
         """Returns a copy, which is independent."""
@@ -94,7 +88,7 @@ class Histogram:
         return self.copy()
 
     def __reduce__(self) -> Any:
-        return _unpickled, (self.to_bytes(), self.auto_resize)
+        return partial(type(self).from_bytes, auto_resize=self.auto_resize), (self.to_bytes(),)
 
     def close(self) -> None:
         """Frees the memory. Other calls raise ClosedError then, or return 0."""
@@ -129,8 +123,8 @@ class Histogram:
     def record_many(self, values: Any) -> int:
         """Records each value of an iterable or buffer once, and returns their number.
 
-        Arrays of 64-bit integers are not copied: array.array, NumPy arrays, pandas Series. If a value is out of range,
-        those before it are recorded, and their number is `recorded` of the exception.
+        Arrays of 64-bit integers are not copied: array.array, NumPy arrays, pandas Series. If a value is out of range
+        or memory runs out, the values before it are recorded, and their number is `recorded` of the exception.
         """
         done = c_size_t()
         view = words(values)
@@ -138,9 +132,9 @@ class Histogram:
             status = lib.record_all(self._at, address, length // 8, byref(done))
         if status:
             error = error_of(status)
+            error.recorded = done.value  # type: ignore[attr-defined]
             if status == OUT_OF_RANGE:
                 error.args = (f"{error}: the value at index {done.value}",)
-                error.recorded = done.value  # type: ignore[attr-defined]
             raise error
         return done.value
 
@@ -183,7 +177,7 @@ class Histogram:
 
     @property
     def low(self) -> int:
-        """The lowest value that is told from 0."""
+        """The bound `low`: values that differ by less may be counted together."""
         return int(self._shape().low)
 
     @property
@@ -304,7 +298,3 @@ class Histogram:
 
 def _fraction(wide: WideFraction) -> Fraction:
     return Fraction((wide.num_high << 64) + wide.num_low, wide.den)
-
-
-def _unpickled(data: bytes, auto_resize: bool) -> Histogram:
-    return Histogram.from_bytes(data, auto_resize=auto_resize)

@@ -4,13 +4,13 @@ from __future__ import annotations
 
 import os
 from collections.abc import Iterator
-from ctypes import byref, c_size_t
+from ctypes import byref
 from dataclasses import dataclass
 from typing import Any, BinaryIO, Optional, Union
 
-from ._library import BUFFER_TOO_SMALL, LOG_END, IntervalCursor, Time, check, error_of, lib
-from ._values import NOTHING, Number, exact, memory
-from .errors import LogError
+from ._library import INVALID_LINE, LOG_END, IntervalCursor, Time, error_of, lib
+from ._values import Number, exact, memory, written
+from .errors import DecodeError, LogError
 from .histogram import Histogram
 
 SECOND = 1_000_000_000
@@ -53,8 +53,8 @@ def read_log(source: Any) -> Iterator[Interval]:
             return
         if status:
             error = error_of(status)
-            if isinstance(error, LogError):
-                error.offset = found.next
+            if isinstance(error, (DecodeError, LogError)):
+                error.offset = found.next if status == INVALID_LINE else data.rfind(b"\n", 0, found.next - 1) + 1
             raise error
         yield _interval(found, data, histogram)
 
@@ -79,7 +79,7 @@ class LogWriter:
 
     def __init__(self, target: Union[str, os.PathLike[str], BinaryIO]) -> None:
         self._owns = isinstance(target, (str, os.PathLike))
-        self._file: Any = open(target, "wb") if isinstance(target, (str, os.PathLike)) else target
+        self._file: Any = open(target, "wb") if self._owns else target
 
     def write(self, histogram: Histogram, start: Number, duration: Number, tag: Optional[str] = None) -> None:
         """Writes the line of an interval."""
@@ -106,12 +106,5 @@ def _nanos(seconds: Number) -> int:
 
 def _line(histogram: Histogram, start: int, duration: int, tag: bytes) -> bytes:
     times = (*divmod(start, SECOND), *divmod(duration, SECOND))
-    needed = c_size_t()
-    with memory(tag) as (tag_address, tag_length):
-        status = lib.log_line(histogram._at, *times, tag_address, tag_length, NOTHING, 0, byref(needed))
-        while status == BUFFER_TOO_SMALL:
-            buffer = bytearray(needed.value)
-            with memory(buffer) as (address, length):
-                status = lib.log_line(histogram._at, *times, tag_address, tag_length, address, length, byref(needed))
-    check(status)
-    return bytes(buffer[: needed.value])
+    with memory(tag) as (address, length):
+        return written(lib.log_line, histogram._at, *times, address, length)

@@ -5,12 +5,16 @@ from __future__ import annotations
 import copy
 import pickle
 import random
+import resource
 import sys
 import threading
 import unittest
 from array import array
+from collections.abc import Iterator
+from contextlib import contextmanager
 from decimal import Decimal
 from fractions import Fraction
+from pathlib import Path
 
 from deckapricot import (
     Class,
@@ -44,6 +48,22 @@ class Series:
 
     def to_numpy(self) -> object:
         return self.values
+
+
+class Named(Histogram):
+    """A subclass."""
+
+
+@contextmanager
+def little_memory() -> Iterator[None]:
+    """Lets allocations of more than 16 MiB fail."""
+    limits = resource.getrlimit(resource.RLIMIT_AS)
+    pages = int(Path("/proc/self/statm").read_text().split()[0])
+    resource.setrlimit(resource.RLIMIT_AS, (pages * resource.getpagesize() + 2**24, limits[1]))
+    try:
+        yield
+    finally:
+        resource.setrlimit(resource.RLIMIT_AS, limits)
 
 
 def is_shared(values: object) -> bool:
@@ -153,6 +173,12 @@ class Recording(unittest.TestCase):
         h.record_saturating(5000)
         self.assertEqual(h.count_at(1000), 1)
 
+    def test_out_of_memory(self) -> None:
+        h = Histogram(5)
+        with little_memory(), self.assertRaises(MemoryError) as context:
+            h.record_many([1, 2, 2**63, 3])
+        self.assertEqual((context.exception.recorded, len(h)), (2, 2))
+
     def test_bounds(self) -> None:
         for arguments in ((3, 0, 10), (3, 10, 19), (6, 1, 2), (300, 1, 2), (5, 2**62, 2**64 - 1), (7,), (3, 2**63)):
             with self.assertRaises(InvalidBounds):
@@ -180,6 +206,9 @@ class Objects(unittest.TestCase):
         for bad in (b"", data[:-1], data + b"x", b"x" + data[1:]):
             with self.assertRaises(DecodeError):
                 Histogram.from_bytes(bad)
+        h.record_many(range(1, 10**6, 100))
+        self.assertGreater(len(h.to_bytes()), len(data))
+        self.assertEqual(Histogram.from_bytes(h.to_bytes()), h)
         h.record(1, 2**63)
         with self.assertRaises(CountError):
             h.to_bytes()
@@ -192,6 +221,9 @@ class Objects(unittest.TestCase):
                 k.record(4)
                 self.assertNotEqual(k, h)
         self.assertNotEqual(Histogram(), 3)
+        named = Named(2)
+        for k in (copy.copy(named), copy.deepcopy(named), pickle.loads(pickle.dumps(named))):
+            self.assertEqual((type(k), k.digits), (Named, 2))
         with self.assertRaises(TypeError):
             hash(Histogram())
 
@@ -249,6 +281,11 @@ class Threads(unittest.TestCase):
 
     def test_lock_without_that_of_the_interpreter(self) -> None:
         self.assertEqual(locked(divmod)(7, 2), (3, 1))
+        # A garbage collection within a call may close another histogram.
+        nested = threading.Thread(target=locked(locked(Histogram().close)), daemon=True)
+        nested.start()
+        nested.join(10)
+        self.assertFalse(nested.is_alive())
 
 
 if __name__ == "__main__":

@@ -52,12 +52,15 @@ class Logs(unittest.TestCase):
 
     def test_errors(self) -> None:
         good = b"1.0,1.0,1.0," + FIELD + b"\n"
-        with self.assertRaises(LogError) as context:
-            list(read_log(good + b"1,1\n"))
-        self.assertEqual((context.exception.offset, context.exception.status), (len(good), 24))
-        for log, error in ((b"1.0,1.0,1.0,?\n", LogError), (good[:-1], LogError), (b"1.0,1.0,1.0,HIST\n", DecodeError)):
-            with self.assertRaises(error):
-                list(read_log(log))
+        lines = [(b"1,1\n", LogError, 24), (good[:-1], LogError, 24), (b"1.0,1.0,1.0,?\n", LogError, 25)]
+        lines += [(b"1.0,1.0,1.0,HIST\n", DecodeError, 14), (b"1.0,1.0,1.0,AAAAAAAA\n", DecodeError, 15)]
+        for line, error, status in lines:
+            for before in (b"", good, good + b"#[BaseTime: 1.0 (seconds since epoch)]\n"):
+                with self.assertRaises(error) as context:
+                    list(read_log(before + line))
+                self.assertEqual((context.exception.offset, context.exception.status), (len(before), status))
+
+    def test_errors_of_writing(self) -> None:
         log = LogWriter(io.BytesIO())
         for arguments in ((-1, 0), (0, -1), (2**64, 0), (0, 0, "a b"), (0, 0, "a,b"), (0, 0, "a\n")):
             with self.assertRaises(LogError):

@@ -29,8 +29,9 @@ impl Model for Scale {
 }
 
 impl Scale {
-    /// Returns the scale whose classes keep `sigfig` significant digits of values from `low` on. Returns `None` if `low` is 0,
-    /// if `sigfig` is above 5, or if unit and digits together exceed 63 bits, which they never do for a `low` below 2^46.
+    /// Returns the scale whose classes keep `sigfig` significant digits, or are as wide as the greatest power of two up to `low`.
+    /// Returns `None` if `low` is 0, if `sigfig` is above 5, or if unit and digits together exceed 63 bits, which they never do for
+    /// a `low` below 2^46.
     pub fn new(low: u64, sigfig: u8) -> Option<Scale>
         ensures scale { SomeIff result (HasScale low sigfig) (resolution_of low sigfig) }
         ensures unit { IfSome result (λ s. IsLeast (λ u. low < 2 ^ (u + 1)) s.unit) }

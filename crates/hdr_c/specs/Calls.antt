@@ -93,7 +93,8 @@ abbrev pub Subtracts : ℕ → Option Plain → Option Plain → Option Plain �
 Subtracts status None other new = (status ≡ 1) × (new ≡ None)
 Subtracts status (Some old) None new = (status ≡ 1) × (new ≡ Some old)
 Subtracts status (Some old) (Some other) new =
-    ((status ≡ 0) × (found : Plain) × (new ≡ Some found) × (0 < other.total → IsDifference old other found))
+    ((status ≡ 0) × (found : Plain) × (new ≡ Some found) × (other.total ≡ 0 → found ≡ old)
+    × (0 < other.total → IsDifference old other found))
     ⊎ ((e : SubtractionError) × (status ≡ subtraction_status e) × IsSubtractionError old other e × (new ≡ Some old))
 
 -- whether two histograms are equal, and false if a handle is closed

@@ -12,7 +12,7 @@ use Rattle.hdr_c.specs.declared.interval.Found as code
 use Rattle.hdr_c.specs.declared.interval.Found.TheVariants as code_found
 use Rattle.hdr_c.specs.declared.interval.Interval as c
 use Rattle.hdr_c.specs.Status.{field_status}
-use Rattle.hdr_c.specs.Times.{as_time, base_of, IsInterval}
+use Rattle.hdr_c.specs.Times.{as_time, base_of, IsInterval, AreNanosInRange}
 
 -- what lines have up to their first interval: none, an invalid line at an offset, or an interval by the offset of its
 -- line and of the next, the base time, and what the line says
@@ -43,6 +43,12 @@ abbrev pub view_of_found : code.Found → Found
 view_of_found code_found.End = End
 view_of_found (code_found.Invalid at) = Invalid at
 view_of_found (code_found.Interval at next base found) = Line at next (option_map as_time base) (view_of_interval found)
+
+-- the nanoseconds of the base time, if an interval with one is found, are less than a second
+abbrev pub AreBaseNanosInRange : code.Found → Type 0
+AreBaseNanosInRange code_found.End = Unit {0}
+AreBaseNanosInRange (code_found.Invalid at) = Unit {0}
+AreBaseNanosInRange (code_found.Interval at next base found) = AreNanosInRange base
 
 -- the status and the interval that a call returns, and the histogram of the handle after it
 abbrev pub IsNext : ℕ → Found → c.Interval → c.Interval → Option Plain → Option Plain → Type 0

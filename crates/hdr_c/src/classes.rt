@@ -33,7 +33,7 @@ fn next_nonempty(histogram: &Histogram<u64>, from: usize) -> Option<usize>
 #[unsafe(no_mangle)]
 pub extern "C" fn hdr_next_class(h: &mut Handle, alloc: Global, class: &mut Class) -> bool
     ensures { Reads (held h.old) (held h.new) (λ p. IsNextClass p result class.old class.new)
-        (result ≡ false) }
+        ((result ≡ false) × (class.new ≡ class.old)) }
 {
     let Some(boxed) = h.take(alloc) else {
         return false;

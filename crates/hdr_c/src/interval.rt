@@ -1,10 +1,10 @@
 //! What a log's reader returns of an interval.
 
-ghost use Rattle.std.specs.Prelude.{◌≡◌};
+ghost use Rattle.std.specs.Prelude.{◌≡◌, ◌<◌};
 ghost use Rattle.std.specs.Option.{option_map};
 ghost use Rattle.std.specs.Duration.{as_nanos};
 ghost use Rattle.hdr_log.specs.Reading.{view_of_interval};
-ghost use Rattle.hdr_c.specs.Times.{as_time, base_of, IsInterval};
+ghost use Rattle.hdr_c.specs.Times.{as_time, base_of, IsInterval, AreNanosInRange};
 
 use hdrhistogram::serialization::interval_log::IntervalLogHistogram;
 use std::time::Duration;
@@ -47,7 +47,8 @@ const BEFORE_TAG: usize = 4;
 
 impl Time {
     pub(crate) fn new(time: Duration) -> Time
-        ensures { as_time result ≡ as_nanos time }
+        ensures length { as_time result ≡ as_nanos time }
+        ensures nanos { result.nanos < 1_000_000_000 }
     {
         Time {
             seconds: time.as_secs(),
@@ -59,7 +60,8 @@ impl Time {
 impl Interval {
     /// Returns the base time, if it has one.
     pub(crate) fn base(&self) -> Option<Time>
-        ensures { option_map as_time result ≡ base_of self.now }
+        ensures time { option_map as_time result ≡ base_of self.now }
+        ensures nanos { self.now.base.nanos < 1_000_000_000 → AreNanosInRange result }
     {
         if self.has_base { Some(self.base) } else { None }
     }
@@ -71,7 +73,8 @@ impl Interval {
         base: Option<Time>,
         found: &IntervalLogHistogram<'_>,
     ) -> Interval
-        ensures { IsInterval at next (option_map as_time base) (view_of_interval found.now) result }
+        ensures interval { IsInterval at next (option_map as_time base) (view_of_interval found.now) result }
+        ensures base_nanos { AreNanosInRange base → result.base.nanos < 1_000_000_000 }
     {
         let tag = found.tag();
         Interval {

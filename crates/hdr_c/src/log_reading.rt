@@ -1,11 +1,11 @@
 //! The intervals of a log in the caller's memory, one after another.
 
-ghost use Rattle.std.specs.Prelude.{◌≡◌, ◌≤◌, drop, length};
+ghost use Rattle.std.specs.Prelude.{◌≡◌, ◌≤◌, ◌<◌, drop, length};
 ghost use Rattle.std.specs.Option.{option_map};
 ghost use Rattle.hdr_log.specs.Parts.{parts};
 ghost use Rattle.hdr_c.specs.Calls.{held};
-ghost use Rattle.hdr_c.specs.Logs.{first_from, view_of_found, ReadsNext};
-ghost use Rattle.hdr_c.specs.Times.{as_time};
+ghost use Rattle.hdr_c.specs.Logs.{first_from, view_of_found, AreBaseNanosInRange, ReadsNext};
+ghost use Rattle.hdr_c.specs.Times.{as_time, AreNanosInRange};
 
 use crate::handle::Handle;
 use crate::interval::{Found, Interval, Time};
@@ -19,8 +19,9 @@ use std::alloc::Global;
 /// Returns the first interval of the lines of `log` from the byte `from` on.
 fn first_interval(log: &[u8], from: usize, base: Option<Time>) -> Found<'_>
     requires { from ≤ length log.now }
-    ensures { view_of_found result ≡ first_from from (option_map as_time base)
+    ensures found { view_of_found result ≡ first_from from (option_map as_time base)
         (parts 10 (drop from log.now)) }
+    ensures base_nanos { AreNanosInRange base → AreBaseNanosInRange result }
 {
     let mut at = from;
     let mut base = base;
@@ -54,7 +55,8 @@ pub extern "C" fn hdr_log_next(
     log: &[u8],
     interval: &mut Interval,
 ) -> u32
-    ensures { ReadsNext result log.now interval.old interval.new (held h.old) (held h.new) }
+    ensures read { ReadsNext result log.now interval.old interval.new (held h.old) (held h.new) }
+    ensures base_nanos { interval.old.base.nanos < 1_000_000_000 → interval.new.base.nanos < 1_000_000_000 }
 {
     let from = interval.next.min(log.len());
     let (at, next, base, found) = match first_interval(log, from, interval.base()) {

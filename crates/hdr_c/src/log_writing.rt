@@ -11,7 +11,7 @@ ghost use Rattle.hdr_c.specs.Lines.{IsLineError, PutsLine, tag_at, time_at};
 
 use crate::handle::Handle;
 use crate::status::{CLOSED, INVALID_TAG, TIME_OUT_OF_RANGE, of_line_error};
-use crate::v2_bytes::put;
+use crate::v2_bytes::copy_to;
 use hdr_log::parts::text;
 use hdrhistogram::Histogram;
 use hdrhistogram::serialization::interval_log::{IntervalLogWriter, IntervalLogWriterError, Tag};
@@ -92,7 +92,7 @@ pub extern "C" fn hdr_log_line(
         return CLOSED;
     };
     let status = match line(alloc, &boxed.histogram, start, duration, tag) {
-        Ok(line) => put(&line, buf, needed),
+        Ok(line) => copy_to(&line, buf, needed),
         Err(error) => of_line_error(&error),
     };
     h.put(boxed);

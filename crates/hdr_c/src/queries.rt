@@ -3,7 +3,7 @@
 ghost use Rattle.std.specs.Prelude.{◌≡◌, ◌-◌, ◌^◌, min, slice_index};
 ghost use Rattle.hdr_model.specs.Plain.{max_of, min_nz_of, min_of};
 ghost use Rattle.hdr_model.specs.Quantiles.{value_at_quantile};
-ghost use Rattle.hdr_model.specs.Statistics.{held_bin, mean, quantile_below, sum_between};
+ghost use Rattle.hdr_model.specs.Statistics.{bin_or_last, mean, quantile_below, sum_between};
 ghost use Rattle.hdr_c.specs.Calls.{Reads, held};
 ghost use Rattle.hdr_c.specs.Fractions.{IsMean, IsQuantile, IsFraction, IsShape};
 
@@ -33,14 +33,14 @@ pub struct Shape {
 }
 
 /// The number of values of a `u64`.
-const HALF: u128 = 1 << 64;
+const U64_VALUES: u128 = 1 << 64;
 
-fn halves(fraction: &Fraction) -> WideFraction
+fn wide_fraction(fraction: &Fraction) -> WideFraction
     ensures { IsFraction fraction.now result }
 {
     WideFraction {
-        num_low: (fraction.num % HALF) as u64,
-        num_high: (fraction.num / HALF) as u64,
+        num_low: (fraction.num % U64_VALUES) as u64,
+        num_high: (fraction.num / U64_VALUES) as u64,
         den: u64::try_from(fraction.den).unwrap_or(u64::MAX),
     }
 }
@@ -100,7 +100,8 @@ pub extern "C" fn hdr_max(h: &mut Handle, alloc: Global) -> u64
 /// Stores the mean of the samples, each taken as the middle of its class.
 #[unsafe(no_mangle)]
 pub extern "C" fn hdr_mean(h: &mut Handle, alloc: Global, fraction: &mut WideFraction) -> u32
-    ensures { Reads (held h.old) (held h.new) (λ p. IsMean result (mean p) fraction.old fraction.new) (result ≡ 1) }
+    ensures { Reads (held h.old) (held h.new)
+        (λ p. IsMean result (mean p) fraction.old fraction.new) ((result ≡ 1) × (fraction.new ≡ fraction.old)) }
 {
     let Some(boxed) = h.take(alloc) else {
         return CLOSED;
@@ -109,7 +110,7 @@ pub extern "C" fn hdr_mean(h: &mut Handle, alloc: Global, fraction: &mut WideFra
     h.put(boxed);
     match found {
         Some(mean) => {
-            *fraction = halves(&mean);
+            *fraction = wide_fraction(&mean);
             OK
         }
         None => TOO_MANY_SAMPLES,
@@ -126,7 +127,8 @@ pub extern "C" fn hdr_value_at_quantile(
     value: &mut u64,
 ) -> u32
     ensures { Reads (held h.old) (held h.new) (λ p. IsQuantile result den value.old value.new
-        (value_at_quantile p (record { num = num; den = den }))) (result ≡ 1) }
+        (value_at_quantile p (record { num = num; den = den })))
+        ((result ≡ 1) × (value.new ≡ value.old)) }
 {
     let Some(boxed) = h.take(alloc) else {
         return CLOSED;
@@ -151,12 +153,13 @@ pub extern "C" fn hdr_quantile_below(
     fraction: &mut WideFraction,
 ) -> u32
     ensures { Reads (held h.old) (held h.new)
-        (λ p. (result ≡ 0) × IsFraction (quantile_below p value) fraction.new) (result ≡ 1) }
+        (λ p. (result ≡ 0) × IsFraction (quantile_below p value) fraction.new)
+        ((result ≡ 1) × (fraction.new ≡ fraction.old)) }
 {
     let Some(boxed) = h.take(alloc) else {
         return CLOSED;
     };
-    *fraction = halves(&boxed.histogram.quantile_below(value));
+    *fraction = wide_fraction(&boxed.histogram.quantile_below(value));
     h.put(boxed);
     OK
 }
@@ -165,7 +168,7 @@ pub extern "C" fn hdr_quantile_below(
 #[unsafe(no_mangle)]
 pub extern "C" fn hdr_count_at(h: &mut Handle, alloc: Global, value: u64) -> u64
     ensures { Reads (held h.old) (held h.new)
-        (λ p. result ≡ slice_index p.counts (held_bin p value)) (result ≡ 0) }
+        (λ p. result ≡ slice_index p.counts (bin_or_last p value)) (result ≡ 0) }
 {
     let Some(boxed) = h.take(alloc) else {
         return 0;
@@ -192,7 +195,8 @@ pub extern "C" fn hdr_count_between(h: &mut Handle, alloc: Global, low: u64, hig
 /// Stores the bounds, the number of bins, and whether the histogram grows.
 #[unsafe(no_mangle)]
 pub extern "C" fn hdr_shape(h: &mut Handle, alloc: Global, shape: &mut Shape) -> u32
-    ensures { Reads (held h.old) (held h.new) (λ p. (result ≡ 0) × IsShape p shape.new) (result ≡ 1) }
+    ensures { Reads (held h.old) (held h.new) (λ p. (result ≡ 0) × IsShape p shape.new)
+        ((result ≡ 1) × (shape.new ≡ shape.old)) }
 {
     let Some(boxed) = h.take(alloc) else {
         return CLOSED;

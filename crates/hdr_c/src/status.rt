@@ -117,6 +117,7 @@ pub(crate) fn of_encode_error(error: &V2SerializeError) -> u32
     match error {
         V2SerializeError::CountNotSerializable => COUNT_NOT_SERIALIZABLE,
         V2SerializeError::UsizeTypeTooSmall => USIZE_TOO_SMALL,
+        // Cannot occur: nothing is written to a stream.
         V2SerializeError::IoError(_) => USIZE_TOO_SMALL,
         V2SerializeError::OutOfMemory => OUT_OF_MEMORY,
     }
@@ -152,6 +153,7 @@ pub(crate) fn of_line_error(error: &IntervalLogWriterError<V2SerializeError>) ->
 {
     match error {
         IntervalLogWriterError::SerializeError(cause) => of_encode_error(cause),
+        // The writer is a `Vec`, whose only error is a failed allocation.
         IntervalLogWriterError::IoError(_) => OUT_OF_MEMORY,
         IntervalLogWriterError::TimeOutOfRange => TIME_OUT_OF_RANGE,
         IntervalLogWriterError::OutOfMemory => OUT_OF_MEMORY,

@@ -10,7 +10,7 @@ use hdrhistogram::serialization::{DeserializeError, Deserializer, V2Serializer};
 use std::alloc::Global;
 
 /// Copies `bytes` to the start of `buf`. `needed` is their number, also if `buf` is too short.
-pub(crate) fn put(bytes: &[u8], buf: &mut [u8], needed: &mut usize) -> u32
+pub(crate) fn copy_to(bytes: &[u8], buf: &mut [u8], needed: &mut usize) -> u32
     ensures { Puts (λ text. text ≡ bytes.now) result buf.old buf.new needed.new }
 {
     let len = bytes.len();
@@ -40,7 +40,7 @@ pub extern "C" fn hdr_encode(
     };
     let mut serializer = V2Serializer::new(alloc);
     let status = match serializer.to_bytes(&boxed.histogram) {
-        Ok(bytes) => put(bytes, buf, needed),
+        Ok(bytes) => copy_to(bytes, buf, needed),
         Err(error) => of_encode_error(&error),
     };
     h.put(boxed);

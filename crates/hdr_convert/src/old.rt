@@ -116,7 +116,9 @@ fn eight_at(bytes: &[u8], place: usize) -> u64
     BigEndian::read_u64(&bytes[place..])
 }
 
-/// Reads bytes of version 0. The counters are the rest of the bytes.
+/// Reads bytes of version 0. The counters are the rest of the bytes, and their sum is the total or more: samples may be recorded
+/// after the total was taken.
+#[tactic(auto, unfolding(crate::specs::Old::IsWidth))]
 fn version_0(bytes: &[u8], width: usize) -> Result<OldHistogram<'_>, ConvertError>
     requires width { IsWidth width }
     requires starts { StartsAs 0x1c849308 width bytes.now }
@@ -127,6 +129,9 @@ fn version_0(bytes: &[u8], width: usize) -> Result<OldHistogram<'_>, ConvertErro
         return Err(ConvertError::Incomplete);
     }
     let (_, counters) = bytes.split_at(HEADER_0_LEN);
+    if counters.len() % width != 0 || sum_of(counters, width) < eight_at(bytes, 24) {
+        return Err(ConvertError::Incomplete);
+    }
     Ok(OldHistogram {
         low: eight_at(bytes, 8),
         high: eight_at(bytes, 16),
@@ -136,7 +141,20 @@ fn version_0(bytes: &[u8], width: usize) -> Result<OldHistogram<'_>, ConvertErro
     })
 }
 
+/// Returns the sum of counters, or 2^64 - 1 if that is less.
+#[tactic(auto, unfolding(crate::specs::Old::IsWidth))]
+fn sum_of(counters: &[u8], width: usize) -> u64
+    requires { IsWidth width }
+{
+    let mut sum = 0u64;
+    for counter in counters.chunks_exact(width) {
+        sum = sum.saturating_add(BigEndian::read_uint(counter, width));
+    }
+    sum
+}
+
 /// Reads bytes of version 1. Bytes after the counters are ignored.
+#[tactic(auto, unfolding(crate::specs::Old::IsWidth))]
 fn version_1(bytes: &[u8], width: usize) -> Result<OldHistogram<'_>, ConvertError>
     requires width { IsWidth width }
     requires starts { StartsAs 0x1c849301 width bytes.now }
@@ -148,7 +166,7 @@ fn version_1(bytes: &[u8], width: usize) -> Result<OldHistogram<'_>, ConvertErro
     }
     let len = four_at(bytes, 4) as usize;
     let rest = &bytes[HEADER_1_LEN..];
-    if len > rest.len() {
+    if len > rest.len() || len % width != 0 {
         return Err(ConvertError::Incomplete);
     }
     if four_at(bytes, 8) != 0 || eight_at(bytes, 32) != RATIO {

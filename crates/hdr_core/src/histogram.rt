@@ -60,8 +60,8 @@ impl<T: Counter> Model for Histogram<T> {
 
 impl<T: Counter> Histogram<T> {
     /// Returns an empty histogram for values from 0 to at least `high` that does not grow. It keeps
-    /// `sigfig` significant digits of values from `low` on. `low` is rounded down to a power of
-    /// two, the unit.
+    /// `sigfig` significant digits, but may count values that differ by less than `low` together.
+    /// `low` is rounded down to a power of two, the unit.
     ///
     /// `low` is 1 to `u64::MAX / 2`, `high` at least twice `low`, `sigfig` 0 to 5, and unit and
     /// digits fit 63 bits. Returns an error for the first of these that does not hold: `LowIsZero`
@@ -141,7 +141,7 @@ impl<T: Counter> Histogram<T> {
         self.counts.len()
     }
 
-    /// The lowest value whose significant digits are kept.
+    /// The bound `low`: values that differ by less may be counted together.
     pub fn low(&self) -> u64
         ensures { result ≡ self.now.low }
     {

@@ -76,7 +76,6 @@ impl Marks {
     }
 
     /// Makes `class` the top mark if it is later, and the lower mark if it is earlier and not class 0.
-    /// Mostly neither is so, and one comparison for each decides it.
     #[inline(always)]
     pub(crate) fn widen(&mut self, class: usize)
         requires { class < 2 ^ 32 }

@@ -86,9 +86,9 @@ pub at-none : (b : ℕ) → IsAt b 0 0 0 18446744073709551615 []
 at-none b = record { rest = λ j le. refl; from = omega arith; to = omega arith; at_hand = omega arith; within = omega arith; some = omega arith; low = λ j some lt. refl; order = λ lt. absurd (omega (arith, lt)) }
 
 -- the list was zero-filled
-pub open-cover : (greatest b len capacity room more : ℕ) (ns ms ss : List ℕ) (shift : Option ℕ) → AreOpen greatest b len capacity ns ss shift
+pub open-zero_fill_to : (greatest b len capacity room more : ℕ) (ns ms ss : List ℕ) (shift : Option ℕ) → AreOpen greatest b len capacity ns ss shift
     → ms ≡ ns ++ replicate more 0 → length ms ≤ len → len ≤ room → AreOpen greatest b len room ms ss shift
-open-cover greatest b len capacity room more ns ms ss shift h e within enough = record {
+open-zero_fill_to greatest b len capacity room more ns ms ss shift h e within enough = record {
   some = h.some;
   few = h.few;
   whole = h.whole;
@@ -113,8 +113,8 @@ zeros-at more ns ms j e =
     (λ (ge : length ns ≤ j). get_or-append_right ns (replicate more 0) (length ns) j 0 refl ge ∙ zero-at more (j - length ns) ∙ sym (get_or_past ns j 0 ge))
     (cases_lt j (length ns))
 
-pub at-cover : (b k next end first more : ℕ) (ns ms : List ℕ) → IsAt b k next end first ns → ms ≡ ns ++ replicate more 0 → IsAt b k next end first ms
-at-cover b k next end first more ns ms h e =
+pub at-zero_fill_to : (b k next end first more : ℕ) (ns ms : List ℕ) → IsAt b k next end first ns → ms ≡ ns ++ replicate more 0 → IsAt b k next end first ms
+at-zero_fill_to b k next end first more ns ms h e =
     let longer : length ns ≤ length ms = omega (arith, ap (length {A = ℕ}) e, length-append ns (replicate more 0)) in
     record {
       rest = λ j le. zeros-at more ns ms j e ∙ h.rest j le;

@@ -16,8 +16,7 @@ const PIECE: usize = 128;
 /// Counters that are being set, seen as `Counts` are.
 ///
 /// Their capacity is allocated at the start. They are zero-filled piece by piece, as counters at
-/// higher indices are set. Counters that are set in order cost a store and an addition each: the
-/// section is found once.
+/// higher indices are set.
 #[derive(Debug, Drop)]
 pub struct CountsBuilder<T: Counter> {
     /// The first counters; those after them are 0.
@@ -153,7 +152,7 @@ impl<T: Counter> CountsBuilder<T> {
     {
         let k = quotient(i, self.section, self.shift);
         let end = (k + 1) * self.section;
-        cover(&mut self.counters, end, self.len);
+        zero_fill_to(&mut self.counters, end, self.len);
         keep_sum(&mut self.sums, self.current, self.sum);
         let new = value.as_u64();
         let old = self.counters[i].as_u64();
@@ -198,7 +197,7 @@ impl<T: Counter> CountsBuilder<T> {
         ensures value { result ≡ self }
         ensures fit { All (λ n. n ≤ T.greatest) self.numbers }
     {
-        fill_up(&mut self.counters, self.len);
+        zero_fill(&mut self.counters, self.len);
         keep_sum(&mut self.sums, self.current, self.sum);
         Counts {
             counters: self.counters,
@@ -246,7 +245,7 @@ fn end_after(i: usize, end: usize) -> usize
 
 /// Zero-fills `counters` up to index `end`, and up to `PIECE` further, within `len`. Does nothing
 /// if they are that long.
-fn cover<T: Counter>(counters: &mut Vec<T>, end: usize, len: usize)
+fn zero_fill_to<T: Counter>(counters: &mut Vec<T>, end: usize, len: usize)
     requires inside { end ≤ len }
     requires at_most { len ≤ most_bins }
     requires within { length counters.old.items ≤ len }
@@ -260,12 +259,12 @@ fn cover<T: Counter>(counters: &mut Vec<T>, end: usize, len: usize)
     ensures capacity { len ≤ vec_capacity counters.new }
 {
     if end > counters.len() {
-        fill_up(counters, len.min(end + PIECE));
+        zero_fill(counters, len.min(end + PIECE));
     }
 }
 
 /// Zero-fills `counters` to the length `len`, which is within the capacity.
-fn fill_up<T: Counter>(counters: &mut Vec<T>, len: usize)
+fn zero_fill<T: Counter>(counters: &mut Vec<T>, len: usize)
     requires within { length counters.old.items ≤ len }
     requires capacity { len ≤ vec_capacity counters.old }
     ensures numbers { map T.number counters.new.items ≡ with_zeros

@@ -25,7 +25,8 @@ use std::marker::Model;
 ///
 /// The sum of each section is kept. If blocks have fewer than 32 counters, all counters are one
 /// section. Otherwise a block is one section, or, from 1,024 counters on, several of equal length.
-/// Each counter takes the memory of a `T`, and each section 16 bytes. There are at most 6,291,456 counters, as many as the largest histogram has bins.
+/// Each counter takes the memory of a `T`, and each section 16 bytes. There are at most 6,291,456
+/// counters, as many as the largest histogram has bins.
 #[derive(Debug, Drop)]
 pub struct Counts<T: Counter> {
     counters: Vec<T>,

@@ -71,7 +71,7 @@ impl<'a, T: Counter> Search<'a, T> {
 }
 
 /// The number of counters that are added up at once.
-const FEW: usize = 64;
+const LANES: usize = 64;
 
 /// Returns the sum of the sums of several sections.
 pub(crate) fn sum_of_sums(sums: &[u128]) -> u128
@@ -111,7 +111,7 @@ pub(crate) fn position_of_rank_counted<T: Counter>(
 }
 
 /// Returns the first index at which the running sum reaches `rest`, or `None` if there is none.
-/// `whole` is the sum of all counters. If it fits a `u64`, `FEW` counters are added up at once.
+/// `whole` is the sum of all counters. If it fits a `u64`, `LANES` counters are added up at once.
 pub(crate) fn position_in_section<T: Counter>(
     counters: &[T],
     rest: u64,
@@ -124,13 +124,14 @@ pub(crate) fn position_in_section<T: Counter>(
         (IsFirstToReach (map T.number counters.now) rest) }
 {
     if whole <= u128::from(u64::MAX) {
-        by_few(counters, rest)
+        by_lanes(counters, rest)
     } else {
         one_by_one(counters, rest)
     }
 }
 
-fn by_few<T: Counter>(counters: &[T], mut rest: u64) -> Option<usize>
+/// As `position_in_section`, for a sum that fits a `u64`.
+fn by_lanes<T: Counter>(counters: &[T], mut rest: u64) -> Option<usize>
     requires nonzero { 1 ≤ rest }
     requires at_most { length counters.now ≤ most_bins }
     requires fits { sum (map T.number counters.now) < 2 ^ 64 }
@@ -138,18 +139,19 @@ fn by_few<T: Counter>(counters: &[T], mut rest: u64) -> Option<usize>
         (IsFirstToReach (map T.number counters.now) rest) }
 {
     let mut from = 0usize;
-    while counters.len() - from > FEW {
-        let sum = short_sum(&counters[from..from + FEW]);
+    while counters.len() - from > LANES {
+        let sum = short_sum(&counters[from..from + LANES]);
         if sum >= rest {
             break;
         }
         rest -= sum;
-        from += FEW;
+        from += LANES;
     }
     let place = one_by_one(&counters[from..], rest)?;
     Some(from + place)
 }
 
+/// As `position_in_section`, counter by counter.
 fn one_by_one<T: Counter>(counters: &[T], mut rest: u64) -> Option<usize>
     requires { 1 ≤ rest }
     ensures { MatchOption result (sum (map T.number counters.now) < rest)

@@ -11,10 +11,13 @@ pub enum PageError {
     /// The log at this index is invalid.
     #[error("{cause}")]
     Input { log: usize, cause: InputError },
+    /// A unit is given, and the values have decimals of it.
+    #[error("the values have {0} decimals; without --unit they are shown in units of the last one")]
+    Decimals(u32),
     #[error("{0}")]
-    Creation(#[from] CreationError),
+    Creation(CreationError),
     #[error("{0}")]
-    Addition(#[from] AdditionError),
+    Addition(AdditionError),
     #[error("out of memory")]
     OutOfMemory,
 }
@@ -25,6 +28,24 @@ impl From<AllocError> for PageError {
     }
 }
 
+impl From<CreationError> for PageError {
+    fn from(error: CreationError) -> PageError {
+        match error {
+            CreationError::OutOfMemory => PageError::OutOfMemory,
+            error => PageError::Creation(error),
+        }
+    }
+}
+
+impl From<AdditionError> for PageError {
+    fn from(error: AdditionError) -> PageError {
+        match error {
+            AdditionError::OutOfMemory => PageError::OutOfMemory,
+            error => PageError::Addition(error),
+        }
+    }
+}
+
 impl<T: Drop> From<AllocFailed<T>> for PageError {
     fn from(_error: AllocFailed<T>) -> PageError {
         PageError::OutOfMemory
@@ -32,6 +53,14 @@ impl<T: Drop> From<AllocFailed<T>> for PageError {
 }
 
 impl PageError {
+    /// Returns the error of the log at this index, which is not read.
+    pub(crate) fn of_input(log: usize, cause: InputError) -> PageError {
+        match cause {
+            InputError::OutOfMemory => PageError::OutOfMemory,
+            cause => PageError::Input { log, cause },
+        }
+    }
+
     /// Returns the index of the log that has the error, if one has.
     pub fn log(&self) -> Option<usize> {
         match self {

@@ -309,9 +309,9 @@ pub fn decoded(
 ) -> Result<Histogram<u64>, PageError> {
     match deserializer.decode_field(interval.field) {
         Ok(histogram) => Ok(histogram),
-        Err(cause) => Err(PageError::Input {
-            log: interval.log,
-            cause: InputError::of_interval(interval.line, cause),
-        }),
+        Err(cause) => {
+            let cause = InputError::of_interval(interval.line, cause);
+            Err(PageError::of_input(interval.log, cause))
+        }
     }
 }

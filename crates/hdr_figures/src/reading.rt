@@ -3,7 +3,8 @@
 ghost use Rattle.std.specs.Prelude.{◌≡◌, ◌+◌, ◌-◌, ◌/◌, ◌^◌, min};
 
 use crate::error::PageError;
-use hdr_input::log_lines::{entry_of, split_log_line};
+use hdr_input::InputError;
+use hdr_input::log_lines::{decimals_of, entry_of, split_log_line};
 use hdrhistogram::serialization::interval_log::{IntervalLogHistogram, LogEntry};
 use std::alloc::{AllocError, Global};
 use std::collections::HashMap;
@@ -37,10 +38,23 @@ impl Interval<'_> {
     }
 }
 
+/// A line of one of several logs, after what the lines above it say.
+#[derive(Clone, Copy)]
+struct Place {
+    /// The index of its log, and its number.
+    log: usize,
+    line: u64,
+    base: Duration,
+    /// The decimals of values: 0 if no comment has them.
+    decimals: u32,
+}
+
 /// The intervals of logs, in order.
 #[derive(Drop)]
 pub struct Intervals<'a> {
     pub list: Vec<Interval<'a>>,
+    /// The decimals of their values, or `None` without intervals.
+    decimals: Option<u32>,
     /// The tags in the order in which they were first read, an empty one for intervals without.
     pub tags: Vec<&'a str>,
     indices: HashMap<String, usize>,
@@ -55,6 +69,7 @@ impl<'a> Intervals<'a> {
     ) -> Result<Intervals<'a>, PageError> {
         let mut intervals = Intervals {
             list: Vec::new(alloc),
+            decimals: None,
             tags: Vec::new(alloc),
             indices: HashMap::new(alloc),
         };
@@ -72,35 +87,38 @@ impl<'a> Intervals<'a> {
         bytes: &'a [u8],
         tag: Option<&str>,
     ) -> Result<(), PageError> {
-        let mut base = Duration::ZERO;
-        let mut line = 1u64;
+        let mut place = Place {
+            log,
+            line: 1,
+            base: Duration::ZERO,
+            decimals: 0,
+        };
         let mut rest = bytes;
         while !rest.is_empty() {
-            let (first, after) = split_log_line(rest, line);
-            match entry_of(alloc, first, line) {
-                Ok(Some(LogEntry::BaseTime(time))) => base = time,
+            let (first, after) = split_log_line(rest, place.line);
+            match entry_of(alloc, first, place.line) {
+                Ok(Some(LogEntry::BaseTime(time))) => place.base = time,
                 Ok(Some(LogEntry::Interval(interval))) => {
-                    self.push(alloc, base, log, line, &interval, tag)?;
+                    self.push(alloc, place, &interval, tag)?;
                 }
-                Ok(_) => {}
-                Err(cause) => return Err(PageError::Input { log, cause }),
+                Ok(Some(_)) => {}
+                Ok(None) => place.decimals = decimals_of(first).unwrap_or(place.decimals),
+                Err(cause) => return Err(PageError::of_input(log, cause)),
             }
             rest = after;
-            line = line.saturating_add(1);
+            place.line = place.line.saturating_add(1);
         }
         Ok(())
     }
 
-    /// Adds an interval after this base time, unless another tag than its own is chosen.
+    /// Adds an interval, unless another tag than its own is chosen.
     fn push(
         &mut self,
         alloc: Global,
-        base: Duration,
-        log: usize,
-        line: u64,
+        place: Place,
         interval: &IntervalLogHistogram<'a>,
         chosen: Option<&str>,
-    ) -> Result<(), AllocError> {
+    ) -> Result<(), PageError> {
         let tag = match interval.tag() {
             Some(tag) => tag.as_str(),
             None => "",
@@ -108,17 +126,38 @@ impl<'a> Intervals<'a> {
         if chosen.is_some_and(|chosen| chosen != tag) {
             return Ok(());
         }
+        self.check_decimals(place)?;
         let tag = self.index_of(alloc, tag)?;
-        let start = base.as_nanos() + interval.start_timestamp().as_nanos();
+        let start = place.base.as_nanos() + interval.start_timestamp().as_nanos();
         self.list.push(Interval {
             tag,
             start: in_milliseconds(start),
             length: in_milliseconds(interval.duration().as_nanos()),
-            log,
-            line,
+            log: place.log,
+            line: place.line,
             field: interval.encoded_histogram(),
         })?;
         Ok(())
+    }
+
+    /// Returns an error if the values of a line have other decimals than those before.
+    fn check_decimals(&mut self, place: Place) -> Result<(), PageError> {
+        let decimals = place.decimals;
+        let before = *self.decimals.get_or_insert(decimals);
+        if before == decimals {
+            return Ok(());
+        }
+        let cause = InputError::OtherDecimals {
+            line: place.line,
+            decimals,
+            before,
+        };
+        Err(PageError::of_input(place.log, cause))
+    }
+
+    /// Returns the decimals of the values.
+    pub fn decimals(&self) -> u32 {
+        self.decimals.unwrap_or(0)
     }
 
     /// Returns the tag of an index.

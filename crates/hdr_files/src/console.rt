@@ -105,10 +105,8 @@ impl<'a> LateInput<'a> {
         if let Some(input) = &mut self.input {
             return input.read(buffer);
         }
-        let mut input = self.console.try_open(self.name)?;
-        let count = input.read(buffer)?;
-        self.input = Some(input);
-        Ok(count)
+        let input = self.console.try_open(self.name)?;
+        self.input.insert(input).read(buffer)
     }
 }
 

@@ -172,7 +172,7 @@ pub fn read_numbers(
 fn print_skipped(rt: &HostRuntime, tally: &Tally) {
     let skipped = tally.skipped;
     if skipped > 0 {
-        let _ = eprintln!(rt; "hdrstat: {skipped} bad lines skipped");
+        let _ = eprintln!(rt; "hdrstat: bad lines skipped: {skipped}");
     }
 }
 

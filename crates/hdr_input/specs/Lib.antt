@@ -1,3 +1,4 @@
 pub mod Numbers
 pub mod Recorded
 pub mod Lines
+pub mod Sums

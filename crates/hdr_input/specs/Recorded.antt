@@ -1,9 +1,13 @@
 -- Histograms after numbers.
-use Rattle.std.specs.Prelude.{◌≡◌, ℕ, ◌+◌, ◌-◌, ◌*◌, ◌%◌, ◌^◌, ◌<◌, ◌≤◌, ◌⊎◌}
-use Rattle.hdr_model.specs.Plain.{Plain}
+use Rattle.std.specs.Prelude.{◌≡◌, ℕ, ◌+◌, ◌-◌, ◌*◌, ◌%◌, ◌^◌, ◌<◌, ◌≤◌, ◌⊎◌, ◌↔◌, min, max, Some, IsSome, Bool, IsTrue, List}
+use Rattle.hdr_base.specs.Classes.{IsFiner}
+use Rattle.hdr_model.specs.Plain.{Plain, resolution}
 use Rattle.hdr_model.specs.Correction.{after_correct}
+use Rattle.hdr_model.specs.Merging.{after_add}
+use Rattle.hdrhistogram.specs.FieldRead.{IsHeldIn}
 use Rattle.hdr_input.specs.Numbers.{in_units}
 use Rattle.hdr_input.specs.declared.number.Number.{Number}
+use Rattle.hdr_input.specs.declared.tally.Tally.{Tally}
 
 -- the histogram after a number, in units of these decimals, and the missing samples before it at an expected interval
 abbrev pub after_number : Plain → Number → ℕ → ℕ → Plain
@@ -18,3 +22,19 @@ abbrev pub IsLeast : ℕ → ℕ → ℕ → Type 0
 IsLeast value interval least =
     (0 < interval → 2 * interval ≤ value → least ≡ interval + value % interval)
     × (value < 2 * interval → least ≡ value) × (interval ≡ 0 → least ≡ value)
+
+-- a tally has taken a number: its histogram and its extremes are those after it, in units of the decimals that it now has
+abbrev pub Takes : Tally → Tally → Number → Type 0
+Takes old new number = IsSome new.decimals × ((decimals : ℕ) → new.decimals ≡ Some decimals
+    → (new.histogram ≡ after_number old.histogram number decimals new.interval)
+    × ((least : ℕ) × IsLeast (in_units number.digits number.decimals decimals) new.interval least × (new.min ≡ min old.min least))
+    × (new.max ≡ max old.max (in_units number.digits number.decimals decimals)))
+
+-- the unit of a tally stays once it is set
+abbrev pub KeepsUnit : Tally → Tally → Type 0
+KeepsUnit old new = (decimals : ℕ) → old.decimals ≡ Some decimals → (new.decimals ≡ Some decimals) × (new.interval ≡ old.interval)
+
+-- the histogram that a field holds is added to a sum, and it is coarser than the sum or not
+abbrev pub AddsField : List ℕ → Plain → Plain → Bool → Type 0
+AddsField field old new coarser = (held : Plain) × IsHeldIn (2 ^ 64 - 1) field held × (new ≡ after_add (2 ^ 64 - 1) old held)
+    × (IsTrue coarser ↔ (IsFiner (resolution held) (resolution old) → ⊥))

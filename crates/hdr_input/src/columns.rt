@@ -1,11 +1,11 @@
 //! Numbers from a column of a table.
 
 use crate::cause::Cause;
-use crate::errors::{InputError, Place};
+use crate::errors::{InputError, Place, shown};
 use crate::lines::{record_text, skip_or_err};
 use crate::number::Number;
 use crate::tally::Tally;
-use csv::{ByteRecord, ErrorKind, Reader, ReaderBuilder};
+use csv::{ByteRecord, ErrorKind, ReaderBuilder};
 use std::alloc::{AllocError, Global};
 use std::io::Read;
 
@@ -72,23 +72,20 @@ fn index_of_number(wanted: &str) -> Option<usize> {
     wanted.parse::<usize>().ok()?.checked_sub(1)
 }
 
-/// Whether there is an index, and it is below a length.
-fn is_within(index: Option<usize>, len: usize) -> bool {
-    match index {
-        Some(index) => index < len,
-        None => false,
-    }
-}
+/// The most names of a first row that an error shows.
+const MOST_NAMES: usize = 20;
 
-/// Returns the names of a first row, with commas between them.
+/// Returns the first names of a first row for an error, with commas between them.
 fn names_of(alloc: Global, names: &ByteRecord) -> Result<String, AllocError> {
     let mut text = String::new(alloc);
-    for name in names.into_iter() {
+    for name in names.into_iter().take(MOST_NAMES) {
         if !text.is_empty() {
             text.push_str(", ")?;
         }
-        let name = String::from_utf8_lossy(alloc, name)?;
-        text.push_str(name.as_str())?;
+        text.push_str(shown(alloc, name)?.as_str())?;
+    }
+    if names.len() > MOST_NAMES {
+        text.push_str(", ...")?;
     }
     Ok(text)
 }
@@ -117,7 +114,7 @@ fn find_column(
     layout: Layout,
 ) -> Result<Found, InputError> {
     let number = index_of_number(wanted);
-    let named = if layout.has_header && !is_within(number, names.len()) {
+    let named = if layout.has_header && !number.is_some_and(|index| index < names.len()) {
         index_of_name(names, wanted)
     } else {
         None
@@ -129,11 +126,6 @@ fn find_column(
         }),
         None => Err(no_column(alloc, names, wanted)),
     }
-}
-
-/// Reads the next row, if there is one.
-fn next_row<R: Read>(rows: &mut Reader<R>, row: &mut ByteRecord) -> Result<bool, InputError> {
-    rows.read_byte_record(row).map_err(reading_error)
 }
 
 /// Returns the indices of columns, and whether the first row is a row of names: if a column is
@@ -172,17 +164,24 @@ pub fn read_rows<R: Read + Drop, S: RowSink>(
         .delimiter(layout.delimiter)
         .from_reader(alloc, reader);
     let mut row = ByteRecord::new(alloc);
-    if !next_row(&mut rows, &mut row)? {
-        return Ok(());
-    }
-    let (indices, is_header) = find_columns(alloc, &row, columns, layout)?;
-    if !is_header {
-        sink.take_row(alloc, &row, indices, 1)?;
-    }
-    for before in 1..u64::MAX {
-        if !next_row(&mut rows, &mut row)? {
-            break;
+    let mut found = None;
+    for before in 0..u64::MAX {
+        match rows.read_byte_record(&mut row) {
+            Ok(true) => {}
+            Ok(false) => break,
+            Err(error) => return Err(reading_error(error)),
         }
+        let indices = match found {
+            Some(indices) => indices,
+            None => {
+                let (indices, is_header) = find_columns(alloc, &row, columns, layout)?;
+                found = Some(indices);
+                if is_header {
+                    continue;
+                }
+                indices
+            }
+        };
         sink.take_row(alloc, &row, indices, before + 1)?;
     }
     Ok(())
@@ -197,6 +196,7 @@ pub(crate) fn field(row: &ByteRecord, index: usize) -> Option<&[u8]> {
 }
 
 impl RowSink for Tally {
+    #[inline(always)]
     fn take_row(
         &mut self,
         alloc: Global,

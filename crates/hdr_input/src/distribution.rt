@@ -1,6 +1,7 @@
 //! The distribution of numbers.
 
 ghost use Rattle.std.specs.Prelude.{◌≡◌, ◌≤◌, ◌<◌, ℕ, List, length, min, max};
+ghost use Rattle.hdr_model.specs.Plain.{min_of, max_of};
 ghost use Rattle.hdr_model.specs.Quantiles.{value_at_quantile, ranked_sample};
 ghost use Rattle.hdr_model.specs.Samples.{StandsFor};
 
@@ -28,6 +29,8 @@ impl Distribution {
     /// unit has these decimals, `MOST_DECIMALS` at most.
     pub fn of_histogram(histogram: Histogram<u64>, decimals: u32) -> Distribution
         ensures same { result.histogram ≡ histogram }
+        ensures min { result.min ≡ min_of histogram }
+        ensures max { result.max ≡ max_of histogram }
         ensures decimals { decimals ≤ MOST_DECIMALS → result.decimals ≡ decimals }
     {
         Distribution {

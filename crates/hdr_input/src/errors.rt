@@ -104,11 +104,11 @@ impl InputError {
     }
 }
 
-/// The most bytes of a line that an error shows.
+/// The most bytes of a line or a name that an error shows.
 const SHOWN: usize = 40;
 
 /// Returns the start of a text for an error. Control characters are shown as `?`.
-fn shown(alloc: Global, text: &[u8]) -> Result<String, AllocError> {
+pub(crate) fn shown(alloc: Global, text: &[u8]) -> Result<String, AllocError> {
     let mut bytes = text[..text.len().min(SHOWN)].to_vec(alloc)?;
     for byte in bytes.iter_mut() {
         if byte.is_ascii_control() {

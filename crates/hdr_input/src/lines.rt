@@ -44,6 +44,8 @@ pub(crate) fn record_text(tally: &mut Tally, text: &[u8]) -> Result<(), Cause> {
 }
 
 /// Counts a bad line if the tally skips it, and otherwise returns its error.
+#[cold]
+#[inline(never)]
 pub(crate) fn skip_or_err(
     alloc: Global,
     tally: &mut Tally,

@@ -7,6 +7,7 @@ ghost use Rattle.std.specs.List.{list_all};
 ghost use Rattle.std.specs.Option.{option_map};
 ghost use Rattle.std.specs.Io.{StopsAt, StartsWith, IsEmptyOrEndsWith, appended_bytes};
 ghost use Rattle.std.specs.Io.KnownBytes.{Consumes, IsAtEnd};
+ghost use Rattle.std.specs.Io.BufRead.{take_through, drop_through};
 ghost use Rattle.hdr_log.specs.Reading.{view_of_entry};
 ghost use Rattle.hdr_input.specs.Lines.{ReadsLine, without_mark, said_by};
 
@@ -32,7 +33,9 @@ pub fn without_mark(line: &[u8], number: u64) -> &[u8]
 /// Splits a text after its first line, which has this number. The line is returned with its LF, if
 /// it has one, and without a byte order mark.
 pub fn split_log_line(text: &[u8], number: u64) -> (&[u8], &[u8])
-    ensures { 0 < length text.now → length result.1.now < length text.now }
+    ensures line { result.0.now ≡ without_mark (number == 1) (take_through 10 text.now) }
+    ensures rest { result.1.now ≡ drop_through 10 text.now }
+    ensures shorter { 0 < length text.now → length result.1.now < length text.now }
 {
     match memchr(b'\n', text) {
         Some(at) => (without_mark(&text[..at + 1], number), &text[at + 1..]),

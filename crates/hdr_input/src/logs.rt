@@ -1,10 +1,16 @@
 //! The histograms of interval logs, added as their lines are read.
 
-ghost use Rattle.std.specs.Prelude.{◌≡◌, ◌-◌, ◌^◌, ◌↔◌, IfOk, IsTrue};
-ghost use Rattle.hdr_base.specs.Classes.{IsFiner};
-ghost use Rattle.hdr_model.specs.Plain.{Plain, resolution};
-ghost use Rattle.hdr_model.specs.Merging.{after_add};
+ghost use Rattle.std.specs.Prelude.{◌≡◌, ◌-◌, ◌^◌, ◌<◌, ◌==◌, ◌++◌, ℕ, [], ◌∷◌, List, map, IfOk, OnOk, Some, None, length};
+ghost use Rattle.std.specs.Option.{option_map};
+ghost use Rattle.std.specs.String.{string_bytes};
+ghost use Rattle.hdr_model.specs.Plain.{Plain};
+ghost use Rattle.hdr_log.specs.Tags.{tag_text};
+ghost use Rattle.hdr_log.specs.Reading.{view_of_interval};
 ghost use Rattle.hdrhistogram.specs.FieldRead.{IsHeldIn};
+ghost use Rattle.hdr_input.specs.Lines.{said_by, IsPlainField};
+ghost use Rattle.hdr_input.specs.Sums.{view_of_sum, view_of_sums, empty_sum, sum_tag, Adds, TakesSaid, TakesText};
+ghost use Rattle.hdr_input.specs.Sums.{AreIndexed, IsSumAt, KeepsOptions, added_at};
+ghost use Rattle.hdr_input.specs.Recorded.{AddsField};
 
 use crate::errors::InputError;
 use crate::log_lines::{decimals_of, entry_of, split_log_line};
@@ -41,9 +47,9 @@ impl TagSum {
         field: &str,
         line: u64,
     ) -> Result<bool, InputError>
-        ensures { IfOk result (λ coarser. (held : Plain) × IsHeldIn (2 ^ 64 - 1) field.now held
-            × (self.new.histogram ≡ after_add (2 ^ 64 - 1) self.old.histogram held)
-            × (IsTrue coarser ↔ (IsFiner (resolution held) (resolution self.old.histogram) → ⊥))) }
+        ensures tag { self.new.tag ≡ self.old.tag }
+        ensures added { IfOk result
+            (λ coarser. AddsField field.now self.old.histogram self.new.histogram coarser) }
     {
         let source = match deserializer.decode_field_into(field, spare.take()) {
             Ok(source) => source,
@@ -95,7 +101,10 @@ impl<'a> LogSums<'a> {
         choice: IntervalChoice<'a>,
         sigfig: u8,
         is_by_tag: bool,
-    ) -> LogSums<'a> {
+    ) -> LogSums<'a>
+        ensures sums { result.sums.items ≡ [] }
+        ensures indices { AreIndexed result }
+    {
         LogSums {
             sums: Vec::new(alloc),
             chosen: 0,
@@ -127,7 +136,11 @@ impl<'a> LogSums<'a> {
     }
 
     /// Returns an error if the values of a line have other decimals than those before.
-    fn check_decimals(&mut self, line: u64) -> Result<(), InputError> {
+    fn check_decimals(&mut self, line: u64) -> Result<(), InputError>
+        ensures options { KeepsOptions self.old self.new }
+        ensures sums { self.new.sums ≡ self.old.sums }
+        ensures indices { AreIndexed self.old → AreIndexed self.new }
+    {
         let decimals = self.log_decimals;
         let before = *self.decimals.get_or_insert(decimals);
         if before == decimals {
@@ -141,7 +154,13 @@ impl<'a> LogSums<'a> {
     }
 
     /// Returns the index of the sum of a tag, which is added if it is new.
-    fn index_of(&mut self, alloc: Global, tag: Option<Tag<'_>>) -> Result<usize, InputError> {
+    fn index_of(&mut self, alloc: Global, tag: Option<Tag<'_>>) -> Result<usize, InputError>
+        ensures options { KeepsOptions self.old self.new }
+        ensures index { IfOk result (λ index. AreIndexed self.old → IsSumAt self.old.sigfig
+            (map view_of_sum self.old.sums.items) (map view_of_sum self.new.sums.items)
+            (sum_tag self.old.is_by_tag (option_map tag_text tag.entry)) index) }
+        ensures indices { OnOk result (AreIndexed self.old → AreIndexed self.new) }
+    {
         let tag = if self.is_by_tag { tag } else { None };
         match tag {
             None => match self.untagged {
@@ -157,21 +176,35 @@ impl<'a> LogSums<'a> {
     }
 
     /// Returns the index of the sum of a tag of this text, which is added if it is new.
-    fn index_of_tag(&mut self, alloc: Global, tag: &str) -> Result<usize, InputError> {
+    fn index_of_tag(&mut self, alloc: Global, tag: &str) -> Result<usize, InputError>
+        ensures options { KeepsOptions self.old self.new }
+        ensures index { IfOk result (λ index. AreIndexed self.old → IsSumAt self.old.sigfig
+            (map view_of_sum self.old.sums.items) (map view_of_sum self.new.sums.items)
+            (Some tag.now) index) }
+        ensures indices { OnOk result (AreIndexed self.old → AreIndexed self.new) }
+    {
         if let Some(index) = self.indices.get(tag) {
             return Ok(*index);
         }
         let key = String::from_str(alloc, tag)?;
         let tag = String::from_str(alloc, tag)?;
         let index = self.push_sum(alloc, Some(tag))?;
-        match self.indices.insert(key, index) {
-            Ok(_) => Ok(index),
-            Err(_) => Err(InputError::OutOfMemory),
+        if self.indices.insert(key, index).is_err() {
+            return Err(InputError::OutOfMemory);
         }
+        Ok(index)
     }
 
     /// Adds an empty sum, and returns its index.
-    fn push_sum(&mut self, alloc: Global, tag: Option<String>) -> Result<usize, InputError> {
+    fn push_sum(&mut self, alloc: Global, tag: Option<String>) -> Result<usize, InputError>
+        ensures options { KeepsOptions self.old self.new }
+        ensures index { IfOk result (λ index. index ≡ length self.old.sums.items) }
+        ensures sums { OnOk result (map view_of_sum self.new.sums.items
+            ≡ map view_of_sum self.old.sums.items
+            ++ empty_sum self.old.sigfig (option_map string_bytes tag) ∷ []) }
+        ensures indices { self.new.indices ≡ self.old.indices }
+        ensures untagged { self.new.untagged ≡ self.old.untagged }
+    {
         let index = self.sums.len();
         let histogram = Histogram::new(alloc, self.sigfig)?;
         match self.sums.push(TagSum { tag, histogram }) {
@@ -180,31 +213,58 @@ impl<'a> LogSums<'a> {
         }
     }
 
+    /// Adds the histogram of a field to the sum at an index.
+    fn add_at(
+        &mut self,
+        alloc: Global,
+        index: usize,
+        field: &str,
+        line: u64,
+    ) -> Result<(), InputError>
+        ensures options { KeepsOptions self.old self.new }
+        ensures added { OnOk result (index < length self.old.sums.items → (plain : List ℕ) × (h : Plain)
+            × IsPlainField field.now plain × IsHeldIn (2 ^ 64 - 1) plain h
+            × (map view_of_sum self.new.sums.items
+            ≡ added_at index (map view_of_sum self.old.sums.items) h)) }
+        ensures indices { self.new.indices ≡ self.old.indices }
+        ensures untagged { self.new.untagged ≡ self.old.untagged }
+    {
+        let Some(sum) = self.sums.get_mut(index) else {
+            return Ok(());
+        };
+        let field = match plain_field(alloc, field, &mut self.plain) {
+            Ok(field) => field,
+            Err(cause) => return Err(InputError::of_conversion(line, cause)),
+        };
+        let is_coarser = sum.add_field(&mut self.deserializer, &mut self.spare, field, line)?;
+        self.coarser = self.coarser.saturating_add(u64::from(is_coarser));
+        Ok(())
+    }
+
     /// Adds the histogram of an interval to the sum of its tag.
     fn add(
         &mut self,
         alloc: Global,
         interval: &IntervalLogHistogram<'_>,
         line: u64,
-    ) -> Result<(), InputError> {
+    ) -> Result<(), InputError>
+        ensures added { OnOk result (AreIndexed self.old → Adds (view_of_sums self.old)
+            (view_of_interval interval.now) (view_of_sums self.new)) }
+        ensures indices { OnOk result (AreIndexed self.old → AreIndexed self.new) }
+    {
         self.check_decimals(line)?;
         let index = self.index_of(alloc, interval.tag())?;
-        let Some(sum) = self.sums.get_mut(index) else {
-            return Ok(());
-        };
-        let field = match plain_field(alloc, interval.encoded_histogram(), &mut self.plain) {
-            Ok(field) => field,
-            Err(cause) => return Err(InputError::of_conversion(line, cause)),
-        };
-        if sum.add_field(&mut self.deserializer, &mut self.spare, field, line)? {
-            self.coarser = self.coarser.saturating_add(1);
-        }
+        self.add_at(alloc, index, interval.encoded_histogram(), line)?;
         self.chosen = self.chosen.saturating_add(1);
         Ok(())
     }
 
     /// Takes a line with its LF.
-    fn take_line(&mut self, alloc: Global, line: &[u8], number: u64) -> Result<(), InputError> {
+    fn take_line(&mut self, alloc: Global, line: &[u8], number: u64) -> Result<(), InputError>
+        ensures said { OnOk result (AreIndexed self.old → TakesSaid (view_of_sums self.old)
+            (said_by line.now) (view_of_sums self.new)) }
+        ensures indices { OnOk result (AreIndexed self.old → AreIndexed self.new) }
+    {
         match entry_of(alloc, line, number)? {
             Some(LogEntry::BaseTime(time)) => self.base = time,
             Some(LogEntry::Interval(interval)) => {
@@ -219,7 +279,11 @@ impl<'a> LogSums<'a> {
 }
 
 impl LineSink for LogSums<'_> {
-    fn take_lines(&mut self, alloc: Global, lines: &[u8], first: u64) -> Result<u64, InputError> {
+    fn take_lines(&mut self, alloc: Global, lines: &[u8], first: u64) -> Result<u64, InputError>
+        ensures sums { OnOk result (AreIndexed self.old → 0 < first → TakesText (first == 1)
+            lines.now (view_of_sums self.old) (view_of_sums self.new)) }
+        ensures indices { OnOk result (AreIndexed self.old → AreIndexed self.new) }
+    {
         let mut rest = lines;
         let mut number = first;
         while !rest.is_empty() {

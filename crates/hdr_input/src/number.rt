@@ -31,6 +31,27 @@ fn digit(byte: u8) -> Option<u64>
 const MOST_DIGITS: usize = 18;
 
 /// Appends the digits that a text begins with to a number of `before` digits, and returns it with
+/// the rest. Of more than `MOST_DIGITS`, one more is appended.
+#[inline(always)]
+fn first_digits(start: u64, before: usize, text: &[u8]) -> (u64, &[u8])
+    requires few { before ≤ MOST_DIGITS }
+    requires small { start < 10 ^ before }
+    ensures length { length result.1.now ≤ length text.now }
+    ensures value { BeginsWithDigits start text.now result.0 result.1.now }
+    ensures small { result.0 < 10 ^ (before + (length text.now - length result.1.now)) }
+{
+    let mut value = start;
+    let most = text.len().min(MOST_DIGITS + 1 - before);
+    for at in 0..most {
+        match digit(text[at]) {
+            Some(digit) => value = value * 10 + digit,
+            None => return (value, &text[at..]),
+        }
+    }
+    (value, &text[most..])
+}
+
+/// Appends the digits that a text begins with to a number of `before` digits, and returns it with
 /// the rest. Returns `None` if there are more than `MOST_DIGITS`.
 #[inline(always)]
 fn leading_digits(start: u64, before: usize, text: &[u8]) -> Option<(u64, &[u8])>
@@ -41,17 +62,11 @@ fn leading_digits(start: u64, before: usize, text: &[u8]) -> Option<(u64, &[u8])
     ensures small { IfSome result (λ p. p.0 < 10 ^ (before + (length text.now - length p.1.now))) }
     ensures few { IfSome result (λ p. before + length text.now ≤ MOST_DIGITS + length p.1.now) }
 {
-    let mut value = start;
-    for at in 0..text.len().min(MOST_DIGITS + 1 - before) {
-        match digit(text[at]) {
-            Some(digit) => value = value * 10 + digit,
-            None => return Some((value, &text[at..])),
-        }
-    }
-    if text.len() > MOST_DIGITS - before {
+    let (value, rest) = first_digits(start, before, text);
+    if text.len() - rest.len() > MOST_DIGITS - before {
         return None;
     }
-    Some((value, &text[text.len()..]))
+    Some((value, rest))
 }
 
 /// Returns what follows an end of line, LF or CR LF, that a text begins with.

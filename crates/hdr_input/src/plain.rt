@@ -1,7 +1,7 @@
 //! Logs whose histograms are compressed, read as if they were not.
 
-ghost use Rattle.std.specs.Prelude.{◌≡◌, ◌++◌, ℕ, List, OnOk};
-ghost use Rattle.hdr_input.specs.Lines.{IsPlainOf};
+ghost use Rattle.std.specs.Prelude.{◌≡◌, ◌++◌, ℕ, List, OnOk, IfOk};
+ghost use Rattle.hdr_input.specs.Lines.{IsPlainOf, IsPlainField, is_other_form};
 
 use crate::errors::InputError;
 use crate::log_lines::split_log_line;
@@ -39,7 +39,10 @@ const FORM_LEN: usize = 8;
 
 /// Whether a field is a histogram of another form than plain V2: compressed, of an older version, or
 /// of floating-point values. A plain one has fewer than 2^28 bytes, so its Base64 begins with HISTEw.
-fn is_other_form(field: &[u8]) -> bool {
+#[tactic(auto, unfolding(crate::specs::Lines::is_other_form))]
+fn is_other_form(field: &[u8]) -> bool
+    ensures { result ≡ is_other_form field.now }
+{
     let is_other = field.starts_with(b"HIST") && !field.starts_with(b"HISTEw");
     field.len() >= FORM_LEN && (is_other || field.starts_with(b"DHIST"))
 }
@@ -52,7 +55,9 @@ pub fn plain_field<'a>(
     alloc: Global,
     field: &'a str,
     buffer: &'a mut Vec<u8>,
-) -> Result<&'a str, ConvertError> {
+) -> Result<&'a str, ConvertError>
+    ensures { IfOk result (λ plain. IsPlainField field.now plain.now) }
+{
     if !is_other_form(field.as_bytes()) {
         return Ok(field);
     }

@@ -3,7 +3,7 @@
 ghost use Rattle.std.specs.Prelude.{◌≡◌, ◌≤◌, ℕ, min, max};
 ghost use Rattle.std.specs.Prelude.{Some, Ok, OnOk, IfOk, IsSome, MatchOption};
 ghost use Rattle.hdr_input.specs.Numbers.{in_units};
-ghost use Rattle.hdr_input.specs.Recorded.{after_number, IsInterval, IsLeast};
+ghost use Rattle.hdr_input.specs.Recorded.{IsInterval, IsLeast, Takes, KeepsUnit};
 
 use crate::cause::Cause;
 use crate::distribution::{Distribution, MOST_DECIMALS};
@@ -108,18 +108,8 @@ impl Tally {
     #[inline(always)]
     #[tactic(auto, using(crate::proofs::Units::units_same, crate::proofs::Units::after_alone))]
     pub fn record(&mut self, number: Number) -> Result<(), Cause>
-        ensures recorded { OnOk result ((decimals : ℕ) → self.new.decimals ≡ Some decimals
-            → self.new.histogram
-            ≡ after_number self.old.histogram number decimals self.new.interval) }
-        ensures min { OnOk result ((decimals : ℕ) → self.new.decimals ≡ Some decimals → (least : ℕ)
-            × IsLeast (in_units number.digits number.decimals decimals) self.new.interval least
-            × (self.new.min ≡ min self.old.min least)) }
-        ensures max { OnOk result ((decimals : ℕ) → self.new.decimals ≡ Some decimals
-            → self.new.max
-            ≡ max self.old.max (in_units number.digits number.decimals decimals)) }
-        ensures set { OnOk result (IsSome self.new.decimals) }
-        ensures unit { (decimals : ℕ) → self.old.decimals ≡ Some decimals
-            → (self.new.decimals ≡ Some decimals) × (self.new.interval ≡ self.old.interval) }
+        ensures number { OnOk result (Takes self.old self.new number) }
+        ensures unit { KeepsUnit self.old self.new }
     {
         if self.decimals == Some(number.decimals) && self.interval == 0 {
             let done = self.histogram.record(number.digits);
@@ -132,18 +122,8 @@ impl Tally {
     /// is expected.
     #[inline(never)]
     fn record_other(&mut self, number: Number) -> Result<(), Cause>
-        ensures recorded { OnOk result ((decimals : ℕ) → self.new.decimals ≡ Some decimals
-            → self.new.histogram
-            ≡ after_number self.old.histogram number decimals self.new.interval) }
-        ensures min { OnOk result ((decimals : ℕ) → self.new.decimals ≡ Some decimals → (least : ℕ)
-            × IsLeast (in_units number.digits number.decimals decimals) self.new.interval least
-            × (self.new.min ≡ min self.old.min least)) }
-        ensures max { OnOk result ((decimals : ℕ) → self.new.decimals ≡ Some decimals
-            → self.new.max
-            ≡ max self.old.max (in_units number.digits number.decimals decimals)) }
-        ensures set { OnOk result (IsSome self.new.decimals) }
-        ensures unit { (decimals : ℕ) → self.old.decimals ≡ Some decimals
-            → (self.new.decimals ≡ Some decimals) × (self.new.interval ≡ self.old.interval) }
+        ensures number { OnOk result (Takes self.old self.new number) }
+        ensures unit { KeepsUnit self.old self.new }
     {
         let units = self.units_of(number)?;
         let done = self.histogram.record_correct(units, self.interval);

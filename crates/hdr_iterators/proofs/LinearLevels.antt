@@ -4,7 +4,7 @@ use Rattle.std.proofs.lemmas.Bool.{false≢true, cases_lt, lt-ltb, le-ltb}
 use Rattle.std.proofs.lemmas.Bool.Decides.{eqb_tells}
 use Rattle.std.proofs.Math.Nat.{div-lt_iff_lt-mul, mul-le-mul_right}
 use Rattle.std.specs.List.{range_with_len}
-use Rattle.hdr_iterators.specs.Seen.{Seen, AreBins, bins_in, place_of, lowest_in, top_in}
+use Rattle.hdr_iterators.specs.Seen.{Seen, AreBins, bins_in, bin_or_last, lowest_in, top_in}
 use Rattle.hdr_iterators.specs.Picks.{NoneBefore, AllBefore}
 use Rattle.hdr_iterators.specs.Places.{level_pick, linear_level, linear_count, linear_end, linear_picks}
 use Rattle.hdr_iterators.proofs.SeenPlaces.{before-class, from-class, place-le, place-inside, lowest-fits, top-fits}
@@ -45,10 +45,10 @@ level-le s j k l =
     let e : j * s ≤ k * s = mul-le-mul_right s l in
     omega (arith, e)
 
-levels_ahead : (h : Seen) (s a n m : ℕ) → AreBins h → m ≤ place_of h (linear_level s a) → NoneBefore m (map (λ k. level_pick h (linear_level s k)) (range_with_len a n))
+levels_ahead : (h : Seen) (s a n m : ℕ) → AreBins h → m ≤ bin_or_last h (linear_level s a) → NoneBefore m (map (λ k. level_pick h (linear_level s k)) (range_with_len a n))
 levels_ahead h s a zero m p l = tt
 levels_ahead h s a (suc n) m p l =
-    let up : place_of h (linear_level s a) ≤ place_of h (linear_level s (a + 1)) = place-le h (linear_level s a) (linear_level s (a + 1)) p (level-le s a (a + 1) (omega arith)) in
+    let up : bin_or_last h (linear_level s a) ≤ bin_or_last h (linear_level s (a + 1)) = place-le h (linear_level s a) (linear_level s (a + 1)) p (level-le s a (a + 1) (omega arith)) in
     (l, levels_ahead h s (a + 1) n m p (omega (arith, l, up)))
 
 pub levels_within : (h : Seen) (s a n : ℕ) → 0 < bins_in h → AllBefore (bins_in h) (map (λ k. level_pick h (linear_level s k)) (range_with_len a n))
@@ -67,21 +67,21 @@ levels_more h s j l =
     ∙ ap (λ n. level_pick h (linear_level s j) ∷ map (λ k. level_pick h (linear_level s k)) (range_with_len (j + 1) n)) n_is
 
 -- a level below the last recorded class is picked before its bin
-pub level_below : (h : Seen) (s j : ℕ) → AreBins h → 1 ≤ s → j < first_end h s → place_of h (linear_level s j) < h.last
+pub level_below : (h : Seen) (s j : ℕ) → AreBins h → 1 ≤ s → j < first_end h s → bin_or_last h (linear_level s j) < h.last
 level_below h s j p q l =
     let a : (j + 1) * s ≤ lowest_in h h.last = le_div (lowest_in h h.last) (j + 1) s q (omega (arith, l)) in
     let b : linear_level s j < lowest_in h h.last = omega (arith, a, q) in
     omega (arith, before-class h.resolution (linear_level s j) h.last p.digits b)
 
 -- the others are picked at its bin or after it
-pub level_not_below : (h : Seen) (s j : ℕ) → AreBins h → 1 ≤ s → first_end h s ≤ j → h.last ≤ place_of h (linear_level s j)
+pub level_not_below : (h : Seen) (s j : ℕ) → AreBins h → 1 ≤ s → first_end h s ≤ j → h.last ≤ bin_or_last h (linear_level s j)
 level_not_below h s j p q l =
     let a : lowest_in h h.last < (j + 1) * s = lt_div (lowest_in h h.last) (j + 1) s q (omega (arith, l)) in
     let b : lowest_in h h.last ≤ linear_level s j = omega (arith, a, lowest-fits h h.last p p.last_inside) in
     omega (arith, from-class h.resolution (linear_level s j) h.last p.digits b, p.last_inside)
 
 linear_end_fits : (h : Seen) (s : ℕ) → AreBins h → linear_end h s ≤ (2 ^ 64 - 1)
-linear_end_fits h s p = top-fits h (place_of h (linear_level s (first_end h s))) p (place-inside h (linear_level s (first_end h s)) p)
+linear_end_fits h s p = top-fits h (bin_or_last h (linear_level s (first_end h s))) p (place-inside h (linear_level s (first_end h s)) p)
 
 count_at_greatest : (h : Seen) (s : ℕ) → linear_end h s ≡ (2 ^ 64 - 1) → linear_count h s ≡ max (first_end h s + 1) ((2 ^ 64 - 1) / s + 1)
 count_at_greatest h s e = ap (λ b. max (first_end h s + 1) (cond b ((2 ^ 64 - 1) / s + 1) ((linear_end h s + 1) / s))) (eq-eqb (linear_end h s) (2 ^ 64 - 1) e)
@@ -171,10 +171,10 @@ end_none : (h : Seen) (s j i : ℕ) (end : Option ℕ) → MatchOption end (j �
 end_none h s j i None m l k = ap (λ b. cond b None (Some (top_in h i))) (lt-ltb i (h.last) k)
 end_none h s j i (Some e) m l k = absurd (omega (arith, m.1, l))
 
-end_some : (h : Seen) (s j i v : ℕ) (end : Option ℕ) → MatchOption end (j ≤ first_end h s) (λ e. (e ≡ linear_end h s) × (first_end h s < j)) → first_end h s ≤ j → v ≡ linear_level s j → i ≡ place_of h v → h.last ≤ i → end_at h end i ≡ Some (linear_end h s)
+end_some : (h : Seen) (s j i v : ℕ) (end : Option ℕ) → MatchOption end (j ≤ first_end h s) (λ e. (e ≡ linear_end h s) × (first_end h s < j)) → first_end h s ≤ j → v ≡ linear_level s j → i ≡ bin_or_last h v → h.last ≤ i → end_at h end i ≡ Some (linear_end h s)
 end_some h s j i v None m l e f k =
     let at : j ≡ first_end h s = omega (arith, m, l) in
-    let place : i ≡ place_of h (linear_level s (first_end h s)) = f ∙ ap (place_of h) (e ∙ ap (linear_level s) at) in
+    let place : i ≡ bin_or_last h (linear_level s (first_end h s)) = f ∙ ap (bin_or_last h) (e ∙ ap (linear_level s) at) in
     ap (λ b. cond b None (Some (top_in h i))) (le-ltb i (h.last) k) ∙ ap (λ q. Some (top_in h q)) place
 end_some h s j i v (Some x) m l e f k = ap Some m.0
 
@@ -189,7 +189,7 @@ pub record Stepped (h : Seen) (s v next : ℕ) (end : Option ℕ) (done : Bool) 
   pub step : LinearStep h s next end done
   pub rest : cond done [] (levels_from h s (next / s)) ≡ levels_from h s (v / s + 1)
 
-pub linear_step : (h : Seen) (s v i next : ℕ) (end end' : Option ℕ) (done' : Bool) → LinearStep h s v end false → i ≡ place_of h v → next ≡ min (v + s) (2 ^ 64 - 1) → end' ≡ end_at h end i → done' ≡ is_last_level v next end' → Stepped h s v next end' done'
+pub linear_step : (h : Seen) (s v i next : ℕ) (end end' : Option ℕ) (done' : Bool) → LinearStep h s v end false → i ≡ bin_or_last h v → next ≡ min (v + s) (2 ^ 64 - 1) → end' ≡ end_at h end i → done' ≡ is_last_level v next end' → Stepped h s v next end' done'
 linear_step h s v i next end end' done' w f n e d =
     let p = w.plain in
     let q = w.some in
@@ -197,7 +197,7 @@ linear_step h s v i next end end' done' w f n e d =
     let going = w.going refl in
     let fits = level_fits s v w.level_is in
     let next_is = next_level_is s v next q w.level_is n in
-    let place : i ≡ place_of h (linear_level s (v / s)) = f ∙ ap (place_of h) w.level_is in
+    let place : i ≡ bin_or_last h (linear_level s (v / s)) = f ∙ ap (bin_or_last h) w.level_is in
     ⊎_elim
     (λ (lt : v / s < first_end h s).
     let early : i < h.last = omega (arith, place, level_below h s (v / s) p q lt) in
@@ -234,18 +234,18 @@ linear_step h s v i next end end' done' w f n e d =
     (cases_lt (v / s) (first_end h s))
 
 -- no level to come is picked at or before a bin that the next one comes after
-pub levels_behind : (h : Seen) (s v i : ℕ) (end : Option ℕ) (done : Bool) → LinearStep h s v end done → i < place_of h v → NoneBefore (i + 1) (cond done [] (levels_from h s (v / s)))
+pub levels_behind : (h : Seen) (s v i : ℕ) (end : Option ℕ) (done : Bool) → LinearStep h s v end done → i < bin_or_last h v → NoneBefore (i + 1) (cond done [] (levels_from h s (v / s)))
 levels_behind h s v i end true w l = tt
 levels_behind h s v i end false w l =
-    let e = ap (place_of h) w.level_is in
+    let e = ap (bin_or_last h) w.level_is in
     levels_ahead h s (v / s) (linear_count h s - v / s) (i + 1) w.plain (omega (arith, e, l))
 
 -- the next level is at the current bin
-pub next_here : (h : Seen) (s v i : ℕ) (end : Option ℕ) → LinearStep h s v end false → place_of h v ≤ i → NoneBefore i (levels_from h s (v / s)) → (i ≡ place_of h v) × (levels_from h s (v / s) ≡ level_pick h v ∷ levels_from h s (v / s + 1))
+pub next_here : (h : Seen) (s v i : ℕ) (end : Option ℕ) → LinearStep h s v end false → bin_or_last h v ≤ i → NoneBefore i (levels_from h s (v / s)) → (i ≡ bin_or_last h v) × (levels_from h s (v / s) ≡ level_pick h v ∷ levels_from h s (v / s + 1))
 next_here h s v i end w l a =
     let more = levels_more h s (v / s) (w.going refl).0 in
     let b : NoneBefore i (level_pick h (linear_level s (v / s)) ∷ levels_from h s (v / s + 1)) = subst (NoneBefore i) more a in
-    let e = ap (place_of h) w.level_is in
+    let e = ap (bin_or_last h) w.level_is in
     (omega (arith, l, b.0, e), more ∙ ap (λ q. level_pick h q ∷ levels_from h s (v / s + 1)) (sym w.level_is))
 
 pub levels_all : (h : Seen) (s : ℕ) → 1 ≤ s → levels_from h s ((s - 1) / s) ≡ linear_picks h s

@@ -3,7 +3,7 @@ use Rattle.std.proofs.Common.{◌≡◌, ℕ, ◌+◌, ◌-◌, ◌*◌, ◌^◌
 use Rattle.std.proofs.lemmas.Bool.{cases_lt, lt-ltb, le-ltb, ltb-true}
 use Rattle.std.proofs.Math.Nat.{pow-zero, pow-suc, pow-succ', mul-le-mul_right, mul-le-mul_left}
 use Rattle.std.specs.List.{range_with_len}
-use Rattle.hdr_iterators.specs.Seen.{Seen, AreBins, bins_in, capped, place_of, lowest_in}
+use Rattle.hdr_iterators.specs.Seen.{Seen, AreBins, bins_in, capped, bin_or_last, lowest_in}
 use Rattle.hdr_iterators.specs.Picks.{Pick, NoneBefore, AllBefore}
 use Rattle.hdr_iterators.specs.Places.{level_pick, log_level, log_count, log_picks}
 use Rattle.hdr_iterators.specs.Log.{LogStep}
@@ -102,7 +102,7 @@ first_pick : (h : Seen) (p b : ℕ) → p ≤ (2 ^ 64 - 1) → level_pick h (log
 first_pick h p b l = ap (level_pick h) (level_start p b l)
 
 -- below the last recorded class, the levels go on from the next power
-pub log_more : (h : Seen) (p b : ℕ) → LogStep h p b → place_of h (p - 1) < h.last → log_picks h p b ≡ level_pick h (p - 1) ∷ log_picks h (capped (p * b)) b
+pub log_more : (h : Seen) (p b : ℕ) → LogStep h p b → bin_or_last h (p - 1) < h.last → log_picks h p b ≡ level_pick h (p - 1) ∷ log_picks h (capped (p * b)) b
 log_more h p b w l =
     let wide : 1 ≤ b = omega (arith, w.wide) in
     let low : p - 1 < lowest_in h h.last =
@@ -119,7 +119,7 @@ log_more h p b w l =
     ∙ ap (λ ps. level_pick h (p - 1) ∷ ps) (map_shift (λ j. level_pick h (log_level p b j)) (λ j. level_pick h (log_level (capped (p * b)) b j)) (λ j. ap (level_pick h) (level_shift p b j wide)) 0 (log_count h (capped (p * b)) b))))
 
 -- the first level picked at the last recorded bin or after it is the last one
-pub log_last : (h : Seen) (p b : ℕ) → LogStep h p b → h.last ≤ place_of h (p - 1) → log_picks h p b ≡ level_pick h (p - 1) ∷ []
+pub log_last : (h : Seen) (p b : ℕ) → LogStep h p b → h.last ≤ bin_or_last h (p - 1) → log_picks h p b ≡ level_pick h (p - 1) ∷ []
 log_last h p b w l =
     let high : lowest_in h h.last ≤ p - 1 =
     ⊎_elim
@@ -129,10 +129,10 @@ log_last h p b w l =
     (cases_lt (p - 1) (lowest_in h h.last)) in
     ap (λ q. map (λ j. level_pick h (log_level p b j)) (range_with_len 0 q)) (count_high h p b w high) ∙ ap (λ q. q ∷ []) (first_pick h p b w.fits)
 
-levels_ahead : (h : Seen) (p b a n m : ℕ) → AreBins h → 1 ≤ b → m ≤ place_of h (log_level p b a) → NoneBefore m (map (λ j. level_pick h (log_level p b j)) (range_with_len a n))
+levels_ahead : (h : Seen) (p b a n m : ℕ) → AreBins h → 1 ≤ b → m ≤ bin_or_last h (log_level p b a) → NoneBefore m (map (λ j. level_pick h (log_level p b j)) (range_with_len a n))
 levels_ahead h p b a zero m w l q = tt
 levels_ahead h p b a (suc n) m w l q =
-    let up : place_of h (log_level p b a) ≤ place_of h (log_level p b (a + 1)) = place-le h (log_level p b a) (log_level p b (a + 1)) w (level-le p b a l) in
+    let up : bin_or_last h (log_level p b a) ≤ bin_or_last h (log_level p b (a + 1)) = place-le h (log_level p b a) (log_level p b (a + 1)) w (level-le p b a l) in
     (q, levels_ahead h p b (a + 1) n m w l (omega (arith, q, up)))
 
 pub log_within : (h : Seen) (p b a n : ℕ) → 0 < bins_in h → AllBefore (bins_in h) (map (λ j. level_pick h (log_level p b j)) (range_with_len a n))
@@ -140,10 +140,10 @@ log_within h p b a zero l = tt
 log_within h p b a (suc n) l = (omega (arith, l), log_within h p b (a + 1) n l)
 
 -- no level to come is picked at or before a bin that the next one comes after
-pub log_behind : (h : Seen) (p b i : ℕ) (done : Bool) → LogStep h p b → i < place_of h (p - 1) → NoneBefore (i + 1) (cond done [] (log_picks h p b))
+pub log_behind : (h : Seen) (p b i : ℕ) (done : Bool) → LogStep h p b → i < bin_or_last h (p - 1) → NoneBefore (i + 1) (cond done [] (log_picks h p b))
 log_behind h p b i true w l = tt
 log_behind h p b i false w l =
-    let e : place_of h (log_level p b 0) ≡ place_of h (p - 1) = ap (place_of h) (level_start p b w.fits) in
+    let e : bin_or_last h (log_level p b 0) ≡ bin_or_last h (p - 1) = ap (bin_or_last h) (level_start p b w.fits) in
     levels_ahead h p b 0 (log_count h p b) (i + 1) w.plain (omega (arith, w.wide)) (omega (arith, e, l))
 
 pub LogStep-next : (h : Seen) (p b next : ℕ) → LogStep h p b → next ≡ min (p * b) (2 ^ 64 - 1) → LogStep h next b
@@ -152,29 +152,29 @@ LogStep-next h p b next w e =
     record { plain = w.plain; some = omega (arith, m, e, w.some); fits = omega (arith, e); wide = w.wide }
 
 -- the next level is at the current bin, and the rest comes of the next power
-pub log_step : (h : Seen) (p b i next : ℕ) (done : Bool) → LogStep h p b → place_of h (p - 1) ≤ i → NoneBefore i (log_picks h p b) → next ≡ min (p * b) (2 ^ 64 - 1)
+pub log_step : (h : Seen) (p b i next : ℕ) (done : Bool) → LogStep h p b → bin_or_last h (p - 1) ≤ i → NoneBefore i (log_picks h p b) → next ≡ min (p * b) (2 ^ 64 - 1)
     → ((done ≡ true) × (h.last ≤ i)) ⊎ ((done ≡ false) × (i < h.last))
-    → (i ≡ place_of h (p - 1)) × (log_picks h p b ≡ level_pick h (p - 1) ∷ cond done [] (log_picks h next b))
+    → (i ≡ bin_or_last h (p - 1)) × (log_picks h p b ≡ level_pick h (p - 1) ∷ cond done [] (log_picks h next b))
 log_step h p b i next done w l a n told =
     ⊎_elim
-    (λ (lt : place_of h (p - 1) < h.last).
+    (λ (lt : bin_or_last h (p - 1) < h.last).
     let more = log_more h p b w lt in
     let at : NoneBefore i (level_pick h (p - 1) ∷ log_picks h (capped (p * b)) b) = subst (NoneBefore i) more a in
-    let here : i ≡ place_of h (p - 1) = omega (arith, l, at.0) in (
+    let here : i ≡ bin_or_last h (p - 1) = omega (arith, l, at.0) in (
       here,
       ⊎_elim
           (λ (y : (done ≡ true) × (h.last ≤ i)). absurd (omega (arith, y.1, here, lt)))
           (λ (y : (done ≡ false) × (i < h.last)). more ∙ ap (λ q. level_pick h (p - 1) ∷ log_picks h q b) (sym n) ∙ ap (λ d. level_pick h (p - 1) ∷ cond d [] (log_picks h next b)) (sym y.0))
           told,
     ))
-    (λ (ge : h.last ≤ place_of h (p - 1)).
+    (λ (ge : h.last ≤ bin_or_last h (p - 1)).
     let more = log_last h p b w ge in
     let at : NoneBefore i (level_pick h (p - 1) ∷ []) = subst (NoneBefore i) more a in
-    let here : i ≡ place_of h (p - 1) = omega (arith, l, at.0) in (
+    let here : i ≡ bin_or_last h (p - 1) = omega (arith, l, at.0) in (
       here,
       ⊎_elim
           (λ (y : (done ≡ true) × (h.last ≤ i)). more ∙ ap (λ d. level_pick h (p - 1) ∷ cond d [] (log_picks h next b)) (sym y.0))
           (λ (y : (done ≡ false) × (i < h.last)). absurd (omega (arith, y.1, here, ge)))
           told,
     ))
-    (cases_lt (place_of h (p - 1)) (h.last))
+    (cases_lt (bin_or_last h (p - 1)) (h.last))

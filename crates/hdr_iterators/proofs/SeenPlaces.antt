@@ -5,7 +5,7 @@ use Rattle.hdr_base.specs.Classes.{Resolution, bucket, bin_of, value_of, top_of,
 use Rattle.hdr_base.proofs.ClassesLaws.{bin-mono, bin-lowest, lowest-le, width-pos, bucket-end, pow_mono_le}
 use Rattle.hdr_base.proofs.ClassesScale.{class-end}
 use Rattle.hdr_base.proofs.ClassesFiner.{bin-value_of, lowest-value_of}
-use Rattle.hdr_iterators.specs.Seen.{Seen, AreBins, bins_in, place_of, lowest_in, top_in}
+use Rattle.hdr_iterators.specs.Seen.{Seen, AreBins, bins_in, bin_or_last, lowest_in, top_in}
 
 -- a value below the lowest of a class lies in a class before it
 pub before-class : (g : Resolution) (v i : ℕ) → 0 < g.digits → v < value_of g i → bin_of g v < i
@@ -24,10 +24,10 @@ pub from-class : (g : Resolution) (v i : ℕ) → 0 < g.digits → value_of g i 
 from-class g v i m le = omega (arith, bin-mono g (value_of g i) v m le, bin-value_of g i m)
 
 -- later values have later bins
-pub place-le : (h : Seen) (v w : ℕ) → AreBins h → v ≤ w → place_of h v ≤ place_of h w
+pub place-le : (h : Seen) (v w : ℕ) → AreBins h → v ≤ w → bin_or_last h v ≤ bin_or_last h w
 place-le h v w p le = omega (arith, bin-mono h.resolution v w p.digits le)
 
-pub place-inside : (h : Seen) (v : ℕ) → AreBins h → place_of h v < bins_in h
+pub place-inside : (h : Seen) (v : ℕ) → AreBins h → bin_or_last h v < bins_in h
 place-inside h v p = omega (arith, p.some)
 
 -- the lowest value of a bin is a u64

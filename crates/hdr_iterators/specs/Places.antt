@@ -2,7 +2,7 @@
 use Rattle.std.specs.Prelude.{ℕ, ◌+◌, ◌-◌, ◌*◌, ◌/◌, ◌%◌, ◌^◌, ◌==◌, max, List, [], ◌∷◌, map, filter, flat_map, count_by, slice_index, Some, None, Bool, nat_lt, nat_le, ◌&&◌, if◌then◌else◌}
 use Rattle.std.specs.List.{range_with_len}
 use Rattle.hdr_base.specs.Fractions.{Ratio}
-use Rattle.hdr_iterators.specs.Seen.{Seen, capped, bins_in, below, running, lowest_in, top_in, place_of}
+use Rattle.hdr_iterators.specs.Seen.{Seen, capped, bins_in, below, running, lowest_in, top_in, bin_or_last}
 use Rattle.hdr_iterators.specs.Picks.{Pick}
 
 abbrev pub bin_pick : ℕ → Pick
@@ -25,7 +25,7 @@ recorded_picks h = map bin_pick (filter (is_nonempty h) (bins_from h 0))
 
 -- a level, at its bin or the last bin
 abbrev pub level_pick : Seen → ℕ → Pick
-level_pick h v = record { place = place_of h v; tick = None; level = Some v }
+level_pick h v = record { place = bin_or_last h v; tick = None; level = Some v }
 
 -- level number j of a step: the last value of the step, or `u64::MAX` if that is above it
 abbrev pub linear_level : ℕ → ℕ → ℕ
@@ -37,9 +37,9 @@ levels_below step v = v / step
 
 -- the top of the class of the first level that is not below the last recorded class
 abbrev pub linear_end : Seen → ℕ → ℕ
-linear_end h step = top_in h (place_of h (linear_level step (levels_below step (lowest_in h h.last))))
+linear_end h step = top_in h (bin_or_last h (linear_level step (levels_below step (lowest_in h h.last))))
 
--- how many levels come: those below the last recorded class and one more; and all that are at most the end, where the
+-- how many levels come: those below the last recorded class and one more; and all that are at most the end, where
 -- `u64::MAX` comes once
 abbrev pub linear_count : Seen → ℕ → ℕ
 linear_count h step =

@@ -25,8 +25,8 @@ abbrev pub top_in : Seen → ℕ → ℕ
 top_in h i = top_of h.resolution (value_of h.resolution i)
 
 -- the bin of a value, or the last bin if the value lies past the bins
-abbrev pub place_of : Seen → ℕ → ℕ
-place_of h v = min (bin_of h.resolution v) (bins_in h - 1)
+abbrev pub bin_or_last : Seen → ℕ → ℕ
+bin_or_last h v = min (bin_of h.resolution v) (bins_in h - 1)
 
 -- the sum of the numbers before bin i
 abbrev pub below : Seen → ℕ → ℕ

@@ -9,7 +9,7 @@ pub record Ticked : Type 0 where
   pub per_half : ℕ
   pub number : ℕ
 
--- the same of a total
+-- a tick as Ticked, and the total that it is of
 pub record TickOf : Type 0 where
   pub per_half : ℕ
   pub number : ℕ

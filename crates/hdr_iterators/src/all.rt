@@ -15,7 +15,7 @@ pub struct Iter {
 }
 
 impl Iter {
-    /// Every bin once, in ascending order.
+    /// Returns an iterator over every bin once, in ascending order.
     pub fn new<T: Counter, H: Binned<T>>(histogram: &H) -> HistogramIterator<'_, T, Iter>
         ensures { result ≡ items_of (H.seen histogram.now) (all_picks (H.seen histogram.now)) }
     {

@@ -1,7 +1,7 @@
 //! The bins of a histogram, as its iterators see them.
 
 ghost use Rattle.std.specs.Prelude.{◌≡◌, ◌<◌, ◌≤◌, slice_index};
-ghost use Rattle.hdr_iterators.specs.Seen.{Seen, AreBins, AreEmpty, bins_in, top_in, place_of};
+ghost use Rattle.hdr_iterators.specs.Seen.{Seen, AreBins, AreEmpty, bins_in, top_in, bin_or_last};
 
 use hdr_base::{Counter, Scale};
 use hdr_counts::Counts;
@@ -38,7 +38,8 @@ impl<'a, T: Counter> Model for Bins<'a, T> {
 }
 
 impl<'a, T: Counter> Bins<'a, T> {
-    /// The bins of these classes, from 0 on.
+    /// Returns bins of the classes of `scale` from 0 on, with counters `counts`, `total` samples, and `last` as the last bin that
+    /// counts as recorded.
     pub fn new(scale: Scale, counts: &'a Counts<T>, total: u64, last: usize) -> Bins<'a, T>
         requires { AreBins
             (record {
@@ -120,8 +121,8 @@ impl<'a, T: Counter> Bins<'a, T> {
     }
 
     /// Returns the bin of a value, or the last bin if the value is beyond the bins.
-    pub(crate) fn place_of(&self, value: u64) -> usize
-        ensures value { result ≡ place_of self.now value }
+    pub(crate) fn bin_or_last(&self, value: u64) -> usize
+        ensures value { result ≡ bin_or_last self.now value }
         ensures within { result < bins_in self.now }
     {
         self.scale.bin(value).min(self.counts.len() - 1)

@@ -24,7 +24,7 @@ pub struct Iter<'a, T: Counter> {
 }
 
 impl<'a, T: Counter> Iter<'a, T> {
-    /// The levels `step - 1`, `2 * step - 1`, .. up to the top of the class of the first that is not below the last
+    /// Returns an iterator over the levels `step - 1`, `2 * step - 1`, .. up to the top of the class of the first that is not below the last
     /// recorded class. A level past `u64::MAX` becomes `u64::MAX`, and is the last. `step` is at least 1.
     pub fn new<H: Binned<T>>(histogram: &'a H, step: u64) -> HistogramIterator<'a, T, Iter<'a, T>>
         requires { 1 ≤ step }
@@ -33,7 +33,7 @@ impl<'a, T: Counter> Iter<'a, T> {
     {
         let bins = histogram.binned();
         let picker = Iter {
-            place: bins.place_of(step - 1),
+            place: bins.bin_or_last(step - 1),
             bins: histogram.binned(),
             step,
             level: step - 1,
@@ -46,12 +46,12 @@ impl<'a, T: Counter> Iter<'a, T> {
 
 impl<'a, T: Counter> PickyIterator<T> for Iter<'a, T> {
     ghost use Rattle.std.specs.Prelude.{◌≡◌, ◌/◌, [], if◌then◌else◌};
-    ghost use Rattle.hdr_iterators.specs.Seen.{place_of};
+    ghost use Rattle.hdr_iterators.specs.Seen.{bin_or_last};
     ghost use Rattle.hdr_iterators.specs.Linear.{LinearStep, levels_from};
 
     ghost picks = { λ p h. if p.done then [] else levels_from h p.step (p.level / p.step) };
 
-    ghost goes_with = { λ p h last. (p.bins ≡ h) × (p.place ≡ place_of h p.level) × LinearStep h p.step p.level p.end p.done };
+    ghost goes_with = { λ p h last. (p.bins ≡ h) × (p.place ≡ bin_or_last h p.level) × LinearStep h p.step p.level p.end p.done };
 
     fn pick(&mut self, index: usize, _: u64, _: T) -> Option<PickMetadata> {
         if self.done || !is_due(&self.bins, self.place, index) {
@@ -60,7 +60,7 @@ impl<'a, T: Counter> PickyIterator<T> for Iter<'a, T> {
         let level = self.level;
         let end = end_after(&self.bins, self.end, index);
         self.level = level.saturating_add(self.step);
-        self.place = self.bins.place_of(self.level);
+        self.place = self.bins.bin_or_last(self.level);
         self.done = was_last(level, self.level, end);
         self.end = end;
         Some(PickMetadata::new(None, Some(level)))

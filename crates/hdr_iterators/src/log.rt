@@ -21,7 +21,7 @@ pub struct Iter<'a, T: Counter> {
 }
 
 impl<'a, T: Counter> Iter<'a, T> {
-    /// The levels `start - 1`, `start * base - 1`, `start * base ^ 2 - 1`, .. up to the first that is not below the last
+    /// Returns an iterator over the levels `start - 1`, `start * base - 1`, `start * base ^ 2 - 1`, .. up to the first that is not below the last
     /// recorded class. A power past `u64::MAX` counts as `u64::MAX`. `start` is at least 1, and `base` at least 2.
     pub fn new<H: Binned<T>>(
         histogram: &'a H,
@@ -35,7 +35,7 @@ impl<'a, T: Counter> Iter<'a, T> {
     {
         let bins = histogram.binned();
         let picker = Iter {
-            place: bins.place_of(start - 1),
+            place: bins.bin_or_last(start - 1),
             bins: histogram.binned(),
             base,
             power: start,
@@ -47,13 +47,13 @@ impl<'a, T: Counter> Iter<'a, T> {
 
 impl<'a, T: Counter> PickyIterator<T> for Iter<'a, T> {
     ghost use Rattle.std.specs.Prelude.{◌≡◌, ◌-◌, [], if◌then◌else◌};
-    ghost use Rattle.hdr_iterators.specs.Seen.{place_of};
+    ghost use Rattle.hdr_iterators.specs.Seen.{bin_or_last};
     ghost use Rattle.hdr_iterators.specs.Places.{log_picks};
     ghost use Rattle.hdr_iterators.specs.Log.{LogStep};
 
     ghost picks = { λ p h. if p.done then [] else log_picks h p.power p.base };
 
-    ghost goes_with = { λ p h last. (p.bins ≡ h) × (p.place ≡ place_of h (p.power - 1)) × LogStep h p.power p.base };
+    ghost goes_with = { λ p h last. (p.bins ≡ h) × (p.place ≡ bin_or_last h (p.power - 1)) × LogStep h p.power p.base };
 
     fn pick(&mut self, index: usize, _: u64, _: T) -> Option<PickMetadata> {
         if self.done || !is_due(&self.bins, self.place, index) {
@@ -61,7 +61,7 @@ impl<'a, T: Counter> PickyIterator<T> for Iter<'a, T> {
         }
         let level = self.power.saturating_sub(1);
         self.power = self.power.saturating_mul(self.base);
-        self.place = self.bins.place_of(self.power.saturating_sub(1));
+        self.place = self.bins.bin_or_last(self.power.saturating_sub(1));
         self.done = index >= self.bins.last();
         Some(PickMetadata::new(None, Some(level)))
     }

@@ -40,7 +40,7 @@ pub trait PickyIterator<T: Counter>: Drop {
     /// The picker was made for these bins, and the bin is the one that it picked last.
     ghost goes_with: { Self → Seen → Option ℕ → Type 0 };
 
-    /// Whether to stop at a bin. The engine calls it again at the same bin until it returns `None`. `total_count_to_index` is
+    /// Returns the quantile or the level that bin `index` is picked for, or `None` to go on. The engine calls it again at the same bin until it returns `None`. `total_count_to_index` is
     /// the sum of the counters up to the bin, at most `u64::MAX`, and `count_at_index` the bin's counter.
     fn pick(
         &mut self,
@@ -195,7 +195,7 @@ fn next_asked<T: Counter>(bins: &Bins<'_, T>, skips_empty: bool, index: usize) -
     }
 }
 
-/// The item of a pick at a bin.
+/// Returns the item of a pick at bin `index`.
 fn value_at<T: Counter>(
     bins: &Bins<'_, T>,
     index: usize,

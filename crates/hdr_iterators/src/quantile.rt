@@ -164,7 +164,7 @@ pub struct Iter<'a, T: Counter> {
 }
 
 impl<'a, T: Counter> Iter<'a, T> {
-    /// Returns a picker that picks each nonempty bin once for each tick that it reaches. Each half of the distance to 1 has
+    /// Returns an iterator that yields each nonempty bin once for each tick that it reaches. Each half of the distance to 1 has
     /// `ticks_per_half_distance` ticks, at least 1. At the bin that reaches the total, the next tick follows, and then 1.
     pub fn new<H: Binned<T>>(
         histogram: &'a H,

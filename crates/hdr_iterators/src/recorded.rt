@@ -15,7 +15,7 @@ pub struct Iter {
 }
 
 impl Iter {
-    /// Every nonempty bin once, in ascending order.
+    /// Returns an iterator over every nonempty bin once, in ascending order.
     pub fn new<T: Counter, H: Binned<T>>(histogram: &H) -> HistogramIterator<'_, T, Iter>
         ensures { result ≡ items_of (H.seen histogram.now) (recorded_picks (H.seen histogram.now)) }
     {

@@ -27,7 +27,8 @@ pub fn decoded(alloc: Global, field: &str) -> Result<Vec<u8>, FieldError>
     Ok(bytes)
 }
 
-/// Decodes a field in Base64 into `buffer`, and replaces what it held, so that one buffer serves for many fields.
+/// Decodes a field in Base64 into `buffer`, and replaces what it held, so that one buffer serves for many fields. On error its
+/// contents are unspecified.
 #[tactic(auto, unfolding(crate::specs::Texts::base64_bytes))]
 pub fn decode_into(field: &str, buffer: &mut Vec<u8>) -> Result<(), FieldError>
     ensures { MatchResult result (λ _. base64_bytes field.now ≡ Some buffer.new.items)

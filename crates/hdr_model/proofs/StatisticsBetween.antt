@@ -10,7 +10,7 @@ use Rattle.hdr_base.specs.Classes.{Resolution, bin_of, lowest_of, top_of, width_
 use Rattle.hdr_base.proofs.ClassesLaws.{bin-mono, bin-lowest, bin-top, same-bin, lowest-le, width-pos, top-of-value}
 use Rattle.hdr_model.specs.Plain.{Plain, IsPlain, resolution, reach}
 use Rattle.hdr_model.specs.Samples.{StandsFor}
-use Rattle.hdr_model.specs.Statistics.{held_bin, sum_between, samples_between}
+use Rattle.hdr_model.specs.Statistics.{bin_or_last, sum_between, samples_between}
 use Rattle.hdr_model.proofs.PlainKept.{resolution-digits, room-in}
 use Rattle.hdr_model.proofs.QuantilesOrder.{in_first, running}
 
@@ -92,8 +92,8 @@ part-sum xs a e le =
     let split : sum (drop a xs) ≡ sum (slice_range xs a e) + sum (drop e xs) = ap sum (drop_split xs a e le) ∙ sum_by-append (λ x. x) (slice_range xs a e) (drop e xs) in
     omega (arith, sum_by-take-drop (λ x. x) xs a, sum_by-take-drop (λ x. x) xs e)
 
-pub held-is : (greatest : ℕ) (h : Plain) (v : ℕ) → IsPlain greatest h → v ≤ reach h → held_bin h v ≡ bin_of (resolution h) v
-unfolding held_bin
+pub held-is : (greatest : ℕ) (h : Plain) (v : ℕ) → IsPlain greatest h → v ≤ reach h → bin_or_last h v ≡ bin_of (resolution h) v
+unfolding bin_or_last
 held-is greatest h v p le = omega (arith, room-in greatest h v p le)
 
 pub between-samples : (greatest : ℕ) (h : Plain) (a b : ℕ) (S : List ℕ) → IsPlain greatest h → StandsFor h S → a ≤ b → b ≤ reach h
@@ -101,8 +101,8 @@ pub between-samples : (greatest : ℕ) (h : Plain) (a b : ℕ) (S : List ℕ) �
 between-samples greatest h a b S p stands le within =
     let g = resolution h in
     let m = resolution-digits greatest h p in
-    let first : held_bin h a ≡ bin_of g a = held-is greatest h a p (omega arith) in
-    let last : held_bin h b ≡ bin_of g b = held-is greatest h b p within in
+    let first : bin_or_last h a ≡ bin_of g a = held-is greatest h a p (omega arith) in
+    let last : bin_or_last h b ≡ bin_of g b = held-is greatest h b p within in
     let order : bin_of g a ≤ bin_of g b = bin-mono g a b m le in
     let room : bin_of g b < length h.counts = room-in greatest h b p within in
     let part : sum_between h a b ≡ sum (slice_range h.counts (bin_of g a) (bin_of g b + 1)) = rw (first, last) refl in
@@ -118,6 +118,6 @@ between-samples greatest h a b S p stands le within =
       p.total_fits,
     )
 
-pub held-order : (greatest : ℕ) (h : Plain) (a b : ℕ) → IsPlain greatest h → a ≤ b → b ≤ reach h → held_bin h a ≤ held_bin h b
+pub held-order : (greatest : ℕ) (h : Plain) (a b : ℕ) → IsPlain greatest h → a ≤ b → b ≤ reach h → bin_or_last h a ≤ bin_or_last h b
 held-order greatest h a b p le within =
     omega (arith, held-is greatest h a p (omega arith), held-is greatest h b p within, bin-mono (resolution h) a b (resolution-digits greatest h p) le)

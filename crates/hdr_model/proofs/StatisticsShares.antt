@@ -16,7 +16,7 @@ use Rattle.hdr_base.proofs.ClassesReach.{past-bins}
 use Rattle.hdr_counts.proofs.BlocksSums.{sum_below-le, sum_below-le-sum}
 use Rattle.hdr_model.specs.Plain.{Plain, IsPlain, resolution, reach}
 use Rattle.hdr_model.specs.Samples.{StandsFor}
-use Rattle.hdr_model.specs.Statistics.{held_bin, samples_between, quantile_below, IsAtMost}
+use Rattle.hdr_model.specs.Statistics.{bin_or_last, samples_between, quantile_below, IsAtMost}
 use Rattle.hdr_model.specs.Quantiles.{rank, position_of_rank, value_at_bin, value_at_quantile}
 use Rattle.hdr_model.proofs.StatisticsBetween.{all, held-is}
 use Rattle.hdr_model.proofs.PlainBins.{bin-of-top}
@@ -30,7 +30,7 @@ pub share-of-none : (h : Plain) (v : ℕ) → h.total ≡ 0 → quantile_below h
 unfolding quantile_below
 share-of-none h v e = rw (eq-eqb h.total 0 e) refl
 
-pub share-of-some : (h : Plain) (v : ℕ) → 0 < h.total → quantile_below h v ≡ record { num = min (sum (take (held_bin h v + 1) h.counts)) (2 ^ 64 - 1); den = h.total }
+pub share-of-some : (h : Plain) (v : ℕ) → 0 < h.total → quantile_below h v ≡ record { num = min (sum (take (bin_or_last h v + 1) h.counts)) (2 ^ 64 - 1); den = h.total }
 unfolding quantile_below
 share-of-some h v some = rw (eqb-other h.total 0 (λ z. omega (arith, z))) refl
 
@@ -41,7 +41,7 @@ part-covered greatest h k p = omega (arith, p.total_covers, sum_below-le-sum h.c
 -- a fraction of the samples is at most 1, and 1 without samples
 pub share-at-most : (greatest : ℕ) (h : Plain) (v : ℕ) → IsPlain greatest h → ((quantile_below h v).num ≤ (quantile_below h v).den) × (0 < (quantile_below h v).den)
 share-at-most greatest h v p = elim (cases_lt 0 h.total) [
-  | inl some ↦ rw (share-of-some h v some) (part-covered greatest h (held_bin h v + 1) p, some)
+  | inl some ↦ rw (share-of-some h v some) (part-covered greatest h (bin_or_last h v + 1) p, some)
   | inr none ↦ rw (share-of-none h v (omega arith)) (omega arith, omega arith)
 ]
 
@@ -59,8 +59,8 @@ unfolding reach
 beyond-bins greatest h v p past = omega (arith, p.bins, past-bins (resolution h) h.high v (resolution-digits greatest h p) past)
 
 pub up-to-samples : (greatest : ℕ) (h : Plain) (v : ℕ) (S : List ℕ) → IsPlain greatest h → StandsFor h S
-    → sum (take (held_bin h v + 1) h.counts) ≡ samples_between 0 (top_of (resolution h) v) S
-unfolding held_bin
+    → sum (take (bin_or_last h v + 1) h.counts) ≡ samples_between 0 (top_of (resolution h) v) S
+unfolding bin_or_last
 up-to-samples greatest h v S p stands =
     let g = resolution h in
     let m = resolution-digits greatest h p in
@@ -80,7 +80,7 @@ up-to-samples greatest h v S p stands =
           )
     ]
 
-pub samples-fit : (greatest : ℕ) (h : Plain) (v : ℕ) (S : List ℕ) → IsPlain greatest h → StandsFor h S → sum (take (held_bin h v + 1) h.counts) ≤ h.total
+pub samples-fit : (greatest : ℕ) (h : Plain) (v : ℕ) (S : List ℕ) → IsPlain greatest h → StandsFor h S → sum (take (bin_or_last h v + 1) h.counts) ≤ h.total
 samples-fit greatest h v S p stands =
     omega (arith, up-to-samples greatest h v S p stands, count_by-le-length (λ s. leb 0 s && leb s (top_of (resolution h) v)) S, stands.total)
 
@@ -88,7 +88,7 @@ pub share-of-samples : (greatest : ℕ) (h : Plain) (v : ℕ) (S : List ℕ) →
     → quantile_below h v ≡ record { num = samples_between 0 (top_of (resolution h) v) S; den = length S }
 share-of-samples greatest h v S p stands some =
     let fits = samples-fit greatest h v S p stands in
-    let capped : min (sum (take (held_bin h v + 1) h.counts)) (2 ^ 64 - 1) ≡ samples_between 0 (top_of (resolution h) v) S = omega (arith, fits, p.total_fits, up-to-samples greatest h v S p stands) in
+    let capped : min (sum (take (bin_or_last h v + 1) h.counts)) (2 ^ 64 - 1) ≡ samples_between 0 (top_of (resolution h) v) S = omega (arith, fits, p.total_fits, up-to-samples greatest h v S p stands) in
     share-of-some h v (omega (arith, stands.total, some)) ∙ rw (capped, stands.total) refl
 
 -- a rank is at most a number of samples if and only if its quantile is at most their fraction
@@ -143,12 +143,12 @@ first-order counts r i b first = (
 -- the value at a quantile lies in the classes up to a value's if and only if the quantile is at most that of the class
 pub quantile-below : (greatest : ℕ) (h : Plain) (q : Ratio) (v : ℕ) (S : List ℕ) → IsPlain greatest h → StandsFor h S → 0 < length S → 0 < q.num → q.num ≤ q.den
     → (value_at_quantile h q ≤ top_of (resolution h) v) ↔ IsAtMost q (quantile_below h v)
-unfolding value_at_quantile held_bin
+unfolding value_at_quantile bin_or_last
 quantile-below greatest h q v S p stands some pos one =
     told (position_of_rank h.counts (rank q h.total)) (position_of_rank-found h.counts (rank q h.total) (rank-pos q h.total))
   where
     c : ℕ
-    c = sum (take (held_bin h v + 1) h.counts)
+    c = sum (take (bin_or_last h v + 1) h.counts)
 
     n-pos : 0 < h.total
     n-pos = omega (arith, stands.total, some)
@@ -156,7 +156,7 @@ quantile-below greatest h q v S p stands some pos one =
     share : quantile_below h v ≡ record { num = c; den = h.total }
     share =
         let fits = samples-fit greatest h v S p stands in
-        let capped : min (sum (take (held_bin h v + 1) h.counts)) (2 ^ 64 - 1) ≡ c = omega (arith, fits, p.total_fits) in
+        let capped : min (sum (take (bin_or_last h v + 1) h.counts)) (2 ^ 64 - 1) ≡ c = omega (arith, fits, p.total_fits) in
         share-of-some h v n-pos ∙ rw capped refl
 
     held-order : (i : ℕ) → i < length h.counts → (i ≤ bin_of (resolution h) v) ↔ (i ≤ min (bin_of (resolution h) v) (length h.counts - 1))
@@ -169,7 +169,7 @@ quantile-below greatest h q v S p stands some pos one =
         let m = resolution-digits greatest h p in
         let tops = top-order (resolution h) i v m in
         let held = held-order i first.in_bins in
-        let order = first-order h.counts (rank q h.total) i (held_bin h v) first in
+        let order = first-order h.counts (rank q h.total) i (bin_or_last h v) first in
         let ranks = rank-within q h.total c pos one n-pos in
         rw (eqb-other q.num 0 (λ z. omega (arith, z)), share)
         (λ le. ranks.0 (order.0 (held.0 (tops.0 le))), λ le. tops.1 (held.1 (order.1 (ranks.1 le))))

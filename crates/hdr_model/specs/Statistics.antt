@@ -7,12 +7,12 @@ use Rattle.hdr_base.specs.Classes.{Resolution, bin_of, lowest_of, width_of, valu
 use Rattle.hdr_model.specs.Plain.{Plain, resolution}
 
 -- the class that holds a value, or the last one if the value lies past the bins
-unfoldable pub held_bin : Plain → ℕ → ℕ
-held_bin h v = min (bin_of (resolution h) v) (length h.counts - 1)
+unfoldable pub bin_or_last : Plain → ℕ → ℕ
+bin_or_last h v = min (bin_of (resolution h) v) (length h.counts - 1)
 
 -- the sum of the numbers from a value's class to another's
 abbrev pub sum_between : Plain → ℕ → ℕ → ℕ
-sum_between h a b = sum (slice_range h.counts (held_bin h a) (held_bin h b + 1))
+sum_between h a b = sum (slice_range h.counts (bin_or_last h a) (bin_or_last h b + 1))
 
 -- how many samples lie from a value to another
 abbrev pub samples_between : ℕ → ℕ → List ℕ → ℕ
@@ -22,7 +22,7 @@ samples_between a b S = count_by (λ s. nat_le a s && nat_le s b) S
 unfoldable pub quantile_below : Plain → ℕ → Ratio
 quantile_below h v =
     if h.total == 0 then record { num = 1; den = 1 }
-    else record { num = min (sum (take (held_bin h v + 1) h.counts)) (2 ^ 64 - 1); den = h.total }
+    else record { num = min (sum (take (bin_or_last h v + 1) h.counts)) (2 ^ 64 - 1); den = h.total }
 
 -- a fraction times 100
 abbrev pub in_hundredths : Ratio → Ratio

@@ -67,7 +67,7 @@ pub fn samples_are_counted()
         → sum h.counts ≡ length S }
 {}
 
-/// What a constructor makes of lawful bounds is a histogram, for every counter type.
+/// A constructor with valid bounds returns a histogram, for every counter type.
 pub fn new_is_plain()
     ensures { (greatest low high sigfig : ℕ) (auto_resize : Bool) → IsBounds low high sigfig
         → high < 2 ^ 64

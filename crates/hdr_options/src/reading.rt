@@ -142,6 +142,7 @@ fn choice_of<'a>(
     matches: &ArgMatches<'a>,
 ) -> Result<IntervalChoice<'a>, UsageError> {
     let tags = match tag_of(alloc, matches)? {
+        Some(tag) if tag.as_str().is_empty() => TagChoice::Untagged,
         Some(tag) => TagChoice::Tagged(tag),
         None => TagChoice::Every,
     };

@@ -94,7 +94,7 @@ fn items<T: Counter>(alloc: Global, list: Vec<IterationValue<T>>) -> Outcome {
 
 /// A fraction as its two numbers.
 fn ratio(alloc: Global, fraction: Fraction) -> Outcome {
-    Ok(Answer::Text(format!(in alloc; "{}/{}", fraction.num, fraction.den)?))
+    Ok(Answer::Text(format!(in alloc; "{}", fraction)?))
 }
 
 /// Makes a call on a histogram whose result is a text.

@@ -19,6 +19,15 @@ pub struct Tagged {
     pub distribution: Distribution,
 }
 
+/// Appends a tag as it is shown on a terminal: control characters are shown as `?`.
+pub fn push_tag(text: &mut String, tag: &str) -> Result<(), AllocError> {
+    for character in tag.chars() {
+        let is_control = character.is_control();
+        text.push(if is_control { '?' } else { character })?;
+    }
+    Ok(())
+}
+
 /// Returns the mean in parts of a unit, halves rounded up, or `None` without numbers or on
 /// overflow. It is that of the numbers, or that of their classes if only these are known.
 pub fn mean_in_parts(distribution: &Distribution, parts: u128) -> Option<u128> {

@@ -48,14 +48,9 @@ impl Unit {
 
 /// Splits a text before the unit that it ends in.
 fn split_unit(text: &str) -> (&str, Option<Unit>) {
-    for (suffix, unit) in [
-        ("ns", Unit::Nanoseconds),
-        ("us", Unit::Microseconds),
-        ("ms", Unit::Milliseconds),
-        ("s", Unit::Seconds),
-    ] {
-        if let Some(start) = text.strip_suffix(suffix) {
-            return (start, Some(unit));
+    for name in Unit::NAMES {
+        if let Some(start) = text.strip_suffix(name) {
+            return (start, Unit::from_name(name));
         }
     }
     (text, None)

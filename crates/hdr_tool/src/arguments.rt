@@ -164,6 +164,7 @@ fn sigfig_and_quantiles(arguments: &[String]) -> Option<(u8, &[String])>
     Some((sigfig, quantiles))
 }
 
+/// Parses one digit, 0 to 5.
 fn sigfig(argument: &[u8]) -> Option<u8>
     ensures { result ≡ sigfig_of argument.now }
 {
@@ -185,6 +186,7 @@ fn are_quantiles(arguments: &[String]) -> bool
     true
 }
 
+/// Parses `NUM/DEN`, with `DEN` at least 1.
 #[tactic(auto, unfolding(crate::specs::Arguments::fraction_of))]
 fn quantile(argument: &[u8]) -> Option<Quantile>
     ensures { result ≡ fraction_of argument.now }

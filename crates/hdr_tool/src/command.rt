@@ -140,8 +140,7 @@ fn numbers(text: &[u8]) -> Option<(u64, Option<u64>, &[u8])>
     Some((first, Some(second), after))
 }
 
-/// Fast path: parses `V`, which an LF ends, and returns the number with the rest. Inlined, it would
-/// slow down the loop over the first number's digits.
+/// Fast path: parses `V`, which an LF ends, and returns the number with the rest.
 #[inline(never)]
 fn last_number(text: &[u8]) -> Option<(u64, &[u8])>
     ensures { IfSome result (λ p. FirstLine text.now

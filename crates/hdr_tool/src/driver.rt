@@ -11,7 +11,7 @@ ghost use Rattle.hdr_tool.specs.Program.{run_end, lines_run, rest_run, input_run
 
 use crate::command::{Command, parse, value_line};
 use crate::fault::Fault;
-use crate::lines::split_first;
+use crate::lines::split_at_first;
 use crate::parts::{replace, take_lines};
 use crate::stream::{PIECE, fault_after_rest, read_piece};
 use hdrhistogram::Histogram;
@@ -140,7 +140,7 @@ fn run_lines<W: Write>(
             left = Some(after);
             continue;
         }
-        let (line, after) = split_first(text, b'\n');
+        let (line, after) = split_at_first(text, b'\n');
         run_line(is_log, histogram, current, line, log)?;
         current = following;
         left = after;
@@ -193,7 +193,7 @@ fn run_input<R: Read, W: Write>(
 
 /// Runs the lines of the input on a new histogram, and returns it. The intervals of a log are
 /// written as their lines are reached.
-pub(crate) fn run_task<R: Read, W: Write>(
+pub(crate) fn drive<R: Read, W: Write>(
     alloc: Global,
     is_log: bool,
     sigfig: u8,

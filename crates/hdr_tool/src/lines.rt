@@ -12,7 +12,7 @@ use std::marker::Model;
 /// Splits `text` at the first `byte`, and returns the parts before and after it. If it has none,
 /// returns all of `text` and `None`.
 #[inline(always)]
-pub(crate) fn split_first(text: &[u8], byte: u8) -> (&[u8], Option<&[u8]>)
+pub(crate) fn split_at_first(text: &[u8], byte: u8) -> (&[u8], Option<&[u8]>)
     ensures parts { parts byte text.now
         ≡ result.0.now ∷ parts_of_rest byte (option_map (λ t. t.now) result.1) }
     ensures shorter { IfSome result.1 (λ rest. length rest.now < length text.now) }
@@ -55,7 +55,7 @@ impl<'a> Fields<'a> {
         ensures { MatchOption result ((self.old ≡ []) × (self.new ≡ []))
             (λ field. self.old ≡ field.now ∷ self.new) }
     {
-        let (field, left) = split_first(self.left?, b' ');
+        let (field, left) = split_at_first(self.left?, b' ');
         self.left = left;
         Some(field)
     }

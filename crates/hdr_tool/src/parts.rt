@@ -8,7 +8,7 @@ use std::alloc::AllocError;
 
 /// Splits `text` at the last `byte`, and returns the parts before and after it. Returns `None` if
 /// it has none.
-pub(crate) fn split_last(text: &[u8], byte: u8) -> Option<(&[u8], &[u8])>
+pub(crate) fn split_at_last(text: &[u8], byte: u8) -> Option<(&[u8], &[u8])>
     ensures parts { IfSome result (λ p. text.now ≡ p.0.now ++ byte ∷ p.1.now) }
     ensures last { IfSome result (λ p. (i : ℕ) → i < length p.1.now → slice_index p.1.now i ≢ byte) }
     ensures none { IfNone result ((i : ℕ) → i < length text.now → slice_index text.now i ≢ byte) }
@@ -29,7 +29,7 @@ pub(crate) fn take_lines<'a>(
         ((i : ℕ) → i < length piece.now → slice_index piece.now i ≢ 10)
         (λ rest. (i : ℕ) → i < length rest.now → slice_index rest.now i ≢ 10)) }
 {
-    match split_last(piece, b'\n') {
+    match split_at_last(piece, b'\n') {
         Some((front, tail)) => {
             text.extend_from_slice(front)?;
             Ok(Some(tail))

@@ -7,7 +7,7 @@ ghost use Rattle.hdr_tool.specs.Outcomes.{OnInput, Writes, ReadsAll};
 ghost use Rattle.hdr_tool.specs.Program.{outputs_of, TaskLeaves};
 
 use crate::arguments::{Task, parse, quantiles};
-use crate::driver::run_task;
+use crate::driver::drive;
 use crate::fault::Fault;
 use crate::merge::report_log;
 use crate::report::write_report;
@@ -16,7 +16,7 @@ use std::alloc::Global;
 use std::io::{Read, Write};
 
 /// Runs a task. A merge reads all of its input first.
-fn do_task<R: Read, W: Write>(
+fn run_task<R: Read, W: Write>(
     alloc: Global,
     task: &Task<'_>,
     reader: &mut R,
@@ -30,11 +30,11 @@ fn do_task<R: Read, W: Write>(
     match task {
         Task::Report(sigfig, arguments) => {
             let quantiles = quantiles(alloc, arguments)?;
-            let histogram = run_task(alloc, false, *sigfig, reader, writer)?;
+            let histogram = drive(alloc, false, *sigfig, reader, writer)?;
             write_report(alloc, &histogram, &quantiles, writer)
         }
         Task::Log(sigfig) => {
-            run_task(alloc, true, *sigfig, reader, writer)?;
+            drive(alloc, true, *sigfig, reader, writer)?;
             Ok(())
         }
         Task::Merge(options, sigfig, arguments) => {
@@ -74,5 +74,5 @@ pub fn run<R: Read, W: Write>(
     let Some(task) = parse(arguments) else {
         return Err(Fault::Usage);
     };
-    do_task(alloc, &task, reader, writer)
+    run_task(alloc, &task, reader, writer)
 }

@@ -107,7 +107,7 @@ impl<W: Write> Write for RetryWriter<W> {
         for _ in 0..u64::MAX {
             match self.writer.write(buf) {
                 Err(e) if e.kind() == ErrorKind::Interrupted => {}
-                answer => return answer,
+                result => return result,
             }
         }
         Err(io::Error::from(ErrorKind::Interrupted))

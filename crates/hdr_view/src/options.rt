@@ -1,6 +1,6 @@
 //! How a page is made.
 
-ghost use Rattle.std.specs.Prelude.{ℕ, List, ◌≡◌, ◌<◌, ◌*◌, ◌++◌, OnOk, codes, string_bytes};
+ghost use Rattle.std.specs.Prelude.{ℕ, List, ◌≡◌, ◌<◌, ◌*◌, ◌++◌, ◌↔◌, IsTrue, OnOk, codes, string_bytes};
 ghost use Rattle.hdr_draw.specs.Numbers.{IsDecimalOf};
 
 use hdr_draw::number::{Decimal, in_parts};
@@ -17,6 +17,13 @@ pub struct PageOptions<'a> {
     pub level: Option<PageLevel>,
     /// The only tag that is shown, or `None` for all; an empty one for intervals without a tag.
     pub tag: Option<&'a str>,
+}
+
+/// Whether the quantile of a level is 99/100.
+pub(crate) fn is_p99(level: PageLevel) -> bool
+    ensures { IsTrue result ↔ level.num * 100 ≡ level.den * 99 }
+{
+    u128::from(level.num) * 100 == u128::from(level.den) * 99
 }
 
 /// Appends the percentile of a level, such as `p99.9`.

@@ -2,7 +2,7 @@
 
 use crate::clock::{TimeStyle, push_length};
 use crate::name::{IN_SLOW_TIME, IN_TABLE, IN_TITLE};
-use crate::options::push_percentile;
+use crate::options::{is_p99, push_percentile};
 use crate::view::{DRAWN, View};
 use hdr_draw::number::push_grouped;
 use hdr_figures::slow::{LETTERS, Mark, Measure, SlowTime, TIMES};
@@ -105,7 +105,7 @@ impl View<'_> {
         push_percentile(text, level)?;
         text.push_str(" ")?;
         self.units.push_label(text, level.value)?;
-        if level.num.saturating_mul(100) != level.den.saturating_mul(99) {
+        if !is_p99(level) {
             text.push_str(" (")?;
             self.units.push(text, found)?;
             text.push_str(")")?;

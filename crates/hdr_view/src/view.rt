@@ -50,6 +50,9 @@ impl<'a> View<'a> {
         form: Form,
     ) -> Result<View<'a>, PageError> {
         let intervals = Intervals::read(alloc, logs, options.tag)?;
+        if options.unit.is_some() && intervals.decimals() > 0 {
+            return Err(PageError::Decimals(intervals.decimals()));
+        }
         let timeline = Timeline::new(alloc, &intervals.list)?;
         let keys = keys_of(alloc, &intervals, &timeline)?;
         let level = match options.level {

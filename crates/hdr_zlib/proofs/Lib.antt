@@ -1,3 +1,4 @@
+pub mod AdlerLaws
 pub mod AssignLaws
 pub mod BitLaws
 pub mod BlockLaws
@@ -6,6 +7,7 @@ pub mod CodeLaws
 pub mod CodedLaws
 pub mod CopyLaws
 pub mod DecodingLaws
+pub mod DistanceLaws
 pub mod FixedLaws
 pub mod HeaderLaws
 pub mod LengthLaws

@@ -24,7 +24,8 @@ pub fn adler32(bytes: &[u8]) -> u32
     high * 65536 + low
 }
 
-/// Returns the two sums after the bytes of a piece, reduced.
+/// Returns the two sums after the bytes of a piece, reduced. The second sum has each byte once for
+/// itself and once for each byte after it.
 fn sums_after_piece(low: u32, high: u32, piece: &[u8]) -> (u32, u32)
     requires low { low < 65521 }
     requires high { high < 65521 }
@@ -33,11 +34,15 @@ fn sums_after_piece(low: u32, high: u32, piece: &[u8]) -> (u32, u32)
     ensures sums { (rest : List ℕ) → sums_after result.0 result.1 rest
         ≡ sums_after low high (piece.now ++ rest) }
 {
-    let mut low = low;
-    let mut high = high;
-    for byte in piece {
-        low += u32::from(*byte);
-        high += low;
+    let len = piece.len() as u32;
+    let mut sum = 0;
+    let mut weighted = 0;
+    for (index, byte) in piece.iter().enumerate() {
+        sum += u32::from(*byte);
+        weighted += (len - index as u32) * u32::from(*byte);
     }
-    (low % MODULUS, high % MODULUS)
+    (
+        (low + sum) % MODULUS,
+        (high + len * low + weighted) % MODULUS,
+    )
 }

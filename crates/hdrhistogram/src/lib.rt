@@ -1,4 +1,4 @@
-//! High dynamic range histograms, their V2 bytes and interval logs. Version 1.0.0.
+//! High dynamic range histograms, their V2 bytes and interval logs.
 //!
 //! `Histogram` counts `u64` values to a number of significant digits. `serialization` encodes and
 //! decodes histograms, and writes, reads and merges logs.

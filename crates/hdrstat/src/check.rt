@@ -7,7 +7,7 @@ use clap::ArgMatches;
 use hdr_files::input::read_parts;
 use hdr_options::UsageError;
 use hdr_options::reading::{parse_reading, unit_of};
-use hdr_summary::figures::Tagged;
+use hdr_summary::figures::{Tagged, push_tag};
 use hdr_summary::levels::{Level, keeps_all, parse_level};
 use hdr_summary::units::Unit;
 use std::alloc::Global;
@@ -56,7 +56,8 @@ fn push_verdicts(
             None => text.push('-')?,
         }
         if let Some(tag) = &part.tag {
-            write!(text, " {tag}")?;
+            text.push(' ')?;
+            push_tag(text, tag.as_str())?;
         }
         text.push('\n')?;
     }

@@ -57,12 +57,16 @@ fn interval_log(
     Ok(output)
 }
 
+/// A log has times in milliseconds.
+const NANOS_OF_A_MILLISECOND: u64 = 1_000_000;
+
 /// Returns the length of an interval in nanoseconds, if there is one.
 fn length_of(alloc: Global, matches: &ArgMatches<'_>) -> Result<Option<u64>, StatError> {
     let length = nanoseconds_of(alloc, matches, "every")?;
-    if length == Some(0) {
+    if length.is_some_and(|nanos| nanos == 0 || nanos % NANOS_OF_A_MILLISECOND != 0) {
         let text = matches.get_str("every").unwrap_or("0");
-        return Err(UsageError::new(alloc, text, "is not a length above 0").into());
+        let why = "is not a number of milliseconds above 0";
+        return Err(UsageError::new(alloc, text, why).into());
     }
     Ok(length)
 }

@@ -15,7 +15,9 @@ hdrstat log --tag a latencies.txt >service.log
 cp service.log host1.log
 cp service.log host2.log
 hdrstat convert --to compressed service.log >java.log
+# An example of log writes service.log with decimals, for which page has no unit.
 for subcommand in '' summary check log gather convert page; do
+    cp host1.log service.log
     hdrstat $subcommand --help | sed -n '/^Examples*:/,/^$/s/^  //p' | while read -r line; do
         status=0
         sh -c "$line" >output 2>&1 </dev/null || status=$?

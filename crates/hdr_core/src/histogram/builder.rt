@@ -19,8 +19,7 @@ use std::marker::Model;
 
 /// A histogram whose bins are being set, seen as its bounds and the number of each bin.
 ///
-/// A bin that is set costs about two stores, in order. `into_histogram` computes the total and the
-/// marks.
+/// `into_histogram` computes the total and the marks.
 #[derive(Debug, Drop)]
 pub struct HistogramBuilder<T: Counter> {
     scale: Scale,

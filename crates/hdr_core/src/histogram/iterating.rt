@@ -22,7 +22,7 @@ impl<T: Counter> Binned<T> for Histogram<T> {
 
 impl<T: Counter> Histogram<T> {
     /// Returns the index of the first nonempty bin from `from` on, or the number of bins if there
-    /// is none. Long runs of empty bins cost little.
+    /// is none.
     pub fn next_filled(&self, from: usize) -> usize
         requires { from ≤ length self.now.counts }
         ensures onward { from ≤ result }

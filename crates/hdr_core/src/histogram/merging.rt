@@ -110,6 +110,7 @@ impl<T: Counter> Histogram<T> {
         }
     }
 
+    /// Whether both have the same unit and digits.
     fn same_classes<F: Counter>(&self, other: &Histogram<F>) -> bool
         ensures { result ≡ (((resolution self.now).unit == (resolution other.now).unit)
             && ((resolution self.now).digits == (resolution other.now).digits)) }
@@ -117,6 +118,7 @@ impl<T: Counter> Histogram<T> {
         self.scale.unit() == other.scale.unit() && self.scale.digits() == other.scale.digits()
     }
 
+    /// Whether both have the same unit and digits, and as many bins.
     fn same_bins<F: Counter>(&self, other: &Histogram<F>) -> bool
         ensures { result ≡ same_bins self.now other.now }
     {

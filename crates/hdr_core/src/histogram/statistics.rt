@@ -4,7 +4,7 @@ ghost use Rattle.std.specs.Prelude.{◌≡◌, ℕ, ◌+◌, ◌-◌, ◌*◌, �
 ghost use Rattle.hdr_base.specs.Classes.{lowest_of, top_of, value_of, bin_of};
 ghost use Rattle.hdr_model.specs.Plain.{IsPlain, resolution, reach};
 ghost use Rattle.hdr_model.specs.Samples.{StandsFor};
-ghost use Rattle.hdr_model.specs.Statistics.{held_bin, sum_between, samples_between, quantile_below, in_hundredths, median_of, weight_from, mean};
+ghost use Rattle.hdr_model.specs.Statistics.{bin_or_last, sum_between, samples_between, quantile_below, in_hundredths, median_of, weight_from, mean};
 
 use super::Histogram;
 use hdr_base::{Counter, Fraction, Scale, saturating_from};
@@ -12,9 +12,9 @@ use hdr_base::{Counter, Fraction, Scale, saturating_from};
 impl<T: Counter> Histogram<T> {
     /// Returns the counter of the class of `value`, or of the last bin if `value` is past the bins.
     pub fn count_at(&self, value: u64) -> T
-        ensures { T.number result ≡ slice_index self.now.counts (held_bin self.now value) }
+        ensures { T.number result ≡ slice_index self.now.counts (bin_or_last self.now value) }
     {
-        self.counts.get(self.held_bin(value))
+        self.counts.get(self.bin_or_last(value))
     }
 
     /// Returns the sum of the counters from the bin of `low` to that of `high`, saturated at
@@ -27,8 +27,8 @@ impl<T: Counter> Histogram<T> {
             (top_of (resolution self.now) high) S }
         ensures at_most { result ≤ self.now.total }
     {
-        let from = self.held_bin(low);
-        let to = self.held_bin(high);
+        let from = self.bin_or_last(low);
+        let to = self.bin_or_last(high);
         if from > to {
             return 0;
         }
@@ -58,7 +58,7 @@ impl<T: Counter> Histogram<T> {
         if self.total == 0 {
             return Fraction { num: 1, den: 1 };
         }
-        let up_to: u64 = saturating_from(self.counts.sum_to(self.held_bin(value)));
+        let up_to: u64 = saturating_from(self.counts.sum_to(self.bin_or_last(value)));
         Fraction::new(u128::from(up_to), u128::from(self.total))
     }
 
@@ -103,8 +103,8 @@ impl<T: Counter> Histogram<T> {
     }
 
     /// Returns the bin of `value`, or the last bin if `value` is past the bins.
-    fn held_bin(&self, value: u64) -> usize
-        ensures value { result ≡ held_bin self.now value }
+    fn bin_or_last(&self, value: u64) -> usize
+        ensures value { result ≡ bin_or_last self.now value }
         ensures within { result < length self.now.counts }
         ensures plain { IsPlain T.greatest self.now }
     {

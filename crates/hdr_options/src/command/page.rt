@@ -13,6 +13,9 @@ of the ten tags with the most samples. The page has no script, and needs no othe
 A time is slow if the p99 of one of these tags is at least 4 times its median over time, or with
 --level if its quantile is above the level. The sentence compares the level with all samples.
 
+Values are in units of the last decimal, where a comment of the log has decimals as `hdrstat log`
+writes it. --unit is then an error.
+
 CSV is that of RFC 4180. An apostrophe stands before a tag that a spreadsheet may take for a
 formula, which is one that begins with =, +, -, @, a tab or a CR.
 
@@ -38,7 +41,7 @@ fn with_content<'a>(alloc: Global, command: Command<'a>) -> Result<Command<'a>, 
         alloc,
         "tag",
         "TAG",
-        "Show the intervals with this tag alone",
+        "Show the intervals with this tag alone, or with none if it is empty",
     );
     let command = command.arg(unit)?.arg(title)?.arg(level)?.arg(tag)?;
     Ok(command)
@@ -56,6 +59,7 @@ pub(crate) fn page<'a>(alloc: Global) -> Result<Command<'a>, Error> {
     let text = Arg::new(alloc, "text")
         .long("text")
         .action(ArgAction::SetTrue)
+        .conflicts_with("intervals")?
         .help("Print text for a terminal, and no page");
     let intervals = Arg::new(alloc, "intervals")
         .long("intervals")

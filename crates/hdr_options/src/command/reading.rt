@@ -41,7 +41,8 @@ fn with_logs<'a>(alloc: Global, command: Command<'a>) -> Result<Command<'a>, Err
         .value_parser(["numbers", "log"].as_slice())
         .default_value("numbers")
         .help_heading(LOGS);
-    let tag = option(alloc, "tag", "TAG", "Only intervals of this tag").help_heading(LOGS);
+    let help = "Only intervals of this tag, or of none if it is empty";
+    let tag = option(alloc, "tag", "TAG", help).help_heading(LOGS);
     let help = "Only intervals that begin at this time or later, in seconds";
     let from_time = option(alloc, "from-time", "TIME", help).help_heading(LOGS);
     let help = "Only intervals that begin before this time, in seconds";

@@ -1,6 +1,6 @@
 //! Aligned tables.
 
-use crate::figures::Figure;
+use crate::figures::{Figure, push_tag};
 use crate::formats::{Row, or_none};
 use std::alloc::{AllocError, Global};
 
@@ -129,7 +129,7 @@ fn push_row(
     tags: usize,
 ) -> Result<(), AllocError> {
     let tag = tag_of(row);
-    text.push_str(tag)?;
+    push_tag(text, tag)?;
     push_spaces(text, tags.saturating_sub(char_count(tag)))?;
     for (index, figure) in row.figures.iter().enumerate() {
         push_cell(text, or_none(figure, "-"), width_at(widths, index))?;

@@ -8,7 +8,7 @@ ghost use Rattle.hdrhistogram.specs.HeaderView.{header_of};
 ghost use Rattle.hdrhistogram.specs.FieldRead.{IsHeldIn, IsFieldDecodeError};
 
 pub use crate::serialization::errors::{DeserializeError, FieldDecodeError};
-use crate::serialization::fields::{Header, ended, header_at, read_header};
+use crate::serialization::fields::{Header, header_at, read_header, unexpected_eof};
 use crate::serialization::header::HEADER_LEN;
 use crate::serialization::payload_decoder::decode_payload;
 use crate::serialization::streams::read_piece;
@@ -218,7 +218,7 @@ fn bytes_at(text: &[u8], len: usize) -> Result<(&[u8], &[u8]), DeserializeError>
     ensures { Gives (λ x. (x.0.now, x.1.now)) result (bytes_at len text.now) }
 {
     if text.len() < len {
-        return Err(ended());
+        return Err(unexpected_eof());
     }
     Ok((&text[..len], &text[len..]))
 }

@@ -24,7 +24,7 @@ pub(crate) struct Header {
 }
 
 /// Returns the error of bytes that end too soon.
-pub(crate) fn ended() -> DeserializeError
+pub(crate) fn unexpected_eof() -> DeserializeError
     ensures defect { defect_of_error result ≡ Some cut }
     ensures no_out_of_memory { RunsOutOnly ⊥ result }
 {
@@ -85,7 +85,7 @@ fn four_at(text: &[u8]) -> Result<(u32, &[u8]), DeserializeError>
     ensures no_out_of_memory { IfErr result (RunsOutOnly ⊥) }
 {
     if text.len() < 4 {
-        return Err(ended());
+        return Err(unexpected_eof());
     }
     Ok((BigEndian::read_u32(text), &text[4..]))
 }
@@ -97,7 +97,7 @@ fn eight_at(text: &[u8]) -> Result<(u64, &[u8]), DeserializeError>
     ensures no_out_of_memory { IfErr result (RunsOutOnly ⊥) }
 {
     if text.len() < 8 {
-        return Err(ended());
+        return Err(unexpected_eof());
     }
     Ok((BigEndian::read_u64(text), &text[8..]))
 }

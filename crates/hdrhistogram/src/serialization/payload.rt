@@ -84,7 +84,7 @@ fn count_of<T: Counter>(counters: &[T], bin: usize) -> u64
 
 /// Writes the canonical varint of `number` at the offset `at`, and returns the offset after it.
 #[inline]
-fn put_number(buf: &mut [u8], at: usize, number: u64) -> usize
+fn write_number(buf: &mut [u8], at: usize, number: u64) -> usize
     requires { at + 9 ≤ length buf.old }
     ensures at_most { result ≤ at + 9 }
     ensures further { at ≤ result }
@@ -98,7 +98,7 @@ fn put_number(buf: &mut [u8], at: usize, number: u64) -> usize
 /// Writes a run of n empty bins at the offset `at`, and returns the offset after it. A run of one is
 /// written as its count 0, and a longer one as -n, which zig-zag encodes as 2n - 1.
 #[inline]
-fn put_run(buf: &mut [u8], at: usize, empty: u64) -> usize
+fn write_run(buf: &mut [u8], at: usize, empty: u64) -> usize
     // A run that is not empty, nine bytes for it, and a number that zig-zag encodes.
     requires nonzero { 1 ≤ empty }
     requires capacity { at + 9 ≤ length buf.old }
@@ -112,8 +112,8 @@ fn put_run(buf: &mut [u8], at: usize, empty: u64) -> usize
     ensures unchanged { drop result buf.new ≡ drop result buf.old }
 {
     match empty {
-        1 => put_number(buf, at, 0),
-        _ => put_number(buf, at, 2 * empty - 1),
+        1 => write_number(buf, at, 0),
+        _ => write_number(buf, at, 2 * empty - 1),
     }
 }
 
@@ -162,7 +162,7 @@ pub(crate) fn encode_within<T: Counter>(
         let count = count_of(counters, bin);
         if count == 0 {
             let filled = h.next_filled(bin + 1).min(bins);
-            written = put_run(buf, written, (filled - bin) as u64);
+            written = write_run(buf, written, (filled - bin) as u64);
             bin = filled;
             continue;
         }
@@ -170,7 +170,7 @@ pub(crate) fn encode_within<T: Counter>(
             return Err(V2SerializeError::CountNotSerializable);
         }
         // Zig-zag encodes a number that is not negative as its double.
-        written = put_number(buf, written, 2 * count);
+        written = write_number(buf, written, 2 * count);
         bin += 1;
     }
     Ok(written)

@@ -7,7 +7,7 @@ ghost use Rattle.hdrhistogram.specs.PayloadRead.{IsNumberPut, IsPairPut, defect_
 ghost use Rattle.hdrhistogram.specs.V2Read.{told_by, told_of, IsRestated};
 
 use crate::serialization::errors::DeserializeError;
-use crate::serialization::fields::ended;
+use crate::serialization::fields::unexpected_eof;
 use crate::serialization::varint::{short_varint_at, varint_at};
 use crate::serialization::zig_zag::zig_zag_decode;
 use hdr_base::Counter;
@@ -15,7 +15,7 @@ use hdr_core::{Histogram, HistogramBuilder};
 
 /// Applies a number of the payload at the bin `place`, and returns the index after its bins. Sets
 /// the bin if the number is a nonzero count.
-fn put_number<T: Counter>(
+fn apply_number<T: Counter>(
     builder: &mut HistogramBuilder<T>,
     place: u64,
     number: i64,
@@ -134,10 +134,10 @@ fn decode_counts<T: Counter>(
             continue;
         }
         let Some((encoded, len)) = varint_at(&payload[at..]) else {
-            return Err(ended());
+            return Err(unexpected_eof());
         };
         at += len;
-        place = put_number(builder, place, zig_zag_decode(encoded))?;
+        place = apply_number(builder, place, zig_zag_decode(encoded))?;
     }
     Ok(())
 }

@@ -49,18 +49,18 @@ returns-in_err-run_line-clause-goes g c =
     let m = g.W.Write.contents (sink c.loop-left.log).now in
     let n = g.W.Write.contents (sink c.run_line.new.log).now in
     let left = number_lines c.loop-left.current (option_map (λ t. t.now) c.loop-left.left) in
-    let after = number_lines (c.loop-left.current + 1) (option_map (λ t. t.now) c.split_first.result.1) in
-    let e = ap (λ o. number_lines c.loop-left.current (option_map (λ t. t.now) o)) c.in-Some.is ∙ ap (enumerate_from c.loop-left.current) c.split_first.ensures.parts in
+    let after = number_lines (c.loop-left.current + 1) (option_map (λ t. t.now) c.split_at_first.result.1) in
+    let e = ap (λ o. number_lines c.loop-left.current (option_map (λ t. t.now) o)) c.in-Some.is ∙ ap (enumerate_from c.loop-left.current) c.split_at_first.ensures.parts in
     rw (handed_on c.from_residual.result c.in_err-run_line.field-0.0 c.from_residual.ensures.1)
-    (one_line {A = Unit {0}} c.args.is_log whole c.loop-left.histogram c.run_line.new.histogram left after (c.loop-left.current, c.split_first.result.0.now)
+    (one_line {A = Unit {0}} c.args.is_log whole c.loop-left.histogram c.run_line.new.histogram left after (c.loop-left.current, c.split_at_first.result.0.now)
     o m n (Err c.in_err-run_line.field-0.0) c.loop-left.invariant.goes e c.in_err-run_line.ensures.goes)
 
 pub returns-in_err-run_line-clause-memory : goal.returns-in_err-run_line-clause-memory
 returns-in_err-run_line-clause-memory g c =
-    let e = ap (λ o. number_lines c.loop-left.current (option_map (λ t. t.now) o)) c.in-Some.is ∙ ap (enumerate_from c.loop-left.current) c.split_first.ensures.parts in
+    let e = ap (λ o. number_lines c.loop-left.current (option_map (λ t. t.now) o)) c.in-Some.is ∙ ap (enumerate_from c.loop-left.current) c.split_at_first.ensures.parts in
     rw (handed_on c.from_residual.result c.in_err-run_line.field-0.0 c.from_residual.ensures.1)
-    (needs_up (Unit {0}) ℕ (λ more. LinesNeed c.args.is_log c.args.histogram.now (number_lines c.args.number (Some c.args.text.now) ++ more)) (λ more. LinesNeed c.args.is_log c.loop-left.histogram ((c.loop-left.current, c.split_first.result.0.now) ∷ more)) (LinesNeed c.args.is_log c.run_line.new.histogram) (LinesNeed c.args.is_log c.run_line.new.histogram)
-    (λ more. number_lines (c.loop-left.current + 1) (option_map (λ t. t.now) c.split_first.result.1) ++ more) c.in_err-run_line.field-0.0
+    (needs_up (Unit {0}) ℕ (λ more. LinesNeed c.args.is_log c.args.histogram.now (number_lines c.args.number (Some c.args.text.now) ++ more)) (λ more. LinesNeed c.args.is_log c.loop-left.histogram ((c.loop-left.current, c.split_at_first.result.0.now) ∷ more)) (LinesNeed c.args.is_log c.run_line.new.histogram) (LinesNeed c.args.is_log c.run_line.new.histogram)
+    (λ more. number_lines (c.loop-left.current + 1) (option_map (λ t. t.now) c.split_at_first.result.1) ++ more) c.in_err-run_line.field-0.0
     (λ more n. c.loop-left.invariant.memory more (subst (λ l. LinesNeed c.args.is_log c.loop-left.histogram (l ++ more)) (sym e) n)) c.in_err-run_line.ensures.memory)
 
 pub loop-left-preserved : goal.loop-left-preserved
@@ -70,19 +70,19 @@ loop-left-preserved g c =
     let m = g.W.Write.contents (sink c.loop-left.log).now in
     let n = g.W.Write.contents (sink c.run_line.new.log).now in
     let left = number_lines c.loop-left.current (option_map (λ t. t.now) c.loop-left.left) in
-    let after = number_lines (c.loop-left.current + 1) (option_map (λ t. t.now) c.split_first.result.1) in
+    let after = number_lines (c.loop-left.current + 1) (option_map (λ t. t.now) c.split_at_first.result.1) in
     let next : c.in-Some-checked_add.following ≡ c.loop-left.current + 1 = omega (arith, c.in-Some-checked_add.ensures) in
-    let e = ap (λ o. number_lines c.loop-left.current (option_map (λ t. t.now) o)) c.in-Some.is ∙ ap (enumerate_from c.loop-left.current) c.split_first.ensures.parts in
+    let e = ap (λ o. number_lines c.loop-left.current (option_map (λ t. t.now) o)) c.in-Some.is ∙ ap (enumerate_from c.loop-left.current) c.split_at_first.ensures.parts in
     record {
       same = record {
         writer = c.in_ok-run_line.ensures.same_log.writer ∙ c.loop-left.invariant.same.writer;
         serializer = c.in_ok-run_line.ensures.same_log.serializer ∙ c.loop-left.invariant.same.serializer;
         divisor = c.in_ok-run_line.ensures.same_log.divisor ∙ c.loop-left.invariant.same.divisor;
       };
-      goes = rw next (one_line {A = Unit {0}} c.args.is_log whole c.loop-left.histogram c.run_line.new.histogram left after (c.loop-left.current, c.split_first.result.0.now)
+      goes = rw next (one_line {A = Unit {0}} c.args.is_log whole c.loop-left.histogram c.run_line.new.histogram left after (c.loop-left.current, c.split_at_first.result.0.now)
           o m n (Ok tt) c.loop-left.invariant.goes e c.in_ok-run_line.ensures.goes);
       memory = rw next (λ more n. c.loop-left.invariant.memory more (subst (λ l. LinesNeed c.args.is_log c.loop-left.histogram (l ++ more)) (sym e)
-          (c.in_ok-run_line.ensures.memory (number_lines (c.loop-left.current + 1) (option_map (λ t. t.now) c.split_first.result.1) ++ more) n)));
+          (c.in_ok-run_line.ensures.memory (number_lines (c.loop-left.current + 1) (option_map (λ t. t.now) c.split_at_first.result.1) ++ more) n)));
       grows = c.in_ok-run_line.ensures.grows;
       counts = rw next (omega (arith, ap length e, c.loop-left.invariant.counts));
     }

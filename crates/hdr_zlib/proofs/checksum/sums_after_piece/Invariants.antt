@@ -1,11 +1,12 @@
-use Rattle.std.proofs.Common.{ℕ, List, ◌≡◌, ◌≤◌, ◌+◌, ◌*◌, ◌%◌, ◌++◌, drop}
+use Rattle.std.proofs.Common.{ℕ, List, ◌≡◌, ◌≤◌, ◌+◌, ◌*◌, ◌-◌, ◌%◌, ◌++◌, drop, length}
 use Rattle.hdr_zlib.specs.Adler.{sums_after}
 use Rattle.hdr_zlib.proofs.checksum.sums_after_piece.Given as goal
 
-abbrev pub invariant-loop-byte : goal.invariant-loop-byte
-invariant-loop-byte l = record {
-  low : l.low ≤ 65521 + 255 * l.byte-index;
-  high : l.high ≤ 65521 + 600000 * l.byte-index;
-  sums : (rest : List ℕ) → sums_after (l.low % 65521) (l.high % 65521) (drop l.byte-index l.piece ++ rest)
-      ≡ sums_after l.fn.low l.fn.high (l.piece ++ rest);
+abbrev pub invariant-loop-index : goal.invariant-loop-index
+invariant-loop-index l = record {
+  sum : l.sum ≤ 255 * l.index;
+  weighted : l.weighted ≤ 2048 * (255 * l.index);
+  sums : (high : ℕ) × (high + (length l.piece - l.index) * (l.fn.low + l.sum) ≡ l.fn.high + length l.piece * l.fn.low + l.weighted)
+      × ((rest : List ℕ) → sums_after ((l.fn.low + l.sum) % 65521) (high % 65521) (drop l.index l.piece ++ rest)
+      ≡ sums_after l.fn.low l.fn.high (l.piece ++ rest));
 }

@@ -9,8 +9,8 @@ use Rattle.hdrhistogram.proofs.serialization.payload.encode_within.Goals as goal
 pub loop-bin-init : goal.loop-bin-init
 loop-bin-init g c = record { encoded = encode_start (take c.written_bins-bins.result c.args.h.now.counts) c.args.buf.now; within = omega arith }
 
-pub put_run-written-requires-clause-capacity : goal.put_run-written-requires-clause-capacity
-put_run-written-requires-clause-capacity g c =
+pub write_run-written-requires-clause-capacity : goal.write_run-written-requires-clause-capacity
+write_run-written-requires-clause-capacity g c =
     let h = c.args.h.now in
     let bins = c.written_bins-bins.result in
     let counts = take bins h.counts in
@@ -21,8 +21,8 @@ put_run-written-requires-clause-capacity g c =
     let run = room_for_run counts c.loop-bin.buf c.args.buf.now bin c.loop-bin.written (length c.args.buf.now) c.loop-bin.invariant.encoded (omega (arith, size, c.loop-bin-test.true)) (sym here ∙ c.if-count-eq0.true) enough in
     omega (arith, run, c.loop-bin.auto.buf)
 
-pub put_number-written-requires : goal.put_number-written-requires
-put_number-written-requires g c =
+pub write_number-written-requires : goal.write_number-written-requires
+write_number-written-requires g c =
     let h = c.args.h.now in
     let bins = c.written_bins-bins.result in
     let counts = take bins h.counts in
@@ -46,7 +46,7 @@ loop-bin-preserved-then-count-eq0 g c =
     let empty : get_or h.counts bin 0 ≡ 0 = sym (get_or-take bins h.counts bin 0 c.loop-bin-test.true) ∙ sym here ∙ c.if-count-eq0.true in
     let later : bin < next = omega (arith, c.next_filled.ensures.onward) in
     record {
-      encoded = encode_run counts _ c.put_run-written.new.buf c.args.buf.now bin filled _ c.put_run-written.result c.loop-bin.invariant.encoded
+      encoded = encode_run counts _ c.write_run-written.new.buf c.args.buf.now bin filled _ c.write_run-written.result c.loop-bin.invariant.encoded
           (omega (arith, later, c.min-filled.ensures, c.loop-bin-test.true)) (omega (arith, size, c.min-filled.ensures))
           (λ i le lt. get_or-take bins h.counts i 0 (omega (arith, lt, c.min-filled.ensures)) ∙ empty_from h.counts bin next empty c.next_filled.ensures.empty i le (omega (arith, lt, c.min-filled.ensures)))
           (λ before none. absurd (omega (
@@ -56,8 +56,8 @@ loop-bin-preserved-then-count-eq0 g c =
             get_or-take bins h.counts filled 0 (omega (arith, before, size)),
             none,
           )))
-          c.put_run-written.ensures.further c.put_run-written.ensures.at_most
-          (run_is _ _ _ (omega (arith, c.min-filled.ensures, c.written_bins-bins.ensures.at_most)) c.put_run-written.ensures.front) c.put_run-written.ensures.unchanged;
+          c.write_run-written.ensures.further c.write_run-written.ensures.at_most
+          (run_is _ _ _ (omega (arith, c.min-filled.ensures, c.written_bins-bins.ensures.at_most)) c.write_run-written.ensures.front) c.write_run-written.ensures.unchanged;
       within = omega (arith, c.min-filled.ensures);
     }
 
@@ -71,10 +71,10 @@ loop-bin-preserved g c =
     let here : c.count_of-count.result ≡ get_or counts bin 0 = c.count_of-count.ensures ∙ ap (λ l. get_or l bin 0) (sym (take-map g.T.Counter.number bins c.counters.result.now) ∙ ap (take bins) c.counters.ensures) in
     let small : c.count_of-count.result < 2 ^ 63 = omega arith in
     record {
-      encoded = encode_full counts _ c.put_number-written.new.buf c.args.buf.now bin _ c.put_number-written.result c.loop-bin.invariant.encoded (omega (arith, size, c.loop-bin-test.true))
+      encoded = encode_full counts _ c.write_number-written.new.buf c.args.buf.now bin _ c.write_number-written.result c.loop-bin.invariant.encoded (omega (arith, size, c.loop-bin-test.true))
           (λ none. c.if-count-eq0.false (here ∙ none)) (omega (arith, here, small))
-          c.put_number-written.ensures.further c.put_number-written.ensures.at_most
-          (count_is c.count_of-count.result (get_or counts bin 0) _ _ here (omega (arith, here, small)) c.put_number-written.ensures.front) c.put_number-written.ensures.unchanged;
+          c.write_number-written.ensures.further c.write_number-written.ensures.at_most
+          (count_is c.count_of-count.result (get_or counts bin 0) _ _ here (omega (arith, here, small)) c.write_number-written.ensures.front) c.write_number-written.ensures.unchanged;
       within = omega (arith, c.loop-bin-test.true);
     }
 
@@ -96,8 +96,8 @@ returns-clause-ok g c =
     let small = subst (λ n. (k : ℕ) → k < n → get_or (take n h.counts) k 0 < 2 ^ 63) c.written_bins-bins.ensures.value (λ k lt. c.loop-bin.invariant.encoded.small k (omega (arith, lt, c.loop-bin-test.false))) in
     all-small g.T.Counter.greatest (2 ^ 63) h (omega arith) c.written_bins-bins.ensures.plain small
 
-pub put_run-written-requires-clause-nonzero : goal.put_run-written-requires-clause-nonzero
-put_run-written-requires-clause-nonzero g c = omega (arith, c.next_filled.ensures.onward, c.min-filled.ensures, c.loop-bin-test.true)
+pub write_run-written-requires-clause-nonzero : goal.write_run-written-requires-clause-nonzero
+write_run-written-requires-clause-nonzero g c = omega (arith, c.next_filled.ensures.onward, c.min-filled.ensures, c.loop-bin-test.true)
 
 pub loop-bin-smaller-then-count-eq0 : goal.loop-bin-smaller-then-count-eq0
 loop-bin-smaller-then-count-eq0 g c = omega (arith, c.next_filled.ensures.onward, c.min-filled.ensures, c.loop-bin-test.true)

@@ -20,7 +20,7 @@ pub returns-in_default-varint_at-clause-counts : goal.returns-in_default-varint_
 returns-in_default-varint_at-clause-counts g c =
     let p = c.args.payload.now in
     let rest : IsCut (drop c.loop-at.at p) = subst IsCut (take_rest p c.loop-at.at) c.in_default-varint_at.ensures.cut in
-    subst (λ o. FailsBy o (counts_in (length c.args.builder.now.counts) g.T.Counter.greatest p)) (sym c.ended.ensures.defect)
+    subst (λ o. FailsBy o (counts_in (length c.args.builder.now.counts) g.T.Counter.greatest p)) (sym c.unexpected_eof.ensures.defect)
     (fill_cut (length c.args.builder.now.counts) g.T.Counter.greatest p c.loop-at.builder.counts c.loop-at.at c.loop-at.place c.loop-at.invariant.filled c.loop-at-test.true rest)
 
 pub returns-in_err-place-clause-counts : goal.returns-in_err-place-clause-counts
@@ -53,11 +53,11 @@ loop-at-preserved g c =
     let z = c.zig_zag_decode.result in
     let fits : SFits w64 z = search rules in
     record {
-      filled = fill_next bins g.T.Counter.greatest p c.put_short.new.builder.counts c.put_number.new.builder.counts (take c.in-Some-varint_at.len slice) at (at + c.in-Some-varint_at.len) c.loop-at.place c.in_ok-place.place c.in-Some-varint_at.len c.in-Some-varint_at.encoded _ d
+      filled = fill_next bins g.T.Counter.greatest p c.put_short.new.builder.counts c.apply_number.new.builder.counts (take c.in-Some-varint_at.len slice) at (at + c.in-Some-varint_at.len) c.loop-at.place c.in_ok-place.place c.in-Some-varint_at.len c.in-Some-varint_at.encoded _ d
           (omega (arith, c.in-Some-varint_at.ensures.within, length-take (length p - at) (drop at p))) (ap (take c.in-Some-varint_at.len) (take_rest p at)) c.in-Some-varint_at.ensures.found
           (to_z-of_z w64 z fits ∙ c.zig_zag_decode.ensures) c.in_ok-place.ensures.defect
           (ap (λ (o : Unfinished). o.counts) c.in_ok-place.ensures.put) refl c.in_ok-place.ensures.next;
-      rest = set-again c.args.builder.now c.put_short.new.builder c.put_number.new.builder _ (set-again c.args.builder.now c.put_pair.new.builder c.put_short.new.builder _ (set-again c.args.builder.now c.loop-at.builder c.put_pair.new.builder _ c.loop-at.invariant.rest c.put_pair.ensures.rest) c.put_short.ensures.rest) c.in_ok-place.ensures.put;
+      rest = set-again c.args.builder.now c.put_short.new.builder c.apply_number.new.builder _ (set-again c.args.builder.now c.put_pair.new.builder c.put_short.new.builder _ (set-again c.args.builder.now c.loop-at.builder c.put_pair.new.builder _ c.loop-at.invariant.rest c.put_pair.ensures.rest) c.put_short.ensures.rest) c.in_ok-place.ensures.put;
     }
 
 pub loop-at-smaller-in-Some : goal.loop-at-smaller-in-Some

@@ -1,0 +1,19 @@
+use Rattle.std.proofs.Common.{◌==◌, ◌<◌, subst, arith}
+use Rattle.hdr_input.specs.Sums.{view_of_sums, TakesText}
+use Rattle.hdr_input.proofs.Sums.{taken_more, not_first}
+use Rattle.hdr_input.proofs.logs.LogSumsLineSink.take_lines.Goals as goal
+
+pub loop-rest-preserved : goal.loop-rest-preserved
+loop-rest-preserved c =
+    let so_far = c.loop-rest.invariant in
+    let number = c.loop-rest.number in
+    let next = c.saturating_add-number.result in
+    let above : 0 < number → 1 < next = λ l. omega (arith, l, c.saturating_add-number.ensures) in
+    record {
+      indices = λ indexed. c.in_ok-take_line.ensures.indices (so_far.indices indexed);
+      number = λ some. let more : 1 < next = above (so_far.number some) in omega (arith, more);
+      taken = λ indexed some last rest. so_far.taken indexed some last
+          (taken_more (number == 1) (next == 1) c.loop-rest.rest.now c.split_log_line.result.0.now (view_of_sums c.loop-rest.self) (view_of_sums c.take_line.new.self) last
+          (not_first next (above (so_far.number some))) c.split_log_line.ensures.line (c.in_ok-take_line.ensures.said (so_far.indices indexed))
+          (subst (λ r. TakesText (next == 1) r (view_of_sums c.take_line.new.self) last) c.split_log_line.ensures.rest rest));
+    }
