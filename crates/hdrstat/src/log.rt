@@ -57,6 +57,17 @@ fn interval_log(
     Ok(output)
 }
 
+/// Returns the tag of the intervals. An empty one is none, as for the subcommands that read logs.
+fn tag_of_intervals<'a>(
+    alloc: Global,
+    matches: &ArgMatches<'a>,
+) -> Result<Option<Tag<'a>>, StatError> {
+    match tag_of(alloc, matches)? {
+        Some(tag) if !tag.as_str().is_empty() => Ok(Some(tag)),
+        _ => Ok(None),
+    }
+}
+
 /// A log has times in milliseconds.
 const NANOS_OF_A_MILLISECOND: u64 = 1_000_000;
 
@@ -76,7 +87,7 @@ pub(crate) fn log(rt: &HostRuntime, matches: &ArgMatches<'_>) -> Result<ExitCode
     let alloc = rt.alloc();
     let recording = recording_of(alloc, matches)?;
     let table = table_of(alloc, matches)?;
-    let tag = tag_of(alloc, matches)?;
+    let tag = tag_of_intervals(alloc, matches)?;
     let console = console_of(rt, matches);
     let names = matches.get_strs("FILE").unwrap_or(&[]);
     let length = length_of(alloc, matches)?;
