@@ -99,17 +99,25 @@ pub fn compressed(alloc: Global, bytes: Vec<u8>) -> Result<Vec<u8>, ConvertError
     ensures holds { IfOk result (λ packed. IsCompressedOf bytes.items packed.items) }
     ensures readable { IsReadable bytes.items → IsOkUnless result ConvertError.OutOfMemory }
 {
-    if let Ok(Form::Compressed) = form_of(&bytes) {
+    if is_compressed(&bytes) {
         return Ok(bytes);
     }
     let plain = v2_bytes(alloc, bytes)?;
     with_header(alloc, &deflate(alloc, &plain, Level::Huffman)?)
 }
 
+/// Whether bytes start as compressed V2 bytes.
+fn is_compressed(bytes: &[u8]) -> bool
+    ensures { (result ≡ true) ↔ IsCompressed bytes.now }
+{
+    matches!(form_of(bytes), Ok(Form::Compressed))
+}
+
 /// Returns a zlib stream as a compressed histogram.
 fn with_header(alloc: Global, stream: &[u8]) -> Result<Vec<u8>, ConvertError>
     ensures starts { IfOk result (λ packed. IsCompressed packed.items) }
-    ensures holds { (v2 : List ℕ) → Inflates stream.now v2 → IfOk result (λ packed. Compresses packed.items v2) }
+    ensures holds { (v2 : List ℕ) → Inflates stream.now v2 → IfOk result (λ packed. IsCompressed packed.items
+        × Compresses packed.items v2) }
     ensures memory { IsOkUnless result ConvertError.OutOfMemory }
 {
     let len = u32::try_from(stream.len()).map_err(|_| ConvertError::OutOfMemory)?;

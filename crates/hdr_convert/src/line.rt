@@ -49,8 +49,10 @@ fn convert_interval(
     form: Form,
     output: &mut Vec<u8>,
 ) -> Result<(), ConvertError>
-    ensures { OnOk result ((text : List ℕ) × IsConverted form field.now line.now text
+    ensures converted { OnOk result ((text : List ℕ) × IsConverted form field.now line.now text
         × (output.new.items ≡ output.old.items ++ text)) }
+    ensures readable { Contains line.now 44 → (bytes : List ℕ) → base64_bytes field.now ≡ Some bytes → IsReadable bytes
+        → IsOkUnless result ConvertError.OutOfMemory }
 {
     let Some(comma) = memrchr(b',', line) else {
         return Err(ConvertError::NotALine);

@@ -10,4 +10,4 @@ returns-clause-holds c = λ v2 inflates.
     let packed = c.extend_from_slice-3.new.self.items in
     let made : packed ≡ (([] ++ big_bytes 4 0x1c849314) ++ big_bytes 4 len) ++ stream = search rules in
     let same : len ≡ length stream = search rules in
-    stream_after_header stream packed v2 0x1c849314 len made same (omega arith) inflates
+    (search rules, stream_after_header stream packed v2 0x1c849314 len made same (omega arith) inflates)
