@@ -2,7 +2,7 @@
 use Rattle.std.specs.Prelude.{ℕ, List, [], ◌∷◌, ◌++◌, ◌≡◌, Result, Ok, Err, Some, Contains}
 use Rattle.hdr_log.specs.Grammar.{Entry, Start, Base, Span, reading}
 use Rattle.hdr_log.specs.Texts.{base64_of, base64_bytes}
-use Rattle.hdr_convert.specs.Converted.{IsInForm}
+use Rattle.hdr_convert.specs.Converted.{IsInForm, IsReadable}
 use Rattle.hdr_convert.specs.declared.bytes.Form.{Form}
 
 -- The Base64 of a histogram in this form, from that of the same in any form.
@@ -37,3 +37,12 @@ BecomesIn form (Err at ∷ rest) line text = ⊥
 -- What becomes of a line, by its first entry.
 abbrev pub IsLineIn : Form → List ℕ → List ℕ → Type 0
 IsLineIn form line text = BecomesIn form (reading line) line text
+
+-- A line with these entries that is converted unless memory runs out: it has no interval, or one whose histogram is readable.
+abbrev pub IsConvertible : List (Result Entry ℕ) → List ℕ → Type 0
+IsConvertible [] line = Unit {0}
+IsConvertible (Ok (Start time) ∷ rest) line = Unit {0}
+IsConvertible (Ok (Base time) ∷ rest) line = Unit {0}
+IsConvertible (Ok (Span interval) ∷ rest) line =
+    Contains line 44 × (bytes : List ℕ) × (base64_bytes interval.field ≡ Some bytes) × IsReadable bytes
+IsConvertible (Err at ∷ rest) line = ⊥

@@ -5,7 +5,7 @@ ghost use Rattle.hdr_log.specs.Grammar.{reading};
 ghost use Rattle.hdr_log.specs.Texts.{base64_of, base64_bytes};
 ghost use Rattle.hdr_convert.specs.Forms.{HasForm};
 ghost use Rattle.hdr_convert.specs.Converted.{IsInForm, IsReadable};
-ghost use Rattle.hdr_convert.specs.Lines.{IsFieldIn, IsConverted, IsLineIn};
+ghost use Rattle.hdr_convert.specs.Lines.{IsFieldIn, IsConverted, IsLineIn, IsConvertible};
 
 use crate::bytes::{Form, compressed, v2_bytes};
 use crate::errors::ConvertError;
@@ -31,6 +31,7 @@ pub fn convert_line(
         ≡ output.old.items ++ line.now) }
     ensures line { OnOk result ((text : List ℕ) × IsLineIn form line.now text
         × (output.new.items ≡ output.old.items ++ text)) }
+    ensures readable { IsConvertible (reading line.now) line.now → IsOkUnless result ConvertError.OutOfMemory }
 {
     match IntervalLogIterator::new(line).next() {
         Some(Ok(LogEntry::Interval(interval))) => {
