@@ -67,7 +67,7 @@ unfolding AreSet AreCounters
 all_set n width bytes counts kept is long zeros (set, others) e =
     let len = ap length e in (
       λ i le. let same = ap (λ xs. slice_index xs i) e in
-        grind (arith, set, others, counter_past width bytes i is, same, len),
+          grind (arith, set, others, counter_past width bytes i is, same, len),
       λ i le. zero_counter width (length counts) i bytes zeros (omega (arith, len, le)),
     )
 
