@@ -48,7 +48,7 @@ pub ends_with : (line rest field : List ℕ) (comma : ℕ) → comma < length li
     → IsTrimAsciiEnd rest field → EndsWithField line field
 ends_with line rest field comma lt is none e trim =
     let len = length-drop (comma + 1) line in
-    let all : rest ≡ drop (comma + 1) line = e ∙ take_all (drop (comma + 1) line) (length line - (comma + 1)) (omega (arith, len)) in
+    let all : rest ≡ drop (comma + 1) line = e ∙ take_all (length line - (comma + 1)) (drop (comma + 1) line) (omega (arith, len)) in
     record {
       front = take comma line;
       rest = drop (comma + 1) line;

@@ -6,9 +6,7 @@ use Rattle.std.specs.Str.{IsTrimAsciiEnd}
 use Rattle.std.specs.Io.KnownBytes.{IsAtEnd}
 use Rattle.std.specs.Io.BufRead.{take_through, drop_through, DropsThrough}
 use Rattle.hdr_log.specs.Grammar.{Entry, reading, after_front}
-use Rattle.hdr_log.specs.Texts.{base64_of}
-use Rattle.hdr_convert.specs.Forms.{HasForm}
-use Rattle.hdr_convert.specs.Lines.{IsLineIn, IsLastField}
+use Rattle.hdr_convert.specs.Lines.{IsLineIn, IsLastField, IsFieldIn}
 use Rattle.hdr_convert.specs.declared.bytes.Form.TheVariants.{Plain}
 
 -- the next line is read, through its LF, or what is left; there is none at the end
@@ -48,11 +46,11 @@ pub record HasOtherForm (line : List ℕ) : Type 0 where
 abbrev pub IsPlainOf : List ℕ → List ℕ → Type 0
 IsPlainOf line plain = (HasOtherForm line → IsLineIn Plain line plain) × ((HasOtherForm line → ⊥) → plain ≡ line)
 
--- a field with a plain histogram: the same, or what one of another form is converted to
+-- a field with a plain histogram: the same, or the V2 bytes of one of another form
 abbrev pub IsPlainField : List ℕ → List ℕ → Type 0
 IsPlainField field plain =
     (is_other_form field ≡ false → plain ≡ field)
-    × (is_other_form field ≡ true → (bytes : List ℕ) × HasForm Plain bytes × (plain ≡ base64_of bytes))
+    × (is_other_form field ≡ true → IsFieldIn Plain field plain)
 
 abbrev pub first_of : List (Result Entry ℕ) → Option (Result Entry ℕ)
 first_of [] = None
