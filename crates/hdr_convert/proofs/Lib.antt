@@ -1,3 +1,4 @@
 pub mod Commas
 mod Cookies
 mod CounterLaws
+mod Streams

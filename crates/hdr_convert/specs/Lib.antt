@@ -1,3 +1,5 @@
+pub mod Errors
 pub mod Forms
 pub mod Old
+pub mod Converted
 pub mod Lines

@@ -1,10 +1,10 @@
 //! The bytes of a histogram, compressed and not.
 
-ghost use Rattle.std.specs.Prelude.{◌≡◌, ◌↔◌, ◌⊎◌, IfOk};
-ghost use Rattle.hdr_model.specs.Plain.{Plain};
-ghost use Rattle.hdrhistogram.specs.V2.{IsV2};
-ghost use Rattle.hdr_convert.specs.Forms.{IsPlain, IsCompressed, Compresses};
-ghost use Rattle.hdr_convert.specs.Old.{IsOld, IsVersion0, IsVersion1};
+ghost use Rattle.std.specs.Prelude.{◌≡◌, ◌≤◌, ◌↔◌, ℕ, List, length, true, IfOk, IsOkUnless, MatchResult};
+ghost use Rattle.hdr_zlib.specs.Stream.{Inflates};
+ghost use Rattle.hdr_convert.specs.Forms.{IsPlain, IsCompressed, IsOldCompressed, IsOfVersion, IsDouble, Compresses, stream_len};
+ghost use Rattle.hdr_convert.specs.Old.{IsOld, IsV2OfOld};
+ghost use Rattle.hdr_convert.specs.Converted.{IsV2Of, IsCompressedOf, IsReadable, max_len};
 
 use crate::errors::ConvertError;
 use crate::old::{VERSION_0, VERSION_1, is_old, v2_of_old};
@@ -46,6 +46,8 @@ pub enum Form {
 pub fn form_of(bytes: &[u8]) -> Result<Form, ConvertError>
     ensures plain { (result ≡ Ok Form.Plain) ↔ IsPlain bytes.now }
     ensures compressed { (result ≡ Ok Form.Compressed) ↔ IsCompressed bytes.now }
+    ensures old { (version : ℕ) → (result ≡ Err (ConvertError.OldVersion version)) ↔ IsOfVersion version bytes.now }
+    ensures double { (result ≡ Err ConvertError.DoubleHistogram) ↔ IsDouble bytes.now }
 {
     if bytes.len() < 4 {
         return Err(ConvertError::NotAHistogram);
@@ -72,8 +74,9 @@ pub fn v2_bytes(alloc: Global, bytes: Vec<u8>) -> Result<Vec<u8>, ConvertError>
     ensures plain { IsPlain bytes.items → result ≡ Ok bytes }
     ensures v2 { IfOk result (λ v2. IsPlain v2.items) }
     ensures inside { IsCompressed bytes.items → IfOk result (λ v2. Compresses bytes.items v2.items) }
-    ensures old { IsOld bytes.items → IfOk result (λ v2. (h : Plain) × IsV2 h v2.items
-        × (IsVersion0 bytes.items h ⊎ IsVersion1 bytes.items h)) }
+    ensures old { IsOld bytes.items → IfOk result (λ v2. IsV2OfOld bytes.items v2.items) }
+    ensures v2_of { IfOk result (λ v2. IsV2Of bytes.items v2.items) }
+    ensures readable { IsReadable bytes.items → IsOkUnless result ConvertError.OutOfMemory }
 {
     if is_old(&bytes) {
         return v2_of_old(alloc, &bytes);
@@ -93,17 +96,35 @@ pub fn v2_bytes(alloc: Global, bytes: Vec<u8>) -> Result<Vec<u8>, ConvertError>
 pub fn compressed(alloc: Global, bytes: Vec<u8>) -> Result<Vec<u8>, ConvertError>
     ensures compressed { IsCompressed bytes.items → result ≡ Ok bytes }
     ensures starts { IfOk result (λ packed. IsCompressed packed.items) }
+    ensures holds { IfOk result (λ packed. IsCompressedOf bytes.items packed.items) }
+    ensures readable { IsReadable bytes.items → IsOkUnless result ConvertError.OutOfMemory }
 {
-    if let Ok(Form::Compressed) = form_of(&bytes) {
+    if is_compressed(&bytes) {
         return Ok(bytes);
     }
     let plain = v2_bytes(alloc, bytes)?;
-    let stream = deflate(alloc, &plain, Level::Huffman)?;
+    with_header(alloc, &deflate(alloc, &plain, Level::Huffman)?)
+}
+
+/// Whether bytes start as compressed V2 bytes.
+fn is_compressed(bytes: &[u8]) -> bool
+    ensures { (result ≡ true) ↔ IsCompressed bytes.now }
+{
+    matches!(form_of(bytes), Ok(Form::Compressed))
+}
+
+/// Returns a zlib stream as a compressed histogram.
+fn with_header(alloc: Global, stream: &[u8]) -> Result<Vec<u8>, ConvertError>
+    ensures starts { IfOk result (λ packed. IsCompressed packed.items) }
+    ensures holds { (v2 : List ℕ) → Inflates stream.now v2 → IfOk result (λ packed. IsCompressed packed.items
+        × Compresses packed.items v2) }
+    ensures memory { IsOkUnless result ConvertError.OutOfMemory }
+{
     let len = u32::try_from(stream.len()).map_err(|_| ConvertError::OutOfMemory)?;
     let mut output = Vec::new(alloc);
     output.extend_from_slice(&COMPRESSED_V2.to_be_bytes())?;
     output.extend_from_slice(&len.to_be_bytes())?;
-    output.extend_from_slice(&stream)?;
+    output.extend_from_slice(stream)?;
     Ok(output)
 }
 
@@ -111,6 +132,8 @@ pub fn compressed(alloc: Global, bytes: Vec<u8>) -> Result<Vec<u8>, ConvertError
 fn v2_inside(alloc: Global, bytes: &[u8]) -> Result<Vec<u8>, ConvertError>
     ensures v2 { IfOk result (λ v2. IsPlain v2.items) }
     ensures inside { IfOk result (λ v2. Compresses bytes.now v2.items) }
+    ensures complete { (v2 : List ℕ) → length v2 ≤ max_len → Compresses bytes.now v2 → IsPlain v2
+        → IsOkUnless result ConvertError.OutOfMemory }
 {
     let plain = decompressed(alloc, bytes)?;
     match form_of(&plain) {
@@ -120,7 +143,9 @@ fn v2_inside(alloc: Global, bytes: &[u8]) -> Result<Vec<u8>, ConvertError>
 }
 
 /// Whether bytes start as a compressed histogram of version 0 or 1.
-fn is_old_compressed(bytes: &[u8]) -> bool {
+fn is_old_compressed(bytes: &[u8]) -> bool
+    ensures { (result ≡ true) ↔ IsOldCompressed bytes.now }
+{
     bytes.len() >= 4
         && matches!(
             BigEndian::read_u32(bytes) & OLD_MASK,
@@ -128,15 +153,26 @@ fn is_old_compressed(bytes: &[u8]) -> bool {
         )
 }
 
+/// Returns the length of the zlib stream of a compressed histogram.
+#[tactic(auto, unfolding(crate::specs::Forms::stream_len))]
+fn stream_len(bytes: &[u8]) -> usize
+    requires { 8 ≤ length bytes.now }
+    ensures { result ≡ stream_len bytes.now }
+{
+    BigEndian::read_u32(&bytes[4..]) as usize
+}
+
 /// Returns the bytes that a compressed histogram holds. Bytes after the stream are ignored.
 fn decompressed(alloc: Global, bytes: &[u8]) -> Result<Vec<u8>, ConvertError>
-    ensures { IfOk result (λ inside. Compresses bytes.now inside.items) }
+    ensures sound { IfOk result (λ inside. Compresses bytes.now inside.items) }
+    ensures complete { (inside : List ℕ) → length inside ≤ max_len → Compresses bytes.now inside
+        → MatchResult result (λ found. found.items ≡ inside) (λ error. error ≡ ConvertError.OutOfMemory) }
 {
     if bytes.len() < HEADER_LEN {
         return Err(ConvertError::Incomplete);
     }
-    let (header, rest) = bytes.split_at(HEADER_LEN);
-    let len = BigEndian::read_u32(&header[4..]) as usize;
+    let len = stream_len(bytes);
+    let (_, rest) = bytes.split_at(HEADER_LEN);
     if len > rest.len() {
         return Err(ConvertError::Incomplete);
     }

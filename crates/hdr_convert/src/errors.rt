@@ -45,6 +45,11 @@ pub enum ConvertError {
 }
 
 impl From<InflateError> for ConvertError {
+    ghost use Rattle.hdr_convert.specs.Errors.{of_inflate};
+    ghost use Rattle.std.specs.Prelude.{◌≡◌};
+
+    ghost from_gives = { λ cause error. error ≡ of_inflate cause };
+
     fn from(error: InflateError) -> ConvertError {
         match error {
             InflateError::OutOfMemory => ConvertError::OutOfMemory,
@@ -72,12 +77,22 @@ impl From<V2SerializeError> for ConvertError {
 }
 
 impl From<AllocError> for ConvertError {
+    ghost use Rattle.std.specs.Prelude.{◌≡◌};
+    ghost use Rattle.hdr_convert.specs.declared.errors.ConvertError.TheVariants.{OutOfMemory};
+
+    ghost from_gives = { λ _ error. error ≡ OutOfMemory };
+
     fn from(_: AllocError) -> ConvertError {
         ConvertError::OutOfMemory
     }
 }
 
 impl<T: Drop> From<AllocFailed<T>> for ConvertError {
+    ghost use Rattle.std.specs.Prelude.{◌≡◌};
+    ghost use Rattle.hdr_convert.specs.declared.errors.ConvertError.TheVariants.{OutOfMemory};
+
+    ghost from_gives = { λ _ error. error ≡ OutOfMemory };
+
     fn from(_: AllocFailed<T>) -> ConvertError {
         ConvertError::OutOfMemory
     }

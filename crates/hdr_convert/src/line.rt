@@ -1,10 +1,11 @@
 //! Lines of interval logs.
 
-ghost use Rattle.std.specs.Prelude.{◌≡◌, ◌++◌, ℕ, List, [], IfOk, OnOk};
+ghost use Rattle.std.specs.Prelude.{◌≡◌, ◌++◌, ℕ, List, [], Some, Contains, IfOk, OnOk, IsOkUnless};
 ghost use Rattle.hdr_log.specs.Grammar.{reading};
-ghost use Rattle.hdr_log.specs.Texts.{base64_of};
+ghost use Rattle.hdr_log.specs.Texts.{base64_of, base64_bytes};
 ghost use Rattle.hdr_convert.specs.Forms.{HasForm};
-ghost use Rattle.hdr_convert.specs.Lines.{IsConverted, IsLineIn};
+ghost use Rattle.hdr_convert.specs.Converted.{IsInForm, IsReadable};
+ghost use Rattle.hdr_convert.specs.Lines.{IsFieldIn, IsConverted, IsLineIn, IsConvertible};
 
 use crate::bytes::{Form, compressed, v2_bytes};
 use crate::errors::ConvertError;
@@ -30,6 +31,7 @@ pub fn convert_line(
         ≡ output.old.items ++ line.now) }
     ensures line { OnOk result ((text : List ℕ) × IsLineIn form line.now text
         × (output.new.items ≡ output.old.items ++ text)) }
+    ensures readable { IsConvertible (reading line.now) line.now → IsOkUnless result ConvertError.OutOfMemory }
 {
     match IntervalLogIterator::new(line).next() {
         Some(Ok(LogEntry::Interval(interval))) => {
@@ -48,8 +50,10 @@ fn convert_interval(
     form: Form,
     output: &mut Vec<u8>,
 ) -> Result<(), ConvertError>
-    ensures { OnOk result ((text : List ℕ) × IsConverted form line.now text
+    ensures converted { OnOk result ((text : List ℕ) × IsConverted form field.now line.now text
         × (output.new.items ≡ output.old.items ++ text)) }
+    ensures readable { Contains line.now 44 → (bytes : List ℕ) → base64_bytes field.now ≡ Some bytes → IsReadable bytes
+        → IsOkUnless result ConvertError.OutOfMemory }
 {
     let Some(comma) = memrchr(b',', line) else {
         return Err(ConvertError::NotALine);
@@ -62,7 +66,9 @@ fn convert_interval(
 
 /// Returns a histogram of either form in `form`.
 fn in_form(alloc: Global, bytes: Vec<u8>, form: Form) -> Result<Vec<u8>, ConvertError>
-    ensures { IfOk result (λ bytes. HasForm form bytes.items) }
+    ensures form { IfOk result (λ made. HasForm form made.items) }
+    ensures converted { IfOk result (λ made. IsInForm form bytes.items made.items) }
+    ensures readable { IsReadable bytes.items → IsOkUnless result ConvertError.OutOfMemory }
 {
     match form {
         Form::Plain => v2_bytes(alloc, bytes),
@@ -81,8 +87,12 @@ pub fn convert_field(
     form: Form,
     output: &mut Vec<u8>,
 ) -> Result<(), ConvertError>
-    ensures { OnOk result ((bytes : List ℕ) × HasForm form bytes
+    ensures form { OnOk result ((bytes : List ℕ) × HasForm form bytes
         × (output.new.items ≡ output.old.items ++ base64_of bytes)) }
+    ensures field { OnOk result ((text : List ℕ) × IsFieldIn form field.now text
+        × (output.new.items ≡ output.old.items ++ text)) }
+    ensures readable { (bytes : List ℕ) → base64_bytes field.now ≡ Some bytes → IsReadable bytes
+        → IsOkUnless result ConvertError.OutOfMemory }
 {
     let bytes = match decoded(alloc, field) {
         Ok(bytes) => bytes,

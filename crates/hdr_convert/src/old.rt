@@ -1,11 +1,10 @@
 //! Histograms of versions 0 and 1, which have a counter of one width for each bin.
 
-ghost use Rattle.std.specs.Prelude.{◌≡◌, ◌↔◌, ◌+◌, ◌<◌, ◌≤◌, ◌⊎◌, IfOk, IfSome, Some, length, true, ℕ};
+ghost use Rattle.std.specs.Prelude.{◌≡◌, ◌↔◌, ◌+◌, ◌<◌, ◌≤◌, ◌⊎◌, IfOk, IfSome, Some, IsTrue, EachIndex, slice_index, length, true, ℕ};
 ghost use Rattle.hdr_base.specs.Classes.{most_bins};
 ghost use Rattle.hdr_model.specs.Plain.{Plain};
-ghost use Rattle.hdrhistogram.specs.V2.{IsV2};
 ghost use Rattle.hdr_convert.specs.Forms.{IsPlain};
-ghost use Rattle.hdr_convert.specs.Old.{number_at, counter_at, IsWidth, IsOld, StartsAs, IsVersion0, IsVersion1, Holds};
+ghost use Rattle.hdr_convert.specs.Old.{number_at, counter_at, IsWidth, IsOld, StartsAs, IsVersion0, IsVersion1, IsV2OfOld, Holds};
 
 use crate::errors::ConvertError;
 use byteorder::{BigEndian, ByteOrder};
@@ -44,8 +43,7 @@ struct OldHistogram<'a> {
 #[tactic(auto, using(crate::proofs::Cookies::v2_is_plain))]
 pub(crate) fn v2_of_old(alloc: Global, bytes: &[u8]) -> Result<Vec<u8>, ConvertError>
     ensures plain { IfOk result (λ v2. IsPlain v2.items) }
-    ensures v2 { IfOk result (λ v2. (h : Plain) × IsV2 h v2.items
-        × (IsVersion0 bytes.now h ⊎ IsVersion1 bytes.now h)) }
+    ensures v2 { IfOk result (λ v2. IsV2OfOld bytes.now v2.items) }
 {
     let old = old_histogram(bytes)?;
     let histogram = counted(alloc, &old)?;
@@ -190,12 +188,7 @@ fn counted(alloc: Global, old: &OldHistogram<'_>) -> Result<Histogram<u64>, Conv
     let sigfig = sigfig_of(old.sigfig)?;
     let mut builder = HistogramBuilder::new_with_bounds(alloc, old.low, old.high, sigfig)?;
     let bins = builder.distinct_values();
-    if old
-        .counters
-        .iter()
-        .skip(old.width * bins)
-        .any(|byte| *byte != 0)
-    {
+    if !are_zero_from(old.counters, old.width * bins) {
         return Err(ConvertError::Bounds);
     }
     // A counter has at least one byte.
@@ -203,6 +196,20 @@ fn counted(alloc: Global, old: &OldHistogram<'_>) -> Result<Histogram<u64>, Conv
         builder.set(bin, counter_at(old.counters, old.width, bin));
     }
     Ok(builder.into_histogram())
+}
+
+/// Whether all bytes from `start` on are 0.
+fn are_zero_from(bytes: &[u8], start: usize) -> bool
+    ensures { IsTrue result → (i : ℕ) → start ≤ i → slice_index bytes.now i ≡ 0 }
+{
+    bytes.len() <= start || are_zero(bytes.split_at(start).1)
+}
+
+/// Whether all bytes are 0.
+fn are_zero(bytes: &[u8]) -> bool
+    ensures { IsTrue result ↔ EachIndex bytes.now (λ i. slice_index bytes.now i ≡ 0) }
+{
+    bytes.iter().all(|byte| *byte == 0)
 }
 
 /// Returns the number of digits, which fits a byte.

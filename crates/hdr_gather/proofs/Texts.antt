@@ -80,8 +80,9 @@ no_comma (x ∷ front) field e = cc
 
 nothing_said : (plain : List ℕ) → IsPlainOf [] plain → said_by plain ≡ None
 unfolding said_by
-nothing_said plain (inl e) = subst (λ p. said_by p ≡ None) (sym e) refl
-nothing_said plain (inr c) = absurd (no_comma c.0 c.1 c.3)
+nothing_said plain h =
+    let same : plain ≡ [] = h.1 (λ other. no_comma other.ends.front other.ends.rest other.ends.last.0) in
+    subst (λ p. said_by p ≡ None) (sym same) refl
 
 empty_line : (is_first : Bool) (line plain : List ℕ) → line ≡ [] → IsPlainOf (without_mark is_first line) plain → said_by plain ≡ None
 empty_line true line plain e h = nothing_said plain (subst (λ l. IsPlainOf (without_mark true l) plain) e h)

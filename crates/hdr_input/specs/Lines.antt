@@ -2,12 +2,11 @@
 use Rattle.std.specs.Prelude.{◌≡◌, ℕ, Bool, if◌then◌else◌, List, [], ◌∷◌, ◌&&◌, ◌||◌, not, nat_le, nat_eq, true, false, length, codes, Option, Some, None, IfSome, unwrap_or, Result}
 use Rattle.std.specs.List.{list_all, starts_with}
 use Rattle.std.specs.Char.{is_ascii_whitespace}
+use Rattle.std.specs.Str.{IsTrimAsciiEnd}
 use Rattle.std.specs.Io.KnownBytes.{IsAtEnd}
 use Rattle.std.specs.Io.BufRead.{take_through, drop_through, DropsThrough}
 use Rattle.hdr_log.specs.Grammar.{Entry, reading, after_front}
-use Rattle.hdr_log.specs.Texts.{base64_of}
-use Rattle.hdr_convert.specs.Forms.{HasForm}
-use Rattle.hdr_convert.specs.Lines.{IsLineIn}
+use Rattle.hdr_convert.specs.Lines.{IsLineIn, IsLastField, IsFieldIn}
 use Rattle.hdr_convert.specs.declared.bytes.Form.TheVariants.{Plain}
 
 -- the next line is read, through its LF, or what is left; there is none at the end
@@ -24,21 +23,34 @@ AreLines (line ∷ lines) text = (line ≡ take_through 10 text) × AreLines lin
 abbrev pub without_mark : Bool → List ℕ → List ℕ
 without_mark is_first line = if is_first then unwrap_or (after_front (239 ∷ 187 ∷ 191 ∷ []) line) line else line
 
--- a line with a plain histogram, which a line with another one is converted to
-abbrev pub IsPlainOf : List ℕ → List ℕ → Type 0
-IsPlainOf line plain = IsLineIn Plain line plain
-
 -- a field of eight bytes or more starts as a histogram of another form than plain V2
 unfoldable pub is_other_form : List ℕ → Bool
 is_other_form field =
     nat_le 8 (length field)
     && (starts_with nat_eq field (codes "HIST") && not (starts_with nat_eq field (codes "HISTEw")) || starts_with nat_eq field (codes "DHIST"))
 
--- a field with a plain histogram: the same, or what one of another form is converted to
+-- the last field of a line, without the whitespace at its end
+pub record EndsWithField (line field : List ℕ) : Type 0 where
+  pub front : List ℕ
+  pub rest : List ℕ
+  pub last : IsLastField line front rest
+  pub trimmed : IsTrimAsciiEnd rest field
+
+-- the last field of a line is a histogram of another form than plain V2
+pub record HasOtherForm (line : List ℕ) : Type 0 where
+  pub field : List ℕ
+  pub ends : EndsWithField line field
+  pub other : is_other_form field ≡ true
+
+-- a line with a plain histogram: what a line of another form is converted to, and any other line itself
+abbrev pub IsPlainOf : List ℕ → List ℕ → Type 0
+IsPlainOf line plain = (HasOtherForm line → IsLineIn Plain line plain) × ((HasOtherForm line → ⊥) → plain ≡ line)
+
+-- a field with a plain histogram: the same, or the V2 bytes of one of another form
 abbrev pub IsPlainField : List ℕ → List ℕ → Type 0
 IsPlainField field plain =
     (is_other_form field ≡ false → plain ≡ field)
-    × (is_other_form field ≡ true → (bytes : List ℕ) × HasForm Plain bytes × (plain ≡ base64_of bytes))
+    × (is_other_form field ≡ true → IsFieldIn Plain field plain)
 
 abbrev pub first_of : List (Result Entry ℕ) → Option (Result Entry ℕ)
 first_of [] = None

@@ -1,7 +1,7 @@
 //! Logs whose histograms are compressed, read as if they were not.
 
-ghost use Rattle.std.specs.Prelude.{◌≡◌, ◌++◌, ℕ, List, OnOk, IfOk};
-ghost use Rattle.hdr_input.specs.Lines.{IsPlainOf, IsPlainField, is_other_form};
+ghost use Rattle.std.specs.Prelude.{◌≡◌, ◌++◌, ℕ, List, IsTrue, OnOk, IfOk};
+ghost use Rattle.hdr_input.specs.Lines.{IsPlainOf, IsPlainField, HasOtherForm, is_other_form};
 
 use crate::errors::InputError;
 use crate::log_lines::split_log_line;
@@ -67,7 +67,10 @@ pub fn plain_field<'a>(
 }
 
 /// Whether the last field of a line is a histogram of another form.
-pub fn has_other_form(line: &[u8]) -> bool {
+pub fn has_other_form(line: &[u8]) -> bool
+    ensures yes { IsTrue result → HasOtherForm line.now }
+    ensures no { HasOtherForm line.now → IsTrue result }
+{
     match memrchr(b',', line) {
         Some(comma) => is_other_form(line[comma + 1..].trim_ascii_end()),
         None => false,

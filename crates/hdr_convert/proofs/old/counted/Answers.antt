@@ -1,4 +1,4 @@
-use Rattle.std.proofs.Common.{rules, arith, ◌<◌, ◌≤◌, ◌⊎◌, length, refl, sym, ap, ◌∙◌}
+use Rattle.std.proofs.Common.{rules, arith, ◌≡◌, ℕ, ◌*◌, ◌<◌, ◌≤◌, ◌⊎◌, length, refl, sym, ap, ◌∙◌}
 use Rattle.hdr_base.specs.Classes.{bins_to, resolution_of}
 use Rattle.hdr_model.specs.Plain.{empty_plain}
 use Rattle.hdr_model.specs.Unfinished.{Unfinished}
@@ -26,9 +26,11 @@ returns c =
     let long : (length c.args.old.now.counters.now ≤ c.loop-bin.bin) ⊎ (length c.loop-bin.builder.counts ≤ c.loop-bin.bin)
     = grind (arith, c.min-bin-end.ensures, c.loop-bin-test.false) in
     let same = c.into_histogram.ensures.same ∙ c.loop-bin.invariant.0 in
-    let made = c.in_ok-builder.ensures.0 in (
+    let made = c.in_ok-builder.ensures.0 in
+    let bins : length c.loop-bin.builder.counts ≡ c.distinct_values-bins.result = search rules in
+    let zeros = λ (k : ℕ) (le : c.args.old.now.width * length c.loop-bin.builder.counts ≤ k). c.are_zero_from.ensures (search rules) k (rw (sym bins) le) in (
       sym (ap (λ (f : Unfinished). f.sigfig) same ∙ ap (λ (f : Unfinished). f.sigfig) made ∙ c.in_ok-sigfig.ensures),
       sym (ap (λ (f : Unfinished). f.low) same ∙ ap (λ (f : Unfinished). f.low) made),
       sym (ap (λ (f : Unfinished). f.high) same ∙ ap (λ (f : Unfinished). f.high) made),
-      all_set _ _ _ _ _ c.requires long c.loop-bin.invariant.2 (ap (λ (f : Unfinished). f.counts) same),
+      all_set _ _ _ _ _ c.requires long zeros c.loop-bin.invariant.2 (ap (λ (f : Unfinished). f.counts) same),
     )
