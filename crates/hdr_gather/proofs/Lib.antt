@@ -1,6 +1,9 @@
 pub mod Parts
 pub mod Exchange
 pub mod Summing
+pub mod Keys
+pub mod Longest
+pub mod Groups
 pub mod Ascending
 pub mod Readers
 pub mod Texts

@@ -27,3 +27,11 @@ all_from_0 (x ∷ logs) = All-cons (IsFrom 0) x logs (from_0 (next_start x)) (al
     from_0 : (o : Option ℕ) → IfSome o (λ t. 0 ≤ t)
     from_0 None = tt
     from_0 (Some t) = omega arith
+
+-- a log that goes on from a later time
+pub from_later : {R : Type 0} (log : LogReader R) (start : ℕ) → IsFrom (start + 1) log → IsFrom start log
+from_later log start h = by_next (next_start log) h
+  where
+    by_next : (o : Option ℕ) → IfSome o (λ t. start + 1 ≤ t) → IfSome o (λ t. start ≤ t)
+    by_next None h = tt
+    by_next (Some t) h = omega (arith, h)

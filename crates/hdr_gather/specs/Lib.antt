@@ -1,6 +1,7 @@
 pub mod Times
 pub mod Sums
 pub mod Parts
+pub mod Keys
 pub mod Lines
 pub mod Intervals
 pub mod Logs

@@ -1,32 +1,37 @@
 -- Gathered logs: which lines they have, and in which order.
-use Rattle.std.specs.Prelude.{◌≡◌, ℕ, ◌≤◌, List, [], ◌∷◌, ◌++◌, Option, IfSome, map}
-use Rattle.std.specs.List.{All, flat_map}
+use Rattle.std.specs.Prelude.{◌≡◌, ℕ, ◌≤◌, ◌<◌, List, [], ◌∷◌, ◌++◌, Option, IfSome, map}
+use Rattle.std.specs.List.{All, AllPairs, flat_map}
 use Rattle.std.specs.Option.{option_map}
 use Rattle.std.specs.Io.KnownBytes.{Appends}
 use Rattle.hdrhistogram.specs.LogStarts.{new_start, IsStartText}
 use Rattle.hdr_gather.specs.declared.part.Part.{Part}
 use Rattle.hdr_gather.specs.declared.reader.LogReader.{LogReader}
+use Rattle.hdr_gather.specs.Keys.{key_of, IsBefore}
 use Rattle.hdr_gather.specs.Lines.{IsLineOf}
 use Rattle.hdr_gather.specs.Intervals.{Timed, timed_of, IsKnown, IsReady, AreLeft}
 
--- intervals begin in order of time, from `low` to `high`
+-- intervals begin in order of time, from `low` on and before `high`
 unfoldable pub Ascend : ℕ → ℕ → List Part → Type 0
 Ascend low high [] = low ≤ high
-Ascend low high (first ∷ others) = (low ≤ first.start) × Ascend first.start high others
+Ascend low high (first ∷ others) = (low ≤ first.start) × (first.start < high) × Ascend first.start high others
 
--- a line for each group of intervals, which are one and others that it is merged with
+-- each group is before all that follow it: in order of time, and at one time of tag, and no two have the same time and tag
+abbrev pub AreInOrder : List (Part × List Part) → Type 0
+AreInOrder groups = AllPairs (λ one other. IsBefore one.0 other.0) groups
+
+-- a line for each group of intervals, which are one and others of its time and tag that it is merged with
 unfoldable pub AreLinesOf : List (Part × List Part) → List ℕ → Type 0
 AreLinesOf [] text = text ≡ []
 AreLinesOf (group ∷ groups) text =
-    (line : List ℕ) × (rest : List ℕ) × (text ≡ line ++ rest) × IsLineOf group.0 group.1 line × AreLinesOf groups rest
+    (line : List ℕ) × (rest : List ℕ) × (text ≡ line ++ rest) × All (λ part. key_of part ≡ key_of group.0) group.1 × IsLineOf group.0 group.1 line × AreLinesOf groups rest
 
--- intervals were written in their order, each of them in one line
+-- intervals were written in their order, each of them in one line, and all of one time and tag in the same line
 abbrev pub Writes : List Part → Option (List ℕ) → Option (List ℕ) → Type 0
 Writes parts old new =
     (groups : List (Part × List Part)) × (text : List ℕ)
-    × (flat_map (λ group. group.0 ∷ group.1) groups ≡ parts) × AreLinesOf groups text × Appends old new text
+    × (flat_map (λ group. group.0 ∷ group.1) groups ≡ parts) × AreInOrder groups × AreLinesOf groups text × Appends old new text
 
--- these intervals were written, which begin in order of time, from `low` to `high`
+-- these intervals were written, which begin in order of time, from `low` on and before `high`
 abbrev pub WritesFrom : ℕ → ℕ → List Timed → Option (List ℕ) → Option (List ℕ) → Type 0
 WritesFrom low high all old new = (parts : List Part) × Ascend low high parts × (map timed_of parts ≡ all) × Writes parts old new
 

@@ -1,6 +1,6 @@
 //! Logs that are gathered: side by side, or read first.
 
-ghost use Rattle.std.specs.Prelude.{◌≡◌, ◌≤◌, ◌↔◌, ◌++◌, ℕ, List, [], Some, OnOk, IfOk, IfSome, map, vec_items};
+ghost use Rattle.std.specs.Prelude.{◌≡◌, ◌≤◌, ◌<◌, ◌+◌, ◌↔◌, ◌++◌, ℕ, List, [], Some, OnOk, OnErr, IfOk, IfSome, IsSomeAnd, map, vec_items};
 ghost use Rattle.std.specs.List.{All};
 ghost use Rattle.std.specs.Io.KnownBytes.{Appends};
 ghost use Rattle.hdrhistogram.specs.LogStarts.{new_start, IsStartText};
@@ -218,7 +218,7 @@ fn take_held<R: Read + Drop>(
     start: u64,
 ) -> Result<Vec<Held>, GatherError>
     requires { All (IsFrom start) logs.old }
-    ensures rest { OnOk result (All (IsFrom start) logs.new) }
+    ensures rest { OnOk result (All (IsFrom (start + 1)) logs.new) }
     ensures ready { OnOk result (All (IsReady R.remaining) logs.old
         → All (IsReady R.remaining) logs.new) }
     ensures left { IfOk result (λ taken. Loses R.remaining logs.old logs.new
@@ -241,7 +241,7 @@ fn take_from<R: Read + Drop>(
 ) -> Result<(), GatherError>
     requires rest { IsFrom start reader.old }
     requires taken { All (λ held. held.start ≡ start) (vec_items taken.old) }
-    ensures rest { OnOk result (IsFrom start reader.new) }
+    ensures rest { OnOk result (IsFrom (start + 1) reader.new) }
     ensures ready { OnOk result (IsReady R.remaining reader.old → IsReady R.remaining reader.new) }
     ensures left { OnOk result (Takes R.remaining reader.old reader.new (vec_items taken.old)
         (vec_items taken.new)) }
@@ -249,12 +249,21 @@ fn take_from<R: Read + Drop>(
 {
     for _ in 0..u64::MAX {
         if reader.next_start() != Some(start) {
-            break;
+            return Ok(());
         }
         take_next(alloc, reader, taken)?;
-        if reader.next_start().is_some_and(|next| next < start) {
-            return Err(GatherError::NotSorted(reader.place()));
-        }
+        check_order(reader, start)?;
+    }
+    Err(GatherError::TooManyLines)
+}
+
+/// Returns an error if the next interval of a log begins before this time.
+fn check_order<R: Read + Drop>(reader: &LogReader<R>, start: u64) -> Result<(), GatherError>
+    ensures ok { OnOk result (IsFrom start reader.now) }
+    ensures err { OnErr result (IsSomeAnd (next_start reader.now) (λ next. next < start)) }
+{
+    if reader.next_start().is_some_and(|next| next < start) {
+        return Err(GatherError::NotSorted(reader.place()));
     }
     Ok(())
 }

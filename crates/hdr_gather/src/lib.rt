@@ -14,6 +14,7 @@ ghost use Rattle.std.specs.Prelude.{◌≡◌, ℕ, List, OnOk, IfOk};
 ghost use Rattle.std.specs.Io.KnownBytes.{Appends};
 ghost use Rattle.hdrhistogram.specs.LogWriters.{sink, divisor_of, IsSameLog};
 ghost use Rattle.hdrhistogram.specs.LogStarts.{new_start, IsStartText};
+ghost use Rattle.hdr_gather.specs.Keys.{AreSorted};
 ghost use Rattle.hdr_gather.specs.Lines.{IsLineOf};
 ghost use Rattle.hdr_gather.specs.Logs.{Writes};
 
@@ -52,13 +53,14 @@ fn write_sum<W: Write>(
     Ok(())
 }
 
-/// Writes the intervals that parts in order become.
+/// Writes the intervals that sorted parts become, one for each time and tag.
 pub(crate) fn write_parts<W: Write>(
     alloc: Global,
     parts: &[Part<'_>],
     log: &mut IntervalLogWriter<'_, '_, W, V2Serializer>,
 ) -> Result<(), GatherError>
-    requires { divisor_of log.old ≡ 1 }
+    requires divisor { divisor_of log.old ≡ 1 }
+    requires sorted { AreSorted parts.now }
     ensures same_log { IsSameLog log.old log.new }
     ensures written { OnOk result (Writes parts.now (W.contents (sink log.old).now)
         (W.contents (sink log.new).now)) }

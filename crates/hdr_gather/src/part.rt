@@ -1,11 +1,13 @@
 //! The intervals of a log, by time and tag.
 
-ghost use Rattle.std.specs.Prelude.{◌≡◌, ◌≤◌, ◌+◌, ℕ, IfSome, OnOk, length, vec_items};
+ghost use Rattle.std.specs.Prelude.{◌≡◌, ◌≢◌, ◌≤◌, ◌<◌, ◌+◌, ℕ, IfSome, OnOk, MatchBool, length, vec_items};
+ghost use Rattle.std.specs.List.{AllWithin, HoldsAt};
 ghost use Rattle.std.specs.List.Sorted.{IsPermutation};
 ghost use Rattle.hdr_gather.specs.Logs.{Ascend};
 ghost use Rattle.std.specs.Duration.{as_nanos};
 ghost use Rattle.hdr_log.specs.Reading.{view_of_interval};
 ghost use Rattle.hdr_gather.specs.Intervals.{timed, timed_of};
+ghost use Rattle.hdr_gather.specs.Keys.{key_of, AreSorted};
 ghost use Rattle.hdr_gather.specs.Times.{nearest_millisecond};
 
 use crate::error::Place;
@@ -28,7 +30,9 @@ pub(crate) struct Part<'a> {
 
 impl<'a> Part<'a> {
     /// What intervals have in common that are merged: when they begin, and their tag.
-    pub(crate) fn key(&self) -> (u64, Option<Tag<'a>>) {
+    pub(crate) fn key(&self) -> (u64, Option<Tag<'a>>)
+        ensures { result ≡ (self.now.start, self.now.tag) }
+    {
         (self.start, self.tag)
     }
 }
@@ -55,23 +59,33 @@ pub(crate) fn part_of<'a>(start: u64, place: Place, interval: &IntervalLogHistog
     }
 }
 
+/// Whether an interval begins at the time of `first` and has its tag.
+fn has_key_of(part: &Part<'_>, first: &Part<'_>) -> bool
+    ensures { MatchBool result (key_of part.now ≡ key_of first.now)
+        (key_of part.now ≢ key_of first.now) }
+{
+    part.key() == first.key()
+}
+
 /// Returns the number of intervals at the start of `others` that have the key of `first`.
 pub(crate) fn same_key(first: &Part<'_>, others: &[Part<'_>]) -> usize
-    ensures { result ≤ length others.now }
+    ensures bound { result ≤ length others.now }
+    ensures same { AllWithin (λ part. key_of part ≡ key_of first.now) others.now 0 result }
+    ensures next { result < length others.now
+        → HoldsAt (λ part. key_of part ≢ key_of first.now) others.now result }
 {
-    let key = first.key();
     others
         .iter()
-        .position(|part| part.key() != key)
+        .position(|part| !has_key_of(part, first))
         .unwrap_or(others.len())
 }
 
-/// Sorts intervals by time. Those of one time are sorted by tag, which is not proved.
+/// Sorts intervals by time, and those of one time by tag.
 pub(crate) fn in_order(parts: &mut Vec<Part<'_>>) -> Result<(), AllocError>
     ensures permutation { IsPermutation (vec_items parts.old) (vec_items parts.new) }
+    ensures sorted { OnOk result (AreSorted (vec_items parts.new)) }
     ensures ascending { OnOk result ((high : ℕ) × Ascend 0 high (vec_items parts.new)) }
 {
-    parts.sort_by_key(|part| part.tag)?;
-    parts.sort_by_key(|part| part.start)?;
+    parts.sort_by_key(|part| part.key())?;
     Ok(())
 }

@@ -1,7 +1,9 @@
 //! The sum of intervals.
 
-ghost use Rattle.std.specs.Prelude.{◌∷◌, IfOk, map};
-ghost use Rattle.hdr_gather.specs.Parts.{field_of};
+ghost use Rattle.std.specs.Prelude.{◌≡◌, ◌≤◌, ◌⊎◌, ◌∷◌, IfOk, map};
+ghost use Rattle.std.specs.Duration.{as_nanos};
+ghost use Rattle.hdr_gather.specs.Lines.{IsLongest};
+ghost use Rattle.hdr_gather.specs.Parts.{field_of, duration_of};
 ghost use Rattle.hdr_gather.specs.Sums.{IsJoined, IsGrowing, IsSumOf};
 
 use crate::error::{GatherError, Place};
@@ -66,11 +68,26 @@ pub(crate) fn sum_of(
     Ok(sum)
 }
 
+/// The longer of two durations.
+fn longer(one: Duration, other: Duration) -> Duration
+    ensures low { as_nanos one ≤ as_nanos result }
+    ensures high { as_nanos other ≤ as_nanos result }
+    ensures one_of { (result ≡ one) ⊎ (result ≡ other) }
+{
+    if one.as_nanos() < other.as_nanos() {
+        other
+    } else {
+        one
+    }
+}
+
 /// How long the longest of an interval and others is.
-pub(crate) fn longest(first: &Part<'_>, others: &[Part<'_>]) -> Duration {
+pub(crate) fn longest(first: &Part<'_>, others: &[Part<'_>]) -> Duration
+    ensures { IsLongest (map duration_of (first.now ∷ others.now)) (as_nanos result) }
+{
     let mut longest = first.duration;
     for part in others {
-        longest = longest.max(part.duration);
+        longest = longer(longest, part.duration);
     }
     longest
 }

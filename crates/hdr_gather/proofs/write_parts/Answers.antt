@@ -1,26 +1,37 @@
-use Rattle.std.proofs.Common.{◌≡◌, ◌+◌, ◌-◌, take, drop, ap, arith, rules}
+use Rattle.std.proofs.Common.{◌≡◌, ◌≢◌, ◌≤◌, ◌<◌, ◌+◌, ◌-◌, List, length, take, drop, take_all, ap, subst, arith, rules}
+use Rattle.std.specs.List.{AllWithin, HoldsAt}
+use Rattle.std.proofs.lemmas.List.{length-drop}
 use Rattle.std.proofs.lemmas.Grind.{common_steps}
-use Rattle.hdr_gather.proofs.Ascending.{writes_none, writes_more, writes_all}
+use Rattle.hdr_gather.specs.declared.part.Part.{Part}
+use Rattle.hdr_gather.specs.Keys.{key_of}
+use Rattle.hdr_gather.proofs.Groups.{writes_start, writes_more, writes_all}
 use Rattle.hdr_gather.proofs.write_parts.Goals as goal
 
 pub loop-at-init : goal.loop-at-init
 loop-at-init g c = record {
-  divisor = c.requires;
+  divisor = c.requires.divisor;
   same = search rules;
   within = omega arith;
-  written = writes_none _;
+  written = writes_start c.args.parts.now _;
 }
 
 pub loop-at-preserved : goal.loop-at-preserved
 loop-at-preserved g c =
     let at = c.loop-at.at in
+    let parts = c.args.parts.now in
     let same = c.same_key.result in
     let count : at + 1 + same - (at + 1) ≡ same = omega arith in
+    let first = c.index-parts-at.result in
+    let rest : List Part = drop (at + 1) parts in
+    let is : take (length parts - (at + 1)) rest ≡ rest = take_all (length parts - (at + 1)) rest (omega (arith, length-drop (at + 1) parts)) in
+    let within = subst (λ xs. same ≤ length xs) is c.same_key.ensures.bound in
+    let keys = subst (λ xs. AllWithin (λ p. key_of p ≡ key_of first) xs 0 same) is c.same_key.ensures.same in
+    let next = subst (λ xs. same < length xs → HoldsAt (λ p. key_of p ≢ key_of first) xs same) is c.same_key.ensures.next in
     record {
       divisor = search rules;
       same = search rules;
       within = grind (arith, common_steps);
-      written = writes_more _ _ _ c.args.parts.now at same c.index-parts-at.result _ c.loop-at-test.true c.index-parts-at.is (ap (λ n. take n (drop (at + 1) c.args.parts.now)) count) c.loop-at.invariant.written c.in_ok-write_sum.ensures.written;
+      written = writes_more parts at same first c.loop-at-test.true c.index-parts-at.is _ _ _ _ (ap (λ n. take n rest) count) c.requires.sorted within keys next c.loop-at.invariant.written c.in_ok-write_sum.ensures.written;
     }
 
 pub returns-clause-written : goal.returns-clause-written

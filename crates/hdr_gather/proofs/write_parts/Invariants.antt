@@ -1,6 +1,6 @@
-use Rattle.std.proofs.Common.{◌≡◌, ◌≤◌, ◌-◌, take, length}
+use Rattle.std.proofs.Common.{◌≡◌, ◌≤◌, ◌-◌, length}
 use Rattle.hdrhistogram.specs.LogWriters.{sink, divisor_of, IsSameLog}
-use Rattle.hdr_gather.specs.Logs.{Writes}
+use Rattle.hdr_gather.proofs.Groups.{WritesUpTo}
 use Rattle.hdr_gather.proofs.write_parts.Given as goal
 
 -- the intervals so far are written
@@ -9,7 +9,7 @@ invariant-loop-at g l = record {
   divisor : divisor_of l.log ≡ 1;
   same : IsSameLog l.initial.log l.log;
   within : l.at ≤ length l.parts;
-  written : Writes (take l.at l.parts) (g.W.Write.contents (sink l.initial.log).now) (g.W.Write.contents (sink l.log).now);
+  written : WritesUpTo l.parts l.at (g.W.Write.contents (sink l.initial.log).now) (g.W.Write.contents (sink l.log).now);
 }
 
 abbrev pub decreases-loop-at : goal.decreases-loop-at

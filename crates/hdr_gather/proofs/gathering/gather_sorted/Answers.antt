@@ -10,7 +10,7 @@ returns g c =
     let written = c.in_ok-write_in_order.ensures.written in
     let from = written.2 in (
       written.1,
-      (between, written.0, begun, (from.0, from.1, from.2, (from.3.0, from.3.1, from.3.2, from.3.3, search rules))),
+      (between, written.0, begun, (from.0, from.1, from.2, (from.3.0, from.3.1, from.3.2, from.3.3, from.3.4, search rules))),
       λ known.
           left_before g.R.Read.remaining c.args.logs.now c.begin_logs.new.logs written.1 c.in_ok-begin_logs.ensures.left (written.3 (c.in_ok-begin_logs.ensures.ready known)),
     )

@@ -1,8 +1,9 @@
-use Rattle.std.proofs.Common.{◌≡◌, ◌≤◌, ◌++◌, [], IfSome, map, refl, subst, sym, rules, vec_items}
+use Rattle.std.proofs.Common.{◌≡◌, ◌≤◌, ◌+◌, ◌++◌, [], IfSome, map, refl, subst, sym, rules, vec_items}
 use Rattle.std.specs.List.{All}
 use Rattle.std.specs.List.Sorted.{IsPermutation}
 use Rattle.std.proofs.lemmas.List.Sorted.{All-permutation}
 use Rattle.hdr_gather.specs.Intervals.{intervals_of, Loses, timed_of}
+use Rattle.hdr_gather.specs.Keys.{AreSorted}
 use Rattle.hdr_gather.proofs.Ascending.{writes_nothing, writes_then, ascend_same}
 use Rattle.hdr_gather.proofs.Left.{loses_none, loses_then, all_lost, nothing_left}
 use Rattle.hdr_gather.proofs.Readers.{all_from_0}
@@ -15,6 +16,9 @@ loop-init g c = record {
   written = (0, [], writes_nothing 0 _, all_from_0 c.args.logs.now, loses_none g.R.Read.remaining c.args.logs.now);
   ready = λ ready. ready;
 }
+
+pub write_parts-requires-clause-sorted : goal.write_parts-requires-clause-sorted
+write_parts-requires-clause-sorted g c = subst AreSorted (sym c.deref-in-loop.ensures.value) c.in_ok-in_order.ensures.sorted
 
 pub loop-preserved : goal.loop-preserved
 loop-preserved g c =
@@ -33,7 +37,7 @@ loop-preserved g c =
     record {
       divisor = search rules;
       same = search rules;
-      written = (start, all, writes_then 0 before.0 start start before.1 (map timed_of c.deref-in-loop.result.now) _ _ _ c.deref-in-loop.result.now before.2 later (ascend_same start c.deref-in-loop.result.now ordered) refl c.in_ok-write_parts.ensures.written, c.in_ok-held.ensures.rest, loses);
+      written = (start + 1, all, writes_then 0 before.0 start (start + 1) before.1 (map timed_of c.deref-in-loop.result.now) _ _ _ c.deref-in-loop.result.now before.2 later (ascend_same start c.deref-in-loop.result.now ordered) refl c.in_ok-write_parts.ensures.written, c.in_ok-held.ensures.rest, loses);
       ready = λ ready. c.in_ok-held.ensures.ready (c.loop.invariant.ready ready);
     }
 

@@ -5,12 +5,12 @@ use Rattle.hdr_gather.specs.Intervals.{Timed, Loses, IsReady}
 use Rattle.hdr_gather.specs.Logs.{WritesFrom, IsFrom}
 use Rattle.hdr_gather.proofs.gathering.write_in_order.Given as goal
 
--- the intervals up to a time are written, and the logs have lost them alone and go on from that time
+-- the intervals before a time are written, and the logs have lost them alone and go on from that time
 abbrev pub invariant-loop : goal.invariant-loop
 invariant-loop g l = record {
   divisor : divisor_of l.log ≡ 1;
   same : IsSameLog l.initial.log l.log;
-  written : (last : ℕ) × (all : List Timed) × WritesFrom 0 last all (g.W.Write.contents (sink l.initial.log).now) (g.W.Write.contents (sink l.log).now)
-      × All (IsFrom last) l.logs × Loses g.R.Read.remaining l.initial.logs l.logs all;
+  written : (high : ℕ) × (all : List Timed) × WritesFrom 0 high all (g.W.Write.contents (sink l.initial.log).now) (g.W.Write.contents (sink l.log).now)
+      × All (IsFrom high) l.logs × Loses g.R.Read.remaining l.initial.logs l.logs all;
   ready : All (IsReady g.R.Read.remaining) l.initial.logs → All (IsReady g.R.Read.remaining) l.logs;
 }

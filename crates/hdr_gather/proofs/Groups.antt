@@ -1,0 +1,126 @@
+-- Groups of sorted intervals, and their lines.
+use Rattle.std.proofs.Common.{◌≡◌, ◌≢◌, ℕ, zero, suc, ◌≤◌, ◌<◌, ◌+◌, ◌-◌, List, [], ◌∷◌, ◌++◌, Option, Some, None, Bool, false, take, drop, length, get_or, refl, sym, ap, subst, ◌∙◌, append_assoc, arith}
+use Rattle.std.specs.List.{All, AllWithin, AllPairs, HoldsAt, flat_map}
+use Rattle.std.specs.Ordering.{is_lt}
+use Rattle.std.proofs.Math.Seq.{take-suc, take-add}
+use Rattle.std.proofs.lemmas.List.{append-nil, take_all, length-drop, get_or-drop}
+use Rattle.std.proofs.lemmas.List.Concat.{flat_map-append}
+use Rattle.std.proofs.lemmas.List.Elements.{All-nil, All-cons, All-head, All-tail, All-append, All-weaker, at_read}
+use Rattle.std.proofs.lemmas.List.Kept.{AllPairs-cons}
+use Rattle.std.proofs.lemmas.List.Sorted.{sorted_far, ranks_by}
+use Rattle.std.specs.Io.KnownBytes.{Appends}
+use Rattle.hdr_gather.specs.declared.part.Part.{Part}
+use Rattle.hdr_gather.specs.Keys.{key_of, key_cmp, IsBefore, AreSorted}
+use Rattle.hdr_gather.specs.Lines.{IsLineOf}
+use Rattle.hdr_gather.specs.Logs.{AreInOrder, AreLinesOf, Writes}
+use Rattle.hdr_gather.proofs.Parts.{all_front, all_behind}
+use Rattle.hdr_gather.proofs.Keys.{key_total, less_past, before_earlier}
+
+abbrev pub members : List (Part × List Part) → List Part
+members gs = flat_map (λ g. g.0 ∷ g.1) gs
+
+lines_append : (gs hs : List (Part × List Part)) (s t : List ℕ) → AreLinesOf gs s → AreLinesOf hs t → AreLinesOf (gs ++ hs) (s ++ t)
+unfolding AreLinesOf
+lines_append [] hs s t none l = subst (λ x. AreLinesOf hs (x ++ t)) (sym none) l
+lines_append (g ∷ gs) hs s t m l =
+    (m.0, m.1 ++ t, ap (λ x. x ++ t) m.2 ∙ append_assoc m.0 m.1 t, m.3, m.4, lines_append gs hs m.1 t m.5 l)
+
+appends_both : (o m n : Option (List ℕ)) (xs ys : List ℕ) → Appends o m xs → Appends m n ys → Appends o n (xs ++ ys)
+appends_both None m n xs ys p q = tt
+appends_both (Some o) None n xs ys p q = absurd p
+appends_both (Some o) (Some m) None xs ys p q = absurd q
+appends_both (Some o) (Some m) (Some n) xs ys p q = q ∙ ap (λ t. t ++ ys) p ∙ append_assoc o xs ys
+
+appends_nothing : (o : Option (List ℕ)) → Appends o o []
+appends_nothing None = tt
+appends_nothing (Some xs) = sym (append-nil xs)
+
+-- groups in order, and others after them
+module _ {X : Type 0} (R : X → X → Type 0) where
+  pairs_append : (xs ys : List X) → AllPairs R xs → AllPairs R ys → All (λ x. All (R x) ys) xs → AllPairs R (xs ++ ys)
+  pairs_append [] ys p q cross = q
+  pairs_append (x ∷ xs) ys p q cross =
+      let first : All (R x) xs = λ k d l. p 0 (suc k) d (omega arith) (omega (arith, l)) in
+      let rest : AllPairs R xs = λ i j d l m. p (suc i) (suc j) d (omega (arith, l)) (omega (arith, m)) in
+      AllPairs-cons R x (xs ++ ys) (All-append (R x) xs ys first (All-head (λ x. All (R x) ys) x xs cross)) (pairs_append xs ys rest q (All-tail (λ x. All (R x) ys) x xs cross))
+
+-- the first intervals of groups
+firsts : (P : Part → Type 0) (gs : List (Part × List Part)) → All P (members gs) → All (λ g. P g.0) gs
+firsts P [] h = All-nil (λ g. P g.0)
+firsts P (g ∷ gs) h =
+    All-cons (λ g. P g.0) g gs (All-head P g.0 (g.1 ++ members gs) h) (firsts P gs (all_behind P (g.0 ∷ g.1) (members gs) h))
+
+pub writes_none : (o : Option (List ℕ)) → Writes [] o o
+unfolding AreLinesOf
+writes_none o = ([], [], refl, λ i j d l m. absurd (omega (arith, m)), refl, appends_nothing o)
+
+-- intervals after others that all begin earlier
+pub writes_both : (ps qs : List Part) (o m n : Option (List ℕ)) (low : ℕ) → All (λ p. p.start < low) ps → All (λ q. low ≤ q.start) qs → Writes ps o m → Writes qs m n → Writes (ps ++ qs) o n
+writes_both ps qs o m n low below above s t =
+    let all : members (s.0 ++ t.0) ≡ ps ++ qs = flat_map-append (λ g. g.0 ∷ g.1) s.0 t.0 ∙ ap (λ r. r ++ members t.0) s.2 ∙ ap (λ r. ps ++ r) t.2 in
+    let early : All (λ g. g.0.start < low) s.0 = firsts (λ p. p.start < low) s.0 (subst (All (λ p. p.start < low)) (sym s.2) below) in
+    let late : All (λ h. low ≤ h.0.start) t.0 = firsts (λ q. low ≤ q.start) t.0 (subst (All (λ q. low ≤ q.start)) (sym t.2) above) in
+    let cross : All (λ g. All (λ h. IsBefore g.0 h.0) t.0) s.0 =
+    All-weaker (λ g. g.0.start < low) (λ g. All (λ h. IsBefore g.0 h.0) t.0) (λ g l. All-weaker (λ h. low ≤ h.0.start) (λ h. IsBefore g.0 h.0) (λ h m. before_earlier g.0 h.0 (omega (arith, l, m))) t.0 late) s.0 early in
+    (s.0 ++ t.0, s.1 ++ t.1, all, pairs_append (λ g h. IsBefore g.0 h.0) s.0 t.0 s.3 t.3 cross, lines_append s.0 t.0 s.1 t.1 s.4 t.4, appends_both o m n s.1 t.1 s.5 t.5)
+
+-- the intervals of a list up to an index are written, and their groups are before the rest of it
+abbrev pub WritesUpTo : List Part → ℕ → Option (List ℕ) → Option (List ℕ) → Type 0
+WritesUpTo ps i old new =
+    (groups : List (Part × List Part)) × (text : List ℕ) × (members groups ≡ take i ps) × AreInOrder groups × AreLinesOf groups text × Appends old new text
+    × ((j : ℕ) (d : Part) → i ≤ j → j < length ps → All (λ g. IsBefore g.0 (get_or ps j d)) groups)
+
+pub writes_start : (ps : List Part) (o : Option (List ℕ)) → WritesUpTo ps 0 o o
+unfolding AreLinesOf
+writes_start ps o = ([], [], refl, λ i j d l m. absurd (omega (arith, m)), refl, appends_nothing o, λ j d l m. All-nil (λ g. IsBefore g.0 (get_or ps j d)))
+
+within_take : (P : Part → Type 0) (xs : List Part) (n : ℕ) → n ≤ length xs → AllWithin P xs 0 n → All P (take n xs)
+within_take P xs zero l h = All-nil P
+within_take P [] (suc n) l h = absurd (omega (arith, l))
+within_take P (x ∷ xs) (suc n) l h =
+    All-cons P x (take n xs) (h 0 x (omega arith) (omega arith)) (within_take P xs n (omega (arith, l)) (λ k d a b. h (suc k) d (omega arith) (omega (arith, b))))
+
+module _ (ps : List Part) (i len : ℕ) (d : Part) (at : i < length ps) (found : d ≡ get_or ps i d) where
+  -- an interval comes before those after all of its key
+  before_rest : AreSorted ps → (len < length (drop (i + 1) ps) → HoldsAt (λ p. key_of p ≢ key_of d) (drop (i + 1) ps) len) → (j : ℕ) (e : Part) → i + 1 + len ≤ j → j < length ps → IsBefore d (get_or ps j e)
+  before_rest sorted next j e l m =
+      let lt : Part → Part → Bool = λ x y. is_lt (key_cmp (key_of x) (key_of y)) in
+      let here : get_or ps i e ≡ d = at_read ps (λ p. p ≡ d) i d at found refl e in
+      let more : len < length (drop (i + 1) ps) = omega (arith, l, m, length-drop (i + 1) ps) in
+      let low : lt (get_or ps (i + 1 + len) e) d ≡ false = subst (λ x. lt (get_or ps (i + 1 + len) e) x ≡ false) here (sorted_far lt (ranks_by key_total key_of) ps sorted i (i + 1 + len) e (omega arith) (omega (arith, l, m))) in
+      let high : lt (get_or ps j e) (get_or ps (i + 1 + len) e) ≡ false = sorted_far lt (ranks_by key_total key_of) ps sorted (i + 1 + len) j e l m in
+      let other : key_of (get_or ps (i + 1 + len) e) ≢ key_of d = subst (λ x. key_of x ≢ key_of d) (get_or-drop (i + 1) ps len e) (next more e) in
+      less_past (key_of d) (key_of (get_or ps (i + 1 + len) e)) (key_of (get_or ps j e)) low high other
+
+  -- the line of an interval and of all of its key after it
+  pub writes_more : (o m n : Option (List ℕ)) (others : List Part) → others ≡ take len (drop (i + 1) ps) → AreSorted ps → len ≤ length (drop (i + 1) ps)
+      → AllWithin (λ p. key_of p ≡ key_of d) (drop (i + 1) ps) 0 len → (len < length (drop (i + 1) ps) → HoldsAt (λ p. key_of p ≢ key_of d) (drop (i + 1) ps) len)
+      → WritesUpTo ps i o m → (line : List ℕ) × IsLineOf d others line × Appends m n line → WritesUpTo ps (i + 1 + len) o n
+  unfolding AreLinesOf
+  writes_more o m n others is sorted fits same next s l =
+      let g : Part × List Part = (d, others) in
+      let after : i + 1 ≡ suc i = omega arith in
+      let one : take (i + 1) ps ≡ take i ps ++ d ∷ [] = ap (λ k. take k ps) after ∙ take-suc ps i d at ∙ ap (λ y. take i ps ++ y ∷ []) (sym found) in
+      let all : take (i + 1 + len) ps ≡ take i ps ++ d ∷ others =
+      take-add (i + 1) len ps ∙ ap (λ r. r ++ take len (drop (i + 1) ps)) one ∙ append_assoc (take i ps) (d ∷ []) (take len (drop (i + 1) ps)) ∙ ap (λ r. take i ps ++ d ∷ r) (sym is) in
+      let written : members (s.0 ++ g ∷ []) ≡ take (i + 1 + len) ps =
+      flat_map-append (λ g. g.0 ∷ g.1) s.0 (g ∷ []) ∙ ap (λ r. r ++ members (g ∷ [])) s.2 ∙ ap (λ r. take i ps ++ r) (append-nil (d ∷ others)) ∙ sym all in
+      let here : get_or ps i d ≡ d = sym found in
+      let before : All (λ h. IsBefore h.0 d) s.0 = subst (λ x. All (λ h. IsBefore h.0 x) s.0) here (s.6 i d (omega arith) at) in
+      let cross : All (λ h. All (λ k. IsBefore h.0 k.0) (g ∷ [])) s.0 =
+      All-weaker (λ h. IsBefore h.0 d) (λ h. All (λ k. IsBefore h.0 k.0) (g ∷ [])) (λ h b. All-cons (λ k. IsBefore h.0 k.0) g [] b (All-nil (λ k. IsBefore h.0 k.0))) s.0 before in
+      let alone : AllPairs (λ h k. IsBefore h.0 k.0) (g ∷ []) = λ i j d l m. absurd (omega (arith, l, m)) in
+      let keys : All (λ p. key_of p ≡ key_of d) others = subst (All (λ p. key_of p ≡ key_of d)) (sym is) (within_take (λ p. key_of p ≡ key_of d) (drop (i + 1) ps) len fits same) in (
+        s.0 ++ g ∷ [],
+        s.1 ++ l.0,
+        written,
+        pairs_append (λ h k. IsBefore h.0 k.0) s.0 (g ∷ []) s.3 alone cross,
+        lines_append s.0 (g ∷ []) s.1 l.0 s.4 (l.0, [], sym (append-nil l.0), keys, l.1, refl),
+        appends_both o m n s.1 l.0 s.5 l.2,
+        λ j e a b. All-append (λ h. IsBefore h.0 (get_or ps j e)) s.0 (g ∷ []) (s.6 j e (omega (arith, a)) b)
+            (All-cons (λ h. IsBefore h.0 (get_or ps j e)) g [] (before_rest sorted next j e a b) (All-nil (λ h. IsBefore h.0 (get_or ps j e)))),
+      )
+
+-- intervals to the end of a list
+pub writes_all : (o n : Option (List ℕ)) (ps : List Part) (i : ℕ) → length ps ≤ i → WritesUpTo ps i o n → Writes ps o n
+writes_all o n ps i l s = (s.0, s.1, s.2 ∙ take_all i ps l, s.3, s.4, s.5)
