@@ -26,25 +26,25 @@ module _ {A B : Type 0} (f : A → B) where
   mapped_eq E F is (Some a) None = refl
   mapped_eq E F is (Some a) (Some b) = is a b
 
-told_tags : (s t : Option (List ℕ)) (r : Bool) → r ≡ option_eq (pointwise nat_eq) s t → MatchBool r (s ≡ t) (s ≢ t)
-told_tags None None true e = refl
-told_tags None None false e = absurd (false≢true e)
-told_tags None (Some t) true e = absurd (false≢true (sym e))
-told_tags None (Some t) false e = λ q. none-some t q
-told_tags (Some s) None true e = absurd (false≢true (sym e))
-told_tags (Some s) None false e = λ q. none-some s (sym q)
-told_tags (Some s) (Some t) true e = ap Some (same_text s t e)
-told_tags (Some s) (Some t) false e = λ q. other_text s t e (ap (λ o. unwrap_or o []) q)
+tested_tags : (s t : Option (List ℕ)) (r : Bool) → r ≡ option_eq (pointwise nat_eq) s t → MatchBool r (s ≡ t) (s ≢ t)
+tested_tags None None true e = refl
+tested_tags None None false e = absurd (false≢true e)
+tested_tags None (Some t) true e = absurd (false≢true (sym e))
+tested_tags None (Some t) false e = λ q. none-some t q
+tested_tags (Some s) None true e = absurd (false≢true (sym e))
+tested_tags (Some s) None false e = λ q. none-some s (sym q)
+tested_tags (Some s) (Some t) true e = ap Some (same_text s t e)
+tested_tags (Some s) (Some t) false e = λ q. other_text s t e (ap (λ o. unwrap_or o []) q)
 
--- what a test of two keys has told
-pub told_keys : (k l : ℕ × Option (List ℕ)) (r : Bool) → r ≡ (k.0 == l.0) && option_eq (pointwise nat_eq) k.1 l.1 → MatchBool r (k ≡ l) (k ≢ l)
-told_keys k l r e = by_cases (k.0 == l.0) (option_eq (pointwise nat_eq) k.1 l.1) refl refl r e
+-- two keys are the same exactly if the test of them says so
+pub tested_keys : (k l : ℕ × Option (List ℕ)) (r : Bool) → r ≡ (k.0 == l.0) && option_eq (pointwise nat_eq) k.1 l.1 → MatchBool r (k ≡ l) (k ≢ l)
+tested_keys k l r e = by_cases (k.0 == l.0) (option_eq (pointwise nat_eq) k.1 l.1) refl refl r e
   where
     by_cases : (x y : Bool) → (k.0 == l.0) ≡ x → option_eq (pointwise nat_eq) k.1 l.1 ≡ y → (r : Bool) → r ≡ x && y → MatchBool r (k ≡ l) (k ≢ l)
-    by_cases true true p q true e = λ i. (eqb-true k.0 l.0 p i, told_tags k.1 l.1 true (sym q) i)
+    by_cases true true p q true e = λ i. (eqb-true k.0 l.0 p i, tested_tags k.1 l.1 true (sym q) i)
     by_cases true true p q false e = absurd (false≢true e)
     by_cases true false p q true e = absurd (false≢true (sym e))
-    by_cases true false p q false e = λ h. told_tags k.1 l.1 false (sym q) (ap (λ k. k.1) h)
+    by_cases true false p q false e = λ h. tested_tags k.1 l.1 false (sym q) (ap (λ k. k.1) h)
     by_cases false y p q true e = absurd (false≢true (sym e))
     by_cases false y p q false e = λ h. false≢true (sym p ∙ eq-eqb k.0 l.0 (ap (λ k. k.0) h))
 
