@@ -2,7 +2,7 @@ use Rattle.std.proofs.Common.{◌≡◌, ℕ, ◌+◌, ◌-◌, ◌*◌, ◌/◌
 use Rattle.std.proofs.Math.Nat.{mul-le-mul_right, pow-le-pow_right, one-le-pow}
 use Rattle.std.proofs.Math.Nat.{eq-or-lt_of_le, pow-suc}
 use Rattle.std.proofs.lemmas.Bool.{cases_lt}
-use Rattle.hdr_draw.specs.Scales.{Extent, along, IsValuePlace}
+use Rattle.hdr_draw.specs.Scales.{Extent, along, IsColour, IsQuantilePlace, IsValuePlace}
 use Rattle.hdr_draw.specs.Logarithm.{bend, IsLogarithm}
 use Rattle.hdr_draw.proofs.Bend.{bend-ascends, bend_bound, part-bound, div-le-div}
 
@@ -57,3 +57,24 @@ values_ascend e l a b p q s u v h =
     let k : u.logarithm ≤ v.logarithm = ascends (max 1 a) (max 1 b) _ _ u.of_value v.of_value (omega arith) in
     let r = along_ascends e l u.logarithm v.logarithm s k in
     rw (u.is, v.is) r
+
+same_logarithm : (a m n : ℕ) → IsLogarithm a m → IsLogarithm a n → m ≡ n
+same_logarithm a m n p q =
+    let u = ascends a a m n p q (omega arith) in
+    let v = ascends a a n m q p (omega arith) in
+    omega arith
+
+pub quantiles_ascend : (e : Extent) (length n a b p q : ℕ) → 0 < e.span
+    → IsQuantilePlace e length n a p → IsQuantilePlace e length n b q → b ≤ a → p ≤ q
+quantiles_ascend e l n a b p q s u v h =
+    let k : v.of_part ≤ u.of_part = ascends (max 1 b) (max 1 a) _ _ v.part_logarithm u.part_logarithm (omega arith) in
+    let f : u.of_samples ≡ v.of_samples = same_logarithm (max 1 n) _ _ u.samples_logarithm v.samples_logarithm in
+    let r = along_ascends e l (u.of_samples - u.of_part) (v.of_samples - v.of_part) s (omega arith) in
+    rw (u.is, v.is) r
+
+pub colours_ascend : (greatest a b m n : ℕ) → IsColour a greatest m → IsColour b greatest n → a ≤ b → m ≤ n
+colours_ascend g a b m n u v h =
+    let k : u.of_samples ≤ v.of_samples = ascends (max 1 a) (max 1 b) _ _ u.samples_logarithm v.samples_logarithm (omega arith) in
+    let f : u.of_greatest ≡ v.of_greatest = same_logarithm (max 1 g) _ _ u.greatest_logarithm v.greatest_logarithm in
+    let d : 8 * u.of_samples / max 1 v.of_greatest ≤ 8 * v.of_samples / max 1 v.of_greatest = div-le-div _ _ (max 1 v.of_greatest) (omega arith) (omega arith) in
+    rw (u.is, v.is, f) (omega arith)

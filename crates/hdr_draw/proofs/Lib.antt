@@ -7,3 +7,5 @@ pub mod Divided
 pub mod Decimals
 pub mod Escaping
 pub mod Grouping
+pub mod StepOrder
+pub mod Significant

@@ -1,5 +1,5 @@
 -- Paths of SVG: their points as texts.
-use Rattle.std.specs.Prelude.{ℕ, ◌/◌, ◌%◌, ◌==◌, ◌≤◌, List, ◌++◌, codes, if◌then◌else◌}
+use Rattle.std.specs.Prelude.{ℕ, ◌/◌, ◌%◌, ◌==◌, ◌≤◌, min, List, ◌++◌, codes, if◌then◌else◌}
 use Rattle.std.specs.Fmt.{decimal}
 use Rattle.hdr_draw.specs.declared.path.Step.{Step}
 use Rattle.hdr_draw.specs.declared.path.Step.TheVariants.{Start, Line, Across, Along, Back}
@@ -23,6 +23,14 @@ IsInside height (Line x y) = (x ≤ 10000) × (y ≤ height)
 IsInside height (Across x) = x ≤ 10000
 IsInside height (Along y) = y ≤ height
 IsInside height Back = 0 ≤ height
+
+-- a step to the nearest point in a field of a height
+unfoldable pub step_inside : ℕ → Step → Step
+step_inside height (Start x y) = Start (min 10000 x) (min height y)
+step_inside height (Line x y) = Line (min 10000 x) (min height y)
+step_inside height (Across x) = Across (min 10000 x)
+step_inside height (Along y) = Along (min height y)
+step_inside height Back = Back
 
 -- the steps of a path in a field of a height
 pub record Steps : Type 0 where

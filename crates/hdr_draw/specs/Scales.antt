@@ -16,3 +16,19 @@ pub record IsValuePlace (e : Extent) (length value place : ℕ) : Type 0 where
   pub logarithm : ℕ
   pub of_value : IsLogarithm (max 1 value) logarithm
   pub is : place ≡ along e length logarithm
+
+-- how far along a length the quantile lies that a part of the samples is above: by the logarithm of their share
+pub record IsQuantilePlace (e : Extent) (length samples part place : ℕ) : Type 0 where
+  pub of_samples : ℕ
+  pub of_part : ℕ
+  pub samples_logarithm : IsLogarithm (max 1 samples) of_samples
+  pub part_logarithm : IsLogarithm (max 1 part) of_part
+  pub is : place ≡ along e length (of_samples - of_part)
+
+-- which of 8 equal parts of a logarithmic scale up to the greatest number has a number of samples
+pub record IsColour (samples greatest colour : ℕ) : Type 0 where
+  pub of_samples : ℕ
+  pub of_greatest : ℕ
+  pub samples_logarithm : IsLogarithm (max 1 samples) of_samples
+  pub greatest_logarithm : IsLogarithm (max 1 greatest) of_greatest
+  pub is : colour ≡ min 7 (8 * of_samples / max 1 of_greatest)

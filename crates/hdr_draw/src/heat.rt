@@ -1,6 +1,7 @@
 //! Heat maps: numbers of samples over columns and rows.
 
-ghost use Rattle.std.specs.Prelude.{◌<◌, ◌≡◌, vec_len};
+ghost use Rattle.std.specs.Prelude.{◌<◌, ◌+◌, ◌-◌, ◌^◌, min};
+ghost use Rattle.hdr_draw.specs.Scales.{IsColour};
 
 use crate::logarithm::logarithm;
 use std::alloc::{AllocError, Global};
@@ -20,7 +21,8 @@ pub struct HeatMap {
 
 /// Returns the colour of a number of samples, on a logarithmic scale up to the greatest number.
 fn colour_of(samples: u64, most: u64) -> usize
-    ensures { result < 8 }
+    ensures within { result < 8 }
+    ensures is { IsColour samples (min (most + 1) (2 ^ 64 - 1)) result }
 {
     let end = logarithm(most.saturating_add(1)).max(1);
     (8 * logarithm(samples) / end).min(7) as usize

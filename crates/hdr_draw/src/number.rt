@@ -12,6 +12,7 @@ const MOST_DECIMALS: u32 = 9;
 /// `den` is 0 or the product overflows.
 pub fn in_parts(num: u128, den: u128, parts: u128) -> Option<u128>
     ensures nearest { IfSome result (λ n. IsNearest num den parts n) }
+    ensures even { IfSome result (λ n. 2 * (num * parts % den) ≡ den → n % 2 ≡ 0) }
     ensures fits { IfNone result (0 < den → 2 ^ 128 ≤ num * parts + 1) }
 {
     let product = num.checked_mul(parts)?;
@@ -83,7 +84,11 @@ impl Decimal {
         ensures nearest { 0 < den → num * 10 ^ 9 + 1 < 2 ^ 128
             → IsNearest num den (10 ^ result.decimals) result.parts }
         ensures few { result.decimals ≤ 9 }
+        ensures even { 0 < den → num * 10 ^ 9 + 1 < 2 ^ 128
+            → 2 * (num * 10 ^ result.decimals % den) ≡ den → result.parts % 2 ≡ 0 }
         ensures digits { result.decimals < 9 → 100 ≤ result.parts }
+        ensures at_most { 0 < den → num * 10 ^ 9 + 1 < 2 ^ 128
+            → 0 < result.decimals → result.parts < 1000 }
     {
         for decimals in 0..MOST_DECIMALS {
             if let Some(parts) = in_parts(num, den, 10u128.pow(decimals)) {

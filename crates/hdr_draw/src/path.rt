@@ -2,7 +2,7 @@
 
 ghost use Rattle.std.specs.Prelude.{◌≡◌, ◌≤◌, ◌++◌, OnOk, IfOk, [], ◌∷◌, max, string_bytes};
 ghost use Rattle.std.specs.List.{flat_map};
-ghost use Rattle.hdr_draw.specs.Paths.{IsInside, step_text, tenths};
+ghost use Rattle.hdr_draw.specs.Paths.{IsInside, step_inside, step_text, tenths};
 ghost use Rattle.hdr_draw.specs.Scales.{along};
 
 use crate::axis::Axis;
@@ -133,7 +133,9 @@ impl Path {
 
     /// Adds a step. A point outside the field is moved to its side.
     fn add(&mut self, step: Step) -> Result<(), AllocError>
-        ensures { self.new.height ≡ self.old.height }
+        ensures height { self.new.height ≡ self.old.height }
+        ensures steps { OnOk result (self.new.steps
+            ≡ self.old.steps ++ step_inside self.old.height step ∷ []) }
     {
         let height = self.height;
         self.steps.push(moved_inside(step, height))?;
@@ -253,8 +255,10 @@ impl Path {
 }
 
 /// Returns a step whose point is moved into a field of a height.
+#[tactic(auto, unfolding(crate::specs::Paths::step_inside))]
 fn moved_inside(step: Step, height: u32) -> Step
-    ensures { IsInside height result }
+    ensures inside { IsInside height result }
+    ensures is { result ≡ step_inside height step }
 {
     match step {
         Step::Start(x, y) => Step::Start(x.min(WIDTH), y.min(height)),

@@ -1,9 +1,11 @@
 //! A scale of quantiles, by the logarithm of the inverted distance to 1.
 
-ghost use Rattle.std.specs.Prelude.{◌≤◌};
+ghost use Rattle.std.specs.Prelude.{◌≡◌, ◌≤◌};
+ghost use Rattle.hdr_draw.specs.Scales.{IsQuantilePlace};
 
 use crate::axis::Axis;
 use crate::logarithm::{OCTAVE, logarithm};
+use std::marker::Model;
 
 /// A scale from the quantile 0 to 1 - 1/(2n) for n samples, or to p99 if that is greater.
 ///
@@ -14,9 +16,19 @@ pub struct QuantileScale {
     end: u64,
 }
 
+impl Model for QuantileScale {
+    ghost use Rattle.hdr_draw.specs.Scales.{Extent};
+
+    ghost Value = { Extent };
+
+    ghost view = { λ s. s.axis };
+}
+
 impl QuantileScale {
     /// Returns the scale for at most this number of samples. It reaches p99 at least.
-    pub fn new(samples: u64) -> QuantileScale {
+    pub fn new(samples: u64) -> QuantileScale
+        ensures { result.from ≡ 0 }
+    {
         let end = (logarithm(samples) + OCTAVE).max(logarithm(100));
         QuantileScale {
             axis: Axis::new(0, end),
@@ -26,7 +38,8 @@ impl QuantileScale {
 
     /// Returns the distance along `width` of the quantile that `part` of `all` samples are above.
     pub fn place(&self, all: u64, part: u64, width: u32) -> u32
-        ensures { result ≤ width }
+        ensures place { IsQuantilePlace self.now width all part result }
+        ensures within { result ≤ width }
     {
         let distance = logarithm(all).saturating_sub(logarithm(part));
         self.axis.place(distance, width)

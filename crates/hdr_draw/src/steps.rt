@@ -1,8 +1,8 @@
 //! The steps of a scale: 1, 2 and 5 times a power of ten.
 
-ghost use Rattle.std.specs.Prelude.{◌≡◌, ◌<◌, ◌≤◌, ◌*◌, ◌^◌, max, IfOk, IfSome};
-ghost use Rattle.std.specs.List.{All};
-ghost use Rattle.hdr_draw.specs.Steps.{IsStep, IsStrictlyAscending, AreSteps};
+ghost use Rattle.std.specs.Prelude.{◌≡◌, ℕ, ◌<◌, ◌≤◌, ◌+◌, ◌*◌, ◌^◌, max, IfNone, IfOk, IfSome, OnOk};
+ghost use Rattle.std.specs.List.{All, Contains};
+ghost use Rattle.hdr_draw.specs.Steps.{IsStep, IsStrictlyAscending, AreSteps, step_of};
 
 use std::alloc::{AllocError, Global};
 
@@ -14,6 +14,7 @@ pub fn step_below(value: u64) -> u64
     ensures step { IsStep result }
     ensures within { result ≤ max 1 value }
     ensures near { 2 * max 1 value < 5 * result }
+    ensures greatest { (n : ℕ) → IsStep n → n ≤ max 1 value → n ≤ result }
 {
     let value = value.max(1);
     let tens = 10u64.pow(value.ilog10());
@@ -24,9 +25,11 @@ pub fn step_below(value: u64) -> u64
     }
 }
 
-/// Returns the step of this index, or `None` if it overflows 64 bits.
+/// Returns the step at an index, or `None` if it overflows 64 bits.
+#[tactic(auto, unfolding(crate::specs::Steps::step_of))]
 fn step_at(index: u32) -> Option<u64>
-    ensures step { IfSome result IsStep }
+    ensures value { IfSome result (λ step. step ≡ step_of index) }
+    ensures overflow { IfNone result (2 ^ 64 ≤ step_of index) }
 {
     let tens = 10u64.checked_pow(index / 3)?;
     match index % 3 {
@@ -39,33 +42,31 @@ fn step_at(index: u32) -> Option<u64>
 /// Returns the least step at or above a value, or the greatest value if there is none.
 pub fn step_above(value: u64) -> u64
     ensures within { value ≤ result }
+    ensures step { value ≤ 10 ^ 19 → IsStep result }
+    ensures least { (n : ℕ) → IsStep n → value ≤ n → result ≤ n }
 {
     for index in 0..STEPS {
-        match step_at(index) {
-            Some(step) if step >= value => return step,
-            _ => {}
+        let Some(step) = step_at(index) else {
+            return u64::MAX;
+        };
+        if step >= value {
+            return step;
         }
     }
     u64::MAX
 }
 
-/// Adds a step that is above the last one, unless it is above `high`. Returns the last one.
-fn push_step(
-    steps: &mut Vec<u64>,
-    step: u64,
-    low: u64,
-    high: u64,
-    last: u64,
-) -> Result<u64, AllocError>
-    requires step { IsStep step }
-    requires steps { AreSteps low high last steps.old.items }
-    ensures { IfOk result (λ last. AreSteps low high last steps.new.items) }
+/// Adds the step at an index, if it lies from a value to another.
+fn push_step(steps: &mut Vec<u64>, index: u32, low: u64, high: u64) -> Result<(), AllocError>
+    requires { AreSteps low high index steps.old.items }
+    ensures { OnOk result (AreSteps low high (index + 1) steps.new.items) }
 {
-    if step > last && step <= high {
-        steps.push(step)?;
-        return Ok(step);
+    if let Some(step) = step_at(index) {
+        if step >= low && step <= high {
+            steps.push(step)?;
+        }
     }
-    Ok(last)
+    Ok(())
 }
 
 /// Returns the steps from a value to another, ascending.
@@ -73,13 +74,11 @@ pub fn steps_between(alloc: Global, low: u64, high: u64) -> Result<Vec<u64>, All
     ensures steps { IfOk result (λ v. All IsStep v.items) }
     ensures inside { IfOk result (λ v. All (λ n. (low ≤ n) × (n ≤ high)) v.items) }
     ensures ascending { IfOk result (λ v. IsStrictlyAscending v.items) }
+    ensures every { IfOk result (λ v. (n : ℕ) → IsStep n → low ≤ n → n ≤ high → Contains v.items n) }
 {
     let mut steps = Vec::new(alloc);
-    let mut last = low.saturating_sub(1);
     for index in 0..STEPS {
-        if let Some(step) = step_at(index) {
-            last = push_step(&mut steps, step, low, high, last)?;
-        }
+        push_step(&mut steps, index, low, high)?;
     }
     Ok(steps)
 }

@@ -1,7 +1,8 @@
 //! A scale of time: its steps, in milliseconds.
 
-ghost use Rattle.std.specs.Prelude.{◌<◌, ◌≤◌, IfOk, OnOk};
+ghost use Rattle.std.specs.Prelude.{◌≡◌, ◌<◌, ◌*◌, ◌%◌, ◌^◌, IfOk, OnOk};
 ghost use Rattle.std.specs.List.{All};
+ghost use Rattle.hdr_draw.specs.Steps.{IsTickTime};
 
 use std::alloc::{AllocError, Global};
 
@@ -33,6 +34,7 @@ pub struct TimeSteps {
     /// A narrow drawing labels every `every`-th tick.
     pub every: u64,
     ghost some: { 0 < step },
+    ghost fits: { step * 1000 < 2 ^ 64 },
 }
 
 impl TimeSteps {
@@ -56,32 +58,33 @@ impl TimeSteps {
 
     /// Returns the multiples of the step from a time to another, at most ten.
     pub fn ticks(self, alloc: Global, from: u64, to: u64) -> Result<Vec<TimeTick>, AllocError>
-        ensures { IfOk result (λ v. All (λ t. (from ≤ t.time) × (t.time ≤ to)) v.items) }
+        ensures { IfOk result (λ v. All (λ t. IsTickTime (self.step * 1000) from to t.time) v.items) }
     {
-        let width = self.step.saturating_mul(1_000).max(1);
+        let width = self.step * 1_000;
         let first = from.div_ceil(width);
         let mut ticks = Vec::new(alloc);
         for index in 0..10 {
             let number = first.saturating_add(index);
-            let tick = TimeTick {
-                time: number.saturating_mul(width),
-                is_coarse: number.checked_rem(self.every) == Some(0),
-            };
-            push_inside(&mut ticks, tick, from, to)?;
+            if let Some(time) = number.checked_mul(width) {
+                let is_coarse = number.checked_rem(self.every) == Some(0);
+                push_inside(&mut ticks, TimeTick { time, is_coarse }, width, from, to)?;
+            }
         }
         Ok(ticks)
     }
 }
 
-/// Adds a line that lies between two times.
+/// Adds a line at a multiple of a width that lies between two times.
 fn push_inside(
     ticks: &mut Vec<TimeTick>,
     tick: TimeTick,
+    width: u64,
     from: u64,
     to: u64,
 ) -> Result<(), AllocError>
-    requires { All (λ t. (from ≤ t.time) × (t.time ≤ to)) ticks.old.items }
-    ensures { OnOk result (All (λ t. (from ≤ t.time) × (t.time ≤ to)) ticks.new.items) }
+    requires multiple { tick.time % width ≡ 0 }
+    requires ticks { All (λ t. IsTickTime width from to t.time) ticks.old.items }
+    ensures { OnOk result (All (λ t. IsTickTime width from to t.time) ticks.new.items) }
 {
     if tick.time >= from && tick.time <= to {
         ticks.push(tick)?;
@@ -92,12 +95,13 @@ fn push_inside(
 /// Returns the shortest step, in seconds, that a span in milliseconds has at most eight of, or five
 /// below a minute. Past a month it is a multiple of a month.
 fn step_for(span: u64) -> u64
-    ensures { 0 < result }
+    ensures some { 0 < result }
+    ensures fits { result * 1000 < 2 ^ 64 }
 {
     for step in STEPS {
         let most = if step < MINUTE { 5_000 } else { 8_000 };
         if span <= step.saturating_mul(most) {
-            return step.max(1);
+            return step.clamp(1, MONTH);
         }
     }
     span.div_ceil(8_000 * MONTH).max(1).saturating_mul(MONTH)

@@ -1,9 +1,10 @@
 -- The figures of a histogram.
-use Rattle.std.specs.Prelude.{◌≡◌, ℕ, ◌*◌, ◌<◌, max}
+use Rattle.std.specs.Prelude.{◌≡◌, ℕ, ◌+◌, ◌-◌, ◌*◌, ◌<◌, max, min}
 use Rattle.hdr_model.specs.Plain.{Plain, min_of}
 use Rattle.hdr_model.specs.Quantiles.{value_at_quantile}
 use Rattle.hdr_model.specs.Statistics.{mean}
 use Rattle.hdr_figures.specs.declared.figures.Figures.{Figures}
+use Rattle.hdr_figures.specs.declared.timeline.Timeline.{Timeline}
 
 -- the value at the quantile num / den
 abbrev pub value_at : Plain → ℕ → ℕ → ℕ
@@ -23,3 +24,7 @@ pub record AreFiguresOf (h : Plain) (f : Figures) : Type 0 where
 -- a value is more times its usual one than another: their fractions are compared, 0 as 1
 abbrev pub IsFurther : ℕ → ℕ → ℕ → ℕ → Type 0
 IsFurther value usual other other_usual = other * max 1 usual < value * max 1 other_usual
+
+-- how long a point of time is: a step, or less if the log ends within it, but at least a millisecond
+abbrev pub length_at : Timeline → ℕ → ℕ
+length_at t point = max 1 (min t.step (t.last - (t.first + t.step * point)))

@@ -1,6 +1,7 @@
 //! The figures of tags, and of their points of time.
 
-ghost use Rattle.std.specs.Prelude.{◌≡◌, ◌<◌};
+ghost use Rattle.std.specs.Prelude.{◌≡◌, ◌<◌, MatchOption};
+ghost use Rattle.hdr_model.specs.Quantiles.{value_at_quantile};
 ghost use Rattle.hdr_figures.specs.Figures.{AreFiguresOf, value_at};
 
 use crate::error::PageError;
@@ -131,7 +132,9 @@ impl Figures {
 
     /// Returns the figures of a histogram.
     pub fn of(histogram: &Histogram<u64>, level: Option<Quantile>) -> Figures
-        ensures { AreFiguresOf histogram.now result }
+        ensures figures { AreFiguresOf histogram.now result }
+        ensures level { MatchOption level (result.at_level ≡ 0)
+            (λ q. result.at_level ≡ value_at_quantile histogram.now q) }
     {
         Figures {
             count: histogram.len(),

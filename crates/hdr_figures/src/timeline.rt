@@ -1,6 +1,8 @@
 //! Points of time, each of which merges some intervals.
 
 ghost use Rattle.std.specs.Prelude.{◌≡◌, ◌≤◌, ◌<◌, ◌+◌, ◌-◌, ◌*◌, ◌/◌, ◌^◌, ◌↔◌, IfOk, IsTrue, max, min};
+ghost use Rattle.std.specs.List.{All};
+ghost use Rattle.hdr_figures.specs.Figures.{length_at};
 
 use crate::reading::Interval;
 use std::alloc::{AllocError, Global};
@@ -27,7 +29,10 @@ pub struct Timeline {
 impl Timeline {
     /// Returns the points of time of intervals.
     pub fn new(alloc: Global, intervals: &[Interval<'_>]) -> Result<Timeline, AllocError>
-        ensures { IfOk result (λ t. (1 ≤ t.points) × (t.points ≤ 200)) }
+        ensures points { IfOk result (λ t. (1 ≤ t.points) × (t.points ≤ 200)) }
+        ensures first { IfOk result (λ t. All (λ i. t.first ≤ i.start) intervals.now) }
+        ensures last { IfOk result (λ t. All (λ i. min (i.start + i.length) (2 ^ 64 - 1) ≤ t.last)
+            intervals.now) }
     {
         let mut first = u64::MAX;
         let mut last = 0;
@@ -48,7 +53,9 @@ impl Timeline {
 
     /// Returns the points of time from a time to another, of intervals of a usual length.
     fn of_span(first: u64, last: u64, usual: u64) -> Timeline
-        ensures { (1 ≤ result.points) × (result.points ≤ 200) }
+        ensures points { (1 ≤ result.points) × (result.points ≤ 200) }
+        ensures first { result.first ≡ first }
+        ensures last { result.last ≡ last }
     {
         let span = last.saturating_sub(first).max(usual);
         let merged = parts(span, usual, 1_000).div_ceil(MOST).max(1);
@@ -88,6 +95,7 @@ impl Timeline {
 
     /// Returns how much of a point is before the end.
     pub fn length_of(&self, point: usize) -> u64
+        ensures is { result ≡ length_at self.now point }
         ensures some { 0 < result }
         ensures within { result ≤ max 1 self.now.step }
     {
