@@ -1,11 +1,10 @@
 -- The last field of a line.
-use Rattle.std.proofs.Common.{◌≡◌, ℕ, ◌+◌, ◌-◌, ◌<◌, ◌≤◌, ◌==◌, true, false, List, [], ◌∷◌, ◌++◌, length, take, drop, get_or, refl, sym, ap, subst, ◌∙◌, arith, length-append, length-drop}
+use Rattle.std.proofs.Common.{◌≡◌, ℕ, ◌+◌, ◌-◌, ◌<◌, ◌≤◌, true, false, List, [], ◌∷◌, ◌++◌, length, take, drop, get_or, refl, sym, ap, subst, ◌∙◌, arith, length-append, length-drop}
 use Rattle.std.proofs.lemmas.List.{take_all}
 use Rattle.std.specs.Prelude.{Contains}
 use Rattle.std.specs.Char.{is_ascii_whitespace}
 use Rattle.std.specs.Str.{IsTrimAsciiEnd, IsAsciiWhitespaceFrom}
 use Rattle.memchr.specs.Find.{Nowhere, Passes, is_byte}
-use Rattle.hdr_convert.specs.Lines.{IsLastField}
 use Rattle.hdr_convert.proofs.Commas.{around_comma, no_comma, no_comma_after}
 use Rattle.hdr_input.specs.Lines.{EndsWithField, HasOtherForm, is_other_form}
 

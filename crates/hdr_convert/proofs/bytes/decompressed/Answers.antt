@@ -1,4 +1,4 @@
-use Rattle.std.proofs.Common.{rules, arith, refl, ◌≡◌, ◌∙◌, sym, subst, List, ℕ, ap, take, drop}
+use Rattle.std.proofs.Common.{refl, ◌≡◌, ◌∙◌, sym, subst, List, ℕ, ap, take}
 use Rattle.std.proofs.lemmas.Result.{err_from_is_err_and}
 use Rattle.hdr_zlib.specs.Stream.{Inflates}
 use Rattle.hdr_zlib.specs.declared.errors.InflateError.TheVariants.{OutOfMemory}

@@ -1,4 +1,4 @@
-use Rattle.std.proofs.Common.{rules, inl, inr, subst, List, ℕ}
+use Rattle.std.proofs.Common.{rules, inr, subst, List, ℕ}
 use Rattle.std.proofs.lemmas.Result.{IfOk-weaker}
 use Rattle.hdr_convert.specs.Old.{IsV2OfOld}
 use Rattle.hdr_convert.proofs.bytes.v2_bytes.Goals as goal

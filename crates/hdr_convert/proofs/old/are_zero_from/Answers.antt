@@ -1,4 +1,4 @@
-use Rattle.std.proofs.Common.{rules, arith, subst, List, ℕ, ◌≡◌, EachIndex, slice_index}
+use Rattle.std.proofs.Common.{subst, List, ℕ, ◌≡◌, EachIndex, slice_index}
 use Rattle.hdr_convert.proofs.CounterLaws.{zero_past}
 use Rattle.hdr_convert.proofs.old.are_zero_from.Goals as goal
 

@@ -1,5 +1,4 @@
 use Rattle.std.proofs.Common.{refl, sym, ◌∙◌}
-use Rattle.hdr_input.specs.Lines.{EndsWithField}
 use Rattle.hdr_input.proofs.LastFields.{ends_with, other_of, no_other}
 use Rattle.hdr_input.proofs.plain.has_other_form.Goals as goal
 
