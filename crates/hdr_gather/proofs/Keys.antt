@@ -36,7 +36,7 @@ told_tags (Some s) None false e = λ q. none-some s (sym q)
 told_tags (Some s) (Some t) true e = ap Some (same_text s t e)
 told_tags (Some s) (Some t) false e = λ q. other_text s t e (ap (λ o. unwrap_or o []) q)
 
--- what a test of two keys has told
+-- whether two keys are equal, by a test of their times and tags
 pub told_keys : (k l : ℕ × Option (List ℕ)) (r : Bool) → r ≡ (k.0 == l.0) && option_eq (pointwise nat_eq) k.1 l.1 → MatchBool r (k ≡ l) (k ≢ l)
 told_keys k l r e = by_cases (k.0 == l.0) (option_eq (pointwise nat_eq) k.1 l.1) refl refl r e
   where
