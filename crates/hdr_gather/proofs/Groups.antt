@@ -1,5 +1,5 @@
 -- Groups of sorted intervals, and their lines.
-use Rattle.std.proofs.Common.{◌≡◌, ◌≢◌, ℕ, zero, suc, ◌≤◌, ◌<◌, ◌+◌, ◌-◌, List, [], ◌∷◌, ◌++◌, Option, Some, None, Bool, false, take, drop, length, get_or, refl, sym, ap, subst, ◌∙◌, append_assoc, arith}
+use Rattle.std.proofs.Common.{◌≡◌, ◌≢◌, ℕ, zero, suc, ◌≤◌, ◌<◌, ◌+◌, List, [], ◌∷◌, ◌++◌, Option, Some, None, Bool, false, take, drop, length, get_or, refl, sym, ap, subst, ◌∙◌, append_assoc, arith}
 use Rattle.std.specs.List.{All, AllWithin, AllPairs, HoldsAt, flat_map}
 use Rattle.std.specs.Ordering.{is_lt}
 use Rattle.std.proofs.Math.Seq.{take-suc, take-add}
@@ -13,7 +13,7 @@ use Rattle.hdr_gather.specs.declared.part.Part.{Part}
 use Rattle.hdr_gather.specs.Keys.{key_of, key_cmp, IsBefore, AreSorted}
 use Rattle.hdr_gather.specs.Lines.{IsLineOf}
 use Rattle.hdr_gather.specs.Logs.{AreInOrder, AreLinesOf, Writes}
-use Rattle.hdr_gather.proofs.Parts.{all_front, all_behind}
+use Rattle.hdr_gather.proofs.Parts.{all_behind}
 use Rattle.hdr_gather.proofs.Keys.{key_total, less_past, before_earlier}
 
 abbrev pub members : List (Part × List Part) → List Part

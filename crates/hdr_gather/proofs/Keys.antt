@@ -4,7 +4,7 @@ use Rattle.std.proofs.lemmas.Bool.{false≢true}
 use Rattle.std.proofs.lemmas.Option.{none-some}
 use Rattle.std.specs.declared.cmp.Ordering.{Ordering}
 use Rattle.std.specs.declared.cmp.Ordering.TheVariants.{Less, Equal, Greater}
-use Rattle.std.specs.Ordering.{nat_cmp, ordering_then, ordering_reverse, is_lt, is_eq, is_gt}
+use Rattle.std.specs.Ordering.{nat_cmp, ordering_then, ordering_reverse, is_lt, is_eq}
 use Rattle.std.specs.Cmp.{IsTotalOrder}
 use Rattle.std.proofs.lemmas.Cmp.{ranked, on_total, then_total, nat_cmp_total, nat_list_cmp_total, alike_right}
 use Rattle.std.specs.Option.{option_map, option_cmp, option_eq, unwrap_or}
@@ -36,7 +36,7 @@ tested_tags (Some s) None false e = λ q. none-some s (sym q)
 tested_tags (Some s) (Some t) true e = ap Some (same_text s t e)
 tested_tags (Some s) (Some t) false e = λ q. other_text s t e (ap (λ o. unwrap_or o []) q)
 
--- two keys are the same exactly if the test of them says so
+-- whether two keys are equal, by a test of their times and tags
 pub tested_keys : (k l : ℕ × Option (List ℕ)) (r : Bool) → r ≡ (k.0 == l.0) && option_eq (pointwise nat_eq) k.1 l.1 → MatchBool r (k ≡ l) (k ≢ l)
 tested_keys k l r e = by_cases (k.0 == l.0) (option_eq (pointwise nat_eq) k.1 l.1) refl refl r e
   where
@@ -76,6 +76,7 @@ less_past x y z low high other = second (key_cmp y z) refl (first (key_cmp x y) 
     first Less p = p
     first Equal p = absurd (other (sym (key_equal x y p)))
     first Greater p = absurd (false≢true (sym low ∙ ap is_lt (key_total.antisymm y x ∙ ap ordering_reverse p)))
+
     second : (r : Ordering) → key_cmp y z ≡ r → key_cmp x y ≡ Less → key_cmp x z ≡ Less
     second Less p l = key_total.trans x y z l p
     second Equal p l = sym (alike_right key_total y z x p) ∙ l

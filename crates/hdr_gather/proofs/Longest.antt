@@ -14,6 +14,7 @@ longest_more ds longest d new h low high is = (found is, All-append (λ e. e ≤
   where
     before : All (λ e. e ≤ new) ds
     before = All-weaker (λ e. e ≤ longest) (λ e. e ≤ new) (λ e m. omega (arith, low, m)) ds h.1
+
     found : (new ≡ longest) ⊎ (new ≡ d) → Contains (ds ++ d ∷ []) new
     found (inl e) = subst (Contains (ds ++ d ∷ [])) (sym e) (Contains-append_left ds (d ∷ []) longest h.0)
     found (inr e) = subst (Contains (ds ++ d ∷ [])) (sym e) (Contains-push ds d)

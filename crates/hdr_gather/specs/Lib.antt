@@ -5,3 +5,4 @@ pub mod Keys
 pub mod Lines
 pub mod Intervals
 pub mod Logs
+pub mod Decimals

@@ -1,5 +1,5 @@
 -- The lines of a gathered log.
-use Rattle.std.specs.Prelude.{◌≡◌, ◌≤◌, ℕ, ◌*◌, List, ◌∷◌, map}
+use Rattle.std.specs.Prelude.{◌≤◌, ℕ, ◌*◌, List, ◌∷◌, map}
 use Rattle.std.specs.List.{All, Contains}
 use Rattle.std.specs.Option.{option_map}
 use Rattle.hdr_model.specs.Plain.{Plain}

@@ -39,7 +39,7 @@ WritesFrom low high all old new = (parts : List Part) × Ascend low high parts �
 abbrev pub WritesStart : Option (List ℕ) → Option (List ℕ) → Type 0
 WritesStart old new = (comments : List (List ℕ)) × (header : List ℕ) × IsStartText (record new_start { comments = comments }) header × Appends old new header
 
--- comments were written, and then these intervals, in order of time
+-- comments were written, and then the lines of these intervals, in order of time and tag
 abbrev pub WritesLog : List Timed → Option (List ℕ) → Option (List ℕ) → Type 0
 WritesLog all old new = (between : Option (List ℕ)) × (high : ℕ) × WritesStart old between × WritesFrom 0 high all between new
 

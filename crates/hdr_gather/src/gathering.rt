@@ -7,6 +7,7 @@ ghost use Rattle.hdrhistogram.specs.LogStarts.{new_start, IsStartText};
 ghost use Rattle.hdrhistogram.specs.LogWriters.{sink, divisor_of, IsSameLog};
 ghost use Rattle.hdr_gather.specs.Intervals.{Timed, held_interval, intervals_of, timed_of};
 ghost use Rattle.hdr_gather.specs.Intervals.{HasLeft, AreLeft, Loses, Takes, IsKnown, IsReady};
+ghost use Rattle.hdr_gather.specs.Decimals.{held_decimals};
 ghost use Rattle.hdr_gather.specs.Logs.{Gathers, WritesStart, WritesRest, next_start, IsFrom};
 
 use crate::error::GatherError;
@@ -268,11 +269,12 @@ fn check_order<R: Read + Drop>(reader: &LogReader<R>, start: u64) -> Result<(), 
     Ok(())
 }
 
-/// Returns the intervals of lines, whose values all have these decimals.
+/// Returns the intervals of lines. It is an error unless the values of all have these decimals.
 fn parts_of(alloc: Global, lines: &[Held], decimals: u32) -> Result<Vec<Part<'_>>, GatherError>
     ensures start { IfOk result (λ parts. (start : ℕ) → All (λ held. held.start ≡ start) lines.now
         → All (λ part. part.start ≡ start) (vec_items parts)) }
     ensures all { IfOk result (λ parts. map timed_of (vec_items parts) ≡ intervals_of lines.now) }
+    ensures decimals { OnOk result (All (λ held. held_decimals held ≡ decimals) lines.now) }
 {
     let mut parts = Vec::new(alloc);
     for held in lines {
@@ -281,7 +283,7 @@ fn parts_of(alloc: Global, lines: &[Held], decimals: u32) -> Result<Vec<Part<'_>
     Ok(parts)
 }
 
-/// Appends the interval of a line, whose values have these decimals.
+/// Appends the interval of a line. It is an error unless its values have these decimals.
 fn push_part<'a>(
     alloc: Global,
     held: &'a Held,
@@ -293,6 +295,7 @@ fn push_part<'a>(
         → All (λ part. part.start ≡ start) (vec_items parts.new)) }
     ensures all { OnOk result (map timed_of (vec_items parts.new)
         ≡ map timed_of (vec_items parts.old) ++ held_interval held.now) }
+    ensures decimals { OnOk result (held_decimals held.now ≡ decimals) }
 {
     held.check_decimals(decimals)?;
     match held.part(alloc)? {

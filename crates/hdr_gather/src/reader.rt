@@ -1,12 +1,13 @@
 //! A log that is read interval by interval.
 
-ghost use Rattle.std.specs.Prelude.{◌≡◌, ◌==◌, ◌+◌, ◌++◌, false, [], List, None, IfOk, IfSome, IsSome, OnOk, vec_items};
-ghost use Rattle.std.specs.Option.{option_map};
+ghost use Rattle.std.specs.Prelude.{◌≡◌, ◌≢◌, ◌==◌, ◌+◌, ◌++◌, false, [], List, None, IfOk, IfSome, IsSome, MatchOption, OnOk, OnErr, vec_items};
+ghost use Rattle.std.specs.Option.{option_map, option_or};
 ghost use Rattle.std.specs.Io.Buffered.{reader_remaining};
 ghost use Rattle.hdr_gather.specs.Intervals.{Timed, LogHolds, held_interval, next_interval};
 ghost use Rattle.hdr_gather.specs.Intervals.{part_interval, unread, UnreadSay, HasLeft, ReadsPlain, Notes};
 ghost use Rattle.hdr_gather.specs.Intervals.{IsKnown, IsReady, IsReadyAt};
 ghost use Rattle.hdr_gather.specs.Logs.{next_start};
+ghost use Rattle.hdr_gather.specs.Decimals.{held_decimals};
 ghost use Rattle.std.specs.Duration.{as_nanos};
 ghost use Rattle.hdr_log.specs.Reading.{view_of_entry, view_of_interval};
 ghost use Rattle.hdr_gather.specs.Times.{nearest_millisecond};
@@ -35,13 +36,18 @@ pub(crate) struct Held {
 
 impl Held {
     /// Returns the decimals of its values, if a comment before it has them.
-    pub(crate) fn decimals(&self) -> Option<u32> {
+    pub(crate) fn decimals(&self) -> Option<u32>
+        ensures { result ≡ self.now.decimals }
+    {
         self.decimals
     }
 
     /// Returns an error if its values have other decimals than `others`. Values are integers if no
     /// comment has their decimals.
-    pub(crate) fn check_decimals(&self, others: u32) -> Result<(), GatherError> {
+    pub(crate) fn check_decimals(&self, others: u32) -> Result<(), GatherError>
+        ensures ok { OnOk result (held_decimals self.now ≡ others) }
+        ensures err { OnErr result (held_decimals self.now ≢ others) }
+    {
         let decimals = self.decimals.unwrap_or(0);
         if decimals == others {
             return Ok(());
@@ -161,7 +167,7 @@ impl<R: Read + Drop> LogReader<R> {
                 Ok(entry) => entry,
                 Err(cause) => return Err(place.error(cause)),
             };
-            let Some(interval) = self.take_entry(entry, &line) else {
+            let Some(interval) = self.take_entry(entry, decimals_of(&line)) else {
                 continue;
             };
             let start = start_of(self.base, place, &interval)?;
@@ -170,14 +176,18 @@ impl<R: Read + Drop> LogReader<R> {
         Err(GatherError::TooManyLines)
     }
 
-    /// Returns the interval of a line's entry, or notes the base time or the decimals that it has.
+    /// Returns the interval of a line's entry, or notes the base time or the decimals that it has:
+    /// `decimals` are those of a comment.
     fn take_entry<'a>(
         &mut self,
         entry: Option<LogEntry<'a>>,
-        line: &[u8],
+        decimals: Option<u32>,
     ) -> Option<IntervalLogHistogram<'a>>
         ensures notes { Notes (option_map view_of_entry entry.entry) (as_nanos self.old.base)
             (as_nanos self.new.base) (option_map view_of_interval result) }
+        ensures decimals { MatchOption entry.entry
+            (self.new.decimals ≡ option_or decimals self.old.decimals)
+            (λ _. self.new.decimals ≡ self.old.decimals) }
         ensures reader { self.new.reader ≡ self.old.reader }
         ensures number { self.new.line ≡ self.old.line }
     {
@@ -189,7 +199,7 @@ impl<R: Read + Drop> LogReader<R> {
             }
             Some(LogEntry::StartTime(_)) => None,
             None => {
-                self.decimals = decimals_of(line).or(self.decimals);
+                self.decimals = decimals.or(self.decimals);
                 None
             }
         }
@@ -199,6 +209,7 @@ impl<R: Read + Drop> LogReader<R> {
     fn held(&self, start: u64, line: Vec<u8>) -> Held
         ensures start { result.start ≡ start }
         ensures line { result.line ≡ line }
+        ensures decimals { result.decimals ≡ self.now.decimals }
     {
         Held {
             start,
