@@ -13,7 +13,7 @@ still_below a b xs p h = search (arith)
 ascending : (x : ℕ) (xs : List ℕ) → IsStrictlyAscending xs → All (λ n. n < x) xs → IsStrictlyAscending (xs ++ x ∷ [])
 ascending x xs a e = grind (arith, elements)
 
--- the same steps where the one at the index is not a step of the scale
+-- the same steps where the one at the index lies outside the scale
 pub left_out : (low high index : ℕ) (xs : List ℕ) → AreSteps low high index xs → (low ≤ step_of index → step_of index ≤ high → ⊥)
     → AreSteps low high (index + 1) xs
 left_out low high index xs a none = record {

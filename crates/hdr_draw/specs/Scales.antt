@@ -17,7 +17,7 @@ pub record IsValuePlace (e : Extent) (length value place : ℕ) : Type 0 where
   pub of_value : IsLogarithm (max 1 value) logarithm
   pub is : place ≡ along e length logarithm
 
--- how far along a length the quantile lies that a part of the samples is above: by the difference of the logarithms
+-- how far along a length the quantile lies that a part of the samples is above, on a logarithmic scale
 pub record IsQuantilePlace (e : Extent) (length samples part place : ℕ) : Type 0 where
   pub of_samples : ℕ
   pub of_part : ℕ

@@ -1,5 +1,5 @@
 -- Units of time, and amounts in them.
-use Rattle.std.specs.Prelude.{◌≡◌, ℕ, ◌+◌, ◌*◌, ◌^◌, List, codes}
+use Rattle.std.specs.Prelude.{◌≡◌, ℕ, ◌+◌, ◌*◌, ◌^◌, min, List, codes}
 use Rattle.hdr_input.specs.declared.number.Number.{Number}
 use Rattle.hdr_summary.specs.declared.decimals.Conversion.{Conversion}
 use Rattle.hdr_summary.specs.declared.units.Unit.{Unit}
@@ -23,6 +23,7 @@ exponent Seconds = 0
 abbrev pub IsSameTime : Number → Unit → Number → Unit → Type 0
 IsSameTime one from other to = one.digits * 10 ^ (other.decimals + exponent to) ≡ other.digits * 10 ^ (one.decimals + exponent from)
 
--- values of one unit are converted to another: by these powers of ten, a second becomes a second
+-- values of one unit are converted to another: by these powers of ten, of which one is 0, a second becomes a second
 abbrev pub Converts : Conversion → Unit → Unit → Type 0
-Converts conversion from to = conversion.times + exponent from ≡ conversion.divided + exponent to
+Converts conversion from to =
+    (conversion.times + exponent from ≡ conversion.divided + exponent to) × (min conversion.times conversion.divided ≡ 0)

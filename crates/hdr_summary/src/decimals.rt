@@ -1,6 +1,6 @@
 //! Integers and fractions as decimal texts.
 
-ghost use Rattle.std.specs.Prelude.{◌≡◌, IfSome};
+ghost use Rattle.std.specs.Prelude.{◌≡◌, ◌<◌, ◌≤◌, ◌+◌, ◌*◌, ◌/◌, ◌^◌, IfNone, IfSome};
 ghost use Rattle.hdr_summary.specs.Decimals.{nearest};
 ghost use Rattle.hdr_summary.specs.Units.{Converts};
 
@@ -27,7 +27,8 @@ pub fn decimal(alloc: Global, units: u128, decimals: u32) -> Result<String, Allo
 /// Returns `num * parts / den` to the nearest integer, halves up, or `None` if `den` is 0 or the
 /// product overflows.
 pub fn in_parts(num: u128, den: u128, parts: u128) -> Option<u128>
-    ensures { IfSome result (λ n. n ≡ nearest num den parts) }
+    ensures nearest { IfSome result (λ n. n ≡ nearest num den parts) }
+    ensures fits { IfNone result (0 < den → 2 ^ 128 ≤ num * parts + den / 2) }
 {
     num.checked_mul(parts)?
         .checked_add(den / 2)?

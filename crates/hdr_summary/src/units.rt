@@ -1,6 +1,6 @@
 //! Units of time, and amounts in them.
 
-ghost use Rattle.std.specs.Prelude.{◌≡◌, ◌≤◌, IfSome};
+ghost use Rattle.std.specs.Prelude.{◌≡◌, ◌≢◌, ◌≤◌, IfNone, IfSome};
 ghost use Rattle.hdr_summary.specs.Units.{unit_name, exponent, IsSameTime};
 
 use hdr_input::Number;
@@ -21,7 +21,8 @@ impl Unit {
 
     /// Returns the unit of this name.
     pub fn from_name(name: &str) -> Option<Unit>
-        ensures { IfSome result (λ unit. name.now ≡ unit_name unit) }
+        ensures unit { IfSome result (λ unit. name.now ≡ unit_name unit) }
+        ensures none { IfNone result ((unit : Unit) → name.now ≢ unit_name unit) }
     {
         match name {
             "ns" => Some(Unit::Nanoseconds),
