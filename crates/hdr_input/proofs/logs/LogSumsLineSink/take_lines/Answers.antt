@@ -9,8 +9,12 @@ loop-rest-preserved c =
     let number = c.loop-rest.number in
     let next = c.saturating_add-number.result in
     let above : 0 < number → 1 < next = λ l. omega (arith, l, c.saturating_add-number.ensures) in
+    let shorter = c.split_log_line.ensures.shorter ? in
     record {
       indices = λ indexed. c.in_ok-take_line.ensures.indices (so_far.indices indexed);
+      left = omega (arith, so_far.left, shorter);
+      begun = λ same. absurd (omega (arith, same, so_far.left, shorter));
+      later = λ some fewer. above (so_far.number some);
       number = λ some. let more : 1 < next = above (so_far.number some) in omega (arith, more);
       taken = λ indexed some last rest. so_far.taken indexed some last
           (taken_more (number == 1) (next == 1) c.loop-rest.rest.now c.split_log_line.result.0.now (view_of_sums c.loop-rest.self) (view_of_sums c.take_line.new.self) last
