@@ -4,9 +4,8 @@ use Rattle.std.proofs.Math.Seq.{take-add, take-append-add, get_or-append_right}
 use Rattle.std.proofs.lemmas.List.{take-take, take-append-le, length-take, length-take-le}
 use Rattle.std.specs.Io.{IsEmptyOrEndsWith}
 use Rattle.std.specs.Io.KnownBytes.{Consumes, IsAtEnd, Keeps}
-use Rattle.std.specs.Io.BufRead.{take_through, drop_through}
+use Rattle.hdr_input.specs.Lines.{IsComplete}
 use Rattle.std.proofs.KnownBytes.{Consumes-trans}
-use Rattle.std.proofs.lemmas.Bool.{true≢false}
 
 -- a reader at its end gave the whole text
 pub all_read : (a c : Option (List ℕ)) (text : List ℕ) (P : List ℕ → Type 0) → Consumes a c text → IsAtEnd c → P text → IfSome a P
@@ -23,13 +22,11 @@ pub front_complete : (a c : Option (List ℕ)) (done piece : List ℕ) (n m : �
 front_complete a c done piece n m gave = subst (Consumes a c) (ap (λ l. done ++ l) (take-add n m piece) ∙ sym (append_assoc done (take n piece) (take m (drop n piece)))) gave
 
 -- both texts end with LF, or are empty
-pub both_complete : (text more : List ℕ) → IsEmptyOrEndsWith text 10 → IsEmptyOrEndsWith more 10 → IsEmptyOrEndsWith (text ++ more) 10
-both_complete text [] p q = subst (λ l. IsEmptyOrEndsWith l 10) (sym (append-nil text)) p
-both_complete text (y ∷ ys) p q = λ some.
-    let len : length (text ++ (y ∷ ys)) ≡ length text + length (y ∷ ys) = length-append text (y ∷ ys) in
-    let low : length text ≤ length (text ++ (y ∷ ys)) - 1 = omega (arith, len) in
-    let at : length (text ++ (y ∷ ys)) - 1 - length text ≡ length (y ∷ ys) - 1 = omega (arith, len) in
-    get_or-append_right text (y ∷ ys) (length (text ++ (y ∷ ys)) - 1) 0 low ∙ ap (λ i. get_or (y ∷ ys) i 0) at ∙ q (omega arith)
+pub both_complete : (text more : List ℕ) → IsComplete text → IsComplete more → IsComplete (text ++ more)
+both_complete [] more p q = q
+both_complete (x ∷ []) [] p q = p
+both_complete (x ∷ []) (y ∷ ys) p q = q
+both_complete (x ∷ y ∷ xs) more p q = both_complete (y ∷ xs) more p q
 
 -- what is behind the first byte ends with LF, or is empty
 tail_complete : (x : ℕ) (xs : List ℕ) → IsEmptyOrEndsWith (x ∷ xs) 10 → IsEmptyOrEndsWith xs 10
@@ -37,32 +34,11 @@ tail_complete x xs ends = λ some.
     let at : suc (length xs - 1) ≡ length (x ∷ xs) - 1 = omega (arith, some) in
     ap (λ i. get_or (x ∷ xs) i 0) at ∙ ends (omega arith)
 
-not_last : (x : ℕ) (xs : List ℕ) → x ≢ 10 → IsEmptyOrEndsWith (x ∷ xs) 10 → 0 < length xs
-not_last x [] differs ends = absurd (differs (ends (omega arith)))
-not_last x (y ∷ ys) differs ends = omega arith
-
--- the first line of complete lines is that of both texts, and what follows it is complete
-abbrev IsJoined : List ℕ → List ℕ → Type 0
-IsJoined text more =
-    (take_through 10 (text ++ more) ≡ take_through 10 text) × (drop_through 10 (text ++ more) ≡ drop_through 10 text ++ more) × IsEmptyOrEndsWith (drop_through 10 text) 10
-
-joined_behind : (x : ℕ) (xs more : List ℕ) (b : Bool) → (x == 10) ≡ b → IsEmptyOrEndsWith (x ∷ xs) 10 → (0 < length xs → IsJoined xs more) → IsJoined (x ∷ xs) more
-joined_behind x xs more true is ends rest = (
-  ap (λ b. if b then x ∷ [] else x ∷ take_through 10 (xs ++ more)) is ∙ sym (ap (λ b. if b then x ∷ [] else x ∷ take_through 10 xs) is),
-  ap (λ b. if b then xs ++ more else drop_through 10 (xs ++ more)) is ∙ sym (ap (λ b. (if b then xs else drop_through 10 xs) ++ more) is),
-  subst (λ l. IsEmptyOrEndsWith l 10) (sym (ap (λ b. if b then xs else drop_through 10 xs) is)) (tail_complete x xs ends),
-)
-joined_behind x xs more false is ends rest =
-    let differs : x ≢ 10 = λ e. true≢false (sym (eq-eqb x 10 e) ∙ is) in
-    let tail = rest (not_last x xs differs ends) in (
-      ap (λ b. if b then x ∷ [] else x ∷ take_through 10 (xs ++ more)) is ∙ ap (λ l. x ∷ l) tail.0 ∙ sym (ap (λ b. if b then x ∷ [] else x ∷ take_through 10 xs) is),
-      ap (λ b. if b then xs ++ more else drop_through 10 (xs ++ more)) is ∙ tail.1 ∙ sym (ap (λ b. (if b then xs else drop_through 10 xs) ++ more) is),
-      subst (λ l. IsEmptyOrEndsWith l 10) (sym (ap (λ b. if b then xs else drop_through 10 xs) is)) tail.2,
-    )
-
-pub first_joined : (text more : List ℕ) → 0 < length text → IsEmptyOrEndsWith text 10 → IsJoined text more
-first_joined [] more some ends = absurd (omega (arith, some))
-first_joined (x ∷ xs) more some ends = joined_behind x xs more (x == 10) refl ends (λ more_left. first_joined xs more more_left (tail_complete x xs ends))
+-- a text whose last byte is LF is complete
+pub ends_complete : (text : List ℕ) → IsEmptyOrEndsWith text 10 → IsComplete text
+ends_complete [] ends = tt
+ends_complete (x ∷ []) ends = ends (omega arith)
+ends_complete (x ∷ y ∷ xs) ends = ends_complete (y ∷ xs) (tail_complete x (y ∷ xs) ends)
 
 -- what is read after a read that failed
 pub kept_read : (a b c : Option (List ℕ)) (bytes : List ℕ) → Keeps a b → Consumes b c bytes → Consumes a c bytes
@@ -87,9 +63,9 @@ below_end view end n l = omega (arith, l, length-take end view)
 
 -- the complete lines of a piece are those that the sink takes
 pub lines_complete : (items view lines : List ℕ) (end complete : ℕ) → view ≡ items → lines ≡ items → complete ≤ end → IsEmptyOrEndsWith (take complete (take end view)) 10
-    → IsEmptyOrEndsWith (take complete lines) 10
+    → IsComplete (take complete lines)
 lines_complete items view lines end complete seen sent low ends =
-    subst (λ l. IsEmptyOrEndsWith l 10) (take-take complete end view low ∙ ap (take complete) (seen ∙ sym sent)) ends
+    subst IsComplete (take-take complete end view low ∙ ap (take complete) (seen ∙ sym sent)) (ends_complete (take complete (take end view)) ends)
 
 -- what is read of a piece, and what was held before it
 abbrev pub IsReadBehind : Option (List ℕ) → Option (List ℕ) → List ℕ → List ℕ → Type 0

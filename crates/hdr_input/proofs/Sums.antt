@@ -9,11 +9,8 @@ use Rattle.std.proofs.lemmas.Slice.Eq.{bytes_eq-Decides}
 use Rattle.std.specs.String.{string_bytes}
 use Rattle.hdr_model.specs.Plain.{Plain}
 use Rattle.hdr_model.specs.Merging.{after_add}
-use Rattle.hdr_input.specs.Sums.{Sum, is_same_tag, empty_sum, with_added, view_of_sum, after_interval, index_of, added_at, IsSumAt, Summing, TakesSaid, TakesLines, TakesText, TakesFrom, view_of_sums}
-use Rattle.hdr_input.specs.Lines.{said_by, without_mark, AreLines}
-use Rattle.hdr_input.proofs.Joined.{first_joined}
-use Rattle.std.specs.Io.{IsEmptyOrEndsWith}
-use Rattle.hdr_input.specs.declared.logs.LogSums.{LogSums}
+use Rattle.hdr_input.specs.Sums.{Sum, is_same_tag, empty_sum, with_added, view_of_sum, after_interval, index_of, added_at, IsSumAt, Summing, TakesSaid, TakesLines, TakesText, is_first_after}
+use Rattle.hdr_input.specs.Lines.{said_by, without_mark}
 use Rattle.std.specs.Io.BufRead.{take_through, drop_through}
 use Rattle.std.proofs.lemmas.Bool.{false_from_ne_true}
 use Rattle.hdr_input.specs.declared.logs.TagSum.{TagSum}
@@ -146,63 +143,8 @@ taken_more is_first now_first text line old mid last later is said rest =
 pub not_first : (number : ℕ) → 1 < number → (number == 1) ≡ false
 not_first number l = false_from_ne_true (number == 1) (λ e. omega (arith, l, eqb-true number 1 e))
 
--- an empty line says nothing
-empty_says : (is_first : Bool) → said_by (without_mark is_first []) ≡ None
-unfolding said_by
-empty_says true = refl
-empty_says false = refl
-
--- the lines of an empty text are empty
-nothing_taken : (is_first : Bool) (lines : List (List ℕ)) (old new : Summing) → AreLines lines [] → TakesLines is_first lines old new → new ≡ old
-nothing_taken is_first [] old new are takes = takes
-nothing_taken is_first (line ∷ lines) old new are takes =
-    let says : said_by (without_mark is_first line) ≡ None = ap (λ l. said_by (without_mark is_first l)) are.0 ∙ empty_says is_first in
-    let same : takes.0 ≡ old = subst (λ o. TakesSaid old o takes.0) says takes.1 in
-    nothing_taken false lines takes.0 new are.1 takes.2 ∙ same
-
--- lines after the first one, and then more
-more_joined : (lines : List (List ℕ)) (text more : List ℕ) (old mid last : Summing) → IsEmptyOrEndsWith text 10 → AreLines lines text → TakesLines false lines old mid
-    → TakesText false more mid last → TakesText false (text ++ more) old last
-more_joined lines [] more old mid last ends are takes later = subst (λ s. TakesText false more s last) (nothing_taken false lines old mid are takes) later
-more_joined [] (x ∷ xs) more old mid last ends are takes later = absurd (omega (arith, ap length are))
-more_joined (line ∷ lines) (x ∷ xs) more old mid last ends are takes later =
-    let joined = first_joined (x ∷ xs) more (omega arith) ends in
-    let rest = more_joined lines (drop_through 10 (x ∷ xs)) more takes.0 mid last joined.2 are.1 takes.2 later in
-    taken_more false false (x ∷ xs ++ more) line old takes.0 last refl (are.0 ∙ sym joined.0) takes.1 (subst (λ r. TakesText false r takes.0 last) (sym joined.1) rest)
-
--- complete lines are taken, and then more
-texts_joined : (is_first : Bool) (lines : List (List ℕ)) (text more : List ℕ) (old mid last : Summing) → 0 < length text → IsEmptyOrEndsWith text 10 → AreLines lines text
-    → TakesLines is_first lines old mid → TakesText false more mid last → TakesText is_first (text ++ more) old last
-texts_joined is_first [] text more old mid last some ends are takes later = absurd (omega (arith, some, ap length are))
-texts_joined is_first (line ∷ lines) text more old mid last some ends are takes later =
-    let joined = first_joined text more some ends in
-    let rest = more_joined lines (drop_through 10 text) more takes.0 mid last joined.2 are.1 takes.2 later in
-    taken_more is_first false (text ++ more) (without_mark is_first line) old takes.0 last refl (ap (without_mark is_first) (are.0 ∙ sym joined.0)) takes.1
-    (subst (λ r. TakesText false r takes.0 last) (sym joined.1) rest)
-
-pub none_taken : (first : ℕ) (sums : LogSums) → TakesFrom first [] first sums sums
-none_taken first sums = λ indexed some. (([], refl, refl), indexed, λ e. refl, λ more. absurd (omega (arith, more)))
-
-above_one : (mid next : ℕ) (more : List ℕ) → 1 < mid → (more ≡ [] → next ≡ mid) → (0 < length more → 1 < next) → 1 < next
-above_one mid next [] above same later = omega (arith, above, same refl)
-above_one mid next (y ∷ ys) above same later = later (omega arith)
-
--- complete lines are taken into sums, and then more
-pub sums_joined : (first mid next : ℕ) (text more : List ℕ) (a b c : LogSums) → IsEmptyOrEndsWith text 10 → TakesFrom first text mid a b → TakesFrom mid more next b c
-    → TakesFrom first (text ++ more) next a c
-sums_joined first mid next [] more a b c ends p q = λ indexed some.
-    let one = p indexed some in
-    let same : mid ≡ first = one.2 refl in
-    let two = q one.1 (omega (arith, some, same)) in
-    let start : view_of_sums b ≡ view_of_sums a = nothing_taken (first == 1) one.0.0 (view_of_sums a) (view_of_sums b) one.0.1 one.0.2 in
-    let takes : TakesText (first == 1) more (view_of_sums a) (view_of_sums c) =
-    subst (λ n. TakesText (n == 1) more (view_of_sums a) (view_of_sums c)) same (subst (λ s. TakesText (mid == 1) more s (view_of_sums c)) start two.0) in
-    (takes, two.1, λ e. two.2 e ∙ same, two.3)
-sums_joined first mid next (x ∷ xs) more a b c ends p q = λ indexed some.
-    let one = p indexed some in
-    let above : 1 < mid = one.3 (omega arith) in
-    let two = q one.1 (omega (arith, above)) in
-    let later : TakesText false more (view_of_sums b) (view_of_sums c) = subst (λ f. TakesText f more (view_of_sums b) (view_of_sums c)) (not_first mid above) two.0 in (
-      texts_joined (first == 1) one.0.0 (x ∷ xs) more (view_of_sums a) (view_of_sums b) (view_of_sums c) (omega arith) ends one.0.1 one.0.2 later, two.1,
-      λ e. absurd (omega (arith, ap length e)), λ long. above_one mid next more above two.2 two.3,
-    )
+-- whether the line after all lines is the first of a log
+pub first_after : (first number : ℕ) (lines rest : List ℕ) → 0 < first → length rest ≡ 0 → (length rest ≡ length lines → number ≡ first) → (0 < first → length rest < length lines → 1 < number)
+    → (number == 1) ≡ is_first_after (first == 1) lines
+first_after first number [] rest some end begun later = ap (λ n. n == 1) (begun end)
+first_after first number (x ∷ xs) rest some end begun later = not_first number (later some (omega (arith, end)))

@@ -10,7 +10,7 @@ ghost use Rattle.hdrhistogram.specs.FieldRead.{IsHeldIn};
 ghost use Rattle.hdr_input.specs.Lines.{said_by, IsPlainField};
 ghost use Rattle.hdr_input.specs.Sums.{view_of_sum, view_of_sums, empty_sum, sum_tag, Adds, TakesSaid, TakesText};
 ghost use Rattle.hdr_input.specs.Sums.{AreIndexed, IsSumAt, KeepsOptions, added_at, TakesFrom, with_base};
-ghost use Rattle.hdr_input.specs.Joining.{takes_none as none_taken, takes_more as sums_joined};
+ghost use Rattle.hdr_input.specs.Joining.{none_taken, sums_joined};
 ghost use Rattle.hdr_input.specs.Recorded.{AddsField};
 
 use crate::errors::InputError;

@@ -4,6 +4,7 @@ ghost use Rattle.std.specs.Prelude.{◌≡◌, ◌++◌, ◌-◌, ◌<◌, ◌�
 ghost use Rattle.std.specs.Prelude.{IfOk, IfSome, OnOk, vec_len};
 ghost use Rattle.std.specs.Io.{IsEmptyOrEndsWith};
 ghost use Rattle.std.specs.Io.KnownBytes.{Consumes, IsAtEnd};
+ghost use Rattle.hdr_input.specs.Lines.{IsComplete};
 
 use crate::cause::Cause;
 use crate::errors::{InputError, Place, bad_number};
@@ -30,7 +31,7 @@ pub trait LineSink {
 
     /// What follows complete lines is taken after them.
     ghost takes_more: { (first mid next : ℕ) (text more : List ℕ) (a b c : Self)
-        → IsEmptyOrEndsWith text 10 → takes first text mid a b → takes mid more next b c
+        → IsComplete text → takes first text mid a b → takes mid more next b c
         → takes first (text ++ more) next a c };
 }
 

@@ -9,7 +9,7 @@ pub loop-init : goal.loop-init
 loop-init g c = record {
   within = omega arith;
   some = omega (arith, c.in_ok-buffer.ensures.len);
-  read = ([], Consumes-nil (g.R.Read.remaining c.args.reader.now), λ some. absurd (omega (arith, some)), g.met.S.LineSink.takes_none 1 c.args.sink.now);
+  read = ([], Consumes-nil (g.R.Read.remaining c.args.reader.now), tt, g.met.S.LineSink.takes_none 1 c.args.sink.now);
 }
 
 pub returns-then-end-held : goal.returns-then-end-held
@@ -31,7 +31,7 @@ returns-then-end-held g c =
     (room.kept c.loop.invariant.within) done.1 c.in_ok-end.ensures.bytes in
     let text : List ℕ = done.0 ++ take complete lines in (
       text, c.in_ok-line.line, all_read start after text (λ all. text ≡ all) taken (c.in_ok-end.ensures.end c.if-end-held.true some) refl,
-      g.met.S.LineSink.takes_more 1 c.loop.line c.in_ok-line.line done.0 (take complete lines) c.args.sink.now c.loop.sink c.take_lines.new.self done.2 done.3 c.in_ok-line.ensures,
+      g.met.S.LineSink.takes_more 1 c.loop.line c.in_ok-line.line done.0 (take complete lines) c.args.sink.now c.loop.sink c.take_lines.new.self done.2 done.3 c.in_ok-line.ensures.taken,
     )
 
 pub loop-preserved : goal.loop-preserved
@@ -57,6 +57,6 @@ loop-preserved g c =
       some = omega (arith, some, c.keep_rest.ensures.len, c.in_ok-end.ensures.len);
       read = (
         done.0 ++ take complete lines, taken, both_complete done.0 (take complete lines) done.2 ends,
-        g.met.S.LineSink.takes_more 1 c.loop.line c.in_ok-line.line done.0 (take complete lines) c.args.sink.now c.loop.sink c.take_lines.new.self done.2 done.3 c.in_ok-line.ensures,
+        g.met.S.LineSink.takes_more 1 c.loop.line c.in_ok-line.line done.0 (take complete lines) c.args.sink.now c.loop.sink c.take_lines.new.self done.2 done.3 c.in_ok-line.ensures.taken,
       );
     }

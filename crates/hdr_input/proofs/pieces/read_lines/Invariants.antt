@@ -1,5 +1,5 @@
 use Rattle.std.proofs.Common.{◌<◌, ◌≤◌, ◌++◌, ℕ, List, vec_len, take}
-use Rattle.std.specs.Io.{IsEmptyOrEndsWith}
+use Rattle.hdr_input.specs.Lines.{IsComplete}
 use Rattle.std.specs.Io.KnownBytes.{Consumes}
 use Rattle.hdr_input.proofs.pieces.read_lines.Given as goal
 
@@ -9,5 +9,5 @@ invariant-loop g l = record {
   within : l.held ≤ vec_len l.buffer;
   some : 0 < vec_len l.buffer;
   read : (done : List ℕ) × Consumes (g.R.Read.remaining l.initial.reader) (g.R.Read.remaining l.reader) (done ++ take l.held l.buffer.items)
-      × IsEmptyOrEndsWith done 10 × g.S.LineSink.takes 1 done l.line l.initial.sink l.sink;
+      × IsComplete done × g.S.LineSink.takes 1 done l.line l.initial.sink l.sink;
 }
