@@ -1,5 +1,6 @@
 -- Texts that are joined, and what sums take of them.
 use Rattle.std.proofs.Common.{◌≡◌, ◌==◌, ℕ, Bool, true, false, if◌then◌else◌, List, [], ◌∷◌, ◌++◌, None, refl, sym, ap, subst, ◌∙◌, eq-eqb}
+use Rattle.std.specs.Prelude.{⊤}
 use Rattle.std.specs.Io.BufRead.{take_through, drop_through}
 use Rattle.hdr_input.specs.Lines.{said_by, without_mark, AreLines, IsComplete}
 use Rattle.hdr_input.specs.Sums.{Summing, TakesSaid, TakesLines, TakesText, TakesFrom, is_first_after, view_of_sums, AreIndexed}

@@ -143,7 +143,8 @@ impl<'a> LogSums<'a> {
         ensures indices { OnOk result (AreIndexed self.old → AreIndexed self.new) }
     {
         self.begin_log();
-        read_lines(alloc, reader, LONGEST, self)
+        read_lines(alloc, reader, LONGEST, self)?;
+        Ok(())
     }
 
     /// Returns the decimals of the values.
