@@ -23,12 +23,13 @@ IsLeast value interval least =
     (0 < interval → 2 * interval ≤ value → least ≡ interval + value % interval)
     × (value < 2 * interval → least ≡ value) × (interval ≡ 0 → least ≡ value)
 
--- a tally has taken a number: its histogram and its extremes are those after it, in units of the decimals that it now has
+-- a tally has taken a number: its histogram, its extremes and its sum are those after it, in units of the decimals that it now has
 abbrev pub Takes : Tally → Tally → Number → Type 0
 Takes old new number = IsSome new.decimals × ((decimals : ℕ) → new.decimals ≡ Some decimals
     → (new.histogram ≡ after_number old.histogram number decimals new.interval)
     × ((least : ℕ) × IsLeast (in_units number.digits number.decimals decimals) new.interval least × (new.min ≡ min old.min least))
-    × (new.max ≡ max old.max (in_units number.digits number.decimals decimals)))
+    × (new.max ≡ max old.max (in_units number.digits number.decimals decimals))
+    × (new.sum ≡ min (old.sum + in_units number.digits number.decimals decimals) (2 ^ 128 - 1)))
 
 -- the unit of a tally stays once it is set
 abbrev pub KeepsUnit : Tally → Tally → Type 0

@@ -1,7 +1,8 @@
 //! Numbers, recorded as they come.
 
-ghost use Rattle.std.specs.Prelude.{◌≡◌, ◌≤◌, ℕ, min, max};
-ghost use Rattle.std.specs.Prelude.{Some, Ok, OnOk, IfOk, IsSome, MatchOption};
+ghost use Rattle.std.specs.Prelude.{◌≡◌, ◌+◌, ◌-◌, ◌^◌, ◌<◌, ◌≤◌, ℕ, min, max, true};
+ghost use Rattle.std.specs.Prelude.{Some, None, Ok, OnOk, IfOk, IsSome, MatchOption};
+ghost use Rattle.hdr_model.specs.Plain.{empty_plain};
 ghost use Rattle.hdr_input.specs.Numbers.{in_units};
 ghost use Rattle.hdr_input.specs.Recorded.{IsInterval, IsLeast, Takes, KeepsUnit};
 
@@ -48,6 +49,11 @@ impl Tally {
         ensures decimals { IfOk result (λ tally. tally.decimals ≡ recording.decimals) }
         ensures interval { IfOk result (λ tally. MatchOption recording.decimals
             (tally.interval ≡ 0) (λ decimals. IsInterval recording.interval decimals tally.interval)) }
+        ensures histogram { IfOk result
+            (λ tally. tally.histogram ≡ empty_plain 1 2 recording.sigfig true) }
+        ensures extremes { IfOk result (λ tally. (tally.min ≡ 2 ^ 64 - 1) × (tally.max ≡ 0)) }
+        ensures sum { IfOk result (λ tally. tally.sum ≡ 0) }
+        ensures skipped { IfOk result (λ tally. tally.skipped ≡ 0) }
     {
         let interval = match recording.decimals {
             Some(decimals) => recording.interval.rounded(decimals).unwrap_or(u64::MAX),
@@ -89,6 +95,10 @@ impl Tally {
         ensures histogram { result.histogram ≡ self.histogram }
         ensures min { result.min ≡ self.min }
         ensures max { result.max ≡ self.max }
+        ensures sum { self.interval ≡ 0 → result.sum ≡ Some self.sum }
+        ensures unknown { 0 < self.interval → result.sum ≡ None }
+        ensures decimals { (decimals : ℕ) → self.decimals ≡ Some decimals
+            → decimals ≤ MOST_DECIMALS → result.decimals ≡ decimals }
     {
         let sum = if self.interval > 0 {
             None
@@ -145,6 +155,7 @@ impl Tally {
         ensures interval { self.new.interval ≡ self.old.interval }
         ensures min { OnOk result (self.new.min ≡ min self.old.min least) }
         ensures max { OnOk result (self.new.max ≡ max self.old.max value) }
+        ensures sum { OnOk result (self.new.sum ≡ min (self.old.sum + value) (2 ^ 128 - 1)) }
     {
         match done {
             Ok(()) => {
@@ -167,6 +178,7 @@ impl Tally {
         ensures histogram { self.new.histogram ≡ self.old.histogram }
         ensures min { self.new.min ≡ self.old.min }
         ensures max { self.new.max ≡ self.old.max }
+        ensures sum { self.new.sum ≡ self.old.sum }
     {
         let decimals = match self.decimals {
             Some(decimals) => decimals,
@@ -185,6 +197,7 @@ impl Tally {
         ensures histogram { self.new.histogram ≡ self.old.histogram }
         ensures min { self.new.min ≡ self.old.min }
         ensures max { self.new.max ≡ self.old.max }
+        ensures sum { self.new.sum ≡ self.old.sum }
     {
         let decimals = decimals
             .max(self.recording.interval.decimals)
