@@ -148,3 +148,8 @@ pub first_after : (first number : ℕ) (lines rest : List ℕ) → 0 < first →
     → (number == 1) ≡ is_first_after (first == 1) lines
 first_after first number [] rest some end begun later = ap (λ n. n == 1) (begun end)
 first_after first number (x ∷ xs) rest some end begun later = not_first number (later some (omega (arith, end)))
+
+-- a text of length 0 is empty
+pub none_left : (text : List ℕ) → length text ≡ 0 → text ≡ []
+none_left [] e = refl
+none_left (x ∷ xs) e = absurd (omega (arith, e))

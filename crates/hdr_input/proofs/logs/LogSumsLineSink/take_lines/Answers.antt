@@ -1,6 +1,6 @@
-use Rattle.std.proofs.Common.{◌≡◌, ◌==◌, ◌<◌, [], length, refl, sym, ap, subst, arith, rules}
+use Rattle.std.proofs.Common.{◌≡◌, ◌==◌, ◌<◌, [], length, refl, sym, subst, arith, rules}
 use Rattle.hdr_input.specs.Sums.{view_of_sums, TakesText}
-use Rattle.hdr_input.proofs.Sums.{taken_more, not_first, first_after}
+use Rattle.hdr_input.proofs.Sums.{taken_more, not_first, first_after, none_left}
 use Rattle.hdr_input.proofs.logs.LogSumsLineSink.take_lines.Goals as goal
 
 pub loop-rest-preserved : goal.loop-rest-preserved
@@ -27,8 +27,8 @@ returns-clause-taken c = λ indexed some.
     let so_far = c.loop-rest.invariant in
     let rest = c.loop-rest.rest.now in
     let sums = view_of_sums c.loop-rest.self in
-    let none : rest ≡ [] = search rules in
-    let empty : length rest ≡ 0 = ap length none in (
+    let empty : length rest ≡ 0 = search rules in
+    let none : rest ≡ [] = none_left rest empty in (
       so_far.taken indexed some sums (subst (λ r. TakesText (c.loop-rest.number == 1) r sums sums) (sym none) ([], refl, refl)),
       so_far.indices indexed, so_far.number some, first_after c.args.first c.loop-rest.number c.args.lines.now rest some empty so_far.begun so_far.later,
     )
