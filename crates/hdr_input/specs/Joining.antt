@@ -3,7 +3,7 @@ use Rattle.std.proofs.Common.{◌≡◌, ◌==◌, ℕ, Bool, true, false, if◌
 use Rattle.std.specs.Prelude.{⊤}
 use Rattle.std.specs.Io.BufRead.{take_through, drop_through}
 use Rattle.hdr_input.specs.Lines.{said_by, without_mark, AreLines, IsComplete}
-use Rattle.hdr_input.specs.Sums.{Summing, TakesSaid, TakesLines, TakesText, TakesFrom, is_first_after, view_of_sums, AreIndexed}
+use Rattle.hdr_input.specs.Sums.{Summing, TakesSaid, TakesLines, TakesText, TakesFrom, is_first_after, view_of_sums}
 use Rattle.hdr_input.specs.declared.logs.LogSums.{LogSums}
 
 abbrev IsNonempty : List ℕ → Type 0
@@ -96,5 +96,7 @@ sums_joined first mid next (x ∷ xs) more a b c ends p q = λ indexed some.
     let two = q one.1 one.2 in
     let later : TakesText false more (view_of_sums b) (view_of_sums c) = subst (λ f. TakesText f more (view_of_sums b) (view_of_sums c)) one.3 two.0 in (
       texts_joined (first == 1) one.0.0 (x ∷ xs) more (view_of_sums a) (view_of_sums b) (view_of_sums c) tt ends one.0.1 one.0.2 later,
-      two.1, two.2, two.3 ∙ ap (λ f. is_first_after f more) one.3 ∙ none_first more,
+      two.1,
+      two.2,
+      two.3 ∙ ap (λ f. is_first_after f more) one.3 ∙ none_first more,
     )

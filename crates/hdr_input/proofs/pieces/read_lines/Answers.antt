@@ -1,4 +1,4 @@
-use Rattle.std.proofs.Common.{◌≡◌, ◌<◌, ◌≤◌, ◌-◌, ◌++◌, ℕ, List, [], length, vec_len, take, refl, arith, eq-eqb, eqb-true, ◌==◌, ap, ◌∙◌}
+use Rattle.std.proofs.Common.{◌≡◌, ◌<◌, ◌≤◌, ◌++◌, ℕ, List, [], vec_len, take, refl, arith, eq-eqb, eqb-true, ◌==◌, ◌∙◌}
 use Rattle.std.proofs.lemmas.Bool.{false_from_ne_true}
 use Rattle.std.proofs.lemmas.List.{length-take-le}
 use Rattle.std.proofs.KnownBytes.{Consumes-nil}
@@ -26,11 +26,13 @@ returns-then-end-held g c =
     let room = c.in_ok-make_room.ensures in
     let some : held < vec_len c.make_room.new.buffer = room.room c.loop.invariant.some c.loop.invariant.within in
     let whole : complete ≡ end = c.complete_len-complete.ensures.last (eq-eqb end held c.if-end-held.true)
-        ∙ length-take-le end c.deref.result.now (omega (arith, c.deref.ensures.len, c.in_ok-end.ensures.bound.1)) in
+    ∙ length-take-le end c.deref.result.now (omega (arith, c.deref.ensures.len, c.in_ok-end.ensures.bound.1)) in
     let taken = last_taken start before after done.0 c.loop.buffer.items c.make_room.new.buffer.items items lines held end complete c.deref-in-loop.ensures.value whole
     (room.kept c.loop.invariant.within) done.1 c.in_ok-end.ensures.bytes in
     let text : List ℕ = done.0 ++ take complete lines in (
-      text, c.in_ok-line.line, all_read start after text (λ all. text ≡ all) taken (c.in_ok-end.ensures.end c.if-end-held.true some) refl,
+      text,
+      c.in_ok-line.line,
+      all_read start after text (λ all. text ≡ all) taken (c.in_ok-end.ensures.end c.if-end-held.true some) refl,
       g.met.S.LineSink.takes_more 1 c.loop.line c.in_ok-line.line done.0 (take complete lines) c.args.sink.now c.loop.sink c.take_lines.new.self done.2 done.3 c.in_ok-line.ensures.taken,
     )
 
@@ -56,7 +58,9 @@ loop-preserved g c =
       within = omega (arith, c.keep_rest.ensures.len, c.in_ok-end.ensures.bound.1);
       some = omega (arith, some, c.keep_rest.ensures.len, c.in_ok-end.ensures.len);
       read = (
-        done.0 ++ take complete lines, taken, both_complete done.0 (take complete lines) done.2 ends,
+        done.0 ++ take complete lines,
+        taken,
+        both_complete done.0 (take complete lines) done.2 ends,
         g.met.S.LineSink.takes_more 1 c.loop.line c.in_ok-line.line done.0 (take complete lines) c.args.sink.now c.loop.sink c.take_lines.new.self done.2 done.3 c.in_ok-line.ensures.taken,
       );
     }

@@ -30,5 +30,7 @@ returns-clause-taken c = λ indexed some.
     let empty : length rest ≡ 0 = search rules in
     let none : rest ≡ [] = none_left rest empty in (
       so_far.taken indexed some sums (subst (λ r. TakesText (c.loop-rest.number == 1) r sums sums) (sym none) ([], refl, refl)),
-      so_far.indices indexed, so_far.number some, first_after c.args.first c.loop-rest.number c.args.lines.now rest some empty so_far.begun so_far.later,
+      so_far.indices indexed,
+      so_far.number some,
+      first_after c.args.first c.loop-rest.number c.args.lines.now rest some empty so_far.begun so_far.later,
     )
