@@ -17,7 +17,7 @@ all_read (Some whole) (Some rest) text P gave end holds = subst P (sym (gave ∙
 pub read_behind : (a b c : Option (List ℕ)) (done held read : List ℕ) → Consumes a b (done ++ held) → Consumes b c read → Consumes a c (done ++ (held ++ read))
 read_behind a b c done held read before gave = subst (Consumes a c) (append_assoc done held read) (Consumes-trans a b c (done ++ held) read before gave)
 
--- the front of a piece is complete, and the rest is held
+-- the start of a piece is complete, and the rest is held
 pub front_complete : (a c : Option (List ℕ)) (done piece : List ℕ) (n m : ℕ) → Consumes a c (done ++ take (n + m) piece) → Consumes a c ((done ++ take n piece) ++ take m (drop n piece))
 front_complete a c done piece n m gave = subst (Consumes a c) (ap (λ l. done ++ l) (take-add n m piece) ∙ sym (append_assoc done (take n piece) (take m (drop n piece)))) gave
 
@@ -47,7 +47,7 @@ kept_read (Some x) None c bytes kept gave = absurd kept
 kept_read (Some x) (Some y) None bytes kept gave = absurd gave
 kept_read (Some x) (Some y) (Some z) bytes kept gave = sym kept ∙ gave
 
--- bytes that were put behind the front of a buffer
+-- bytes behind the start of a buffer
 pub put_behind : (items view new post tail : List ℕ) (len held count : ℕ) → view ≡ items → length view ≡ len → held + count ≤ len → count ≤ length new
     → take (held + count) (take len (take held view ++ (new ++ post) ++ tail)) ≡ take held items ++ take count new
 put_behind items view new post tail len held count is long within some =

@@ -115,7 +115,7 @@ fn make_room(
     Ok(())
 }
 
-/// Moves what follows the complete lines of a piece to the front of its buffer.
+/// Moves what follows the complete lines of a piece to the start of its buffer.
 fn keep_rest(buffer: &mut Vec<u8>, complete: usize, end: usize)
     requires { (complete ≤ end) × (end ≤ vec_len buffer.old) }
     ensures len { vec_len buffer.new ≡ vec_len buffer.old }
