@@ -7,7 +7,7 @@ use Rattle.std.specs.Io.KnownBytes.{Consumes, IsAtEnd, Keeps}
 use Rattle.hdr_input.specs.Lines.{IsComplete}
 use Rattle.std.proofs.KnownBytes.{Consumes-trans}
 
--- a reader at its end gave the whole text
+-- at the end of a reader, all that it had is read
 pub all_read : (a c : Option (List ℕ)) (text : List ℕ) (P : List ℕ → Type 0) → Consumes a c text → IsAtEnd c → P text → IfSome a P
 all_read None c text P gave end holds = tt
 all_read (Some whole) None text P gave end holds = absurd gave
