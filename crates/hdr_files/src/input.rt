@@ -39,8 +39,7 @@ impl FileSink for Numbers<'_> {
 
 impl FileSink for LogSums<'_> {
     fn take<R: Read + Drop>(&mut self, alloc: Global, mut reader: R) -> Result<(), InputError> {
-        self.begin_log();
-        read_lines(alloc, &mut reader, LONGEST, self)
+        self.read_log(alloc, &mut reader)
     }
 }
 
@@ -67,6 +66,12 @@ struct Lines {
 }
 
 impl LineSink for Lines {
+    ghost takes = { λ _ _ _ _ _. Unit {0} };
+
+    ghost takes_none = { λ _ _. tt };
+
+    ghost takes_more = { λ _ _ _ _ _ _ _ _ _ _ _. tt };
+
     fn take_lines(&mut self, _alloc: Global, lines: &[u8], first: u64) -> Result<u64, InputError> {
         self.bytes.extend_from_slice(lines)?;
         let count = lines.iter().filter(|byte| **byte == b'\n').count() as u64;

@@ -9,7 +9,7 @@ use Rattle.std.proofs.lemmas.Slice.Eq.{bytes_eq-Decides}
 use Rattle.std.specs.String.{string_bytes}
 use Rattle.hdr_model.specs.Plain.{Plain}
 use Rattle.hdr_model.specs.Merging.{after_add}
-use Rattle.hdr_input.specs.Sums.{Sum, is_same_tag, empty_sum, with_added, view_of_sum, after_interval, index_of, added_at, IsSumAt, Summing, TakesSaid, TakesLines, TakesText}
+use Rattle.hdr_input.specs.Sums.{Sum, is_same_tag, empty_sum, with_added, view_of_sum, after_interval, index_of, added_at, IsSumAt, Summing, TakesSaid, TakesLines, TakesText, is_first_after}
 use Rattle.hdr_input.specs.Lines.{said_by, without_mark}
 use Rattle.std.specs.Io.BufRead.{take_through, drop_through}
 use Rattle.std.proofs.lemmas.Bool.{false_from_ne_true}
@@ -142,3 +142,14 @@ taken_more is_first now_first text line old mid last later is said rest =
 -- a number above 1
 pub not_first : (number : ℕ) → 1 < number → (number == 1) ≡ false
 not_first number l = false_from_ne_true (number == 1) (λ e. omega (arith, l, eqb-true number 1 e))
+
+-- whether the line after all lines is the first of a log
+pub first_after : (first number : ℕ) (lines rest : List ℕ) → 0 < first → length rest ≡ 0 → (length rest ≡ length lines → number ≡ first) → (0 < first → length rest < length lines → 1 < number)
+    → (number == 1) ≡ is_first_after (first == 1) lines
+first_after first number [] rest some end begun later = ap (λ n. n == 1) (begun end)
+first_after first number (x ∷ xs) rest some end begun later = not_first number (later some (omega (arith, end)))
+
+-- a text of length 0 is empty
+pub none_left : (text : List ℕ) → length text ≡ 0 → text ≡ []
+none_left [] e = refl
+none_left (x ∷ xs) e = absurd (omega (arith, e))

@@ -2,3 +2,4 @@ pub mod Numbers
 pub mod Recorded
 pub mod Lines
 pub mod Sums
+pub mod Joining

@@ -1,5 +1,5 @@
 -- The lines of interval logs, and what they say.
-use Rattle.std.specs.Prelude.{◌≡◌, ℕ, Bool, if◌then◌else◌, List, [], ◌∷◌, ◌&&◌, ◌||◌, not, nat_le, nat_eq, true, false, length, codes, Option, Some, None, IfSome, unwrap_or, Result}
+use Rattle.std.specs.Prelude.{◌≡◌, ⊤, ℕ, Bool, if◌then◌else◌, List, [], ◌∷◌, ◌&&◌, ◌||◌, not, nat_le, nat_eq, true, false, length, codes, Option, Some, None, IfSome, unwrap_or, Result}
 use Rattle.std.specs.List.{list_all, starts_with}
 use Rattle.std.specs.Char.{is_ascii_whitespace}
 use Rattle.std.specs.Str.{IsTrimAsciiEnd}
@@ -59,3 +59,9 @@ first_of (item ∷ items) = Some item
 -- what a line says: nothing if it is blank
 unfoldable pub said_by : List ℕ → Option (Result Entry ℕ)
 said_by line = if list_all is_ascii_whitespace line then None else first_of (reading line)
+
+-- a text ends with LF, or is empty
+abbrev pub IsComplete : List ℕ → Type 0
+IsComplete [] = ⊤
+IsComplete (x ∷ []) = x ≡ 10
+IsComplete (x ∷ y ∷ rest) = IsComplete (y ∷ rest)

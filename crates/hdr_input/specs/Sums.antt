@@ -1,5 +1,5 @@
 -- The sums of the chosen intervals of logs.
-use Rattle.std.specs.Prelude.{◌≡◌, ℕ, zero, suc, ◌+◌, ◌-◌, ◌^◌, ◌<◌, Bool, true, false, if◌then◌else◌, List, [], ◌∷◌, length, map, Option, Some, None, Result, Ok, Err}
+use Rattle.std.specs.Prelude.{◌≡◌, ℕ, zero, suc, ◌+◌, ◌-◌, ◌^◌, ◌<◌, ◌==◌, Bool, true, false, if◌then◌else◌, List, [], ◌∷◌, length, map, Option, Some, None, Result, Ok, Err}
 use Rattle.std.specs.Option.{option_map}
 use Rattle.std.specs.Duration.{as_nanos}
 use Rattle.std.specs.HashMap.{get_by_text}
@@ -116,3 +116,13 @@ TakesLines is_first (line ∷ lines) old new =
 -- the lines of a text are taken in order
 abbrev pub TakesText : Bool → List ℕ → Summing → Summing → Type 0
 TakesText is_first text old new = (lines : List (List ℕ)) × AreLines lines text × TakesLines is_first lines old new
+
+-- whether the line after a text is the first of a log
+abbrev pub is_first_after : Bool → List ℕ → Bool
+is_first_after is_first [] = is_first
+is_first_after is_first (byte ∷ text) = false
+
+-- a text is taken from the line of one number to that of another; only line 1 may have a byte order mark
+abbrev pub TakesFrom : ℕ → List ℕ → ℕ → LogSums → LogSums → Type 0
+TakesFrom first text next old new = AreIndexed old → 0 < first
+    → TakesText (first == 1) text (view_of_sums old) (view_of_sums new) × AreIndexed new × (0 < next) × ((next == 1) ≡ is_first_after (first == 1) text)

@@ -110,6 +110,12 @@ pub fn record_lines(
 }
 
 impl LineSink for Tally {
+    ghost takes = { λ _ _ _ _ _. Unit {0} };
+
+    ghost takes_none = { λ _ _. tt };
+
+    ghost takes_more = { λ _ _ _ _ _ _ _ _ _ _ _. tt };
+
     fn take_lines(&mut self, alloc: Global, lines: &[u8], first: u64) -> Result<u64, InputError> {
         record_lines(alloc, self, lines, first)
     }

@@ -1,6 +1,6 @@
 //! The histograms of interval logs, added as their lines are read.
 
-ghost use Rattle.std.specs.Prelude.{◌≡◌, ◌-◌, ◌^◌, ◌<◌, ◌==◌, ◌++◌, ℕ, [], ◌∷◌, List, map, IfOk, OnOk, Some, None, length};
+ghost use Rattle.std.specs.Prelude.{◌≡◌, ◌-◌, ◌^◌, ◌<◌, ◌==◌, ◌++◌, ℕ, [], ◌∷◌, List, map, true, IfOk, IfSome, OnOk, Some, None, length};
 ghost use Rattle.std.specs.Option.{option_map};
 ghost use Rattle.std.specs.String.{string_bytes};
 ghost use Rattle.hdr_model.specs.Plain.{Plain};
@@ -9,12 +9,13 @@ ghost use Rattle.hdr_log.specs.Reading.{view_of_interval};
 ghost use Rattle.hdrhistogram.specs.FieldRead.{IsHeldIn};
 ghost use Rattle.hdr_input.specs.Lines.{said_by, IsPlainField};
 ghost use Rattle.hdr_input.specs.Sums.{view_of_sum, view_of_sums, empty_sum, sum_tag, Adds, TakesSaid, TakesText};
-ghost use Rattle.hdr_input.specs.Sums.{AreIndexed, IsSumAt, KeepsOptions, added_at};
+ghost use Rattle.hdr_input.specs.Sums.{AreIndexed, IsSumAt, KeepsOptions, added_at, TakesFrom, with_base};
+ghost use Rattle.hdr_input.specs.Joining.{none_taken, sums_joined};
 ghost use Rattle.hdr_input.specs.Recorded.{AddsField};
 
 use crate::errors::InputError;
 use crate::log_lines::{decimals_of, entry_of, split_log_line};
-use crate::pieces::LineSink;
+use crate::pieces::{LineSink, read_lines};
 use crate::plain::plain_field;
 use hdrhistogram::Histogram;
 use hdrhistogram::serialization::Deserializer;
@@ -23,6 +24,7 @@ use hdrhistogram::serialization::interval_log::{
 };
 use std::alloc::Global;
 use std::collections::HashMap;
+use std::io::Read;
 use std::time::Duration;
 
 /// The longest line of a log that is read, in bytes. A histogram of 5 digits over all of `u64`
@@ -125,9 +127,24 @@ impl<'a> LogSums<'a> {
 
     /// Begins another log. Its intervals begin at the epoch, until it has a base time, and its
     /// values are integers, unless a comment has their decimals.
-    pub fn begin_log(&mut self) {
+    pub fn begin_log(&mut self)
+        ensures base { view_of_sums self.new ≡ with_base (view_of_sums self.old) 0 }
+        ensures indices { AreIndexed self.old → AreIndexed self.new }
+    {
         self.base = Duration::ZERO;
         self.log_decimals = 0;
+    }
+
+    /// Reads a log to its end, and adds its chosen intervals.
+    pub fn read_log<R: Read>(&mut self, alloc: Global, reader: &mut R) -> Result<(), InputError>
+        ensures sums { OnOk result (AreIndexed self.old → (text : List ℕ)
+            × IfSome (R.remaining reader.old) (λ whole. text ≡ whole)
+            × TakesText true text (with_base (view_of_sums self.old) 0) (view_of_sums self.new)) }
+        ensures indices { OnOk result (AreIndexed self.old → AreIndexed self.new) }
+    {
+        self.begin_log();
+        read_lines(alloc, reader, LONGEST, self)?;
+        Ok(())
     }
 
     /// Returns the decimals of the values.
@@ -279,10 +296,17 @@ impl<'a> LogSums<'a> {
 }
 
 impl LineSink for LogSums<'_> {
+    ghost takes = { TakesFrom };
+
+    ghost takes_none = { none_taken };
+
+    ghost takes_more = { sums_joined };
+
     fn take_lines(&mut self, alloc: Global, lines: &[u8], first: u64) -> Result<u64, InputError>
         ensures sums { OnOk result (AreIndexed self.old → 0 < first → TakesText (first == 1)
             lines.now (view_of_sums self.old) (view_of_sums self.new)) }
         ensures indices { OnOk result (AreIndexed self.old → AreIndexed self.new) }
+        ensures taken { IfOk result (λ next. TakesFrom first lines.now next self.old self.new) }
     {
         let mut rest = lines;
         let mut number = first;

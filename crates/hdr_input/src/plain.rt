@@ -123,6 +123,12 @@ pub fn push_plain_line(
 }
 
 impl<S: LineSink> LineSink for PlainLines<S> {
+    ghost takes = { λ _ _ _ _ _. Unit {0} };
+
+    ghost takes_none = { λ _ _. tt };
+
+    ghost takes_more = { λ _ _ _ _ _ _ _ _ _ _ _. tt };
+
     fn take_lines(&mut self, alloc: Global, lines: &[u8], first: u64) -> Result<u64, InputError> {
         self.converted.clear();
         let conversion = convert_lines(alloc, lines, first, &mut self.converted);

@@ -24,6 +24,12 @@ struct Conversion<'a> {
 }
 
 impl LineSink for Conversion<'_> {
+    ghost takes = { λ _ _ _ _ _. Unit {0} };
+
+    ghost takes_none = { λ _ _. tt };
+
+    ghost takes_more = { λ _ _ _ _ _ _ _ _ _ _ _. tt };
+
     fn take_lines(&mut self, alloc: Global, lines: &[u8], first: u64) -> Result<u64, InputError> {
         self.converted.clear();
         let next = convert_lines(alloc, lines, first, self.form, &mut self.converted);
