@@ -1,5 +1,5 @@
 -- Amounts in longer units.
-use Rattle.std.proofs.Common.{rules, ◌≡◌, ◌∙◌, ℕ, ◌+◌, ◌-◌, ◌*◌, ◌^◌, ◌<◌, ◌≤◌, Option, None, Some, IsSome, Result, Ok, Err, OnOk, List, [], ◌++◌, append_assoc, append-nil, refl, sym, ap, arith}
+use Rattle.std.proofs.Common.{rules, ◌≡◌, ◌∙◌, ℕ, ◌+◌, ◌-◌, ◌*◌, ◌^◌, ◌<◌, ◌≤◌, Option, None, Some, IfSome, IsSome, Result, Ok, Err, OnOk, List, [], ◌++◌, append_assoc, append-nil, refl, sym, ap, arith}
 use Rattle.hdr_draw.proofs.Bounds.{power_step}
 use Rattle.hdr_draw.specs.Numbers.{IsNearest, IsDecimalOf, decimal_text, exponent, grouped}
 use Rattle.hdr_draw.proofs.Decimals.{of_parts, of_nearest, of_trimmed}
@@ -16,6 +16,7 @@ begun u num den = record {
   same = refl;
   parts = omega arith;
   known = λ h. refl;
+  no_longer = λ h. absurd (omega arith);
   at_least = λ h. absurd (omega arith);
 }
 
@@ -26,14 +27,19 @@ unit_step (Some k) v w p e f = let g : w ≡ Some (k + p + 1) = rw e at f in let
 unknown : (u v : Option ℕ) (p n : ℕ) → v ≡ longer_by p u → IsSome v → u ≡ None → n ≡ 0
 unknown u v p n e s h = let t = rw (e, h) at s in absurd cc
 
+no_longer_unit : (u w : Option ℕ) (p : ℕ) → w ≡ longer_by p u → IfSome w (λ k. k ≤ 3) → IfSome u (λ k. k + p ≤ 3)
+no_longer_unit None w p e h = tt
+no_longer_unit (Some k) w p e h = rw e at h
+
 pub longer_unit : (u v w : Option ℕ) (num den n d m e : ℕ) → IsInUnit u num den v n d → IsSome v → w ≡ longer_by 1 v
-    → m ≡ n → e ≡ d * 1000 → e * 9995 ≤ m * 10000 → IsInUnit u num den w m e
-longer_unit u v w num den n d m e i s q a b h = record {
+    → m ≡ n → e ≡ d * 1000 → e * 9995 ≤ m * 10000 → IfSome w (λ k. k ≤ 3) → IsInUnit u num den w m e
+longer_unit u v w num den n d m e i s q a b h l = record {
   power = i.power + 1;
   is_longer = unit_step u v w i.power i.is_longer q;
   same = a ∙ i.same;
   parts = power_step den d e 1000 i.power b i.parts;
   known = unknown u v i.power (i.power + 1) i.is_longer s;
+  no_longer = λ k. no_longer_unit u w (i.power + 1) (unit_step u v w i.power i.is_longer q) l;
   at_least = λ k. h;
 }
 
@@ -71,6 +77,7 @@ value_text (Ok v) unit longer value num den number old mid new i n a b =
       number = number;
       nearest = rw (i.same, d) at n;
       known = i.known;
+      no_longer = i.no_longer;
       is = ap (λ u. number ++ unit_text u) i.is_longer;
     } in
     (number ++ unit_text longer, t, twice old mid new _ _ a b)
@@ -94,6 +101,7 @@ plain_label (Ok v) value old new t =
       same = omega arith;
       exact = t.1;
       known = λ h. refl;
+      no_longer = λ h. absurd (omega arith);
       is = sym (append-nil t.0);
     } in
     (t.0, l, t.2)
@@ -101,9 +109,9 @@ plain_label (Err v) value old new t = tt
 
 -- a label and its unit
 pub unit_label : {T E : Type 0} (r : Result T E) (unit value number power : ℕ) (digits old mid new : List ℕ) → number * 1000 ^ power ≡ value
-    → IsExact number digits → mid ≡ old ++ digits → OnOk r (new ≡ mid ++ unit_text (Some (unit + power)))
+    → IsExact number digits → mid ≡ old ++ digits → OnOk r (new ≡ mid ++ unit_text (Some (unit + power))) → power ≤ 3 - unit
     → OnOk r ((x : List ℕ) × IsLabel (Some unit) value x × (new ≡ old ++ x))
-unit_label (Ok v) unit value number power digits old mid new e x a b =
+unit_label (Ok v) unit value number power digits old mid new e x a b l =
     let l : IsLabel (Some unit) value (digits ++ unit_text (Some (unit + power))) = record {
       power = power;
       number = number;
@@ -111,10 +119,11 @@ unit_label (Ok v) unit value number power digits old mid new e x a b =
       same = e;
       exact = x;
       known = λ h. absurd cc;
+      no_longer = λ h. omega arith;
       is = refl;
     } in
     (digits ++ unit_text (Some (unit + power)), l, twice old mid new _ _ a b)
-unit_label (Err v) unit value number power digits old mid new e x a b = tt
+unit_label (Err v) unit value number power digits old mid new e x a b l = tt
 
 -- a number and its unit in a box
 pub boxed : {T E : Type 0} (r : Result T E) (P : List ℕ → Type 0) (number box old mid new : List ℕ) → P number → mid ≡ old ++ number → OnOk r (new ≡ mid ++ box)

@@ -1,5 +1,5 @@
 -- Values with their units. A unit of time is 1,000 times as long as the one before: ns, µs, ms, s.
-use Rattle.std.specs.Prelude.{◌≡◌, ℕ, zero, suc, ◌+◌, ◌*◌, ◌^◌, ◌<◌, ◌≤◌, List, [], ◌∷◌, ◌++◌, Option, None, Some, codes}
+use Rattle.std.specs.Prelude.{◌≡◌, ℕ, zero, suc, ◌+◌, ◌*◌, ◌^◌, ◌<◌, ◌≤◌, List, [], ◌∷◌, ◌++◌, Option, None, Some, IfSome, codes}
 use Rattle.hdr_draw.specs.Numbers.{IsDecimalOf, exponent, grouped}
 
 -- the name of a unit
@@ -24,21 +24,23 @@ abbrev pub longer_by : ℕ → Option ℕ → Option ℕ
 longer_by power None = None
 longer_by power (Some unit) = Some (unit + power)
 
--- a fraction of a unit as one of a longer unit, in which it is one or more, after rounding
+-- a fraction of a unit as one of a longer unit, at most a second, in which it is one or more, after rounding
 pub record IsInUnit (unit : Option ℕ) (num den : ℕ) (longer : Option ℕ) (longer_num longer_den : ℕ) : Type 0 where
   pub power : ℕ
   pub is_longer : longer ≡ longer_by power unit
   pub same : longer_num ≡ num
   pub parts : longer_den ≡ den * 1000 ^ power
   pub known : unit ≡ None → power ≡ 0
+  pub no_longer : 0 < power → IfSome unit (λ u. u + power ≤ 3)
   pub at_least : 0 < power → longer_den * 9995 ≤ longer_num * 10000
 
--- a text is a value with its unit: its nearest decimal, in the unit of the log or a longer one
+-- a text is a value with its unit: its nearest decimal, in the unit of the log or a longer one, at most a second
 pub record IsValueText (unit : Option ℕ) (value : ℕ) (text : List ℕ) : Type 0 where
   pub power : ℕ
   pub number : List ℕ
   pub nearest : IsDecimalOf value (1000 ^ power) number
   pub known : unit ≡ None → power ≡ 0
+  pub no_longer : 0 < power → IfSome unit (λ u. u + power ≤ 3)
   pub is : text ≡ number ++ unit_text (longer_by power unit)
 
 -- a text is an integer exactly, times a power of ten
@@ -48,7 +50,7 @@ pub record IsExact (value : ℕ) (text : List ℕ) : Type 0 where
   pub same : number * 10 ^ power ≡ value
   pub is : text ≡ grouped number ++ exponent power
 
--- a text is a value exactly, with its unit: that of the log or a longer one
+-- a text is a value exactly, with its unit: that of the log or a longer one, at most a second
 pub record IsLabel (unit : Option ℕ) (value : ℕ) (text : List ℕ) : Type 0 where
   pub power : ℕ
   pub number : ℕ
@@ -56,4 +58,5 @@ pub record IsLabel (unit : Option ℕ) (value : ℕ) (text : List ℕ) : Type 0 
   pub same : number * 1000 ^ power ≡ value
   pub exact : IsExact number digits
   pub known : unit ≡ None → power ≡ 0
+  pub no_longer : 0 < power → IfSome unit (λ u. u + power ≤ 3)
   pub is : text ≡ digits ++ unit_text (longer_by power unit)

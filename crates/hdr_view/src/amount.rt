@@ -120,6 +120,7 @@ fn longer(amount: Amount) -> Option<Amount>
     ensures unit { IfSome result (λ a. IsSome amount.unit × (a.unit ≡ longer_by 1 amount.unit)) }
     ensures same { IfSome result (λ a. (a.num ≡ amount.num) × (a.den ≡ amount.den * 1000)) }
     ensures at_least { IfSome result (λ a. a.den * 9995 ≤ a.num * 10000) }
+    ensures no_longer { IfSome result (λ a. IfSome a.unit (λ unit. unit ≤ 3)) }
 {
     let unit = amount.unit?;
     if unit >= LONGEST {

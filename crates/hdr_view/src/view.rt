@@ -204,6 +204,7 @@ impl Series {
     /// Returns the value of a point, or `None` without samples.
     pub fn of(self, point: &PointFigures) -> Option<u64>
         ensures none { IfNone result (point.now.figures.count ≡ 0) }
+        ensures some { IfSome result (λ v. 0 < point.now.figures.count) }
         ensures value { IfSome result (λ v. v ≡ figure_of self point.now.figures) }
     {
         if point.figures.count == 0 {
