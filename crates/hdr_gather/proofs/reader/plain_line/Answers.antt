@@ -14,6 +14,6 @@ returns g c =
     let unmarked : List ℕ → List ℕ = without_mark (c.args.number == 1) in
     let read = rw c.in-Some.is at c.in_ok-line.ensures in (
       IfSome_then {X = List ℕ} _ {P = λ t. line ≡ take_through 10 t} {Q = λ t. IsPlainOf (unmarked (take_through 10 t)) plain} read.0
-        (λ t e. subst (λ (l : List ℕ). IsPlainOf l plain) (c.without_mark.ensures ∙ ap unmarked (c.deref-2.ensures.value ∙ e)) is),
+          (λ t e. subst (λ (l : List ℕ). IsPlainOf l plain) (c.without_mark.ensures ∙ ap unmarked (c.deref-2.ensures.value ∙ e)) is),
       read.1,
     )
