@@ -1,8 +1,8 @@
 -- Amounts in longer units.
-use Rattle.std.proofs.Common.{rules, ◌≡◌, ◌∙◌, ℕ, ◌+◌, ◌-◌, ◌*◌, ◌^◌, ◌<◌, ◌≤◌, Option, None, Some, IfSome, IsSome, Result, Ok, Err, OnOk, List, [], ◌++◌, append_assoc, append-nil, refl, sym, ap, arith}
+use Rattle.std.proofs.Common.{◌≡◌, ◌∙◌, ℕ, ◌+◌, ◌-◌, ◌*◌, ◌^◌, ◌≤◌, Option, None, Some, IfSome, IsSome, Result, Ok, Err, OnOk, List, ◌++◌, append_assoc, append-nil, refl, sym, ap, arith}
 use Rattle.hdr_draw.proofs.Bounds.{power_step}
 use Rattle.hdr_draw.specs.Numbers.{IsNearest, IsDecimalOf, decimal_text, exponent, grouped}
-use Rattle.hdr_draw.proofs.Decimals.{of_parts, of_nearest, of_trimmed}
+use Rattle.hdr_draw.proofs.Decimals.{of_nearest, of_trimmed}
 use Rattle.hdr_view.specs.Amounts.{IsInUnit, IsValueText, IsExact, IsLabel, longer_by, unit_text}
 
 same_unit : (u : Option ℕ) → u ≡ longer_by 0 u

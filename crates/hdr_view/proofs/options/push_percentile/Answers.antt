@@ -1,5 +1,5 @@
-use Rattle.std.proofs.Common.{ℕ, ◌*◌, ◌^◌, codes, string_bytes}
-use Rattle.hdr_draw.specs.Numbers.{IsNearest, IsDecimalOf}
+use Rattle.std.proofs.Common.{◌*◌, codes, string_bytes}
+use Rattle.hdr_draw.specs.Numbers.{IsDecimalOf}
 use Rattle.hdr_draw.proofs.Decimals.{of_trimmed}
 use Rattle.hdr_view.proofs.Amounts.{prefixed}
 use Rattle.hdr_view.proofs.options.push_percentile.Goals as goal

@@ -1,4 +1,4 @@
-use Rattle.std.proofs.Common.{◌≡◌, ℕ, ◌+◌, ◌*◌, ◌^◌, ◌<◌, ◌≤◌, string_bytes, arith}
+use Rattle.std.proofs.Common.{◌+◌, ◌*◌, ◌^◌, ◌<◌, ◌≤◌, string_bytes, arith}
 use Rattle.std.proofs.Math.Nat.{one-le-pow}
 use Rattle.hdr_view.proofs.Amounts.{value_text}
 use Rattle.hdr_view.proofs.amount.Units.push.Goals as goal
