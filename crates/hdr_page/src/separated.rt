@@ -4,7 +4,7 @@ use csv::{Writer, WriterBuilder};
 use hdr_figures::error::PageError;
 use hdr_figures::figures::{Figures, decoded};
 use hdr_figures::reading::{Interval, Intervals};
-use hdr_summary::formats::is_formula;
+use hdr_summary::formats::{write_field, write_text};
 use hdrhistogram::serialization::Deserializer;
 use std::alloc::{AllocError, Global};
 
@@ -30,11 +30,6 @@ pub fn rows(alloc: Global, logs: &[Vec<u8>], tag: Option<&str>) -> Result<String
     }
     let bytes = table.into_inner().map_err(|_| AllocError)?;
     String::from_utf8(bytes).map_err(|_| PageError::OutOfMemory)
-}
-
-/// Writes a field.
-fn write_field(table: &mut Writer<Vec<u8>>, field: &str) -> Result<(), AllocError> {
-    table.write_field(field.as_bytes()).map_err(|_| AllocError)
 }
 
 /// Writes a number.
@@ -69,12 +64,7 @@ fn write_row(
     figures: &Figures,
 ) -> Result<(), AllocError> {
     write_time(alloc, table, interval.start)?;
-    if is_formula(tag) {
-        let text = format!(in alloc; "'{tag}")?;
-        write_field(table, text.as_str())?;
-    } else {
-        write_field(table, tag)?;
-    }
+    write_text(alloc, table, tag)?;
     write_time(alloc, table, interval.length)?;
     write_number(alloc, table, figures.count)?;
     write_number(alloc, table, figures.p50)?;

@@ -11,7 +11,7 @@ use crate::decimals::Conversion;
 use crate::figures::{Figure, Tagged, figures};
 use crate::percentile::Percentile;
 pub use hgrm::push_hgrm;
-pub use separated::is_formula;
+pub use separated::{write_field, write_text};
 use std::alloc::{AllocError, Global};
 
 /// A format of the output.

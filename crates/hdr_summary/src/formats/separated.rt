@@ -5,7 +5,7 @@ use csv::{Writer, WriterBuilder};
 use std::alloc::{AllocError, Global};
 
 /// Whether a spreadsheet may take a text for a formula.
-pub fn is_formula(text: &str) -> bool {
+fn is_formula(text: &str) -> bool {
     matches!(
         text.as_bytes().first(),
         Some(b'=' | b'+' | b'-' | b'@' | b'\t' | b'\r')
@@ -13,12 +13,16 @@ pub fn is_formula(text: &str) -> bool {
 }
 
 /// Writes a field.
-fn write_field(table: &mut Writer<Vec<u8>>, field: &str) -> Result<(), AllocError> {
+pub fn write_field(table: &mut Writer<Vec<u8>>, field: &str) -> Result<(), AllocError> {
     table.write_field(field.as_bytes()).map_err(|_| AllocError)
 }
 
 /// Writes a text of a log. An apostrophe before it keeps spreadsheets from running it as a formula.
-fn write_text(alloc: Global, table: &mut Writer<Vec<u8>>, text: &str) -> Result<(), AllocError> {
+pub fn write_text(
+    alloc: Global,
+    table: &mut Writer<Vec<u8>>,
+    text: &str,
+) -> Result<(), AllocError> {
     if is_formula(text) {
         let text = format!(in alloc; "'{text}")?;
         return write_field(table, text.as_str());
