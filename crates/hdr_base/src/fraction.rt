@@ -80,6 +80,11 @@ impl Fraction {
 
 /// Writes `num/den`.
 impl fmt::Display for Fraction {
+    ghost use Rattle.std.specs.Prelude.{Some};
+    ghost use Rattle.hdr_base.specs.Fractions.{fraction_text};
+
+    ghost output = { λ f. Some (fraction_text f) };
+
     fn fmt<W: fmt::Write>(&self, f: &mut fmt::Formatter<W>) -> fmt::Result {
         write!(f, "{}/{}", self.num, self.den)
     }
