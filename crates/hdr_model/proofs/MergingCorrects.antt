@@ -193,10 +193,6 @@ module _ (greatest : ℕ) (h : Plain) (g : Resolution) (i : ℕ) (ns : List ℕ)
       ap (λ l. corrections_from g i 0 l) (take_more ns k 0 lt) ∙ corrected-more-some g i 0 n (take k ns) pos ∙ ap (λ j. corrections_from g i 0 (take k ns) ++ one-corrected g i n j) place in
       sym (ap (λ ts. after_records greatest h ts) classes ∙ recorded_each-append greatest h (corrections_from g i 0 (take k ns)) (one-corrected g i n k))
 
-  pub corrected-same : k < length ns → get_or ns k 0 ≡ 0 → corrections_from g i 0 (take k ns) ≡ corrections_from g i 0 (take (k + 1) ns)
-  corrected-same lt none =
-      sym (ap (λ l. corrections_from g i 0 l) (take_more ns k 0 lt ∙ ap (λ n. take k ns ++ n ∷ []) none) ∙ corrected-more-none g i 0 (take k ns))
-
 -- ---- bins made first
 
 pub StandsFor-widened : (greatest : ℕ) (h : Plain) (v : ℕ) (S : List ℕ) → IsPlain greatest h → StandsFor h S → StandsFor (with_bins_for h v) S

@@ -10,7 +10,7 @@ use Rattle.hdr_model.specs.Recording.{Times, samples_of}
 use Rattle.hdr_model.specs.Merging.{classes_from}
 use Rattle.hdr_model.proofs.RecordingStands.{in_class-same, in_class-other}
 use Rattle.hdr_model.proofs.MergingStands.{spread-append, in_class-append}
-use Rattle.hdr_model.proofs.MergingKeeps.{classes-more-some, classes-more-none}
+use Rattle.hdr_model.proofs.MergingKeeps.{classes-more-some, classes-more-none, past-zeros}
 
 -- how much the first i classes hold of class j of g
 pub held : Resolution → Resolution → List ℕ → ℕ → ℕ → ℕ
@@ -24,11 +24,10 @@ pub held-none : (g f : Resolution) (ns : List ℕ) (j : ℕ) → held g f ns 0 j
 unfolding held
 held-none g f ns j = refl
 
-pub held-same : (g f : Resolution) (ns : List ℕ) (i j : ℕ) → i < length ns → get_or ns i 0 ≡ 0 → held g f ns (i + 1) j ≡ held g f ns i j
+pub held-past : (g f : Resolution) (ns : List ℕ) (a b j : ℕ) → a ≤ b → ((i : ℕ) → a ≤ i → i < b → get_or ns i 0 ≡ 0) → held g f ns b j ≡ held g f ns a j
 unfolding held
-held-same g f ns i j lt none =
-    ap (λ l. in_class g j (samples_of (classes_from f 0 l))) (take_more ns i 0 lt ∙ ap (λ n. take i ns ++ n ∷ []) none)
-    ∙ ap (λ ts. in_class g j (samples_of ts)) (classes-more-none f 0 (take i ns))
+held-past g f ns a b j le none =
+    past-zeros (λ l. in_class g j (samples_of (classes_from f 0 l))) (λ l. ap (λ ts. in_class g j (samples_of ts)) (classes-more-none f 0 l)) ns a b le none
 
 pub held-next : (g f : Resolution) (ns : List ℕ) (i j : ℕ) → i < length ns → 0 < get_or ns i 0
     → held g f ns (i + 1) j ≡ in_class g j (samples_of (classes_from f 0 (take i ns)) ++ replicate (get_or ns i 0) (value_of f i))
@@ -97,12 +96,13 @@ tested-init g f counts ns = record {
   order = λ k le. omega arith;
 }
 
-pub tested-same : (g f : Resolution) (counts ns : List ℕ) (i at sum : ℕ) → i < length ns → get_or ns i 0 ≡ 0 → IsTested g f counts ns i at sum → IsTested g f counts ns (i + 1) at sum
-tested-same g f counts ns i at sum lt none t = record {
-  tested = λ j. omega (arith, held-same g f ns i j lt none, t.tested j);
-  running = omega (arith, held-same g f ns i at lt none, t.running);
-  later = λ j past. omega (arith, held-same g f ns i j lt none, t.later j past);
-  order = λ k le. t.order k (omega arith);
+pub tested-past : (g f : Resolution) (counts ns : List ℕ) (a b at sum : ℕ) → a ≤ b → ((i : ℕ) → a ≤ i → i < b → get_or ns i 0 ≡ 0)
+    → IsTested g f counts ns a at sum → IsTested g f counts ns b at sum
+tested-past g f counts ns a b at sum le none t = record {
+  tested = λ j. omega (arith, held-past g f ns a b j le none, t.tested j);
+  running = omega (arith, held-past g f ns a b at le none, t.running);
+  later = λ j past. omega (arith, held-past g f ns a b j le none, t.later j past);
+  order = λ k ge. t.order k (omega (arith, le, ge));
 }
 
 module _ (g f : Resolution) (counts ns : List ℕ) (i at sum before target : ℕ) (mf : 0 < f.digits) (mg : 0 < g.digits) (lt : i < length ns) (pos : 0 < get_or ns i 0) (t : IsTested g f counts ns i at sum)

@@ -2,7 +2,7 @@
 use Rattle.std.proofs.Common.{◌≡◌, ◌≢◌, ℕ, zero, suc, ◌+◌, ◌-◌, ◌^◌, ◌<◌, ◌≤◌, Bool, true, false, eqb, eqb-true, Option, None, Some, IfSome, min, List, [], ◌∷◌, ◌++◌, length, get_or, take, sum, ◌&&◌, refl, sym, ap, subst, ◌∙◌, arith, inl, inr}
 use Rattle.std.proofs.lemmas.Bool.Decides.{nat_tests}
 use Rattle.std.proofs.lemmas.Bool.{cases_lt}
-use Rattle.std.proofs.lemmas.List.{get_or_past, take_more, length-take-le}
+use Rattle.std.proofs.lemmas.List.{get_or_past, take_all, take_more, length-take-le}
 use Rattle.std.proofs.lemmas.List.Sums.{get_or-le-sum_by}
 use Rattle.hdr_base.specs.Classes.{Resolution, bin_of, top_of, value_of, reach_of}
 use Rattle.hdr_base.proofs.ClassesLaws.{bin-mono, bin-top, top-of-value}
@@ -198,6 +198,18 @@ classes-more-none g k [] = refl
 classes-more-none g k (zero ∷ ns) = classes-more-none g (suc k) ns
 classes-more-none g k (suc n ∷ ns) = ap (λ ts. record { value = value_of g k; times = suc n } ∷ ts) (classes-more-none g (suc k) ns)
 
+-- what one more zero leaves the same is the same past each run of zeros
+pub past-zeros : {A : Type 0} (F : List ℕ → A) → ((ns : List ℕ) → F (ns ++ 0 ∷ []) ≡ F ns) → (ns : List ℕ) (a b : ℕ) → a ≤ b
+    → ((i : ℕ) → a ≤ i → i < b → get_or ns i 0 ≡ 0) → F (take b ns) ≡ F (take a ns)
+past-zeros F more [] a b le none = ap F (take_all b [] (omega arith) ∙ sym (take_all a [] (omega arith)))
+past-zeros F more (n ∷ ns) zero zero le none = refl
+past-zeros F more (n ∷ ns) (suc a) zero le none = absurd (omega arith)
+past-zeros F more (n ∷ ns) zero (suc b) le none =
+    past-zeros (λ l. F (n ∷ l)) (λ l. more (n ∷ l)) ns zero b (omega arith) (λ i from to. none (suc i) (omega arith) (omega arith))
+    ∙ ap (λ m. F (m ∷ [])) (none 0 (omega arith) (omega arith)) ∙ more []
+past-zeros F more (n ∷ ns) (suc a) (suc b) le none =
+    past-zeros (λ l. F (n ∷ l)) (λ l. more (n ∷ l)) ns a b (omega arith) (λ i from to. none (suc i) (omega arith) (omega arith))
+
 pub classes-more-some : (g : Resolution) (k n : ℕ) (ns : List ℕ) → 0 < n → classes_from g k (ns ++ n ∷ []) ≡ classes_from g k ns ++ record { value = value_of g (k + length ns); times = n } ∷ []
 classes-more-some g k zero [] pos = absurd (omega arith)
 classes-more-some g k (suc n) [] pos = ap (λ i. record { value = value_of g i; times = suc n } ∷ []) (let e : k ≡ k + 0 = omega arith in e)
@@ -253,10 +265,6 @@ module _ (greatest : ℕ) (h : Plain) (g : Resolution) (ns : List ℕ) (i : ℕ)
       let classes : classes_from g 0 (take (i + 1) ns) ≡ classes_from g 0 (take i ns) ++ last ∷ [] =
       ap (λ l. classes_from g 0 l) more ∙ classes-more-some g 0 n (take i ns) pos ∙ ap (λ k. classes_from g 0 (take i ns) ++ record { value = value_of g k; times = n } ∷ []) place in
       sym (ap (λ ts. after_records greatest h ts) classes ∙ recorded_each-append greatest h (classes_from g 0 (take i ns)) (last ∷ []))
-
-  pub classes-same : i < length ns → get_or ns i 0 ≡ 0 → classes_from g 0 (take i ns) ≡ classes_from g 0 (take (i + 1) ns)
-  classes-same lt none =
-      sym (ap (λ l. classes_from g 0 l) (take_more ns i 0 lt ∙ ap (λ n. take i ns ++ n ∷ []) none) ∙ classes-more-none g 0 (take i ns))
 
 pub classes-end : (greatest : ℕ) (h : Plain) (g : Resolution) (ns : List ℕ) (mark : Option ℕ) (i : ℕ) → mark ≡ Some i
     → after_record greatest (after_records greatest h (classes_from g 0 ns)) (value_of g i) 0 ≡ after_records greatest h (classes_from g 0 ns ++ top_class g mark)

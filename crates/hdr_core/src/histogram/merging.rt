@@ -173,11 +173,10 @@ impl<T: Counter> Histogram<T> {
             (classes_from (resolution source.now) 0 source.now.counts ++ top_class
             (resolution source.now) source.now.top_mark) }
     {
-        for bin in 0..source.used_bins() {
-            let count = source.counts.get(bin).as_u64();
-            if count > 0 {
-                self.record_inside(source.class_value(bin), count);
-            }
+        let mut bin = source.next_filled(0);
+        while bin < source.distinct_values() {
+            self.record_inside(source.class_value(bin), source.counts.get(bin).as_u64());
+            bin = source.next_filled(bin + 1);
         }
         if let Some(bin) = source.marks.top() {
             self.record_inside(source.class_value(bin), 0);

@@ -112,11 +112,10 @@ impl<T: Counter> Histogram<T> {
             (corrections_from (resolution source.now) interval 0 source.now.counts) }
         ensures source { IsPlain F.greatest source.now }
     {
-        for bin in 0..source.used_bins() {
-            let count = source.counts.get(bin).as_u64();
-            if count > 0 {
-                self.correct_inside(source.class_top(bin), count, interval);
-            }
+        let mut bin = source.next_filled(0);
+        while bin < source.distinct_values() {
+            self.correct_inside(source.class_top(bin), source.counts.get(bin).as_u64(), interval);
+            bin = source.next_filled(bin + 1);
         }
     }
 

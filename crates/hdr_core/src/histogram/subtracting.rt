@@ -56,17 +56,16 @@ impl<T: Counter> Histogram<T> {
     {
         let mut at: usize = 0;
         let mut sum: u128 = 0;
-        for bin in 0..other.used_bins() {
-            let count = other.counts.get(bin).as_u64();
-            if count > 0 {
-                let target = self.bin_of_class(other, bin);
-                let before = if target == at { sum } else { 0 };
-                at = target;
-                sum = before + u128::from(count);
-                if sum > u128::from(self.counts.get(at).as_u64()) {
-                    return false;
-                }
+        let mut bin = other.next_filled(0);
+        while bin < other.distinct_values() {
+            let target = self.bin_of_class(other, bin);
+            let before = if target == at { sum } else { 0 };
+            at = target;
+            sum = before + u128::from(other.counts.get(bin).as_u64());
+            if sum > u128::from(self.counts.get(at).as_u64()) {
+                return false;
             }
+            bin = other.next_filled(bin + 1);
         }
         true
     }
@@ -107,12 +106,11 @@ fn take_each<T: Counter>(counts: &mut Counts<T>, scale: Scale, other: &Histogram
         → slice_index counts.new.numbers j + in_class scale j (lowest_values other.now)
         ≡ slice_index counts.old.numbers j }
 {
-    for bin in 0..other.used_bins() {
-        let count = other.counts.get(bin);
-        if count.as_u64() > 0 {
-            let target = scale.bin(other.class_value(bin));
-            take_from(counts, target, count);
-        }
+    let mut bin = other.next_filled(0);
+    while bin < other.distinct_values() {
+        let target = scale.bin(other.class_value(bin));
+        take_from(counts, target, other.counts.get(bin));
+        bin = other.next_filled(bin + 1);
     }
 }
 

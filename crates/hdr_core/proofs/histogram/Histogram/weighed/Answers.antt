@@ -1,11 +1,12 @@
-use Rattle.std.proofs.Common.{◌≡◌, ◌+◌, ◌*◌, ◌<◌, length, get_or, ap, ◌∙◌, sym, arith}
+use Rattle.std.proofs.Common.{◌≡◌, ◌+◌, ◌*◌, ◌<◌, length, get_or, sum, ap, ◌∙◌, sym, arith}
 use Rattle.hdr_base.specs.Classes.{Resolution, value_of}
 use Rattle.hdr_counts.proofs.BlocksSums.{sum_below_more, sum_below-le-sum}
 use Rattle.hdr_model.specs.Plain.{Plain, resolution}
 use Rattle.hdr_core.specs.Shown.{plain_of}
-use Rattle.hdr_model.specs.Statistics.{median_of}
+use Rattle.hdr_model.specs.Statistics.{median_of, weight_from}
 use Rattle.hdr_core.proofs.IteratingFacts.{AreBins-binned}
-use Rattle.hdr_core.proofs.UsedBins.{sum-zeros, weight-zeros}
+use Rattle.hdr_core.proofs.UsedBins.{sum-more-none, weight-more-none}
+use Rattle.hdr_model.proofs.MergingKeeps.{past-zeros}
 use Rattle.hdr_model.proofs.StatisticsMeans.{weighed-more}
 use Rattle.hdr_core.proofs.histogram.Histogram.weighed.Given as given
 use Rattle.hdr_core.proofs.histogram.Histogram.weighed.Goals as goal
@@ -41,12 +42,12 @@ loop-bin-preserved g c =
     c.weight-sum.ensures.value ∙ ap (λ (s : Resolution). median_of s (value_of s i) * c.as_u64.result) c.self.invariant.scale
     ∙ ap (λ k. median_of (resolution h) (value_of (resolution h) i) * k) held ∙ ap (λ j. median_of (resolution h) (value_of (resolution h) j) * get_or h.counts i 0) place in (
       on.within,
-      omega (arith, c.loop-bin.invariant.1, weighed-more (resolution h) 0 h.counts i inside, weight_is, weight-zeros (resolution h) 0 (i + 1) c.next_filled-bin-in-loop-bin.result h.counts on.onward on.empty),
-      omega (arith, c.loop-bin.invariant.2, c.weight-sum.ensures.bound, held, sum_below_more h.counts i inside, sum-zeros (i + 1) c.next_filled-bin-in-loop-bin.result h.counts on.onward on.empty),
+      omega (arith, c.loop-bin.invariant.1, weighed-more (resolution h) 0 h.counts i inside, weight_is, past-zeros (λ l. weight_from (resolution h) 0 l) (weight-more-none (resolution h) 0) h.counts (i + 1) c.next_filled-bin-in-loop-bin.result on.onward on.empty),
+      omega (arith, c.loop-bin.invariant.2, c.weight-sum.ensures.bound, held, sum_below_more h.counts i inside, past-zeros (λ l. sum l) sum-more-none h.counts (i + 1) c.next_filled-bin-in-loop-bin.result on.onward on.empty),
     )
 
 pub loop-bin-init : goal.loop-bin-init
 loop-bin-init g c =
     let h = plain_of c.self.inside in
     let on = c.next_filled-bin.ensures in
-    (on.within, sym (weight-zeros (resolution h) 0 0 c.next_filled-bin.result h.counts on.onward on.empty), omega arith)
+    (on.within, sym (past-zeros (λ l. weight_from (resolution h) 0 l) (weight-more-none (resolution h) 0) h.counts 0 c.next_filled-bin.result on.onward on.empty), omega arith)
