@@ -10,7 +10,7 @@ use Rattle.hdr_model.proofs.MergingKeeps.{number-le-max, value-le-max, mark-in, 
 use Rattle.hdr_core.proofs.UsedBins.{no-top}
 use Rattle.hdr_core.proofs.histogram.Histogram.record_classes.Given as given
 use Rattle.hdr_core.proofs.histogram.Histogram.record_classes.Goals as goal
-use Rattle.hdr_core.proofs.histogram.Histogram.record_classes.Goals.{In-loop-bin, After-as_u64}
+use Rattle.hdr_core.proofs.histogram.Histogram.record_classes.Goals.{In-loop-bin, After-top}
 
 -- the value that is recorded has a bin
 fits : (g : given.Over) (c : In-loop-bin g) → value_of (resolution c.args.source.now) c.loop-bin.bin ≤ reach c.loop-bin.self
@@ -52,29 +52,24 @@ loop-bin-preserved g c =
 
 pub class_value-requires-in-Some : goal.class_value-requires-in-Some
 class_value-requires-in-Some g c =
-    let q = rw c.source.view_is at c.source.invariant.plain in
-    mark-in g.F.Counter.greatest c.args.source.now c.in-Some.bin q (sym (ap (λ (p : Plain). p.top_mark) c.source.view_is) ∙ sym c.top.ensures ∙ c.in-Some.is)
+    mark-in g.F.Counter.greatest c.args.source.now c.in-Some.bin c.distinct_values.ensures.plain (sym (ap (λ (p : Plain). p.top_mark) c.source.view_is) ∙ sym c.top.ensures ∙ c.in-Some.is)
 
 pub record_inside-requires-in-Some : goal.record_inside-requires-in-Some
 record_inside-requires-in-Some g c =
     omega (arith, c.class_value-in-Some.ensures, value-le-max c.args.source.now c.in-Some.bin (sym (ap (λ (p : Plain). p.top_mark) c.source.view_is) ∙ sym c.top.ensures ∙ c.in-Some.is), c.requires, c.loop-bin.invariant.same_reach)
 
+-- after the loop each class is recorded
+all : (g : given.Over) (c : After-top g) → c.loop-bin.self ≡ after_records g.T.Counter.greatest c.args.self.now (classes_from (resolution c.args.source.now) 0 c.args.source.now.counts)
+all g c = rw (take_all c.loop-bin.bin c.args.source.now.counts (omega (arith, c.loop-bin-test.false, c.distinct_values.ensures.value))) at c.loop-bin.invariant.made
+
 pub returns-in-Some : goal.returns-in-Some
 returns-in-Some g c =
-    let greatest = g.T.Counter.greatest in
-    let h = c.args.self.now in
     let s = c.args.source.now in
-    let i = c.in-Some.bin in
-    let all : classes_from (resolution s) 0 (take c.loop-bin.bin s.counts) ≡ classes_from (resolution s) 0 s.counts = ap (λ l. classes_from (resolution s) 0 l) (take_all c.loop-bin.bin s.counts (omega (arith, c.loop-bin-test.false, c.distinct_values.ensures.value))) in
-    c.record_inside-in-Some.ensures ∙ ap (λ x. after_record greatest c.loop-bin.self x 0) c.class_value-in-Some.ensures
-    ∙ ap (λ (h : Plain). after_record greatest h (value_of (resolution s) i) 0) (c.loop-bin.invariant.made ∙ ap (λ ts. after_records greatest h ts) all)
-    ∙ classes-end greatest h (resolution s) s.counts s.top_mark i (sym (ap (λ (p : Plain). p.top_mark) c.source.view_is) ∙ sym c.top.ensures ∙ c.in-Some.is)
+    rw (c.record_inside-in-Some.ensures, c.class_value-in-Some.ensures, all g (goal.at.returns-in-Some g c).After-top)
+    (classes-end g.T.Counter.greatest c.args.self.now (resolution s) s.counts s.top_mark c.in-Some.bin (sym (ap (λ (p : Plain). p.top_mark) c.source.view_is) ∙ sym c.top.ensures ∙ c.in-Some.is))
 
 pub returns-in_default : goal.returns-in_default
 returns-in_default g c =
-    let greatest = g.T.Counter.greatest in
-    let h = c.args.self.now in
     let s = c.args.source.now in
-    let all : classes_from (resolution s) 0 (take c.loop-bin.bin s.counts) ≡ classes_from (resolution s) 0 s.counts = ap (λ l. classes_from (resolution s) 0 l) (take_all c.loop-bin.bin s.counts (omega (arith, c.loop-bin-test.false, c.distinct_values.ensures.value))) in
     let top : top_class (resolution s) s.top_mark ≡ [] = no-top (resolution s) s.top_mark (λ i e. c.in_default.not-Some i (c.top.ensures ∙ ap (λ (p : Plain). p.top_mark) c.source.view_is ∙ e)) in
-    c.loop-bin.invariant.made ∙ ap (λ ts. after_records greatest h ts) (all ∙ sym (append-nil (classes_from (resolution s) 0 s.counts)) ∙ ap (λ ts. classes_from (resolution s) 0 s.counts ++ ts) (sym top))
+    rw (top, append-nil (classes_from (resolution s) 0 s.counts)) (all g (goal.at.returns-in_default g c).After-top)
