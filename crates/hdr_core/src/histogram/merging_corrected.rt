@@ -114,7 +114,8 @@ impl<T: Counter> Histogram<T> {
     {
         let mut bin = source.next_filled(0);
         while bin < source.distinct_values() {
-            self.correct_inside(source.class_top(bin), source.counts.get(bin).as_u64(), interval);
+            let count = source.counts.get(bin).as_u64();
+            self.correct_inside(source.class_top(bin), count, interval);
             bin = source.next_filled(bin + 1);
         }
     }

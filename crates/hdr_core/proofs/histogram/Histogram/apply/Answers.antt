@@ -1,9 +1,7 @@
-use Rattle.std.proofs.Common.{◌∙◌, ◌++◌, [], cond, eqb, length, ap, sym, subst, replicate}
-use Rattle.hdr_base.specs.Classes.{reach_of}
-use Rattle.hdr_model.specs.Plain.{Plain, resolution, max_of}
+use Rattle.std.proofs.Common.{◌∙◌, ◌++◌, [], ap, sym, subst, replicate}
+use Rattle.hdr_model.specs.Plain.{Plain, resolution}
 use Rattle.hdr_model.specs.Samples.{StandsFor, Fits}
-use Rattle.hdr_model.specs.Merging.{highest_top}
-use Rattle.hdr_model.specs.Recording.{high_with, clamp}
+use Rattle.hdr_model.specs.Recording.{clamp}
 use Rattle.hdr_model.proofs.PlainBounds.{bounds, same-bounds, bounds-recorded, bounds-corrected, bounds-cleared, bounds-restarted, bounds-merged, bounds-merged_corrected}
 use Rattle.hdr_model.proofs.PlainKept.{resolution-recorded}
 use Rattle.hdr_model.proofs.RecordingClears.{resolution-cleared, resolution-restarted, high-cleared, high-restarted, high-clamped, clamped-is, stands-cleared, stands-restarted}

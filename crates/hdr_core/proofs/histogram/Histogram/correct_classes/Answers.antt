@@ -47,10 +47,10 @@ loop-bin-preserved g c =
     let on = c.next_filled-bin-in-loop-bin.ensures in
     let le = fits g (goal.at.loop-bin-preserved g c).In-loop-bin in
     let inside : i < length s.counts = omega (arith, c.loop-bin-test.true, c.distinct_values.ensures.value) in
-    let n : c.as_u64.result ≡ get_or s.counts i 0 = c.as_u64.ensures.value ∙ c.get.ensures ∙ ap (λ (p : Plain). get_or p.counts i 0) c.source.view_is in
+    let n : c.as_u64-count.result ≡ get_or s.counts i 0 = c.as_u64-count.ensures.value ∙ c.get.ensures ∙ ap (λ (p : Plain). get_or p.counts i 0) c.source.view_is in
     let ts = each_times (get_or s.counts i 0) (v ∷ missing v t) in
     let new =
-    c.correct_inside.ensures ∙ ap (λ x. after_records greatest k (each_times c.as_u64.result (x ∷ missing x t))) c.class_top.ensures ∙ ap (λ m. after_records greatest k (each_times m (v ∷ missing v t))) n in
+    c.correct_inside.ensures ∙ ap (λ x. after_records greatest k (each_times c.as_u64-count.result (x ∷ missing x t))) c.class_top.ensures ∙ ap (λ m. after_records greatest k (each_times m (v ∷ missing v t))) n in
     let values : All (λ (t : Times). t.value ≤ reach k) ts =
     each-within (reach k) (get_or s.counts i 0) (v ∷ missing v t) (All-cons (λ x. x ≤ reach k) v (missing v t) le (missing-within v t (reach k) le)) in
     record {

@@ -1,9 +1,9 @@
-use Rattle.std.proofs.Common.{◌≡◌, ◌∙◌, ◌+◌, ◌<◌, ◌≤◌, refl, [], ap, sym, arith, length, get_or, take, ◌++◌, append-nil}
+use Rattle.std.proofs.Common.{◌≡◌, ◌∙◌, ◌+◌, ◌<◌, ◌≤◌, refl, [], ap, sym, arith, length, get_or, append-nil}
 use Rattle.std.proofs.lemmas.List.{take_all}
 use Rattle.hdr_base.specs.Classes.{value_of}
 use Rattle.hdr_base.proofs.ClassesFiner.{bin-value_of}
 use Rattle.hdr_model.specs.Plain.{Plain, resolution, reach}
-use Rattle.hdr_model.specs.Recording.{after_record, after_records}
+use Rattle.hdr_model.specs.Recording.{after_records}
 use Rattle.hdr_model.specs.Merging.{classes_from, top_class}
 use Rattle.hdr_model.proofs.PlainKept.{resolution-digits}
 use Rattle.hdr_model.proofs.MergingKeeps.{number-le-max, value-le-max, mark-in, classes-more-none, past-zeros, classes-next, classes-end, reach-recorded}

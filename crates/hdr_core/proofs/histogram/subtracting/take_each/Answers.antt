@@ -1,11 +1,10 @@
-use Rattle.std.proofs.Common.{◌≡◌, ◌∙◌, ◌+◌, ◌-◌, ◌<◌, ◌≤◌, ℕ, List, ap, subst, sym, refl, arith, length, get_or, set}
-use Rattle.std.specs.List.{All}
+use Rattle.std.proofs.Common.{◌≡◌, ◌∙◌, ◌+◌, ◌-◌, ◌<◌, ◌≤◌, ℕ, List, ap, refl, arith, length, get_or, set}
 use Rattle.std.proofs.lemmas.List.{length-set}
 use Rattle.std.proofs.lemmas.List.Elements.{All-set}
 use Rattle.hdr_base.specs.Classes.{bin_of, value_of}
 use Rattle.hdr_counts.specs.Blocks.{Blocks}
 use Rattle.hdr_model.specs.Plain.{Plain, resolution}
-use Rattle.hdr_model.proofs.MergingHolds.{held, held-all, held-none, held-past, enough-left, taken-next}
+use Rattle.hdr_model.proofs.MergingHolds.{held-all, held-none, held-past, enough-left, taken-next}
 use Rattle.hdr_core.proofs.histogram.subtracting.take_each.Given as given
 use Rattle.hdr_core.proofs.histogram.subtracting.take_each.Goals as goal
 use Rattle.hdr_core.proofs.histogram.subtracting.take_each.Goals.{After-get}
@@ -28,8 +27,7 @@ read : (g : given.Over) (c : After-get g)
     × (c.bin-target.result ≡ bin_of c.args.scale (value_of (resolution c.args.other.now) c.loop-bin.bin))
     × (g.T.Counter.number c.get.result ≡ get_or c.args.other.now.counts c.loop-bin.bin 0)
 read g c =
-    let inside : c.loop-bin.bin < length c.args.other.now.counts = omega (arith, c.loop-bin-test.true, c.distinct_values.ensures.value) in
-    (
+    let inside : c.loop-bin.bin < length c.args.other.now.counts = omega (arith, c.loop-bin-test.true, c.distinct_values.ensures.value) in (
       inside,
       c.loop-bin.invariant.filled inside,
       c.bin-target.ensures.value ∙ ap (λ v. bin_of c.args.scale v) c.class_value.ensures,
