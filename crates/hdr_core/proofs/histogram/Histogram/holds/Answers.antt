@@ -19,25 +19,23 @@ loop-bin-init g c =
       tested = tested-past (resolution h) (resolution s) h.counts s.counts 0 c.next_filled-bin.result 0 0 on.onward on.empty (tested-init (resolution h) (resolution s) h.counts s.counts);
     }
 
--- the class that is read is one of the other's, and its number is not 0
-inside : (g : given.Over) (c : In-loop-bin g) → (c.loop-bin.bin < length c.args.other.now.counts) × (0 < get_or c.args.other.now.counts c.loop-bin.bin 0)
+-- the class that is read is one of the other's, its number is not 0, and both keep digits
+inside : (g : given.Over) (c : In-loop-bin g)
+    → (c.loop-bin.bin < length c.args.other.now.counts) × (0 < get_or c.args.other.now.counts c.loop-bin.bin 0) × (0 < (resolution c.args.other.now).digits) × (0 < (resolution c.args.self.now).digits)
 inside g c =
-    let lt : c.loop-bin.bin < length c.args.other.now.counts = omega (arith, c.loop-bin-test.true, c.distinct_values.ensures.value) in
-    (lt, c.loop-bin.invariant.filled lt)
-
--- digits of both
-digits : (g : given.Over) (c : In-loop-bin g) → (0 < (resolution c.args.self.now).digits) × (0 < (resolution c.args.other.now).digits)
-digits g c = (
-  resolution-digits g.T.Counter.greatest c.args.self.now (rw c.self.view_is at c.self.invariant.plain),
-  resolution-digits g.T.Counter.greatest c.args.other.now c.distinct_values.ensures.plain,
-)
+    let lt : c.loop-bin.bin < length c.args.other.now.counts = omega (arith, c.loop-bin-test.true, c.distinct_values.ensures.value) in (
+      lt,
+      c.loop-bin.invariant.filled lt,
+      resolution-digits g.T.Counter.greatest c.args.other.now c.distinct_values.ensures.plain,
+      resolution-digits g.T.Counter.greatest c.args.self.now (rw c.self.view_is at c.self.invariant.plain),
+    )
 
 pub bin_of_class-target-requires-clause-reached : goal.bin_of_class-target-requires-clause-reached
 bin_of_class-target-requires-clause-reached g c =
     let s = c.args.other.now in
     let i = c.loop-bin.bin in
-    let now = (goal.at.bin_of_class-target-requires-clause-reached g c).In-loop-bin in
-    omega (arith, number-le-max g.T.Counter.greatest s i (value_of (resolution s) i) c.distinct_values.ensures.plain (inside g now).1 (bin-value_of (resolution s) i (digits g now).1), c.requires)
+    let (lt, pos, mf, mg) = inside g (goal.at.bin_of_class-target-requires-clause-reached g c).In-loop-bin in
+    omega (arith, number-le-max g.T.Counter.greatest s i (value_of (resolution s) i) c.distinct_values.ensures.plain pos (bin-value_of (resolution s) i mf), c.requires)
 
 -- the number of the class, what counted before it, and what its bin has
 read : (g : given.Over) (c : After-from-in-loop-bin g)
@@ -60,10 +58,9 @@ returns-then-sum-from-clause-no g c =
     let i = c.loop-bin.bin in
     let target = c.bin_of_class-target.result in
     let now = goal.at.returns-then-sum-from-clause-no g c in
-    let at = inside g now.In-loop-bin in
-    let positive = digits g now.In-loop-bin in
+    let (lt, pos, mf, mg) = inside g now.In-loop-bin in
     let (n, before, room) = read g now.After-from-in-loop-bin in
-    let sum = tested-sum (resolution h) (resolution s) h.counts s.counts i c.loop-bin.at c.loop-bin.sum c.if-target-at.before target positive.1 positive.0 at.0 at.1 c.loop-bin.invariant.tested c.bin_of_class-target.ensures.value before in
+    let sum = tested-sum (resolution h) (resolution s) h.counts s.counts i c.loop-bin.at c.loop-bin.sum c.if-target-at.before target mf mg lt pos c.loop-bin.invariant.tested c.bin_of_class-target.ensures.value before in
     λ e. (target, omega (arith, sum, n, room, held-le (resolution h) (resolution s) s.counts (i + 1) target, c.if-sum-from.true))
 
 pub loop-bin-preserved : goal.loop-bin-preserved
@@ -73,12 +70,11 @@ loop-bin-preserved g c =
     let i = c.loop-bin.bin in
     let target = c.bin_of_class-target.result in
     let now = goal.at.loop-bin-preserved g c in
-    let at = inside g now.In-loop-bin in
-    let positive = digits g now.In-loop-bin in
+    let (lt, pos, mf, mg) = inside g now.In-loop-bin in
     let (n, before, room) = read g now.After-from-in-loop-bin in
     let on = c.next_filled-bin-in-loop-bin.ensures in
     let fits : c.if-target-at.before + get_or s.counts i 0 ≤ get_or h.counts target 0 = omega (arith, n, room, c.if-sum-from.false) in
-    let next = tested-next (resolution h) (resolution s) h.counts s.counts i c.loop-bin.at c.loop-bin.sum c.if-target-at.before target positive.1 positive.0 at.0 at.1 c.loop-bin.invariant.tested c.bin_of_class-target.ensures.value before fits in
+    let next = tested-next (resolution h) (resolution s) h.counts s.counts i c.loop-bin.at c.loop-bin.sum c.if-target-at.before target mf mg lt pos c.loop-bin.invariant.tested c.bin_of_class-target.ensures.value before fits in
     record {
       filled = on.filled;
       tested = rw n (tested-past (resolution h) (resolution s) h.counts s.counts (i + 1) c.next_filled-bin-in-loop-bin.result target (c.if-target-at.before + get_or s.counts i 0) on.onward on.empty next);
