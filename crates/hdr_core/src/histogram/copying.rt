@@ -1,6 +1,6 @@
 //! Histograms made from others.
 
-ghost use Rattle.std.specs.Prelude.{◌≡◌, ℕ, List, ◌++◌, MatchResult};
+ghost use Rattle.std.specs.Prelude.{◌≡◌, ℕ, List, ◌++◌, ◌≤◌, MatchResult, slice_index, length};
 ghost use Rattle.hdr_model.specs.Plain.{IsPlain, empty_plain};
 ghost use Rattle.hdr_model.specs.Merging.{after_add_correct};
 ghost use Rattle.hdr_model.specs.declared.errors.CreationError.TheVariants.{OutOfMemory};
@@ -39,6 +39,17 @@ impl<T: Counter> Histogram<T> {
             total: self.total,
             marks: self.marks.same(),
         })
+    }
+
+    /// Returns the number of bins up to the top mark's; the bins after them are empty.
+    pub(super) fn used_bins(&self) -> usize
+        ensures within { result ≤ length self.now.counts }
+        ensures rest { (i : ℕ) → result ≤ i → slice_index self.now.counts i ≡ 0 }
+    {
+        match self.marks.top() {
+            Some(bin) => self.counts.len().min(bin + 1),
+            None => 0,
+        }
     }
 
     /// Returns a histogram with the same bounds and auto-resize setting, to which `self` was added

@@ -1,6 +1,6 @@
 //! Adding one histogram to another, of the same or of another counter type.
 
-ghost use Rattle.std.specs.Prelude.{◌==◌, ◌&&◌, if◌then◌else◌, ◌≡◌, ℕ, ◌+◌, ◌-◌, ◌^◌, ◌<◌, ◌≤◌, ◌⊎◌, ◌++◌, List, OnOk, IfErr, true, min, length, slice_index, sum};
+ghost use Rattle.std.specs.Prelude.{◌==◌, ◌&&◌, if◌then◌else◌, ◌≡◌, ℕ, ◌+◌, ◌-◌, ◌^◌, ◌<◌, ◌≤◌, ◌⊎◌, ◌++◌, List, OnOk, IfErr, true, min, length, sum};
 ghost use Rattle.hdr_base.specs.Classes.{value_of, IsFiner};
 ghost use Rattle.hdr_model.specs.Plain.{IsPlain, resolution, reach, max_of};
 ghost use Rattle.hdr_model.specs.Recording.{after_record, after_records, after_reset, high_with};
@@ -153,17 +153,6 @@ impl<T: Counter> Histogram<T> {
         self.total = self.total.saturating_add(capped_sum(counts));
         self.marks.widen_if(counts.next_nonzero());
         self.marks.widen_if(source.marks.top());
-    }
-
-    /// Returns the number of bins up to the top mark's; the bins after them are empty.
-    pub(super) fn used_bins(&self) -> usize
-        ensures within { result ≤ length self.now.counts }
-        ensures rest { (i : ℕ) → result ≤ i → slice_index self.now.counts i ≡ 0 }
-    {
-        match self.marks.top() {
-            Some(bin) => self.counts.len().min(bin + 1),
-            None => 0,
-        }
     }
 
     /// Records the classes of a source, each at its lowest value.
