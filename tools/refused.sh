@@ -1,8 +1,8 @@
 #!/bin/sh
-# For each test below a module `refused`, as the gate built and proved it: runs it with the first, second, .. request for
+# For each test below a module `failed_allocations`, as the gate built and proved it: runs it with the first, second, .. request for
 # memory refused, until a run meets no refusal. Each run has to pass, to print 'no memory' exactly where a request was
 # refused, and to have freed what it took. Every other test has to have freed what it took, too. Tests below a module
-# `sparing` have to pass where each request for more than 64 KiB is refused. Fails where there is no such test.
+# `large_allocations` have to pass where each request for more than 64 KiB is refused. Fails where there is no such test.
 set -eu
 cd "$(dirname "$0")/.."
 room=$(mktemp -d)
@@ -11,7 +11,7 @@ rustc --edition 2024 -O -C panic=abort --crate-type cdylib -o "$room/refuse.so" 
 runs=0 failed=0 tests=0 sparing=0
 for program in crates/*/out/*_tests; do
     [ -x "$program" ] || continue
-    for name in $("$program" --list | sed -n 's/^\(.*refused::[a-z0-9_:]*\): test$/\1/p'); do
+    for name in $("$program" --list | sed -n 's/^\(.*failed_allocations::[a-z0-9_:]*\): test$/\1/p'); do
         n=0 refused=1 tests=$((tests + 1))
         while [ "$refused" = 1 ]; do
             n=$((n + 1)) runs=$((runs + 1)) status=0
@@ -28,7 +28,7 @@ for program in crates/*/out/*_tests; do
         done
         echo "$name: $((n - 1)) requests refused in turn"
     done
-    for name in $("$program" --list | sed -n 's/^\(.*sparing::[a-z0-9_:]*\): test$/\1/p'); do
+    for name in $("$program" --list | sed -n 's/^\(.*large_allocations::[a-z0-9_:]*\): test$/\1/p'); do
         runs=$((runs + 1)) sparing=$((sparing + 1))
         if ! LARGEST=65536 LD_PRELOAD="$room/refuse.so" "$program" "$name" >"$room/out" 2>"$room/err"; then
             echo "$program $name: fails where large requests are refused" >&2

@@ -6,7 +6,7 @@ use hdrhistogram::{Counter, Histogram};
 use std::alloc::Global;
 use std::io::{self, Read};
 
-/// What was decoded of the bytes.
+/// The parts of a decoded histogram.
 #[repr(C)]
 pub struct Reading {
     pub low: u64,
@@ -22,19 +22,19 @@ pub struct Reading {
     pub taken: u64,
 }
 
-/// A reader that yields at most `most` bytes a call.
+/// A reader that returns at most `max_len` bytes a call.
 #[derive(Drop)]
-struct Pieces<'a> {
-    left: &'a [u8],
-    most: usize,
+struct ChunkReader<'a> {
+    rest: &'a [u8],
+    max_len: usize,
 }
 
-impl<'a> Read for Pieces<'a> {
+impl<'a> Read for ChunkReader<'a> {
     fn read(&mut self, buf: &mut [u8]) -> io::Result<usize> {
-        let given = self.most.min(self.left.len()).min(buf.len());
-        buf[..given].copy_from_slice(&self.left[..given]);
-        self.left = &self.left[given..];
-        Ok(given)
+        let len = self.max_len.min(self.rest.len()).min(buf.len());
+        buf[..len].copy_from_slice(&self.rest[..len]);
+        self.rest = &self.rest[len..];
+        Ok(len)
     }
 }
 
@@ -46,7 +46,7 @@ fn checksum<T: Counter>(counters: &[T]) -> u64 {
     sum
 }
 
-fn tell<T: Counter>(histogram: &Histogram<T>, taken: usize, reading: &mut Reading) {
+fn fill_reading<T: Counter>(histogram: &Histogram<T>, taken: usize, reading: &mut Reading) {
     reading.low = histogram.low();
     reading.high = histogram.high();
     reading.sigfig = u64::from(histogram.sigfig());
@@ -59,7 +59,7 @@ fn tell<T: Counter>(histogram: &Histogram<T>, taken: usize, reading: &mut Readin
 }
 
 /// Returns the number of an error, from 1 on.
-fn fault(error: &DeserializeError) -> u64 {
+fn error_number(error: &DeserializeError) -> u64 {
     match error {
         DeserializeError::IoError(_) => 1,
         DeserializeError::InvalidCookie => 2,
@@ -72,66 +72,74 @@ fn fault(error: &DeserializeError) -> u64 {
     }
 }
 
-fn read_whole<T: Counter>(alloc: Global, text: &[u8], reading: &mut Reading) -> u64 {
-    match Deserializer::new(alloc).decode_slice::<T>(text) {
+fn decode_slice<T: Counter>(alloc: Global, bytes: &[u8], reading: &mut Reading) -> u64 {
+    match Deserializer::new(alloc).decode_slice::<T>(bytes) {
         Ok((histogram, taken)) => {
-            tell(&histogram, taken, reading);
+            fill_reading(&histogram, taken, reading);
             0
         }
-        Err(error) => fault(&error),
+        Err(error) => error_number(&error),
     }
 }
 
-fn read_pieces<T: Counter>(alloc: Global, text: &[u8], most: usize, reading: &mut Reading) -> u64 {
-    let mut pieces = Pieces { left: text, most };
-    match Deserializer::new(alloc).deserialize::<T, Pieces>(&mut pieces) {
+fn decode_reader<T: Counter>(
+    alloc: Global,
+    bytes: &[u8],
+    max_len: usize,
+    reading: &mut Reading,
+) -> u64 {
+    let mut reader = ChunkReader {
+        rest: bytes,
+        max_len,
+    };
+    match Deserializer::new(alloc).deserialize::<T, ChunkReader>(&mut reader) {
         Ok(histogram) => {
-            let taken = text.len().saturating_sub(pieces.left.len());
-            tell(&histogram, taken, reading);
+            let taken = bytes.len().saturating_sub(reader.rest.len());
+            fill_reading(&histogram, taken, reading);
             0
         }
-        Err(error) => fault(&error),
+        Err(error) => error_number(&error),
     }
 }
 
-fn read<T: Counter>(alloc: Global, text: &[u8], most: usize, reading: &mut Reading) -> u64 {
-    if most == 0 {
-        read_whole::<T>(alloc, text, reading)
+fn decode<T: Counter>(alloc: Global, bytes: &[u8], max_len: usize, reading: &mut Reading) -> u64 {
+    if max_len == 0 {
+        decode_slice::<T>(alloc, bytes, reading)
     } else {
-        read_pieces::<T>(alloc, text, most, reading)
+        decode_reader::<T>(alloc, bytes, max_len, reading)
     }
 }
 
-fn written_again(alloc: Global, text: &[u8], out: &mut [u8]) -> Option<usize> {
-    let (histogram, _) = Deserializer::new(alloc).decode_slice::<u64>(text).ok()?;
+fn reencode(alloc: Global, bytes: &[u8], out: &mut [u8]) -> Option<usize> {
+    let (histogram, _) = Deserializer::new(alloc).decode_slice::<u64>(bytes).ok()?;
     let mut serializer = V2Serializer::new(alloc);
     let bytes = serializer.to_bytes(&histogram).ok()?;
     out.get_mut(..bytes.len())?.copy_from_slice(bytes);
     Some(bytes.len())
 }
 
-/// Decodes `text` into counters of 8, 16, 32 or 64 bits: from a slice if `most` is 0, otherwise
-/// from a reader of at most `most` bytes a call. Returns 0 and sets `reading`, or returns the
+/// Decodes `bytes` into counters of 8, 16, 32 or 64 bits: from a slice if `max_len` is 0, otherwise
+/// from a reader of at most `max_len` bytes a call. Returns 0 and sets `reading`, or returns the
 /// number of the error.
 #[unsafe(no_mangle)]
 pub extern "C" fn hdrb_read(
     alloc: Global,
-    text: &[u8],
+    bytes: &[u8],
     bits: u64,
-    most: usize,
+    max_len: usize,
     reading: &mut Reading,
 ) -> u64 {
     match bits {
-        8 => read::<u8>(alloc, text, most, reading),
-        16 => read::<u16>(alloc, text, most, reading),
-        32 => read::<u32>(alloc, text, most, reading),
-        _ => read::<u64>(alloc, text, most, reading),
+        8 => decode::<u8>(alloc, bytes, max_len, reading),
+        16 => decode::<u16>(alloc, bytes, max_len, reading),
+        32 => decode::<u32>(alloc, bytes, max_len, reading),
+        _ => decode::<u64>(alloc, bytes, max_len, reading),
     }
 }
 
-/// Decodes `text` and encodes the result to `out`. Returns the length, or 0 if decoding or encoding
+/// Decodes `bytes` and encodes the result to `out`. Returns the length, or 0 if decoding or encoding
 /// fails or `out` is too short.
 #[unsafe(no_mangle)]
-pub extern "C" fn hdrb_rewrite(alloc: Global, text: &[u8], out: &mut [u8]) -> usize {
-    written_again(alloc, text, out).unwrap_or(0)
+pub extern "C" fn hdrb_rewrite(alloc: Global, bytes: &[u8], out: &mut [u8]) -> usize {
+    reencode(alloc, bytes, out).unwrap_or(0)
 }

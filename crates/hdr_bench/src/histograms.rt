@@ -37,17 +37,17 @@ pub(crate) fn filled_at_each(alloc: Global, seed: u64, every: usize) -> Option<H
     let mut histogram = empty(alloc)?;
     let mut x = seed;
     let mut value = 0;
-    let mut passed: usize = 0;
+    let mut skip: usize = 0;
     for _ in 0..histogram.distinct_values() {
         if value > HIGH {
             break;
         }
-        if passed == 0 {
-            passed = every;
+        if skip == 0 {
+            skip = every;
             x = step(x);
             histogram.record_n(value, (x >> 54).saturating_add(1)).ok()?;
         }
-        passed = passed.saturating_sub(1);
+        skip = skip.saturating_sub(1);
         value = histogram.next_non_equivalent(value);
     }
     Some(histogram)

@@ -14,7 +14,7 @@ use hdrhistogram::{Histogram, Quantile};
 use histograms::{FEW, HIGH, empty, filled, filled_at_each, scattered, sparse, step, value};
 use std::alloc::Global;
 
-fn recorded(alloc: Global, seed: u64, n: u64) -> Option<u64> {
+fn record(alloc: Global, seed: u64, n: u64) -> Option<u64> {
     let mut histogram = empty(alloc)?;
     let mut x = seed;
     for _ in 0..n {
@@ -24,9 +24,9 @@ fn recorded(alloc: Global, seed: u64, n: u64) -> Option<u64> {
     Some(histogram.len().wrapping_add(histogram.max()))
 }
 
-/// Out of line, as `serialized` is, so that the code of other workloads does not move its loop.
+/// Out of line, as `to_bytes` is, so that the code of other workloads does not move its loop.
 #[inline(never)]
-fn corrected(alloc: Global, seed: u64, n: u64, interval: u64) -> Option<u64> {
+fn record_n_correct(alloc: Global, seed: u64, n: u64, interval: u64) -> Option<u64> {
     let mut histogram = empty(alloc)?;
     let mut x = seed;
     for _ in 0..n {
@@ -39,7 +39,7 @@ fn corrected(alloc: Global, seed: u64, n: u64, interval: u64) -> Option<u64> {
     Some(histogram.len().wrapping_add(histogram.max()))
 }
 
-fn ranked(alloc: Global, seed: u64, n: u64, num: u64, den: u64) -> Option<u64> {
+fn value_at_quantile(alloc: Global, seed: u64, n: u64, num: u64, den: u64) -> Option<u64> {
     let histogram = filled(alloc, seed)?;
     let quantile = Quantile::new(num, den)?;
     let mut sum: u64 = 0;
@@ -49,7 +49,7 @@ fn ranked(alloc: Global, seed: u64, n: u64, num: u64, den: u64) -> Option<u64> {
     Some(sum)
 }
 
-fn added(alloc: Global, seed: u64, n: u64) -> Option<u64> {
+fn add(alloc: Global, seed: u64, n: u64) -> Option<u64> {
     let mut sum = filled(alloc, seed)?;
     let source = filled(alloc, step(seed))?;
     for _ in 0..n {
@@ -59,7 +59,7 @@ fn added(alloc: Global, seed: u64, n: u64) -> Option<u64> {
 }
 
 #[inline(never)]
-fn serialized(alloc: Global, seed: u64, n: u64) -> Option<u64> {
+fn to_bytes(alloc: Global, seed: u64, n: u64) -> Option<u64> {
     let histogram = filled(alloc, seed)?;
     let mut serializer = V2Serializer::new(alloc);
     let mut sum: u64 = 0;
@@ -74,12 +74,12 @@ fn serialized(alloc: Global, seed: u64, n: u64) -> Option<u64> {
 }
 
 #[inline(never)]
-fn iterated_recorded(alloc: Global, seed: u64, n: u64) -> Option<u64> {
-    Some(recorded_sum(&filled(alloc, seed)?, n))
+fn iter_recorded(alloc: Global, seed: u64, n: u64) -> Option<u64> {
+    Some(sum_recorded(&filled(alloc, seed)?, n))
 }
 
 #[inline(never)]
-fn iterated_all(alloc: Global, seed: u64, n: u64) -> Option<u64> {
+fn iter_all(alloc: Global, seed: u64, n: u64) -> Option<u64> {
     let histogram = filled(alloc, seed)?;
     let mut sum: u64 = 0;
     for _ in 0..n {
@@ -91,7 +91,7 @@ fn iterated_all(alloc: Global, seed: u64, n: u64) -> Option<u64> {
 }
 
 /// Passes over the nonempty bins: the sum of each value with its counter's bits turned by it.
-fn recorded_sum(histogram: &Histogram<u64>, n: u64) -> u64 {
+fn sum_recorded(histogram: &Histogram<u64>, n: u64) -> u64 {
     let mut sum: u64 = 0;
     for _ in 0..n {
         for item in histogram.iter_recorded() {
@@ -102,17 +102,17 @@ fn recorded_sum(histogram: &Histogram<u64>, n: u64) -> u64 {
 }
 
 #[inline(never)]
-fn iterated_few(alloc: Global, seed: u64, n: u64) -> Option<u64> {
-    Some(recorded_sum(&sparse(alloc, seed)?, n))
+fn iter_recorded_few(alloc: Global, seed: u64, n: u64) -> Option<u64> {
+    Some(sum_recorded(&sparse(alloc, seed)?, n))
 }
 
 #[inline(never)]
-fn iterated_apart(alloc: Global, seed: u64, n: u64) -> Option<u64> {
-    Some(recorded_sum(&scattered(alloc, seed)?, n))
+fn iter_recorded_apart(alloc: Global, seed: u64, n: u64) -> Option<u64> {
+    Some(sum_recorded(&scattered(alloc, seed)?, n))
 }
 
 #[inline(never)]
-fn iterated_linear(alloc: Global, seed: u64, n: u64, width: u64) -> Option<u64> {
+fn iter_linear(alloc: Global, seed: u64, n: u64, width: u64) -> Option<u64> {
     let histogram = filled(alloc, seed)?;
     if width == 0 {
         return None;
@@ -127,7 +127,7 @@ fn iterated_linear(alloc: Global, seed: u64, n: u64, width: u64) -> Option<u64> 
 }
 
 #[inline(never)]
-fn iterated_log(alloc: Global, seed: u64, n: u64) -> Option<u64> {
+fn iter_log(alloc: Global, seed: u64, n: u64) -> Option<u64> {
     let histogram = filled(alloc, seed)?;
     let mut sum: u64 = 0;
     for _ in 0..n {
@@ -139,7 +139,7 @@ fn iterated_log(alloc: Global, seed: u64, n: u64) -> Option<u64> {
 }
 
 #[inline(never)]
-fn iterated_quantiles(alloc: Global, seed: u64, n: u64) -> Option<u64> {
+fn iter_quantiles(alloc: Global, seed: u64, n: u64) -> Option<u64> {
     let histogram = filled(alloc, seed)?;
     let mut sum: u64 = 0;
     for _ in 0..n {
@@ -160,7 +160,7 @@ fn twentieths(alloc: Global) -> Option<Vec<Quantile>> {
 }
 
 #[inline(never)]
-fn ranked_in_one_pass(alloc: Global, seed: u64, n: u64) -> Option<u64> {
+fn value_at_quantiles(alloc: Global, seed: u64, n: u64) -> Option<u64> {
     let histogram = filled(alloc, seed)?;
     let quantiles = twentieths(alloc)?;
     let mut sum: u64 = 0;
@@ -173,33 +173,33 @@ fn ranked_in_one_pass(alloc: Global, seed: u64, n: u64) -> Option<u64> {
 }
 
 #[inline(never)]
-fn counted_below(alloc: Global, seed: u64, n: u64) -> Option<u64> {
+fn quantile_below(alloc: Global, seed: u64, n: u64) -> Option<u64> {
     let histogram = filled(alloc, seed)?;
     let mut x = seed;
     let mut sum: u64 = 0;
     for _ in 0..n {
         x = step(x);
-        let share = histogram.quantile_below(HIGH >> (x & 31));
-        sum = sum.wrapping_add(share.num as u64);
+        let quantile = histogram.quantile_below(HIGH >> (x & 31));
+        sum = sum.wrapping_add(quantile.num as u64);
     }
     Some(sum)
 }
 
 #[inline(never)]
-fn counted_below_median(alloc: Global, seed: u64, n: u64) -> Option<u64> {
+fn quantile_below_median(alloc: Global, seed: u64, n: u64) -> Option<u64> {
     let histogram = filled(alloc, seed)?;
     let median = histogram.value_at_quantile(Quantile::new(1, 2)?);
     let mut x = seed;
     let mut sum: u64 = 0;
     for _ in 0..n {
         x = step(x);
-        let share = histogram.quantile_below(median.saturating_add(x & 1023));
-        sum = sum.wrapping_add(share.num as u64);
+        let quantile = histogram.quantile_below(median.saturating_add(x & 1023));
+        sum = sum.wrapping_add(quantile.num as u64);
     }
     Some(sum)
 }
 
-fn decoded(alloc: Global, seed: u64, n: u64, every: usize) -> Option<u64> {
+fn decode_slice(alloc: Global, seed: u64, n: u64, every: usize) -> Option<u64> {
     let histogram = filled_at_each(alloc, seed, every)?;
     let mut serializer = V2Serializer::new(alloc);
     let bytes = serializer.to_bytes(&histogram).ok()?;
@@ -227,101 +227,101 @@ pub extern "C" fn hdrb_generate(seed: u64, n: u64) -> u64 {
 /// `record`: the length and the greatest value.
 #[unsafe(no_mangle)]
 pub extern "C" fn hdrb_record(alloc: Global, seed: u64, n: u64) -> u64 {
-    recorded(alloc, seed, n).unwrap_or(0)
+    record(alloc, seed, n).unwrap_or(0)
 }
 
 /// `record_n_correct` of late values by an interval: the length and the greatest value.
 #[unsafe(no_mangle)]
 pub extern "C" fn hdrb_correct(alloc: Global, seed: u64, n: u64, interval: u64) -> u64 {
-    corrected(alloc, seed, n, interval).unwrap_or(0)
+    record_n_correct(alloc, seed, n, interval).unwrap_or(0)
 }
 
 /// `value_at_quantile` of num/den: the sum of the results.
 #[unsafe(no_mangle)]
 pub extern "C" fn hdrb_quantile(alloc: Global, seed: u64, n: u64, num: u64, den: u64) -> u64 {
-    ranked(alloc, seed, n, num, den).unwrap_or(0)
+    value_at_quantile(alloc, seed, n, num, den).unwrap_or(0)
 }
 
 /// `add` of one histogram to another of its shape: the length.
 #[unsafe(no_mangle)]
 pub extern "C" fn hdrb_add(alloc: Global, seed: u64, n: u64) -> u64 {
-    added(alloc, seed, n).unwrap_or(0)
+    add(alloc, seed, n).unwrap_or(0)
 }
 
 /// `to_bytes`: the sum of each output's length and last byte.
 #[unsafe(no_mangle)]
 pub extern "C" fn hdrb_serialize(alloc: Global, seed: u64, n: u64) -> u64 {
-    serialized(alloc, seed, n).unwrap_or(0)
+    to_bytes(alloc, seed, n).unwrap_or(0)
 }
 
 /// Passes of `iter_recorded`: the sum of each value with its counter's bits turned by it.
 #[unsafe(no_mangle)]
 pub extern "C" fn hdrb_iter_recorded(alloc: Global, seed: u64, n: u64) -> u64 {
-    iterated_recorded(alloc, seed, n).unwrap_or(0)
+    iter_recorded(alloc, seed, n).unwrap_or(0)
 }
 
 /// Passes of `iter_all`, likewise.
 #[unsafe(no_mangle)]
 pub extern "C" fn hdrb_iter_all(alloc: Global, seed: u64, n: u64) -> u64 {
-    iterated_all(alloc, seed, n).unwrap_or(0)
+    iter_all(alloc, seed, n).unwrap_or(0)
 }
 
 /// Passes of `iter_recorded` over 100 filled bins, 99 of them in a row.
 #[unsafe(no_mangle)]
 pub extern "C" fn hdrb_iter_recorded_few(alloc: Global, seed: u64, n: u64) -> u64 {
-    iterated_few(alloc, seed, n).unwrap_or(0)
+    iter_recorded_few(alloc, seed, n).unwrap_or(0)
 }
 
 /// Passes of `iter_recorded` over 100 filled bins that lie apart.
 #[unsafe(no_mangle)]
 pub extern "C" fn hdrb_iter_recorded_apart(alloc: Global, seed: u64, n: u64) -> u64 {
-    iterated_apart(alloc, seed, n).unwrap_or(0)
+    iter_recorded_apart(alloc, seed, n).unwrap_or(0)
 }
 
 /// Passes of `iter_linear` by a step: the sum of each level with the bits of its count turned by it.
 #[unsafe(no_mangle)]
 pub extern "C" fn hdrb_iter_linear(alloc: Global, seed: u64, n: u64, width: u64) -> u64 {
-    iterated_linear(alloc, seed, n, width).unwrap_or(0)
+    iter_linear(alloc, seed, n, width).unwrap_or(0)
 }
 
 /// Passes of `iter_log` from 1 by 2, likewise.
 #[unsafe(no_mangle)]
 pub extern "C" fn hdrb_iter_log(alloc: Global, seed: u64, n: u64) -> u64 {
-    iterated_log(alloc, seed, n).unwrap_or(0)
+    iter_log(alloc, seed, n).unwrap_or(0)
 }
 
 /// Passes of `iter_quantiles` by 5 ticks, likewise.
 #[unsafe(no_mangle)]
 pub extern "C" fn hdrb_iter_quantiles(alloc: Global, seed: u64, n: u64) -> u64 {
-    iterated_quantiles(alloc, seed, n).unwrap_or(0)
+    iter_quantiles(alloc, seed, n).unwrap_or(0)
 }
 
 /// `value_at_quantiles` of twenty quantiles: the sum of the results.
 #[unsafe(no_mangle)]
 pub extern "C" fn hdrb_values(alloc: Global, seed: u64, n: u64) -> u64 {
-    ranked_in_one_pass(alloc, seed, n).unwrap_or(0)
+    value_at_quantiles(alloc, seed, n).unwrap_or(0)
 }
 
 /// `quantile_below` of the highest value and its halves: the sum of the counts.
 #[unsafe(no_mangle)]
 pub extern "C" fn hdrb_quantile_below(alloc: Global, seed: u64, n: u64) -> u64 {
-    counted_below(alloc, seed, n).unwrap_or(0)
+    quantile_below(alloc, seed, n).unwrap_or(0)
 }
 
 /// `quantile_below` of values from the median on, likewise.
 #[unsafe(no_mangle)]
 pub extern "C" fn hdrb_quantile_below_median(alloc: Global, seed: u64, n: u64) -> u64 {
-    counted_below_median(alloc, seed, n).unwrap_or(0)
+    quantile_below_median(alloc, seed, n).unwrap_or(0)
 }
 
 /// `decode_slice` of the bytes of a histogram with each class filled: the sum of the lengths.
 #[unsafe(no_mangle)]
 pub extern "C" fn hdrb_decode(alloc: Global, seed: u64, n: u64) -> u64 {
-    decoded(alloc, seed, n, 1).unwrap_or(0)
+    decode_slice(alloc, seed, n, 1).unwrap_or(0)
 }
 
 /// `decode_slice` of the bytes of a histogram with 100 filled classes, likewise.
 #[unsafe(no_mangle)]
 pub extern "C" fn hdrb_decode_few(alloc: Global, seed: u64, n: u64) -> u64 {
-    decoded(alloc, seed, n, FEW).unwrap_or(0)
+    decode_slice(alloc, seed, n, FEW).unwrap_or(0)
 }

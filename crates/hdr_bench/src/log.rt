@@ -37,7 +37,7 @@ fn push_line(
 }
 
 #[inline(never)]
-fn logged(alloc: Global, seed: u64, n: u64) -> Option<u64> {
+fn write_histogram(alloc: Global, seed: u64, n: u64) -> Option<u64> {
     let histogram = interval(alloc, seed)?;
     let mut serializer = V2Serializer::new(alloc);
     let mut text: Vec<u8> = Vec::new(alloc);
@@ -51,7 +51,7 @@ fn logged(alloc: Global, seed: u64, n: u64) -> Option<u64> {
 }
 
 /// The log that is read. Its lines have one length.
-fn log_text(alloc: Global, seed: u64) -> Option<Vec<u8>> {
+fn create_log(alloc: Global, seed: u64) -> Option<Vec<u8>> {
     let histogram = interval(alloc, seed)?;
     let mut serializer = V2Serializer::new(alloc);
     let mut text: Vec<u8> = Vec::new(alloc);
@@ -61,9 +61,8 @@ fn log_text(alloc: Global, seed: u64) -> Option<Vec<u8>> {
     Some(text)
 }
 
-/// Returns the sum of what is read of a log: the lengths of the fields and the milliseconds of the
-/// starts.
-fn told(log: &[u8]) -> u64 {
+/// Reads a log, and returns the sum of the lengths of its fields and the milliseconds of its starts.
+fn read_entries(log: &[u8]) -> u64 {
     let mut sum: u64 = 0;
     for entry in IntervalLogIterator::new(log) {
         if let Ok(LogEntry::Interval(interval)) = entry {
@@ -77,10 +76,10 @@ fn told(log: &[u8]) -> u64 {
 
 #[inline(never)]
 fn log_read(alloc: Global, seed: u64, n: u64) -> Option<u64> {
-    let text = log_text(alloc, seed)?;
+    let text = create_log(alloc, seed)?;
     let mut sum: u64 = 0;
     for _ in 0..n {
-        sum = sum.wrapping_add(told(&text));
+        sum = sum.wrapping_add(read_entries(&text));
     }
     Some(sum)
 }
@@ -88,15 +87,15 @@ fn log_read(alloc: Global, seed: u64, n: u64) -> Option<u64> {
 /// Which of the two passes are run on a line.
 #[derive(Clone, Copy)]
 struct Passes {
-    /// The search of the line's end.
+    /// The search for the line's end.
     ends: bool,
     /// The test that the field is UTF-8.
     texts: bool,
 }
 
-/// Returns the sum of `told` from these passes alone: where a field starts, and how long a line is,
-/// is known.
-fn passed(log: &[u8], front: usize, length: usize, passes: &Passes) -> Option<u64> {
+/// Returns the sum of `read_entries` by these passes alone, with the start of the field in a line and the length of a line
+/// known.
+fn run_passes(log: &[u8], field_start: usize, length: usize, passes: &Passes) -> Option<u64> {
     let mut sum: u64 = 0;
     let mut rest = log;
     for start in 0..100u64 {
@@ -105,7 +104,7 @@ fn passed(log: &[u8], front: usize, length: usize, passes: &Passes) -> Option<u6
         } else {
             length
         };
-        let field = rest.get(front..end)?;
+        let field = rest.get(field_start..end)?;
         let field = if passes.texts {
             from_utf8(field).ok()?.len()
         } else {
@@ -120,16 +119,16 @@ fn passed(log: &[u8], front: usize, length: usize, passes: &Passes) -> Option<u6
 /// The passes alone over the log that `log_read` reads.
 #[inline(never)]
 fn log_passes(alloc: Global, seed: u64, n: u64, passes: &Passes) -> Option<u64> {
-    let text = log_text(alloc, seed)?;
+    let text = create_log(alloc, seed)?;
     let length = memchr(b'\n', &text)?;
-    let mut front: usize = 0;
+    let mut field_start: usize = 0;
     for _ in 0..3 {
-        let comma = memchr(b',', text.get(front..)?)?;
-        front = front.saturating_add(comma).saturating_add(1);
+        let comma = memchr(b',', text.get(field_start..)?)?;
+        field_start = field_start.saturating_add(comma).saturating_add(1);
     }
     let mut sum: u64 = 0;
     for _ in 0..n {
-        sum = sum.wrapping_add(passed(&text, front, length, passes)?);
+        sum = sum.wrapping_add(run_passes(&text, field_start, length, passes)?);
     }
     Some(sum)
 }
@@ -137,7 +136,7 @@ fn log_passes(alloc: Global, seed: u64, n: u64, passes: &Passes) -> Option<u64> 
 /// `write_histogram` of an interval with 2,000 filled bins: the sum of the lines' lengths.
 #[unsafe(no_mangle)]
 pub extern "C" fn hdrb_log_line(alloc: Global, seed: u64, n: u64) -> u64 {
-    logged(alloc, seed, n).unwrap_or(0)
+    write_histogram(alloc, seed, n).unwrap_or(0)
 }
 
 /// Passes over a log of 100 such intervals: the sum of the lengths of their fields and of their starts.
@@ -146,7 +145,7 @@ pub extern "C" fn hdrb_log_read(alloc: Global, seed: u64, n: u64) -> u64 {
     log_read(alloc, seed, n).unwrap_or(0)
 }
 
-/// The search of the lines' ends alone, over the log of `hdrb_log_read`, with the same sum.
+/// The search for the lines' ends alone, over the log of `hdrb_log_read`, with the same sum.
 #[unsafe(no_mangle)]
 pub extern "C" fn hdrb_log_ends(alloc: Global, seed: u64, n: u64) -> u64 {
     let passes = Passes {
@@ -166,7 +165,7 @@ pub extern "C" fn hdrb_log_texts(alloc: Global, seed: u64, n: u64) -> u64 {
     log_passes(alloc, seed, n, &passes).unwrap_or(0)
 }
 
-/// Both passes alone, over the log of `hdrb_log_read`, with the same sum: no reader that makes them takes less.
+/// Both passes alone, over the log of `hdrb_log_read`, with the same sum: a lower bound for any reader.
 #[unsafe(no_mangle)]
 pub extern "C" fn hdrb_log_floor(alloc: Global, seed: u64, n: u64) -> u64 {
     let passes = Passes {

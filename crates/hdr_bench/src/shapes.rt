@@ -4,7 +4,7 @@ use hdrhistogram::serialization::{Deserializer, V2Serializer};
 use hdrhistogram::{Histogram, Quantile};
 use std::alloc::Global;
 
-/// The interval of a correction, the step of linear levels and a value in the middle, in microseconds.
+/// The interval of corrections, the step of linear levels, and a value in the middle, in microseconds.
 const MIDDLE: u64 = 1000;
 
 /// The samples, and the histogram that counts them: of values up to `high`, or one that grows if
@@ -34,7 +34,7 @@ impl<'a> Shape<'a> {
     }
 }
 
-fn recorded(shape: &Shape<'_>, n: u64) -> Option<u64> {
+fn record(shape: &Shape<'_>, n: u64) -> Option<u64> {
     let mut histogram = shape.filled()?;
     for _ in 0..n {
         for sample in shape.samples {
@@ -44,7 +44,7 @@ fn recorded(shape: &Shape<'_>, n: u64) -> Option<u64> {
     Some(histogram.len())
 }
 
-fn clamped(shape: &Shape<'_>, n: u64) -> Option<u64> {
+fn saturating_record(shape: &Shape<'_>, n: u64) -> Option<u64> {
     let mut histogram = shape.filled()?;
     for _ in 0..n {
         for sample in shape.samples {
@@ -54,7 +54,7 @@ fn clamped(shape: &Shape<'_>, n: u64) -> Option<u64> {
     Some(histogram.len())
 }
 
-fn corrected(shape: &Shape<'_>, n: u64) -> Option<u64> {
+fn record_correct(shape: &Shape<'_>, n: u64) -> Option<u64> {
     let mut histogram = shape.filled()?;
     for _ in 0..n {
         for sample in shape.samples {
@@ -77,7 +77,7 @@ fn reset(shape: &Shape<'_>, n: u64) -> Option<u64> {
     Some(sum)
 }
 
-fn ranked(shape: &Shape<'_>, n: u64, num: u64) -> Option<u64> {
+fn value_at_quantile(shape: &Shape<'_>, n: u64, num: u64) -> Option<u64> {
     let histogram = shape.filled()?;
     let quantile = Quantile::new(num, 100)?;
     let mut sum: u64 = 0;
@@ -87,7 +87,7 @@ fn ranked(shape: &Shape<'_>, n: u64, num: u64) -> Option<u64> {
     Some(sum)
 }
 
-fn ranked_in_one_pass(shape: &Shape<'_>, n: u64) -> Option<u64> {
+fn value_at_quantiles(shape: &Shape<'_>, n: u64) -> Option<u64> {
     let histogram = shape.filled()?;
     let mut quantiles = Vec::new(shape.alloc);
     for num in 1..21 {
@@ -102,7 +102,7 @@ fn ranked_in_one_pass(shape: &Shape<'_>, n: u64) -> Option<u64> {
     Some(sum)
 }
 
-fn counted_below(shape: &Shape<'_>, n: u64) -> Option<u64> {
+fn quantile_below(shape: &Shape<'_>, n: u64) -> Option<u64> {
     let histogram = shape.filled()?;
     let mut sum: u64 = 0;
     for _ in 0..n {
@@ -111,7 +111,7 @@ fn counted_below(shape: &Shape<'_>, n: u64) -> Option<u64> {
     Some(sum)
 }
 
-fn counted_between(shape: &Shape<'_>, n: u64) -> Option<u64> {
+fn count_between(shape: &Shape<'_>, n: u64) -> Option<u64> {
     let histogram = shape.filled()?;
     let mut sum: u64 = 0;
     for _ in 0..n {
@@ -120,7 +120,7 @@ fn counted_between(shape: &Shape<'_>, n: u64) -> Option<u64> {
     Some(sum)
 }
 
-fn averaged(shape: &Shape<'_>, n: u64) -> Option<u64> {
+fn mean(shape: &Shape<'_>, n: u64) -> Option<u64> {
     let histogram = shape.filled()?;
     let mut sum: u64 = 0;
     for _ in 0..n {
@@ -129,7 +129,7 @@ fn averaged(shape: &Shape<'_>, n: u64) -> Option<u64> {
     Some(sum)
 }
 
-fn cloned(shape: &Shape<'_>, n: u64) -> Option<u64> {
+fn clone(shape: &Shape<'_>, n: u64) -> Option<u64> {
     let histogram = shape.filled()?;
     let mut sum: u64 = 0;
     for _ in 0..n {
@@ -138,7 +138,7 @@ fn cloned(shape: &Shape<'_>, n: u64) -> Option<u64> {
     Some(sum)
 }
 
-fn clone_corrected(shape: &Shape<'_>, n: u64) -> Option<u64> {
+fn clone_correct(shape: &Shape<'_>, n: u64) -> Option<u64> {
     let histogram = shape.filled()?;
     let mut sum: u64 = 0;
     for _ in 0..n {
@@ -147,7 +147,7 @@ fn clone_corrected(shape: &Shape<'_>, n: u64) -> Option<u64> {
     Some(sum)
 }
 
-fn compared(shape: &Shape<'_>, n: u64) -> Option<u64> {
+fn compare(shape: &Shape<'_>, n: u64) -> Option<u64> {
     let histogram = shape.filled()?;
     let other = shape.filled()?;
     let mut sum: u64 = 0;
@@ -157,7 +157,7 @@ fn compared(shape: &Shape<'_>, n: u64) -> Option<u64> {
     Some(sum)
 }
 
-fn added(shape: &Shape<'_>, n: u64) -> Option<u64> {
+fn add(shape: &Shape<'_>, n: u64) -> Option<u64> {
     let source = shape.filled()?;
     let mut histogram = shape.filled()?;
     for _ in 0..n {
@@ -166,8 +166,8 @@ fn added(shape: &Shape<'_>, n: u64) -> Option<u64> {
     Some(histogram.len())
 }
 
-/// To a histogram of more bins.
-fn added_to_wider(shape: &Shape<'_>, n: u64) -> Option<u64> {
+/// Adds to a histogram of more bins.
+fn add_to_wider(shape: &Shape<'_>, n: u64) -> Option<u64> {
     let source = shape.filled()?;
     let mut histogram: Histogram<u64> = Histogram::new_with_max(
         shape.alloc,
@@ -180,8 +180,8 @@ fn added_to_wider(shape: &Shape<'_>, n: u64) -> Option<u64> {
     Some(histogram.len())
 }
 
-/// To a histogram of fewer digits.
-fn added_to_coarser(shape: &Shape<'_>, n: u64) -> Option<u64> {
+/// Adds to a histogram of fewer digits.
+fn add_to_coarser(shape: &Shape<'_>, n: u64) -> Option<u64> {
     let source = shape.filled()?;
     let mut histogram: Histogram<u64> = Histogram::new_with_max(
         shape.alloc,
@@ -194,8 +194,8 @@ fn added_to_coarser(shape: &Shape<'_>, n: u64) -> Option<u64> {
     Some(histogram.len())
 }
 
-/// Each addition undone.
-fn subtracted(shape: &Shape<'_>, n: u64) -> Option<u64> {
+/// Adds, and subtracts the same.
+fn subtract(shape: &Shape<'_>, n: u64) -> Option<u64> {
     let source = shape.filled()?;
     let mut histogram = shape.filled()?;
     for _ in 0..n {
@@ -205,7 +205,7 @@ fn subtracted(shape: &Shape<'_>, n: u64) -> Option<u64> {
     Some(histogram.len())
 }
 
-fn written(shape: &Shape<'_>, n: u64) -> Option<u64> {
+fn to_bytes(shape: &Shape<'_>, n: u64) -> Option<u64> {
     let histogram = shape.filled()?;
     let mut serializer = V2Serializer::new(shape.alloc);
     let mut sum: u64 = 0;
@@ -215,7 +215,7 @@ fn written(shape: &Shape<'_>, n: u64) -> Option<u64> {
     Some(sum)
 }
 
-fn read(shape: &Shape<'_>, n: u64) -> Option<u64> {
+fn decode_slice(shape: &Shape<'_>, n: u64) -> Option<u64> {
     let histogram = shape.filled()?;
     let mut serializer = V2Serializer::new(shape.alloc);
     let bytes = serializer.to_bytes(&histogram).ok()?;
@@ -228,7 +228,7 @@ fn read(shape: &Shape<'_>, n: u64) -> Option<u64> {
     Some(sum)
 }
 
-fn made(shape: &Shape<'_>, n: u64) -> Option<u64> {
+fn new_with_max(shape: &Shape<'_>, n: u64) -> Option<u64> {
     let mut sum: u64 = 0;
     for _ in 0..n {
         sum = sum.wrapping_add(shape.empty()?.distinct_values() as u64);
@@ -236,7 +236,7 @@ fn made(shape: &Shape<'_>, n: u64) -> Option<u64> {
     Some(sum)
 }
 
-fn iterated_all(shape: &Shape<'_>, n: u64) -> Option<u64> {
+fn iter_all(shape: &Shape<'_>, n: u64) -> Option<u64> {
     let histogram = shape.filled()?;
     let mut sum: u64 = 0;
     for _ in 0..n {
@@ -247,7 +247,7 @@ fn iterated_all(shape: &Shape<'_>, n: u64) -> Option<u64> {
     Some(sum)
 }
 
-fn iterated_recorded(shape: &Shape<'_>, n: u64) -> Option<u64> {
+fn iter_recorded(shape: &Shape<'_>, n: u64) -> Option<u64> {
     let histogram = shape.filled()?;
     let mut sum: u64 = 0;
     for _ in 0..n {
@@ -258,7 +258,7 @@ fn iterated_recorded(shape: &Shape<'_>, n: u64) -> Option<u64> {
     Some(sum)
 }
 
-fn iterated_linear(shape: &Shape<'_>, n: u64) -> Option<u64> {
+fn iter_linear(shape: &Shape<'_>, n: u64) -> Option<u64> {
     let histogram = shape.filled()?;
     let mut sum: u64 = 0;
     for _ in 0..n {
@@ -269,7 +269,7 @@ fn iterated_linear(shape: &Shape<'_>, n: u64) -> Option<u64> {
     Some(sum)
 }
 
-fn iterated_log(shape: &Shape<'_>, n: u64) -> Option<u64> {
+fn iter_log(shape: &Shape<'_>, n: u64) -> Option<u64> {
     let histogram = shape.filled()?;
     let mut sum: u64 = 0;
     for _ in 0..n {
@@ -280,7 +280,7 @@ fn iterated_log(shape: &Shape<'_>, n: u64) -> Option<u64> {
     Some(sum)
 }
 
-fn iterated_quantiles(shape: &Shape<'_>, n: u64) -> Option<u64> {
+fn iter_quantiles(shape: &Shape<'_>, n: u64) -> Option<u64> {
     let histogram = shape.filled()?;
     let mut sum: u64 = 0;
     for _ in 0..n {
@@ -291,33 +291,33 @@ fn iterated_quantiles(shape: &Shape<'_>, n: u64) -> Option<u64> {
     Some(sum)
 }
 
-fn worked(shape: &Shape<'_>, operation: u64, n: u64) -> Option<u64> {
+fn run(shape: &Shape<'_>, operation: u64, n: u64) -> Option<u64> {
     match operation {
-        0 => recorded(shape, n),
-        1 => clamped(shape, n),
-        2 => corrected(shape, n),
+        0 => record(shape, n),
+        1 => saturating_record(shape, n),
+        2 => record_correct(shape, n),
         3 => reset(shape, n),
-        4 => ranked(shape, n, 50),
-        5 => ranked(shape, n, 99),
-        6 => ranked_in_one_pass(shape, n),
-        7 => counted_below(shape, n),
-        8 => counted_between(shape, n),
-        9 => averaged(shape, n),
-        10 => cloned(shape, n),
-        11 => clone_corrected(shape, n),
-        12 => compared(shape, n),
-        13 => added(shape, n),
-        14 => added_to_wider(shape, n),
-        15 => added_to_coarser(shape, n),
-        16 => subtracted(shape, n),
-        17 => written(shape, n),
-        18 => read(shape, n),
-        19 => made(shape, n),
-        20 => iterated_all(shape, n),
-        21 => iterated_recorded(shape, n),
-        22 => iterated_linear(shape, n),
-        23 => iterated_log(shape, n),
-        24 => iterated_quantiles(shape, n),
+        4 => value_at_quantile(shape, n, 50),
+        5 => value_at_quantile(shape, n, 99),
+        6 => value_at_quantiles(shape, n),
+        7 => quantile_below(shape, n),
+        8 => count_between(shape, n),
+        9 => mean(shape, n),
+        10 => clone(shape, n),
+        11 => clone_correct(shape, n),
+        12 => compare(shape, n),
+        13 => add(shape, n),
+        14 => add_to_wider(shape, n),
+        15 => add_to_coarser(shape, n),
+        16 => subtract(shape, n),
+        17 => to_bytes(shape, n),
+        18 => decode_slice(shape, n),
+        19 => new_with_max(shape, n),
+        20 => iter_all(shape, n),
+        21 => iter_recorded(shape, n),
+        22 => iter_linear(shape, n),
+        23 => iter_log(shape, n),
+        24 => iter_quantiles(shape, n),
         _ => None,
     }
 }
@@ -339,5 +339,5 @@ pub extern "C" fn hdrb_shape(
         high,
         samples,
     };
-    worked(&shape, operation, n).unwrap_or(0)
+    run(&shape, operation, n).unwrap_or(0)
 }

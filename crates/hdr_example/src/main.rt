@@ -14,7 +14,7 @@ use hdrhistogram::{Histogram, Quantile};
 use std::alloc::Global;
 use std::time::Duration;
 
-/// The time between two requests that the client meant to keep, in microseconds.
+/// The expected interval between two requests, in microseconds.
 const INTERVAL: u64 = 10_000;
 
 /// The latency that 99 of 100 samples do not exceed: the top of the class of the sample of that rank.
@@ -26,7 +26,7 @@ fn p99(histogram: &Histogram<u64>) -> Option<u64>
     Some(histogram.value_at_quantile(quantile))
 }
 
-/// Records latencies, and the samples that each long one kept the client from sending.
+/// Records latencies with correction for coordinated omission.
 fn record_all(histogram: &mut Histogram<u64>, latencies: &[u64]) -> Result<()> {
     for latency in latencies {
         histogram.record_correct(*latency, INTERVAL)?;
@@ -51,15 +51,15 @@ fn main(rt: HostRuntime) -> Result<()> {
     let mut log = Vec::new(alloc);
     write_interval(alloc, &histogram, &mut log)?;
 
-    let every = IntervalFilter {
+    let filter = IntervalFilter {
         tag: None,
         from: None,
         to: None,
     };
-    let read = merge_log::<u64>(alloc, log.as_slice(), &every, 3)?;
-    println!(rt; "intervals {}", read.chosen)?;
-    println!(rt; "samples {}", read.histogram.len())?;
-    if let Some(value) = p99(&read.histogram) {
+    let merged = merge_log::<u64>(alloc, log.as_slice(), &filter, 3)?;
+    println!(rt; "intervals {}", merged.chosen)?;
+    println!(rt; "samples {}", merged.histogram.len())?;
+    if let Some(value) = p99(&merged.histogram) {
         println!(rt; "99/100 {value}")?;
     }
     Ok(())

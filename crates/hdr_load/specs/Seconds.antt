@@ -21,8 +21,8 @@ abbrev pub recorded_in : Second → ℕ → Plain
 recorded_in s number = if s.number == number then s.histogram else after_reset s.histogram
 
 -- a response is recorded in its second, with correction
-abbrev pub after_answer : Second → ℕ → ℕ → ℕ → Second
-after_answer s number response interval =
+abbrev pub after_response : Second → ℕ → ℕ → ℕ → Second
+after_response s number response interval =
     record { number = number; histogram = after_correct (2 ^ 64 - 1) (recorded_in s number) response 1 interval }
 
 -- a second with samples is written as an interval of one second, with the greatest value divided by 1,000

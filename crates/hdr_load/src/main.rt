@@ -19,7 +19,7 @@ use anyhow::{Context, Result, bail};
 use client::Client;
 use hdrhistogram::serialization::V2Serializer;
 use hdrhistogram::serialization::interval_log::{IntervalLogWriter, IntervalLogWriterBuilder};
-use second::{PER_MILLISECOND, Second, answered, write_second};
+use second::{PER_MILLISECOND, Second, record_response, write_second};
 use std::alloc::Global;
 use std::env;
 use std::io::{BufRead, BufReader, ErrorKind, Write};
@@ -35,16 +35,16 @@ struct Plan {
 }
 
 /// Returns the arguments after the program's name, or `None` if one of them is not UTF-8.
-fn words_given(rt: &HostRuntime) -> Result<Option<Vec<String>>> {
+fn arguments(rt: &HostRuntime) -> Result<Option<Vec<String>>> {
     match env::args(rt) {
-        Ok(words) => Ok(Some(words.skip(1).collect(rt.alloc())?)),
+        Ok(args) => Ok(Some(args.skip(1).collect(rt.alloc())?)),
         Err(e) if e.kind() == ErrorKind::OutOfMemory => Err(e.into()),
         Err(_) => Ok(None),
     }
 }
 
 /// Parses decimal digits. Returns `None` without digits, for any other byte, and on overflow.
-fn number(text: &str) -> Option<u64> {
+fn parse_u64(text: &str) -> Option<u64> {
     if text.bytes().all(|b| b.is_ascii_digit()) {
         text.parse().ok()
     } else {
@@ -53,12 +53,12 @@ fn number(text: &str) -> Option<u64> {
 }
 
 /// Parses the arguments `INTERVAL SIGFIG`.
-fn plan_of(words: &[String]) -> Option<Plan> {
-    let [interval, sigfig] = words else {
+fn parse_plan(args: &[String]) -> Option<Plan> {
+    let [interval, sigfig] = args else {
         return None;
     };
-    let interval = number(interval.as_str())?;
-    let sigfig = number(sigfig.as_str())?;
+    let interval = parse_u64(interval.as_str())?;
+    let sigfig = parse_u64(sigfig.as_str())?;
     if interval == 0 || sigfig > 5 {
         return None;
     }
@@ -83,7 +83,7 @@ fn begin<'a, 'b, W: Write>(
 }
 
 /// Sends the request whose service time is on `line`, and records it.
-fn do_line<W: Write>(
+fn send_line<W: Write>(
     line: &str,
     client: &mut Client,
     second: &mut Second,
@@ -92,13 +92,13 @@ fn do_line<W: Write>(
     requires { divisor_of log.old ≡ 1_000 }
     ensures { IsSameLog log.old log.new }
 {
-    let Some(service) = number(line) else {
+    let Some(service) = parse_u64(line) else {
         bail!("not a number");
     };
     let Some(end) = client.send(service) else {
         bail!("the run is longer than 64 bits of microseconds");
     };
-    answered(second, log, end, service, client.interval())
+    record_response(second, log, end, service, client.interval())
 }
 
 /// Sends the requests of standard input, and writes the log.
@@ -109,12 +109,12 @@ fn load(rt: &HostRuntime, plan: Plan) -> Result<()> {
     let mut log = begin(alloc, &mut output, &mut serializer)?;
     let mut client = Client::new(plan.interval);
     let mut second = Second::new(alloc, plan.sigfig)?;
-    let mut place = 0u64;
+    let mut number = 0u64;
     for line in BufReader::new(alloc, rt.stdin())?.lines(alloc) {
         let line = line?;
-        place = place.saturating_add(1);
-        do_line(line.as_str(), &mut client, &mut second, &mut log).context(format_args!(
-            "line {place}"
+        number = number.saturating_add(1);
+        send_line(line.as_str(), &mut client, &mut second, &mut log).context(format_args!(
+            "line {number}"
         ))?;
     }
     write_second(&mut second, &mut log)
@@ -122,9 +122,9 @@ fn load(rt: &HostRuntime, plan: Plan) -> Result<()> {
 
 /// Runs the program on its arguments, and returns the exit status.
 fn hdr_load(rt: &HostRuntime) -> Result<ExitCode> {
-    let words = words_given(rt)?;
-    let plan = match &words {
-        Some(words) => plan_of(words),
+    let args = arguments(rt)?;
+    let plan = match &args {
+        Some(args) => parse_plan(args),
         None => None,
     };
     let Some(plan) = plan else {
@@ -138,8 +138,8 @@ fn hdr_load(rt: &HostRuntime) -> Result<ExitCode> {
 fn main(rt: HostRuntime) -> ExitCode {
     match hdr_load(&rt) {
         Ok(status) => status,
-        Err(fault) => {
-            let _ = eprintln!(rt; "hdr_load: {fault:#}");
+        Err(error) => {
+            let _ = eprintln!(rt; "hdr_load: {error:#}");
             ExitCode::FAILURE
         }
     }

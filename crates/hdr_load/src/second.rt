@@ -3,7 +3,7 @@
 ghost use Rattle.std.specs.Prelude.{◌≡◌, ◌/◌, ℕ, List, OnOk, IfOk};
 ghost use Rattle.std.specs.Io.KnownBytes.{Appends};
 ghost use Rattle.hdrhistogram.specs.LogWriters.{sink, divisor_of, IsSameLog};
-ghost use Rattle.hdr_load.specs.Seconds.{new_second, after_answer, after_second, IsIntervalOf, IsWrittenBefore};
+ghost use Rattle.hdr_load.specs.Seconds.{new_second, after_response, after_second, IsIntervalOf, IsWrittenBefore};
 
 use anyhow::Result;
 use hdrhistogram::serialization::V2Serializer;
@@ -40,7 +40,7 @@ impl Second {
 
 /// Records the response time of a request that ended at `end`, in the second of `end`. The samples of an earlier second are
 /// written first. Times are in microseconds.
-pub(crate) fn answered<W: Write>(
+pub(crate) fn record_response<W: Write>(
     second: &mut Second,
     log: &mut IntervalLogWriter<'_, '_, W, V2Serializer>,
     end: u64,
@@ -50,7 +50,7 @@ pub(crate) fn answered<W: Write>(
     requires { divisor_of log.old ≡ 1_000 }
     ensures same_log { IsSameLog log.old log.new }
     ensures recorded { OnOk result
-        (second.new ≡ after_answer second.old (end / 1_000_000) response interval) }
+        (second.new ≡ after_response second.old (end / 1_000_000) response interval) }
     ensures written { OnOk result ((text : List ℕ)
         × IsWrittenBefore second.old (end / 1_000_000) text
         × Appends (W.contents (sink log.old).now) (W.contents (sink log.new).now) text) }

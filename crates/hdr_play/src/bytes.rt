@@ -1,8 +1,8 @@
 //! V2 bytes and their parts, in hexadecimal.
 
-use crate::answer::{Answer, Outcome, Refusal, agree, number};
-use crate::asked::{given, parsed};
-use crate::single::{put, same};
+use crate::arguments::{ok_or_invalid, parse_u64};
+use crate::outcome::{LineError, Outcome, Value, ensure_same, optional_number};
+use crate::single::{is_same, replace};
 use hdr_base::Counter;
 use hdr_core::Histogram;
 use hdrhistogram::serialization::deserializer::{varint_read, varint_read_slice};
@@ -14,14 +14,14 @@ use std::alloc::{AllocError, Global};
 use std::io::{self, Read};
 use std::mem;
 
-/// What follows the bytes that are read, and is to be left.
-const REST: &[u8; 2] = b"xy";
+/// Trailing bytes, which a reader has to leave.
+const TRAILING: &[u8; 2] = b"xy";
 
 /// A reader that returns at most one byte a call.
 #[derive(Drop)]
-struct Slow<'a>(&'a [u8]);
+struct OneByteReader<'a>(&'a [u8]);
 
-impl<'a> Read for Slow<'a> {
+impl<'a> Read for OneByteReader<'a> {
     fn read(&mut self, buf: &mut [u8]) -> io::Result<usize> {
         match self.0 {
             [first, rest @ ..] if !buf.is_empty() => {
@@ -34,66 +34,73 @@ impl<'a> Read for Slow<'a> {
     }
 }
 
-/// Bytes as their digits.
-fn digits_of(alloc: Global, bytes: &[u8]) -> Outcome {
-    Ok(Answer::Text(hex::encode(alloc, Vec::from_slice(alloc, bytes)?)?))
+/// Returns the hexadecimal digits of bytes.
+fn hex_text(alloc: Global, bytes: &[u8]) -> Outcome {
+    Ok(Value::Text(hex::encode(alloc, Vec::from_slice(alloc, bytes)?)?))
 }
 
-/// The bytes of digits.
-fn bytes_of(alloc: Global, digits: &str) -> Result<Vec<u8>, Refusal> {
-    given(hex::decode(alloc, digits).ok())
+/// Parses hexadecimal digits.
+fn parse_hex(alloc: Global, digits: &str) -> Result<Vec<u8>, LineError> {
+    ok_or_invalid(hex::decode(alloc, digits).ok())
 }
 
-/// Returns the V2 bytes, which `to_bytes` and `serialize` have to make alike.
+/// Returns the V2 bytes, which have to be the same by `to_bytes` and by `serialize`.
 fn to_bytes<T: Counter>(alloc: Global, h: &Histogram<T>) -> Outcome {
     let mut written: Vec<u8> = Vec::new(alloc);
     let count = V2Serializer::new(alloc).serialize(h, &mut written)?;
     let mut serializer = V2Serializer::new(alloc);
-    let lent = serializer.to_bytes(h)?;
-    agree(written.as_slice() == lent && count == lent.len())?;
-    digits_of(alloc, lent)
+    let borrowed = serializer.to_bytes(h)?;
+    ensure_same(written.as_slice() == borrowed && count == borrowed.len())?;
+    hex_text(alloc, borrowed)
 }
 
-/// Returns the payload alone, from a buffer that is long enough for all bins.
+/// Returns the payload alone, encoded to a buffer that is long enough for all bins.
 fn payload<T: Counter>(alloc: Global, h: &Histogram<T>) -> Outcome {
-    let Some(room) = counts_array_max_encoded_size(h.distinct_values()) else {
-        return Ok(Answer::Nothing);
+    let Some(max_len) = counts_array_max_encoded_size(h.distinct_values()) else {
+        return Ok(Value::None);
     };
-    let mut buf = vec![in alloc; 0u8; room]?;
+    let mut buf = vec![in alloc; 0u8; max_len]?;
     let len = encode_counts(h, &mut buf)?;
     buf.truncate(len);
-    digits_of(alloc, buf.as_slice())
+    hex_text(alloc, buf.as_slice())
 }
 
-/// What was read of bytes, and how many of them it took.
+/// A decoded histogram, and the number of bytes consumed.
 #[derive(Drop)]
-struct Taken<T: Counter> {
+struct Decoded<T: Counter> {
     histogram: Histogram<T>,
-    bytes: usize,
+    consumed: usize,
 }
 
-fn read_slice<T: Counter>(alloc: Global, bytes: &[u8]) -> Result<Taken<T>, DeserializeError> {
-    let (histogram, bytes) = Deserializer::new(alloc).decode_slice(bytes)?;
-    Ok(Taken { histogram, bytes })
+/// Decodes a histogram from a slice.
+fn decode_slice<T: Counter>(alloc: Global, bytes: &[u8]) -> Result<Decoded<T>, DeserializeError> {
+    let (histogram, consumed) = Deserializer::new(alloc).decode_slice(bytes)?;
+    Ok(Decoded {
+        histogram,
+        consumed,
+    })
 }
 
-/// Reads the bytes by a reader that gives one of them a call.
-fn read_slowly<T: Counter>(alloc: Global, bytes: &[u8]) -> Result<Taken<T>, DeserializeError> {
-    let mut slow = Slow(bytes);
-    let histogram = Deserializer::new(alloc).deserialize(&mut slow)?;
-    let bytes = bytes.len().saturating_sub(slow.0.len());
-    Ok(Taken { histogram, bytes })
+/// Decodes a histogram from a reader that returns one byte a call.
+fn decode_reader<T: Counter>(alloc: Global, bytes: &[u8]) -> Result<Decoded<T>, DeserializeError> {
+    let mut reader = OneByteReader(bytes);
+    let histogram = Deserializer::new(alloc).deserialize(&mut reader)?;
+    let consumed = bytes.len().saturating_sub(reader.0.len());
+    Ok(Decoded {
+        histogram,
+        consumed,
+    })
 }
 
-/// Whether the same bytes were decoded to the same, twice.
-fn are_alike<T: Counter>(one: &Taken<T>, other: &Taken<T>) -> bool {
-    one.bytes == other.bytes
+/// Whether two results of decoding are the same.
+fn is_same_decoded<T: Counter>(one: &Decoded<T>, other: &Decoded<T>) -> bool {
+    one.consumed == other.consumed
         && one.histogram == other.histogram
-        && same(&one.histogram, &other.histogram)
+        && is_same(&one.histogram, &other.histogram)
 }
 
-/// Whether two errors say the same.
-fn say_alike(
+/// Whether two errors have the same message.
+fn is_same_message(
     alloc: Global,
     one: &DeserializeError,
     other: &DeserializeError,
@@ -101,35 +108,38 @@ fn say_alike(
     Ok(one.to_string(alloc)?.as_str() == other.to_string(alloc)?.as_str())
 }
 
-/// Reads a histogram from bytes, by a slice and by a reader.
+/// Decodes a histogram from a slice and from a reader, whose results have to be the same.
 fn decode<T: Counter>(alloc: Global, h: &mut Histogram<T>, bytes: &[u8]) -> Outcome {
-    let (read, again) = (read_slice(alloc, bytes), read_slowly(alloc, bytes));
-    let is_alike = match (&read, &again) {
-        (Ok(read), Ok(again)) => are_alike(read, again),
-        (Err(error), Err(again)) => say_alike(alloc, error, again)?,
+    let (sliced, read) = (decode_slice(alloc, bytes), decode_reader(alloc, bytes));
+    let is_equal = match (&sliced, &read) {
+        (Ok(sliced), Ok(read)) => is_same_decoded(sliced, read),
+        (Err(sliced), Err(read)) => is_same_message(alloc, sliced, read)?,
         _ => false,
     };
-    agree(is_alike)?;
-    let Taken { histogram, bytes } = read?;
+    ensure_same(is_equal)?;
+    let Decoded {
+        histogram,
+        consumed,
+    } = sliced?;
     drop(mem::replace(h, histogram));
-    Ok(Answer::Number(bytes as u64))
+    Ok(Value::Number(consumed as u64))
 }
 
-/// Reads a histogram from bytes that have more of them after it.
-fn decode_front<T: Counter>(alloc: Global, h: &mut Histogram<T>, digits: &str) -> Outcome {
-    let mut bytes = bytes_of(alloc, digits)?;
-    bytes.extend_from_slice(REST.as_slice())?;
+/// Decodes a histogram from bytes with trailing bytes.
+fn decode_with_trailing<T: Counter>(alloc: Global, h: &mut Histogram<T>, digits: &str) -> Outcome {
+    let mut bytes = parse_hex(alloc, digits)?;
+    bytes.extend_from_slice(TRAILING.as_slice())?;
     decode(alloc, h, bytes.as_slice())
 }
 
-/// Decodes a field into the memory of a copy of the histogram, which the decoded one replaces.
+/// Decodes a field into the memory of a copy of the histogram, and replaces the histogram by the decoded one.
 fn decode_field_into<T: Counter>(alloc: Global, h: &mut Histogram<T>, text: &str) -> Outcome {
     let spare = Some(h.clone()?);
-    put(h, Deserializer::new(alloc).decode_field_into(text, spare)?)
+    replace(h, Deserializer::new(alloc).decode_field_into(text, spare)?)
 }
 
-/// A call on a histogram and bytes.
-pub fn of_histogram<T: Counter>(
+/// Makes a call on a histogram and bytes.
+pub fn call_histogram<T: Counter>(
     alloc: Global,
     h: &mut Histogram<T>,
     name: &str,
@@ -138,53 +148,53 @@ pub fn of_histogram<T: Counter>(
     match (name, text) {
         ("to_bytes", "") => to_bytes(alloc, h),
         ("encode_counts", "") => payload(alloc, h),
-        ("decode", _) => decode_front(alloc, h, text),
-        ("decode_alone", _) => decode(alloc, h, bytes_of(alloc, text)?.as_slice()),
-        ("decode_field", _) => put(h, Deserializer::new(alloc).decode_field(text)?),
+        ("decode", _) => decode_with_trailing(alloc, h, text),
+        ("decode_alone", _) => decode(alloc, h, parse_hex(alloc, text)?.as_slice()),
+        ("decode_field", _) => replace(h, Deserializer::new(alloc).decode_field(text)?),
         ("decode_field_into", _) => decode_field_into(alloc, h, text),
-        _ => Err(Refusal::NoCall),
+        _ => Err(LineError::UnknownCall),
     }
 }
 
-/// Returns the varint of a number.
-fn varint(alloc: Global, n: u64) -> Outcome {
+/// Encodes a number as a varint.
+fn encode_varint(alloc: Global, n: u64) -> Outcome {
     let mut buf = [0xaa; 10];
     let len = varint_write(n, &mut buf);
-    agree(buf.get(len) == Some(&0xaa))?;
-    digits_of(alloc, given(buf.get(..len))?)
+    ensure_same(buf.get(len) == Some(&0xaa))?;
+    hex_text(alloc, ok_or_invalid(buf.get(..len))?)
 }
 
-/// Decodes the varint at the start of bytes, from a slice and from a reader alike. The reader consumes no more, and fails if
-/// the last byte is missing.
-fn spelt(spelling: &[u8]) -> Option<u64> {
+/// Decodes a varint from a slice and from a reader. The reader consumes no more, and fails if the last byte is missing.
+/// Otherwise the result is `None`.
+fn decode_varint(bytes: &[u8]) -> Option<u64> {
     let mut buf = [0xaa; 12];
-    buf.get_mut(..spelling.len())?.copy_from_slice(spelling);
+    buf.get_mut(..bytes.len())?.copy_from_slice(bytes);
     let (n, len) = varint_read_slice(buf.as_slice());
-    let mut slow = Slow(buf.as_slice());
-    let read = varint_read(&mut slow).ok()?;
-    let mut cut = Slow(spelling.get(..spelling.len().checked_sub(1)?)?);
-    let is_cut = varint_read(&mut cut).is_err();
-    let is_right = read == n && len == spelling.len() && slow.0.len() == 12 - len && is_cut;
-    if is_right { Some(n) } else { None }
+    let mut reader = OneByteReader(buf.as_slice());
+    let read = varint_read(&mut reader).ok()?;
+    let mut truncated = OneByteReader(bytes.get(..bytes.len().checked_sub(1)?)?);
+    let fails = varint_read(&mut truncated).is_err();
+    let is_expected = read == n && len == bytes.len() && reader.0.len() == 12 - len && fails;
+    if is_expected { Some(n) } else { None }
 }
 
-/// The zig-zag of a whole number, which leads back to it.
+/// Returns the zig-zag encoding of an integer, which has to decode to it.
 fn zig_zag(n: i64) -> Outcome {
     let encoded = zig_zag_encode(n);
-    agree(zig_zag_decode(encoded) == n)?;
-    Ok(Answer::Number(encoded))
+    ensure_same(zig_zag_decode(encoded) == n)?;
+    Ok(Value::Number(encoded))
 }
 
-/// A call on bytes and numbers.
+/// Makes a call on bytes and numbers.
 pub fn call(alloc: Global, name: &str, text: &str) -> Outcome {
     match name {
-        "varint" => varint(alloc, parsed(text)?),
-        "varint_read" => Ok(number(spelt(bytes_of(alloc, text)?.as_slice()))),
-        "zig_zag" => zig_zag(given(text.parse::<i64>().ok())?),
-        "room" => match counts_array_max_encoded_size(parsed(text)? as usize) {
-            Some(bytes) => Ok(Answer::Number(bytes as u64)),
-            None => Ok(Answer::Nothing),
+        "varint" => encode_varint(alloc, parse_u64(text)?),
+        "varint_read" => Ok(optional_number(decode_varint(parse_hex(alloc, text)?.as_slice()))),
+        "zig_zag" => zig_zag(ok_or_invalid(text.parse::<i64>().ok())?),
+        "room" => match counts_array_max_encoded_size(parse_u64(text)? as usize) {
+            Some(bytes) => Ok(Value::Number(bytes as u64)),
+            None => Ok(Value::None),
         },
-        _ => Err(Refusal::NoCall),
+        _ => Err(LineError::UnknownCall),
     }
 }

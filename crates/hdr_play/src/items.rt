@@ -1,35 +1,39 @@
-//! Statistics and items of iterators, as texts.
+//! Statistics and items of iterators, as text.
 
-use crate::answer::{Answer, Outcome, Refusal, agree};
-use crate::asked::{given, parsed};
+use crate::arguments::{ok_or_invalid, parse_u64};
+use crate::outcome::{LineError, Outcome, Value, ensure_same};
 use hdr_base::{Counter, Fraction, IterationValue, Quantile};
 use hdr_core::Histogram;
 use std::alloc::{AllocError, Global};
 
-/// How many items of a list a text shows.
-const SHOWN: u64 = 16;
+/// The number of items that are printed of a list.
+const MAX_ITEMS: u64 = 16;
 
-/// Writes the numbers of an item: its value, its counter, the samples since the item before, its quantile, and the
+/// Appends the numbers of an item: its value, its counter, the samples since the item before, its quantile, and the
 /// quantile iterated to.
-fn push_item<T: Counter>(told: &mut String, item: &IterationValue<T>) -> Result<(), AllocError> {
+fn push_item<T: Counter>(output: &mut String, item: &IterationValue<T>) -> Result<(), AllocError> {
     let (value, since) = (item.value_iterated_to(), item.count_since_last_iteration());
     let (quantile, tick) = (item.quantile(), item.quantile_iterated_to());
-    write!(told, "{value} {} {since} ", item.count_at_value().as_u64())?;
     write!(
-        told,
+        output,
+        "{value} {} {since} ",
+        item.count_at_value().as_u64()
+    )?;
+    write!(
+        output,
         "{}/{} {}/{}",
         quantile.num, quantile.den, tick.num, tick.den
     )
 }
 
-/// Whether the percentile of an item is a hundred times its quantile, and its parts make the same item again.
-fn is_whole<T: Counter>(item: &IterationValue<T>) -> bool {
+/// Whether the percentile of an item is 100 times its quantile, and `new` of its parts returns an equal item.
+fn is_consistent<T: Counter>(item: &IterationValue<T>) -> bool {
     let (quantile, tick) = (item.quantile(), item.quantile_iterated_to());
     let percentile = item.percentile();
     let Ok(num) = u64::try_from(quantile.num) else {
         return false;
     };
-    let again = IterationValue::new(
+    let copy = IterationValue::new(
         item.value_iterated_to(),
         Fraction {
             num: u128::from(num),
@@ -39,22 +43,22 @@ fn is_whole<T: Counter>(item: &IterationValue<T>) -> bool {
         item.count_at_value(),
         item.count_since_last_iteration(),
     );
-    again == *item
+    copy == *item
         && quantile.num.checked_mul(100) == Some(percentile.num)
         && percentile.den == quantile.den
 }
 
-/// A list as its text, and an empty one as nothing.
-fn listed(told: String) -> Answer {
-    if told.is_empty() {
-        Answer::Nothing
+/// Returns the text of a list, or `None` for an empty one.
+fn text_or_none(output: String) -> Value {
+    if output.is_empty() {
+        Value::None
     } else {
-        Answer::Text(told)
+        Value::Text(output)
     }
 }
 
-/// Returns the digest of all items so far and one more: each of its numbers is added to 31 times the digest, in 128 bits.
-fn digested<T: Counter>(digest: u128, item: &IterationValue<T>) -> u128 {
+/// Returns the digest with one more item: each of its numbers is added to 31 times the digest, in 128 bits.
+fn update_digest<T: Counter>(digest: u128, item: &IterationValue<T>) -> u128 {
     let (quantile, tick) = (item.quantile(), item.quantile_iterated_to());
     let mut digest = digest;
     for number in [
@@ -70,35 +74,35 @@ fn digested<T: Counter>(digest: u128, item: &IterationValue<T>) -> u128 {
     digest
 }
 
-/// Returns the items of an iterator, between commas; of a long list the first ones, their number, and the digest of all.
+/// Returns the items of an iterator, separated by commas; of a long list the first ones, their number, and the digest of all.
 fn items<T: Counter>(alloc: Global, list: Vec<IterationValue<T>>) -> Outcome {
-    let mut told = String::new(alloc);
+    let mut output = String::new(alloc);
     let mut number: u64 = 0;
     let mut digest: u128 = 0;
     for item in list.as_slice() {
-        agree(is_whole(item))?;
-        if number < SHOWN {
+        ensure_same(is_consistent(item))?;
+        if number < MAX_ITEMS {
             if number > 0 {
-                told.push_str(", ")?;
+                output.push_str(", ")?;
             }
-            push_item(&mut told, item)?;
+            push_item(&mut output, item)?;
         }
-        digest = digested(digest, item);
+        digest = update_digest(digest, item);
         number = number.saturating_add(1);
     }
-    if number > SHOWN {
-        write!(told, " .. {number} {digest}")?;
+    if number > MAX_ITEMS {
+        write!(output, " .. {number} {digest}")?;
     }
-    Ok(listed(told))
+    Ok(text_or_none(output))
 }
 
-/// A fraction as its two numbers.
-fn ratio(alloc: Global, fraction: Fraction) -> Outcome {
-    Ok(Answer::Text(format!(in alloc; "{}", fraction)?))
+/// Returns the text of a fraction.
+fn fraction_text(alloc: Global, fraction: Fraction) -> Outcome {
+    Ok(Value::Text(format!(in alloc; "{}", fraction)?))
 }
 
-/// Makes a call on a histogram whose result is a text.
-pub fn told<T: Counter>(alloc: Global, h: &Histogram<T>, name: &str, numbers: &[u64]) -> Outcome {
+/// Makes a call on a histogram whose value is text.
+pub fn call<T: Counter>(alloc: Global, h: &Histogram<T>, name: &str, numbers: &[u64]) -> Outcome {
     match (name, numbers) {
         ("iter_all", []) => items(alloc, h.iter_all().collect(alloc)?),
         ("iter_recorded", []) => items(alloc, h.iter_recorded().collect(alloc)?),
@@ -109,37 +113,37 @@ pub fn told<T: Counter>(alloc: Global, h: &Histogram<T>, name: &str, numbers: &[
         ),
         ("iter_quantiles", [ticks]) => match u32::try_from(*ticks) {
             Ok(ticks) if ticks >= 1 => items(alloc, h.iter_quantiles(ticks).collect(alloc)?),
-            _ => Err(Refusal::NoArgument),
+            _ => Err(LineError::InvalidArgument),
         },
-        ("quantile_below", [value]) => ratio(alloc, h.quantile_below(*value)),
-        ("percentile_below", [value]) => ratio(alloc, h.percentile_below(*value)),
+        ("quantile_below", [value]) => fraction_text(alloc, h.quantile_below(*value)),
+        ("percentile_below", [value]) => fraction_text(alloc, h.percentile_below(*value)),
         ("mean", []) => match h.mean() {
-            Some(mean) => ratio(alloc, mean),
-            None => Ok(Answer::Nothing),
+            Some(mean) => fraction_text(alloc, mean),
+            None => Ok(Value::None),
         },
-        _ => Err(Refusal::NoCall),
+        _ => Err(LineError::UnknownCall),
     }
 }
 
-/// The fractions of a text, between spaces.
-pub fn fractions(alloc: Global, words: &str) -> Result<Vec<Quantile>, Refusal> {
+/// Parses quantiles, separated by spaces.
+pub fn parse_quantiles(alloc: Global, text: &str) -> Result<Vec<Quantile>, LineError> {
     let mut list = Vec::new(alloc);
-    for word in words.split(' ') {
-        let (num, den) = given(word.split_once('/'))?;
-        list.push(given(Quantile::new(parsed(num)?, parsed(den)?))?)
+    for argument in text.split(' ') {
+        let (num, den) = ok_or_invalid(argument.split_once('/'))?;
+        list.push(ok_or_invalid(Quantile::new(parse_u64(num)?, parse_u64(den)?))?)
             .map_err(AllocError::from)?;
     }
     Ok(list)
 }
 
-/// Numbers between spaces.
-pub fn values(alloc: Global, list: Vec<u64>) -> Outcome {
-    let mut told = String::new(alloc);
+/// Returns the text of numbers, separated by spaces.
+pub fn numbers_text(alloc: Global, list: Vec<u64>) -> Outcome {
+    let mut output = String::new(alloc);
     for value in list.as_slice() {
-        if !told.is_empty() {
-            told.push(' ')?;
+        if !output.is_empty() {
+            output.push(' ')?;
         }
-        write!(told, "{value}")?;
+        write!(output, "{value}")?;
     }
-    Ok(listed(told))
+    Ok(text_or_none(output))
 }

@@ -28,20 +28,20 @@
 //! - `bytes`, `counter`, `scale LOW SIGFIG VALUE`, `fraction` and `log` make calls without a histogram.
 #![tactic(auto)]
 
-mod agreeing;
-mod answer;
-mod asked;
+mod arguments;
 mod base;
 mod bytes;
 mod c12;
+mod correction;
 mod items;
 mod logs;
 mod merging;
+mod outcome;
 mod play;
 mod runs;
 mod single;
 mod table;
 
-pub use answer::{Answer, Outcome, Refusal};
+pub use outcome::{LineError, Outcome, Value};
 pub use play::Report;
 pub use table::Table;

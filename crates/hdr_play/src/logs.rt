@@ -1,7 +1,7 @@
-//! Interval logs, in texts where `\n` and `\r` stand for a line feed and a carriage return, and `\xHH` for any byte.
+//! Interval logs, as escaped text: `\n` and `\r` stand for a line feed and a carriage return, and `\xHH` for any byte.
 
-use crate::answer::{Answer, Outcome, Refusal};
-use crate::asked::{given, halves, parsed};
+use crate::arguments::{ok_or_invalid, parse_u64, split_at_space};
+use crate::outcome::{LineError, Outcome, Value};
 use hdr_base::Counter;
 use hdr_core::Histogram;
 use hdr_log::field::{FieldError, decoded};
@@ -14,196 +14,200 @@ use std::alloc::{AllocError, Global};
 use std::str::Chars;
 use std::time::Duration;
 
-/// The byte that letters behind a backslash stand for, which are taken.
-fn escaped(letters: &mut Chars<'_>) -> Option<u8> {
-    match letters.next()? {
+/// Parses an escape after its backslash.
+fn parse_escape(chars: &mut Chars<'_>) -> Option<u8> {
+    match chars.next()? {
         'n' => Some(b'\n'),
         'r' => Some(b'\r'),
         'x' => {
-            let high = letters.next()?.to_digit(16)?;
-            let low = letters.next()?.to_digit(16)?;
+            let high = chars.next()?.to_digit(16)?;
+            let low = chars.next()?.to_digit(16)?;
             u8::try_from(high.saturating_mul(16).saturating_add(low)).ok()
         }
         _ => None,
     }
 }
 
-/// The bytes that a text stands for.
-pub fn unescaped(alloc: Global, words: &str) -> Result<Vec<u8>, Refusal> {
+/// Returns the bytes that escaped text stands for.
+pub fn unescape(alloc: Global, text: &str) -> Result<Vec<u8>, LineError> {
     let mut bytes = Vec::new(alloc);
-    for (place, piece) in words.split('\\').enumerate() {
-        let mut letters = piece.chars();
-        if place > 0 {
+    for (index, part) in text.split('\\').enumerate() {
+        let mut chars = part.chars();
+        if index > 0 {
             bytes
-                .push(given(escaped(&mut letters))?)
+                .push(ok_or_invalid(parse_escape(&mut chars))?)
                 .map_err(AllocError::from)?;
         }
-        bytes.extend_from_slice(letters.as_str().as_bytes())?;
+        bytes.extend_from_slice(chars.as_str().as_bytes())?;
     }
     Ok(bytes)
 }
 
-/// The text that a text stands for.
-fn unescaped_text(alloc: Global, words: &str) -> Result<String, Refusal> {
-    given(String::from_utf8(unescaped(alloc, words)?).ok())
+/// Returns the text that escaped text stands for.
+fn unescape_string(alloc: Global, text: &str) -> Result<String, LineError> {
+    ok_or_invalid(String::from_utf8(unescape(alloc, text)?).ok())
 }
 
-/// Bytes as a text that stands for them.
-fn escaped_text(alloc: Global, bytes: &[u8]) -> Outcome {
-    let mut told = String::new(alloc);
+/// Escapes bytes.
+fn escape(alloc: Global, bytes: &[u8]) -> Outcome {
+    let mut output = String::new(alloc);
     for byte in bytes {
         match byte {
-            b'\n' => told.push_str("\\n")?,
-            b'\r' => told.push_str("\\r")?,
-            b' '..=b'~' => told.push(char::from(*byte))?,
-            _ => write!(told, "\\x{byte:02x}")?,
+            b'\n' => output.push_str("\\n")?,
+            b'\r' => output.push_str("\\r")?,
+            b' '..=b'~' => output.push(char::from(*byte))?,
+            _ => write!(output, "\\x{byte:02x}")?,
         }
     }
-    Ok(Answer::Text(told))
+    Ok(Value::Text(output))
 }
 
-/// Writes a time as its seconds, a point and nine digits, between two texts.
+/// Appends a time as its seconds, a point and nine digits, between `before` and `after`.
 fn push_time(
-    told: &mut String,
+    output: &mut String,
     before: &str,
     time: Duration,
     after: &str,
 ) -> Result<(), AllocError> {
     write!(
-        told,
+        output,
         "{before}{}.{:09}{after}",
         time.as_secs(),
         time.subsec_nanos()
     )
 }
 
-/// Writes what an interval's line says: its tag, its times, its max and its field.
-fn push_interval(told: &mut String, line: &IntervalLogHistogram<'_>) -> Result<(), AllocError> {
+/// Appends the parts of an interval's line: its tag, its times, its max and its field.
+fn push_interval(output: &mut String, line: &IntervalLogHistogram<'_>) -> Result<(), AllocError> {
     let tag = match line.tag() {
         Some(tag) => tag.as_str(),
         None => "-",
     };
-    told.push_str(tag)?;
-    push_time(told, " ", line.start_timestamp(), " ")?;
-    push_time(told, "", line.duration(), " ")?;
-    write!(told, "{} {};", line.max(), line.encoded_histogram())
+    output.push_str(tag)?;
+    push_time(output, " ", line.start_timestamp(), " ")?;
+    push_time(output, "", line.duration(), " ")?;
+    write!(output, "{} {};", line.max(), line.encoded_histogram())
 }
 
-/// Writes what was read of an entry.
+/// Appends an entry, or its error.
 fn push_entry(
-    told: &mut String,
+    output: &mut String,
     entry: &Result<LogEntry<'_>, LogIteratorError>,
 ) -> Result<(), AllocError> {
     match entry {
-        Ok(LogEntry::StartTime(time)) => push_time(told, "start ", *time, ";"),
-        Ok(LogEntry::BaseTime(time)) => push_time(told, "base ", *time, ";"),
-        Ok(LogEntry::Interval(line)) => push_interval(told, line),
-        Err(LogIteratorError::ParseError { offset }) => write!(told, "fault at {offset};"),
+        Ok(LogEntry::StartTime(time)) => push_time(output, "start ", *time, ";"),
+        Ok(LogEntry::BaseTime(time)) => push_time(output, "base ", *time, ";"),
+        Ok(LogEntry::Interval(line)) => push_interval(output, line),
+        Err(LogIteratorError::ParseError { offset }) => write!(output, "fault at {offset};"),
     }
 }
 
-/// What is read of a log, one entry after the other, and then `end`.
-fn read(alloc: Global, log: &[u8]) -> Outcome {
-    let mut told = String::new(alloc);
+/// Returns the entries of a log in order, and then `end`.
+fn read_entries(alloc: Global, log: &[u8]) -> Outcome {
+    let mut output = String::new(alloc);
     for entry in IntervalLogIterator::new(log) {
-        push_entry(&mut told, &entry)?;
+        push_entry(&mut output, &entry)?;
     }
-    told.push_str("end")?;
-    Ok(Answer::Text(told))
+    output.push_str("end")?;
+    Ok(Value::Text(output))
 }
 
-/// The bytes of a field of an interval's line.
-fn field(alloc: Global, words: &str) -> Outcome {
-    match decoded(alloc, words) {
-        Ok(bytes) => Ok(Answer::Text(hex::encode(alloc, bytes)?)),
-        Err(FieldError::NotBase64) => Ok(Answer::Nothing),
-        Err(FieldError::OutOfMemory) => Err(Refusal::NoArgument),
+/// Decodes the Base64 field of an interval's line.
+fn decode_field(alloc: Global, text: &str) -> Outcome {
+    match decoded(alloc, text) {
+        Ok(bytes) => Ok(Value::Text(hex::encode(alloc, bytes)?)),
+        Err(FieldError::NotBase64) => Ok(Value::None),
+        Err(FieldError::OutOfMemory) => Err(LineError::InvalidArgument),
     }
 }
 
-/// A time of seconds and nanoseconds.
-pub fn time(words: &str) -> Result<Duration, Refusal> {
-    let (seconds, nanos) = given(words.split_once('.'))?;
+/// Parses a time: seconds, a point, and nanoseconds.
+pub fn parse_time(text: &str) -> Result<Duration, LineError> {
+    let (seconds, nanos) = ok_or_invalid(text.split_once('.'))?;
     match nanos.parse::<u32>() {
-        Ok(nanos) if nanos < 1_000_000_000 => Ok(Duration::new(parsed(seconds)?, nanos)),
-        _ => Err(Refusal::NoArgument),
+        Ok(nanos) if nanos < 1_000_000_000 => Ok(Duration::new(parse_u64(seconds)?, nanos)),
+        _ => Err(LineError::InvalidArgument),
     }
 }
 
-/// A divisor, which is not 0.
-fn set_divisor(builder: &mut IntervalLogWriterBuilder, word: &str) -> Result<(), Refusal> {
-    let divisor = parsed(word)?;
+/// Sets the divisor, which must not be 0.
+fn set_divisor(builder: &mut IntervalLogWriterBuilder, text: &str) -> Result<(), LineError> {
+    let divisor = parse_u64(text)?;
     if divisor == 0 {
-        return Err(Refusal::NoArgument);
+        return Err(LineError::InvalidArgument);
     }
     builder.with_max_value_divisor(divisor);
     Ok(())
 }
 
-/// Sets one option of a log that is to be started.
-fn set(alloc: Global, builder: &mut IntervalLogWriterBuilder, words: &str) -> Result<(), Refusal> {
-    let (name, rest) = halves(words);
+/// Sets an option of the builder.
+fn set_option(
+    alloc: Global,
+    builder: &mut IntervalLogWriterBuilder,
+    text: &str,
+) -> Result<(), LineError> {
+    let (name, rest) = split_at_space(text);
     match name {
-        "start" => drop(builder.with_start_time(time(rest)?)),
-        "base" => drop(builder.with_base_time(time(rest)?)),
+        "start" => drop(builder.with_start_time(parse_time(rest)?)),
+        "base" => drop(builder.with_base_time(parse_time(rest)?)),
         "divisor" => set_divisor(builder, rest)?,
-        "comment" => given(
+        "comment" => ok_or_invalid(
             builder
-                .add_comment(unescaped_text(alloc, rest)?.as_str())
+                .add_comment(unescape_string(alloc, rest)?.as_str())
                 .ok(),
         )?,
-        _ => return Err(Refusal::NoCall),
+        _ => return Err(LineError::UnknownCall),
     }
     Ok(())
 }
 
-/// The text of a beginning: what is set, between semicolons, and between ` then ` and the end a comment.
-fn begin(alloc: Global, words: &str) -> Outcome {
-    let (words, comment) = given(words.split_once(" then "))?;
-    let comment = unescaped_text(alloc, comment)?;
+/// Returns the start of a log, from its options, separated by semicolons, and a comment after ` then `.
+fn begin(alloc: Global, text: &str) -> Outcome {
+    let (options, comment) = ok_or_invalid(text.split_once(" then "))?;
+    let comment = unescape_string(alloc, comment)?;
     let mut builder = IntervalLogWriterBuilder::new(alloc);
-    for words in words.split("; ") {
-        set(alloc, &mut builder, words)?;
+    for option in options.split("; ") {
+        set_option(alloc, &mut builder, option)?;
     }
     let (mut log, mut serializer) = (Vec::new(alloc), V2Serializer::new(alloc));
     builder
         .begin_log_with(&mut log, &mut serializer)?
         .write_comment(comment.as_str())?;
-    escaped_text(alloc, log.as_slice())
+    escape(alloc, log.as_slice())
 }
 
 /// Returns a log of one interval, from its start, its duration, the divisor, and its tag if it has one.
-pub fn line<T: Counter>(alloc: Global, h: &Histogram<T>, words: &str) -> Outcome {
-    let (start, words) = halves(words);
-    let (duration, words) = halves(words);
-    let (divisor, tag) = match words.split_once(' ') {
-        Some((divisor, tag)) => (divisor, Some(given(Tag::new(tag))?)),
-        None => (words, None),
+pub fn log_line<T: Counter>(alloc: Global, h: &Histogram<T>, text: &str) -> Outcome {
+    let (start, text) = split_at_space(text);
+    let (duration, text) = split_at_space(text);
+    let (divisor, tag) = match text.split_once(' ') {
+        Some((divisor, tag)) => (divisor, Some(ok_or_invalid(Tag::new(tag))?)),
+        None => (text, None),
     };
     let mut builder = IntervalLogWriterBuilder::new(alloc);
     set_divisor(&mut builder, divisor)?;
-    let (start, duration) = (time(start)?, time(duration)?);
+    let (start, duration) = (parse_time(start)?, parse_time(duration)?);
     let (mut log, mut serializer) = (Vec::new(alloc), V2Serializer::new(alloc));
     builder
         .begin_log_with(&mut log, &mut serializer)?
         .write_histogram(h, start, duration, tag)?;
-    escaped_text(alloc, log.as_slice())
+    escape(alloc, log.as_slice())
 }
 
-/// Whether the first of two tags comes before the second.
-fn comes_before(words: &str) -> Outcome {
-    let (one, other) = halves(words);
-    Ok(Answer::Truth(given(Tag::new(one))? < given(Tag::new(other))?))
+/// Whether the first tag is less than the second.
+fn is_less(text: &str) -> Outcome {
+    let (one, other) = split_at_space(text);
+    Ok(Value::Bool(ok_or_invalid(Tag::new(one))? < ok_or_invalid(Tag::new(other))?))
 }
 
-/// A call on the text of a log.
+/// Makes a call on a log or on tags.
 pub fn call(alloc: Global, name: &str, text: &str) -> Outcome {
     match name {
-        "read" => read(alloc, unescaped(alloc, text)?.as_slice()),
-        "field" => field(alloc, text),
-        "tag" => Ok(Answer::Truth(Tag::new(text).is_some())),
-        "before" => comes_before(text),
+        "read" => read_entries(alloc, unescape(alloc, text)?.as_slice()),
+        "field" => decode_field(alloc, text),
+        "tag" => Ok(Value::Bool(Tag::new(text).is_some())),
+        "before" => is_less(text),
         "begin" => begin(alloc, text),
-        _ => Err(Refusal::NoCall),
+        _ => Err(LineError::UnknownCall),
     }
 }

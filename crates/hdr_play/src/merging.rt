@@ -1,8 +1,8 @@
 //! Merging the chosen intervals of a log.
 
-use crate::answer::{Answer, Outcome, Refusal};
-use crate::asked::{digits, given, halves, parsed};
-use crate::logs::{time, unescaped};
+use crate::arguments::{ok_or_invalid, parse_u64, split_at_space, to_sigfig};
+use crate::logs::{parse_time, unescape};
+use crate::outcome::{LineError, Outcome, Value};
 use hdr_base::Counter;
 use hdr_core::Histogram;
 use hdrhistogram::serialization::interval_log::{IntervalChoice, Tag, TagChoice, merge_chosen};
@@ -10,38 +10,38 @@ use std::alloc::Global;
 use std::mem;
 use std::time::Duration;
 
-/// Parses a bound of times, if there is one.
-fn bound(word: &str) -> Result<Option<Duration>, Refusal> {
-    match word {
+/// Parses a time, or `-` for no bound.
+fn parse_bound(argument: &str) -> Result<Option<Duration>, LineError> {
+    match argument {
         "-" => Ok(None),
-        _ => Ok(Some(time(word)?)),
+        _ => Ok(Some(parse_time(argument)?)),
     }
 }
 
-/// Parses the choice of tags; a `-` stands for every tag, and a comma, which no tag has, for intervals without one.
-fn tags(word: &str) -> Result<TagChoice<'_>, Refusal> {
-    match word {
+/// Parses the choice of tags: `-` for every interval, `,` for those without a tag, or a tag.
+fn parse_tags(argument: &str) -> Result<TagChoice<'_>, LineError> {
+    match argument {
         "-" => Ok(TagChoice::Every),
         "," => Ok(TagChoice::Untagged),
-        _ => Ok(TagChoice::Tagged(given(Tag::new(word))?)),
+        _ => Ok(TagChoice::Tagged(ok_or_invalid(Tag::new(argument))?)),
     }
 }
 
-/// Replaces the histogram by the merge of a log: `SIGFIG TAG FROM TO LOG`, times in seconds. Returns how many intervals were
+/// Replaces the histogram by the merge of a log: `SIGFIG TAG FROM TO LOG`, times in seconds. Returns the number of intervals
 /// chosen.
-pub fn merge<T: Counter>(alloc: Global, h: &mut Histogram<T>, words: &str) -> Outcome {
-    let (sigfig, words) = halves(words);
-    let (tag, words) = halves(words);
-    let (from, words) = halves(words);
-    let (to, log) = halves(words);
+pub fn merge<T: Counter>(alloc: Global, h: &mut Histogram<T>, text: &str) -> Outcome {
+    let (sigfig, text) = split_at_space(text);
+    let (tag, text) = split_at_space(text);
+    let (from, text) = split_at_space(text);
+    let (to, log) = split_at_space(text);
     let choice = IntervalChoice {
-        tags: tags(tag)?,
-        from: bound(from)?,
-        to: bound(to)?,
+        tags: parse_tags(tag)?,
+        from: parse_bound(from)?,
+        to: parse_bound(to)?,
     };
-    let sigfig = digits(parsed(sigfig)?)?;
-    let log = unescaped(alloc, log)?;
+    let sigfig = to_sigfig(parse_u64(sigfig)?)?;
+    let log = unescape(alloc, log)?;
     let merged = merge_chosen(alloc, log.as_slice(), &choice, sigfig)?;
     drop(mem::replace(h, merged.histogram));
-    Ok(Answer::Number(merged.chosen))
+    Ok(Value::Number(merged.chosen))
 }

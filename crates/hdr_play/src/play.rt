@@ -1,21 +1,21 @@
 //! Rows, file by file and line by line.
 
-use crate::answer::{Outcome, Refusal};
-use crate::asked::halves;
+use crate::arguments::split_at_space;
 use crate::c12::C12;
+use crate::outcome::{LineError, Outcome};
 use crate::table::Table;
 use hdr_base::Counter;
 use std::alloc::{AllocError, Global};
 
-/// The result of rows: how many passed, how many failed, and the lines to print for those that failed.
+/// The numbers of rows that passed and failed, and the output for those that failed.
 #[derive(Drop)]
 pub struct Report {
     pub passed: u64,
     pub failed: u64,
-    pub told: String,
+    pub output: String,
 }
 
-/// A row at one of its counter types, and the line of its title.
+/// A row at one of its counter types, and the line number of its title.
 #[derive(Clone, Copy)]
 struct Row<'a> {
     file: &'a str,
@@ -25,9 +25,9 @@ struct Row<'a> {
     lines: &'a str,
 }
 
-/// Whether the name of an error is a wanted one, with its parts or without them.
-fn is_named(name: &str, wanted: &str) -> bool {
-    match name.strip_prefix(wanted.trim_end_matches(')')) {
+/// Whether the name of an error is the expected one, with its parts or without them.
+fn is_expected_name(name: &str, expected: &str) -> bool {
+    match name.strip_prefix(expected.trim_end_matches(')')) {
         Some(parts) => parts.is_empty()
             || parts.starts_with('(')
             || parts.starts_with(')')
@@ -36,49 +36,56 @@ fn is_named(name: &str, wanted: &str) -> bool {
     }
 }
 
-/// Whether what came is what a text wants: a result, the name of an error, or an error's message between quotation marks.
-fn is_wanted(alloc: Global, outcome: &Outcome, wanted: &str) -> Result<bool, AllocError> {
+/// Whether an outcome is the expected one: a value, the name of an error, or an error's message between quotation marks.
+fn is_expected(alloc: Global, outcome: &Outcome, expected: &str) -> Result<bool, AllocError> {
     match outcome {
-        Ok(answer) => Ok(answer.shown(alloc)?.as_str() == wanted),
-        Err(refusal) if wanted.starts_with('"') => Ok(refusal.says(alloc)?.as_str() == wanted),
-        Err(refusal) => Ok(is_named(refusal.name(alloc)?.as_str(), wanted)),
+        Ok(value) => Ok(value.to_text(alloc)?.as_str() == expected),
+        Err(error) if expected.starts_with('"') => Ok(
+            error.quoted_message(alloc)?.as_str() == expected,
+        ),
+        Err(error) => Ok(is_expected_name(error.name(alloc)?.as_str(), expected)),
     }
 }
 
-/// Returns what came, beside what is wanted, or `None` if that is the same.
+/// Returns a message with the expected and the actual outcome, or `None` if they are the same.
 fn difference(
     alloc: Global,
     outcome: &Outcome,
-    wanted: &str,
+    expected: &str,
 ) -> Result<Option<String>, AllocError> {
-    if is_wanted(alloc, outcome, wanted)? {
+    if is_expected(alloc, outcome, expected)? {
         return Ok(None);
     }
-    let mut told = format!(in alloc; "    wanted {wanted}\n    came   ")?;
+    let mut message = format!(in alloc; "    wanted {expected}\n    came   ")?;
     match outcome {
-        Ok(answer) => writeln!(told, "{}", answer.shown(alloc)?)?,
-        Err(refusal) => writeln!(told, "{} {}", refusal.name(alloc)?, refusal.says(alloc)?)?,
+        Ok(value) => writeln!(message, "{}", value.to_text(alloc)?)?,
+        Err(error) => writeln!(
+            message,
+            "{} {}",
+            error.name(alloc)?,
+            error.quoted_message(alloc)?
+        )?,
     }
-    Ok(Some(told))
+    Ok(Some(message))
 }
 
-/// Returns what is wrong with a line that is wrong on purpose, whose first result has to differ and whose second has to come.
-fn not_refused(
+/// Returns a message if a line that is wrong on purpose does not differ from its first outcome, or differs from its second.
+fn deliberate_difference(
     alloc: Global,
     outcome: &Outcome,
-    wanted: &str,
+    expected: &str,
 ) -> Result<Option<String>, AllocError> {
-    let Some((wrong, right)) = wanted.split_once(" but ") else {
+    let Some((wrong, right)) = expected.split_once(" but ") else {
         return Ok(Some(format!(in alloc; "    fault: no ` but ` and what comes\n")?));
     };
-    if is_wanted(alloc, outcome, wrong)? {
+    if is_expected(alloc, outcome, wrong)? {
         return Ok(Some(format!(in alloc; "    has to be refused, and passes: {wrong}\n")?));
     }
     difference(alloc, outcome, right)
 }
 
-/// Returns what is wrong with a line, or `None` if it passes.
-fn wrong<T: Counter>(
+/// Plays a line. Returns a message if it fails.
+fn play_line<T: Counter>(
     alloc: Global,
     table: &mut Table<T>,
     line: &str,
@@ -86,32 +93,36 @@ fn wrong<T: Counter>(
     if line.is_empty() || line.starts_with('#') {
         return Ok(None);
     }
-    let (asked, wanted) = line.split_once(" = ").unwrap_or((line, "ok"));
-    let purpose = asked.strip_prefix("! ");
-    let outcome = table.answer(alloc, purpose.unwrap_or(asked));
+    let (call, expected) = line.split_once(" = ").unwrap_or((line, "ok"));
+    let deliberate = call.strip_prefix("! ");
+    let outcome = table.execute(alloc, deliberate.unwrap_or(call));
     match &outcome {
-        Err(refusal) if refusal.is_fault() => Ok(Some(format!(in alloc;
-            "    fault: {refusal}\n"
+        Err(error) if error.is_player_error() => Ok(Some(format!(in alloc;
+            "    fault: {error}\n"
         )?)),
-        _ if purpose.is_some() => not_refused(alloc, &outcome, wanted),
-        _ => difference(alloc, &outcome, wanted),
+        _ if deliberate.is_some() => deliberate_difference(alloc, &outcome, expected),
+        _ => difference(alloc, &outcome, expected),
     }
 }
 
-/// Plays a row at a counter type, and appends each line that fails to `told`. Returns whether the row passes.
-fn played<T: Counter>(alloc: Global, row: Row<'_>, told: &mut String) -> Result<bool, Refusal> {
+/// Plays a row at the counter type `T`, and appends each line that fails to `output`. Returns whether the row passes.
+fn play_row_of<T: Counter>(
+    alloc: Global,
+    row: Row<'_>,
+    output: &mut String,
+) -> Result<bool, LineError> {
     let mut table: Table<T> = Table::new(alloc)?;
     let mut passes = true;
     let mut number = row.number;
     for line in row.lines.lines() {
         number = number.saturating_add(1);
-        if let Some(wrong) = wrong(alloc, &mut table, line)? {
+        if let Some(message) = play_line(alloc, &mut table, line)? {
             writeln!(
-                told,
+                output,
                 "{}:{number}: {} {}: {line}",
                 row.file, row.name, row.counter
             )?;
-            told.push_str(wrong.as_str())?;
+            output.push_str(message.as_str())?;
             passes = false;
         }
     }
@@ -120,17 +131,17 @@ fn played<T: Counter>(alloc: Global, row: Row<'_>, told: &mut String) -> Result<
     Ok(passes)
 }
 
-/// Plays a row at the counter type of its name.
-fn played_at(alloc: Global, row: Row<'_>, told: &mut String) -> Result<bool, Refusal> {
+/// Plays a row at its counter type.
+fn play_row(alloc: Global, row: Row<'_>, output: &mut String) -> Result<bool, LineError> {
     match row.counter {
-        "u8" => played::<u8>(alloc, row, told),
-        "u16" => played::<u16>(alloc, row, told),
-        "u32" => played::<u32>(alloc, row, told),
-        "u64" => played::<u64>(alloc, row, told),
-        "c12" => played::<C12>(alloc, row, told),
+        "u8" => play_row_of::<u8>(alloc, row, output),
+        "u16" => play_row_of::<u16>(alloc, row, output),
+        "u32" => play_row_of::<u32>(alloc, row, output),
+        "u64" => play_row_of::<u64>(alloc, row, output),
+        "c12" => play_row_of::<C12>(alloc, row, output),
         _ => {
             writeln!(
-                told,
+                output,
                 "{}:{}: {}: fault: no counter type `{}`",
                 row.file, row.number, row.name, row.counter
             )?;
@@ -140,20 +151,20 @@ fn played_at(alloc: Global, row: Row<'_>, told: &mut String) -> Result<bool, Ref
 }
 
 impl Report {
-    /// A report of no rows.
+    /// Returns a report of no rows.
     pub fn new(alloc: Global) -> Report {
         Report {
             passed: 0,
             failed: 0,
-            told: String::new(alloc),
+            output: String::new(alloc),
         }
     }
 
-    /// Checks the lines before the first row, which are for the reader alone.
-    fn front(&mut self, file: &str, text: &str) -> Result<(), Refusal> {
+    /// Checks that the lines before the first row are empty or comments.
+    fn check_head(&mut self, file: &str, text: &str) -> Result<(), LineError> {
         for line in text.lines() {
             if !line.is_empty() && !line.starts_with('#') {
-                writeln!(self.told, "{file}: fault: in no row: {line}")?;
+                writeln!(self.output, "{file}: fault: in no row: {line}")?;
                 self.failed = self.failed.saturating_add(1);
             }
         }
@@ -161,9 +172,15 @@ impl Report {
     }
 
     /// Plays a row at each of its counter types.
-    fn row(&mut self, alloc: Global, file: &str, number: u64, text: &str) -> Result<(), Refusal> {
+    fn play_counter_types(
+        &mut self,
+        alloc: Global,
+        file: &str,
+        number: u64,
+        text: &str,
+    ) -> Result<(), LineError> {
         let (title, lines) = text.split_once('\n').unwrap_or((text, ""));
-        let (name, counters) = halves(title);
+        let (name, counters) = split_at_space(title);
         for counter in counters.split(' ') {
             let row = Row {
                 file,
@@ -172,7 +189,7 @@ impl Report {
                 counter,
                 lines,
             };
-            if played_at(alloc, row, &mut self.told)? {
+            if play_row(alloc, row, &mut self.output)? {
                 self.passed = self.passed.saturating_add(1);
             } else {
                 self.failed = self.failed.saturating_add(1);
@@ -182,17 +199,17 @@ impl Report {
     }
 
     /// Plays the rows of a file.
-    pub fn play(&mut self, alloc: Global, file: &str, text: &str) -> Result<(), Refusal> {
+    pub fn play(&mut self, alloc: Global, file: &str, text: &str) -> Result<(), LineError> {
         let mut number: u64 = 1;
-        for (place, piece) in text.split("\nrow ").enumerate() {
-            if place > 0 {
-                self.row(alloc, file, number, piece)?;
-            } else if let Some(first) = piece.strip_prefix("row ") {
-                self.row(alloc, file, number, first)?;
+        for (index, part) in text.split("\nrow ").enumerate() {
+            if index > 0 {
+                self.play_counter_types(alloc, file, number, part)?;
+            } else if let Some(first) = part.strip_prefix("row ") {
+                self.play_counter_types(alloc, file, number, first)?;
             } else {
-                self.front(file, piece)?;
+                self.check_head(file, part)?;
             }
-            number = number.saturating_add(piece.split('\n').count() as u64);
+            number = number.saturating_add(part.split('\n').count() as u64);
         }
         Ok(())
     }

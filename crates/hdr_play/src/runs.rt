@@ -1,75 +1,75 @@
 //! Calls as values.
 
-use crate::answer::Refusal;
-use crate::asked::{Numbers, counter, halves};
+use crate::arguments::{Numbers, split_at_space, to_counter};
+use crate::outcome::LineError;
 use hdr_base::Counter;
 use hdr_core::{Call, CallFrom, Histogram};
 use std::alloc::{AllocError, Global};
 
 /// Parses a call in which `other` is a source.
-pub fn call_of<'a, T: Counter>(
-    words: &str,
+pub fn parse_call<'a, T: Counter>(
+    text: &str,
     other: &'a Histogram<T>,
-) -> Result<Call<'a, T>, Refusal> {
-    let (name, rest) = halves(words);
-    let numbers = Numbers::of(rest)?;
+) -> Result<Call<'a, T>, LineError> {
+    let (name, rest) = split_at_space(text);
+    let numbers = Numbers::parse(rest)?;
     match (name, numbers.as_slice()) {
-        ("record", [value, count]) => Ok(Call::Record(*value, counter(*count)?)),
-        ("clamp", [value, count]) => Ok(Call::Clamp(*value, counter(*count)?)),
+        ("record", [value, count]) => Ok(Call::Record(*value, to_counter(*count)?)),
+        ("clamp", [value, count]) => Ok(Call::Clamp(*value, to_counter(*count)?)),
         ("correct", [value, count, interval]) => Ok(Call::Correct(
             *value,
-            counter(*count)?,
+            to_counter(*count)?,
             *interval,
         )),
         ("clear", []) => Ok(Call::Clear),
         ("reset", []) => Ok(Call::Reset),
         ("add", []) => Ok(Call::Add(other)),
         ("add_correct", [interval]) => Ok(Call::AddCorrect(other, *interval)),
-        _ => Err(Refusal::NoCall),
+        _ => Err(LineError::UnknownCall),
     }
 }
 
-/// The calls of a run, between commas.
-pub fn calls_of<'a, T: Counter>(
+/// Parses the calls of a run, separated by commas.
+pub fn parse_calls<'a, T: Counter>(
     alloc: Global,
-    words: &str,
+    text: &str,
     other: &'a Histogram<T>,
-) -> Result<Vec<Call<'a, T>>, Refusal> {
+) -> Result<Vec<Call<'a, T>>, LineError> {
     let mut calls = Vec::new(alloc);
-    for words in words.split(", ") {
+    for call in text.split(", ") {
         calls
-            .push(call_of(words, other)?)
+            .push(parse_call(call, other)?)
             .map_err(AllocError::from)?;
     }
     Ok(calls)
 }
 
-/// Parses a call in which `wide` is a source too.
-fn call_from_of<'a, T: Counter>(
-    words: &str,
+/// Parses a call in which `wide` may be the source too.
+fn parse_call_from<'a, T: Counter>(
+    text: &str,
     other: &'a Histogram<T>,
     wide: &'a Histogram<u64>,
-) -> Result<CallFrom<'a, T, u64>, Refusal> {
-    let (name, rest) = halves(words);
-    let numbers = Numbers::of(rest)?;
+) -> Result<CallFrom<'a, T, u64>, LineError> {
+    let (name, rest) = split_at_space(text);
+    let numbers = Numbers::parse(rest)?;
     match (name, numbers.as_slice()) {
         ("add_from", []) => Ok(CallFrom::AddFrom(wide)),
         ("add_correct_from", [interval]) => Ok(CallFrom::AddCorrectFrom(wide, *interval)),
-        _ => Ok(CallFrom::Own(call_of(words, other)?)),
+        _ => Ok(CallFrom::Own(parse_call(text, other)?)),
     }
 }
 
-/// The calls of such a run, between commas.
-pub fn calls_from_of<'a, T: Counter>(
+/// Parses the calls of a run with sources `other` and `wide`, separated by commas.
+pub fn parse_calls_from<'a, T: Counter>(
     alloc: Global,
-    words: &str,
+    text: &str,
     other: &'a Histogram<T>,
     wide: &'a Histogram<u64>,
-) -> Result<Vec<CallFrom<'a, T, u64>>, Refusal> {
+) -> Result<Vec<CallFrom<'a, T, u64>>, LineError> {
     let mut calls = Vec::new(alloc);
-    for words in words.split(", ") {
+    for call in text.split(", ") {
         calls
-            .push(call_from_of(words, other, wide)?)
+            .push(parse_call_from(call, other, wide)?)
             .map_err(AllocError::from)?;
     }
     Ok(calls)

@@ -1,56 +1,59 @@
 //! Calls on one histogram: the name, the numbers, and the call.
 
-use crate::answer::Answer::{self, Number};
-use crate::answer::{Outcome, Refusal, agree, number};
-use crate::asked::{counter, digits, ratio};
+use crate::arguments::{to_counter, to_quantile, to_sigfig};
+use crate::outcome::Value::{self, Number};
+use crate::outcome::{LineError, Outcome, ensure_same, optional_number};
 use hdr_base::{Counter, Quantile, Ticks};
 use hdr_core::Histogram;
 use std::alloc::Global;
 use std::mem;
 
-/// Makes another histogram in place of one.
-fn make<T: Counter>(alloc: Global, h: &mut Histogram<T>, name: &str, numbers: &[u64]) -> Outcome {
-    let made = match (name, numbers) {
-        ("new", [sigfig]) => Histogram::new(alloc, digits(*sigfig)?)?,
+/// Replaces the histogram by a new one.
+fn create<T: Counter>(alloc: Global, h: &mut Histogram<T>, name: &str, numbers: &[u64]) -> Outcome {
+    let new = match (name, numbers) {
+        ("new", [sigfig]) => Histogram::new(alloc, to_sigfig(*sigfig)?)?,
         ("new_with_max", [high, sigfig]) => {
-            Histogram::new_with_max(alloc, *high, digits(*sigfig)?)?
+            Histogram::new_with_max(alloc, *high, to_sigfig(*sigfig)?)?
         }
         ("new_with_bounds", [low, high, sigfig]) => {
-            Histogram::new_with_bounds(alloc, *low, *high, digits(*sigfig)?)?
+            Histogram::new_with_bounds(alloc, *low, *high, to_sigfig(*sigfig)?)?
         }
-        _ => return Err(Refusal::NoCall),
+        _ => return Err(LineError::UnknownCall),
     };
-    put(h, made)
+    replace(h, new)
 }
 
-/// Replaces a histogram by another.
-pub fn put<T: Counter>(h: &mut Histogram<T>, made: Histogram<T>) -> Outcome {
-    drop(mem::replace(h, made));
-    Ok(Answer::Done)
+/// Replaces the histogram by another.
+pub fn replace<T: Counter>(h: &mut Histogram<T>, new: Histogram<T>) -> Outcome {
+    drop(mem::replace(h, new));
+    Ok(Value::Unit)
 }
 
-/// Changes a histogram.
+/// Makes a call that changes the histogram.
 fn change<T: Counter>(h: &mut Histogram<T>, name: &str, numbers: &[u64]) -> Outcome {
     match (name, numbers) {
         ("record", [value]) => h.record(*value)?,
-        ("record_n", [value, count]) => h.record_n(*value, counter(*count)?)?,
+        ("record_n", [value, count]) => h.record_n(*value, to_counter(*count)?)?,
         ("record_correct", [value, interval]) => h.record_correct(*value, *interval)?,
         ("record_n_correct", [value, count, interval]) => {
-            h.record_n_correct(*value, counter(*count)?, *interval)?
+            h.record_n_correct(*value, to_counter(*count)?, *interval)?
         }
         ("saturating_record", [value]) => h.saturating_record(*value),
-        ("saturating_record_n", [value, count]) => h.saturating_record_n(*value, counter(*count)?),
+        ("saturating_record_n", [value, count]) => h.saturating_record_n(
+            *value,
+            to_counter(*count)?,
+        ),
         ("clear", []) => h.clear(),
         ("reset", []) => h.reset(),
         ("auto", [0]) => h.auto(false),
         ("auto", [1]) => h.auto(true),
-        _ => return Err(Refusal::NoCall),
+        _ => return Err(LineError::UnknownCall),
     }
-    Ok(Answer::Done)
+    Ok(Value::Unit)
 }
 
 /// Makes a call on the histogram that takes no argument; 1 is true, and 0 is false.
-fn whole<T: Counter>(h: &Histogram<T>, name: &str) -> Option<u64> {
+fn property<T: Counter>(h: &Histogram<T>, name: &str) -> Option<u64> {
     match name {
         "len" => Some(h.len()),
         "count" => Some(h.count()),
@@ -69,7 +72,7 @@ fn whole<T: Counter>(h: &Histogram<T>, name: &str) -> Option<u64> {
 }
 
 /// Makes a call on a value's class, or on the counts of classes; 1 is true, and 0 is false.
-fn class<T: Counter>(h: &Histogram<T>, name: &str, numbers: &[u64]) -> Option<u64> {
+fn class_number<T: Counter>(h: &Histogram<T>, name: &str, numbers: &[u64]) -> Option<u64> {
     match (name, numbers) {
         ("count_at", [value]) => Some(h.count_at(*value).as_u64()),
         ("count_between", [low, high]) => Some(h.count_between(*low, *high)),
@@ -83,92 +86,99 @@ fn class<T: Counter>(h: &Histogram<T>, name: &str, numbers: &[u64]) -> Option<u6
     }
 }
 
-/// The number of a bin's counter.
+/// Returns the count of a bin.
 fn bin_count<T: Counter>(h: &Histogram<T>, index: u64) -> Option<u64> {
     Some(h.bin_count(index as usize)?.as_u64())
 }
 
-/// The number of a counter in the list of all.
-fn listed<T: Counter>(h: &Histogram<T>, index: u64) -> Option<u64> {
+/// Returns the count at an index of `counters`.
+fn counter_at<T: Counter>(h: &Histogram<T>, index: u64) -> Option<u64> {
     Some(h.counters().get(index as usize)?.as_u64())
 }
 
 /// Makes a call on a bin.
-fn bin<T: Counter>(h: &Histogram<T>, name: &str, numbers: &[u64]) -> Outcome {
+fn call_bin<T: Counter>(h: &Histogram<T>, name: &str, numbers: &[u64]) -> Outcome {
     match (name, numbers) {
         ("bin_of", [value]) => match h.bin_of(*value) {
             Some(index) => Ok(Number(index as u64)),
-            None => Ok(Answer::Nothing),
+            None => Ok(Value::None),
         },
-        ("bin_value", [index]) => Ok(number(h.bin_value(*index as usize))),
-        ("bin_count", [index]) => Ok(number(bin_count(h, *index))),
-        ("counters", [index]) => Ok(number(listed(h, *index))),
-        _ => Err(Refusal::NoCall),
+        ("bin_value", [index]) => Ok(optional_number(h.bin_value(*index as usize))),
+        ("bin_count", [index]) => Ok(optional_number(bin_count(h, *index))),
+        ("counters", [index]) => Ok(optional_number(counter_at(h, *index))),
+        _ => Err(LineError::UnknownCall),
     }
 }
 
-/// The looks of a quantile, which has the same value counted and uncounted.
-fn looks<T: Counter>(h: &Histogram<T>, quantile: Quantile) -> Outcome {
+/// Returns the ticks of a quantile, whose value has to be the same without ticks.
+fn quantile_ticks<T: Counter>(h: &Histogram<T>, quantile: Quantile) -> Outcome {
     let mut ticks = Ticks::new();
     let value = h.value_at_quantile_counted(quantile, &mut ticks);
-    agree(value == h.value_at_quantile(quantile))?;
+    ensure_same(value == h.value_at_quantile(quantile))?;
     Ok(Number(ticks.count()))
 }
 
-/// Corrects class by class, and returns how many counters were updated.
-fn updates<T: Counter>(h: &mut Histogram<T>, value: u64, count: T, interval: u64) -> Outcome {
+/// Corrects class by class, and returns the number of counters updated.
+fn correction_ticks<T: Counter>(
+    h: &mut Histogram<T>,
+    value: u64,
+    count: T,
+    interval: u64,
+) -> Outcome {
     let mut ticks = Ticks::new();
     h.record_n_correct_counted(value, count, interval, &mut ticks)?;
     Ok(Number(ticks.count()))
 }
 
-/// Makes a call on a quantile, or a call that counts its steps.
-fn ranked<T: Counter>(h: &mut Histogram<T>, name: &str, numbers: &[u64]) -> Outcome {
+/// Makes a call on a quantile, or a call that counts its ticks.
+fn call_quantile<T: Counter>(h: &mut Histogram<T>, name: &str, numbers: &[u64]) -> Outcome {
     match (name, numbers) {
-        ("value_at_quantile", [num, den]) => Ok(Number(h.value_at_quantile(ratio(*num, *den)?))),
-        ("value_at_percentile", [num, den]) => Ok(Number(h.value_at_percentile(ratio(
+        ("value_at_quantile", [num, den]) => Ok(Number(h.value_at_quantile(to_quantile(
             *num, *den,
         )?))),
-        ("looks", [num, den]) => looks(h, ratio(*num, *den)?),
+        ("value_at_percentile", [num, den]) => Ok(Number(h.value_at_percentile(to_quantile(
+            *num, *den,
+        )?))),
+        ("looks", [num, den]) => quantile_ticks(h, to_quantile(*num, *den)?),
         ("record_n_correct_counted", [value, count, interval]) => {
-            updates(h, *value, counter(*count)?, *interval)
+            correction_ticks(h, *value, to_counter(*count)?, *interval)
         }
-        _ => bin(h, name, numbers),
+        _ => call_bin(h, name, numbers),
     }
 }
 
-/// Makes a call on one histogram that takes numbers alone and does not return a text.
+/// Makes a call on one histogram that takes numbers alone and whose value is not text.
 pub fn call<T: Counter>(
     alloc: Global,
     h: &mut Histogram<T>,
     name: &str,
     numbers: &[u64],
 ) -> Outcome {
-    let told = match numbers {
-        [] => whole(h, name),
-        _ => class(h, name, numbers),
+    let found = match numbers {
+        [] => property(h, name),
+        _ => class_number(h, name, numbers),
     };
-    if let Some(number) = told {
+    if let Some(number) = found {
         return Ok(Number(number));
     }
     match change(h, name, numbers) {
-        Err(Refusal::NoCall) => {}
+        Err(LineError::UnknownCall) => {}
         outcome => return outcome,
     }
-    match make(alloc, h, name, numbers) {
-        Err(Refusal::NoCall) => ranked(h, name, numbers),
+    match create(alloc, h, name, numbers) {
+        Err(LineError::UnknownCall) => call_quantile(h, name, numbers),
         outcome => outcome,
     }
 }
 
-/// The calls that have to return the same on two histograms if they are the same.
-const WHOLE: &str =
+/// The calls that have to return the same on equal histograms.
+const PROPERTIES: &str =
     "len is_empty low high sigfig is_auto_resize buckets distinct_values max min min_nz";
 
-/// Whether these calls return the same on both, and all bins have the same counts.
-pub fn same<T: Counter, F: Counter>(one: &Histogram<T>, other: &Histogram<F>) -> bool {
-    for name in WHOLE.split(' ') {
-        if whole(one, name) != whole(other, name) {
+/// Whether `PROPERTIES` return the same on both, and all bins have the same counts.
+pub fn is_same<T: Counter, F: Counter>(one: &Histogram<T>, other: &Histogram<F>) -> bool {
+    for name in PROPERTIES.split(' ') {
+        if property(one, name) != property(other, name) {
             return false;
         }
     }

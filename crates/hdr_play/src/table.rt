@@ -1,11 +1,11 @@
 //! Three histograms, and the calls between them.
 
-use crate::agreeing::{agree_below, agrees};
-use crate::answer::{Answer, Outcome, Refusal, agree};
-use crate::asked::{Numbers, counter, halves};
-use crate::items::{fractions, values};
-use crate::runs::{call_of, calls_from_of, calls_of};
-use crate::single::{call, put, same};
+use crate::arguments::{Numbers, split_at_space, to_counter};
+use crate::correction::{corrections_agree, first_difference};
+use crate::items::{numbers_text, parse_quantiles};
+use crate::outcome::{LineError, Outcome, Value, ensure_same};
+use crate::runs::{parse_call, parse_calls, parse_calls_from};
+use crate::single::{call, is_same, replace};
 use crate::{base, bytes, items, logs, merging};
 use hdr_base::Counter;
 use hdr_core::{CreationError, Histogram};
@@ -19,55 +19,63 @@ pub struct Table<T: Counter> {
     pub wide: Histogram<u64>,
 }
 
-/// Makes a call on one histogram that takes a text.
-fn worded<T: Counter>(alloc: Global, h: &mut Histogram<T>, name: &str, text: &str) -> Outcome {
+/// Makes a call on one histogram that takes text.
+fn call_with_text<T: Counter>(
+    alloc: Global,
+    h: &mut Histogram<T>,
+    name: &str,
+    text: &str,
+) -> Outcome {
     match name {
-        "log_line" => logs::line(alloc, h, text),
+        "log_line" => logs::log_line(alloc, h, text),
         "merge" => merging::merge(alloc, h, text),
         "value_at_quantiles" => {
-            let list = fractions(alloc, text)?;
-            values(alloc, h.value_at_quantiles(list.as_slice()).collect(alloc)?)
+            let quantiles = parse_quantiles(alloc, text)?;
+            numbers_text(
+                alloc,
+                h.value_at_quantiles(quantiles.as_slice()).collect(alloc)?,
+            )
         }
         "value_at_percentiles" => {
-            let list = fractions(alloc, text)?;
-            let found = h.value_at_percentiles(list.as_slice()).collect(alloc)?;
-            values(alloc, found)
+            let quantiles = parse_quantiles(alloc, text)?;
+            let values = h.value_at_percentiles(quantiles.as_slice()).collect(alloc)?;
+            numbers_text(alloc, values)
         }
-        _ => bytes::of_histogram(alloc, h, name, text),
+        _ => bytes::call_histogram(alloc, h, name, text),
     }
 }
 
 /// Makes a call on one histogram.
-fn alone<T: Counter>(alloc: Global, h: &mut Histogram<T>, name: &str, text: &str) -> Outcome {
-    match worded(alloc, h, name, text) {
-        Err(Refusal::NoCall) => {}
+fn call_single<T: Counter>(alloc: Global, h: &mut Histogram<T>, name: &str, text: &str) -> Outcome {
+    match call_with_text(alloc, h, name, text) {
+        Err(LineError::UnknownCall) => {}
         outcome => return outcome,
     }
-    let numbers = Numbers::of(text)?;
+    let numbers = Numbers::parse(text)?;
     match call(alloc, h, name, numbers.as_slice()) {
-        Err(Refusal::NoCall) => items::told(alloc, h, name, numbers.as_slice()),
+        Err(LineError::UnknownCall) => items::call(alloc, h, name, numbers.as_slice()),
         outcome => outcome,
     }
 }
 
-/// Makes a call without a histogram, which takes numbers.
-fn on_none<T: Counter>(who: &str, name: &str, numbers: &[u64]) -> Outcome {
+/// Makes a call without a histogram that takes numbers.
+fn call_without_histogram<T: Counter>(who: &str, name: &str, numbers: &[u64]) -> Outcome {
     match who {
-        "counter" => base::of_counters::<T>(name, numbers),
-        "scale" => base::of_scales(name, numbers),
-        "fraction" => base::of_fractions(name, numbers),
-        _ => Err(Refusal::NoCall),
+        "counter" => base::call_counter::<T>(name, numbers),
+        "scale" => base::call_scale(name, numbers),
+        "fraction" => base::call_fraction(name, numbers),
+        _ => Err(LineError::UnknownCall),
     }
 }
 
 /// Returns the result of a comparison, which has to be the same both ways.
-fn compared(there: bool, back: bool) -> Outcome {
-    agree(there == back)?;
-    Ok(Answer::Truth(there))
+fn symmetric(forward: bool, backward: bool) -> Outcome {
+    ensure_same(forward == backward)?;
+    Ok(Value::Bool(forward))
 }
 
 impl<T: Counter> Table<T> {
-    /// Three empty histograms of three digits.
+    /// Returns three empty histograms of three digits.
     pub fn new(alloc: Global) -> Result<Table<T>, CreationError> {
         let one = Histogram::new(alloc, 3)?;
         let other = Histogram::new(alloc, 3)?;
@@ -75,8 +83,8 @@ impl<T: Counter> Table<T> {
         Ok(Table { one, other, wide })
     }
 
-    /// Takes another histogram into the first, or out of it.
-    fn join(&mut self, name: &str, numbers: &[u64]) -> Outcome {
+    /// Makes a call that adds another histogram to the first, or subtracts it.
+    fn merge(&mut self, name: &str, numbers: &[u64]) -> Outcome {
         match (name, numbers) {
             ("add", []) => self.one.add(&self.other)?,
             ("set_to", []) => self.one.set_to(&self.other)?,
@@ -85,107 +93,111 @@ impl<T: Counter> Table<T> {
             ("add_correct", [interval]) => self.one.add_correct(&self.other, *interval)?,
             ("set_to_corrected", [interval]) => self.one.set_to_corrected(&self.other, *interval)?,
             ("add_correct_from", [interval]) => self.one.add_correct_from(&self.wide, *interval)?,
-            _ => return Err(Refusal::NoCall),
+            _ => return Err(LineError::UnknownCall),
         }
-        Ok(Answer::Done)
+        Ok(Value::Unit)
     }
 
-    /// Makes the other histogram.
-    fn copy(&mut self, alloc: Global, name: &str, numbers: &[u64]) -> Outcome {
-        let made = match (name, numbers) {
+    /// Makes a call that replaces `other`.
+    fn replace_other(&mut self, alloc: Global, name: &str, numbers: &[u64]) -> Outcome {
+        let new = match (name, numbers) {
             ("clone_to_other", []) => self.one.clone()?,
             ("clone_correct_to_other", [interval]) => self.one.clone_correct(*interval)?,
             ("new_from_wide_to_other", []) => Histogram::new_from(alloc, &self.wide)?,
-            _ => return Err(Refusal::NoCall),
+            _ => return Err(LineError::UnknownCall),
         };
-        put(&mut self.other, made)
+        replace(&mut self.other, new)
     }
 
-    /// Corrects by the plain body too.
-    fn agree(&mut self, name: &str, numbers: &[u64]) -> Outcome {
+    /// Compares correction with its plain implementation.
+    fn compare_corrections(&mut self, name: &str, numbers: &[u64]) -> Outcome {
         let [value, count, third] = numbers else {
-            return Err(Refusal::NoCall);
+            return Err(LineError::UnknownCall);
         };
-        let (count, one, other) = (counter(*count)?, &mut self.one, &mut self.other);
+        let (count, one, other) = (to_counter(*count)?, &mut self.one, &mut self.other);
         match name {
-            "agree" => Ok(Answer::Truth(agrees(one, other, *value, count, *third))),
-            "agree_below" => Ok(agree_below(one, other, *value, count, *third == 1)),
-            _ => Err(Refusal::NoCall),
+            "agree" => Ok(Value::Bool(corrections_agree(one, other, *value, count, *third))),
+            "agree_below" => Ok(first_difference(one, other, *value, count, *third == 1)),
+            _ => Err(LineError::UnknownCall),
         }
     }
 
-    /// Compares the first with another.
+    /// Makes a call that compares the first with another.
     fn compare(&self, name: &str) -> Outcome {
         let (one, other, wide) = (&self.one, &self.other, &self.wide);
         match name {
-            "same" => compared(same(one, other), same(other, one)),
-            "same_wide" => compared(same(one, wide), same(wide, one)),
-            "is_other" => compared(*one == *other, *other == *one),
-            "equals_other" => compared(one.equals(other), other.equals(one)),
-            "equals_wide" => compared(one.equals(wide), wide.equals(one)),
-            "refines_other" => Ok(Answer::Truth(one.refines(other))),
-            "refines_wide" => Ok(Answer::Truth(one.refines(wide))),
-            _ => Err(Refusal::NoCall),
+            "same" => symmetric(is_same(one, other), is_same(other, one)),
+            "same_wide" => symmetric(is_same(one, wide), is_same(wide, one)),
+            "is_other" => symmetric(*one == *other, *other == *one),
+            "equals_other" => symmetric(one.equals(other), other.equals(one)),
+            "equals_wide" => symmetric(one.equals(wide), wide.equals(one)),
+            "refines_other" => Ok(Value::Bool(one.refines(other))),
+            "refines_wide" => Ok(Value::Bool(one.refines(wide))),
+            _ => Err(LineError::UnknownCall),
         }
     }
 
-    /// Applies calls as values.
-    fn run(&mut self, alloc: Global, name: &str, words: &str) -> Outcome {
+    /// Makes a call that applies calls as values.
+    fn apply_calls(&mut self, alloc: Global, name: &str, text: &str) -> Outcome {
         match name {
-            "apply" => self.one.apply(&call_of(words, &self.other)?)?,
+            "apply" => self.one.apply(&parse_call(text, &self.other)?)?,
             "run" => self
                 .one
-                .apply_all(calls_of(alloc, words, &self.other)?.as_slice())?,
-            "run_from" => self.one.apply_all_from(calls_from_of(
+                .apply_all(parse_calls(alloc, text, &self.other)?.as_slice())?,
+            "run_from" => self.one.apply_all_from(parse_calls_from(
                 alloc,
-                words,
+                text,
                 &self.other,
                 &self.wide,
             )?.as_slice())?,
-            _ => return Err(Refusal::NoCall),
+            _ => return Err(LineError::UnknownCall),
         }
-        Ok(Answer::Done)
+        Ok(Value::Unit)
     }
 
     /// Makes a call between the histograms.
-    fn between(&mut self, alloc: Global, name: &str, numbers: &[u64]) -> Outcome {
-        match self.join(name, numbers) {
-            Err(Refusal::NoCall) => {}
+    fn call_between(&mut self, alloc: Global, name: &str, numbers: &[u64]) -> Outcome {
+        match self.merge(name, numbers) {
+            Err(LineError::UnknownCall) => {}
             outcome => return outcome,
         }
-        match self.copy(alloc, name, numbers) {
-            Err(Refusal::NoCall) => {}
+        match self.replace_other(alloc, name, numbers) {
+            Err(LineError::UnknownCall) => {}
             outcome => return outcome,
         }
         match numbers {
             [] => self.compare(name),
-            _ => self.agree(name, numbers),
+            _ => self.compare_corrections(name, numbers),
         }
     }
 
     /// Makes a call on the first histogram.
-    fn first(&mut self, alloc: Global, name: &str, text: &str) -> Outcome {
-        match self.run(alloc, name, text) {
-            Err(Refusal::NoCall) => {}
+    fn call_first(&mut self, alloc: Global, name: &str, text: &str) -> Outcome {
+        match self.apply_calls(alloc, name, text) {
+            Err(LineError::UnknownCall) => {}
             outcome => return outcome,
         }
-        match alone(alloc, &mut self.one, name, text) {
-            Err(Refusal::NoCall) => self.between(alloc, name, Numbers::of(text)?.as_slice()),
+        match call_single(alloc, &mut self.one, name, text) {
+            Err(LineError::UnknownCall) => self.call_between(
+                alloc,
+                name,
+                Numbers::parse(text)?.as_slice(),
+            ),
             outcome => outcome,
         }
     }
 
     /// Makes the call of a line.
-    pub fn answer(&mut self, alloc: Global, line: &str) -> Outcome {
-        let (who, words) = halves(line);
-        let (name, text) = halves(words);
+    pub fn execute(&mut self, alloc: Global, line: &str) -> Outcome {
+        let (who, call) = split_at_space(line);
+        let (name, text) = split_at_space(call);
         match who {
-            "one" => self.first(alloc, name, text),
-            "other" => alone(alloc, &mut self.other, name, text),
-            "wide" => alone(alloc, &mut self.wide, name, text),
+            "one" => self.call_first(alloc, name, text),
+            "other" => call_single(alloc, &mut self.other, name, text),
+            "wide" => call_single(alloc, &mut self.wide, name, text),
             "bytes" => bytes::call(alloc, name, text),
             "log" => logs::call(alloc, name, text),
-            _ => on_none::<T>(who, name, Numbers::of(text)?.as_slice()),
+            _ => call_without_histogram::<T>(who, name, Numbers::parse(text)?.as_slice()),
         }
     }
 }

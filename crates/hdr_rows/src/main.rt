@@ -9,27 +9,27 @@ use hdr_play::Report;
 use std::process::ExitCode;
 use std::{env, fs, io};
 
-/// Plays the rows of a file. Whether there was memory for it.
-fn is_played(rt: &HostRuntime, report: &mut Report, file: &str) -> io::Result<bool> {
+/// Plays the rows of a file. Returns whether no allocation failed.
+fn play_file(rt: &HostRuntime, report: &mut Report, file: &str) -> io::Result<bool> {
     let text = fs::read_to_string(rt, file)?;
     Ok(report.play(rt.alloc(), file, text.as_str()).is_ok())
 }
 
-/// Plays all files, and prints what came of them. Whether there are rows and all passed.
-fn rows(rt: &HostRuntime) -> io::Result<bool> {
+/// Plays all files, and prints the report. Returns whether there are rows and all passed.
+fn play_files(rt: &HostRuntime) -> io::Result<bool> {
     let mut report = Report::new(rt.alloc());
     for file in env::args(rt)?.skip(1) {
-        if !is_played(rt, &mut report, file.as_str())? {
+        if !play_file(rt, &mut report, file.as_str())? {
             return Ok(false);
         }
     }
-    print!(rt; "{}", report.told.as_str())?;
+    print!(rt; "{}", report.output.as_str())?;
     println!(rt; "{} passed, {} failed", report.passed, report.failed)?;
     Ok(report.passed > 0 && report.failed == 0)
 }
 
 fn main(rt: HostRuntime) -> ExitCode {
-    match rows(&rt) {
+    match play_files(&rt) {
         Ok(true) => ExitCode::SUCCESS,
         Ok(false) => ExitCode::FAILURE,
         Err(error) => {

@@ -1,15 +1,15 @@
-//! What rows can't show: allocations that fail, in turn or if they are large, readers and writers that fail, of the library and
+//! What rows can't test: allocations that fail, in turn or if they are large, readers and writers that fail, of the library and
 //! of the program, messages of errors that no row meets, and laws.
 
 mod compressed;
+mod failed_allocations;
 mod failing;
+mod large_allocations;
 mod laws;
+mod messages;
 mod program;
-mod refused;
 mod serializers;
-mod sparing;
 mod streams;
-mod texts;
 
 use hdrhistogram::Histogram;
 use std::alloc::Global;

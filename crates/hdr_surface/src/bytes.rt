@@ -1,4 +1,4 @@
-//! V2 bytes: written, read, and their parts.
+//! V2 bytes: encoding, decoding, and their parts.
 
 use hdrhistogram::serialization::deserializer::{varint_read, varint_read_slice};
 use hdrhistogram::serialization::v2_serializer::{
@@ -25,7 +25,7 @@ pub fn v2_serializer(alloc: Global) -> V2Serializer {
     V2Serializer::new(alloc)
 }
 
-/// The library's serializer is one, with this error.
+/// The library's serializer implements it, with this error.
 pub fn serialize_v2<T: Counter, W: Write>(
     serializer: &mut V2Serializer,
     histogram: &Histogram<T>,
@@ -34,7 +34,7 @@ pub fn serialize_v2<T: Counter, W: Write>(
     serializer.serialize(histogram, writer)
 }
 
-/// Lent from the serializer's buffer.
+/// Borrowed from the serializer's buffer.
 pub fn to_bytes<'a, T: Counter>(
     serializer: &'a mut V2Serializer,
     histogram: &Histogram<T>,
@@ -42,8 +42,8 @@ pub fn to_bytes<'a, T: Counter>(
     serializer.to_bytes(histogram)
 }
 
-/// Every reason, and no other.
-pub fn unserialized(error: &V2SerializeError) -> u64 {
+/// Every variant, and no other.
+pub fn serialize_error_number(error: &V2SerializeError) -> u64 {
     match error {
         V2SerializeError::CountNotSerializable => 1,
         V2SerializeError::UsizeTypeTooSmall => 2,
@@ -71,7 +71,7 @@ pub fn deserialize_u64<R: Read>(
     deserializer.deserialize::<u64, R>(reader)
 }
 
-/// With the number of bytes that were taken.
+/// With the number of bytes consumed.
 pub fn decode_slice<T: Counter>(
     deserializer: &mut Deserializer,
     bytes: &[u8],
@@ -96,8 +96,8 @@ pub fn decode_field_into<T: Counter>(
     deserializer.decode_field_into(field, spare)
 }
 
-/// Every reason, and no other.
-pub fn undecoded(error: &DeserializeError) -> u64 {
+/// Every variant, and no other.
+pub fn deserialize_error_number(error: &DeserializeError) -> u64 {
     match error {
         DeserializeError::IoError(_) => 1,
         DeserializeError::InvalidCookie => 2,
@@ -117,8 +117,8 @@ pub fn write_varint(n: u64) -> ([u8; 9], usize) {
     (buffer, len)
 }
 
-/// What was written, in a buffer of the caller's. Guard: nine bytes.
-pub fn spelling(n: u64, buffer: &mut [u8]) -> Option<&[u8]> {
+/// The bytes of a varint, in a buffer of the caller's. Guard: nine bytes.
+pub fn varint_bytes(n: u64, buffer: &mut [u8]) -> Option<&[u8]> {
     if buffer.len() < 9 {
         return None;
     }
@@ -147,7 +147,7 @@ pub fn decode_zig_zag(encoded: u64) -> i64 {
     deserializer::zig_zag_decode(encoded)
 }
 
-pub fn greatest_size(counts: usize) -> Option<usize> {
+pub fn max_payload_len(counts: usize) -> Option<usize> {
     counts_array_max_encoded_size(counts)
 }
 
@@ -156,14 +156,14 @@ pub fn payload<T: Counter>(
     histogram: &Histogram<T>,
     buffer: &mut [u8],
 ) -> Option<Result<usize, V2SerializeError>> {
-    let room = counts_array_max_encoded_size(histogram.distinct_values())?;
-    if buffer.len() < room {
+    let max_len = counts_array_max_encoded_size(histogram.distinct_values())?;
+    if buffer.len() < max_len {
         return None;
     }
     Some(encode_counts(histogram, buffer))
 }
 
-/// The same, in a buffer made for it.
+/// The same, in a buffer allocated for it.
 pub fn payload_in_new_buffer<T: Counter>(
     alloc: Global,
     histogram: &Histogram<T>,
@@ -176,7 +176,7 @@ pub fn payload_in_new_buffer<T: Counter>(
     Ok(buffer)
 }
 
-/// What the modules name themselves.
+/// The types by the paths of their modules.
 pub fn by_modules(
     serializer: hdrhistogram::serialization::v2_serializer::V2Serializer,
     deserializer: hdrhistogram::serialization::deserializer::Deserializer,
@@ -184,15 +184,15 @@ pub fn by_modules(
     (serializer, deserializer)
 }
 
-/// Their errors too.
+/// Their errors likewise.
 pub fn errors_by_modules(
-    written: hdrhistogram::serialization::v2_serializer::V2SerializeError,
-    read: hdrhistogram::serialization::deserializer::DeserializeError,
+    serialize: hdrhistogram::serialization::v2_serializer::V2SerializeError,
+    deserialize: hdrhistogram::serialization::deserializer::DeserializeError,
 ) -> (V2SerializeError, DeserializeError) {
-    (written, read)
+    (serialize, deserialize)
 }
 
-/// An error of a stream becomes an error of either.
+/// An error of a stream converts to either error.
 pub fn from_io(one: io::Error, other: io::Error) -> (V2SerializeError, DeserializeError) {
     (V2SerializeError::from(one), DeserializeError::from(other))
 }
@@ -209,8 +209,8 @@ pub fn payload_to_the_mark<T: Counter>(
     buffer: &mut [u8],
 ) -> Option<Result<usize, V2SerializeError>> {
     let last = histogram.bin_of(histogram.max())?;
-    let room = counts_array_max_encoded_size(last.checked_add(1)?)?;
-    if buffer.len() < room {
+    let max_len = counts_array_max_encoded_size(last.checked_add(1)?)?;
+    if buffer.len() < max_len {
         return None;
     }
     Some(encode_counts(histogram, buffer))

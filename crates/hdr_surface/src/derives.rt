@@ -1,4 +1,4 @@
-//! What the types are: shown, compared and copied.
+//! The traits of the types: printed, compared and copied.
 
 use hdr_tool::Fault;
 use hdrhistogram::serialization::interval_log::{
@@ -37,17 +37,17 @@ pub fn is_error<T: Error>() -> bool {
     true
 }
 
-/// A histogram is shown.
+/// A histogram is `Debug`.
 pub fn histograms() -> bool {
     is_debug::<Histogram<u8>>() && is_debug::<Histogram<u64>>()
 }
 
-/// Items and entries are shown and compared.
+/// Items and entries are `Debug` and compared.
 pub fn items() -> bool {
     is_debug::<IterationValue<u64>>() && is_partial_eq::<IterationValue<u64>>()
 }
 
-/// Items and entries are shown and compared.
+/// Items and entries are `Debug` and compared.
 pub fn entries<'a>() -> bool {
     is_debug::<LogEntry<'a>>()
         && is_partial_eq::<LogEntry<'a>>()
@@ -57,7 +57,7 @@ pub fn entries<'a>() -> bool {
         && is_partial_eq::<LogIteratorError>()
 }
 
-/// Small values are shown, compared, and copied.
+/// Small values are `Debug`, compared, and copied.
 pub fn values<'a>() -> bool {
     is_debug::<Tag<'a>>()
         && is_partial_eq::<Tag<'a>>()
@@ -70,7 +70,7 @@ pub fn values<'a>() -> bool {
         && is_copy::<Fraction>()
 }
 
-/// Errors without a stream's error inside are shown, compared, printed, and are errors.
+/// Errors without a stream's error inside are `Debug`, compared, printed, and are errors.
 pub fn is_plain_error<E: Debug + PartialEq + Eq + Display + Error>() -> bool {
     true
 }
@@ -85,7 +85,7 @@ pub fn plain_errors() -> bool {
         && is_plain_error::<RunError>()
 }
 
-/// The others are shown, printed, and are errors.
+/// The others are `Debug`, printed, and are errors.
 pub fn is_printed_error<E: Debug + Display + Error>() -> bool {
     true
 }
@@ -99,8 +99,8 @@ pub fn printed_errors() -> bool {
         && is_printed_error::<MergeError>()
 }
 
-/// A `Fault` prints as its line.
-pub fn faults() -> bool {
+/// A `Fault` is printed as its line.
+pub fn program_error() -> bool {
     is_display::<Fault>()
 }
 
@@ -114,8 +114,8 @@ pub fn are_same_items(one: &IterationValue<u64>, other: &IterationValue<u64>) ->
     *one == *other
 }
 
-/// A tag is used again after it was passed on.
-pub fn text_twice<'a>(tag: Tag<'a>) -> (Tag<'a>, &'a str) {
+/// A tag is used again after it was copied.
+pub fn copied_tag<'a>(tag: Tag<'a>) -> (Tag<'a>, &'a str) {
     let again = tag;
     (tag, again.as_str())
 }

@@ -1,4 +1,4 @@
-//! What is made of digits that are allowed.
+//! Constructors with valid digits.
 
 use hdr_base::Scale;
 use hdrhistogram::serialization::interval_log::{IntervalFilter, MergeError, Merged, merge_log};
@@ -41,6 +41,6 @@ pub fn merge<T: Counter>(
 }
 
 /// Three digits above 1 are a scale.
-pub fn usual_scale() -> Scale {
+pub fn default_scale() -> Scale {
     Scale::new(1, 3).unwrap()
 }

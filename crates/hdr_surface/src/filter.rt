@@ -1,4 +1,4 @@
-//! Which intervals of a log are chosen, and what is merged of them.
+//! Filters of a log's intervals, and the result of a merge.
 
 use hdrhistogram::serialization::interval_log::{
     IntervalFilter, MergeError, Merged, Tag, merge_log,

@@ -1,4 +1,4 @@
-//! What lies inside the bins.
+//! Values that have a bin.
 
 use hdrhistogram::{Counter, CreationError, Histogram, RecordError};
 use std::alloc::Global;

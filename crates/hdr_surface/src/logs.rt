@@ -1,4 +1,4 @@
-//! Interval logs: begun, written, read and merged.
+//! Interval logs: writing, reading and merging.
 
 use hdrhistogram::serialization::interval_log::{
     CommentError, IntervalFilter, IntervalLogHistogram, IntervalLogIterator, IntervalLogWriter,
@@ -22,7 +22,7 @@ pub fn add_comment(
     builder.add_comment(comment)
 }
 
-/// The setters give the builder again. Guard: a divisor of at least 1.
+/// The setters return the builder. Guard: a divisor of at least 1.
 pub fn set(builder: &mut IntervalLogWriterBuilder, time: Duration, divisor: u64) {
     if divisor == 0 {
         return;
@@ -48,7 +48,7 @@ pub fn set_base(
     builder.with_base_time(time)
 }
 
-/// Guard: none, for the divisor is a number.
+/// No guard: the divisor is a literal.
 pub fn set_divisor(builder: &mut IntervalLogWriterBuilder) -> &mut IntervalLogWriterBuilder {
     builder.with_max_value_divisor(1000)
 }
@@ -92,7 +92,7 @@ pub fn write_histogram_by_any<T: Counter, W: Write, S: Serializer>(
     log.write_histogram(histogram, start, duration, tag)
 }
 
-/// A log of one interval, from its beginning to its end.
+/// A log of one interval, from its start to its end.
 pub fn log_of_one<W: Write>(
     alloc: Global,
     histogram: &Histogram<u64>,
@@ -110,8 +110,8 @@ pub fn log_of_one<W: Write>(
     )
 }
 
-/// Every reason, and no other.
-pub fn unwritten<E>(error: &IntervalLogWriterError<E>) -> u64 {
+/// Every variant, and no other.
+pub fn writer_error_number<E>(error: &IntervalLogWriterError<E>) -> u64 {
     match error {
         IntervalLogWriterError::SerializeError(_) => 1,
         IntervalLogWriterError::IoError(_) => 2,
@@ -125,8 +125,8 @@ pub fn from_io(error: io::Error) -> IntervalLogWriterError<V2SerializeError> {
     IntervalLogWriterError::from(error)
 }
 
-/// The one reason.
-pub fn uncommented(error: &CommentError) -> u64 {
+/// The only variant.
+pub fn comment_error_number(error: &CommentError) -> u64 {
     match error {
         CommentError::OutOfMemory => 1,
     }
@@ -137,7 +137,7 @@ pub fn tag(text: &str) -> Option<Tag<'_>> {
     Tag::new(text)
 }
 
-/// The text lives as long as the one that the tag was made of.
+/// The text lives as long as the one that the tag was created from.
 pub fn text_of_tag<'a>(tag: &Tag<'a>) -> &'a str {
     tag.as_str()
 }
@@ -146,7 +146,7 @@ pub fn entries(log: &[u8]) -> IntervalLogIterator<'_> {
     IntervalLogIterator::new(log)
 }
 
-/// What the iterator returns.
+/// The items of the iterator.
 pub fn next<'a>(
     entries: &mut IntervalLogIterator<'a>,
 ) -> Option<Result<LogEntry<'a>, LogIteratorError>> {
@@ -162,15 +162,15 @@ pub fn time_of_entry(entry: &LogEntry<'_>) -> Duration {
     }
 }
 
-/// The one reason, with its offset.
-pub fn place_of_fault(error: &LogIteratorError) -> usize {
+/// The only variant, with its offset.
+pub fn error_offset(error: &LogIteratorError) -> usize {
     match error {
         LogIteratorError::ParseError { offset } => *offset,
     }
 }
 
-/// The reason with its offset, constructed.
-pub fn fault_at(offset: usize) -> LogIteratorError {
+/// The variant with its offset, constructed.
+pub fn error_at(offset: usize) -> LogIteratorError {
     LogIteratorError::ParseError { offset }
 }
 
@@ -187,7 +187,7 @@ pub fn texts_of<'a>(interval: &IntervalLogHistogram<'a>) -> (&'a str, &'a str) {
     (interval.max(), interval.encoded_histogram())
 }
 
-/// How many intervals a log has, up to a line that can't be read.
+/// Returns the number of intervals in a log, up to an invalid line.
 pub fn count_intervals(log: &[u8]) -> u64 {
     let mut count: u64 = 0;
     for entry in IntervalLogIterator::new(log) {
@@ -200,8 +200,8 @@ pub fn count_intervals(log: &[u8]) -> u64 {
     count
 }
 
-/// Every reason of a merge, and no other.
-pub fn unmerged(error: &MergeError) -> u64 {
+/// Every variant of a merge error, and no other.
+pub fn merge_error_number(error: &MergeError) -> u64 {
     match error {
         MergeError::Creation(_) => 1,
         MergeError::Parse { offset: _ } => 2,
@@ -214,8 +214,8 @@ pub fn unmerged(error: &MergeError) -> u64 {
     }
 }
 
-/// The reasons of a merge hold these types.
-pub fn reasons(
+/// The fields of a merge error have these types.
+pub fn merge_errors(
     creation: CreationError,
     offset: usize,
     interval: u64,
@@ -256,7 +256,7 @@ pub fn times_of_filter(filter: &IntervalFilter<'_>) -> (Option<Duration>, Option
     (filter.from, filter.to)
 }
 
-/// How many intervals were chosen.
+/// The number of intervals chosen.
 pub fn chosen<T: Counter>(merged: &Merged<T>) -> u64 {
     merged.chosen
 }

@@ -51,11 +51,11 @@ impl Serializer for Counted {
 
 /// Writes V2 bytes by the library's serializer.
 #[derive(Drop)]
-pub struct Handing {
+pub struct Forwarding {
     inner: V2Serializer,
 }
 
-impl Serializer for Handing {
+impl Serializer for Forwarding {
     ghost use Rattle.hdrhistogram.specs.V2.{IsV2};
 
     type SerializeError = V2SerializeError;

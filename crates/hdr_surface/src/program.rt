@@ -4,27 +4,27 @@ use hdr_tool::{Fault, run};
 use std::alloc::{AllocError, Global};
 use std::io::{Read, Write};
 
-/// `words` lacks the program's name.
-pub fn run_words<R: Read, W: Write>(
+/// `args` lacks the program's name.
+pub fn run_args<R: Read, W: Write>(
     alloc: Global,
-    words: &[String],
+    args: &[String],
     reader: &mut R,
     writer: &mut W,
 ) -> Result<(), Fault> {
-    run(alloc, words, reader, writer)
+    run(alloc, args, reader, writer)
 }
 
 /// By the full path.
 pub fn run_by_path<R: Read, W: Write>(
     alloc: Global,
-    words: &[String],
+    args: &[String],
     reader: &mut R,
     writer: &mut W,
 ) -> Result<(), Fault> {
-    hdr_tool::run(alloc, words, reader, writer)
+    hdr_tool::run(alloc, args, reader, writer)
 }
 
-/// 1 or 2.
+/// The exit status: 1 or 2.
 pub fn status(fault: &Fault) -> u8 {
     fault.status()
 }

@@ -1,4 +1,4 @@
-//! What fits is computed without a test: numbers, fractions, indices and lengths.
+//! Arithmetic that needs no test: numbers, fractions, indices and lengths.
 
 use hdr_base::Scale;
 use hdr_base::laws::intervals;
@@ -9,13 +9,13 @@ use hdrhistogram::serialization::{Deserializer, Serializer, V2SerializeError, V2
 use hdrhistogram::{Counter, Histogram, Quantile};
 use std::alloc::Global;
 
-/// A denominator that is written down is not 0.
+/// A denominator that is a literal is not 0.
 pub fn three_tenths() -> Quantile {
     Quantile::new(3, 10).unwrap()
 }
 
 /// Guard: a denominator of at least 1.
-pub fn share(num: u64, den: u64) -> Quantile {
+pub fn quantile(num: u64, den: u64) -> Quantile {
     if den == 0 {
         return Quantile::new(1, 1).unwrap();
     }
@@ -23,12 +23,12 @@ pub fn share(num: u64, den: u64) -> Quantile {
 }
 
 /// The denominator of a quantile is at least 1.
-pub fn whole_part(quantile: Quantile) -> u64 {
+pub fn integer_part(quantile: Quantile) -> u64 {
     quantile.num() / quantile.den()
 }
 
 /// The numerator of a quantile fits 64 bits.
-pub fn share_below<T: Counter>(histogram: &Histogram<T>, value: u64) -> u64 {
+pub fn count_below<T: Counter>(histogram: &Histogram<T>, value: u64) -> u64 {
     histogram.quantile_below(value).num as u64
 }
 
@@ -47,8 +47,8 @@ pub fn unit_of_scale(scale: &Scale) -> u64 {
     1 << scale.unit()
 }
 
-/// How far a value lies above the lowest of its class, and below the top. The law says that it lies between them.
-pub fn place_in_class<T: Counter>(histogram: &Histogram<T>, value: u64) -> (u64, u64) {
+/// The distances of a value to the lowest value of its class and to the top. By the law it lies between them.
+pub fn distances_in_class<T: Counter>(histogram: &Histogram<T>, value: u64) -> (u64, u64) {
     intervals();
     (
         value - histogram.lowest_equivalent(value),
@@ -56,8 +56,8 @@ pub fn place_in_class<T: Counter>(histogram: &Histogram<T>, value: u64) -> (u64,
     )
 }
 
-/// The same of a scale.
-pub fn place_in_scale(scale: &Scale, value: u64) -> (u64, u64) {
+/// The same for a scale.
+pub fn distances_in_scale(scale: &Scale, value: u64) -> (u64, u64) {
     intervals();
     (value - scale.lowest(value), scale.top(value) - value)
 }
@@ -68,7 +68,7 @@ pub fn precision<T: Counter>(histogram: &Histogram<T>) -> u64 {
     powers[histogram.sigfig() as usize]
 }
 
-/// There are few enough counters for this.
+/// Twice the number of counters doesn't overflow.
 pub fn len_of_counts<T: Counter>(counts: &Counts<T>) -> usize {
     2 * counts.len()
 }
@@ -81,8 +81,8 @@ pub fn last_sum<T: Counter>(counts: &Counts<T>) -> u128 {
     counts.sum_to(counts.len() - 1)
 }
 
-/// Blocks of any length, and then one more. Guard: with one more there are at most as many as there may be.
-pub fn grown_by_one<T: Counter>(alloc: Global, blocks: usize, block: usize) -> Option<Counts<T>> {
+/// Blocks of any length, and then one more. Guard: with one more there are at most `6_291_456` counters.
+pub fn grow_by_one<T: Counter>(alloc: Global, blocks: usize, block: usize) -> Option<Counts<T>> {
     if block == 0 || blocks >= 6_291_456 / block {
         return None;
     }
@@ -91,10 +91,10 @@ pub fn grown_by_one<T: Counter>(alloc: Global, blocks: usize, block: usize) -> O
     Some(counts)
 }
 
-/// A payload fails at a great count alone, and lies in the buffer.
+/// A payload fails only at a count that is too great, and lies in the buffer.
 pub fn payload<'a, T: Counter>(histogram: &Histogram<T>, buffer: &'a mut [u8]) -> Option<&'a [u8]> {
-    let room = counts_array_max_encoded_size(histogram.distinct_values()).unwrap();
-    if buffer.len() < room {
+    let max_len = counts_array_max_encoded_size(histogram.distinct_values()).unwrap();
+    if buffer.len() < max_len {
         return None;
     }
     match encode_counts(histogram, buffer) {
@@ -106,7 +106,7 @@ pub fn payload<'a, T: Counter>(histogram: &Histogram<T>, buffer: &'a mut [u8]) -
     }
 }
 
-/// What follows a number. Guard: at least nine bytes.
+/// The bytes after a varint. Guard: at least nine bytes.
 pub fn after_varint(bytes: &[u8]) -> Option<&[u8]> {
     if bytes.len() < 9 {
         return None;
@@ -115,15 +115,15 @@ pub fn after_varint(bytes: &[u8]) -> Option<&[u8]> {
     Some(&bytes[len..])
 }
 
-/// What follows a histogram.
+/// The bytes after a histogram.
 pub fn after_histogram<'a>(deserializer: &mut Deserializer, bytes: &'a [u8]) -> Option<&'a [u8]> {
     match deserializer.decode_slice::<u64>(bytes) {
-        Ok((_, taken)) => Some(&bytes[taken..]),
+        Ok((_, consumed)) => Some(&bytes[consumed..]),
         Err(_) => None,
     }
 }
 
-/// A vector holds as many bytes as the serializer says.
+/// A vector holds as many bytes as the serializer returns.
 pub fn in_vector<T: Counter>(alloc: Global, histogram: &Histogram<T>) -> Option<Vec<u8>> {
     let mut bytes = Vec::new(alloc);
     match V2Serializer::new(alloc).serialize(histogram, &mut bytes) {

@@ -53,12 +53,12 @@ pub fn mean<T: Counter>(histogram: &Histogram<T>) -> Option<Fraction> {
     histogram.mean()
 }
 
-pub fn whole_mean<T: Counter>(histogram: &Histogram<T>) -> Option<u128> {
+pub fn integer_mean<T: Counter>(histogram: &Histogram<T>) -> Option<u128> {
     let mean = histogram.mean()?;
     Some(mean.num / mean.den)
 }
 
-pub fn whole_percentile_below<T: Counter>(histogram: &Histogram<T>, value: u64) -> u128 {
+pub fn integer_percentile_below<T: Counter>(histogram: &Histogram<T>, value: u64) -> u128 {
     let percentile = histogram.percentile_below(value);
     percentile.num / percentile.den
 }
@@ -68,13 +68,13 @@ pub fn is_all_below<T: Counter>(histogram: &Histogram<T>, value: u64) -> bool {
     quantile.num / quantile.den == 1
 }
 
-/// The capped sum of counters is never above the total.
-pub fn above<T: Counter>(histogram: &Histogram<T>, value: u64) -> u64 {
+/// The saturating sum of counters is never above the total.
+pub fn count_above<T: Counter>(histogram: &Histogram<T>, value: u64) -> u64 {
     histogram.len() - histogram.count_between(0, value)
 }
 
 /// A quantile is at most 1.
-pub fn rest<T: Counter>(histogram: &Histogram<T>, value: u64) -> u128 {
+pub fn quantile_above<T: Counter>(histogram: &Histogram<T>, value: u64) -> u128 {
     let below = histogram.quantile_below(value);
     below.den - below.num
 }

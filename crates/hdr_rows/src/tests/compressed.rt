@@ -1,7 +1,7 @@
-//! Zlib streams of zlib 1.2.13, an interval of Java's library, and the texts of errors.
+//! Zlib streams of zlib 1.2.13, an interval of Java's library, and the messages of errors.
 
 use crate::tests::FIRST_RUN;
-use crate::tests::texts::says;
+use crate::tests::messages::assert_message;
 use hdr_convert::{ConvertError, Form, compressed, convert_line, form_of, v2_bytes};
 use hdr_zlib::{InflateError, Level, adler32, deflate, inflate};
 use std::process::Abort;
@@ -94,14 +94,14 @@ fn forms_of_other_histograms(rt: HostRuntime) -> Result<(), Fail> {
 }
 
 #[test]
-fn texts_of_conversion(rt: HostRuntime) -> Result<(), Fail> {
-    says(
+fn conversion_messages(rt: HostRuntime) -> Result<(), Fail> {
+    assert_message(
         &rt,
         &ConvertError::OldVersion(1),
         "a histogram of version 1 with counters of an unknown width",
     )?;
-    says(&rt, &ConvertError::DoubleHistogram, "a double histogram")?;
+    assert_message(&rt, &ConvertError::DoubleHistogram, "a double histogram")?;
     let error = ConvertError::Inflate(InflateError::Checksum);
-    let text = "invalid compressed histogram: the checksum of the data is wrong";
-    says(&rt, &error, text)
+    let message = "invalid compressed histogram: the checksum of the data is wrong";
+    assert_message(&rt, &error, message)
 }

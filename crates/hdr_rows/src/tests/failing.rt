@@ -1,5 +1,5 @@
 //! Readers and writers that read or write few bytes a call, and fail at one call, with each kind of error that the kit has. They
-//! fail once, so that a body that retries succeeds, and is seen.
+//! fail once, so that code that retries succeeds.
 
 use std::io::{self, ErrorKind, Read, Write};
 
@@ -20,7 +20,7 @@ pub const KINDS: [ErrorKind; 42] = kinds! {
 /// A reader that returns at most `step` bytes a call, and fails at one call, counted from 1.
 #[derive(Drop)]
 pub struct Source<'a> {
-    pub left: &'a [u8],
+    pub rest: &'a [u8],
     step: usize,
     calls: usize,
     pub fails_at: usize,
@@ -29,9 +29,9 @@ pub struct Source<'a> {
 
 impl<'a> Source<'a> {
     /// Returns a reader that fails at a call, or at none if that is 0.
-    pub fn new(left: &'a [u8], step: usize, fails_at: usize, kind: ErrorKind) -> Source<'a> {
+    pub fn new(rest: &'a [u8], step: usize, fails_at: usize, kind: ErrorKind) -> Source<'a> {
         Source {
-            left,
+            rest,
             step,
             calls: 0,
             fails_at,
@@ -46,19 +46,19 @@ impl<'a> Read for Source<'a> {
         if self.calls == self.fails_at {
             return Err(io::Error::from(self.kind));
         }
-        let count = buf.len().min(self.left.len()).min(self.step);
-        let (now, later) = self.left.split_at(count);
-        buf[..count].copy_from_slice(now);
-        self.left = later;
+        let count = buf.len().min(self.rest.len()).min(self.step);
+        let (chunk, rest) = self.rest.split_at(count);
+        buf[..count].copy_from_slice(chunk);
+        self.rest = rest;
         Ok(count)
     }
 }
 
-/// A writer of at most 256 bytes, which takes at most `step` bytes a call, and fails at one call, counted from 1: with a kind,
-/// or by taking none.
+/// A writer of at most 256 bytes, which accepts at most `step` bytes a call, and fails at one call, counted from 1: with an
+/// error of `kind`, or by returning 0.
 #[derive(Drop)]
 pub struct Sink {
-    held: [u8; 256],
+    buf: [u8; 256],
     len: usize,
     step: usize,
     calls: usize,
@@ -70,7 +70,7 @@ impl Sink {
     /// Returns a writer that fails at a call, or at none if that is 0.
     pub fn new(step: usize, fails_at: usize, kind: Option<ErrorKind>) -> Sink {
         Sink {
-            held: [0; 256],
+            buf: [0; 256],
             len: 0,
             step,
             calls: 0,
@@ -79,19 +79,19 @@ impl Sink {
         }
     }
 
-    /// Returns what was written.
-    pub fn text(&self) -> &[u8] {
-        self.held.get(..self.len).unwrap_or(&[])
+    /// Returns the bytes written.
+    pub fn written(&self) -> &[u8] {
+        self.buf.get(..self.len).unwrap_or(&[])
     }
 
-    /// Whether it holds just what it took of a text before it failed.
-    pub fn holds_front(&self, text: &[u8]) -> bool {
-        let taken = self.fails_at.saturating_sub(1).saturating_mul(self.step);
-        self.text() == &text[..text.len().min(taken)]
+    /// Whether it holds just the part of `output` that was written before it failed.
+    pub fn holds_prefix(&self, output: &[u8]) -> bool {
+        let len = self.fails_at.saturating_sub(1).saturating_mul(self.step);
+        self.written() == &output[..output.len().min(len)]
     }
 
-    /// The error that its caller has to return: its own, or that it took nothing.
-    pub fn failure(&self) -> ErrorKind {
+    /// Returns the kind of error that its caller has to return: its own, or `WriteZero`.
+    pub fn expected_kind(&self) -> ErrorKind {
         self.kind.unwrap_or(ErrorKind::WriteZero)
     }
 }
@@ -105,9 +105,9 @@ impl Write for Sink {
                 None => Ok(0),
             };
         }
-        let room = self.held.get_mut(self.len..).unwrap_or(&mut []);
-        let count = buf.len().min(room.len()).min(self.step);
-        room[..count].copy_from_slice(&buf[..count]);
+        let free = self.buf.get_mut(self.len..).unwrap_or(&mut []);
+        let count = buf.len().min(free.len()).min(self.step);
+        free[..count].copy_from_slice(&buf[..count]);
         self.len = self.len.saturating_add(count);
         Ok(count)
     }

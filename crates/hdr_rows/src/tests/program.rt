@@ -8,12 +8,12 @@ use std::process::Abort;
 use std::test::Fail;
 
 /// Splits a line at its spaces into arguments.
-fn words_of(alloc: Global, line: &str) -> Result<Vec<String>, AllocError> {
-    let mut words = Vec::new(alloc);
-    for word in line.split(' ') {
-        words.push(String::from_str(alloc, word)?)?;
+fn split_args(alloc: Global, line: &str) -> Result<Vec<String>, AllocError> {
+    let mut args = Vec::new(alloc);
+    for arg in line.split(' ') {
+        args.push(String::from_str(alloc, arg)?)?;
     }
-    Ok(words)
+    Ok(args)
 }
 
 /// The arguments and the input of a small report, and its output.
@@ -26,45 +26,45 @@ const SMALL_OUTPUT: &str =
 
 #[test]
 fn a_byte_at_a_time(rt: HostRuntime) -> Result<(), Fail> {
-    let words = words_of(rt.alloc(), SMALL)?;
+    let args = split_args(rt.alloc(), SMALL)?;
     let mut source = Source::new(SMALL_INPUT, 1, 0, ErrorKind::Other);
     let mut sink = Sink::new(1, 0, None);
-    let ran = run(rt.alloc(), words.as_slice(), &mut source, &mut sink);
-    assert!(rt; ran.is_ok());
-    assert_eq!(rt; sink.text(), SMALL_OUTPUT.as_bytes());
+    let result = run(rt.alloc(), args.as_slice(), &mut source, &mut sink);
+    assert!(rt; result.is_ok());
+    assert_eq!(rt; sink.written(), SMALL_OUTPUT.as_bytes());
     Ok(())
 }
 
-/// Runs the program on an input of a byte a read, with one read that fails. Returns whether that is the error, and `stands` is
-/// the output.
-fn is_unread(
+/// Runs the program on an input of a byte a read, with one read that fails. Returns whether that is the error, and `output` was
+/// written.
+fn fails_to_read(
     alloc: Global,
-    words: &[String],
+    args: &[String],
     input: &[u8],
     kind: ErrorKind,
     at: usize,
-    stands: &[u8],
+    output: &[u8],
 ) -> bool {
     let mut source = Source::new(input, 1, at, kind);
     let mut sink = Sink::new(256, 0, None);
-    let ran = run(alloc, words, &mut source, &mut sink);
-    matches!(ran, Err(Fault::CannotRead)) && sink.text() == stands
+    let result = run(alloc, args, &mut source, &mut sink);
+    matches!(result, Err(Fault::CannotRead)) && sink.written() == output
 }
 
-/// Whether a reader that fails with this kind ends the run: an interrupted read is retried.
-fn ends_the_run(kind: ErrorKind) -> bool {
+/// Whether an error of this kind ends the run: an interrupted read is retried.
+fn is_fatal(kind: ErrorKind) -> bool {
     kind != ErrorKind::Interrupted
 }
 
-/// The first read to the one at the end of the input fail in turn, and nothing is written.
-fn reads_fail(rt: &(impl Abort + AllocGlobal), words: &str, input: &[u8]) -> Result<(), Fail> {
-    let words = words_of(rt.alloc(), words)?;
+/// Lets each read fail in turn, up to the one at the end of the input. Nothing is written.
+fn check_reads(rt: &(impl Abort + AllocGlobal), args: &str, input: &[u8]) -> Result<(), Fail> {
+    let args = split_args(rt.alloc(), args)?;
     let last = input.len().saturating_add(1);
     for kind in KINDS {
-        if ends_the_run(kind) {
+        if is_fatal(kind) {
             for at in 1..=last {
-                let is_right = is_unread(rt.alloc(), words.as_slice(), input, kind, at, b"");
-                assert!(rt; is_right, "{kind:?} at {at}");
+                let is_expected = fails_to_read(rt.alloc(), args.as_slice(), input, kind, at, b"");
+                assert!(rt; is_expected, "{kind:?} at {at}");
             }
         }
     }
@@ -73,20 +73,20 @@ fn reads_fail(rt: &(impl Abort + AllocGlobal), words: &str, input: &[u8]) -> Res
 
 #[test]
 fn each_read_fails(rt: HostRuntime) -> Result<(), Fail> {
-    reads_fail(&rt, SMALL, SMALL_INPUT)?;
-    reads_fail(&rt, "merge 3 3/10", b"#a comment\n")?;
+    check_reads(&rt, SMALL, SMALL_INPUT)?;
+    check_reads(&rt, "merge 3 3/10", b"#a comment\n")?;
     // A read that fails after a line that is not a command is reported, and not that line.
-    reads_fail(&rt, SMALL, b"x\nr 1\n")?;
-    reads_fail(&rt, "log 3", b"x\nr 1\n")
+    check_reads(&rt, SMALL, b"x\nr 1\n")?;
+    check_reads(&rt, "log 3", b"x\nr 1\n")
 }
 
-/// Input and output of a log of two intervals, the first of which ends at byte 23, and its line at byte 85.
+/// Input and output of a log of two intervals. The first ends at byte 23, and its line at byte 85.
 const TWO_INPUT: &[u8; 35] = b"r 1\nr 2 4\nend 0 1000 a\nr 1\nend 0 1\n";
 
 const TWO_OUTPUT: &str =
     "Tag=a,0.000,1.000,2.000,HISTEwAAAAMAAAAAAAAAAwAAAAAAAAABAAAAAAAAAAI/8AAAAAAAAAACCA==\n0.000,0.001,1.000,HISTEwAAAAIAAAAAAAAAAwAAAAAAAAABAAAAAAAAAAI/8AAAAAAAAAAC\n";
 
-/// How long the intervals are that end before a read of that log.
+/// Returns the length of the intervals that end before a read of that log.
 fn len_before(at: usize) -> usize {
     match at {
         0..=23 => 0,
@@ -98,14 +98,21 @@ fn len_before(at: usize) -> usize {
 /// A log has written the intervals before the read that fails.
 #[test]
 fn each_read_of_a_log_fails(rt: HostRuntime) -> Result<(), Fail> {
-    let words = words_of(rt.alloc(), "log 3")?;
+    let args = split_args(rt.alloc(), "log 3")?;
     let output = TWO_OUTPUT.as_bytes();
     for kind in KINDS {
-        if ends_the_run(kind) {
+        if is_fatal(kind) {
             for at in 1..=36usize {
-                let stands = output.get(..len_before(at)).unwrap_or(&[]);
-                let is_right = is_unread(rt.alloc(), words.as_slice(), TWO_INPUT, kind, at, stands);
-                assert!(rt; is_right, "{kind:?} at {at}");
+                let written = output.get(..len_before(at)).unwrap_or(&[]);
+                let is_expected = fails_to_read(
+                    rt.alloc(),
+                    args.as_slice(),
+                    TWO_INPUT,
+                    kind,
+                    at,
+                    written,
+                );
+                assert!(rt; is_expected, "{kind:?} at {at}");
             }
         }
     }
@@ -114,9 +121,9 @@ fn each_read_of_a_log_fails(rt: HostRuntime) -> Result<(), Fail> {
 
 /// Runs the program on an input, with one write that fails. Returns whether that is the error, and exactly the part of the
 /// output before it was written.
-fn is_told(
+fn fails_to_write(
     alloc: Global,
-    words: &[String],
+    args: &[String],
     input: &[u8],
     output: &str,
     kind: Option<ErrorKind>,
@@ -124,8 +131,8 @@ fn is_told(
 ) -> bool {
     let mut source = Source::new(input, 20, 0, ErrorKind::Other);
     let mut sink = Sink::new(10, at, kind);
-    let ran = run(alloc, words, &mut source, &mut sink);
-    matches!(ran, Err(Fault::CannotWrite)) && sink.holds_front(output.as_bytes())
+    let result = run(alloc, args, &mut source, &mut sink);
+    matches!(result, Err(Fault::CannotWrite)) && sink.holds_prefix(output.as_bytes())
 }
 
 /// Input and output of a small log.
@@ -134,54 +141,57 @@ const LOG_INPUT: &[u8; 23] = b"r 1\nr 2 4\nend 0 1000 a\n";
 const LOG_OUTPUT: &str =
     "Tag=a,0.000,1.000,2.000,HISTEwAAAAMAAAAAAAAAAwAAAAAAAAABAAAAAAAAAAI/8AAAAAAAAAACCA==\n";
 
-/// The first write of a text to the last fail in turn, by an error of each kind, and by taking nothing.
-fn writes_fail(
+/// Lets each of the `last` writes of an output fail in turn, by an error of each kind, and by returning 0.
+fn check_writes(
     rt: &(impl Abort + AllocGlobal),
-    words: &str,
+    args: &str,
     input: &[u8],
     output: &str,
     last: usize,
 ) -> Result<(), Fail> {
-    let words = words_of(rt.alloc(), words)?;
-    let words = words.as_slice();
+    let args = split_args(rt.alloc(), args)?;
+    let args = args.as_slice();
     for at in 1..=last {
-        assert!(rt; is_told(rt.alloc(), words, input, output, None, at), "{at}");
+        assert!(rt;
+            fails_to_write(rt.alloc(), args, input, output, None, at),
+            "{at}"
+        );
         for kind in KINDS {
-            let is_right = is_told(rt.alloc(), words, input, output, Some(kind), at);
-            assert!(rt; is_right, "{kind:?} at {at}");
+            let is_expected = fails_to_write(rt.alloc(), args, input, output, Some(kind), at);
+            assert!(rt; is_expected, "{kind:?} at {at}");
         }
     }
     let after = last.saturating_add(1);
-    assert!(rt; !is_told(rt.alloc(), words, input, output, None, after));
+    assert!(rt; !fails_to_write(rt.alloc(), args, input, output, None, after));
     Ok(())
 }
 
 #[test]
 fn each_write_fails(rt: HostRuntime) -> Result<(), Fail> {
-    writes_fail(&rt, SMALL, SMALL_INPUT, SMALL_OUTPUT, 11)?;
-    writes_fail(&rt, "log 3", LOG_INPUT, LOG_OUTPUT, 9)?;
-    writes_fail(&rt, "merge 3 3/10", LOG_OUTPUT.as_bytes(), SMALL_OUTPUT, 11)
+    check_writes(&rt, SMALL, SMALL_INPUT, SMALL_OUTPUT, 11)?;
+    check_writes(&rt, "log 3", LOG_INPUT, LOG_OUTPUT, 9)?;
+    check_writes(&rt, "merge 3 3/10", LOG_OUTPUT.as_bytes(), SMALL_OUTPUT, 11)
 }
 
 /// Runs the program with an interrupted read and an interrupted write, on an output that retries. Returns whether all of the
 /// output was written.
-fn passes(alloc: Global, line: &str, input: &[u8], output: &str) -> Result<bool, AllocError> {
-    let words = words_of(alloc, line)?;
+fn retries(alloc: Global, line: &str, input: &[u8], output: &str) -> Result<bool, AllocError> {
+    let args = split_args(alloc, line)?;
     let mut source = Source::new(input, 7, 2, ErrorKind::Interrupted);
     let mut retry = RetryWriter {
         writer: Sink::new(10, 2, Some(ErrorKind::Interrupted)),
     };
-    let ran = run(alloc, words.as_slice(), &mut source, &mut retry);
-    Ok(ran.is_ok() && retry.writer.text() == output.as_bytes())
+    let result = run(alloc, args.as_slice(), &mut source, &mut retry);
+    Ok(result.is_ok() && retry.writer.written() == output.as_bytes())
 }
 
-/// An output that does not retry ends each command alike: `writes_fail` has that.
+/// `check_writes` has the outputs that don't retry, which end each command.
 #[test]
-fn interruptions_pass(rt: HostRuntime) -> Result<(), Fail> {
-    assert!(rt; passes(rt.alloc(), SMALL, SMALL_INPUT, SMALL_OUTPUT)?);
-    assert!(rt; passes(rt.alloc(), "log 3", LOG_INPUT, LOG_OUTPUT)?);
+fn interruptions_are_retried(rt: HostRuntime) -> Result<(), Fail> {
+    assert!(rt; retries(rt.alloc(), SMALL, SMALL_INPUT, SMALL_OUTPUT)?);
+    assert!(rt; retries(rt.alloc(), "log 3", LOG_INPUT, LOG_OUTPUT)?);
     assert!(rt;
-        passes(
+        retries(
             rt.alloc(),
             "merge 3 3/10",
             LOG_OUTPUT.as_bytes(),

@@ -10,11 +10,11 @@ use std::process::Abort;
 use std::test::Fail;
 use std::time::Duration;
 
-/// Writes four bytes, two of which are in no UTF-8, and the last of which is the number of digits.
+/// Writes four bytes, two of which never occur in UTF-8, and the last of which is the number of digits.
 #[derive(Drop)]
-struct Lengths;
+struct FourBytes;
 
-impl Serializer for Lengths {
+impl Serializer for FourBytes {
     type SerializeError = io::Error;
 
     ghost writes = { λ _ _. Unit {0} };
@@ -31,14 +31,14 @@ impl Serializer for Lengths {
 
 #[test]
 fn own_bytes_are_read_back(rt: HostRuntime) -> Result<(), Fail> {
-    let mut text = Vec::new(rt.alloc());
-    IntervalLogWriter::new(rt.alloc(), &mut text, &mut Lengths, 1).write_histogram(
+    let mut log = Vec::new(rt.alloc());
+    IntervalLogWriter::new(rt.alloc(), &mut log, &mut FourBytes, 1).write_histogram(
         &first_run(rt.alloc())?,
         Duration::ZERO,
         Duration::ZERO,
         None,
     )?;
-    let Some(Ok(LogEntry::Interval(interval))) = IntervalLogIterator::new(&text).next() else {
+    let Some(Ok(LogEntry::Interval(interval))) = IntervalLogIterator::new(&log).next() else {
         return Err(Fail::from("no interval"));
     };
     let bytes = decoded(rt.alloc(), interval.encoded_histogram())?;

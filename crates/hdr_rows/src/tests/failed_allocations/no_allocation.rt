@@ -1,6 +1,6 @@
 //! Calls that allocate nothing.
 
-use crate::tests::refused::{is_refused, made};
+use crate::tests::failed_allocations::{any_fails, create_table};
 use hdr_base::Quantile;
 use hdr_core::{Call, CallFrom, Histogram};
 use hdr_log::{IntervalLogIterator, Tag};
@@ -20,7 +20,7 @@ const SMALL: &str = "one new_with_max 1000 1; other new_with_max 1000 1; wide ne
     other saturating_record 7; wide saturating_record 900";
 
 /// Calls that allocate nothing on `SMALL`.
-const RESTING: &str = "one record 900; one record_n 5 255; one record_correct 90 10; \
+const CALLS: &str = "one record 900; one record_n 5 255; one record_correct 90 10; \
     one record_n_correct 90 200 7; one record_n_correct_counted 900 1 1; \
     one saturating_record 5000; one saturating_record_n 5000 3; one record 5000; \
     one apply record 9 1; one apply clamp 9 1; one apply correct 9 1 2; one apply add; \
@@ -40,7 +40,7 @@ const RESTING: &str = "one record 900; one record_n 5 255; one record_correct 90
     fraction num 1 2; fraction den 1 2; fraction ticks; bytes zig_zag -5; log tag a";
 
 /// Whether a run succeeds that allocates nothing.
-fn run_is_done(table: &mut Table<u64>) -> bool {
+fn run_succeeds(table: &mut Table<u64>) -> bool {
     let calls = [
         Call::Record(9, 1),
         Call::Add(&table.other),
@@ -50,7 +50,7 @@ fn run_is_done(table: &mut Table<u64>) -> bool {
 }
 
 /// Whether a run with a source of another type succeeds, which allocates nothing.
-fn run_from_is_done(table: &mut Table<u64>) -> bool {
+fn run_from_succeeds(table: &mut Table<u64>) -> bool {
     let calls = [
         CallFrom::Own(Call::Record(9, 1)),
         CallFrom::AddFrom(&table.wide),
@@ -60,21 +60,21 @@ fn run_from_is_done(table: &mut Table<u64>) -> bool {
 }
 
 /// Whether calls that allocate nothing succeed, or `None` if an allocation failed before them.
-fn rests(alloc: Global) -> Option<bool> {
-    let mut table = made(alloc, SMALL)?;
+fn calls_succeed(alloc: Global) -> Option<bool> {
+    let mut table = create_table(alloc, SMALL)?;
     Some(
-        !is_refused(alloc, &mut table, RESTING)
-            && run_is_done(&mut table)
-            && run_from_is_done(&mut table),
+        !any_fails(alloc, &mut table, CALLS)
+            && run_succeeds(&mut table)
+            && run_from_succeeds(&mut table),
     )
 }
 
 /// Whether the payload of a histogram is right, in a buffer that is not allocated anew.
 fn payload_is_right(h: &Histogram<u64>, buf: &mut Vec<u8>) -> bool {
-    let Some(room) = counts_array_max_encoded_size(h.distinct_values()) else {
+    let Some(max_len) = counts_array_max_encoded_size(h.distinct_values()) else {
         return false;
     };
-    room <= buf.len() && matches!(encode_counts(h, buf), Ok(len) if len > 0)
+    max_len <= buf.len() && matches!(encode_counts(h, buf), Ok(len) if len > 0)
 }
 
 /// Whether numbers are encoded, and decoded again.
@@ -94,7 +94,7 @@ macro_rules! count_each {
 }
 
 /// Returns how many items all iterators have.
-fn iterated(h: &Histogram<u64>) -> u64 {
+fn count_items(h: &Histogram<u64>) -> u64 {
     let mut items: u64 = 0;
     count_each!(items: h.iter_all(), h.iter_recorded(), h.iter_linear(100), h.iter_log(1, 10));
     count_each!(items: h.iter_quantiles(2));
@@ -127,8 +127,8 @@ fn makes_and_reads(alloc: Global) -> bool {
     matches!(log.next(), Some(Ok(_))) && log.next().is_none() && Tag::new("a").is_some()
 }
 
-/// Whether bytes, iterators and statistics are right, which allocate nothing, or `None` if an allocation failed before them.
-fn reads_rest(alloc: Global) -> Option<bool> {
+/// Whether bytes, iterators and statistics, which allocate nothing, are right, or `None` if an allocation failed before them.
+fn reading_succeeds(alloc: Global) -> Option<bool> {
     let mut h: Histogram<u64> = Histogram::new_with_max(alloc, 1000, 1).ok()?;
     let mut buf = vec![in alloc; 0u8; 10_000].ok()?;
     let half = Quantile::new(1, 2)?;
@@ -136,26 +136,26 @@ fn reads_rest(alloc: Global) -> Option<bool> {
     Some(
         payload_is_right(&h, &mut buf)
             && numbers_are_right()
-            && iterated(&h) > 0
+            && count_items(&h) > 0
             && statistics_are_right(&h, half)
             && makes_and_reads(alloc),
     )
 }
 
-/// No allocation fails once the histograms are made.
+/// No allocation fails once the histograms are there.
 #[test]
-fn resting(rt: HostRuntime) -> Result<(), Fail> {
-    match rests(rt.alloc()) {
-        Some(done) => assert!(rt; done),
+fn calls_without_allocation(rt: HostRuntime) -> Result<(), Fail> {
+    match calls_succeed(rt.alloc()) {
+        Some(succeeds) => assert!(rt; succeeds),
         None => println!(rt; "no memory")?,
     }
     Ok(())
 }
 
 #[test]
-fn reading_at_rest(rt: HostRuntime) -> Result<(), Fail> {
-    match reads_rest(rt.alloc()) {
-        Some(done) => assert!(rt; done),
+fn reading_without_allocation(rt: HostRuntime) -> Result<(), Fail> {
+    match reading_succeeds(rt.alloc()) {
+        Some(succeeds) => assert!(rt; succeeds),
         None => println!(rt; "no memory")?,
     }
     Ok(())

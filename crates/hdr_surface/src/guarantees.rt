@@ -1,4 +1,4 @@
-//! What a caller may rest on: a variant that can't come is `unreachable!()`, and what is there is unwrapped.
+//! What a caller may rely on: a variant that can't occur is `unreachable!()`, and a value that is there is unwrapped.
 
 use hdrhistogram::serialization::interval_log::{
     IntervalLogWriter, IntervalLogWriterBuilder, IntervalLogWriterError, Tag,
@@ -11,7 +11,7 @@ use hdrhistogram::{
 use std::alloc::Global;
 use std::io::Write;
 
-/// A counter's own number is one of its type.
+/// The number of a counter converts back.
 pub fn same_counter<T: Counter>(counter: T) -> T {
     T::from_u64(counter.as_u64()).unwrap()
 }
@@ -51,8 +51,8 @@ pub fn low_of_zero<T: Counter>(alloc: Global, high: u64, sigfig: u8) -> Creation
     }
 }
 
-/// Memory alone can fail.
-pub fn cloned<T: Counter>(histogram: &Histogram<T>) -> Option<Histogram<T>> {
+/// `OutOfMemory` is the only error.
+pub fn clone<T: Counter>(histogram: &Histogram<T>) -> Option<Histogram<T>> {
     match histogram.clone() {
         Ok(copy) => Some(copy),
         Err(CreationError::OutOfMemory) => None,
@@ -60,7 +60,7 @@ pub fn cloned<T: Counter>(histogram: &Histogram<T>) -> Option<Histogram<T>> {
     }
 }
 
-/// Memory alone can fail.
+/// `OutOfMemory` is the only error.
 pub fn new_from<T: Counter, F: Counter>(
     alloc: Global,
     source: &Histogram<F>,
@@ -72,7 +72,7 @@ pub fn new_from<T: Counter, F: Counter>(
     }
 }
 
-/// Memory alone can fail.
+/// `OutOfMemory` is the only error.
 pub fn clone_correct<T: Counter>(histogram: &Histogram<T>, interval: u64) -> Option<Histogram<T>> {
     match histogram.clone_correct(interval) {
         Ok(made) => Some(made),
@@ -81,7 +81,7 @@ pub fn clone_correct<T: Counter>(histogram: &Histogram<T>, interval: u64) -> Opt
     }
 }
 
-/// Inside the bins recording succeeds.
+/// Recording a value that has a bin succeeds.
 pub fn record<T: Counter>(histogram: &mut Histogram<T>, value: u64) {
     if histogram.bin_of(value).is_none() {
         return;
@@ -94,7 +94,7 @@ pub fn record<T: Counter>(histogram: &mut Histogram<T>, value: u64) {
     }
 }
 
-/// Inside the bins correction succeeds.
+/// Correcting a value that has a bin succeeds.
 pub fn record_correct<T: Counter>(histogram: &mut Histogram<T>, value: u64, interval: u64) {
     if histogram.bin_of(value).is_none() {
         return;
@@ -107,7 +107,7 @@ pub fn record_correct<T: Counter>(histogram: &mut Histogram<T>, value: u64, inte
     }
 }
 
-/// Inside the bins correction succeeds.
+/// Correcting a value that has a bin succeeds.
 pub fn record_n_correct<T: Counter>(
     histogram: &mut Histogram<T>,
     value: u64,
@@ -125,8 +125,8 @@ pub fn record_n_correct<T: Counter>(
     }
 }
 
-/// A value is past the bins only where they may not grow, and memory runs out only where they may.
-pub fn recorded<T: Counter>(histogram: &mut Histogram<T>, value: u64) -> bool {
+/// A value is past the bins only if auto-resize is off, and memory runs out only if it is on.
+pub fn record_or_grow<T: Counter>(histogram: &mut Histogram<T>, value: u64) -> bool {
     let grows = histogram.is_auto_resize();
     match histogram.record(value) {
         Ok(()) => true,
@@ -164,7 +164,7 @@ pub fn add_empty<T: Counter>(target: &mut Histogram<T>, source: &Histogram<T>) {
     }
 }
 
-/// A source whose greatest value has a bin is taken over.
+/// Setting to a source whose greatest value has a bin succeeds.
 pub fn set_to<T: Counter>(target: &mut Histogram<T>, source: &Histogram<T>) {
     if target.bin_of(source.max()).is_none() {
         return;
@@ -177,7 +177,7 @@ pub fn set_to<T: Counter>(target: &mut Histogram<T>, source: &Histogram<T>) {
     }
 }
 
-/// The same of a source of another counter type.
+/// The same for a source of another counter type.
 pub fn add_from<T: Counter, F: Counter>(target: &mut Histogram<T>, source: &Histogram<F>) {
     if target.bin_of(source.max()).is_none() {
         return;
@@ -190,7 +190,7 @@ pub fn add_from<T: Counter, F: Counter>(target: &mut Histogram<T>, source: &Hist
     }
 }
 
-/// A subtrahend whose greatest value has a bin fails at a count alone.
+/// If the greatest value of a subtrahend has a bin, only a count can be an error.
 pub fn subtract<T: Counter>(target: &mut Histogram<T>, source: &Histogram<T>) -> bool {
     if target.bin_of(source.max()).is_none() {
         return false;
@@ -223,7 +223,7 @@ pub fn clamp<T: Counter>(histogram: &mut Histogram<T>, value: u64, count: T) {
     }
 }
 
-/// An error of a record is one of records.
+/// `Record` fails with a `RecordError`.
 pub fn apply_record<T: Counter>(
     histogram: &mut Histogram<T>,
     value: u64,
@@ -247,7 +247,7 @@ pub fn failed_call<'a, 'b, T: Counter>(
     }
 }
 
-/// Lent bytes meet no stream.
+/// Borrowed bytes need no stream.
 pub fn to_bytes<'a, T: Counter>(
     serializer: &'a mut V2Serializer,
     histogram: &Histogram<T>,
@@ -275,7 +275,7 @@ pub fn write_comment<W: Write>(
     }
 }
 
-/// A plain beginning writes nothing and succeeds.
+/// A log without options has an empty start, so writing it succeeds.
 pub fn begin<W: Write>(alloc: Global, writer: &mut W, serializer: &mut V2Serializer) {
     match IntervalLogWriterBuilder::new(alloc).begin_log_with(writer, serializer) {
         Ok(_) => {}
@@ -283,7 +283,7 @@ pub fn begin<W: Write>(alloc: Global, writer: &mut W, serializer: &mut V2Seriali
     }
 }
 
-/// A tag's own text is a tag.
+/// The text of a tag is a tag.
 pub fn tag_again<'a>(tag: Tag<'a>) -> Tag<'a> {
     Tag::new(tag.as_str()).unwrap()
 }
@@ -294,6 +294,6 @@ pub fn tag_a() -> Tag<'static> {
 }
 
 /// The empty text is a tag.
-pub fn no_text() -> Tag<'static> {
+pub fn empty_tag() -> Tag<'static> {
     Tag::new("").unwrap()
 }

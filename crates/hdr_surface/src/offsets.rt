@@ -1,9 +1,9 @@
-//! Numbers that fit where they point.
+//! Offsets and numerators that need no test.
 
 use hdrhistogram::serialization::interval_log::{IntervalLogIterator, LogEntry, LogIteratorError};
 use hdrhistogram::{Counter, IterationValue};
 
-/// What is not read of a log: the offset of an error lies in it.
+/// Returns the part of a log that is not read: the offset of an error lies in the log.
 pub fn unread(log: &[u8]) -> &[u8] {
     for entry in IntervalLogIterator::new(log) {
         match entry {
@@ -16,7 +16,7 @@ pub fn unread(log: &[u8]) -> &[u8] {
     &[]
 }
 
-/// The numerator of an item fits 64 bits, as its constructor asks.
-pub fn share_of_item<T: Counter>(item: &IterationValue<T>) -> u64 {
+/// The numerator of an item fits 64 bits, as its constructor requires.
+pub fn numerator_of_item<T: Counter>(item: &IterationValue<T>) -> u64 {
     item.quantile().num as u64
 }

@@ -1,4 +1,4 @@
-//! How a histogram is made, and what it says of itself.
+//! Constructors of a histogram, and its properties.
 
 use hdrhistogram::{Counter, CreationError, Histogram};
 use std::alloc::Global;
@@ -38,7 +38,7 @@ pub fn new_from<T: Counter, F: Counter>(
 }
 
 /// A copy: it takes no allocator.
-pub fn cloned<T: Counter>(histogram: &Histogram<T>) -> Result<Histogram<T>, CreationError> {
+pub fn clone<T: Counter>(histogram: &Histogram<T>) -> Result<Histogram<T>, CreationError> {
     histogram.clone()
 }
 

@@ -20,7 +20,12 @@ fn small_and_large(alloc: Global) -> Option<(Histogram<u64>, Histogram<u64>)> {
 }
 
 /// Whether `to_bytes` returns bytes of length `len`; otherwise an allocation failed.
-fn lends(rt: &impl Abort, serializer: &mut V2Serializer, h: &Histogram<u64>, len: usize) -> bool {
+fn returns_bytes(
+    rt: &impl Abort,
+    serializer: &mut V2Serializer,
+    h: &Histogram<u64>,
+    len: usize,
+) -> bool {
     match serializer.to_bytes(h) {
         Ok(bytes) => {
             assert_eq!(rt; bytes.len(), len);
@@ -34,18 +39,18 @@ fn lends(rt: &impl Abort, serializer: &mut V2Serializer, h: &Histogram<u64>, len
 }
 
 /// Whether `to_bytes` returns the bytes of both at once; otherwise an allocation failed, and it returns them the second time.
-fn lends_both(
+fn returns_both(
     rt: &impl Abort,
     small: &Histogram<u64>,
     large: &Histogram<u64>,
     alloc: Global,
 ) -> bool {
     let mut serializer = V2Serializer::new(alloc);
-    let first = lends(rt, &mut serializer, small, 41);
-    let second = lends(rt, &mut serializer, large, 43);
+    let first = returns_bytes(rt, &mut serializer, small, 41);
+    let second = returns_bytes(rt, &mut serializer, large, 43);
     assert!(rt; first || second);
-    assert!(rt; lends(rt, &mut serializer, small, 41));
-    assert!(rt; lends(rt, &mut serializer, large, 43));
+    assert!(rt; returns_bytes(rt, &mut serializer, small, 41));
+    assert!(rt; returns_bytes(rt, &mut serializer, large, 43));
     drop(serializer);
     first && second
 }
@@ -55,7 +60,7 @@ fn to_bytes(rt: HostRuntime) -> Result<(), Fail> {
     let Some((small, large)) = small_and_large(rt.alloc()) else {
         return Ok(println!(rt; "no memory")?);
     };
-    let at_once = lends_both(&rt, &small, &large, rt.alloc());
+    let at_once = returns_both(&rt, &small, &large, rt.alloc());
     drop(small);
     drop(large);
     if !at_once {
@@ -65,7 +70,7 @@ fn to_bytes(rt: HostRuntime) -> Result<(), Fail> {
 }
 
 /// Returns the histogram of the first run, or `None` if an allocation failed.
-fn held(alloc: Global) -> Option<Histogram<u64>> {
+fn first_run(alloc: Global) -> Option<Histogram<u64>> {
     let mut h = Histogram::new(alloc, 3).ok()?;
     h.saturating_record(1);
     h.saturating_record_n(2, 4);
@@ -95,7 +100,7 @@ fn serializes(
 /// After a failed allocation the serializer makes the right bytes, by `serialize` and by `to_bytes`.
 #[test]
 fn serialize(rt: HostRuntime) -> Result<(), Fail> {
-    let Some(h) = held(rt.alloc()) else {
+    let Some(h) = first_run(rt.alloc()) else {
         return Ok(println!(rt; "no memory")?);
     };
     let Ok(mut written) = Vec::with_capacity(rt.alloc(), 100) else {
@@ -106,8 +111,8 @@ fn serialize(rt: HostRuntime) -> Result<(), Fail> {
     if !at_once {
         assert!(rt; serializes(&rt, &mut serializer, &h, &mut written));
     }
-    let lent = serializer.to_bytes(&h);
-    assert!(rt; matches!(lent, Ok(bytes) if bytes == FIRST_RUN.as_slice()));
+    let bytes = serializer.to_bytes(&h);
+    assert!(rt; matches!(bytes, Ok(bytes) if bytes == FIRST_RUN.as_slice()));
     drop(serializer);
     drop(h);
     if !at_once {
@@ -117,10 +122,10 @@ fn serialize(rt: HostRuntime) -> Result<(), Fail> {
 }
 
 /// Whether a slice is decoded; otherwise an allocation failed.
-fn reads_a_slice(rt: &impl Abort, deserializer: &mut Deserializer) -> bool {
+fn decodes_slice(rt: &impl Abort, deserializer: &mut Deserializer) -> bool {
     match deserializer.decode_slice::<u64>(&FIRST_RUN) {
-        Ok((h, taken)) => {
-            assert_eq!(rt; (h.len(), taken), (5, 43));
+        Ok((h, consumed)) => {
+            assert_eq!(rt; (h.len(), consumed), (5, 43));
             true
         }
         Err(error) => {
@@ -133,16 +138,21 @@ fn reads_a_slice(rt: &impl Abort, deserializer: &mut Deserializer) -> bool {
 #[test]
 fn decode_slice(rt: HostRuntime) -> Result<(), Fail> {
     let mut deserializer = Deserializer::new(rt.alloc());
-    if !reads_a_slice(&rt, &mut deserializer) {
+    if !decodes_slice(&rt, &mut deserializer) {
         println!(rt; "no memory")?;
-        assert!(rt; reads_a_slice(&rt, &mut deserializer));
+        assert!(rt; decodes_slice(&rt, &mut deserializer));
     }
     Ok(())
 }
 
 /// Whether a reader's bytes are decoded to a histogram of `len` samples, up to their end; otherwise an allocation failed.
-fn reads_a_reader(rt: &impl Abort, deserializer: &mut Deserializer, text: &[u8], len: u64) -> bool {
-    let mut reader = text;
+fn decodes_reader(
+    rt: &impl Abort,
+    deserializer: &mut Deserializer,
+    bytes: &[u8],
+    len: u64,
+) -> bool {
+    let mut reader = bytes;
     match deserializer.deserialize::<u64, &[u8]>(&mut reader) {
         Ok(h) => {
             assert!(rt; h.len() == len && reader.is_empty());
@@ -156,42 +166,46 @@ fn reads_a_reader(rt: &impl Abort, deserializer: &mut Deserializer, text: &[u8],
 }
 
 /// Prints whether an allocation failed as bytes were decoded, after which the first run is decoded.
-fn read_text(rt: &(impl Abort + AllocGlobal + Print), text: &[u8], len: u64) -> Result<(), Fail> {
+fn check_deserializer(
+    rt: &(impl Abort + AllocGlobal + Print),
+    bytes: &[u8],
+    len: u64,
+) -> Result<(), Fail> {
     let mut deserializer = Deserializer::new(rt.alloc());
-    if !reads_a_reader(rt, &mut deserializer, text, len) {
+    if !decodes_reader(rt, &mut deserializer, bytes, len) {
         println!(rt; "no memory")?;
-        assert!(rt; reads_a_reader(rt, &mut deserializer, &FIRST_RUN, 5));
+        assert!(rt; decodes_reader(rt, &mut deserializer, &FIRST_RUN, 5));
     }
     Ok(())
 }
 
 #[test]
 fn deserialize(rt: HostRuntime) -> Result<(), Fail> {
-    read_text(&rt, &FIRST_RUN, 5)
+    check_deserializer(&rt, &FIRST_RUN, 5)
 }
 
 /// The header of bytes with 5,000 numbers, and 0 held once, which is the first of them.
-const LONG: [u8; 41] = [
+const LONG_HEADER: [u8; 41] = [
     0x1c, 0x84, 0x93, 0x13, 0, 0, 0x13, 0x88, 0, 0, 0, 0, 0, 0, 0, 3, 0, 0, 0, 0, 0, 0, 0, 1, 0, 0,
     0, 0, 0, 0, 0, 2, 0x3f, 0xf0, 0, 0, 0, 0, 0, 0, 2,
 ];
 
 /// Returns bytes whose payload is read in two chunks, or `None` if an allocation failed.
-fn long_text(alloc: Global) -> Option<Vec<u8>> {
-    let mut text = Vec::with_capacity(alloc, 5_040).ok()?;
-    text.extend_from_slice(LONG.as_slice()).ok()?;
+fn long_bytes(alloc: Global) -> Option<Vec<u8>> {
+    let mut bytes = Vec::with_capacity(alloc, 5_040).ok()?;
+    bytes.extend_from_slice(LONG_HEADER.as_slice()).ok()?;
     for _ in 1..5_000u64 {
-        text.push(0).ok()?;
+        bytes.push(0).ok()?;
     }
-    Some(text)
+    Some(bytes)
 }
 
 #[test]
-fn deserialize_pieces(rt: HostRuntime) -> Result<(), Fail> {
-    let Some(text) = long_text(rt.alloc()) else {
+fn deserialize_in_chunks(rt: HostRuntime) -> Result<(), Fail> {
+    let Some(bytes) = long_bytes(rt.alloc()) else {
         return Ok(println!(rt; "no memory")?);
     };
-    read_text(&rt, text.as_slice(), 1)
+    check_deserializer(&rt, bytes.as_slice(), 1)
 }
 
 /// Returns an empty histogram, and a buffer for its log, or `None` if an allocation failed.
@@ -206,8 +220,8 @@ const LOG: &[u8; 156] =
     b"#a\n#b\n0.000,0.000,0.000,HISTEwAAAAEAAAAAAAAAAAAAAAAAAAABAAAAAAAAAAI/8AAAAAAAAAA=\n0.000,0.000,0.000,HISTEwAAAAEAAAAAAAAAAAAAAAAAAAABAAAAAAAAAAI/8AAAAAAAAAA=\n";
 
 /// Whether a part of a log was written; otherwise an allocation failed. `None` for any other error.
-fn is_done(answer: Result<(), IntervalLogWriterError<V2SerializeError>>) -> Option<bool> {
-    match answer {
+fn succeeds(outcome: Result<(), IntervalLogWriterError<V2SerializeError>>) -> Option<bool> {
+    match outcome {
         Ok(()) => Some(true),
         Err(IntervalLogWriterError::OutOfMemory) => Some(false),
         Err(IntervalLogWriterError::SerializeError(V2SerializeError::OutOfMemory)) => Some(false),
@@ -223,12 +237,12 @@ fn parts_written(
     log: &mut Vec<u8>,
 ) -> Option<usize> {
     let mut writer = IntervalLogWriter::new(alloc, log, serializer, 1);
-    if !is_done(writer.write_comment("a\nb"))? {
+    if !succeeds(writer.write_comment("a\nb"))? {
         return Some(0);
     }
     for parts in 1..3usize {
-        let answer = writer.write_histogram(h, Duration::new(0, 0), Duration::new(0, 0), None);
-        if !is_done(answer)? {
+        let result = writer.write_histogram(h, Duration::new(0, 0), Duration::new(0, 0), None);
+        if !succeeds(result)? {
             return Some(parts);
         }
     }

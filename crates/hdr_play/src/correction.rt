@@ -1,7 +1,7 @@
-//! Correction class by class beside the plain body, which records each missing value by itself.
+//! Compares correction class by class with a plain implementation, which records each missing value by itself.
 
-use crate::answer::Answer;
-use crate::single::same;
+use crate::outcome::Value;
+use crate::single::is_same;
 use hdr_base::Counter;
 use hdr_core::{Histogram, RecordError};
 
@@ -25,37 +25,37 @@ fn record_each<T: Counter>(
     Ok(())
 }
 
-/// Corrects by both bodies in histograms that hold the same before, and compares what both leave.
-pub fn agrees<T: Counter>(
+/// Corrects two equal histograms, one by each implementation. Returns whether results and histograms are the same.
+pub fn corrections_agree<T: Counter>(
     one: &mut Histogram<T>,
     other: &mut Histogram<T>,
     value: u64,
     count: T,
     interval: u64,
 ) -> bool {
-    let answer = one.record_n_correct(value, count, interval);
-    answer == record_each(other, value, count, interval) && same(one, other)
+    let result = one.record_n_correct(value, count, interval);
+    result == record_each(other, value, count, interval) && is_same(one, other)
 }
 
-/// Each value below a number by each interval up to the next value, in histograms that keep what was recorded, or in empty
-/// ones. Returns the first value at which the bodies do not agree.
-pub fn agree_below<T: Counter>(
+/// Corrects each value below `values` by each interval up to the next value. The histograms are reset before each unless
+/// `keeps`. Returns the first value at which the implementations differ.
+pub fn first_difference<T: Counter>(
     one: &mut Histogram<T>,
     other: &mut Histogram<T>,
     values: u64,
     count: T,
     keeps: bool,
-) -> Answer {
+) -> Value {
     for value in 0..values {
         for interval in 0..=value.saturating_add(1) {
             if !keeps {
                 one.reset();
                 other.reset();
             }
-            if !agrees(one, other, value, count, interval) {
-                return Answer::Number(value);
+            if !corrections_agree(one, other, value, count, interval) {
+                return Value::Number(value);
             }
         }
     }
-    Answer::Done
+    Value::Unit
 }
