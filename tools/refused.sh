@@ -1,6 +1,6 @@
 #!/bin/sh
-# For each test below a module `failed_allocations`, as the gate built and proved it: runs it with the first, second, .. request for
-# memory refused, until a run meets no refusal. Each run has to pass, to print 'no memory' exactly where a request was
+# For each test below a module `failed_allocations`, as the gate built and proved it: runs it with the first, second, .. request
+# for memory refused, until a run meets no refusal. Each run has to pass, to print 'no memory' exactly where a request was
 # refused, and to have freed what it took. Every other test has to have freed what it took, too. Tests below a module
 # `large_allocations` have to pass where each request for more than 64 KiB is refused. Fails where there is no such test.
 set -eu
