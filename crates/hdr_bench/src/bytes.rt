@@ -46,7 +46,7 @@ fn checksum<T: Counter>(counters: &[T]) -> u64 {
     sum
 }
 
-fn fill_reading<T: Counter>(histogram: &Histogram<T>, taken: usize, reading: &mut Reading) {
+fn fill_reading<T: Counter>(histogram: &Histogram<T>, consumed: usize, reading: &mut Reading) {
     reading.low = histogram.low();
     reading.high = histogram.high();
     reading.sigfig = u64::from(histogram.sigfig());
@@ -55,7 +55,7 @@ fn fill_reading<T: Counter>(histogram: &Histogram<T>, taken: usize, reading: &mu
     reading.min_nz = histogram.min_nz();
     reading.bins = histogram.distinct_values() as u64;
     reading.counts = checksum(histogram.counters());
-    reading.taken = taken as u64;
+    reading.taken = consumed as u64;
 }
 
 /// Returns the number of an error, from 1 on.
@@ -74,8 +74,8 @@ fn error_number(error: &DeserializeError) -> u64 {
 
 fn decode_slice<T: Counter>(alloc: Global, bytes: &[u8], reading: &mut Reading) -> u64 {
     match Deserializer::new(alloc).decode_slice::<T>(bytes) {
-        Ok((histogram, taken)) => {
-            fill_reading(&histogram, taken, reading);
+        Ok((histogram, consumed)) => {
+            fill_reading(&histogram, consumed, reading);
             0
         }
         Err(error) => error_number(&error),
@@ -94,8 +94,8 @@ fn decode_reader<T: Counter>(
     };
     match Deserializer::new(alloc).deserialize::<T, ChunkReader>(&mut reader) {
         Ok(histogram) => {
-            let taken = bytes.len().saturating_sub(reader.rest.len());
-            fill_reading(&histogram, taken, reading);
+            let consumed = bytes.len().saturating_sub(reader.rest.len());
+            fill_reading(&histogram, consumed, reading);
             0
         }
         Err(error) => error_number(&error),

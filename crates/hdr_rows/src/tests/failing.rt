@@ -1,5 +1,5 @@
-//! Readers and writers that read or write few bytes a call, and fail at one call, with each kind of error that the kit has. They
-//! fail once, so that code that retries succeeds.
+//! Readers and writers that read or write few bytes a call, and fail at one call, with each kind of error. They fail once, so
+//! that code that retries succeeds.
 
 use std::io::{self, ErrorKind, Read, Write};
 
