@@ -58,7 +58,7 @@ values_ascend e l a b p q s u v h =
     let r = along_ascends e l u.logarithm v.logarithm s k in
     rw (u.is, v.is) r
 
-same_logarithm : (a m n : ℕ) → IsLogarithm a m → IsLogarithm a n → m ≡ n
+pub same_logarithm : (a m n : ℕ) → IsLogarithm a m → IsLogarithm a n → m ≡ n
 same_logarithm a m n p q =
     let u = ascends a a m n p q (omega arith) in
     let v = ascends a a n m q p (omega arith) in

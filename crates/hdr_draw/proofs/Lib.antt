@@ -4,6 +4,7 @@ pub mod Pushing
 pub mod Bounds
 pub mod Digits
 pub mod Divided
+pub mod Doubled
 pub mod Decimals
 pub mod Escaping
 pub mod Grouping

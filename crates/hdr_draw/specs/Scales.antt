@@ -1,5 +1,5 @@
 -- Scales: numbers along a length.
-use Rattle.std.specs.Prelude.{◌≡◌, ℕ, ◌-◌, ◌*◌, ◌/◌, min, max}
+use Rattle.std.specs.Prelude.{◌≡◌, ℕ, ◌+◌, ◌-◌, ◌*◌, ◌/◌, ◌≤◌, min, max}
 use Rattle.hdr_draw.specs.Logarithm.{IsLogarithm}
 
 -- where a scale begins, and how far it reaches
@@ -24,6 +24,21 @@ pub record IsQuantilePlace (e : Extent) (length samples part place : ℕ) : Type
   pub samples_logarithm : IsLogarithm (max 1 samples) of_samples
   pub part_logarithm : IsLogarithm (max 1 part) of_part
   pub is : place ≡ along e length (of_samples - of_part)
+
+-- a scale from the quantile 0 to that which half a sample is above, or to p99, which a hundredth is above, if that is greater
+pub record IsQuantileScale (e : Extent) (samples : ℕ) : Type 0 where
+  pub of_twice : ℕ
+  pub of_hundred : ℕ
+  pub twice_logarithm : IsLogarithm (2 * max 1 samples) of_twice
+  pub hundred_logarithm : IsLogarithm 100 of_hundred
+  pub from : e.from ≡ 0
+  pub span : e.span ≡ max of_hundred of_twice
+
+-- a scale reaches to the quantile that one part of so many is above
+pub record HasQuantile (e : Extent) (inverse : ℕ) : Type 0 where
+  pub logarithm : ℕ
+  pub of_inverse : IsLogarithm (max 1 inverse) logarithm
+  pub within : logarithm ≤ e.from + e.span
 
 -- which of 8 equal parts of a logarithmic scale up to the greatest number has a number of samples
 pub record IsColour (samples greatest colour : ℕ) : Type 0 where

@@ -1,7 +1,7 @@
 //! A scale of quantiles, by the logarithm of the inverted distance to 1.
 
-ghost use Rattle.std.specs.Prelude.{◌≡◌, ◌≤◌};
-ghost use Rattle.hdr_draw.specs.Scales.{IsQuantilePlace};
+ghost use Rattle.std.specs.Prelude.{◌≤◌, ◌*◌, ◌↔◌, max, IsTrue};
+ghost use Rattle.hdr_draw.specs.Scales.{HasQuantile, IsQuantilePlace, IsQuantileScale};
 
 use crate::axis::Axis;
 use crate::logarithm::{OCTAVE, logarithm};
@@ -17,17 +17,20 @@ pub struct QuantileScale {
 }
 
 impl Model for QuantileScale {
+    ghost use Rattle.std.specs.Prelude.{◌≡◌};
     ghost use Rattle.hdr_draw.specs.Scales.{Extent};
 
     ghost Value = { Extent };
 
     ghost view = { λ s. s.axis };
+
+    ghost invariant = { λ s. (s.axis.from ≡ 0) × (s.axis.span ≡ s.end) };
 }
 
 impl QuantileScale {
     /// Returns the scale for at most this number of samples. It reaches p99 at least.
     pub fn new(samples: u64) -> QuantileScale
-        ensures { result.from ≡ 0 }
+        ensures { IsQuantileScale result samples }
     {
         let end = (logarithm(samples) + OCTAVE).max(logarithm(100));
         QuantileScale {
@@ -47,13 +50,16 @@ impl QuantileScale {
 
     /// Returns how far the greatest of some samples is along a width: half a sample is above it.
     pub fn place_of_last(&self, samples: u64, width: u32) -> u32
-        ensures { result ≤ width }
+        ensures place { IsQuantilePlace self.now width (2 * max 1 samples) 1 result }
+        ensures within { result ≤ width }
     {
         self.axis.place(logarithm(samples) + OCTAVE, width)
     }
 
     /// Whether the quantile 1 - 1/`inverse` is on the scale.
-    pub fn contains(&self, inverse: u64) -> bool {
+    pub fn contains(&self, inverse: u64) -> bool
+        ensures { IsTrue result ↔ HasQuantile self.now inverse }
+    {
         logarithm(inverse) <= self.end
     }
 }
