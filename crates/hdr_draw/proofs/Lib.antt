@@ -9,4 +9,5 @@ pub mod Decimals
 pub mod Escaping
 pub mod Grouping
 pub mod StepOrder
+pub mod Ticks
 pub mod Significant

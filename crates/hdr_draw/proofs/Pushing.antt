@@ -10,7 +10,7 @@ use Rattle.hdr_draw.proofs.StepOrder.{are_steps, next_is_above, steps_ascend, in
 still_below : (a b : ℕ) (xs : List ℕ) → All (λ n. n < a) xs → a < b → All (λ n. n < b) xs
 still_below a b xs p h = search (arith)
 
-ascending : (x : ℕ) (xs : List ℕ) → IsStrictlyAscending xs → All (λ n. n < x) xs → IsStrictlyAscending (xs ++ x ∷ [])
+pub ascending : (x : ℕ) (xs : List ℕ) → IsStrictlyAscending xs → All (λ n. n < x) xs → IsStrictlyAscending (xs ++ x ∷ [])
 ascending x xs a e = grind (arith, elements)
 
 -- the same steps where the one at the index lies outside the scale

@@ -1,6 +1,7 @@
 -- The steps of a scale.
-use Rattle.std.specs.Prelude.{◌≡◌, ◌==◌, ℕ, ◌+◌, ◌*◌, ◌/◌, ◌%◌, ◌^◌, ◌<◌, ◌≤◌, ◌⊎◌, List, length, slice_index, if◌then◌else◌}
+use Rattle.std.specs.Prelude.{◌≡◌, ◌==◌, ℕ, ◌+◌, ◌*◌, ◌/◌, ◌%◌, ◌^◌, ◌<◌, ◌≤◌, ◌⊎◌, ◌↔◌, List, length, map, slice_index, IsTrue, if◌then◌else◌}
 use Rattle.std.specs.List.{All, Contains}
+use Rattle.hdr_draw.specs.declared.times.TimeTick.{TimeTick}
 
 -- a step is 1, 2 or 5 times a power of ten
 abbrev pub IsStep : ℕ → Type 0
@@ -27,3 +28,11 @@ pub record AreSteps (low high index : ℕ) (xs : List ℕ) : Type 0 where
 -- a time from another to a third that is a multiple of a step
 abbrev pub IsTickTime : ℕ → ℕ → ℕ → ℕ → Type 0
 IsTickTime step from to time = (from ≤ time) × (time ≤ to) × (time % step ≡ 0)
+
+-- the ticks at the multiples of a step from a time to another that are below a bound, ascending; coarse are those at multiples of so many steps
+pub record AreTicks (step every from to bound : ℕ) (ticks : List TimeTick) : Type 0 where
+  pub times : All (λ t. IsTickTime step from to t.time) ticks
+  pub below : All (λ t. t.time < bound) ticks
+  pub ascending : IsStrictlyAscending (map (λ t. t.time) ticks)
+  pub all : (time : ℕ) → IsTickTime step from to time → time < bound → Contains (map (λ t. t.time) ticks) time
+  pub coarse : All (λ t. IsTrue t.is_coarse ↔ t.time / step % every ≡ 0) ticks

@@ -1,8 +1,7 @@
 //! A scale of time: its steps, in milliseconds.
 
-ghost use Rattle.std.specs.Prelude.{◌≡◌, ◌<◌, ◌*◌, ◌%◌, ◌^◌, IfOk, OnOk};
-ghost use Rattle.std.specs.List.{All};
-ghost use Rattle.hdr_draw.specs.Steps.{IsTickTime};
+ghost use Rattle.std.specs.Prelude.{◌<◌, ◌+◌, ◌*◌, ◌^◌, ◌↔◌, IfOk, IsTrue, OnOk};
+ghost use Rattle.hdr_draw.specs.Steps.{AreTicks};
 
 use std::alloc::{AllocError, Global};
 
@@ -35,6 +34,7 @@ pub struct TimeSteps {
     pub every: u64,
     ghost some: { 0 < step },
     ghost fits: { step * 1000 < 2 ^ 64 },
+    ghost often: { 0 < every },
 }
 
 impl TimeSteps {
@@ -52,44 +52,43 @@ impl TimeSteps {
     }
 
     /// Whether the texts have seconds.
-    pub fn has_seconds(self) -> bool {
+    pub fn has_seconds(self) -> bool
+        ensures { IsTrue result ↔ self.step < 60 }
+    {
         self.step < MINUTE
     }
 
-    /// Returns the multiples of the step from a time to another, at most ten.
+    /// Returns the ticks at the multiples of the step from a time to another, of the first ten.
     pub fn ticks(self, alloc: Global, from: u64, to: u64) -> Result<Vec<TimeTick>, AllocError>
-        ensures { IfOk result (λ v. All (λ t. IsTickTime (self.step * 1000) from to t.time) v.items) }
+        ensures { IfOk result (λ v. AreTicks (self.step * 1000) self.every from to (from + 10 * (self.step * 1000)) v.items) }
     {
-        let width = self.step * 1_000;
-        let first = from.div_ceil(width);
+        let first = from.div_ceil(self.step * 1_000);
         let mut ticks = Vec::new(alloc);
         for index in 0..10 {
-            let number = first.saturating_add(index);
-            if let Some(time) = number.checked_mul(width) {
-                let is_coarse = number.checked_rem(self.every) == Some(0);
-                push_inside(&mut ticks, TimeTick { time, is_coarse }, width, from, to)?;
-            }
+            self.push_tick(&mut ticks, first + index, from, to)?;
         }
         Ok(ticks)
     }
-}
 
-/// Adds a line at a multiple of a width that lies between two times.
-fn push_inside(
-    ticks: &mut Vec<TimeTick>,
-    tick: TimeTick,
-    width: u64,
-    from: u64,
-    to: u64,
-) -> Result<(), AllocError>
-    requires multiple { tick.time % width ≡ 0 }
-    requires ticks { All (λ t. IsTickTime width from to t.time) ticks.old.items }
-    ensures { OnOk result (All (λ t. IsTickTime width from to t.time) ticks.new.items) }
-{
-    if tick.time >= from && tick.time <= to {
-        ticks.push(tick)?;
+    /// Adds the tick at a number of steps, if it lies from a time to another.
+    fn push_tick(
+        self,
+        ticks: &mut Vec<TimeTick>,
+        number: u64,
+        from: u64,
+        to: u64,
+    ) -> Result<(), AllocError>
+        requires { AreTicks (self.step * 1000) self.every from to (number * (self.step * 1000)) ticks.old.items }
+        ensures { OnOk result (AreTicks (self.step * 1000) self.every from to ((number + 1) * (self.step * 1000)) ticks.new.items) }
+    {
+        if let Some(time) = number.checked_mul(self.step * 1_000) {
+            if time >= from && time <= to {
+                let is_coarse = number % self.every == 0;
+                ticks.push(TimeTick { time, is_coarse })?;
+            }
+        }
+        Ok(())
     }
-    Ok(())
 }
 
 /// Returns the shortest step, in seconds, that a span in milliseconds has at most eight of, or five

@@ -1,6 +1,6 @@
-use Rattle.std.specs.List.{All}
-use Rattle.hdr_draw.specs.Steps.{IsTickTime}
+use Rattle.std.proofs.Common.{◌+◌, ◌*◌}
+use Rattle.hdr_draw.specs.Steps.{AreTicks}
 use Rattle.hdr_draw.proofs.times.TimeSteps.ticks.Given as goal
 
 abbrev pub invariant-loop-index : goal.invariant-loop-index
-invariant-loop-index l = All (λ t. IsTickTime l.width l.from l.to t.time) l.ticks.items
+invariant-loop-index l = AreTicks (l.self.step * 1000) l.self.every l.from l.to ((l.first + l.index) * (l.self.step * 1000)) l.ticks.items
