@@ -10,4 +10,5 @@ pub mod Escaping
 pub mod Grouping
 pub mod StepOrder
 pub mod Ticks
+pub mod TimeSteps
 pub mod Significant

@@ -1,5 +1,5 @@
 -- The steps of a scale.
-use Rattle.std.specs.Prelude.{◌≡◌, ◌==◌, ℕ, ◌+◌, ◌*◌, ◌/◌, ◌%◌, ◌^◌, ◌<◌, ◌≤◌, ◌⊎◌, ◌↔◌, List, length, map, slice_index, IsTrue, if◌then◌else◌}
+use Rattle.std.specs.Prelude.{◌≡◌, ◌==◌, ℕ, ◌+◌, ◌*◌, ◌/◌, ◌%◌, ◌^◌, ◌<◌, ◌≤◌, ◌⊎◌, ◌↔◌, List, [], ◌∷◌, length, map, nat_lt, slice_index, IsTrue, if◌then◌else◌}
 use Rattle.std.specs.List.{All, Contains}
 use Rattle.hdr_draw.specs.declared.times.TimeTick.{TimeTick}
 
@@ -36,3 +36,31 @@ pub record AreTicks (step every from to bound : ℕ) (ticks : List TimeTick) : T
   pub ascending : IsStrictlyAscending (map (λ t. t.time) ticks)
   pub all : (time : ℕ) → IsTickTime step from to time → time < bound → Contains (map (λ t. t.time) ticks) time
   pub coarse : All (λ t. IsTrue t.is_coarse ↔ t.time / step % every ≡ 0) ticks
+
+-- the steps of time in seconds: from a second to half a minute, to half an hour, to half a day, two days, a week and a month of 30 days
+unfoldable pub time_steps : List ℕ
+time_steps = 1 ∷ 2 ∷ 5 ∷ 10 ∷ 15 ∷ 30 ∷ 60 ∷ 120 ∷ 300 ∷ 600 ∷ 900 ∷ 1800 ∷ 3600 ∷ 7200 ∷ 10800 ∷ 21600 ∷ 43200 ∷ 86400 ∷ 172800 ∷ 604800 ∷ 2592000 ∷ []
+
+-- a step of time is one of these, or some months
+abbrev pub IsTimeStep : ℕ → Type 0
+IsTimeStep step = Contains time_steps step ⊎ ((months : ℕ) × (0 < months) × (step ≡ months * 2592000))
+
+-- how many steps a span has at most: fewer of those below a minute, whose texts have seconds
+unfoldable pub most_steps : ℕ → ℕ
+most_steps step = if nat_lt step 60 then 5 else 8
+
+-- how many texts a narrow drawing of a span has at most
+unfoldable pub most_texts : ℕ → ℕ
+most_texts step = if nat_lt step 60 then 3 else 4
+
+-- the shortest step in seconds of which a span in milliseconds has no more than the most
+pub record IsStepOfSpan (span step : ℕ) : Type 0 where
+  pub is : IsTimeStep step
+  pub few : span ≤ most_steps step * (1000 * step)
+  pub shortest : (other : ℕ) → IsTimeStep other → span ≤ most_steps other * (1000 * other) → step ≤ other
+
+-- the least number of steps from text to text of which a span in milliseconds has no more than the most
+pub record IsEvery (span step every : ℕ) : Type 0 where
+  pub some : 0 < every
+  pub few : span ≤ most_texts step * (every * (1000 * step))
+  pub least : (other : ℕ) → 0 < other → span ≤ most_texts step * (other * (1000 * step)) → every ≤ other

@@ -1,7 +1,7 @@
 //! A scale of time: its steps, in milliseconds.
 
-ghost use Rattle.std.specs.Prelude.{◌<◌, ◌+◌, ◌*◌, ◌^◌, ◌↔◌, IfOk, IsTrue, OnOk};
-ghost use Rattle.hdr_draw.specs.Steps.{AreTicks};
+ghost use Rattle.std.specs.Prelude.{◌≤◌, ◌<◌, ◌+◌, ◌*◌, ◌^◌, ◌↔◌, IfOk, IsTrue, OnOk};
+ghost use Rattle.hdr_draw.specs.Steps.{AreTicks, IsEvery, IsStepOfSpan, most_steps};
 
 use std::alloc::{AllocError, Global};
 
@@ -39,15 +39,15 @@ pub struct TimeSteps {
 
 impl TimeSteps {
     /// Returns the steps for a span in milliseconds: the shortest of which it has at most eight, or
-    /// five if the texts have seconds.
-    pub fn new(span: u64) -> TimeSteps {
+    /// five if the texts have seconds. A narrow drawing has texts for four, or three.
+    pub fn new(span: u64) -> TimeSteps
+        ensures step { IsStepOfSpan span result.step }
+        ensures every { IsEvery span result.step result.every }
+    {
         let step = step_for(span);
-        let most = if step < MINUTE { 3 } else { 4 };
-        let width = step.saturating_mul(1_000);
-        let every = span.div_ceil(width.saturating_mul(most).max(1));
         TimeSteps {
             step,
-            every: every.clamp(1, 8),
+            every: every_for(span, step),
         }
     }
 
@@ -94,14 +94,38 @@ impl TimeSteps {
 /// Returns the shortest step, in seconds, that a span in milliseconds has at most eight of, or five
 /// below a minute. Past a month it is a multiple of a month.
 fn step_for(span: u64) -> u64
+    ensures is { IsStepOfSpan span result }
     ensures some { 0 < result }
-    ensures fits { result * 1000 < 2 ^ 64 }
+    ensures fits { result * 4000 < 2 ^ 64 }
 {
     for step in STEPS {
-        let most = if step < MINUTE { 5_000 } else { 8_000 };
-        if span <= step.saturating_mul(most) {
-            return step.clamp(1, MONTH);
+        if has_few(span, step) {
+            return step;
         }
     }
-    span.div_ceil(8_000 * MONTH).max(1).saturating_mul(MONTH)
+    span.div_ceil(8_000 * MONTH) * MONTH
+}
+
+/// Whether a span in milliseconds has at most eight of a step, or five below a minute.
+#[tactic(auto, unfolding(crate::specs::Steps::most_steps))]
+fn has_few(span: u64, step: u64) -> bool
+    ensures { IsTrue result ↔ span ≤ most_steps step * (1000 * step) }
+{
+    let most = if step < MINUTE { 5_000 } else { 8_000 };
+    span <= step.saturating_mul(most)
+}
+
+/// Returns the least number of steps from text to text of which a span has at most four, or three
+/// if the texts have seconds.
+fn every_for(span: u64, step: u64) -> u64
+    requires some { 0 < step }
+    requires fits { step * 4000 < 2 ^ 64 }
+    ensures { IsEvery span step result }
+{
+    let length = if step < MINUTE {
+        3_000 * step
+    } else {
+        4_000 * step
+    };
+    span.div_ceil(length).max(1)
 }
