@@ -2,6 +2,7 @@ use Rattle.std.proofs.Common.{◌≡◌, ℕ, ◌+◌, ◌-◌, ◌*◌, ◌/◌
 use Rattle.std.proofs.Math.Nat.{mul-le-mul_right, pow-le-pow_right, one-le-pow}
 use Rattle.std.proofs.Math.Nat.{eq-or-lt_of_le, pow-suc}
 use Rattle.std.proofs.lemmas.Bool.{cases_lt}
+use Rattle.hdr_draw.specs.Rows.{Ends}
 use Rattle.hdr_draw.specs.Scales.{Extent, along, IsColour, IsQuantilePlace, IsValuePlace}
 use Rattle.hdr_draw.specs.Logarithm.{bend, IsLogarithm}
 use Rattle.hdr_draw.proofs.Bend.{bend-ascends, bend_bound, part-bound, div-le-div}
@@ -51,18 +52,20 @@ along_ascends e l m n p h =
     div-le-div _ _ e.span p (mul-le-mul_right l (omega arith)) in
     omega arith
 
-pub values_ascend : (e : Extent) (length a b p q : ℕ) → 0 < e.span
-    → IsValuePlace e length a p → IsValuePlace e length b q → a ≤ b → p ≤ q
-values_ascend e l a b p q s u v h =
-    let k : u.logarithm ≤ v.logarithm = ascends (max 1 a) (max 1 b) _ _ u.of_value v.of_value (omega arith) in
-    let r = along_ascends e l u.logarithm v.logarithm s k in
-    rw (u.is, v.is) r
-
 pub same_logarithm : (a m n : ℕ) → IsLogarithm a m → IsLogarithm a n → m ≡ n
 same_logarithm a m n p q =
     let u = ascends a a m n p q (omega arith) in
     let v = ascends a a n m q p (omega arith) in
     omega arith
+
+pub values_ascend : (e : Ends) (length a b p q : ℕ) → IsValuePlace e length a p → IsValuePlace e length b q → a ≤ b → p ≤ q
+values_ascend e l a b p q u v h =
+    let k : u.logarithm ≤ v.logarithm = ascends (max 1 a) (max 1 b) _ _ u.of_value v.of_value (omega arith) in
+    let f : u.from ≡ v.from = same_logarithm e.low _ _ u.of_low v.of_low in
+    let g : u.to ≡ v.to = same_logarithm e.high _ _ u.of_high v.of_high in
+    let x : Extent = record { from = v.from; span = max 1 (v.to - v.from) } in
+    let r = along_ascends x l u.logarithm v.logarithm (omega arith) k in
+    rw (u.is, v.is, f, g) r
 
 pub quantiles_ascend : (e : Extent) (length n a b p q : ℕ) → 0 < e.span
     → IsQuantilePlace e length n a p → IsQuantilePlace e length n b q → b ≤ a → p ≤ q

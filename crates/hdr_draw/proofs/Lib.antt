@@ -5,6 +5,7 @@ pub mod Bounds
 pub mod Digits
 pub mod Divided
 pub mod Doubled
+pub mod Decades
 pub mod Decimals
 pub mod Escaping
 pub mod Grouping

@@ -1,4 +1,5 @@
 pub mod Letters
+pub mod Lines
 pub mod Logarithm
 pub mod Numbers
 pub mod Paths

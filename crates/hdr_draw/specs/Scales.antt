@@ -1,6 +1,8 @@
 -- Scales: numbers along a length.
 use Rattle.std.specs.Prelude.{◌≡◌, ℕ, ◌+◌, ◌-◌, ◌*◌, ◌/◌, ◌≤◌, min, max}
 use Rattle.hdr_draw.specs.Logarithm.{IsLogarithm}
+use Rattle.hdr_draw.specs.Rows.{Ends}
+use Rattle.hdr_draw.specs.Steps.{IsStepAbove, IsStepBelow}
 
 -- where a scale begins, and how far it reaches
 pub record Extent : Type 0 where
@@ -11,11 +13,20 @@ pub record Extent : Type 0 where
 unfoldable pub along : Extent → ℕ → ℕ → ℕ
 along e length n = min length ((n - e.from) * length / e.span)
 
+-- from the step at or below the least of some values to that at or above the greatest, and above the first
+pub record IsValueScale (e : Ends) (least greatest : ℕ) : Type 0 where
+  pub low : IsStepBelow (max 1 least) e.low
+  pub high : IsStepAbove (max greatest (e.low + 1)) e.high
+
 -- how far along a length a value lies on a logarithmic scale
-pub record IsValuePlace (e : Extent) (length value place : ℕ) : Type 0 where
+pub record IsValuePlace (e : Ends) (length value place : ℕ) : Type 0 where
+  pub from : ℕ
+  pub to : ℕ
   pub logarithm : ℕ
+  pub of_low : IsLogarithm e.low from
+  pub of_high : IsLogarithm e.high to
   pub of_value : IsLogarithm (max 1 value) logarithm
-  pub is : place ≡ along e length logarithm
+  pub is : place ≡ along (record { from = from; span = max 1 (to - from) }) length logarithm
 
 -- how far along a length the quantile lies that a part of the samples is above, on a logarithmic scale
 pub record IsQuantilePlace (e : Extent) (length samples part place : ℕ) : Type 0 where

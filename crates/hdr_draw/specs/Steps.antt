@@ -1,11 +1,24 @@
 -- The steps of a scale.
-use Rattle.std.specs.Prelude.{◌≡◌, ◌==◌, ℕ, ◌+◌, ◌*◌, ◌/◌, ◌%◌, ◌^◌, ◌<◌, ◌≤◌, ◌⊎◌, ◌↔◌, List, [], ◌∷◌, length, map, nat_lt, slice_index, IsTrue, if◌then◌else◌}
+use Rattle.std.specs.Prelude.{◌≡◌, ◌==◌, ℕ, ◌+◌, ◌-◌, ◌*◌, ◌/◌, ◌%◌, ◌^◌, ◌<◌, ◌≤◌, ◌⊎◌, ◌↔◌, List, [], ◌∷◌, length, map, nat_lt, slice_index, IsTrue, if◌then◌else◌}
 use Rattle.std.specs.List.{All, Contains}
 use Rattle.hdr_draw.specs.declared.times.TimeTick.{TimeTick}
 
 -- a step is 1, 2 or 5 times a power of ten
 abbrev pub IsStep : ℕ → Type 0
 IsStep n = (k : ℕ) × ((n ≡ 10 ^ k) ⊎ ((n ≡ 2 * 10 ^ k) ⊎ (n ≡ 5 * 10 ^ k)))
+
+-- the greatest step at or below a value
+pub record IsStepBelow (value step : ℕ) : Type 0 where
+  pub is : IsStep step
+  pub within : step ≤ value
+  pub greatest : (n : ℕ) → IsStep n → n ≤ value → n ≤ step
+
+-- the least step at or above a value, or the greatest number of 64 bits above the last step
+pub record IsStepAbove (value step : ℕ) : Type 0 where
+  pub is : value ≤ 10 ^ 19 → IsStep step
+  pub last : 10 ^ 19 < value → step ≡ 2 ^ 64 - 1
+  pub within : value ≤ step
+  pub least : (n : ℕ) → IsStep n → value ≤ n → step ≤ n
 
 -- the step at an index: 1, 2, 5, 10, 20 and so on
 unfoldable pub step_of : ℕ → ℕ

@@ -3,6 +3,7 @@
 ghost use Rattle.std.specs.Prelude.{ℕ, List, ◌≡◌, ◌<◌, ◌≤◌, IsUtf8};
 ghost use Rattle.hdr_draw.specs.Letters.{escaped_text, unescaped};
 ghost use Rattle.hdr_draw.specs.Logarithm.{IsLogarithm};
+ghost use Rattle.hdr_draw.specs.Rows.{Ends};
 ghost use Rattle.hdr_draw.specs.Scales.{Extent, along, IsColour, IsQuantilePlace, IsValuePlace};
 
 /// Logarithms ascend with their values.
@@ -15,7 +16,7 @@ pub fn logarithms_ascend()
 pub fn places_ascend()
     ensures numbers { (e : Extent) (length m n : ℕ) → 0 < e.span → m ≤ n
         → along e length m ≤ along e length n }
-    ensures values { (e : Extent) (length a b p q : ℕ) → 0 < e.span
+    ensures values { (e : Ends) (length a b p q : ℕ)
         → IsValuePlace e length a p → IsValuePlace e length b q → a ≤ b → p ≤ q }
     ensures quantiles { (e : Extent) (length n a b p q : ℕ) → 0 < e.span
         → IsQuantilePlace e length n a p → IsQuantilePlace e length n b q → b ≤ a → p ≤ q }

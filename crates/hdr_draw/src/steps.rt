@@ -1,6 +1,6 @@
 //! The steps of a scale: 1, 2 and 5 times a power of ten.
 
-ghost use Rattle.std.specs.Prelude.{◌≡◌, ℕ, ◌<◌, ◌≤◌, ◌+◌, ◌*◌, ◌^◌, max, IfNone, IfOk, IfSome, OnOk};
+ghost use Rattle.std.specs.Prelude.{◌≡◌, ℕ, ◌<◌, ◌≤◌, ◌+◌, ◌-◌, ◌*◌, ◌^◌, max, IfNone, IfOk, IfSome, OnOk};
 ghost use Rattle.std.specs.List.{All, Contains};
 ghost use Rattle.hdr_draw.specs.Steps.{IsStep, IsStrictlyAscending, AreSteps, step_of};
 
@@ -43,6 +43,7 @@ fn step_at(index: u32) -> Option<u64>
 pub fn step_above(value: u64) -> u64
     ensures within { value ≤ result }
     ensures step { value ≤ 10 ^ 19 → IsStep result }
+    ensures last { 10 ^ 19 < value → result ≡ 2 ^ 64 - 1 }
     ensures least { (n : ℕ) → IsStep n → value ≤ n → result ≤ n }
 {
     for index in 0..STEPS {

@@ -1,7 +1,8 @@
 //! A logarithmic scale of values.
 
-ghost use Rattle.std.specs.Prelude.{◌≡◌, ◌≤◌, ◌<◌, max, IfOk};
-ghost use Rattle.hdr_draw.specs.Scales.{IsValuePlace};
+ghost use Rattle.std.specs.Prelude.{ℕ, ◌≡◌, ◌≤◌, ◌^◌, IfNone, IfOk, IfSome};
+ghost use Rattle.hdr_draw.specs.Lines.{AreLines, HasLine, IsLine};
+ghost use Rattle.hdr_draw.specs.Scales.{IsValuePlace, IsValueScale};
 
 use crate::axis::Axis;
 use crate::logarithm::logarithm;
@@ -22,11 +23,16 @@ pub struct ValueScale {
 }
 
 impl Model for ValueScale {
-    ghost use Rattle.hdr_draw.specs.Scales.{Extent};
+    ghost use Rattle.std.specs.Prelude.{ℕ, ◌≡◌, ◌≤◌, ◌-◌, max};
+    ghost use Rattle.hdr_draw.specs.Logarithm.{IsLogarithm};
+    ghost use Rattle.hdr_draw.specs.Rows.{Ends};
 
-    ghost Value = { Extent };
+    ghost Value = { Ends };
 
-    ghost view = { λ s. s.axis };
+    ghost view = { λ s. record { low = s.low; high = s.high } };
+
+    ghost invariant = { λ s. (1 ≤ s.low) × (s.low ≤ s.high) × IsLogarithm s.low s.axis.from
+        × ((to : ℕ) × IsLogarithm s.high to × (s.axis.span ≡ max 1 (to - s.axis.from))) };
 }
 
 /// A line across the field of a scale.
@@ -41,7 +47,9 @@ pub struct Tick {
 
 impl ValueScale {
     /// Returns the scale from the step at or below a value to the step at or above another.
-    pub fn new(least: u64, greatest: u64) -> ValueScale {
+    pub fn new(least: u64, greatest: u64) -> ValueScale
+        ensures { IsValueScale result least greatest }
+    {
         let low = step_below(least);
         let high = step_above(greatest.max(low.saturating_add(1)));
         ValueScale {
@@ -60,31 +68,61 @@ impl ValueScale {
     }
 
     /// Returns the rows of a heat map over the scale.
-    pub fn rows(&self, alloc: Global) -> Result<Rows, AllocError> {
+    pub fn rows(&self, alloc: Global) -> Result<Rows, AllocError>
+        ensures { IfOk result (λ r. r ≡ self.now) }
+    {
         Rows::new(alloc, self.low, self.high)
     }
 
     /// Returns the steps of the scale that have a line in a field of this height.
-    pub fn ticks(&self, alloc: Global, height: u32) -> Result<Vec<Tick>, AllocError> {
+    pub fn ticks(&self, alloc: Global, height: u32) -> Result<Vec<Tick>, AllocError>
+        ensures { IfOk result (λ v. AreLines self.now height v.items) }
+    {
         let decade = self.place(self.low.saturating_mul(10), height);
         let octave = self.place(self.low.saturating_mul(2), height);
-        let every = GAP.div_ceil(decade.max(1)).max(1);
+        let steps = steps_between(alloc, self.low, self.high)?;
         let mut ticks = Vec::new(alloc);
-        for step in steps_between(alloc, self.low, self.high)? {
-            let is_power = step / 10u64.pow(step.max(1).ilog10()) == 1;
-            if is_power || decade >= GAP {
-                let has_text = if is_power {
-                    step.max(1).ilog10() % every == 0
-                } else {
-                    octave >= GAP
-                };
-                ticks.push(Tick {
-                    value: step,
-                    has_text,
-                    is_power,
-                })?;
+        for step in &steps {
+            if let Some(tick) = line_of(*step, decade, octave) {
+                ticks.push(tick)?;
             }
         }
         Ok(ticks)
     }
+}
+
+/// Returns the line of a step, if it has one, where a decade and an octave are this wide.
+fn line_of(step: u64, decade: u32, octave: u32) -> Option<Tick>
+    ensures value { IfSome result (λ t. t.value ≡ step) }
+    ensures line { IfSome result (λ t. IsLine decade octave t) }
+    ensures none { IfNone result (HasLine decade step → ⊥) }
+{
+    if let Some(power) = power_of(step) {
+        let every = GAP.div_ceil(decade.max(1));
+        return Some(Tick {
+            value: step,
+            has_text: power % every == 0,
+            is_power: true,
+        });
+    }
+    if decade < GAP {
+        return None;
+    }
+    Some(Tick {
+        value: step,
+        has_text: octave >= GAP,
+        is_power: false,
+    })
+}
+
+/// Returns which power of ten a value is, or `None` if it is none.
+fn power_of(value: u64) -> Option<u32>
+    ensures power { IfSome result (λ k. value ≡ 10 ^ k) }
+    ensures none { IfNone result ((k : ℕ) → value ≡ 10 ^ k → ⊥) }
+{
+    let power = value.max(1).ilog10();
+    if value != 10u64.pow(power) {
+        return None;
+    }
+    Some(power)
 }

@@ -15,6 +15,11 @@ returns-in_default-clause-least c = λ n s h.
 pub returns-then-step-value-clause-step : goal.returns-then-step-value-clause-step
 returns-then-step-value-clause-step c = λ h. rw c.in-Some.ensures.value (are_steps c.loop-index.index)
 
+pub returns-then-step-value-clause-last : goal.returns-then-step-value-clause-last
+returns-then-step-value-clause-last c = λ h.
+    let m = steps_ascend c.loop-index.index 57 (omega arith) in
+    absurd (omega (arith, m, last_step, c.in-Some.ensures.value, c.if-step-value.true))
+
 pub returns-then-step-value-clause-least : goal.returns-then-step-value-clause-least
 returns-then-step-value-clause-least c = λ n s h.
     rw c.in-Some.ensures.value (least_above c.args.value n c.loop-index.index c.loop-index.invariant s h)
