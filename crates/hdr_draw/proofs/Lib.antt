@@ -2,6 +2,7 @@ pub mod Bend
 pub mod Ascending
 pub mod Pushing
 pub mod Bounds
+pub mod Cells
 pub mod Digits
 pub mod Divided
 pub mod Doubled

@@ -1,3 +1,4 @@
+pub mod Heat
 pub mod Letters
 pub mod Lines
 pub mod Logarithm

@@ -1,10 +1,12 @@
 //! Heat maps: numbers of samples over columns and rows.
 
-ghost use Rattle.std.specs.Prelude.{◌<◌, ◌+◌, ◌-◌, ◌^◌, min};
+ghost use Rattle.std.specs.Prelude.{◌≡◌, ◌<◌, ◌+◌, ◌-◌, ◌^◌, min, replicate, IfOk};
+ghost use Rattle.hdr_draw.specs.Heat.{IsMost, added};
 ghost use Rattle.hdr_draw.specs.Scales.{IsColour};
 
 use crate::logarithm::logarithm;
 use std::alloc::{AllocError, Global};
+use std::marker::Model;
 
 /// The rows of a heat map.
 pub const ROWS: usize = 40;
@@ -19,6 +21,18 @@ pub struct HeatMap {
     most: u64,
 }
 
+impl Model for HeatMap {
+    ghost use Rattle.std.specs.Prelude.{ℕ, ◌≡◌, List, length};
+    ghost use Rattle.std.specs.List.{All};
+    ghost use Rattle.hdr_draw.specs.Heat.{IsMost};
+
+    ghost Value = { List (List ℕ) };
+
+    ghost view = { λ m. m.columns.items };
+
+    ghost invariant = { λ m. IsMost m.columns.items m.most × All (λ c. length c ≡ 40) m.columns.items };
+}
+
 /// Returns the colour of a number of samples, on a logarithmic scale up to the greatest number.
 fn colour_of(samples: u64, most: u64) -> usize
     ensures within { result < 8 }
@@ -30,7 +44,9 @@ fn colour_of(samples: u64, most: u64) -> usize
 
 impl HeatMap {
     /// Returns a heat map without samples.
-    pub fn new(alloc: Global, columns: usize) -> Result<HeatMap, AllocError> {
+    pub fn new(alloc: Global, columns: usize) -> Result<HeatMap, AllocError>
+        ensures { IfOk result (λ m. m ≡ replicate columns (replicate 40 0)) }
+    {
         Ok(HeatMap {
             columns: vec![in alloc; [0; ROWS]; columns]?,
             most: 1,
@@ -38,16 +54,20 @@ impl HeatMap {
     }
 
     /// The greatest number of samples of a cell, at least 1.
-    pub fn most(&self) -> u64 {
+    pub fn most(&self) -> u64
+        ensures { IsMost self.now result }
+    {
         self.most
     }
 
     /// Adds samples to a cell. One outside the map is left out.
-    pub fn add(&mut self, column: usize, row: usize, samples: u64) {
+    pub fn add(&mut self, column: usize, row: usize, samples: u64)
+        ensures { self.new ≡ added self.old column row samples }
+    {
         if let Some(rows) = self.columns.get_mut(column) {
-            if let Some(cell) = rows.get_mut(row) {
-                *cell = cell.saturating_add(samples);
-                self.most = self.most.max(*cell);
+            if row < ROWS {
+                rows[row] = rows[row].saturating_add(samples);
+                self.most = self.most.max(rows[row]);
             }
         }
     }
