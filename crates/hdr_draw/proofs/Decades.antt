@@ -1,5 +1,5 @@
 -- Powers of ten, and which steps have a line.
-use Rattle.std.proofs.Common.{◌≡◌, ℕ, suc, ◌+◌, ◌*◌, ◌^◌, ◌<◌, ◌≤◌, inl, inr, arith, sym, ap, ◌∙◌, add-one, refl, zero, max, true, nat_eq, min, ◌%◌, ◌-◌, List, [], ◌∷◌, ◌++◌, map, length, slice_index, rules, IsTrue, ◌↔◌}
+use Rattle.std.proofs.Common.{◌≡◌, ℕ, suc, ◌+◌, ◌*◌, ◌^◌, ◌<◌, ◌≤◌, inl, inr, arith, sym, ap, ◌∙◌, add-one, refl, zero, max, true, nat_eq, min, ◌%◌, ◌-◌, List, [], ◌∷◌, ◌++◌, map, length, slice_index, rules}
 use Rattle.std.proofs.Math.Nat.{pow-suc, pow-le-pow_right, one-le-pow}
 use Rattle.std.proofs.Math.Nat.{eq-or-lt_of_le}
 use Rattle.std.proofs.lemmas.Bool.{cases_lt}
@@ -7,9 +7,9 @@ use Rattle.std.proofs.lemmas.List.{map-append}
 use Rattle.std.specs.Int.{div_ceil}
 use Rattle.std.specs.List.{All, Contains}
 use Rattle.std.proofs.lemmas.Grind.{get_or_default_zero}
-use Rattle.std.proofs.lemmas.List.Elements.{All-contains, All-nil, All-push, All-map, All-weaker, Contains-get_or, Contains-push, Contains-append_left}
+use Rattle.std.proofs.lemmas.List.Elements.{All-contains, All-nil, All-push, All-map, Contains-get_or, Contains-push, Contains-append_left}
 use Rattle.hdr_draw.specs.declared.values.Tick.{Tick}
-use Rattle.hdr_draw.specs.Lines.{AreLines, HasLine, IsLine, IsPower}
+use Rattle.hdr_draw.specs.Lines.{AreLines, HasLine, IsLine}
 use Rattle.hdr_draw.specs.Rows.{Ends}
 use Rattle.hdr_draw.specs.Scales.{IsValuePlace}
 use Rattle.hdr_draw.specs.Steps.{IsStep, IsStrictlyAscending}

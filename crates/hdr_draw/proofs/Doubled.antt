@@ -1,5 +1,5 @@
 -- Logarithms of twice a number.
-use Rattle.std.proofs.Common.{◌≡◌, ℕ, suc, ◌+◌, ◌-◌, ◌*◌, ◌/◌, ◌^◌, ◌<◌, ◌≤◌, ◌↔◌, max, IsTrue, arith, refl, sym, ap, ◌∙◌, add-one}
+use Rattle.std.proofs.Common.{◌≡◌, ℕ, ◌+◌, ◌-◌, ◌*◌, ◌/◌, ◌^◌, ◌<◌, ◌≤◌, max, arith, refl, ap, add-one}
 use Rattle.std.proofs.Math.Nat.{pow-suc, one-le-pow, div-div-eq-div-mul, mul-div_cancel_left}
 use Rattle.hdr_draw.proofs.Ascending.{same_logarithm}
 use Rattle.hdr_draw.specs.Scales.{Extent, along, HasQuantile, IsQuantilePlace, IsQuantileScale}

@@ -1,10 +1,10 @@
 -- The steps of a scale of time.
-use Rattle.std.proofs.Common.{◌≡◌, ℕ, zero, suc, ◌+◌, ◌-◌, ◌*◌, ◌/◌, ◌%◌, ◌<◌, ◌≤◌, ◌⊎◌, ◌&&◌, min, max, Bool, true, false, List, [], ◌∷◌, length, slice_index, inl, inr, arith, rules, refl, sym, ap, ◌∙◌, leb, get_or, nat_lt}
+use Rattle.std.proofs.Common.{◌≡◌, ℕ, zero, suc, ◌+◌, ◌*◌, ◌/◌, ◌%◌, ◌<◌, ◌≤◌, ◌&&◌, min, max, Bool, true, false, List, [], ◌∷◌, length, slice_index, inl, inr, arith, rules, refl, sym, ◌∙◌, leb, get_or, nat_lt}
 use Rattle.std.proofs.Math.Nat.{add-mul, mul-le-mul_right, mul-pos, mul_left_comm, one-mul}
 use Rattle.std.proofs.lemmas.Bool.{cases_lt}
 use Rattle.std.proofs.lemmas.Grind.{div_ceil_times, get_or_default_zero}
 use Rattle.std.specs.List.{Contains}
-use Rattle.hdr_draw.specs.Steps.{IsEvery, IsStepOfSpan, IsTimeStep, most_steps, most_texts, time_steps}
+use Rattle.hdr_draw.specs.Steps.{IsEvery, IsStepOfSpan, most_steps, most_texts, time_steps}
 
 abbrev ascends : List ℕ → Bool
 ascends [] = true

@@ -1,4 +1,4 @@
-use Rattle.std.proofs.Common.{◌≡◌, ◌≤◌, ◌<◌, ◌*◌, arith, below_more, rules}
+use Rattle.std.proofs.Common.{arith, below_more, rules}
 use Rattle.std.proofs.lemmas.Grind.{div_ceil_times}
 use Rattle.hdr_draw.specs.Steps.{time_steps}
 use Rattle.hdr_draw.proofs.TimeSteps.{shortest_of_table, some_months}

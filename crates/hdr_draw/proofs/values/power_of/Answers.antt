@@ -1,4 +1,4 @@
-use Rattle.std.proofs.Common.{◌≡◌, ◌≤◌, ◌<◌, ◌*◌, ◌^◌, max, arith, ap, sym, ◌∙◌}
+use Rattle.std.proofs.Common.{◌≡◌, max, arith, sym, ◌∙◌}
 use Rattle.hdr_draw.proofs.Decades.{no_power}
 use Rattle.hdr_draw.proofs.values.power_of.Goals as goal
 

@@ -1,4 +1,4 @@
-use Rattle.std.proofs.Common.{ℕ, ◌≡◌, ◌∙◌, ◌<◌, ◌≤◌, ◌+◌, min, max, refl, List, [], length, get_or, set, sym, ap, arith, rules}
+use Rattle.std.proofs.Common.{◌≡◌, ◌∙◌, ◌<◌, ◌≤◌, max, refl, [], length, get_or, set, sym, ap, arith, rules}
 use Rattle.std.proofs.lemmas.List.{get_or-set_same, get_or_default, set-get_or}
 use Rattle.std.proofs.lemmas.List.Elements.{All-get_or}
 use Rattle.hdr_draw.specs.Heat.{added, cell}

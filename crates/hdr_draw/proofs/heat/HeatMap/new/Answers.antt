@@ -1,5 +1,4 @@
-use Rattle.std.proofs.Common.{ℕ, ◌≡◌, List, replicate, length, refl}
-use Rattle.std.specs.List.{All}
+use Rattle.std.proofs.Common.{ℕ, ◌≡◌, replicate, length, refl}
 use Rattle.std.proofs.lemmas.List.Elements.{All-replicate, same_from_all_zip}
 use Rattle.hdr_draw.proofs.Cells.{empty, zeroes}
 use Rattle.hdr_draw.proofs.heat.HeatMap.new.Goals as goal

@@ -1,5 +1,5 @@
-use Rattle.std.proofs.Common.{ap, ◌∙◌, ◌-◌, max}
-use Rattle.hdr_draw.specs.Scales.{Extent, along}
+use Rattle.std.proofs.Common.{ap, ◌∙◌}
+use Rattle.hdr_draw.specs.Scales.{along}
 use Rattle.hdr_draw.proofs.values.ValueScale.place.Goals as goal
 
 pub returns-clause-place : goal.returns-clause-place
