@@ -1,6 +1,6 @@
 //! Heat maps: numbers of samples over columns and rows.
 
-ghost use Rattle.std.specs.Prelude.{◌≡◌, ◌<◌, ◌+◌, ◌-◌, ◌^◌, min, replicate, IfOk};
+ghost use Rattle.std.specs.Prelude.{◌≡◌, ◌<◌, ◌+◌, ◌-◌, ◌^◌, length, min, replicate, IfOk};
 ghost use Rattle.hdr_draw.specs.Heat.{IsMost, added};
 ghost use Rattle.hdr_draw.specs.Scales.{IsColour};
 
@@ -73,7 +73,9 @@ impl HeatMap {
     }
 
     /// Returns a path for each colour. A run of rows of a colour is one stroke.
-    pub fn paths(&self, alloc: Global) -> Result<Vec<String>, AllocError> {
+    pub fn paths(&self, alloc: Global) -> Result<Vec<String>, AllocError>
+        ensures { IfOk result (λ v. length v.items ≡ 8) }
+    {
         let mut paths = Vec::new(alloc);
         for _ in 0..COLOURS {
             paths.push(String::new(alloc))?;
@@ -91,7 +93,9 @@ fn push_column(
     column: usize,
     rows: &[u64; ROWS],
     most: u64,
-) -> Result<(), AllocError> {
+) -> Result<(), AllocError>
+    ensures { length paths.new.items ≡ length paths.old.items }
+{
     let mut run: Option<(usize, usize)> = None;
     for (row, samples) in rows.iter().enumerate() {
         let colour = if *samples == 0 {
@@ -112,7 +116,9 @@ fn continue_run(
     row: usize,
     run: Option<(usize, usize)>,
     colour: Option<usize>,
-) -> Result<Option<(usize, usize)>, AllocError> {
+) -> Result<Option<(usize, usize)>, AllocError>
+    ensures { length paths.new.items ≡ length paths.old.items }
+{
     if let Some((last, first)) = run {
         if colour == Some(last) {
             return Ok(run);
