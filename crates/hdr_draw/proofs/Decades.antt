@@ -15,7 +15,7 @@ use Rattle.hdr_draw.specs.Scales.{IsValuePlace}
 use Rattle.hdr_draw.specs.Steps.{IsStep, IsStrictlyAscending}
 use Rattle.hdr_draw.proofs.Pushing.{ascending}
 
--- a value between a power and the next is no other power
+-- a value between a power and the next is not a power
 pub same_power : (k r : ℕ) → 10 ^ r ≤ 10 ^ k → 10 ^ k < 10 * 10 ^ r → k ≡ r
 same_power k r a b =
     let p : 10 ^ (r + 1) ≡ 10 ^ r * 10 = rw add-one (pow-suc 10 r) in

@@ -15,8 +15,8 @@ IsPower n = (k : ℕ) × (n ≡ 10 ^ k)
 abbrev pub HasLine : ℕ → ℕ → Type 0
 HasLine decade step = IsPower step ⊎ (150 ≤ decade)
 
--- the line of a step, where a decade and an octave are so wide: each so many powers that there is room have a text,
--- and other steps have one if an octave has room for it
+-- the line of a step, for the widths of a decade and an octave. Powers of ten have texts after as many decades as are wide enough
+-- for one, and other steps have texts if an octave is wide enough
 pub record IsLine (decade octave : ℕ) (t : Tick) : Type 0 where
   pub is : HasLine decade t.value
   pub power : IsTrue t.is_power ↔ IsPower t.value

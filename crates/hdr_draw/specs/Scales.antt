@@ -45,7 +45,7 @@ pub record IsQuantileScale (e : Extent) (samples : ℕ) : Type 0 where
   pub from : e.from ≡ 0
   pub span : e.span ≡ max of_hundred of_twice
 
--- a scale reaches to the quantile that one part of so many is above
+-- a scale reaches to the quantile 1 - 1/inverse
 pub record HasQuantile (e : Extent) (inverse : ℕ) : Type 0 where
   pub logarithm : ℕ
   pub of_inverse : IsLogarithm (max 1 inverse) logarithm

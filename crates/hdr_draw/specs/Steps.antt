@@ -42,7 +42,7 @@ pub record AreSteps (low high index : ℕ) (xs : List ℕ) : Type 0 where
 abbrev pub IsTickTime : ℕ → ℕ → ℕ → ℕ → Type 0
 IsTickTime step from to time = (from ≤ time) × (time ≤ to) × (time % step ≡ 0)
 
--- the ticks at the multiples of a step from a time to another that are below a bound, ascending; coarse are those at multiples of so many steps
+-- the ticks at the multiples of a step from a time to another that are below a bound, ascending; coarse are those at multiples of this many steps
 pub record AreTicks (step every from to bound : ℕ) (ticks : List TimeTick) : Type 0 where
   pub times : All (λ t. IsTickTime step from to t.time) ticks
   pub below : All (λ t. t.time < bound) ticks
