@@ -1,5 +1,5 @@
 -- The samples of two logs, line by line.
-use Rattle.std.proofs.Common.{◌≡◌, ◌≤◌, ◌==◌, ◌-◌, ◌^◌, ◌++◌, ℕ, [], ◌∷◌, List, None, replicate, refl, arith, lit<, lit≤}
+use Rattle.std.proofs.Common.{◌≤◌, ◌==◌, ◌-◌, ◌^◌, ◌++◌, ℕ, [], ◌∷◌, List, None, replicate, refl, arith, lit<, lit≤}
 use Rattle.std.specs.List.{enumerate_from}
 use Rattle.std.proofs.lemmas.List.Sums.{count_by-le-length}
 use Rattle.hdr_base.specs.Classes.{Resolution, bin_of, reach_of}

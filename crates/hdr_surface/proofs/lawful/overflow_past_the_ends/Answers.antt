@@ -1,4 +1,4 @@
-use Rattle.std.proofs.Common.{◌≡◌, ◌-◌, ◌^◌, [], ◌∷◌, lit≤}
+use Rattle.std.proofs.Common.{◌-◌, ◌^◌, [], ◌∷◌, lit≤}
 use Rattle.hdr_base.specs.Classes.{resolution_of}
 use Rattle.hdrhistogram.specs.Chosen.{is_chosen}
 use Rattle.hdr_tool.specs.Arguments.{no_options}
