@@ -15,8 +15,8 @@ IsPower n = (k : ℕ) × (n ≡ 10 ^ k)
 abbrev pub HasLine : ℕ → ℕ → Type 0
 HasLine decade step = IsPower step ⊎ (150 ≤ decade)
 
--- the line of a step, for the widths of a decade and an octave. Powers of ten have texts after as many decades as are wide enough
--- for one, and other steps have texts if an octave is wide enough
+-- the line of a step, for the widths of a decade and an octave in tenths of a pixel; a text needs 150. Each n-th power of ten has a
+-- text, for the least n whose n decades are wide enough, and other steps have one if an octave is
 pub record IsLine (decade octave : ℕ) (t : Tick) : Type 0 where
   pub is : HasLine decade t.value
   pub power : IsTrue t.is_power ↔ IsPower t.value

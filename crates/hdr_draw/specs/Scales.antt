@@ -13,7 +13,7 @@ pub record Extent : Type 0 where
 unfoldable pub along : Extent → ℕ → ℕ → ℕ
 along e length n = min length ((n - e.from) * length / e.span)
 
--- from the step at or below the least of some values to that at or above the greatest, and above the first
+-- a scale of values: from the step at or below the least value to the step at or above the greatest, and above the low end
 pub record IsValueScale (e : Ends) (least greatest : ℕ) : Type 0 where
   pub low : IsStepBelow (max 1 least) e.low
   pub high : IsStepAbove (max greatest (e.low + 1)) e.high
@@ -36,7 +36,7 @@ pub record IsQuantilePlace (e : Extent) (length samples part place : ℕ) : Type
   pub part_logarithm : IsLogarithm (max 1 part) of_part
   pub is : place ≡ along e length (of_samples - of_part)
 
--- a scale from the quantile 0 to that which half a sample is above, or to p99, which a hundredth is above, if that is greater
+-- a scale from the quantile 0 to 1 - 1/(2n) for n samples, or to p99 if that is greater
 pub record IsQuantileScale (e : Extent) (samples : ℕ) : Type 0 where
   pub of_twice : ℕ
   pub of_hundred : ℕ

@@ -42,7 +42,8 @@ pub record AreSteps (low high index : ℕ) (xs : List ℕ) : Type 0 where
 abbrev pub IsTickTime : ℕ → ℕ → ℕ → ℕ → Type 0
 IsTickTime step from to time = (from ≤ time) × (time ≤ to) × (time % step ≡ 0)
 
--- the ticks at the multiples of a step from a time to another that are below a bound, ascending; coarse are those at multiples of this many steps
+-- the ticks of a scale of time, ascending: one at each multiple of the step between two times that is below a bound. Of these
+-- multiples each `every`-th is coarse
 pub record AreTicks (step every from to bound : ℕ) (ticks : List TimeTick) : Type 0 where
   pub times : All (λ t. IsTickTime step from to t.time) ticks
   pub below : All (λ t. t.time < bound) ticks
@@ -50,11 +51,11 @@ pub record AreTicks (step every from to bound : ℕ) (ticks : List TimeTick) : T
   pub all : (time : ℕ) → IsTickTime step from to time → time < bound → Contains (map (λ t. t.time) ticks) time
   pub coarse : All (λ t. IsTrue t.is_coarse ↔ t.time / step % every ≡ 0) ticks
 
--- the steps of time in seconds: from a second to half a minute, to half an hour, to half a day, two days, a week and a month of 30 days
+-- the steps of time in seconds, from a second to a month of 30 days
 unfoldable pub time_steps : List ℕ
 time_steps = 1 ∷ 2 ∷ 5 ∷ 10 ∷ 15 ∷ 30 ∷ 60 ∷ 120 ∷ 300 ∷ 600 ∷ 900 ∷ 1800 ∷ 3600 ∷ 7200 ∷ 10800 ∷ 21600 ∷ 43200 ∷ 86400 ∷ 172800 ∷ 604800 ∷ 2592000 ∷ []
 
--- a step of time is one of these, or some months
+-- a step of time is one of these, or a number of months
 abbrev pub IsTimeStep : ℕ → Type 0
 IsTimeStep step = Contains time_steps step ⊎ ((months : ℕ) × (0 < months) × (step ≡ months * 2592000))
 
@@ -66,13 +67,13 @@ most_steps step = if nat_lt step 60 then 5 else 8
 unfoldable pub most_texts : ℕ → ℕ
 most_texts step = if nat_lt step 60 then 3 else 4
 
--- the shortest step in seconds of which a span in milliseconds has no more than the most
+-- the shortest step in seconds that fits a span in milliseconds: the span has at most `most_steps` of it
 pub record IsStepOfSpan (span step : ℕ) : Type 0 where
   pub is : IsTimeStep step
   pub few : span ≤ most_steps step * (1000 * step)
   pub shortest : (other : ℕ) → IsTimeStep other → span ≤ most_steps other * (1000 * other) → step ≤ other
 
--- the least number of steps from text to text of which a span in milliseconds has no more than the most
+-- the least number of steps from one text to the next with which a span in milliseconds has at most `most_texts`
 pub record IsEvery (span step every : ℕ) : Type 0 where
   pub some : 0 < every
   pub few : span ≤ most_texts step * (every * (1000 * step))

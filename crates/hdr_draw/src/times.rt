@@ -58,7 +58,7 @@ impl TimeSteps {
         self.step < MINUTE
     }
 
-    /// Returns the ticks at the multiples of the step from a time to another, of the first ten.
+    /// Returns the ticks at the first ten multiples of the step from `from` on, up to `to`.
     pub fn ticks(self, alloc: Global, from: u64, to: u64) -> Result<Vec<TimeTick>, AllocError>
         ensures { IfOk result (λ v. AreTicks (self.step * 1000) self.every from to (from + 10 * (self.step * 1000)) v.items) }
     {

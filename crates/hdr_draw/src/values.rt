@@ -91,7 +91,7 @@ impl ValueScale {
     }
 }
 
-/// Returns the line of a step, if it has one, where a decade and an octave are this wide.
+/// Returns the line of a step for the widths of a decade and an octave, or `None` if it has none.
 fn line_of(step: u64, decade: u32, octave: u32) -> Option<Tick>
     ensures value { IfSome result (λ t. t.value ≡ step) }
     ensures line { IfSome result (λ t. IsLine decade octave t) }
@@ -115,7 +115,7 @@ fn line_of(step: u64, decade: u32, octave: u32) -> Option<Tick>
     })
 }
 
-/// Returns which power of ten a value is, or `None` if it is none.
+/// Returns k if `value` is 10^k, or `None` if it is not a power of ten.
 fn power_of(value: u64) -> Option<u32>
     ensures power { IfSome result (λ k. value ≡ 10 ^ k) }
     ensures none { IfNone result ((k : ℕ) → value ≡ 10 ^ k → ⊥) }
