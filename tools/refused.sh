@@ -16,11 +16,11 @@ for program in crates/*/out/*_tests; do
         while [ "$refused" = 1 ]; do
             n=$((n + 1)) runs=$((runs + 1)) status=0
             REFUSE=$n LD_PRELOAD="$room/refuse.so" "$program" "$name" >"$room/out" 2>"$room/err" || status=$?
-            refused=0 told=0
+            refused=0 reported=0
             grep -q '^refused' "$room/err" && refused=1
-            grep -q '^no memory$' "$room/out" && told=1
-            if [ "$status" != 0 ] || [ "$refused" != "$told" ] || grep -q '^leaked' "$room/err"; then
-                echo "$program $name: request $n: status $status, refused $refused, told $told" >&2
+            grep -q '^no memory$' "$room/out" && reported=1
+            if [ "$status" != 0 ] || [ "$refused" != "$reported" ] || grep -q '^leaked' "$room/err"; then
+                echo "$program $name: request $n: status $status, refused $refused, reported $reported" >&2
                 cat "$room/err" >&2
                 failed=$((failed + 1))
             fi

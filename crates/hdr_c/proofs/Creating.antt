@@ -2,7 +2,7 @@
 use Rattle.std.proofs.Common.{◌≡◌, ◌∙◌, ℕ, Bool, Option, Some, Result, Ok, Err, inl, inr, ap}
 use Rattle.std.specs.Result.{MatchResult}
 use Rattle.hdr_model.specs.Plain.{Plain, empty_plain}
-use Rattle.hdr_model.specs.Refusals.{IsBounds, IsCreationError}
+use Rattle.hdr_model.specs.CallErrors.{IsBounds, IsCreationError}
 use Rattle.hdr_model.specs.declared.errors.CreationError.{CreationError}
 use Rattle.hdr_model.specs.declared.errors.CreationError.TheVariants.{OutOfMemory}
 use Rattle.hdr_c.specs.Calls.{Creates, Stores}

@@ -3,7 +3,7 @@ use Rattle.std.specs.Prelude.{◌≡◌, ◌⊎◌, ◌-◌, ◌^◌, ◌<◌, �
 use Rattle.hdr_model.specs.Plain.{Plain}
 use Rattle.hdrhistogram.specs.Defects.{defect_of_error, FailsBy, RunsOutOnly}
 use Rattle.hdrhistogram.specs.Streams.{WritesFront}
-use Rattle.hdrhistogram.specs.SerializeRefusals.{IsToBytesError}
+use Rattle.hdrhistogram.specs.SerializeErrors.{IsToBytesError}
 use Rattle.hdrhistogram.specs.V2.{IsV2}
 use Rattle.hdrhistogram.specs.V2Read.{HasBounds, IsReadAs, v2_at}
 use Rattle.hdrhistogram.specs.declared.serialization.errors.DeserializeError.{DeserializeError}

@@ -5,7 +5,7 @@ use Rattle.hdr_model.specs.Plain.{Plain, empty_plain}
 use Rattle.hdr_model.specs.Equality.{same_plain}
 use Rattle.hdr_model.specs.Merging.{after_add, after_add_correct}
 use Rattle.hdr_model.specs.Subtracting.{IsDifference}
-use Rattle.hdr_model.specs.Refusals.{IsCreationError, IsRecordError, IsAdditionError, IsCorrectionError, IsSubtractionError}
+use Rattle.hdr_model.specs.CallErrors.{IsCreationError, IsRecordError, IsAdditionError, IsCorrectionError, IsSubtractionError}
 use Rattle.hdr_model.specs.declared.errors.CreationError.{CreationError}
 use Rattle.hdr_model.specs.declared.errors.RecordError.{RecordError}
 use Rattle.hdr_model.specs.declared.errors.AdditionError.{AdditionError}

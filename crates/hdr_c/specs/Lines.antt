@@ -4,7 +4,7 @@ use Rattle.hdr_log.specs.Grammar.{is_tag}
 use Rattle.hdr_log.specs.Texts.{IsTimeInRange}
 use Rattle.hdr_model.specs.Plain.{Plain}
 use Rattle.hdrhistogram.specs.LogLeaving.{IsIntervalText}
-use Rattle.hdrhistogram.specs.SerializeRefusals.{IsSerializeError}
+use Rattle.hdrhistogram.specs.SerializeErrors.{IsSerializeError}
 use Rattle.hdrhistogram.specs.V2.{IsV2}
 use Rattle.hdrhistogram.specs.declared.serialization.errors.V2SerializeError.{V2SerializeError}
 use Rattle.hdrhistogram.specs.declared.serialization.interval_log.errors.IntervalLogWriterError.{IntervalLogWriterError}

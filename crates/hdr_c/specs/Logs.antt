@@ -15,7 +15,7 @@ use Rattle.hdr_c.specs.Status.{field_status}
 use Rattle.hdr_c.specs.Times.{as_time, base_of, IsInterval, AreNanosInRange}
 
 -- what lines have up to their first interval: none, an invalid line at an offset, or an interval by the offset of its
--- line and of the next, the base time, and what the line says
+-- line and of the next, the base time, and the entry of the line
 pub data Found : Type 0 where
   End : Found
   Invalid : ℕ → Found

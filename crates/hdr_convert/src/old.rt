@@ -46,7 +46,7 @@ pub(crate) fn v2_of_old(alloc: Global, bytes: &[u8]) -> Result<Vec<u8>, ConvertE
     ensures v2 { IfOk result (λ v2. IsV2OfOld bytes.now v2.items) }
 {
     let old = old_histogram(bytes)?;
-    let histogram = counted(alloc, &old)?;
+    let histogram = histogram_of(alloc, &old)?;
     let mut serializer = V2Serializer::new(alloc);
     let mut v2 = Vec::new(alloc);
     v2.extend_from_slice(serializer.to_bytes(&histogram)?)?;
@@ -181,7 +181,7 @@ fn version_1(bytes: &[u8], width: usize) -> Result<OldHistogram<'_>, ConvertErro
 
 /// Returns the histogram of counters.
 #[tactic(auto, unfolding(crate::specs::Old::IsWidth))]
-fn counted(alloc: Global, old: &OldHistogram<'_>) -> Result<Histogram<u64>, ConvertError>
+fn histogram_of(alloc: Global, old: &OldHistogram<'_>) -> Result<Histogram<u64>, ConvertError>
     requires { IsWidth old.now.width }
     ensures { IfOk result (λ h. Holds old.now h) }
 {

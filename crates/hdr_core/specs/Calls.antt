@@ -6,7 +6,7 @@ use Rattle.hdr_model.specs.Plain.{Plain, IsPlain, max_of}
 use Rattle.hdr_model.specs.Recording.{after_record, clamp_to_bins, after_clear, after_reset, samples_of, clamp, high_with}
 use Rattle.hdr_model.specs.Correction.{missing, each_times, after_correct}
 use Rattle.hdr_model.specs.Merging.{highest_top, after_add_correct, after_add}
-use Rattle.hdr_model.specs.Refusals.{IsRecordable, IsRecordError, IsAdditionError, IsCorrectionError}
+use Rattle.hdr_model.specs.CallErrors.{IsRecordable, IsRecordError, IsAdditionError, IsCorrectionError}
 use Rattle.hdr_model.specs.Runs.{State, after_each, EachIsAccepted, EachTo, AddCorrectedTo, AddTo}
 use Rattle.hdr_core.specs.declared.call.Call.{Call}
 use Rattle.hdr_core.specs.declared.call.Call.TheVariants.{Record, Clamp, Correct, Clear, Reset, Add, AddCorrect}

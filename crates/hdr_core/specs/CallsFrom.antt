@@ -4,7 +4,7 @@ use Rattle.std.specs.Prelude.{◌≡◌, ◌⊎◌, ℕ, List}
 use Rattle.hdr_base.specs.Classes.{Resolution}
 use Rattle.hdr_model.specs.Plain.{Plain, max_of}
 use Rattle.hdr_model.specs.Merging.{highest_top, after_add_correct, after_add}
-use Rattle.hdr_model.specs.Refusals.{IsRecordable, IsAdditionError, IsCorrectionError}
+use Rattle.hdr_model.specs.CallErrors.{IsRecordable, IsAdditionError, IsCorrectionError}
 use Rattle.hdr_model.specs.Runs.{State, after_each, EachIsAccepted, EachTo, AddTo, AddCorrectedTo}
 use Rattle.hdr_core.specs.Calls.{after_call, IsCallError, IsAccepted, CallTo}
 use Rattle.hdr_core.specs.declared.call_from.CallFrom.{CallFrom}

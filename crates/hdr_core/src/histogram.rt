@@ -3,7 +3,7 @@
 ghost use Rattle.std.specs.Prelude.{◌≡◌, ◌↔◌, MatchResult, MatchOption, IsTrue, false, true, ◌+◌, ◌*◌, ◌<◌, ◌≤◌, IfSome, SomeIff, IfErr, length, map, slice_index, unwrap_or};
 ghost use Rattle.hdr_base.specs.Classes.{most_bins, bin_of, bucket, resolution_of, value_of, top_of};
 ghost use Rattle.hdr_model.specs.Plain.{IsPlain, resolution, reach, block_of, empty_plain, max_of, min_nz_of, min_of};
-ghost use Rattle.hdr_model.specs.Refusals.{IsCreationError, IsBounds, IsForGreatLow};
+ghost use Rattle.hdr_model.specs.CallErrors.{IsCreationError, IsBounds, IsForGreatLow};
 ghost use Rattle.hdr_model.specs.Merging.{highest_top};
 ghost use Rattle.hdr_model.specs.declared.errors.CreationError.TheVariants.{OutOfMemory};
 

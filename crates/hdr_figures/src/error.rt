@@ -11,7 +11,7 @@ pub enum PageError {
     /// The log at this index is invalid.
     #[error("{cause}")]
     Input { log: usize, cause: InputError },
-    /// A unit is given, and the values have decimals of it.
+    /// A unit is set, and the values have decimals of it.
     #[error("the values have {0} decimals; without --unit they are shown in units of the last one")]
     Decimals(u32),
     #[error("{0}")]

@@ -125,7 +125,7 @@ impl Read for LateInput<'_> {
 }
 
 /// Returns the name of a file for an error.
-pub fn shown(name: &str) -> &str {
+pub fn display_name(name: &str) -> &str {
     if name == "-" { "standard input" } else { name }
 }
 
@@ -135,5 +135,5 @@ pub fn file_at(alloc: Global, names: &[&str], index: Option<usize>) -> Result<St
         Some(index) => names.get(index).copied().unwrap_or("-"),
         None => "the logs",
     };
-    String::from_str(alloc, shown(name))
+    String::from_str(alloc, display_name(name))
 }

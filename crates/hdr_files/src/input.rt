@@ -1,6 +1,6 @@
 //! Files and standard input.
 
-use crate::console::{Console, shown};
+use crate::console::{Console, display_name};
 use crate::error::FileError;
 use crate::reading::{Reading, Source, Table};
 use hdr_input::columns::{Columns, Layout, RowSink, guess_delimiter, read_rows};
@@ -97,7 +97,7 @@ impl FileSink for Contents {
     }
 }
 
-/// Reads a table. If its delimiter is not given, the first line determines it.
+/// Reads a table. If its delimiter is not set, the first line determines it.
 fn read_table<R: Read + Drop, S: RowSink>(
     alloc: Global,
     reader: R,
@@ -137,11 +137,11 @@ fn read_file<S: FileSink>(console: Console<'_>, name: &str, sink: &mut S) -> Res
     let alloc = console.rt.alloc();
     match sink.take(alloc, console.open(name)?) {
         Ok(()) => Ok(()),
-        Err(cause) => Err(FileError::input(alloc, shown(name), cause)),
+        Err(cause) => Err(FileError::input(alloc, display_name(name), cause)),
     }
 }
 
-/// Reads files in their order, or standard input if no names are given.
+/// Reads files in their order, or standard input if names are omitted.
 fn read_files<S: FileSink>(
     console: Console<'_>,
     names: &[&str],

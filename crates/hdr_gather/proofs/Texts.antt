@@ -5,14 +5,14 @@ use Rattle.std.proofs.lemmas.Bool.{false≢true}
 use Rattle.std.proofs.lemmas.Option.{none-some}
 use Rattle.std.specs.Io.BufRead.{take_through, drop_through, DropsThrough}
 use Rattle.hdr_log.specs.Grammar.{Entry, Interval, Start, Base, Span}
-use Rattle.hdr_input.specs.Lines.{AreLines, without_mark, IsPlainOf, said_by}
+use Rattle.hdr_input.specs.Lines.{AreLines, without_mark, IsPlainOf, entry_of_line}
 use Rattle.hdr_gather.specs.declared.reader.Held.{Held}
 use Rattle.hdr_gather.specs.Times.{nearest_millisecond}
-use Rattle.hdr_gather.specs.Intervals.{Timed, timed, timed_at, held_interval, SaysThen, LinesSay, TextSays, ReadsPlain, Notes}
+use Rattle.hdr_gather.specs.Intervals.{Timed, timed, timed_at, held_interval, HoldsThen, LinesHold, TextHolds, ReadsPlain, Notes}
 
 -- what the lines after a line say
-says_lines : (said : Option (Result Entry ℕ)) (base : ℕ) (text : List ℕ) (all : List Timed) → SaysThen said base (λ b rest. TextSays false b text rest) all
-    → (lines : List (List ℕ)) × AreLines lines text × SaysThen said base (LinesSay false lines) all
+says_lines : (said : Option (Result Entry ℕ)) (base : ℕ) (text : List ℕ) (all : List Timed) → HoldsThen said base (λ b rest. TextHolds false b text rest) all
+    → (lines : List (List ℕ)) × AreLines lines text × HoldsThen said base (LinesHold false lines) all
 says_lines None base text all h = h
 says_lines (Some (Ok (Start t))) base text all h = h
 says_lines (Some (Ok (Base t))) base text all h = h
@@ -20,39 +20,39 @@ says_lines (Some (Ok (Span i))) base text all h = (h.2.0, h.2.1, (h.0, h.1, h.2.
 says_lines (Some (Err at)) base text all h = absurd h
 
 text_more : (is_first : Bool) (base : ℕ) (text plain : List ℕ) (all : List Timed) → IsPlainOf (without_mark is_first (take_through 10 text)) plain
-    → SaysThen (said_by plain) base (λ b rest. TextSays false b (drop_through 10 text) rest) all → TextSays is_first base text all
+    → HoldsThen (entry_of_line plain) base (λ b rest. TextHolds false b (drop_through 10 text) rest) all → TextHolds is_first base text all
 text_more is_first base text plain all is h =
-    let l = says_lines (said_by plain) base (drop_through 10 text) all h in
+    let l = says_lines (entry_of_line plain) base (drop_through 10 text) all h in
     (take_through 10 text ∷ l.0, (refl, l.1), (plain, is, l.2))
 
 -- a line is read, and the text after it says the rest
 unread_more : (old new : Option (List ℕ)) (is_first now_first : Bool) (base after : ℕ) (plain : List ℕ) (rest all : List Timed) → now_first ≡ false → ReadsPlain is_first old new (Some plain)
-    → ((text : List ℕ) → TextSays false after text rest → SaysThen (said_by plain) base (λ b r. TextSays false b text r) all)
-    → IfSome new (λ text. TextSays now_first after text rest) → IfSome old (λ text. TextSays is_first base text all)
+    → ((text : List ℕ) → TextHolds false after text rest → HoldsThen (entry_of_line plain) base (λ b r. TextHolds false b text r) all)
+    → IfSome new (λ text. TextHolds now_first after text rest) → IfSome old (λ text. TextHolds is_first base text all)
 unread_more None new is_first now_first base after plain rest all later reads says left = tt
 unread_more (Some text) new is_first now_first base after plain rest all later reads says left =
-    let more : TextSays now_first after (drop_through 10 text) rest = subst (λ o. IfSome o (λ t. TextSays now_first after t rest)) reads.1 left in
-    text_more is_first base text plain all reads.0 (says (drop_through 10 text) (subst (λ b. TextSays b after (drop_through 10 text) rest) later more))
+    let more : TextHolds now_first after (drop_through 10 text) rest = subst (λ o. IfSome o (λ t. TextHolds now_first after t rest)) reads.1 left in
+    text_more is_first base text plain all reads.0 (says (drop_through 10 text) (subst (λ b. TextHolds b after (drop_through 10 text) rest) later more))
 
 -- an entry as the code has it
 pub said_as : {A : Type 0} (view : A → Entry) (ok : Entry → Result Entry ℕ) (entry : Option A) → option_map (λ e. ok (view e)) entry ≡ option_map ok (option_map view entry)
 said_as view ok None = refl
 said_as view ok (Some e) = refl
 
-notes_none : (entry : Option Entry) (base after : ℕ) (text : List ℕ) (rest : List Timed) → Notes entry base after None → TextSays false after text rest
-    → SaysThen (option_map Ok entry) base (λ b r. TextSays false b text r) rest
-notes_none None base after text rest n h = subst (λ b. TextSays false b text rest) n.0 h
-notes_none (Some (Start t)) base after text rest n h = subst (λ b. TextSays false b text rest) n.0 h
-notes_none (Some (Base t)) base after text rest n h = subst (λ b. TextSays false b text rest) n.0 h
+notes_none : (entry : Option Entry) (base after : ℕ) (text : List ℕ) (rest : List Timed) → Notes entry base after None → TextHolds false after text rest
+    → HoldsThen (option_map Ok entry) base (λ b r. TextHolds false b text r) rest
+notes_none None base after text rest n h = subst (λ b. TextHolds false b text rest) n.0 h
+notes_none (Some (Start t)) base after text rest n h = subst (λ b. TextHolds false b text rest) n.0 h
+notes_none (Some (Base t)) base after text rest n h = subst (λ b. TextHolds false b text rest) n.0 h
 notes_none (Some (Span i)) base after text rest n h = absurd (none-some i n.1)
 
 -- a line is read that says no interval
 pub no_interval_more : (old new : Option (List ℕ)) (is_first now_first : Bool) (base after : ℕ) (plain : List ℕ) (entry : Option Entry) (rest : List Timed) → now_first ≡ false
-    → ReadsPlain is_first old new (Some plain) → said_by plain ≡ option_map Ok entry → Notes entry base after None
-    → IfSome new (λ text. TextSays now_first after text rest) → IfSome old (λ text. TextSays is_first base text rest)
+    → ReadsPlain is_first old new (Some plain) → entry_of_line plain ≡ option_map Ok entry → Notes entry base after None
+    → IfSome new (λ text. TextHolds now_first after text rest) → IfSome old (λ text. TextHolds is_first base text rest)
 no_interval_more old new is_first now_first base after plain entry rest later reads said n left =
     unread_more old new is_first now_first base after plain rest rest later reads
-    (λ text h. subst (λ o. SaysThen o base (λ b r. TextSays false b text r) rest) (sym said) (notes_none entry base after text rest n h)) left
+    (λ text h. subst (λ o. HoldsThen o base (λ b r. TextHolds false b text r) rest) (sym said) (notes_none entry base after text rest n h)) left
 
 notes_some : (entry : Option Entry) (base after : ℕ) (i : Interval) → Notes entry base after (Some i) → (after ≡ base) × (entry ≡ Some (Span i))
 notes_some None base after i n = absurd (none-some i (sym n.1))
@@ -62,47 +62,47 @@ notes_some (Some (Span j)) base after i n = (n.0, let same : j ≡ i = cc in ap 
 
 -- a line is read that says an interval
 pub interval_more : (old new : Option (List ℕ)) (is_first now_first : Bool) (base after : ℕ) (plain : List ℕ) (entry : Option Entry) (i : Interval) (held : Held) (rest : List Timed) → now_first ≡ false
-    → ReadsPlain is_first old new (Some plain) → said_by plain ≡ option_map Ok entry → Notes entry base after (Some i)
+    → ReadsPlain is_first old new (Some plain) → entry_of_line plain ≡ option_map Ok entry → Notes entry base after (Some i)
     → held.line.items ≡ plain → held.start ≡ nearest_millisecond (after + i.start)
-    → IfSome new (λ text. TextSays now_first after text rest) → IfSome old (λ text. TextSays is_first base text (held_interval held ++ rest))
+    → IfSome new (λ text. TextHolds now_first after text rest) → IfSome old (λ text. TextHolds is_first base text (held_interval held ++ rest))
 interval_more old new is_first now_first base after plain entry i held rest later reads said n line start left =
     let is = notes_some entry base after i n in
-    let says : said_by plain ≡ Some (Ok (Span i)) = said ∙ ap (option_map Ok) is.1 in
+    let says : entry_of_line plain ≡ Some (Ok (Span i)) = said ∙ ap (option_map Ok) is.1 in
     let begins : held.start ≡ nearest_millisecond (base + i.start) = start ∙ ap (λ b. nearest_millisecond (b + i.start)) is.0 in
-    let one : held_interval held ≡ timed held.start i ∷ [] = ap (timed_at held.start) (ap said_by line ∙ says) in
+    let one : held_interval held ≡ timed held.start i ∷ [] = ap (timed_at held.start) (ap entry_of_line line ∙ says) in
     let all : held_interval held ++ rest ≡ timed (nearest_millisecond (base + i.start)) i ∷ rest = ap (λ l. l ++ rest) one ∙ ap (λ s. timed s i ∷ rest) begins in
     unread_more old new is_first now_first base after plain rest (held_interval held ++ rest) later reads
-    (λ text h. subst (λ o. SaysThen o base (λ b r. TextSays false b text r) (held_interval held ++ rest)) (sym says) (rest, all, subst (λ b. TextSays false b text rest) is.0 h)) left
+    (λ text h. subst (λ o. HoldsThen o base (λ b r. TextHolds false b text r) (held_interval held ++ rest)) (sym says) (rest, all, subst (λ b. TextHolds false b text rest) is.0 h)) left
 
 no_comma : (front field : List ℕ) → [] ≡ front ++ 44 ∷ field → ⊥
 no_comma [] field e = cc
 no_comma (x ∷ front) field e = cc
 
-nothing_said : (plain : List ℕ) → IsPlainOf [] plain → said_by plain ≡ None
-unfolding said_by
+nothing_said : (plain : List ℕ) → IsPlainOf [] plain → entry_of_line plain ≡ None
+unfolding entry_of_line
 nothing_said plain h =
     let same : plain ≡ [] = h.1 (λ other. no_comma other.ends.front other.ends.rest other.ends.last.0) in
-    subst (λ p. said_by p ≡ None) (sym same) refl
+    subst (λ p. entry_of_line p ≡ None) (sym same) refl
 
-empty_line : (is_first : Bool) (line plain : List ℕ) → line ≡ [] → IsPlainOf (without_mark is_first line) plain → said_by plain ≡ None
+empty_line : (is_first : Bool) (line plain : List ℕ) → line ≡ [] → IsPlainOf (without_mark is_first line) plain → entry_of_line plain ≡ None
 empty_line true line plain e h = nothing_said plain (subst (λ l. IsPlainOf (without_mark true l) plain) e h)
 empty_line false line plain e h = nothing_said plain (subst (λ l. IsPlainOf (without_mark false l) plain) e h)
 
 -- an empty text says no interval
-empty_says : (lines : List (List ℕ)) (is_first : Bool) (base : ℕ) (rest : List Timed) → AreLines lines [] → LinesSay is_first lines base rest → rest ≡ []
-empty_says [] is_first base rest a h = h
-empty_says (line ∷ lines) is_first base rest a h =
-    let none : said_by h.0 ≡ None = empty_line is_first line h.0 a.0 h.1 in
-    empty_says lines false base rest a.1 (subst (λ o. SaysThen o base (LinesSay false lines) rest) none h.2)
+empty_has_none : (lines : List (List ℕ)) (is_first : Bool) (base : ℕ) (rest : List Timed) → AreLines lines [] → LinesHold is_first lines base rest → rest ≡ []
+empty_has_none [] is_first base rest a h = h
+empty_has_none (line ∷ lines) is_first base rest a h =
+    let none : entry_of_line h.0 ≡ None = empty_line is_first line h.0 a.0 h.1 in
+    empty_has_none lines false base rest a.1 (subst (λ o. HoldsThen o base (LinesHold false lines) rest) none h.2)
 
 -- at the end no line is left
 pub unread_end : (old new : Option (List ℕ)) (is_first now_first : Bool) (base after : ℕ) (rest : List Timed) → ReadsPlain is_first old new None
-    → IfSome new (λ text. TextSays now_first after text rest) → IfSome old (λ text. TextSays is_first base text rest)
+    → IfSome new (λ text. TextHolds now_first after text rest) → IfSome old (λ text. TextHolds is_first base text rest)
 unread_end None new is_first now_first base after rest h left = tt
 unread_end (Some text) new is_first now_first base after rest h left =
     let gone : drop_through 10 text ≡ [] = ap (drop_through 10) h.0 in
-    let more : TextSays now_first after (drop_through 10 text) rest = subst (λ o. IfSome o (λ t. TextSays now_first after t rest)) h.1 left in
-    let none : rest ≡ [] = empty_says more.0 now_first after rest (subst (AreLines more.0) gone more.1) more.2 in
+    let more : TextHolds now_first after (drop_through 10 text) rest = subst (λ o. IfSome o (λ t. TextHolds now_first after t rest)) h.1 left in
+    let none : rest ≡ [] = empty_has_none more.0 now_first after rest (subst (AreLines more.0) gone more.1) more.2 in
     ([], h.0, none)
 
 -- bytes that are known stay known

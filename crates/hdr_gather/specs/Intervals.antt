@@ -9,7 +9,7 @@ use Rattle.std.specs.Io.BufRead.{take_through, DropsThrough}
 use Rattle.std.specs.Io.Buffered.{reader_remaining}
 use Rattle.hdr_log.specs.Grammar.{Entry, Interval, Start, Base, Span}
 use Rattle.hdr_log.specs.Tags.{tag_text}
-use Rattle.hdr_input.specs.Lines.{AreLines, without_mark, IsPlainOf, said_by}
+use Rattle.hdr_input.specs.Lines.{AreLines, without_mark, IsPlainOf, entry_of_line}
 use Rattle.hdr_gather.specs.Times.{nearest_millisecond}
 use Rattle.hdr_gather.specs.declared.part.Part.{Part}
 use Rattle.hdr_gather.specs.declared.reader.Held.{Held}
@@ -26,37 +26,37 @@ pub record Timed : Type 0 where
 abbrev pub timed : ℕ → Interval → Timed
 timed start i = record { start = start; tag = i.tag; duration = i.duration; field = i.field }
 
--- intervals of lines begin after the last base time; what a line says comes first, and then the rest
-abbrev pub SaysThen : Option (Result Entry ℕ) → ℕ → (ℕ → List Timed → Type 0) → List Timed → Type 0
-SaysThen None base Rest all = Rest base all
-SaysThen (Some (Ok (Start time))) base Rest all = Rest base all
-SaysThen (Some (Ok (Base time))) base Rest all = Rest time all
-SaysThen (Some (Ok (Span i))) base Rest all =
+-- intervals of lines begin after the last base time; the entry of a line comes first, and then the rest
+abbrev pub HoldsThen : Option (Result Entry ℕ) → ℕ → (ℕ → List Timed → Type 0) → List Timed → Type 0
+HoldsThen None base Rest all = Rest base all
+HoldsThen (Some (Ok (Start time))) base Rest all = Rest base all
+HoldsThen (Some (Ok (Base time))) base Rest all = Rest time all
+HoldsThen (Some (Ok (Span i))) base Rest all =
     (rest : List Timed) × (all ≡ timed (nearest_millisecond (base + i.start)) i ∷ rest) × Rest base rest
-SaysThen (Some (Err at)) base Rest all = ⊥
+HoldsThen (Some (Err at)) base Rest all = ⊥
 
 -- the intervals of lines in order, from a base time on; a line with a compressed histogram has a plain one instead
-abbrev pub LinesSay : Bool → List (List ℕ) → ℕ → List Timed → Type 0
-LinesSay is_first [] base all = all ≡ []
-LinesSay is_first (line ∷ lines) base all =
-    (plain : List ℕ) × IsPlainOf (without_mark is_first line) plain × SaysThen (said_by plain) base (LinesSay false lines) all
+abbrev pub LinesHold : Bool → List (List ℕ) → ℕ → List Timed → Type 0
+LinesHold is_first [] base all = all ≡ []
+LinesHold is_first (line ∷ lines) base all =
+    (plain : List ℕ) × IsPlainOf (without_mark is_first line) plain × HoldsThen (entry_of_line plain) base (LinesHold false lines) all
 
 -- the intervals of a text, from a base time on
-abbrev pub TextSays : Bool → ℕ → List ℕ → List Timed → Type 0
-TextSays is_first base text all = (lines : List (List ℕ)) × AreLines lines text × LinesSay is_first lines base all
+abbrev pub TextHolds : Bool → ℕ → List ℕ → List Timed → Type 0
+TextHolds is_first base text all = (lines : List (List ℕ)) × AreLines lines text × LinesHold is_first lines base all
 
 -- the intervals of a log
 abbrev pub LogHolds : List ℕ → List Timed → Type 0
-LogHolds text all = TextSays true 0 text all
+LogHolds text all = TextHolds true 0 text all
 
--- the interval of a line that begins at this millisecond, if the line says one
+-- the interval of a line that begins at this millisecond, if the line has one
 abbrev pub timed_at : ℕ → Option (Result Entry ℕ) → List Timed
 timed_at start (Some (Ok (Span i))) = timed start i ∷ []
 timed_at start _ = []
 
 -- the interval of a line that is held
 abbrev pub held_interval : Held → List Timed
-held_interval held = timed_at held.start (said_by held.line.items)
+held_interval held = timed_at held.start (entry_of_line held.line.items)
 
 abbrev pub next_interval : Option Held → List Timed
 next_interval None = []
@@ -78,7 +78,7 @@ ReadsPlain is_first old new None = IsAtEnd old × DropsThrough old new 10
 ReadsPlain is_first old new (Some plain) =
     IfSome old (λ text. IsPlainOf (without_mark is_first (take_through 10 text)) plain) × DropsThrough old new 10
 
--- what an entry says: an interval, or the base time of those after it
+-- what an entry holds: an interval, or the base time of those after it
 abbrev pub Notes : Option Entry → ℕ → ℕ → Option Interval → Type 0
 Notes None before after found = (after ≡ before) × (found ≡ None)
 Notes (Some (Start time)) before after found = (after ≡ before) × (found ≡ None)
@@ -90,13 +90,13 @@ abbrev pub unread : {R : Type 0} → (R → Option (List ℕ)) → LogReader R �
 unread remaining reader = reader_remaining remaining reader.reader
 
 -- the intervals of the lines that are not read yet
-abbrev pub UnreadSay : {R : Type 0} → (R → Option (List ℕ)) → LogReader R → List Timed → Type 0
-UnreadSay remaining reader all = IfSome (unread remaining reader) (λ text. TextSays (reader.line == 0) (as_nanos reader.base) text all)
+abbrev pub UnreadHold : {R : Type 0} → (R → Option (List ℕ)) → LogReader R → List Timed → Type 0
+UnreadHold remaining reader all = IfSome (unread remaining reader) (λ text. TextHolds (reader.line == 0) (as_nanos reader.base) text all)
 
 -- the intervals that a reader has left: the one that it holds, and those that are not read yet
 abbrev pub HasLeft : {R : Type 0} → (R → Option (List ℕ)) → LogReader R → List Timed → Type 0
 HasLeft remaining reader all =
-    (rest : List Timed) × (all ≡ next_interval reader.next ++ rest) × UnreadSay remaining reader rest
+    (rest : List Timed) × (all ≡ next_interval reader.next ++ rest) × UnreadHold remaining reader rest
 
 -- the intervals that readers have left, one reader after another
 abbrev pub HaveLeft : {R : Type 0} → (R → Option (List ℕ)) → List (LogReader R) → List Timed → Type 0
@@ -110,7 +110,7 @@ IsKnown remaining reader = IsSome (unread remaining reader)
 
 -- the bytes that are not read yet are known, and without a next interval their lines have none
 abbrev pub IsReadyAt : {R : Type 0} → (R → Option (List ℕ)) → LogReader R → Option Held → Type 0
-IsReadyAt remaining reader next = IsKnown remaining reader × (next ≡ None → UnreadSay remaining reader [])
+IsReadyAt remaining reader next = IsKnown remaining reader × (next ≡ None → UnreadHold remaining reader [])
 
 abbrev pub IsReady : {R : Type 0} → (R → Option (List ℕ)) → LogReader R → Type 0
 IsReady remaining reader = IsReadyAt remaining reader reader.next

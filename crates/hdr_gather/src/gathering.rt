@@ -68,7 +68,7 @@ pub fn gather_unsorted<R: Read + Drop, W: Write>(
     Ok(())
 }
 
-/// Returns the start of a log with the decimals of its values in a comment, if they are given.
+/// Returns the start of a log with the decimals of its values in a comment, if there are any.
 fn builder_of(alloc: Global, decimals: Option<u32>) -> Result<IntervalLogWriterBuilder, GatherError>
     ensures { IfOk result (λ builder. (comments : List (List ℕ))
         × (builder ≡ record new_start { comments = comments })) }
@@ -82,7 +82,7 @@ fn builder_of(alloc: Global, decimals: Option<u32>) -> Result<IntervalLogWriterB
     Ok(builder)
 }
 
-/// Begins a log with the decimals of its values in a comment, if they are given.
+/// Begins a log with the decimals of its values in a comment, if there are any.
 fn begin_log<'a, 'b, W: Write>(
     alloc: Global,
     decimals: Option<u32>,

@@ -4,7 +4,7 @@ ghost use Rattle.std.specs.Prelude.{◌≡◌, ◌≢◌, ◌==◌, ◌+◌, ◌
 ghost use Rattle.std.specs.Option.{option_map, option_or};
 ghost use Rattle.std.specs.Io.Buffered.{reader_remaining};
 ghost use Rattle.hdr_gather.specs.Intervals.{Timed, LogHolds, held_interval, next_interval};
-ghost use Rattle.hdr_gather.specs.Intervals.{part_interval, unread, UnreadSay, HasLeft, ReadsPlain, Notes};
+ghost use Rattle.hdr_gather.specs.Intervals.{part_interval, unread, UnreadHold, HasLeft, ReadsPlain, Notes};
 ghost use Rattle.hdr_gather.specs.Intervals.{IsKnown, IsReady, IsReadyAt};
 ghost use Rattle.hdr_gather.specs.Logs.{next_start};
 ghost use Rattle.hdr_gather.specs.Decimals.{held_decimals};
@@ -153,8 +153,8 @@ impl<R: Read + Drop> LogReader<R> {
 
     /// Reads up to the next interval, and returns it.
     fn read(&mut self, alloc: Global) -> Result<Option<Held>, GatherError>
-        ensures left { IfOk result (λ next. (rest : List Timed) → UnreadSay R.remaining self.new rest
-            → UnreadSay R.remaining self.old (next_interval next ++ rest)) }
+        ensures left { IfOk result (λ next. (rest : List Timed) → UnreadHold R.remaining self.new rest
+            → UnreadHold R.remaining self.old (next_interval next ++ rest)) }
         ensures ready { IfOk result (λ next. IsKnown R.remaining self.old
             → IsReadyAt R.remaining self.new next) }
     {

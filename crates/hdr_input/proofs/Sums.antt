@@ -9,8 +9,8 @@ use Rattle.std.proofs.lemmas.Slice.Eq.{bytes_eq-Decides}
 use Rattle.std.specs.String.{string_bytes}
 use Rattle.hdr_model.specs.Plain.{Plain}
 use Rattle.hdr_model.specs.Merging.{after_add}
-use Rattle.hdr_input.specs.Sums.{Sum, is_same_tag, empty_sum, with_added, view_of_sum, after_interval, index_of, added_at, IsSumAt, Summing, TakesSaid, TakesLines, TakesText, is_first_after}
-use Rattle.hdr_input.specs.Lines.{said_by, without_mark}
+use Rattle.hdr_input.specs.Sums.{Sum, is_same_tag, empty_sum, with_added, view_of_sum, after_interval, index_of, added_at, IsSumAt, Summing, TakesEntry, TakesLines, TakesText, is_first_after}
+use Rattle.hdr_input.specs.Lines.{entry_of_line, without_mark}
 use Rattle.std.specs.Io.BufRead.{take_through, drop_through}
 use Rattle.std.proofs.lemmas.Bool.{false_from_ne_true}
 use Rattle.hdr_input.specs.declared.logs.TagSum.{TagSum}
@@ -133,10 +133,10 @@ pub sum_added : (old new : TagSum) (h : Plain) → new.tag ≡ old.tag → new.h
 sum_added old new h tag is = ap (λ t. sum_of t new.histogram) tag ∙ ap (sum_of old.tag) is
 
 -- a line is taken, and then those after it
-pub taken_more : (is_first now_first : Bool) (text line : List ℕ) (old mid last : Summing) → now_first ≡ false → line ≡ without_mark is_first (take_through 10 text) → TakesSaid old (said_by line) mid
+pub taken_more : (is_first now_first : Bool) (text line : List ℕ) (old mid last : Summing) → now_first ≡ false → line ≡ without_mark is_first (take_through 10 text) → TakesEntry old (entry_of_line line) mid
     → TakesText now_first (drop_through 10 text) mid last → TakesText is_first text old last
 taken_more is_first now_first text line old mid last later is said rest =
-    let says : TakesSaid old (said_by (without_mark is_first (take_through 10 text))) mid = subst (λ l. TakesSaid old (said_by l) mid) is said in
+    let says : TakesEntry old (entry_of_line (without_mark is_first (take_through 10 text))) mid = subst (λ l. TakesEntry old (entry_of_line l) mid) is said in
     (take_through 10 text ∷ rest.0, (refl, rest.1), (mid, says, subst (λ b. TakesLines b rest.0 mid last) later rest.2))
 
 -- a number above 1

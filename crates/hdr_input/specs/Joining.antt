@@ -2,8 +2,8 @@
 use Rattle.std.proofs.Common.{◌≡◌, ◌==◌, ℕ, Bool, true, false, if◌then◌else◌, List, [], ◌∷◌, ◌++◌, None, refl, sym, ap, subst, ◌∙◌, eq-eqb}
 use Rattle.std.specs.Prelude.{⊤}
 use Rattle.std.specs.Io.BufRead.{take_through, drop_through}
-use Rattle.hdr_input.specs.Lines.{said_by, without_mark, AreLines, IsComplete}
-use Rattle.hdr_input.specs.Sums.{Summing, TakesSaid, TakesLines, TakesText, TakesFrom, is_first_after, view_of_sums}
+use Rattle.hdr_input.specs.Lines.{entry_of_line, without_mark, AreLines, IsComplete}
+use Rattle.hdr_input.specs.Sums.{Summing, TakesEntry, TakesLines, TakesText, TakesFrom, is_first_after, view_of_sums}
 use Rattle.hdr_input.specs.declared.logs.LogSums.{LogSums}
 
 abbrev IsNonempty : List ℕ → Type 0
@@ -35,22 +35,22 @@ first_joined [] more some ends = absurd some
 first_joined (x ∷ []) more some ends = joined_at x [] more (eq-eqb x 10 ends) tt
 first_joined (x ∷ y ∷ xs) more some ends = joined_behind x (y ∷ xs) more (x == 10) refl ends (first_joined (y ∷ xs) more tt ends)
 
--- an empty line says nothing
-empty_says : (is_first : Bool) → said_by (without_mark is_first []) ≡ None
-unfolding said_by
-empty_says true = refl
-empty_says false = refl
+-- an empty line has no entry
+empty_has_none : (is_first : Bool) → entry_of_line (without_mark is_first []) ≡ None
+unfolding entry_of_line
+empty_has_none true = refl
+empty_has_none false = refl
 
 -- the lines of an empty text are empty
 nothing_taken : (is_first : Bool) (lines : List (List ℕ)) (old new : Summing) → AreLines lines [] → TakesLines is_first lines old new → new ≡ old
 nothing_taken is_first [] old new are takes = takes
 nothing_taken is_first (line ∷ lines) old new are takes =
-    let says : said_by (without_mark is_first line) ≡ None = ap (λ l. said_by (without_mark is_first l)) are.0 ∙ empty_says is_first in
-    let same : takes.0 ≡ old = subst (λ o. TakesSaid old o takes.0) says takes.1 in
+    let none : entry_of_line (without_mark is_first line) ≡ None = ap (λ l. entry_of_line (without_mark is_first l)) are.0 ∙ empty_has_none is_first in
+    let same : takes.0 ≡ old = subst (λ o. TakesEntry old o takes.0) none takes.1 in
     nothing_taken false lines takes.0 new are.1 takes.2 ∙ same
 
 -- a line is taken, and then those after it
-line_taken : (is_first : Bool) (text line : List ℕ) (old mid last : Summing) → line ≡ take_through 10 text → TakesSaid old (said_by (without_mark is_first line)) mid
+line_taken : (is_first : Bool) (text line : List ℕ) (old mid last : Summing) → line ≡ take_through 10 text → TakesEntry old (entry_of_line (without_mark is_first line)) mid
     → TakesText false (drop_through 10 text) mid last → TakesText is_first text old last
 line_taken is_first text line old mid last is said rest = (line ∷ rest.0, (is, rest.1), (mid, said, rest.2))
 

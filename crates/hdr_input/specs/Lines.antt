@@ -56,9 +56,9 @@ abbrev pub first_of : List (Result Entry ℕ) → Option (Result Entry ℕ)
 first_of [] = None
 first_of (item ∷ items) = Some item
 
--- what a line says: nothing if it is blank
-unfoldable pub said_by : List ℕ → Option (Result Entry ℕ)
-said_by line = if list_all is_ascii_whitespace line then None else first_of (reading line)
+-- the entry of a line: none if it is blank
+unfoldable pub entry_of_line : List ℕ → Option (Result Entry ℕ)
+entry_of_line line = if list_all is_ascii_whitespace line then None else first_of (reading line)
 
 -- a text ends with LF, or is empty
 abbrev pub IsComplete : List ℕ → Type 0

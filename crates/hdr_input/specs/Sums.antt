@@ -10,7 +10,7 @@ use Rattle.hdr_model.specs.Merging.{after_add}
 use Rattle.hdr_log.specs.Grammar.{Entry, Interval, Start, Base, Span}
 use Rattle.hdrhistogram.specs.Chosen.{Filter, is_chosen, view_of_interval_choice}
 use Rattle.hdrhistogram.specs.FieldRead.{IsHeldIn}
-use Rattle.hdr_input.specs.Lines.{said_by, IsPlainField, AreLines, without_mark}
+use Rattle.hdr_input.specs.Lines.{entry_of_line, IsPlainField, AreLines, without_mark}
 use Rattle.hdr_input.specs.declared.logs.TagSum.{TagSum}
 use Rattle.hdr_input.specs.declared.logs.LogSums.{LogSums}
 
@@ -74,13 +74,13 @@ abbrev pub AddsIf : Bool → Summing → Interval → Summing → Type 0
 AddsIf true old i new = Adds old i new
 AddsIf false old i new = new ≡ old
 
--- what a line says: a base time, or an interval that begins at its start after the last base time
-abbrev pub TakesSaid : Summing → Option (Result Entry ℕ) → Summing → Type 0
-TakesSaid old None new = new ≡ old
-TakesSaid old (Some (Ok (Start time))) new = new ≡ old
-TakesSaid old (Some (Ok (Base time))) new = new ≡ with_base old time
-TakesSaid old (Some (Ok (Span i))) new = AddsIf (is_chosen old.filter i.tag (old.base + i.start)) old i new
-TakesSaid old (Some (Err at)) new = ⊥
+-- the entry of a line is taken: a base time, or an interval that begins at its start after the last base time
+abbrev pub TakesEntry : Summing → Option (Result Entry ℕ) → Summing → Type 0
+TakesEntry old None new = new ≡ old
+TakesEntry old (Some (Ok (Start time))) new = new ≡ old
+TakesEntry old (Some (Ok (Base time))) new = new ≡ with_base old time
+TakesEntry old (Some (Ok (Span i))) new = AddsIf (is_chosen old.filter i.tag (old.base + i.start)) old i new
+TakesEntry old (Some (Err at)) new = ⊥
 
 -- the index of the first sum of a tag
 unfoldable pub index_of : Option (List ℕ) → List Sum → Option ℕ
@@ -111,7 +111,7 @@ KeepsOptions old new = (new.choice ≡ old.choice) × (new.sigfig ≡ old.sigfig
 abbrev pub TakesLines : Bool → List (List ℕ) → Summing → Summing → Type 0
 TakesLines is_first [] old new = new ≡ old
 TakesLines is_first (line ∷ lines) old new =
-    (mid : Summing) × TakesSaid old (said_by (without_mark is_first line)) mid × TakesLines false lines mid new
+    (mid : Summing) × TakesEntry old (entry_of_line (without_mark is_first line)) mid × TakesLines false lines mid new
 
 -- the lines of a text are taken in order
 abbrev pub TakesText : Bool → List ℕ → Summing → Summing → Type 0

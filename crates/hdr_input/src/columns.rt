@@ -1,7 +1,7 @@
 //! Numbers from a column of a table.
 
 use crate::cause::Cause;
-use crate::errors::{InputError, Place, shown};
+use crate::errors::{InputError, Place, excerpt};
 use crate::lines::{record_text, skip_or_err};
 use crate::number::Number;
 use crate::tally::Tally;
@@ -82,7 +82,7 @@ fn names_of(alloc: Global, names: &ByteRecord) -> Result<String, AllocError> {
         if !text.is_empty() {
             text.push_str(", ")?;
         }
-        text.push_str(shown(alloc, name)?.as_str())?;
+        text.push_str(excerpt(alloc, name)?.as_str())?;
     }
     if names.len() > MOST_NAMES {
         text.push_str(", ...")?;

@@ -108,7 +108,7 @@ impl InputError {
 const SHOWN: usize = 40;
 
 /// Returns the start of a text for an error. Control characters are shown as `?`.
-pub(crate) fn shown(alloc: Global, text: &[u8]) -> Result<String, AllocError> {
+pub(crate) fn excerpt(alloc: Global, text: &[u8]) -> Result<String, AllocError> {
     let mut bytes = text[..text.len().min(SHOWN)].to_vec(alloc)?;
     for byte in bytes.iter_mut() {
         if byte.is_ascii_control() {
@@ -123,7 +123,7 @@ pub(crate) fn bad_number(alloc: Global, place: Place, text: &[u8], cause: Cause)
     if cause == Cause::OutOfMemory {
         return InputError::OutOfMemory;
     }
-    match shown(alloc, text) {
+    match excerpt(alloc, text) {
         Ok(text) => InputError::BadNumber { place, text, cause },
         Err(_) => InputError::OutOfMemory,
     }
@@ -131,7 +131,7 @@ pub(crate) fn bad_number(alloc: Global, place: Place, text: &[u8], cause: Cause)
 
 /// Returns the error of a line that is not one of a log.
 pub(crate) fn not_a_log(alloc: Global, line: u64, text: &[u8]) -> InputError {
-    match shown(alloc, text) {
+    match excerpt(alloc, text) {
         Ok(text) => InputError::NotALog { line, text },
         Err(_) => InputError::OutOfMemory,
     }

@@ -9,7 +9,7 @@ ghost use Rattle.std.specs.Io.{StopsAt, StartsWith, IsEmptyOrEndsWith, appended_
 ghost use Rattle.std.specs.Io.KnownBytes.{Consumes, IsAtEnd};
 ghost use Rattle.std.specs.Io.BufRead.{take_through, drop_through};
 ghost use Rattle.hdr_log.specs.Reading.{view_of_entry};
-ghost use Rattle.hdr_input.specs.Lines.{ReadsLine, without_mark, said_by};
+ghost use Rattle.hdr_input.specs.Lines.{ReadsLine, without_mark, entry_of_line};
 
 use crate::cause::Cause;
 use crate::distribution::MOST_DECIMALS;
@@ -151,9 +151,9 @@ fn is_blank(line: &[u8]) -> bool
 
 /// Returns the entry of a line of this number, with its LF. Comments, other headers and empty lines
 /// have none.
-#[tactic(auto, unfolding(crate::specs::Lines::said_by))]
+#[tactic(auto, unfolding(crate::specs::Lines::entry_of_line))]
 pub fn entry_of(alloc: Global, line: &[u8], number: u64) -> Result<Option<LogEntry<'_>>, InputError>
-    ensures { IfOk result (λ entry. said_by line.now
+    ensures { IfOk result (λ entry. entry_of_line line.now
         ≡ option_map (λ e. Ok (view_of_entry e)) entry) }
 {
     if is_blank(line) {

@@ -7,8 +7,8 @@ ghost use Rattle.hdr_model.specs.Plain.{Plain};
 ghost use Rattle.hdr_log.specs.Tags.{tag_text};
 ghost use Rattle.hdr_log.specs.Reading.{view_of_interval};
 ghost use Rattle.hdrhistogram.specs.FieldRead.{IsHeldIn};
-ghost use Rattle.hdr_input.specs.Lines.{said_by, IsPlainField};
-ghost use Rattle.hdr_input.specs.Sums.{view_of_sum, view_of_sums, empty_sum, sum_tag, Adds, TakesSaid, TakesText};
+ghost use Rattle.hdr_input.specs.Lines.{entry_of_line, IsPlainField};
+ghost use Rattle.hdr_input.specs.Sums.{view_of_sum, view_of_sums, empty_sum, sum_tag, Adds, TakesEntry, TakesText};
 ghost use Rattle.hdr_input.specs.Sums.{AreIndexed, IsSumAt, KeepsOptions, added_at, TakesFrom, with_base};
 ghost use Rattle.hdr_input.specs.Joining.{none_taken, sums_joined};
 ghost use Rattle.hdr_input.specs.Recorded.{AddsField};
@@ -278,8 +278,8 @@ impl<'a> LogSums<'a> {
 
     /// Takes a line with its LF.
     fn take_line(&mut self, alloc: Global, line: &[u8], number: u64) -> Result<(), InputError>
-        ensures said { OnOk result (AreIndexed self.old → TakesSaid (view_of_sums self.old)
-            (said_by line.now) (view_of_sums self.new)) }
+        ensures said { OnOk result (AreIndexed self.old → TakesEntry (view_of_sums self.old)
+            (entry_of_line line.now) (view_of_sums self.new)) }
         ensures indices { OnOk result (AreIndexed self.old → AreIndexed self.new) }
     {
         match entry_of(alloc, line, number)? {

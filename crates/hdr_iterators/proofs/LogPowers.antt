@@ -155,7 +155,7 @@ LogStep-next h p b next w e =
 pub log_step : (h : Seen) (p b i next : ℕ) (done : Bool) → LogStep h p b → bin_or_last h (p - 1) ≤ i → NoneBefore i (log_picks h p b) → next ≡ min (p * b) (2 ^ 64 - 1)
     → ((done ≡ true) × (h.last ≤ i)) ⊎ ((done ≡ false) × (i < h.last))
     → (i ≡ bin_or_last h (p - 1)) × (log_picks h p b ≡ level_pick h (p - 1) ∷ cond done [] (log_picks h next b))
-log_step h p b i next done w l a n told =
+log_step h p b i next done w l a n picked =
     ⊎_elim
     (λ (lt : bin_or_last h (p - 1) < h.last).
     let more = log_more h p b w lt in
@@ -165,7 +165,7 @@ log_step h p b i next done w l a n told =
       ⊎_elim
           (λ (y : (done ≡ true) × (h.last ≤ i)). absurd (omega (arith, y.1, here, lt)))
           (λ (y : (done ≡ false) × (i < h.last)). more ∙ ap (λ q. level_pick h (p - 1) ∷ log_picks h q b) (sym n) ∙ ap (λ d. level_pick h (p - 1) ∷ cond d [] (log_picks h next b)) (sym y.0))
-          told,
+          picked,
     ))
     (λ (ge : h.last ≤ bin_or_last h (p - 1)).
     let more = log_last h p b w ge in
@@ -175,6 +175,6 @@ log_step h p b i next done w l a n told =
       ⊎_elim
           (λ (y : (done ≡ true) × (h.last ≤ i)). more ∙ ap (λ d. level_pick h (p - 1) ∷ cond d [] (log_picks h next b)) (sym y.0))
           (λ (y : (done ≡ false) × (i < h.last)). absurd (omega (arith, y.1, here, ge)))
-          told,
+          picked,
     ))
     (cases_lt (bin_or_last h (p - 1)) (h.last))

@@ -29,7 +29,7 @@ InStep-first h ps count a l c m =
     record {
       ahead = NoneBefore-zero ps;
       within = a;
-      asked = record { in_order = omega arith; inside = l; total_is = omega (arith, more, c, m); count_is = c };
+      candidate = record { in_order = omega arith; inside = l; total_is = omega (arith, more, c, m); count_is = c };
       since_is = omega (arith, more, c, m);
     }
 
@@ -66,11 +66,11 @@ pub InStep-passed : (h : Seen) (ps : List Pick) (i j total since old count total
 InStep-passed h ps i j total since old count total' since' last s m l e a c t u =
     let more = below_more h j l in
     let same = below-passed h (i + 1) j (omega (arith, m)) (omega (arith, l)) e in
-    let le = below-le h (bin_after last) (i + 1) s.asked.in_order in
-    let total_is = s.asked.total_is in
+    let le = below-le h (bin_after last) (i + 1) s.candidate.in_order in
+    let total_is = s.candidate.total_is in
     record {
       ahead = a;
       within = s.within;
-      asked = record { in_order = omega (arith, s.asked.in_order, m); inside = l; total_is = omega (arith, more, same, total_is, c, t); count_is = c };
+      candidate = record { in_order = omega (arith, s.candidate.in_order, m); inside = l; total_is = omega (arith, more, same, total_is, c, t); count_is = c };
       since_is = omega (arith, more, same, le, s.since_is, c, u);
     }

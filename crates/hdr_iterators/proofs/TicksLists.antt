@@ -157,13 +157,13 @@ drop_past (p ∷ ps) qs (suc k) l =
     let e : k - length ps ≡ suc k - suc (length ps) = omega arith in
     drop_past ps qs k (omega (arith, l)) ∙ ap (λ n. drop n qs) e
 
--- if none is before i, all of them were given
+-- if none is before i, all of them were yielded
 reached : (i k : ℕ) (ps qs : List Pick) → AllBefore i ps → NoneBefore i (drop k (ps ++ qs)) → length ps ≤ k
 reached i k [] qs a b = omega arith
 reached i zero (p ∷ ps) qs a b = absurd (omega (arith, a.0, b.0))
 reached i (suc k) (p ∷ ps) qs a b = omega (arith, reached i k ps qs a.1 b)
 
--- one that was not given is not before i
+-- one that was not yielded is not before i
 not_given : (i k : ℕ) (ps qs : List Pick) (p : Pick) → k ≤ length ps → NoneBefore i (drop k (ps ++ (p ∷ qs))) → i ≤ p.place
 not_given i zero [] qs p l a = a.0
 not_given i (suc k) [] qs p l a = absurd (omega (arith, l))
@@ -180,7 +180,7 @@ drop_mapped f a (suc n) (suc k) qs l =
     let on : suc (k + 1) ≡ suc k + 1 = omega arith in
     drop_mapped f (a + 1) n k qs (omega (arith, l)) ∙ (ap (λ j. f j ∷ drop (k + 1) (map f (range_with_len (a + 1) n) ++ qs)) e ∙ ap (λ j. f (a + suc k) ∷ drop j (map f (range_with_len a (suc n)) ++ qs)) on)
 
--- the ticks given before a bin
+-- the ticks yielded before a bin
 before_some : (h : Seen) (t b : ℕ) → 0 < below h b → ticks_before h t b ≡ ticks_within t (capped (below h b)) h.total
 before_some h t b l = ap (λ c. cond c 0 (ticks_within t (capped (below h b)) h.total)) (⊎_elim (λ (y : (eqb (below h b) 0 ≡ true) × (below h b ≡ 0)). absurd (omega (arith, l, y.1))) (λ (y : (eqb (below h b) 0 ≡ false) × (below h b ≢ 0)). y.0) (eqb_tells (below h b) 0))
 
@@ -226,7 +226,7 @@ own_end h t b l m n =
     ap (λ c. cond c (ticks_at h t b) []) (ticked_yes h b l m)
     ∙ ap (λ c. cond c (map (λ k. tick_pick b (tick_of t k)) (range_with_len (ticks_before h t b) (ticks_within t (running h b) h.total - ticks_before h t b))) (tick_pick b (tick_of t (ticks_before h t b)) ∷ tick_pick b all_of_them ∷ [])) (le-ltb (running h b) h.total n)
 
--- the number of ticks given before a bin
+-- the number of ticks yielded before a bin
 pub given_before : (h : Seen) (t i : ℕ) → i ≤ bins_in h → (i ≡ 0) ⊎ (capped (below h i) < h.total) → length (ticked_in h t 0 i) ≡ ticks_before h t i
 given_before h t zero l o = refl
 given_before h t (suc i) l o =
@@ -256,14 +256,14 @@ given_before h t (suc i) l o =
     omega (arith, parts, sums, mine, ih, b, same_ticks))
     (cases_lt 0 (get_or h.numbers i 0))
 
--- no pick is at a bin where all was given
+-- no pick is at a bin where all was yielded
 pub all_given : (h : Seen) (t i k : ℕ) → i < bins_in h → length (ticked_in h t 0 (i + 1)) ≤ k → NoneBefore (i + 1) (drop k (quantile_picks h t))
 all_given h t i k l m =
     let on : i + 1 ≤ bins_in h = omega (arith, l) in
     subst (NoneBefore (i + 1)) (sym (ap (drop k) (picks_split h t (i + 1) on) ∙ drop_past (ticked_in h t 0 (i + 1)) (ticked_in h t (i + 1) (bins_in h - (i + 1))) k m))
     (drop_ahead (i + 1) (k - length (ticked_in h t 0 (i + 1))) (ticked_in h t (i + 1) (bins_in h - (i + 1))) (ticked_ahead h t (i + 1) (bins_in h - (i + 1)) (i + 1) (omega arith)))
 
--- what was given, if no pick to come is before a bin
+-- what was yielded, if no pick to come is before a bin
 pub given_there : (h : Seen) (t i k : ℕ) → i < bins_in h → NoneBefore i (drop k (quantile_picks h t)) → length (ticked_in h t 0 i) ≤ k
 given_there h t i k l a =
     reached i k (ticked_in h t 0 i) (ticked_in h t i (bins_in h - i)) (ticked_within h t 0 i i (omega arith)) (subst (λ ps. NoneBefore i (drop k ps)) (picks_split h t i (omega (arith, l))) a)

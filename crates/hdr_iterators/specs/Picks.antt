@@ -12,7 +12,7 @@ pub record Pick : Type 0 where
   pub level : Option ℕ
 
 -- what a picker returns with the bin that it picks (`PickMetadata`)
-pub record Told : Type 0 where
+pub record Metadata : Type 0 where
   pub tick : Option Ratio
   pub level : Option ℕ
 
@@ -73,7 +73,7 @@ abbrev pub IsAtEnd : Seen → Option ℕ → Type 0
 IsAtEnd h last = h.last < bin_after last
 
 -- what the picker gets at a bin is its number and the capped sum up to it, and no bin after it was picked
-pub record IsAsked (h : Seen) (last : Option ℕ) (index total count : ℕ) : Type 0 where
+pub record IsCandidate (h : Seen) (last : Option ℕ) (index total count : ℕ) : Type 0 where
   pub in_order : bin_after last ≤ index + 1
   pub inside : index < bins_in h
   pub total_is : total ≡ running h index
@@ -81,14 +81,14 @@ pub record IsAsked (h : Seen) (last : Option ℕ) (index total count : ℕ) : Ty
 
 -- what a picker does at a bin: whatever bins it goes with, it either declines, and picks neither this bin nor another, or
 -- picks the bin. `goes` and `picks` are before the call, and `goes'` and `picks'` after it
-abbrev pub PicksAt : (Seen → Option ℕ → Type 0) → (Seen → List Pick) → (Seen → Option ℕ → Type 0) → (Seen → List Pick) → (index total count : ℕ) → Option Told → Type 0
+abbrev pub PicksAt : (Seen → Option ℕ → Type 0) → (Seen → List Pick) → (Seen → Option ℕ → Type 0) → (Seen → List Pick) → (index total count : ℕ) → Option Metadata → Type 0
 PicksAt goes picks goes' picks' index total count picked =
-    (h : Seen) (last : Option ℕ) → goes h last → IsAsked h last index total count → NoneBefore index (picks h)
+    (h : Seen) (last : Option ℕ) → goes h last → IsCandidate h last index total count → NoneBefore index (picks h)
     → MatchOption picked (goes' h last × (picks' h ≡ picks h) × NoneBefore (index + 1) (picks h))
     (λ m. goes' h (Some index) × (picks h ≡ record { place = index; tick = m.tick; level = m.level } ∷ picks' h))
 
 -- the item of a bin that was picked: `total` samples lie in bins up to it, `count` in it, and `since` in those after the last
-abbrev pub item_at : Seen → ℕ → Told → ℕ → ℕ → ℕ → Item
+abbrev pub item_at : Seen → ℕ → Metadata → ℕ → ℕ → ℕ → Item
 item_at h index picked total count since =
     let share : Ratio = record { num = total; den = h.total } in
     record {
@@ -103,5 +103,5 @@ item_at h index picked total count since =
 pub record InStep (h : Seen) (picks : List Pick) (index total since count : ℕ) (last : Option ℕ) : Type 0 where
   pub ahead : NoneBefore index picks
   pub within : AllBefore (bins_in h) picks
-  pub asked : IsAsked h last index total count
+  pub candidate : IsCandidate h last index total count
   pub since_is : since ≡ capped (below h (index + 1) - below h (bin_after last))

@@ -74,7 +74,7 @@ is_within t r n k = nat_le ((tick_of t k).num * n) (r * (tick_of t k).den)
 abbrev pub ticks_within : ℕ → ℕ → ℕ → ℕ
 ticks_within t r n = count_by (is_within t r n) (range_with_len 0 (64 * t))
 
--- the ticks given before bin b: those at most the running count before it, and none if that is 0
+-- the ticks yielded before bin b: those at most the running count before it, and none if that is 0
 abbrev pub ticks_before : Seen → ℕ → ℕ → ℕ
 ticks_before h t b = if below h b == 0 then 0 else ticks_within t (capped (below h b)) h.total
 
@@ -85,7 +85,7 @@ tick_pick b q = record { place = b; tick = Some q; level = None }
 abbrev pub all_of_them : Ratio
 all_of_them = record { num = 1; den = 1 }
 
--- the ticks at bin b: those not yet given and at most the running count; if that is the total, the next one and then 1
+-- the ticks at bin b: those not yet yielded and at most the running count; if that is the total, the next one and then 1
 abbrev pub ticks_at : Seen → ℕ → ℕ → List Pick
 ticks_at h t b =
     if nat_lt (running h b) h.total

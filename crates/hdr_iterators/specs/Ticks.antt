@@ -19,15 +19,15 @@ pub record TickOf : Type 0 where
 abbrev pub IsReachedAt : ℕ → ℕ → ℕ → ℕ → Type 0
 IsReachedAt t k n least = (r : ℕ) → r ≤ n → is_within t r n k ≡ nat_le least r
 
--- how many picks were given: the ticks, and the one given as the total was reached
-abbrev pub given : ℕ → Bool → ℕ
-given k closing = if closing then k + 1 else k
+-- how many picks were yielded: the ticks, and the one yielded as the total was reached
+abbrev pub ticks_yielded : ℕ → Bool → ℕ
+ticks_yielded k closing = if closing then k + 1 else k
 
 -- no bin up to the one that was picked last has the total as its running count
 abbrev pub IsOpen : Seen → Option ℕ → Type 0
 IsOpen h last = (bin_after last ≡ 0) ⊎ (capped (below h (bin_after last)) < h.total)
 
--- with k ticks given: these are within the running count at the last pick; or the total was reached there, and 1 is to come
+-- with k ticks yielded: these are within the running count at the last pick; or the total was reached there, and 1 is to come
 pub record TickStep (h : Seen) (t k : ℕ) (closing done : Bool) (last : Option ℕ) : Type 0 where
   pub plain : AreBins h
   pub some : 1 ≤ t

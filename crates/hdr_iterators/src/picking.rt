@@ -17,9 +17,9 @@ pub struct PickMetadata {
 }
 
 impl Model for PickMetadata {
-    ghost use Rattle.hdr_iterators.specs.Picks.{Told};
+    ghost use Rattle.hdr_iterators.specs.Picks.{Metadata};
 
-    ghost Value = { Told };
+    ghost Value = { Metadata };
 
     ghost view = { λ m. record { tick = m.tick; level = m.level } };
 }
@@ -145,7 +145,7 @@ impl<'a, T: Counter, P: PickyIterator<T>> Iterator for HistogramIterator<'a, T, 
                 self.last_picked_index = Some(index);
                 return Some(value);
             }
-            let next = next_asked(&self.bins, self.skips_empty, index);
+            let next = next_candidate(&self.bins, self.skips_empty, index);
             if next == len {
                 self.ended = true;
                 return None;
@@ -177,7 +177,7 @@ fn has_ended<T: Counter, P: PickyIterator<T>>(
 
 /// Returns the bin to call the picker at after it has declined one: the next bin, or the next nonempty one if it picks no
 /// other. Returns the number of bins if none is left.
-fn next_asked<T: Counter>(bins: &Bins<'_, T>, skips_empty: bool, index: usize) -> usize
+fn next_candidate<T: Counter>(bins: &Bins<'_, T>, skips_empty: bool, index: usize) -> usize
     requires inside { index < bins_in bins.now }
     requires fits { index + 1 < 2 ^ 64 }
     ensures onward { index < result }
@@ -185,7 +185,7 @@ fn next_asked<T: Counter>(bins: &Bins<'_, T>, skips_empty: bool, index: usize) -
 
     // The bins between are empty, or the picker picks none of them.
     ensures empty { AreEmpty bins.now.numbers (index + 1) result }
-    ensures unasked { (picks : List Pick) → (IsTrue skips_empty → AllFilled bins.now picks)
+    ensures declined { (picks : List Pick) → (IsTrue skips_empty → AllFilled bins.now picks)
         → NoneBefore (index + 1) picks → NoneBefore result picks }
 {
     if skips_empty {

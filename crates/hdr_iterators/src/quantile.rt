@@ -188,9 +188,9 @@ impl<'a, T: Counter> Iter<'a, T> {
 impl<'a, T: Counter> PickyIterator<T> for Iter<'a, T> {
     ghost use Rattle.std.specs.Prelude.{◌≡◌, [], drop, if◌then◌else◌};
     ghost use Rattle.hdr_iterators.specs.Places.{quantile_picks};
-    ghost use Rattle.hdr_iterators.specs.Ticks.{TickStep, given};
+    ghost use Rattle.hdr_iterators.specs.Ticks.{TickStep, ticks_yielded};
 
-    ghost picks = { λ p h. if p.done then [] else drop (given p.next.number p.closing) (quantile_picks h p.next.per_half) };
+    ghost picks = { λ p h. if p.done then [] else drop (ticks_yielded p.next.number p.closing) (quantile_picks h p.next.per_half) };
 
     ghost goes_with = { λ p h last. (p.bins ≡ h) × TickStep h p.next.per_half p.next.number p.closing p.done last × (p.next.total ≡ h.total) };
 

@@ -9,7 +9,7 @@ use Rattle.std.specs.Str.{is_utf8}
 use Rattle.hdr_log.specs.Parts.{parts, split_at_byte, number_of}
 use Rattle.hdr_log.specs.Grammar.{after_front, Entry, Start, Base, Span, time_of, interval_of, header_of, entry_of, is_skipped, and_then, time_before, readings, without_crs}
 use Rattle.hdr_log.specs.Texts.{thousandths_text, with_line_feed, lines_text, tag_front, interval_line, start_line, AreTags}
-use Rattle.hdr_log.specs.Pieces.{and_entry, header_said, is_read}
+use Rattle.hdr_log.specs.Pieces.{and_entry, entry_of_header, is_read}
 use Rattle.hdr_log.proofs.PartsFronts.{parted_front, parted_whole}
 use Rattle.hdr_log.proofs.GrammarSteps.{readings_step, readings_nothing}
 use Rattle.hdr_log.proofs.GrammarLines.{after_front-whole, after_front-other, begins, not_hash, time_read, interval_read}
@@ -104,7 +104,7 @@ nothing_more None None = refl
 nothing_more None (Some y) = refl
 nothing_more (Some x) b = refl
 
-pub comment_entry : (part : List ℕ) → entry_of (35 ∷ part) ≡ header_said part
+pub comment_entry : (part : List ℕ) → entry_of (35 ∷ part) ≡ entry_of_header part
 unfolding entry_of
 comment_entry part = rw (no_interval part) (nothing_more (option_map Start (header_of (codes "#[StartTime: ") (35 ∷ part))) (option_map Base (header_of (codes "#[BaseTime: ") (35 ∷ part))))
 

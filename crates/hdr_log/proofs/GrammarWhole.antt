@@ -7,7 +7,7 @@ use Rattle.std.proofs.lemmas.List.Folds.{list_all-append}
 use Rattle.hdr_log.specs.Parts.{parts}
 use Rattle.hdr_log.specs.Grammar.{Entry, Start, Base, header_of, entry_of, reading, is_tag, is_tag_byte}
 use Rattle.hdr_log.specs.Texts.{thousandths_text, with_line_feed, lines_text, comment_line, start_line, base_line, divisor_line, tag_front, interval_line, AreTags}
-use Rattle.hdr_log.specs.Pieces.{and_entry, Piece, Comment, StartsAt, BasedAt, Divided, Measured, lines_of, piece_text, header_said, headers_said, said_by, IsPiece, text_of, is_read}
+use Rattle.hdr_log.specs.Pieces.{and_entry, Piece, Comment, StartsAt, BasedAt, Divided, Measured, lines_of, piece_text, entry_of_header, entries_of_headers, entries_of_piece, IsPiece, text_of, is_read}
 use Rattle.hdr_log.proofs.GrammarLines.{no_byte}
 use Rattle.hdr_log.proofs.GrammarLogs.{IsLine, entries_of, lines_read, header_read, start_entry, interval_entry, comment_entry, comment_skipped}
 
@@ -39,9 +39,9 @@ comment_lines_are : (ps : List (List ℕ)) → Parted ps → AllByRecursion IsLi
 comment_lines_are [] h = tt
 comment_lines_are (part ∷ ps) h = (comment_is_line part h.0, comment_lines_are ps h.1)
 
-comment_says : (ps : List (List ℕ)) → entries_of (map comment_line ps) ≡ headers_said ps
-comment_says [] = refl
-comment_says (part ∷ ps) = ap₂ and_entry (comment_entry part) (comment_says ps)
+comment_entries : (ps : List (List ℕ)) → entries_of (map comment_line ps) ≡ entries_of_headers ps
+comment_entries [] = refl
+comment_entries (part ∷ ps) = ap₂ and_entry (comment_entry part) (comment_entries ps)
 
 not_start : (t : ℕ) → header_of (codes "#[StartTime: ") (base_line t) ≡ None
 unfolding header_of
@@ -75,15 +75,15 @@ divided : (d : ℕ) → d < 2 ^ 64 → 1000 * d / 1000 < 2 ^ 64
 divided d h = omega (arith, h)
 
 -- the header of a divisor is not a header to the reader
-no_header_said : (rest : List ℕ) → header_said (codes "[MaxValueDivisor: " ++ rest) ≡ None
+no_header_said : (rest : List ℕ) → entry_of_header (codes "[MaxValueDivisor: " ++ rest) ≡ None
 unfolding header_of
 no_header_said rest = refl
 
 divisor_is_line : (d : ℕ) → no_lf (divisor_line d) ≡ true → IsLine (divisor_line d)
 divisor_is_line d w = record { whole = w; known = λ n. comment_skipped (codes "[MaxValueDivisor: " ++ (thousandths_text (1000 * d) ++ codes "]")) }
 
-pub piece_lines : (p : Piece) → IsPiece p → AllByRecursion IsLine (lines_of p) × (entries_of (lines_of p) ≡ said_by p)
-piece_lines (Comment text) h = (comment_lines_are (parts 10 text) (parts_whole text), comment_says (parts 10 text))
+pub piece_lines : (p : Piece) → IsPiece p → AllByRecursion IsLine (lines_of p) × (entries_of (lines_of p) ≡ entries_of_piece p)
+piece_lines (Comment text) h = (comment_lines_are (parts 10 text) (parts_whole text), comment_entries (parts 10 text))
 piece_lines (StartsAt t) h = ((entry_line (start_line t) (Start (t * 1_000_000)) (header_whole (codes "#[StartTime: ") t refl h) (start_entry t h), tt), ap (λ o. and_entry o []) (start_entry t h))
 piece_lines (BasedAt t) h = ((entry_line (base_line t) (Base (t * 1_000_000)) (header_whole (codes "#[BaseTime: ") t refl h) (base_entry t h), tt), ap (λ o. and_entry o []) (base_entry t h))
 piece_lines (Divided d) h =
@@ -109,7 +109,7 @@ entries_append : (xs ys : List (List ℕ)) → entries_of (xs ++ ys) ≡ entries
 entries_append [] ys = refl
 entries_append (x ∷ xs) ys = ap (and_entry (entry_of x)) (entries_append xs ys) ∙ and_entry_append (entry_of x) (entries_of xs) (entries_of ys)
 
-pieces_lines : (ps : List Piece) → AllByRecursion IsPiece ps → AllByRecursion IsLine (flat_map lines_of ps) × (entries_of (flat_map lines_of ps) ≡ flat_map said_by ps)
+pieces_lines : (ps : List Piece) → AllByRecursion IsPiece ps → AllByRecursion IsLine (flat_map lines_of ps) × (entries_of (flat_map lines_of ps) ≡ flat_map entries_of_piece ps)
 pieces_lines [] h = (tt, refl)
 pieces_lines (p ∷ ps) h =
     let one = piece_lines p h.0 in
@@ -126,5 +126,5 @@ unfolding piece_text
 text_lines [] = refl
 text_lines (p ∷ ps) = ap (λ t. lines_text (lines_of p) ++ t) (text_lines ps) ∙ sym (lines_append (lines_of p) (flat_map lines_of ps))
 
-pub pieces_read : (ps : List Piece) → AllByRecursion IsPiece ps → reading (text_of ps) ≡ map is_read (flat_map said_by ps)
+pub pieces_read : (ps : List Piece) → AllByRecursion IsPiece ps → reading (text_of ps) ≡ map is_read (flat_map entries_of_piece ps)
 pieces_read ps h = let l = pieces_lines ps h in ap reading (text_lines ps) ∙ lines_read (flat_map lines_of ps) 0 l.0 ∙ ap (map is_read) l.1

@@ -1,4 +1,4 @@
--- The lines of an interval log, and what each says (the Rust crate's module `interval_log`, and the log of
+-- The lines of an interval log, and the entry of each (the Rust crate's module `interval_log`, and the log of
 -- HdrHistogram's tools). A line is a list of bytes without its LF; times are in nanoseconds.
 use Rattle.std.specs.Prelude.{ℕ, ◌+◌, ◌-◌, ◌*◌, ◌^◌, ◌<◌, Bool, true, false, not, ◌&&◌, ◌||◌, ◌==◌, if◌then◌else◌, List, [], ◌∷◌, length, take, Option, Some, None, Result, Ok, Err, IfErr, codes}
 use Rattle.std.specs.Option.{option_map, option_or, is_some}
@@ -54,7 +54,7 @@ abbrev pub without_crs : List ℕ → List ℕ
 without_crs [] = []
 without_crs (x ∷ text) = if x == 13 && length (without_crs text) == 0 then [] else x ∷ without_crs text
 
--- what an interval's line says: its tag if it has one, its times, and the texts of its greatest value and of its
+-- the parts of an interval's line: its tag if it has one, its times, and the texts of its greatest value and of its
 -- histogram
 pub record Interval : Type 0 where
   pub tag : Option (List ℕ)
@@ -63,7 +63,7 @@ pub record Interval : Type 0 where
   pub max : List ℕ
   pub field : List ℕ
 
--- what a line says: the time of a header, or an interval
+-- the entry of a line: the time of a header, or an interval
 pub data Entry : Type 0 where
   Start : ℕ → Entry
   Base : ℕ → Entry
@@ -99,14 +99,14 @@ header_of name line = do
   time ← time_before 32 rest
   Some time.0
 
--- what a line says: the first of these that fits
+-- the entry of a line: the first of these that fits
 unfoldable pub entry_of : List ℕ → Option Entry
 entry_of line =
     option_or (option_map Start (header_of (codes "#[StartTime: ") line))
     (option_or (option_map Base (header_of (codes "#[BaseTime: ") line))
     (option_map Span (interval_of line)))
 
--- a line that says nothing: a comment, or the legend of the Java tool's columns
+-- a line without an entry: a comment, or the legend of the Java tool's columns
 unfoldable pub is_skipped : List ℕ → Bool
 is_skipped line = is_some (after_front (codes "#") line) || is_some (after_front (codes "\"StartTimestamp\"") line)
 

@@ -32,32 +32,32 @@ abbrev pub text_of : List Piece → List ℕ
 text_of pieces = flat_map piece_text pieces
 
 -- the header that a line of a comment contains, if it does
-abbrev pub header_said : List ℕ → Option Entry
-header_said part = option_or (option_map Start (header_of (codes "#[StartTime: ") (comment_line part))) (option_map Base (header_of (codes "#[BaseTime: ") (comment_line part)))
+abbrev pub entry_of_header : List ℕ → Option Entry
+entry_of_header part = option_or (option_map Start (header_of (codes "#[StartTime: ") (comment_line part))) (option_map Base (header_of (codes "#[BaseTime: ") (comment_line part)))
 
 abbrev pub and_entry : Option Entry → List Entry → List Entry
 and_entry None entries = entries
 and_entry (Some entry) entries = entry ∷ entries
 
-abbrev pub headers_said : List (List ℕ) → List Entry
-headers_said [] = []
-headers_said (part ∷ parts) = and_entry (header_said part) (headers_said parts)
+abbrev pub entries_of_headers : List (List ℕ) → List Entry
+entries_of_headers [] = []
+entries_of_headers (part ∷ parts) = and_entry (entry_of_header part) (entries_of_headers parts)
 
 -- what is read of an interval
-abbrev pub interval_said : Option (List ℕ) → ℕ → ℕ → ℕ → List ℕ → Interval
-interval_said tag start duration max field = record { tag = tag; start = start * 1_000_000; duration = duration * 1_000_000; max = thousandths_text max; field = field }
+abbrev pub interval_of_piece : Option (List ℕ) → ℕ → ℕ → ℕ → List ℕ → Interval
+interval_of_piece tag start duration max field = record { tag = tag; start = start * 1_000_000; duration = duration * 1_000_000; max = thousandths_text max; field = field }
 
 -- the line of an interval is parsed as this
 abbrev pub IsIntervalRead : Option (List ℕ) → ℕ → ℕ → ℕ → List ℕ → Type 0
-IsIntervalRead tag start duration max field = interval_of (interval_line tag start duration max field) ≡ Some (interval_said tag start duration max field)
+IsIntervalRead tag start duration max field = interval_of (interval_line tag start duration max field) ≡ Some (interval_of_piece tag start duration max field)
 
 -- what is read of a piece: of a comment the headers that its lines contain, and of a divisor nothing
-abbrev pub said_by : Piece → List Entry
-said_by (Comment text) = headers_said (parts 10 text)
-said_by (StartsAt t) = Start (t * 1_000_000) ∷ []
-said_by (BasedAt t) = Base (t * 1_000_000) ∷ []
-said_by (Divided d) = []
-said_by (Measured tag start duration max field) = Span (interval_said tag start duration max field) ∷ []
+abbrev pub entries_of_piece : Piece → List Entry
+entries_of_piece (Comment text) = entries_of_headers (parts 10 text)
+entries_of_piece (StartsAt t) = Start (t * 1_000_000) ∷ []
+entries_of_piece (BasedAt t) = Base (t * 1_000_000) ∷ []
+entries_of_piece (Divided d) = []
+entries_of_piece (Measured tag start duration max field) = Span (interval_of_piece tag start duration max field) ∷ []
 
 -- a field as it may be written: text without LF, and with no CR at its end
 pub record IsField (field : List ℕ) : Type 0 where

@@ -5,7 +5,7 @@ ghost use Rattle.std.specs.List.{AllByRecursion, flat_map};
 ghost use Rattle.base64.specs.GeneralPurpose.{IsBytes};
 ghost use Rattle.hdr_log.specs.Grammar.{reading, time_of};
 ghost use Rattle.hdr_log.specs.Texts.{thousandths_text, base64_of, base64_bytes};
-ghost use Rattle.hdr_log.specs.Pieces.{Piece, Measured, IsField, IsPiece, IsIntervalRead, text_of, said_by, is_read};
+ghost use Rattle.hdr_log.specs.Pieces.{Piece, Measured, IsField, IsPiece, IsIntervalRead, text_of, entries_of_piece, is_read};
 
 /// A time that is printed is read back to the thousandth of a second.
 pub fn time_is_read()
@@ -30,5 +30,5 @@ pub fn base64_is_read()
 /// and no line is invalid.
 pub fn written_is_read()
     ensures { (pieces : List Piece) → AllByRecursion IsPiece pieces
-        → reading (text_of pieces) ≡ map is_read (flat_map said_by pieces) }
+        → reading (text_of pieces) ≡ map is_read (flat_map entries_of_piece pieces) }
 {}

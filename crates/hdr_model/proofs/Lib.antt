@@ -18,7 +18,7 @@ pub mod CorrectionFacts
 pub mod CorrectionByClass
 pub mod CorrectionClasses
 pub mod QuantilesOrder
-pub mod QuantilesAnswers
+pub mod QuantilesValues
 pub mod QuantilesFirst
 pub mod QuantilesAscend
 pub mod EqualityFacts

@@ -10,7 +10,7 @@ use Rattle.hdr_base.proofs.ClassesReach.{reach-holds}
 use Rattle.hdr_counts.specs.Blocks.{capped_sums}
 use Rattle.hdr_model.specs.Plain.{Plain, IsPlain, resolution, reach, max_of, empty_plain}
 use Rattle.hdr_model.specs.Marks.{IsAbove}
-use Rattle.hdr_model.specs.Refusals.{IsBounds}
+use Rattle.hdr_model.specs.CallErrors.{IsBounds}
 use Rattle.hdr_model.specs.Merging.{same_bins, after_add_same_bins, highest_top}
 use Rattle.hdr_model.proofs.PlainKept.{resolution-digits, room-of}
 use Rattle.hdr_model.proofs.RecordingStands.{eqb-same}

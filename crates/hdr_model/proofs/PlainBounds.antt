@@ -53,19 +53,19 @@ bounds-merged_corrected greatest h s i =
 
 bounds-taken_in : (greatest : ℕ) (h s : Plain) → bounds (after_add_within greatest h s) ≡ bounds h
 unfolding bounds after_add_within after_add_same_bins
-bounds-taken_in greatest h s = told (same_bins h s)
+bounds-taken_in greatest h s = by_case (same_bins h s)
   where
-    told : (b : Bool) → bounds (cond b (after_add_same_bins greatest h s) (after_records greatest h (classes_from (resolution s) 0 s.counts ++ top_class (resolution s) s.top_mark))) ≡ bounds h
-    told true = refl
-    told false = bounds-each greatest h (classes_from (resolution s) 0 s.counts ++ top_class (resolution s) s.top_mark)
+    by_case : (b : Bool) → bounds (cond b (after_add_same_bins greatest h s) (after_records greatest h (classes_from (resolution s) 0 s.counts ++ top_class (resolution s) s.top_mark))) ≡ bounds h
+    by_case true = refl
+    by_case false = bounds-each greatest h (classes_from (resolution s) 0 s.counts ++ top_class (resolution s) s.top_mark)
 
 pub bounds-merged : (greatest : ℕ) (h s : Plain) → bounds (after_add greatest h s) ≡ bounds h
 unfolding after_add
-bounds-merged greatest h s = told (eqb s.total 0)
+bounds-merged greatest h s = by_case (eqb s.total 0)
   where
-    told : (b : Bool) → bounds (cond b h (after_add_within greatest (with_room h (max_of s)) s)) ≡ bounds h
-    told true = refl
-    told false = bounds-taken_in greatest (with_room h (max_of s)) s ∙ bounds-with_room h (max_of s)
+    by_case : (b : Bool) → bounds (cond b h (after_add_within greatest (with_room h (max_of s)) s)) ≡ bounds h
+    by_case true = refl
+    by_case false = bounds-taken_in greatest (with_room h (max_of s)) s ∙ bounds-with_room h (max_of s)
 
 pub bounds-cleared : (h : Plain) → bounds (after_clear h) ≡ bounds h
 unfolding bounds after_clear

@@ -7,8 +7,8 @@ use Rattle.std.proofs.Math.Nat.{mul-le-mul_right}
 use Rattle.hdr_base.specs.Fractions.{Ratio}
 use Rattle.hdr_model.specs.Plain.{Plain, IsPlain}
 use Rattle.hdr_model.specs.Samples.{StandsFor}
-use Rattle.hdr_model.specs.Quantiles.{rank, per, is_below, nothing_of_it, rising_from, asked_from, quantiles_from, value_at_quantiles, value_at_quantile, IsAscending, AreTopsNear}
-use Rattle.hdr_model.proofs.QuantilesAnswers.{ceil-le}
+use Rattle.hdr_model.specs.Quantiles.{rank, per, is_below, nothing_of_it, rising_from, returned_from, quantiles_from, value_at_quantiles, value_at_quantile, IsAscending, AreTopsNear}
+use Rattle.hdr_model.proofs.QuantilesValues.{ceil-le}
 use Rattle.hdr_model.proofs.QuantilesFirst.{quantile-ranked}
 use Rattle.hdr_model.proofs.RecordingStands.{eqb-other}
 
@@ -89,9 +89,9 @@ rank-per-rises h n p q l a b f =
     ]
 
 -- the next value follows
-pub answers-more : (h : Plain) (n : ℕ) (p q : Ratio) (qs : List Ratio) → 0 < n → (0 < h.total → is_below q p ≡ false)
+pub values-more : (h : Plain) (n : ℕ) (p q : Ratio) (qs : List Ratio) → 0 < n → (0 < h.total → is_below q p ≡ false)
     → quantiles_from h (per n p) (per n q ∷ qs) ≡ value_at_quantile h (per n q) ∷ quantiles_from h (per n q) qs
-answers-more h n p q qs l f =
+values-more h n p q qs l f =
     elim (cases_lt 0 h.total) [
       | inl some ↦ (
           let no : eqb h.total 0 ≡ false = eqb-other h.total 0 (λ z. omega (arith, z)) in
@@ -101,13 +101,13 @@ answers-more h n p q qs l f =
     ]
 
 -- a quantile below the one before ends the list
-pub answers-end : (h : Plain) (n : ℕ) (p q : Ratio) (qs : List Ratio) → 0 < n → 0 < h.total → is_below q p ≡ true → quantiles_from h (per n p) (per n q ∷ qs) ≡ []
-answers-end h n p q qs l some t =
+pub values-end : (h : Plain) (n : ℕ) (p q : Ratio) (qs : List Ratio) → 0 < n → 0 < h.total → is_below q p ≡ true → quantiles_from h (per n p) (per n q ∷ qs) ≡ []
+values-end h n p q qs l some t =
     let no : eqb h.total 0 ≡ false = eqb-other h.total 0 (λ z. omega (arith, z)) in
     rw no (rw (per-below n q p l ∙ t) refl)
 
-pub answers-none : (h : Plain) (p : Ratio) → quantiles_from h p [] ≡ []
-answers-none h p = elim (eqb h.total 0) as (λ b. map (value_at_quantile h) (cond b [] []) ≡ []) [ true ↦ refl | false ↦ refl ]
+pub values-none : (h : Plain) (p : Ratio) → quantiles_from h p [] ≡ []
+values-none h p = elim (eqb h.total 0) as (λ b. map (value_at_quantile h) (cond b [] []) ≡ []) [ true ↦ refl | false ↦ refl ]
 
 -- no quantile is below the start
 rising-first : (n : ℕ) (qs : List Ratio) → rising_from (per n nothing_of_it) qs ≡ rising_from nothing_of_it qs
@@ -116,8 +116,8 @@ rising-first n (q ∷ qs) =
     let z : (m : ℕ) → 0 * q.den ≤ q.num * m = λ m. omega arith in
     ap (λ b. cond b [] (q ∷ rising_from q qs)) (le-ltb (q.num * (1 * n)) (0 * q.den) (z (1 * n)) ∙ sym (le-ltb (q.num * 1) (0 * q.den) (z 1)))
 
-pub answers-first : (h : Plain) (n : ℕ) (qs : List Ratio) → quantiles_from h (per n nothing_of_it) qs ≡ value_at_quantiles h qs
-answers-first h n qs = ap (λ xs. map (value_at_quantile h) (cond (eqb h.total 0) qs xs)) (rising-first n qs)
+pub values-first : (h : Plain) (n : ℕ) (qs : List Ratio) → quantiles_from h (per n nothing_of_it) qs ≡ value_at_quantiles h qs
+values-first h n qs = ap (λ xs. map (value_at_quantile h) (cond (eqb h.total 0) qs xs)) (rising-first n qs)
 
 pub per-one : (qs : List Ratio) → map (per 1) qs ≡ qs
 per-one [] = refl
@@ -131,8 +131,8 @@ tops : (greatest : ℕ) (h : Plain) (S : List ℕ) (qs : List Ratio) → IsPlain
 tops greatest h S [] p s some = tt
 tops greatest h S (q ∷ qs) p s some = (λ den num. quantile-ranked greatest h q S p den s some num, tops greatest h S qs p s some)
 
-pub answers-near : (greatest : ℕ) (h : Plain) (S : List ℕ) (qs : List Ratio) → IsPlain greatest h → StandsFor h S → 0 < length S → AreTopsNear h S (asked_from h nothing_of_it qs) (value_at_quantiles h qs)
-answers-near greatest h S qs = tops greatest h S (asked_from h nothing_of_it qs)
+pub values-near : (greatest : ℕ) (h : Plain) (S : List ℕ) (qs : List Ratio) → IsPlain greatest h → StandsFor h S → 0 < length S → AreTopsNear h S (returned_from h nothing_of_it qs) (value_at_quantiles h qs)
+values-near greatest h S qs = tops greatest h S (returned_from h nothing_of_it qs)
 
 -- an ascending list has the value at each of its quantiles
 abbrev IsRisingFrom : Ratio → List Ratio → Type 0
@@ -156,7 +156,7 @@ ascending-from : (qs : List Ratio) → IsAscending qs → IsRisingFrom nothing_o
 ascending-from [] r = tt
 ascending-from (q ∷ qs) r = (le-ltb (q.num * 1) (0 * q.den) (let z : 0 * q.den ≡ 0 = omega arith in omega (arith, z)), rising-if q qs r)
 
-pub ascending-answers : (h : Plain) (qs : List Ratio) → IsAscending qs → value_at_quantiles h qs ≡ map (value_at_quantile h) qs
-ascending-answers h qs r =
+pub ascending-values : (h : Plain) (qs : List Ratio) → IsAscending qs → value_at_quantiles h qs ≡ map (value_at_quantile h) qs
+ascending-values h qs r =
     ap (λ xs. map (value_at_quantile h) (cond (eqb h.total 0) qs xs)) (rising-whole nothing_of_it qs (ascending-from qs r))
     ∙ elim (eqb h.total 0) as (λ b. map (value_at_quantile h) (cond b qs qs) ≡ map (value_at_quantile h) qs) [ true ↦ refl | false ↦ refl ]

@@ -15,7 +15,7 @@ use Rattle.hdr_model.proofs.QuantilesOrder.{FirstReaching}
 use Rattle.hdr_model.specs.Quantiles.{rank, ranked_sample, position_of_rank, value_at_bin, value_at_quantile, IsTopNear}
 use Rattle.hdr_model.proofs.PlainKept.{resolution-digits}
 use Rattle.hdr_model.proofs.RecordingStands.{eqb-other}
-use Rattle.hdr_model.proofs.QuantilesAnswers.{first-one, first-by, rank-pos, answer-ranked, answer-some}
+use Rattle.hdr_model.proofs.QuantilesValues.{first-one, first-by, rank-pos, value-ranked, value-some}
 
 -- the rank of a quantile whose fields were read
 pub rank-read : (q : Ratio) (r num den had total : ℕ) → r ≡ rank (record { num = num; den = den }) had → num ≡ q.num → den ≡ q.den → had ≡ total → r ≡ rank q total
@@ -48,13 +48,13 @@ pub position_of_rank-found : (counts : List ℕ) (r : ℕ) → 0 < r → MatchOp
 unfolding position_of_rank
 position_of_rank-found counts r pos =
     let p : ℕ → Bool = λ i. leb r (sum (take (i + 1) counts)) in
-    told (find p (range_with_len 0 (length counts))) (found-in-range p 0 (length counts))
+    by_case (find p (range_with_len 0 (length counts))) (found-in-range p 0 (length counts))
   where
-    told : (o : Option ℕ)
+    by_case : (o : Option ℕ)
         → MatchOption o ((k : ℕ) → 0 ≤ k → k < 0 + length counts → leb r (sum (take (k + 1) counts)) ≡ false)
         (λ i. (0 ≤ i) × (i < 0 + length counts) × (leb r (sum (take (i + 1) counts)) ≡ true) × ((k : ℕ) → 0 ≤ k → k < i → leb r (sum (take (k + 1) counts)) ≡ false))
         → MatchOption o (sum counts < r) (FirstReaching counts r)
-    told None f = elim (cases_lt 0 (length counts)) [
+    by_case None f = elim (cases_lt 0 (length counts)) [
       | inl some ↦ (
           let last = length counts - 1 in
           let less : sum (take (last + 1) counts) < r = (let e = f last (omega arith) (omega arith) in grind (arith, nat_tests)) in
@@ -63,7 +63,7 @@ position_of_rank-found counts r pos =
           )
       | inr none ↦ (let whole : take 0 counts ≡ counts = take_all 0 counts none in omega (arith, ap sum whole))
     ]
-    told (Some i) f = record {
+    by_case (Some i) f = record {
       in_bins = omega (arith, f.1);
       reached = (let e = f.2 in grind (arith, nat_tests));
       before = elim (cases_lt 0 i) [
@@ -80,11 +80,11 @@ position_of_rank-found counts r pos =
 
 -- what a search by blocks finds
 pub first-class : (counts : List ℕ) (r : ℕ) → 0 < r → MatchOption (position_of_rank counts r) (sum counts < r) (IsFirstToReach counts r)
-first-class counts r pos = told (position_of_rank counts r) (position_of_rank-found counts r pos)
+first-class counts r pos = by_case (position_of_rank counts r) (position_of_rank-found counts r pos)
   where
-    told : (o : Option ℕ) → MatchOption o (sum counts < r) (FirstReaching counts r) → MatchOption o (sum counts < r) (IsFirstToReach counts r)
-    told None none = none
-    told (Some i) first = (first.in_bins, first.before, first.reached)
+    by_case : (o : Option ℕ) → MatchOption o (sum counts < r) (FirstReaching counts r) → MatchOption o (sum counts < r) (IsFirstToReach counts r)
+    by_case None none = none
+    by_case (Some i) first = (first.in_bins, first.before, first.reached)
 
 pub found-by-blocks : (counts : List ℕ) (r : ℕ) (place : Option ℕ) → 0 < r → MatchOption place (sum counts < r) (IsFirstToReach counts r) → place ≡ position_of_rank counts r
 found-by-blocks counts r place pos found = both place (position_of_rank counts r) found (position_of_rank-found counts r pos)
@@ -114,7 +114,7 @@ unfolding value_at_quantile
 quantile-ranked greatest h q S p pos stands some share = go (position_of_rank h.counts (rank q h.total)) (position_of_rank-found h.counts (rank q h.total) (rank-pos q h.total))
   where
     go : (o : Option ℕ) → MatchOption o (sum h.counts < rank q h.total) (FirstReaching h.counts (rank q h.total)) → IsTopNear h (ranked_sample q S) (value_at_bin (resolution h) q.num o)
-    go None none = absurd (answer-some greatest h q p pos S stands some none)
+    go None none = absurd (value-some greatest h q p pos S stands some none)
     go (Some i) first =
         rw (eqb-other q.num 0 (λ e. omega arith))
-        (answer-ranked greatest h q p pos S i (value_of (resolution h) i) stands some first (bin-value_of (resolution h) i (resolution-digits greatest h p)))
+        (value-ranked greatest h q p pos S i (value_of (resolution h) i) stands some first (bin-value_of (resolution h) i (resolution-digits greatest h p)))

@@ -22,7 +22,7 @@ use Rattle.hdr_model.proofs.StatisticsBetween.{all, held-is}
 use Rattle.hdr_model.proofs.PlainBins.{bin-of-top}
 use Rattle.hdr_model.proofs.PlainKept.{resolution-digits, room-in}
 use Rattle.hdr_model.proofs.QuantilesOrder.{FirstReaching, in_first, in_first-none, in_first-all, running}
-use Rattle.hdr_model.proofs.QuantilesAnswers.{ceil-le, rank-pos, answer-some}
+use Rattle.hdr_model.proofs.QuantilesValues.{ceil-le, rank-pos, value-some}
 use Rattle.hdr_model.proofs.QuantilesFirst.{position_of_rank-found}
 use Rattle.hdr_model.proofs.RecordingStands.{eqb-other}
 
@@ -145,7 +145,7 @@ pub quantile-below : (greatest : ℕ) (h : Plain) (q : Ratio) (v : ℕ) (S : Lis
     → (value_at_quantile h q ≤ top_of (resolution h) v) ↔ IsAtMost q (quantile_below h v)
 unfolding value_at_quantile bin_or_last
 quantile-below greatest h q v S p stands some pos one =
-    told (position_of_rank h.counts (rank q h.total)) (position_of_rank-found h.counts (rank q h.total) (rank-pos q h.total))
+    by_case (position_of_rank h.counts (rank q h.total)) (position_of_rank-found h.counts (rank q h.total) (rank-pos q h.total))
   where
     c : ℕ
     c = sum (take (bin_or_last h v + 1) h.counts)
@@ -162,10 +162,10 @@ quantile-below greatest h q v S p stands some pos one =
     held-order : (i : ℕ) → i < length h.counts → (i ≤ bin_of (resolution h) v) ↔ (i ≤ min (bin_of (resolution h) v) (length h.counts - 1))
     held-order i lt = (λ le. omega arith, λ le. omega arith)
 
-    told : (o : Option ℕ) → MatchOption o (sum h.counts < rank q h.total) (FirstReaching h.counts (rank q h.total))
+    by_case : (o : Option ℕ) → MatchOption o (sum h.counts < rank q h.total) (FirstReaching h.counts (rank q h.total))
         → (value_at_bin (resolution h) q.num o ≤ top_of (resolution h) v) ↔ IsAtMost q (quantile_below h v)
-    told None none = absurd (answer-some greatest h q p (omega arith) S stands some none)
-    told (Some i) first =
+    by_case None none = absurd (value-some greatest h q p (omega arith) S stands some none)
+    by_case (Some i) first =
         let m = resolution-digits greatest h p in
         let tops = top-order (resolution h) i v m in
         let held = held-order i first.in_bins in

@@ -5,7 +5,7 @@ pub mod Correction
 pub mod Merging
 pub mod Samples
 pub mod Subtracting
-pub mod Refusals
+pub mod CallErrors
 pub mod Quantiles
 pub mod Statistics
 pub mod Equality

@@ -27,10 +27,10 @@ ranked_sample q S = slice_index (sorted S) (rank q (length S) - 1)
 
 -- a value is the top of the sample's class: at least the sample, and above it by less than one unit, or by less than one
 -- part in 10^sigfig of the sample
-pub record IsTopNear (h : Plain) (s answer : ℕ) : Type 0 where
-  pub is_top : answer ≡ top_of (resolution h) s
-  pub at_least : s ≤ answer
-  pub close : (answer - s < 2 ^ (resolution h).unit) ⊎ ((answer - s) * 10 ^ h.sigfig < s)
+pub record IsTopNear (h : Plain) (s value : ℕ) : Type 0 where
+  pub is_top : value ≡ top_of (resolution h) s
+  pub at_least : s ≤ value
+  pub close : (value - s < 2 ^ (resolution h).unit) ⊎ ((value - s) * 10 ^ h.sigfig < s)
 
 -- the first class where the sum of the numbers up to it reaches the rank
 unfoldable pub position_of_rank : List ℕ → ℕ → Option ℕ
@@ -67,13 +67,13 @@ abbrev pub nothing_of_it : Ratio
 nothing_of_it = record { num = 0; den = 1 }
 
 -- the quantiles whose values are returned after p: the longest ascending prefix, or all of them in an empty histogram
-abbrev pub asked_from : Plain → Ratio → List Ratio → List Ratio
-asked_from h p qs = if h.total == 0 then qs else rising_from p qs
+abbrev pub returned_from : Plain → Ratio → List Ratio → List Ratio
+returned_from h p qs = if h.total == 0 then qs else rising_from p qs
 
 -- the values at quantiles, up to the first that is below the one before (`value_at_quantiles`; the Rust crate takes any
 -- iterator, and may continue after such a quantile)
 abbrev pub quantiles_from : Plain → Ratio → List Ratio → List ℕ
-quantiles_from h p qs = map (value_at_quantile h) (asked_from h p qs)
+quantiles_from h p qs = map (value_at_quantile h) (returned_from h p qs)
 
 abbrev pub value_at_quantiles : Plain → List Ratio → List ℕ
 value_at_quantiles h qs = quantiles_from h nothing_of_it qs
@@ -85,5 +85,5 @@ IsAscending qs = (k : ℕ) → k + 1 < length qs → is_below (slice_index_or qs
 -- each value at a quantile above 0 is the top of the class of its ranked sample
 abbrev pub AreTopsNear : Plain → List ℕ → List Ratio → List ℕ → Type 0
 AreTopsNear h S [] [] = Unit {0}
-AreTopsNear h S (q ∷ qs) (a ∷ answers) = (0 < q.den → 0 < q.num → IsTopNear h (ranked_sample q S) a) × AreTopsNear h S qs answers
-AreTopsNear h S qs answers = ⊥
+AreTopsNear h S (q ∷ qs) (a ∷ values) = (0 < q.den → 0 < q.num → IsTopNear h (ranked_sample q S) a) × AreTopsNear h S qs values
+AreTopsNear h S qs values = ⊥

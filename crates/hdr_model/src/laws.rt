@@ -13,7 +13,7 @@ ghost use Rattle.hdr_model.specs.Merging.{after_add_correct, corrected_samples, 
 ghost use Rattle.hdr_model.specs.Statistics.{quantile_below, IsAtMost};
 ghost use Rattle.hdr_model.specs.Runs.{StandsAt, State};
 ghost use Rattle.hdr_model.specs.Joining.{OfEachSum, AnswersRanked};
-ghost use Rattle.hdr_model.specs.Refusals.{IsBounds};
+ghost use Rattle.hdr_model.specs.CallErrors.{IsBounds};
 ghost use Rattle.hdr_model.specs.Subtracting.{IsDifference};
 ghost use Rattle.hdr_model.specs.Equality.{same_plain, IsSame};
 

@@ -151,8 +151,8 @@ fn choice_of<'a>(
     Ok(IntervalChoice { tags, from, to })
 }
 
-/// Returns the first of some options that was given, if one was.
-fn first_given<'a>(matches: &ArgMatches<'_>, options: &[&'a str]) -> Option<&'a str> {
+/// Returns the first of some options that is present, if one is.
+fn first_present<'a>(matches: &ArgMatches<'_>, options: &[&'a str]) -> Option<&'a str> {
     for option in options {
         let id = option.trim_start_matches('-');
         if matches.get_str(id).is_some() {
@@ -172,18 +172,18 @@ const OF_NUMBERS: [&str; 4] = [
 
 const OF_LOGS: [&str; 3] = ["--tag", "--from-time", "--to-time"];
 
-/// Returns an option that does not go with the input, if one was given.
+/// Returns an option that does not go with the input, if one is present.
 fn misplaced_option(matches: &ArgMatches<'_>, is_log: bool) -> Option<&'static str> {
     if is_log {
         if matches.get_flag("skip-bad") {
             return Some("--skip-bad");
         }
-        return first_given(matches, OF_NUMBERS.as_slice());
+        return first_present(matches, OF_NUMBERS.as_slice());
     }
     if matches.get_flag("by-tag") {
         return Some("--by-tag");
     }
-    first_given(matches, OF_LOGS.as_slice())
+    first_present(matches, OF_LOGS.as_slice())
 }
 
 /// Returns how the input is read.

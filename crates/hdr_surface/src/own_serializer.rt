@@ -30,7 +30,7 @@ impl Counted {
 
 impl Serializer for Counted {
     ghost use Rattle.hdrhistogram.specs.V2.{IsV2};
-    ghost use Rattle.hdrhistogram.specs.SerializeRefusals.{IsSerializeError};
+    ghost use Rattle.hdrhistogram.specs.SerializeErrors.{IsSerializeError};
 
     type SerializeError = V2SerializeError;
 

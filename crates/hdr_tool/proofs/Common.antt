@@ -7,7 +7,7 @@ pub use Rattle.hdr_core.specs.declared.call.Call.TheVariants.{Reset, Record, Cla
 pub use Rattle.hdr_log.proofs.PartsNumbers.{Reads, Reads-more}
 pub use Rattle.hdr_log.specs.Grammar.{Entry, Span, reading, Start, Base}
 pub use Rattle.hdr_log.specs.Parts.{parts, ◌>>=◌, is_digits}
-pub use Rattle.hdr_log.specs.Pieces.{Piece, IsPiece, piece_text, text_of, said_by, is_read}
+pub use Rattle.hdr_log.specs.Pieces.{Piece, IsPiece, piece_text, text_of, entry_of_line, is_read}
 pub use Rattle.hdr_log.specs.Tags.{tag_text}
 pub use Rattle.hdr_log.specs.Texts.{thousandths_text, to_thousandths, max_thousandths, base64_of, base64_bytes}
 pub use Rattle.hdr_model.specs.Joining.{after_adds, IsPart, AreParts, joined_samples, AnswersRanked}
@@ -18,7 +18,7 @@ pub use Rattle.hdr_tool.specs.Arguments.{Task, Report, Log, Merge, greatest_into
 pub use Rattle.hdr_tool.specs.Commands.{Command, Apply, End, command_of, number_lines, first_number, alone, count_of, record_of, correct_of, end_tag_of, end_of, command_of_fields, BeginsWith, AreNumbers, FirstLine, parts_of_rest}
 pub use Rattle.hdr_tool.specs.LogMerges.{at_command, ends_of, AfterCommand, EndsWith, IsEnd, chosen_of, LogThenMerge}
 pub use Rattle.hdr_tool.specs.Outcomes.{Cause, Resource, Output, Input, Misuse, cause_of, IsStep, RunsAll, OnInput, whatever_follows, Fails, Writes, ReadsTo, ReadsAll, CommandNeeds, LinesNeed, Needs}
-pub use Rattle.hdr_tool.specs.Program.{Interval, Run, ended_by, run_command, run_end, lines_run, rest_run, IsLogText, Logged, LoggedFirst, merge_fault, prepend, input_run, Reported, Outputs, at_end, as_reached, outputs_of, MergeReported, Unread, told, OneOutcome, Outcome, has_too_great_count, IsReport, quantile_line}
+pub use Rattle.hdr_tool.specs.Program.{Interval, Run, ended_by, run_command, run_end, lines_run, rest_run, IsLogText, Logged, LoggedFirst, merge_fault, prepend, input_run, Reported, Outputs, at_end, as_reached, outputs_of, MergeReported, Unread, kind_of, OneOutcome, Outcome, has_too_great_count, IsReport, quantile_line}
 pub use Rattle.hdr_tool.specs.declared.fault.Fault.{Fault}
 pub use Rattle.hdr_tool.specs.declared.fault.Fault.TheVariants.{Usage, NotACommand, NotWritten, NoMemory, CannotRead, CannotWrite}
 pub use Rattle.hdrhistogram.specs.Chosen.{Filter, is_chosen, Every, view_of_filter}
@@ -27,7 +27,7 @@ pub use Rattle.hdrhistogram.specs.LogMerging.{IsMergeError, Merging, new_merging
 pub use Rattle.hdrhistogram.specs.LogWriters.{sink, IsSameLog}
 pub use Rattle.hdrhistogram.specs.Streams.{AppendsFront}
 pub use Rattle.hdrhistogram.specs.V2.{IsV2, IsWrittenAlike, HasTooGreatCount, written_counts}
-pub use Rattle.hdrhistogram.specs.V2Read.{told_of, v2_at, IsReadAs, IsReadBack, ReadsV2}
+pub use Rattle.hdrhistogram.specs.V2Read.{histogram_contents, v2_at, IsReadAs, IsReadBack, ReadsV2}
 pub use Rattle.hdrhistogram.specs.declared.serialization.errors.DeserializeError.{DeserializeError}
 pub use Rattle.hdrhistogram.specs.declared.serialization.interval_log.merge.MergeError.{MergeError}
 pub use Rattle.std.proofs.Common.{◌≡◌, ℕ, List, [], ◌∷◌, ◌++◌, length, true, false, Option, Some, None, IfSome, Result, Ok, Err, refl, sym, ap, ◌∙◌, subst, arith, ◌-◌, ◌^◌, ◌+◌, ◌*◌, ◌<◌, Bool, cond, slice_index, MatchOption, map, ◌&&◌, nat_lt, zero, suc, ◌≤◌, ◌==◌, take, drop, get_or, unwrap_or, lit<, IsErrAnd, append_assoc, length-append, zero-add, inl, inr, ◌⊎◌, ◌%◌, replicate, flat_map, pow-add, not, is_some, leb, ap₂, lit≤, string_bytes, rules}

@@ -3,7 +3,7 @@ use Rattle.hdr_tool.proofs.Common.{◌≡◌, ℕ, zero, suc, ◌+◌, ◌-◌, 
 use Rattle.hdr_base.specs.Classes.{least_from, unit_of, digits_of, resolution_of}
 use Rattle.hdr_model.specs.Plain.{empty_plain}
 use Rattle.hdr_model.specs.Samples.{StandsFor, Fits}
-use Rattle.hdr_model.specs.Refusals.{IsBounds}
+use Rattle.hdr_model.specs.CallErrors.{IsBounds}
 use Rattle.hdrhistogram.proofs.ChosenAdded.{added_digits}
 use Rattle.hdr_tool.specs.Arguments.{merge_of, task_of}
 use Rattle.std.specs.List.{cons_option}

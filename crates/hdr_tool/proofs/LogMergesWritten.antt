@@ -1,5 +1,5 @@
 -- The histograms of a log that `log` wrote: what they stand for, and the result of merging them.
-use Rattle.hdr_tool.proofs.Common.{◌≡◌, ℕ, ◌-◌, ◌^◌, List, [], ◌∷◌, Option, Some, None, IfSome, refl, sym, subst, ◌+◌, ◌*◌, ◌<◌, Bool, true, false, cond, arith, length, slice_index, ◌++◌, MatchOption, Result, Ok, Err, map, ap, ◌∙◌, Resolution, Plain, IsPlain, resolution, empty_plain, max_of, after_reset, after_call, CallTo, IsCallOf, StandsWhereFits, State, Call, Reset, Command, Apply, End, command_of, at_command, ends_of, AfterCommand, EndsWith, IsEnd, AllZip, chosen_of, LogThenMerge, AllByRecursion, enumerate_from, Ratio, after_adds, Entry, Span, reading, thousandths_text, to_thousandths, max_thousandths, base64_of, base64_bytes, Piece, IsPiece, piece_text, text_of, said_by, is_read, IsV2, interval_piece, IsIntervalText, told_of, v2_at, IsReadAs, IsReadBack, ReadsV2, Filter, is_chosen, Merging, new_merging, past_interval, with_interval, BytesMerge, FieldMerges, IntervalMerges, MergesOn, EntriesMerge, DeserializeError, MergeError, Fault, Usage, parts, Run, ended_by, prepend, run_command, lines_run, IsLogText, has_too_great_count, IsReport, Task, greatest_into, filter_of, result_err, result_map_both, merge_fault, Reported, MergeReported, outputs_of, append-nil}
+use Rattle.hdr_tool.proofs.Common.{◌≡◌, ℕ, ◌-◌, ◌^◌, List, [], ◌∷◌, Option, Some, None, IfSome, refl, sym, subst, ◌+◌, ◌*◌, ◌<◌, Bool, true, false, cond, arith, length, slice_index, ◌++◌, MatchOption, Result, Ok, Err, map, ap, ◌∙◌, Resolution, Plain, IsPlain, resolution, empty_plain, max_of, after_reset, after_call, CallTo, IsCallOf, StandsWhereFits, State, Call, Reset, Command, Apply, End, command_of, at_command, ends_of, AfterCommand, EndsWith, IsEnd, AllZip, chosen_of, LogThenMerge, AllByRecursion, enumerate_from, Ratio, after_adds, Entry, Span, reading, thousandths_text, to_thousandths, max_thousandths, base64_of, base64_bytes, Piece, IsPiece, piece_text, text_of, entry_of_line, is_read, IsV2, interval_piece, IsIntervalText, histogram_contents, v2_at, IsReadAs, IsReadBack, ReadsV2, Filter, is_chosen, Merging, new_merging, past_interval, with_interval, BytesMerge, FieldMerges, IntervalMerges, MergesOn, EntriesMerge, DeserializeError, MergeError, Fault, Usage, parts, Run, ended_by, prepend, run_command, lines_run, IsLogText, has_too_great_count, IsReport, Task, greatest_into, filter_of, result_err, result_map_both, merge_fault, Reported, MergeReported, outputs_of, append-nil}
 use Rattle.hdr_tool.proofs.CommandsLines.{IsLineCommand, command_fine}
 use Rattle.std.specs.List.{cons_option, flat_map}
 use Rattle.hdr_log.specs.Grammar.{Interval}
@@ -110,7 +110,7 @@ interval_of i = record { tag = i.tag; start = to_thousandths (i.start * 1_000_00
 abbrev span_of : Logged → Entry
 span_of i = Span (interval_of i)
 
-spans : (is : List Logged) → flat_map said_by (map piece_of is) ≡ map span_of is
+spans : (is : List Logged) → flat_map entry_of_line (map piece_of is) ≡ map span_of is
 spans [] = refl
 spans (i ∷ is) = ap (λ es. span_of i ∷ es) (spans is)
 
@@ -125,7 +125,7 @@ log_read is h = pieces_read (map piece_of is) (pieces is h) ∙ ap (map is_read)
 -- what the library's law on reading back says
 pub record ReadsBack : Type 0 where
   pub bytes : (h : Plain) (text : List ℕ) → IsV2 h text → (i : ℕ) → slice_index text i < 256
-  pub contents : (greatest : ℕ) (h : Plain) (bytes more : List ℕ) → IsPlain greatest h → IsV2 h bytes → v2_at greatest (bytes ++ more) ≡ Ok (told_of h, more)
+  pub contents : (greatest : ℕ) (h : Plain) (bytes more : List ℕ) → IsPlain greatest h → IsV2 h bytes → v2_at greatest (bytes ++ more) ≡ Ok (histogram_contents h, more)
   pub histogram : (greatest taken : ℕ) (h k : Plain) (bytes more : List ℕ) → IsPlain greatest h → IsV2 h bytes → IsReadAs greatest (bytes ++ more) k taken → (taken ≡ length bytes) × IsReadBack h k
 
 not_refused : {A : Type 0} (x : A) (f : Defect) (r : Result A Defect) → r ≡ Ok x → r ≡ Err f → ⊥
@@ -138,7 +138,7 @@ read_again h text (Ok (k, n)) back p v r =
     let R : List ℕ → Type 0 = λ t. IsReadAs (2 ^ 64 - 1) t k n in
     (k, n, refl, (back.histogram (2 ^ 64 - 1) n h k text [] p v (subst R (sym (append-nil text)) r)).1)
 read_again h text (Err e) back p v r =
-    absurd (not_refused (told_of h, []) r.0 (v2_at (2 ^ 64 - 1) text) (ap (v2_at (2 ^ 64 - 1)) (sym (append-nil text)) ∙ back.contents (2 ^ 64 - 1) h text [] p v) r.2)
+    absurd (not_refused (histogram_contents h, []) r.0 (v2_at (2 ^ 64 - 1) text) (ap (v2_at (2 ^ 64 - 1)) (sym (append-nil text)) ∙ back.contents (2 ^ 64 - 1) h text [] p v) r.2)
 
 -- a chosen interval is read back and added
 field_added : (greatest : ℕ) (i : Logged) (m : Merging) (r : Result Merging MergeError) → ReadsBack → IsPlain (2 ^ 64 - 1) i.histogram → IsV2 i.histogram i.bytes → FieldMerges greatest m (base64_bytes (interval_of i).field) r

@@ -1,5 +1,5 @@
 -- Arguments and an input have one outcome.
-use Rattle.hdr_tool.proofs.Common.{◌≡◌, ℕ, ◌+◌, ◌-◌, ◌*◌, ◌^◌, Bool, true, false, List, [], ◌∷◌, ◌++◌, Option, Some, None, MatchOption, Result, Ok, Err, refl, sym, ap, ◌∙◌, subst, MatchBool, codes, option_map, Ratio, Plain, Entry, Start, Base, Span, reading, piece_text, base64_bytes, IsV2, IsWrittenAlike, v2_at, ReadsV2, Filter, Every, interval_piece, Merging, new_merging, with_interval, BytesMerge, FieldMerges, IntervalMerges, EntryMerges, MergesOn, EntriesMerge, AreChosen, DeserializeError, MergeError, Fault, Usage, Task, Report, Log, Merge, task_of, greatest_into, filter_of, merge_fault, quantile_line, has_too_great_count, input_run, Reported, result_map_both, outputs_of, Unread, told, OneOutcome}
+use Rattle.hdr_tool.proofs.Common.{◌≡◌, ℕ, ◌+◌, ◌-◌, ◌*◌, ◌^◌, Bool, true, false, List, [], ◌∷◌, ◌++◌, Option, Some, None, MatchOption, Result, Ok, Err, refl, sym, ap, ◌∙◌, subst, MatchBool, codes, option_map, Ratio, Plain, Entry, Start, Base, Span, reading, piece_text, base64_bytes, IsV2, IsWrittenAlike, v2_at, ReadsV2, Filter, Every, interval_piece, Merging, new_merging, with_interval, BytesMerge, FieldMerges, IntervalMerges, EntryMerges, MergesOn, EntriesMerge, AreChosen, DeserializeError, MergeError, Fault, Usage, Task, Report, Log, Merge, task_of, greatest_into, filter_of, merge_fault, quantile_line, has_too_great_count, input_run, Reported, result_map_both, outputs_of, Unread, kind_of, OneOutcome}
 use Rattle.std.specs.List.{flat_map}
 use Rattle.std.specs.Fmt.{decimal}
 use Rattle.hex.specs.Hex.{encode_lower}
@@ -36,7 +36,7 @@ reported_once once quantiles (Err e) a b f g p q = (p.0 ∙ sym q.0, p.1 ∙ sym
 
 abbrev Same : Result Merging MergeError → Result Merging MergeError → Type 0
 Same (Ok m) (Ok n) = m ≡ n
-Same (Err e) (Err f) = told (merge_fault e) ≡ told (merge_fault f)
+Same (Err e) (Err f) = kind_of (merge_fault e) ≡ kind_of (merge_fault f)
 Same _ _ = ⊥
 
 same_self : (r : Result Merging MergeError) → Same r r
@@ -93,24 +93,24 @@ module _ (once : Once) (greatest : ℕ) (filter : Filter) where
   merge_once [] m r s p q = same_both _ r s p q
   merge_once (entry ∷ entries) m r s p q = rest_once entries p.0 q.0 r s (entry_once entry m p.0 q.0 p.1 q.1) p.2 q.2 (λ n u v. merge_once entries n r s u v)
 
-merged_once : Once → (quantiles : List Ratio) (r s : Result Merging MergeError) (a b : List ℕ) (f g : Option Fault) → Same r s → Reported quantiles (result_map_both (λ (m : Merging). m.histogram) merge_fault r) a f → Reported quantiles (result_map_both (λ (m : Merging). m.histogram) merge_fault s) b g → (a ≡ b) × (option_map told f ≡ option_map told g)
+merged_once : Once → (quantiles : List Ratio) (r s : Result Merging MergeError) (a b : List ℕ) (f g : Option Fault) → Same r s → Reported quantiles (result_map_both (λ (m : Merging). m.histogram) merge_fault r) a f → Reported quantiles (result_map_both (λ (m : Merging). m.histogram) merge_fault s) b g → (a ≡ b) × (option_map kind_of f ≡ option_map kind_of g)
 merged_once once quantiles (Ok m) (Ok n) a b f g same p q =
     let h = reported_once once quantiles (Ok m.histogram) a b f g p (subst (λ (x : Merging). Reported quantiles (Ok x.histogram) b g) (sym same) q) in
-    (h.0, ap (option_map told) h.1)
-merged_once once quantiles (Err d) (Err e) a b f g same p q = (p.0 ∙ sym q.0, ap (option_map told) p.1 ∙ ap Some same ∙ sym (ap (option_map told) q.1))
+    (h.0, ap (option_map kind_of) h.1)
+merged_once once quantiles (Err d) (Err e) a b f g same p q = (p.0 ∙ sym q.0, ap (option_map kind_of) p.1 ∙ ap Some same ∙ sym (ap (option_map kind_of) q.1))
 merged_once once quantiles (Ok m) (Err e) a b f g same p q = absurd same
 merged_once once quantiles (Err d) (Ok n) a b f g same p q = absurd same
 
-task_once : Once → (task : Task) (input a b : List ℕ) (f g : Option Fault) → (outputs_of task input).whole a f → (outputs_of task input).whole b g → (a ≡ b) × (option_map told f ≡ option_map told g)
+task_once : Once → (task : Task) (input a b : List ℕ) (f g : Option Fault) → (outputs_of task input).whole a f → (outputs_of task input).whole b g → (a ≡ b) × (option_map kind_of f ≡ option_map kind_of g)
 task_once once (Report sigfig quantiles) input a b f g p q =
-    let h = reported_once once quantiles (input_run false sigfig input).ended a b f g p q in (h.0, ap (option_map told) h.1)
-task_once once (Log sigfig) input a b f g p q = (text_once once (input_run true sigfig input).intervals a b p.0 q.0, ap (option_map told) (p.1 ∙ sym q.1))
+    let h = reported_once once quantiles (input_run false sigfig input).ended a b f g p q in (h.0, ap (option_map kind_of) h.1)
+task_once once (Log sigfig) input a b f g p q = (text_once once (input_run true sigfig input).intervals a b p.0 q.0, ap (option_map kind_of) (p.1 ∙ sym q.1))
 task_once once (Merge options sigfig quantiles) input a b f g p q =
     merged_once once quantiles p.0 q.0 a b f g (merge_once once (greatest_into options.into) (filter_of options) (reading input) (new_merging sigfig) p.0 q.0 p.1 q.1) p.2 q.2
 
 by_task : Once → (given : Option Task) (input a b : List ℕ) (f g : Option Fault) → MatchOption given ((a ≡ []) × (f ≡ Some Usage)) (λ task. (outputs_of task input).whole a f) → MatchOption given ((b ≡ []) × (g ≡ Some Usage)) (λ task. (outputs_of task input).whole b g)
-    → (a ≡ b) × (option_map told f ≡ option_map told g)
-by_task once None input a b f g p q = (p.0 ∙ sym q.0, ap (option_map told) (p.1 ∙ sym q.1))
+    → (a ≡ b) × (option_map kind_of f ≡ option_map kind_of g)
+by_task once None input a b f g p q = (p.0 ∙ sym q.0, ap (option_map kind_of) (p.1 ∙ sym q.1))
 by_task once (Some task) input a b f g p q = task_once once task input a b f g p q
 
 pub one_outcome : Once → OneOutcome

@@ -70,9 +70,9 @@ options_of o rest = Some (o, rest)
 -- `[--into COUNTER] [--tag T] [--from MS] [--to MS] SIGFIG Q..`, the options in any order
 unfoldable pub merge_of : List (List ℕ) → Option Task
 merge_of arguments = do
-  given ← options_of no_options arguments
-  figures ← figures_of given.1
-  Some (Merge given.0 figures.0 figures.1)
+  options ← options_of no_options arguments
+  figures ← figures_of options.1
+  Some (Merge options.0 figures.0 figures.1)
 
 -- `SIGFIG`
 abbrev pub log_of : List (List ℕ) → Option Task

@@ -36,7 +36,7 @@ LinesNeed is_log h [] = ⊥
 LinesNeed is_log h ((k, []) ∷ lines) = LinesNeed is_log h lines
 LinesNeed is_log h ((k, b ∷ line) ∷ lines) = CommandNeeds is_log h (command_of (b ∷ line)) (λ g. LinesNeed is_log g lines)
 
--- memory may run out in a part of the lines only if it is needed there. `Whole more` says that the
+-- memory may run out in a part of the lines only if it is needed there. `Whole more` means that the
 -- part with `more` lines after it needs memory, and `Onward more` that these alone do
 abbrev pub Needs : {M A : Type 0} → (M → Type 0) → (M → Type 0) → Result A Fault → Type 0
 Needs {M = M} Whole Onward (Ok a) = (more : M) → Onward more → Whole more

@@ -146,14 +146,14 @@ unfoldable pub Outcome : List (List ℕ) → List ℕ → List ℕ → Option Fa
 Outcome arguments input text fault = MatchOption (task_of arguments) ((text ≡ []) × (fault ≡ Some Usage)) (λ task. (outputs_of task input).whole text fault)
 
 -- a `Fault`; of bytes that are not a histogram only the defect counts
-pub data Told : Type 0 where
-  Named : Fault → Told
-  Unread : ℕ → Option Defect → Told
+pub data FaultKind : Type 0 where
+  Named : Fault → FaultKind
+  Unread : ℕ → Option Defect → FaultKind
 
-abbrev pub told : Fault → Told
-told (NotRead k e) = Unread k (defect_of_error e)
-told f = Named f
+abbrev pub kind_of : Fault → FaultKind
+kind_of (NotRead k e) = Unread k (defect_of_error e)
+kind_of f = Named f
 
 -- arguments and an input have one outcome
 abbrev pub OneOutcome : Type 0
-OneOutcome = (arguments : List (List ℕ)) (input a b : List ℕ) (f g : Option Fault) → Outcome arguments input a f → Outcome arguments input b g → (a ≡ b) × (option_map told f ≡ option_map told g)
+OneOutcome = (arguments : List (List ℕ)) (input a b : List ℕ) (f g : Option Fault) → Outcome arguments input a f → Outcome arguments input b g → (a ≡ b) × (option_map kind_of f ≡ option_map kind_of g)

@@ -57,12 +57,12 @@ fn report_merged<T: Counter, W: Write>(
 {
     match merge_log::<T>(alloc, input, filter, sigfig) {
         Ok(merged) => write_report(alloc, &merged.histogram, quantiles, writer),
-        Err(error) => Err(refused(error)),
+        Err(error) => Err(merge_fault(error)),
     }
 }
 
 /// Converts the error of a merge.
-fn refused(error: MergeError) -> Fault
+fn merge_fault(error: MergeError) -> Fault
     ensures { result ≡ merge_fault error }
 {
     match error {

@@ -77,7 +77,7 @@ pub fn columns(name: &str, most: usize) -> usize {
 
 /// Returns a text of at most a number of columns. Characters that are invisible are replaced, marks
 /// past the second of a character are left out, and an ellipsis ends a text that is longer.
-pub fn shown(alloc: Global, name: &str, most: usize) -> Result<String, AllocError> {
+pub fn shortened(alloc: Global, name: &str, most: usize) -> Result<String, AllocError> {
     let is_long = columns(name, most) > most;
     let limit = most.saturating_sub(if is_long { 1 } else { 0 });
     let mut text = String::new(alloc);
@@ -114,6 +114,6 @@ pub fn push_shown(
     ensures { OnOk result ((shown : List ℕ)
         × (string_bytes text.new ≡ string_bytes text.old ++ escaped_text shown)) }
 {
-    let shown = shown(alloc, name, most)?;
+    let shown = shortened(alloc, name, most)?;
     push_escaped(text, shown.as_str())
 }

@@ -5,7 +5,7 @@ ghost use Rattle.hdr_view.specs.Views.{figure_of};
 
 use crate::amount::Units;
 use crate::clock::Clock;
-use crate::name::{push_shown, shown};
+use crate::name::{push_shown, shortened};
 use crate::options::PageOptions;
 use hdr_draw::path::Joint;
 use hdr_draw::values::ValueScale;
@@ -156,7 +156,7 @@ impl<'a> View<'a> {
     ) -> Result<(), AllocError> {
         match self.form {
             Form::Html => push_shown(alloc, text, name, most),
-            Form::Plain => text.push_str(shown(alloc, name, most)?.as_str()),
+            Form::Plain => text.push_str(shortened(alloc, name, most)?.as_str()),
         }
     }
 

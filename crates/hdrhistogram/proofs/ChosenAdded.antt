@@ -11,7 +11,7 @@ use Rattle.hdr_log.specs.Texts.{base64_bytes}
 use Rattle.hdrhistogram.specs.Chosen.{Filter, is_chosen}
 use Rattle.hdrhistogram.specs.LogMerging.{Merging, with_base, past_interval, with_interval, coarser_of, one_if_coarser, BytesMerge, FieldMerges, IntervalMerges, MergesOn, EntriesMerge, ChosenFirst, AreChosen}
 use Rattle.hdrhistogram.specs.FieldRead.{IsHeldIn}
-use Rattle.hdrhistogram.specs.V2Read.{Contents, told_of, IsReadAs, ReadsV2}
+use Rattle.hdrhistogram.specs.V2Read.{Contents, histogram_contents, IsReadAs, ReadsV2}
 use Rattle.hdrhistogram.specs.Defects.{Defect}
 use Rattle.hdrhistogram.specs.declared.serialization.errors.DeserializeError.{DeserializeError}
 use Rattle.hdrhistogram.specs.declared.serialization.interval_log.merge.MergeError.{MergeError}
@@ -102,11 +102,11 @@ rebuilt h = refl
 read_once : (greatest : ℕ) (text : List ℕ) (h k : Plain) (m n : ℕ) → IsReadAs greatest text h m → IsReadAs greatest text k n → h ≡ k
 read_once greatest text h k m n p q =
     let c : p.contents ≡ q.contents = same_contents _ _ _ _ (sym p.read ∙ q.read) in
-    let told : told_of h ≡ told_of k = p.histogram.told ∙ c ∙ sym q.histogram.told in
-    let low : h.low ≡ k.low = ap (λ (x : Contents). x.low) told in
-    let high : h.high ≡ k.high = ap (λ (x : Contents). x.high) told in
-    let sigfig : h.sigfig ≡ k.sigfig = ap (λ (x : Contents). x.sigfig) told in
-    let counts : h.counts ≡ k.counts = ap (λ (x : Contents). x.counts) told in
+    let contents : histogram_contents h ≡ histogram_contents k = p.histogram.contents ∙ c ∙ sym q.histogram.contents in
+    let low : h.low ≡ k.low = ap (λ (x : Contents). x.low) contents in
+    let high : h.high ≡ k.high = ap (λ (x : Contents). x.high) contents in
+    let sigfig : h.sigfig ≡ k.sigfig = ap (λ (x : Contents). x.sigfig) contents in
+    let counts : h.counts ≡ k.counts = ap (λ (x : Contents). x.counts) contents in
     let fixed : h.auto_resize ≡ k.auto_resize = p.histogram.fixed ∙ sym q.histogram.fixed in
     let total : h.total ≡ k.total = p.histogram.restated.total ∙ ap (λ l. min (sum l) 18446744073709551615) counts ∙ sym q.histogram.restated.total in
     let top : h.top_mark ≡ k.top_mark = top-unique k.counts h.top_mark k.top_mark (subst (λ l. IsTopMark l h.top_mark) counts p.histogram.restated.top_mark) q.histogram.restated.top_mark in

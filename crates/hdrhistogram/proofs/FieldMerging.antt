@@ -1,5 +1,5 @@
 -- What a field adds to a merge: its histogram, or its error.
-use Rattle.hdr_model.specs.Refusals.{IsBounds}
+use Rattle.hdr_model.specs.CallErrors.{IsBounds}
 use Rattle.hdr_log.specs.Grammar.{Entry}
 use Rattle.hdrhistogram.specs.Chosen.{Filter}
 use Rattle.std.proofs.Common.{ℕ, ◌+◌, List, ◌∷◌, Option, Result, Ok, Err, refl, sym, subst}

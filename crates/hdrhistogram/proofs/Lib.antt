@@ -3,7 +3,7 @@ pub mod VarintWriting
 pub mod V2Bins
 pub mod PayloadWriting
 pub mod V2Text
-pub mod V2Telling
+pub mod V2SameBytes
 pub mod V2Bytes
 pub mod StreamsReaders
 pub mod PayloadReadCuts

@@ -18,11 +18,11 @@ use Rattle.hdrhistogram.specs.Payload.{Part, run, bin, bins_of, AreMaximal, numb
 use Rattle.hdrhistogram.specs.V2.{four, eight, header, written_bins, written_counts, IsV2}
 use Rattle.hdrhistogram.specs.Defects.{Defect}
 use Rattle.hdrhistogram.specs.PayloadRead.{Parted, split_spellings, numbers, bins_of_number, move, defect_at, or_else, first_defect, fit_bins, counts_or_defect, counts_in}
-use Rattle.hdrhistogram.specs.V2Read.{Header, Contents, four_of, eight_of, four_at, eight_at, bytes_at, check_field, cookie_defect, offset_defect, sigfig_defect, ratio_defect, header_at, bounds_defect, bins_for, v2_at, told_of, IsRestated, HasContents, IsReadAs}
+use Rattle.hdrhistogram.specs.V2Read.{Header, Contents, four_of, eight_of, four_at, eight_at, bytes_at, check_field, cookie_defect, offset_defect, sigfig_defect, ratio_defect, header_at, bounds_defect, bins_for, v2_at, histogram_contents, IsRestated, HasContents, IsReadAs}
 use Rattle.hdrhistogram.proofs.VarintSpellings.{spelt_short}
 use Rattle.hdrhistogram.proofs.V2Bins.{not-written}
 use Rattle.hdrhistogram.proofs.V2Text.{length-four, length-eight}
-use Rattle.hdrhistogram.proofs.V2Telling.{zig_back, low-fits}
+use Rattle.hdrhistogram.proofs.V2SameBytes.{zig_back, low-fits}
 use Rattle.hdrhistogram.proofs.PayloadReadFilling.{parted_spelling, length_fitted}
 use Rattle.hdrhistogram.proofs.V2ReadHistogram.{bounds-yes, defect-none}
 
@@ -101,11 +101,11 @@ fitted_get (suc bins) (n ∷ counts) (suc i) h = fitted_get bins counts i (omega
 fitted_written : (greatest : ℕ) (h : Plain) → IsPlain greatest h → fit_bins (length h.counts) (written_counts h) ≡ h.counts
 fitted_written greatest h p =
     ext_get_or 0 (fit_bins (length h.counts) (written_counts h)) h.counts (length_fitted (length h.counts) (written_counts h)) (λ i lt.
-    fitted_get (length h.counts) (written_counts h) i (omega (arith, length_fitted (length h.counts) (written_counts h))) ∙ told i (cases_lt i (written_bins h)))
+    fitted_get (length h.counts) (written_counts h) i (omega (arith, length_fitted (length h.counts) (written_counts h))) ∙ got i (cases_lt i (written_bins h)))
   where
-    told : (i : ℕ) → (i < written_bins h) ⊎ (written_bins h ≤ i) → get_or (written_counts h) i 0 ≡ get_or h.counts i 0
-    told i (inl within) = get_or-take (written_bins h) h.counts i 0 within
-    told i (inr later) = get_or_past (written_counts h) i 0 (omega (arith, length-take-le (written_bins h) h.counts (omega (arith, mark-inside greatest h p)))) ∙ sym (not-written greatest h i p later)
+    got : (i : ℕ) → (i < written_bins h) ⊎ (written_bins h ≤ i) → get_or (written_counts h) i 0 ≡ get_or h.counts i 0
+    got i (inl within) = get_or-take (written_bins h) h.counts i 0 within
+    got i (inr later) = get_or_past (written_counts h) i 0 (omega (arith, length-take-le (written_bins h) h.counts (omega (arith, mark-inside greatest h p)))) ∙ sym (not-written greatest h i p later)
 
 all_taken : (P : ℕ → Type 0) (n : ℕ) (xs : List ℕ) → AllByRecursion P xs → AllByRecursion P (take n xs)
 all_taken P zero xs h = tt
@@ -222,7 +222,7 @@ bounds_again greatest h len p =
     defect-none (head_of h len) (bounds-yes h.low h.high h.sigfig (record { low_fits = omega (arith, p.wide, p.high_fits); wide = p.wide; scale = p.scale }))
 
 -- what was written, with anything after it, is read back
-pub v2_again : (greatest : ℕ) (h : Plain) (bytes more : List ℕ) → IsPlain greatest h → IsV2 h bytes → v2_at greatest (bytes ++ more) ≡ Ok (told_of h, more)
+pub v2_again : (greatest : ℕ) (h : Plain) (bytes more : List ℕ) → IsPlain greatest h → IsV2 h bytes → v2_at greatest (bytes ++ more) ≡ Ok (histogram_contents h, more)
 unfolding v2_at
 v2_again greatest h bytes more p v =
     let len = length v.payload in
@@ -253,10 +253,10 @@ lower-unique counts (Some m) (Some n) p q = elim (cases_lt m n) [
 ]
 
 -- what is read back of what was written
-pub read_back : (greatest taken : ℕ) (h k : Plain) (bytes more : List ℕ) → IsPlain greatest h → IsV2 h bytes → IsReadAs greatest (bytes ++ more) k taken → (taken ≡ length bytes) × HasContents (told_of h) k
+pub read_back : (greatest taken : ℕ) (h k : Plain) (bytes more : List ℕ) → IsPlain greatest h → IsV2 h bytes → IsReadAs greatest (bytes ++ more) k taken → (taken ≡ length bytes) × HasContents (histogram_contents h) k
 read_back greatest taken h k bytes more p v r =
     let again = v2_again greatest h bytes more p v in
-    let both : ◌≡◌ {A = Contents × List ℕ} (told_of h, more) (r.contents, drop taken (bytes ++ more)) = ok_is _ _ (sym again ∙ r.read) in
+    let both : ◌≡◌ {A = Contents × List ℕ} (histogram_contents h, more) (r.contents, drop taken (bytes ++ more)) = ok_is _ _ (sym again ∙ r.read) in
     let size : length more ≡ length (drop taken (bytes ++ more)) = ap (λ (x : Contents × List ℕ). length x.1) both in (
       omega (arith, size, length-drop taken (bytes ++ more), length-append bytes more, r.within),
       subst (λ c. HasContents c k) (sym (ap (λ (x : Contents × List ℕ). x.0) both)) r.histogram,
@@ -274,11 +274,11 @@ unfolding min_nz_of
 min-by h k low sigfig lower = ap (λ l. value_of_mark (resolution_of l h.sigfig) h.lower_mark) low ∙ ap (λ s. value_of_mark (resolution_of k.low s) h.lower_mark) sigfig ∙ ap (value_of_mark (resolution_of k.low k.sigfig)) lower
 
 -- if the marks and the total are those of the numbers, it is equal to what was written
-pub equal_back : (h k : Plain) → IsRestated h → HasContents (told_of h) k → same_plain k h ≡ true
+pub equal_back : (h k : Plain) → IsRestated h → HasContents (histogram_contents h) k → same_plain k h ≡ true
 equal_back h k r c =
-    let low : k.low ≡ h.low = ap (λ (t : Contents). t.low) c.told in
-    let sigfig : k.sigfig ≡ h.sigfig = ap (λ (t : Contents). t.sigfig) c.told in
-    let counts : k.counts ≡ h.counts = ap (λ (t : Contents). t.counts) c.told in
+    let low : k.low ≡ h.low = ap (λ (t : Contents). t.low) c.contents in
+    let sigfig : k.sigfig ≡ h.sigfig = ap (λ (t : Contents). t.sigfig) c.contents in
+    let counts : k.counts ≡ h.counts = ap (λ (t : Contents). t.counts) c.contents in
     let total : k.total ≡ h.total = c.restated.total ∙ ap (λ l. min (sum l) (2 ^ 64 - 1)) counts ∙ sym r.total in
     let top : k.top_mark ≡ h.top_mark = top-unique h.counts k.top_mark h.top_mark (subst (λ l. IsTopMark l k.top_mark) counts c.restated.top_mark) r.top_mark in
     let lower : k.lower_mark ≡ h.lower_mark = lower-unique h.counts k.lower_mark h.lower_mark (subst (λ l. IsLowerMark l k.lower_mark) counts c.restated.lower_mark) r.lower_mark in

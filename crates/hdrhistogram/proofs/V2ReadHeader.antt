@@ -94,11 +94,11 @@ okay x = Ok x
 
 checked_is : (defect : ℕ → Option Defect) (r : Result (ℕ × List ℕ) Defect) (y : ℕ × List ℕ) → check_field defect r ≡ Ok y → (r ≡ Ok y) × (defect y.0 ≡ None)
 checked_is defect (Err e) y h = absurd cc
-checked_is defect (Ok f) y h = told (defect f.0) refl h
+checked_is defect (Ok f) y h = got (defect f.0) refl h
   where
-    told : (o : Option Defect) → defect f.0 ≡ o → unless o f ≡ okay y → (okay f ≡ okay y) × (defect y.0 ≡ None)
-    told None e h = (h, (let same : f ≡ y = cc in subst (λ (g : ℕ × List ℕ). defect g.0 ≡ None) same e))
-    told (Some g) e h = absurd cc
+    got : (o : Option Defect) → defect f.0 ≡ o → unless o f ≡ okay y → (okay f ≡ okay y) × (defect y.0 ≡ None)
+    got None e h = (h, (let same : f ≡ y = cc in subst (λ (g : ℕ × List ℕ). defect g.0 ≡ None) same e))
+    got (Some g) e h = absurd cc
 
 pub checked-steady : (defect : ℕ → Option Defect) (p : List ℕ → Result (ℕ × List ℕ) Defect) → IsSteady p → IsSteady (λ t. check_field defect (p t))
 checked-steady defect p steady t rest x e =

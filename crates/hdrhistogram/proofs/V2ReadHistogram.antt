@@ -7,7 +7,7 @@ use Rattle.std.proofs.lemmas.List.{take_at, length-replicate}
 use Rattle.hdr_base.specs.Classes.{unit_of, digits_of, resolution_of, bins_to}
 use Rattle.hdr_model.specs.Plain.{Plain, empty_plain}
 use Rattle.hdr_model.specs.Unfinished.{Unfinished, unfinished_of}
-use Rattle.hdr_model.specs.Refusals.{IsBounds, IsCreationError}
+use Rattle.hdr_model.specs.CallErrors.{IsBounds, IsCreationError}
 use Rattle.hdr_model.specs.declared.errors.CreationError.{CreationError}
 use Rattle.hdr_model.specs.declared.errors.CreationError.TheVariants as make
 use Rattle.hdrhistogram.specs.declared.serialization.errors.DeserializeError.{DeserializeError}
@@ -16,7 +16,7 @@ use Rattle.hdrhistogram.specs.Streams.{IsStreamError}
 use Rattle.hdrhistogram.specs.Defects.{Defect, cut, bad_bounds, ◌>>=◌, unless, FailsBy, TakesNoMore, RunsOutOnly, defect_of_error}
 use Rattle.hdrhistogram.proofs.DefectsMemory.{runs_out, names_out}
 use Rattle.hdrhistogram.specs.PayloadRead.{counts_in}
-use Rattle.hdrhistogram.specs.V2Read.{Header, Contents, bytes_at, header_at, are_bounds, bounds_defect, bins_for, creation_defect, contents_of, v2_at, told_by, told_of, IsRestated, IsReadAs}
+use Rattle.hdrhistogram.specs.V2Read.{Header, Contents, bytes_at, header_at, are_bounds, bounds_defect, bins_for, creation_defect, contents_of, v2_at, builder_contents, histogram_contents, IsRestated, IsReadAs}
 use Rattle.hdrhistogram.proofs.V2ReadHeader.{IsSteady, bind-steady, ok-steady, header-steady, TakenBy, TakenSo, field-then, field-failed, bind_cut, fails_bind, unless_fails}
 
 -- ---- the bounds
@@ -90,14 +90,14 @@ bounds-memory h make.UsizeTypeTooSmall r b n = names_out (bounds_defect h ≡ No
 pub record IsMade (f : Unfinished) (low high sigfig : ℕ) : Type 0 where
   pub empty : f.counts ≡ replicate (length f.counts) 0
   pub fixed : f.auto_resize ≡ false
-  pub told : told_by f ≡ record { low = low; high = high; sigfig = sigfig; counts = f.counts }
+  pub contents : builder_contents f ≡ record { low = low; high = high; sigfig = sigfig; counts = f.counts }
   pub bins : length f.counts ≡ bins_to (resolution_of low sigfig) high
 
 made : (low high sigfig : ℕ) → IsMade (unfinished_of (empty_plain low high sigfig false)) low high sigfig
 unfolding empty_plain
 made low high sigfig =
     let size = length-replicate {A = ℕ} (bins_to (resolution_of low sigfig) high) 0 in
-    record { empty = ap (λ n. replicate n 0) (sym size); fixed = refl; told = refl; bins = size }
+    record { empty = ap (λ n. replicate n 0) (sym size); fixed = refl; contents = refl; bins = size }
 
 pub is-made : (f : Unfinished) (low high sigfig : ℕ) → f ≡ unfinished_of (empty_plain low high sigfig false) → IsMade f low high sigfig
 is-made f low high sigfig e = subst (λ g. IsMade g low high sigfig) (sym e) (made low high sigfig)
@@ -206,17 +206,17 @@ whole c = Ok (c, [])
 
 -- ---- what was read
 
-pub is-read : (greatest : ℕ) (text rest : List ℕ) (h : Plain) (taken : ℕ) → v2_at greatest text ≡ Ok (told_of h, rest) → h.auto_resize ≡ false → IsRestated h → taken ≡ length text - length rest → IsReadAs greatest text h taken
+pub is-read : (greatest : ℕ) (text rest : List ℕ) (h : Plain) (taken : ℕ) → v2_at greatest text ≡ Ok (histogram_contents h, rest) → h.auto_resize ≡ false → IsRestated h → taken ≡ length text - length rest → IsReadAs greatest text h taken
 is-read greatest text rest h taken e fixed restated is =
-    let (front, parts, again) = v2-steady greatest text rest (told_of h) e in
+    let (front, parts, again) = v2-steady greatest text rest (histogram_contents h) e in
     let size : length text ≡ length front + length rest = ap (length {A = ℕ}) parts ∙ length-append front rest in
     let same : length front ≡ taken = omega arith in
     let behind : drop taken text ≡ rest = ap (drop taken) parts ∙ drop_at front rest taken same in
     record {
-      contents = told_of h;
-      read = e ∙ ap (λ l. Ok (told_of h, l)) (sym behind);
+      contents = histogram_contents h;
+      read = e ∙ ap (λ l. Ok (histogram_contents h, l)) (sym behind);
       within = omega arith;
-      histogram = record { told = refl; fixed = fixed; restated = restated };
+      histogram = record { contents = refl; fixed = fixed; restated = restated };
     }
 
 pub no_longer : (greatest : ℕ) (text rest : List ℕ) (c : Contents) → v2_at greatest text ≡ Ok (c, rest) → length rest ≤ length text

@@ -2,7 +2,7 @@
 use Rattle.std.proofs.Common.{◌≡◌, ℕ, false, List, sym, ap, ◌∙◌}
 use Rattle.hdr_model.specs.Plain.{Plain}
 use Rattle.hdr_model.specs.Unfinished.{Unfinished, unfinished_of, IsClosed}
-use Rattle.hdrhistogram.specs.V2Read.{told_by, told_of, IsRestated}
+use Rattle.hdrhistogram.specs.V2Read.{builder_contents, histogram_contents, IsRestated}
 
 -- one bin set and then another
 pub set-again : (f g k : Unfinished) (counts : List ℕ) → g ≡ record f { counts = g.counts } → k ≡ record g { counts = counts } → k ≡ record f { counts = k.counts }
@@ -17,8 +17,8 @@ module _ (k : Plain) (f g : Unfinished) (between : g ≡ record f { counts = g.c
   whole : unfinished_of k ≡ record f { counts = k.counts }
   whole = after.same ∙ between ∙ ap (λ (n : List ℕ). record f { counts = n }) (sym closed-counts)
 
-  pub closed-told : told_of k ≡ record (told_by f) { counts = k.counts }
-  closed-told = ap told_by whole
+  pub closed-contents : histogram_contents k ≡ record (builder_contents f) { counts = k.counts }
+  closed-contents = ap builder_contents whole
 
   pub closed-fixed : f.auto_resize ≡ false → k.auto_resize ≡ false
   closed-fixed fixed = ap (λ (o : Unfinished). o.auto_resize) whole ∙ fixed

@@ -30,16 +30,16 @@ below xs None i h b = h i b
 below xs (Some m) i h b = h.2 i b.0 b.1
 
 same_low : (h k : Plain) → IsReadBack h k → k.low ≡ h.low
-same_low h k r = ap (λ (c : Contents). c.low) r.told
+same_low h k r = ap (λ (c : Contents). c.low) r.contents
 
 same_high : (h k : Plain) → IsReadBack h k → k.high ≡ h.high
-same_high h k r = ap (λ (c : Contents). c.high) r.told
+same_high h k r = ap (λ (c : Contents). c.high) r.contents
 
 same_sigfig : (h k : Plain) → IsReadBack h k → k.sigfig ≡ h.sigfig
-same_sigfig h k r = ap (λ (c : Contents). c.sigfig) r.told
+same_sigfig h k r = ap (λ (c : Contents). c.sigfig) r.contents
 
 same_counts : (h k : Plain) → IsReadBack h k → k.counts ≡ h.counts
-same_counts h k r = ap (λ (c : Contents). c.counts) r.told
+same_counts h k r = ap (λ (c : Contents). c.counts) r.contents
 
 pub same_classes : (h k : Plain) → IsReadBack h k → resolution k ≡ resolution h
 same_classes h k r = ap₂ resolution_of (same_low h k r) (same_sigfig h k r)

@@ -156,11 +156,11 @@ spelling_ends : (left : ℕ) (text : List ℕ) → IsSpelling left text → leng
 unfolding IsSpelling
 spelling_ends left [] h = absurd h
 spelling_ends zero (b ∷ bs) h = rw h (omega arith)
-spelling_ends (suc left) (b ∷ bs) h = told (ltb b 128) (λ more. spelling_ends left bs more) h
+spelling_ends (suc left) (b ∷ bs) h = got (ltb b 128) (λ more. spelling_ends left bs more) h
   where
-    told : (t : Bool) → (IsSpelling left bs → length bs ≤ left + 1) → MatchBool t (bs ≡ []) (IsSpelling left bs) → length (b ∷ bs) ≤ suc left + 1
-    told true rest none = rw none (omega arith)
-    told false rest more = omega (arith, rest more)
+    got : (t : Bool) → (IsSpelling left bs → length bs ≤ left + 1) → MatchBool t (bs ≡ []) (IsSpelling left bs) → length (b ∷ bs) ≤ suc left + 1
+    got true rest none = rw none (omega arith)
+    got false rest more = omega (arith, rest more)
 
 -- a varint fits if there are nine bytes, or if it is known to fit
 pub shortest_room : (n room : ℕ) → n < 2 ^ 64 → (room < 9 → (text : List ℕ) → IsShortest text n → length text ≤ room) → (text : List ℕ) → IsShortest text n → length text ≤ room

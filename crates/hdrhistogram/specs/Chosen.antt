@@ -40,8 +40,8 @@ view_of_interval_choice c = record { tags = view_of_choice c.tags; from = option
 -- an interval with this tag, or with none, is chosen
 abbrev pub chooses_tag : TagChoice → Option (List ℕ) → Bool
 chooses_tag Every tag = true
-chooses_tag (Tagged asked) None = false
-chooses_tag (Tagged asked) (Some tag) = bytes_eq tag asked
+chooses_tag (Tagged wanted) None = false
+chooses_tag (Tagged wanted) (Some tag) = bytes_eq tag wanted
 chooses_tag Untagged None = true
 chooses_tag Untagged (Some tag) = false
 

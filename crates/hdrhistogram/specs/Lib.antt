@@ -3,7 +3,7 @@ pub mod ZigZag
 pub mod Payload
 pub mod V2
 pub mod Streams
-pub mod SerializeRefusals
+pub mod SerializeErrors
 pub mod Lending
 pub mod Defects
 pub mod PayloadRead

@@ -6,7 +6,7 @@ use Rattle.hdr_model.specs.Plain.{Plain, resolution, empty_plain}
 use Rattle.hdr_model.specs.Merging.{after_add}
 use Rattle.hdr_model.specs.Joining.{after_adds, AreParts, joined_samples}
 use Rattle.hdr_model.specs.Samples.{Fits}
-use Rattle.hdr_model.specs.Refusals.{IsBounds, IsCreationError}
+use Rattle.hdr_model.specs.CallErrors.{IsBounds, IsCreationError}
 use Rattle.hdr_model.specs.declared.errors.CreationError.{CreationError}
 use Rattle.hdr_model.specs.declared.errors.CreationError.TheVariants as make
 use Rattle.hdr_log.specs.Grammar.{Entry, Start, Base, Span, Interval, reading}

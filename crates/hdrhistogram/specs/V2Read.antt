@@ -113,12 +113,12 @@ v2_at greatest text = do
   counts ← counts_in (bins_for header) greatest payload.0
   Ok (contents_of header counts, payload.1)
 
-abbrev pub told_of : Plain → Contents
-told_of h = record { low = h.low; high = h.high; sigfig = h.sigfig; counts = h.counts }
+abbrev pub histogram_contents : Plain → Contents
+histogram_contents h = record { low = h.low; high = h.high; sigfig = h.sigfig; counts = h.counts }
 
 -- the same of a histogram that is being built
-abbrev pub told_by : Unfinished → Contents
-told_by f = record { low = f.low; high = f.high; sigfig = f.sigfig; counts = f.counts }
+abbrev pub builder_contents : Unfinished → Contents
+builder_contents f = record { low = f.low; high = f.high; sigfig = f.sigfig; counts = f.counts }
 
 -- the total is the saturating sum of the counts, and the marks are those of the nonempty classes
 pub record IsRestated (h : Plain) : Type 0 where
@@ -128,7 +128,7 @@ pub record IsRestated (h : Plain) : Type 0 where
 
 -- a histogram with these contents: it does not grow, and its total and marks follow from its counts
 pub record HasContents (c : Contents) (h : Plain) : Type 0 where
-  pub told : told_of h ≡ c
+  pub contents : histogram_contents h ≡ c
   pub fixed : h.auto_resize ≡ false
   pub restated : IsRestated h
 
@@ -147,4 +147,4 @@ ReadsV2 greatest text (Err e) = (f : Defect) × (defect_of_error e ≡ Some f) �
 
 -- the second histogram is what the first one's bytes decode to
 abbrev pub IsReadBack : Plain → Plain → Type 0
-IsReadBack h k = HasContents (told_of h) k
+IsReadBack h k = HasContents (histogram_contents h) k

@@ -19,7 +19,7 @@ ghost use Rattle.hdrhistogram.specs.ZigZag.{zig_zag, from_zig_zag};
 ghost use Rattle.hdrhistogram.specs.Payload.{Part, IsSplit, IsPayload};
 ghost use Rattle.hdrhistogram.specs.V2.{IsV2, IsWrittenAlike};
 ghost use Rattle.hdrhistogram.specs.PayloadRead.{Parted, split_spellings, AreSpellings};
-ghost use Rattle.hdrhistogram.specs.V2Read.{v2_at, Contents, told_of, IsRestated, IsReadBack, IsReadAs};
+ghost use Rattle.hdrhistogram.specs.V2Read.{v2_at, Contents, histogram_contents, IsRestated, IsReadBack, IsReadAs};
 
 use hdr_core::laws::{clearing_stands, joined_stands, new_is_plain, samples_are_counted};
 
@@ -91,7 +91,7 @@ pub fn bytes_read_back()
     ensures bytes { (h : Plain) (text : List ℕ) → IsV2 h text → (i : ℕ) → slice_index text i < 256 }
     ensures contents { (greatest : ℕ) (h : Plain) (bytes more : List ℕ) → IsPlain greatest h
         → IsV2 h bytes
-        → v2_at greatest (bytes ++ more) ≡ Ok (told_of h, more) }
+        → v2_at greatest (bytes ++ more) ≡ Ok (histogram_contents h, more) }
     ensures histogram { (greatest taken : ℕ) (h k : Plain) (bytes more : List ℕ)
         → IsPlain greatest h → IsV2 h bytes
         → IsReadAs greatest (bytes ++ more) k taken → (taken ≡ length bytes) × IsReadBack h k }

@@ -43,7 +43,7 @@ fn reader<'a>(
     }
 }
 
-/// Returns readers of logs, or of standard input if no names are given.
+/// Returns readers of logs, or of standard input if names are omitted.
 fn readers<'a>(
     console: Console<'a>,
     names: &[&'a str],

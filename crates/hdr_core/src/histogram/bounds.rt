@@ -2,7 +2,7 @@
 
 ghost use Rattle.std.specs.Prelude.{◌≡◌, ◌+◌, ◌-◌, ◌*◌, ◌<◌, ◌≤◌, false, MatchResult, IfErr};
 ghost use Rattle.hdr_base.specs.Classes.{resolution_of};
-ghost use Rattle.hdr_model.specs.Refusals.{IsCreationError, IsBounds, IsForGreatLow};
+ghost use Rattle.hdr_model.specs.CallErrors.{IsCreationError, IsBounds, IsForGreatLow};
 
 use hdr_base::Scale;
 use hdr_model::CreationError;

@@ -5,7 +5,7 @@ ghost use Rattle.hdr_base.specs.Classes.{most_bins};
 ghost use Rattle.hdr_model.specs.Unfinished.{unfinished_of, IsClosed};
 ghost use Rattle.hdr_model.specs.Marks.{IsTopMark, IsLowerMark};
 ghost use Rattle.hdr_model.specs.Plain.{empty_plain};
-ghost use Rattle.hdr_model.specs.Refusals.{IsCreationError, IsBounds};
+ghost use Rattle.hdr_model.specs.CallErrors.{IsCreationError, IsBounds};
 
 use super::Histogram;
 use super::bounds::{Bounds, scale_for};

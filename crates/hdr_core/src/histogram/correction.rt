@@ -5,7 +5,7 @@ ghost use Rattle.hdr_base.specs.Classes.{bucket, reach_of, most_bins};
 ghost use Rattle.hdr_model.specs.Plain.{resolution, reach};
 ghost use Rattle.hdr_model.specs.Recording.{after_add_to_bin, after_records, samples_of, high_with};
 ghost use Rattle.hdr_model.specs.Samples.{GainsSamples};
-ghost use Rattle.hdr_model.specs.Refusals.{IsRecordable, IsRecordError};
+ghost use Rattle.hdr_model.specs.CallErrors.{IsRecordable, IsRecordError};
 ghost use Rattle.hdr_model.specs.Correction.{missing, each_times, after_correct, bins_held, down_to};
 
 use super::Histogram;

@@ -4,7 +4,7 @@ ghost use Rattle.std.specs.Prelude.{◌≡◌, ◌<◌, ◌≤◌, ◌⊎◌, Ma
 ghost use Rattle.hdr_model.specs.Plain.{IsPlain, reach};
 ghost use Rattle.hdr_model.specs.Recording.{with_bins_to, with_bins_for};
 ghost use Rattle.hdr_model.specs.Merging.{with_room};
-ghost use Rattle.hdr_model.specs.Refusals.{IsRecordable, IsRecordError, IsResizeError};
+ghost use Rattle.hdr_model.specs.CallErrors.{IsRecordable, IsRecordError, IsResizeError};
 
 use super::Histogram;
 use hdr_base::Counter;

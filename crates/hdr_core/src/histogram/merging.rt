@@ -5,7 +5,7 @@ ghost use Rattle.hdr_base.specs.Classes.{value_of, IsFiner};
 ghost use Rattle.hdr_model.specs.Plain.{IsPlain, resolution, reach, max_of};
 ghost use Rattle.hdr_model.specs.Recording.{after_record, after_records, after_reset, high_with};
 ghost use Rattle.hdr_model.specs.Merging.{classes_from, top_class, same_bins, after_add_same_bins, after_add_within, with_room, after_add};
-ghost use Rattle.hdr_model.specs.Refusals.{LeavesSet, IsRecordable, IsAdditionError, IsResizeError};
+ghost use Rattle.hdr_model.specs.CallErrors.{LeavesSet, IsRecordable, IsAdditionError, IsResizeError};
 ghost use Rattle.hdr_model.specs.Samples.{StandsFor, GainsSamples};
 
 use super::Histogram;

@@ -5,7 +5,7 @@ ghost use Rattle.hdr_base.specs.Classes.{reach_of};
 ghost use Rattle.hdr_model.specs.Plain.{IsPlain, resolution, reach};
 ghost use Rattle.hdr_model.specs.Recording.{after_records, with_bins_for, after_reset, high_with};
 ghost use Rattle.hdr_model.specs.Samples.{StandsFor, GainsSamples};
-ghost use Rattle.hdr_model.specs.Refusals.{IsRecordable, IsRecordError, IsCorrectionError, LeavesCorrected};
+ghost use Rattle.hdr_model.specs.CallErrors.{IsRecordable, IsRecordError, IsCorrectionError, LeavesCorrected};
 ghost use Rattle.hdr_model.specs.Correction.{missing, each_times};
 ghost use Rattle.hdr_model.specs.Merging.{corrections_from, highest_top, after_add_correct, corrected_samples};
 

@@ -5,7 +5,7 @@ ghost use Rattle.hdr_base.specs.Classes.{reach_of};
 ghost use Rattle.hdr_model.specs.Plain.{IsPlain, resolution, reach};
 ghost use Rattle.hdr_model.specs.Recording.{after_add_to_bin, after_record, clamp_to_bins, after_clear, after_reset, high_with};
 ghost use Rattle.hdr_model.specs.Samples.{GainsSamples};
-ghost use Rattle.hdr_model.specs.Refusals.{IsRecordable, IsRecordError};
+ghost use Rattle.hdr_model.specs.CallErrors.{IsRecordable, IsRecordError};
 
 use super::Histogram;
 use crate::marks::Marks;

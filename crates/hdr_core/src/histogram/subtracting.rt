@@ -7,7 +7,7 @@ ghost use Rattle.hdr_model.specs.Plain.{resolution, reach, max_of};
 ghost use Rattle.hdr_model.specs.Merging.{lowest_values};
 ghost use Rattle.hdr_model.specs.Samples.{in_class};
 ghost use Rattle.hdr_model.specs.Subtracting.{IsDifference};
-ghost use Rattle.hdr_model.specs.Refusals.{IsSubtractionError};
+ghost use Rattle.hdr_model.specs.CallErrors.{IsSubtractionError};
 
 use super::Histogram;
 use super::merging::capped_sum;

@@ -3,7 +3,7 @@
 ghost use Rattle.std.specs.Prelude.{◌≡◌, ℕ, ◌*◌, ◌^◌, ◌<◌, ◌≤◌, List, map, length};
 ghost use Rattle.std.specs.Iterator.{YieldsFirst, item_count};
 ghost use Rattle.hdr_model.specs.Samples.{StandsFor};
-ghost use Rattle.hdr_model.specs.Quantiles.{per, hundredth, is_below, nothing_of_it, asked_from, value_at_quantiles, AreTopsNear};
+ghost use Rattle.hdr_model.specs.Quantiles.{per, hundredth, is_below, nothing_of_it, returned_from, value_at_quantiles, AreTopsNear};
 
 use super::Histogram;
 use super::quantiles::rank_of;
@@ -42,7 +42,7 @@ impl<T: Counter> Histogram<T> {
     pub fn value_at_quantiles<'a>(&'a self, quantiles: &'a [Quantile]) -> Values<'a, T>
         ensures value { result ≡ value_at_quantiles self.now quantiles.now }
         ensures ranked { (S : List ℕ) → StandsFor self.now S → 0 < length S
-            → AreTopsNear self.now S (asked_from self.now nothing_of_it quantiles.now) result }
+            → AreTopsNear self.now S (returned_from self.now nothing_of_it quantiles.now) result }
     {
         self.values(quantiles, 1)
     }
@@ -51,7 +51,7 @@ impl<T: Counter> Histogram<T> {
     pub fn value_at_percentiles<'a>(&'a self, percentiles: &'a [Quantile]) -> Values<'a, T>
         ensures value { result ≡ value_at_quantiles self.now (map hundredth percentiles.now) }
         ensures ranked { (S : List ℕ) → StandsFor self.now S → 0 < length S
-            → AreTopsNear self.now S (asked_from self.now nothing_of_it
+            → AreTopsNear self.now S (returned_from self.now nothing_of_it
             (map hundredth percentiles.now)) result }
     {
         self.values(percentiles, 100)
@@ -63,7 +63,7 @@ impl<T: Counter> Histogram<T> {
         requires at_most { whole ≤ 100 }
         ensures value { result ≡ value_at_quantiles self.now (map (per whole) shares.now) }
         ensures ranked { (S : List ℕ) → StandsFor self.now S → 0 < length S
-            → AreTopsNear self.now S (asked_from self.now nothing_of_it
+            → AreTopsNear self.now S (returned_from self.now nothing_of_it
             (map (per whole) shares.now)) result }
     {
         Values {

@@ -3,7 +3,7 @@
 ghost use Rattle.std.specs.Prelude.{◌≡◌, ℕ, List, [], length, replicate, true, false, None, IfOk, IfErr, MatchResult};
 ghost use Rattle.std.specs.Io.KnownBytes.{Consumes};
 ghost use Rattle.hdrhistogram.specs.Defects.{Gives, TakesAs, Checks, FailsBy, TakesDefect, RunsOutOnly, defect_of_error};
-ghost use Rattle.hdrhistogram.specs.V2Read.{HasBounds, creation_defect, bounds_defect, bins_for, bytes_at, v2_at, told_by, told_of, IsRestated, IsReadAs};
+ghost use Rattle.hdrhistogram.specs.V2Read.{HasBounds, creation_defect, bounds_defect, bins_for, bytes_at, v2_at, builder_contents, histogram_contents, IsRestated, IsReadAs};
 ghost use Rattle.hdrhistogram.specs.HeaderView.{header_of};
 ghost use Rattle.hdrhistogram.specs.FieldRead.{IsHeldIn, IsFieldDecodeError};
 
@@ -171,7 +171,7 @@ fn empty_for<T: Counter>(
     // The bins: all empty, with the bounds of the header.
     ensures empty { IfOk result (λ f. f.counts ≡ replicate (length f.counts) 0) }
     ensures fixed { IfOk result (λ f. f.auto_resize ≡ false) }
-    ensures told { IfOk result (λ f. told_by f
+    ensures contents { IfOk result (λ f. builder_contents f
         ≡ record {
           low = header.low;
           high = header.high;
@@ -187,7 +187,7 @@ fn empty_for<T: Counter>(
     }
     match HistogramBuilder::new_with_bounds(alloc, header.low, header.high, header.sigfig) {
         Ok(builder) => Ok(builder),
-        Err(error) => Err(refused(error)),
+        Err(error) => Err(creation_error(error)),
     }
 }
 
@@ -203,7 +203,7 @@ fn has_bounds<T: Counter>(histogram: &Histogram<T>, header: Header) -> bool
 }
 
 /// Converts the error of creating the bins.
-fn refused(error: CreationError) -> DeserializeError
+fn creation_error(error: CreationError) -> DeserializeError
     ensures { defect_of_error result ≡ creation_defect error }
 {
     match error {
@@ -244,7 +244,7 @@ fn decode<T: Counter>(
     text: &[u8],
     spare: Option<Histogram<T>>,
 ) -> Result<(Histogram<T>, &[u8]), DeserializeError>
-    ensures read { Gives (λ x. (told_of x.0, x.1.now)) result (v2_at T.greatest text.now) }
+    ensures read { Gives (λ x. (histogram_contents x.0, x.1.now)) result (v2_at T.greatest text.now) }
     ensures memory { IfErr result (RunsOutOnly (HasBounds text.now)) }
     ensures fixed { IfOk result (λ x. x.0.auto_resize ≡ false) }
     ensures restated { IfOk result (λ x. IsRestated x.0) }
@@ -263,7 +263,7 @@ fn read_v2<T: Counter, R: Read>(
 ) -> Result<Histogram<T>, DeserializeError>
     requires { buffer.old.items ≡ [] }
     ensures read { TakesAs (R.remaining reader.old) (R.remaining reader.new)
-        told_of (v2_at T.greatest) result }
+        histogram_contents (v2_at T.greatest) result }
     ensures memory { IfErr result (λ e. (taken : List ℕ)
         × Consumes (R.remaining reader.old) (R.remaining reader.new) taken
         × RunsOutOnly (HasBounds taken) e) }

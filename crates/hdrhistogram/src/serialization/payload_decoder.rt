@@ -4,7 +4,7 @@ ghost use Rattle.std.specs.Prelude.{◌≡◌, ◌+◌, ◌*◌, ◌%◌, ◌^�
 ghost use Rattle.hdr_base.specs.Classes.{most_bins};
 ghost use Rattle.hdrhistogram.specs.Defects.{Gives, Checks};
 ghost use Rattle.hdrhistogram.specs.PayloadRead.{IsNumberPut, IsPairPut, defect_at, move, with_count, counts_in};
-ghost use Rattle.hdrhistogram.specs.V2Read.{told_by, told_of, IsRestated};
+ghost use Rattle.hdrhistogram.specs.V2Read.{builder_contents, histogram_contents, IsRestated};
 
 use crate::serialization::errors::DeserializeError;
 use crate::serialization::fields::unexpected_eof;
@@ -154,7 +154,7 @@ pub(crate) fn decode_payload<T: Counter>(
     ensures counts { Gives (λ h. h.counts) result
         (counts_in (length builder.counts) T.greatest payload.now) }
     // The rest of the histogram.
-    ensures told { IfOk result (λ h. told_of h ≡ record (told_by builder) { counts = h.counts }) }
+    ensures contents { IfOk result (λ h. histogram_contents h ≡ record (builder_contents builder) { counts = h.counts }) }
     ensures fixed { IfOk result (λ h. h.auto_resize ≡ false) }
     ensures restated { IfOk result (λ h. IsRestated h) }
 {

@@ -5,7 +5,7 @@ ghost use Rattle.std.specs.Io.KnownBytes.{Appends};
 ghost use Rattle.hdr_base.specs.Classes.{most_bins};
 ghost use Rattle.hdrhistogram.specs.Payload.{enough_bytes};
 ghost use Rattle.hdrhistogram.specs.V2.{IsV2, HasTooGreatCount, written_bins, written_counts};
-ghost use Rattle.hdrhistogram.specs.SerializeRefusals.{IsToBytesError, IsSerializeError, SerializeFails};
+ghost use Rattle.hdrhistogram.specs.SerializeErrors.{IsToBytesError, IsSerializeError, SerializeFails};
 
 pub use crate::serialization::errors::V2SerializeError;
 use crate::serialization::header::{HEADER_LEN, write_header};

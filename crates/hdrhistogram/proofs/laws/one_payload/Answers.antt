@@ -1,6 +1,6 @@
 use Rattle.std.proofs.lemmas.List.Elements.{recursion_from_All}
 use Rattle.hdrhistogram.proofs.PayloadWriting.{one_split, parts_from, parts_split, text_from, payload_of_parts}
-use Rattle.hdrhistogram.proofs.V2Telling.{one_text}
+use Rattle.hdrhistogram.proofs.V2SameBytes.{one_text}
 use Rattle.hdrhistogram.proofs.laws.one_payload.Goals as goal
 
 pub returns-clause-parts : goal.returns-clause-parts

@@ -1,4 +1,4 @@
-use Rattle.hdrhistogram.proofs.V2Telling.{one_counts}
+use Rattle.hdrhistogram.proofs.V2SameBytes.{one_counts}
 use Rattle.hdrhistogram.proofs.laws.payload_tells_counts.Goals as goal
 
 pub returns : goal.returns

@@ -10,11 +10,11 @@ use hdr_core::Histogram;
 use std::alloc::Global;
 use std::io::{self, ErrorKind, Write};
 
-/// A buffer that a serializer writes to. `is_refused` is set if it could not grow.
+/// A buffer that a serializer writes to. `allocation_failed` is set if it could not grow.
 #[derive(Drop)]
 struct Buffer {
     bytes: Vec<u8>,
-    is_refused: bool,
+    allocation_failed: bool,
 }
 
 impl Write for Buffer {
@@ -26,7 +26,7 @@ impl Write for Buffer {
         match self.bytes.extend_from_slice(buf) {
             Ok(()) => Ok(buf.len()),
             Err(_) => {
-                self.is_refused = true;
+                self.allocation_failed = true;
                 Err(io::Error::from(ErrorKind::OutOfMemory))
             }
         }
@@ -49,11 +49,11 @@ pub(crate) fn serialized<T: Counter, S: Serializer>(
 {
     let mut buffer = Buffer {
         bytes: Vec::new(alloc),
-        is_refused: false,
+        allocation_failed: false,
     };
     match serializer.serialize(h, &mut buffer) {
         Ok(_) => Ok(buffer.bytes),
-        Err(_) if buffer.is_refused => Err(IntervalLogWriterError::OutOfMemory),
+        Err(_) if buffer.allocation_failed => Err(IntervalLogWriterError::OutOfMemory),
         Err(e) => Err(IntervalLogWriterError::SerializeError(e)),
     }
 }

@@ -4,7 +4,7 @@ ghost use Rattle.std.specs.Prelude.{◌≡◌, ◌+◌, ◌<◌, ◌≤◌, ◌^
 ghost use Rattle.std.specs.Option.{option_map};
 ghost use Rattle.std.specs.Duration.{as_nanos};
 ghost use Rattle.hdr_model.specs.Plain.{resolution};
-ghost use Rattle.hdr_model.specs.Refusals.{IsBounds, IsCreationError};
+ghost use Rattle.hdr_model.specs.CallErrors.{IsBounds, IsCreationError};
 ghost use Rattle.hdr_log.specs.Tags.{tag_text};
 ghost use Rattle.hdr_log.specs.Texts.{base64_bytes};
 ghost use Rattle.hdr_log.specs.Reading.{view_of_interval, view_of_item};
@@ -336,7 +336,7 @@ fn chooses_tag(choice: TagChoice<'_>, tag: Option<Tag<'_>>) -> bool
     match (choice, tag) {
         (TagChoice::Every, _) | (TagChoice::Untagged, None) => true,
         (TagChoice::Tagged(_), None) | (TagChoice::Untagged, Some(_)) => false,
-        (TagChoice::Tagged(asked), Some(tag)) => tag.as_str() == asked.as_str(),
+        (TagChoice::Tagged(wanted), Some(tag)) => tag.as_str() == wanted.as_str(),
     }
 }
 

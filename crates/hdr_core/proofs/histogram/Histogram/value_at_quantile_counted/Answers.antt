@@ -9,7 +9,7 @@ use Rattle.hdr_base.specs.Classes.{bucket}
 use Rattle.hdr_base.proofs.ClassesReach.{bins-blocks}
 use Rattle.hdr_model.proofs.PlainKept.{resolution-digits}
 use Rattle.hdr_model.proofs.PlainBins.{looks-few}
-use Rattle.hdr_model.proofs.QuantilesAnswers.{looks-most}
+use Rattle.hdr_model.proofs.QuantilesValues.{looks-most}
 use Rattle.hdr_core.proofs.histogram.Histogram.value_at_quantile_counted.Given as given
 use Rattle.hdr_core.proofs.histogram.Histogram.value_at_quantile_counted.Goals as goal
 use Rattle.hdr_core.proofs.histogram.Histogram.value_at_quantile_counted.Goals.{After-find-place}

@@ -1,20 +1,20 @@
 use Rattle.std.proofs.Common.{map, ap, ◌∙◌, subst, sym, arith}
 use Rattle.hdr_counts.specs.Blocks.{Searched}
 use Rattle.hdr_model.specs.Plain.{Plain}
-use Rattle.hdr_model.proofs.QuantilesAnswers.{rank-pos}
-use Rattle.hdr_model.specs.Quantiles.{per, nothing_of_it, asked_from, AreTopsNear}
-use Rattle.hdr_model.proofs.QuantilesAscend.{answers-first, answers-near}
+use Rattle.hdr_model.proofs.QuantilesValues.{rank-pos}
+use Rattle.hdr_model.specs.Quantiles.{per, nothing_of_it, returned_from, AreTopsNear}
+use Rattle.hdr_model.proofs.QuantilesAscend.{values-first, values-near}
 use Rattle.hdr_core.proofs.histogram.Histogram.values.Goals as goal
 
 pub returns-clause-value : goal.returns-clause-value
-returns-clause-value g c = answers-first c.args.self.now c.args.whole (map (per c.args.whole) c.args.shares.now)
+returns-clause-value g c = values-first c.args.self.now c.args.whole (map (per c.args.whole) c.args.shares.now)
 
 pub returns-clause-ranked : goal.returns-clause-ranked
 returns-clause-ranked g c = λ S stands some.
     let h = c.args.self.now in
     let qs = map (per c.args.whole) c.args.shares.now in
-    subst (AreTopsNear h S (asked_from h nothing_of_it qs)) (sym (answers-first h c.args.whole qs))
-    (answers-near g.T.Counter.greatest h S qs (rw c.self.view_is at c.self.invariant.plain) stands some)
+    subst (AreTopsNear h S (returned_from h nothing_of_it qs)) (sym (values-first h c.args.whole qs))
+    (values-near g.T.Counter.greatest h S qs (rw c.self.view_is at c.self.invariant.plain) stands some)
 
 pub invariant_of-result : goal.invariant_of-result
 invariant_of-result g c = (

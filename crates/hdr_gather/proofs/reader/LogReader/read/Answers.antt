@@ -3,7 +3,7 @@ use Rattle.std.specs.Option.{option_map}
 use Rattle.std.specs.Duration.{as_nanos}
 use Rattle.std.specs.Io.Buffered.{reader_remaining}
 use Rattle.hdr_log.specs.Reading.{view_of_entry, view_of_interval}
-use Rattle.hdr_input.specs.Lines.{said_by}
+use Rattle.hdr_input.specs.Lines.{entry_of_line}
 use Rattle.hdr_gather.specs.Intervals.{unread, held_interval, ReadsPlain, Notes}
 use Rattle.hdr_gather.proofs.Texts.{no_interval_more, interval_more, unread_end, still_known, said_as}
 use Rattle.hdr_gather.proofs.reader.LogReader.read.Goals as goal
@@ -27,7 +27,7 @@ loop-preserved g c =
     let later : (new.line == 0) ≡ false = ap (λ n. n == 0) c.take_entry.ensures.number ∙ c.in_ok-line.ensures.number in
     let read = subst (λ o. ReadsPlain (old.line == 0) (unread remaining old) (unread remaining mid) (option_map vec_items o)) c.in-Some.is c.in_ok-line.ensures.line in
     let reads = subst (λ r. ReadsPlain (old.line == 0) (unread remaining old) (reader_remaining remaining r) (Some line)) (sym c.take_entry.ensures.reader) read in
-    let said : said_by line ≡ option_map Ok entry = ap said_by (sym c.deref.ensures.value) ∙ c.in-Ok.ensures ∙ said_as view_of_entry Ok c.in-Ok.entry in
+    let said : entry_of_line line ≡ option_map Ok entry = ap entry_of_line (sym c.deref.ensures.value) ∙ c.in-Ok.ensures ∙ said_as view_of_entry Ok c.in-Ok.entry in
     let notes = subst (λ b. Notes entry (as_nanos b) (as_nanos new.base) (option_map view_of_interval c.take_entry.result)) c.in_ok-line.ensures.base c.take_entry.ensures.notes in
     let none = subst (λ o. Notes entry (as_nanos old.base) (as_nanos new.base) (option_map view_of_interval o)) c.in_default-take_entry.is notes in
     record {
@@ -47,7 +47,7 @@ returns-in-loop-clause-left g c = λ rest left.
     let later : (new.line == 0) ≡ false = ap (λ n. n == 0) c.take_entry.ensures.number ∙ c.in_ok-line.ensures.number in
     let read = subst (λ o. ReadsPlain (old.line == 0) (unread remaining old) (unread remaining mid) (option_map vec_items o)) c.in-Some.is c.in_ok-line.ensures.line in
     let reads = subst (λ r. ReadsPlain (old.line == 0) (unread remaining old) (reader_remaining remaining r) (Some line)) (sym c.take_entry.ensures.reader) read in
-    let said : said_by line ≡ option_map Ok entry = ap said_by (sym c.deref.ensures.value) ∙ c.in-Ok.ensures ∙ said_as view_of_entry Ok c.in-Ok.entry in
+    let said : entry_of_line line ≡ option_map Ok entry = ap entry_of_line (sym c.deref.ensures.value) ∙ c.in-Ok.ensures ∙ said_as view_of_entry Ok c.in-Ok.entry in
     let notes = subst (λ b. Notes entry (as_nanos b) (as_nanos new.base) (option_map view_of_interval c.take_entry.result)) c.in_ok-line.ensures.base c.take_entry.ensures.notes in
     let some = subst (λ o. Notes entry (as_nanos old.base) (as_nanos new.base) (option_map view_of_interval o)) c.in-Some-take_entry.is notes in
     let held = c.held.result in

@@ -9,7 +9,7 @@ use Rattle.hdr_iterators.proofs.linear.IterPickyIterator.pick.Goals as goal
 use Rattle.hdr_iterators.proofs.linear.IterPickyIterator.pick.Goals.{then-self-via-then-self, then-self-via-else-self+then-not-is_due}
 
 pub returns-then-self : goal.returns-then-self
-returns-then-self g c = λ h last w asked ahead.
+returns-then-self g c = λ h last w candidate ahead.
     let p = c.args.self.now in
     let i = c.args.index in
     let coming : List Pick = levels_from h p.step (p.level / p.step) in
@@ -20,7 +20,7 @@ returns-then-self g c = λ h last w asked ahead.
           ⊎_elim
           (λ (lt : i < bin_or_last h p.level). lt)
           (λ (ge : bin_or_last h p.level ≤ i).
-          let in_bins : i < bins_in p.bins = rw w.0 asked.inside in
+          let in_bins : i < bins_in p.bins = rw w.0 candidate.inside in
           let at : p.place ≤ i = rw w.1 ge in
           absurd (false≢true (sym b.if-not-is_due.true ∙ b.is_due.ensures.1 (in_bins, at))))
           (cases_lt i (bin_or_last h p.level)) in
@@ -28,7 +28,7 @@ returns-then-self g c = λ h last w asked ahead.
     ]
 
 pub returns : goal.returns
-returns g c = λ h last w asked ahead.
+returns g c = λ h last w candidate ahead.
     let p = c.args.self.now in
     let i = c.args.index in
     let coming : List Pick = levels_from h p.step (p.level / p.step) in

@@ -9,7 +9,7 @@ use Rattle.hdr_iterators.proofs.log.IterPickyIterator.pick.Goals as goal
 use Rattle.hdr_iterators.proofs.log.IterPickyIterator.pick.Goals.{then-self-via-then-self, then-self-via-else-self+then-not-is_due}
 
 pub returns-then-self : goal.returns-then-self
-returns-then-self g c = λ h last w asked ahead.
+returns-then-self g c = λ h last w candidate ahead.
     let p = c.args.self.now in
     let i = c.args.index in
     let coming : List Pick = log_picks h p.power p.base in
@@ -20,7 +20,7 @@ returns-then-self g c = λ h last w asked ahead.
           ⊎_elim
           (λ (lt : i < bin_or_last h (p.power - 1)). lt)
           (λ (ge : bin_or_last h (p.power - 1) ≤ i).
-          let in_bins : i < bins_in p.bins = rw w.0 asked.inside in
+          let in_bins : i < bins_in p.bins = rw w.0 candidate.inside in
           let at : p.place ≤ i = rw w.1 ge in
           absurd (false≢true (sym b.if-not-is_due.true ∙ b.is_due.ensures.1 (in_bins, at))))
           (cases_lt i (bin_or_last h (p.power - 1))) in
@@ -28,18 +28,18 @@ returns-then-self g c = λ h last w asked ahead.
     ]
 
 pub returns : goal.returns
-returns g c = λ h last w asked ahead.
+returns g c = λ h last w candidate ahead.
     let p = c.args.self.now in
     let i = c.args.index in
     let coming : List Pick = log_picks h p.power p.base in
     let ahead_there : NoneBefore i coming = subst (λ d. NoneBefore i (cond d [] coming)) c.if-self.false ahead in
     let due : bin_or_last h (p.power - 1) ≤ i = rw w.1 at (c.is_due.ensures.0 c.if-not-is_due.false).1 in
-    let told : ((leb c.last.result i ≡ true) × (h.last ≤ i)) ⊎ ((leb c.last.result i ≡ false) × (i < h.last)) =
+    let picked : ((leb c.last.result i ≡ true) × (h.last ≤ i)) ⊎ ((leb c.last.result i ≡ false) × (i < h.last)) =
     ⊎_elim
     (λ (y : (leb c.last.result i ≡ true) × (c.last.result ≤ i)). inl (y.0, rw (← w.0) (rw c.last.ensures at y.1)))
     (λ (y : (leb c.last.result i ≡ false) × (i < c.last.result)). inr (y.0, rw (← w.0) (rw c.last.ensures at y.1)))
     (leb_tells c.last.result i) in
-    let step = log_step h p.power p.base i c.saturating_mul-self.result (leb c.last.result i) w.2 due ahead_there c.saturating_mul-self.ensures told in
+    let step = log_step h p.power p.base i c.saturating_mul-self.result (leb c.last.result i) w.2 due ahead_there c.saturating_mul-self.ensures picked in
     let rest : List Pick = cond (leb c.last.result i) [] (log_picks h c.saturating_mul-self.result p.base) in
     let first : Pick = record { place = i; tick = None; level = Some c.saturating_sub-level.result } in
     let placed : level_pick h (p.power - 1) ∷ rest ≡ first ∷ rest = ap₂ (λ q v. record { place = q; tick = None; level = Some v } ∷ rest) (sym step.0) (sym c.saturating_sub-level.ensures) in (

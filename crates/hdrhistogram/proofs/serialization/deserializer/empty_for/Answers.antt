@@ -12,17 +12,17 @@ returns-in-Ok-clause-empty g c = (is-made c.in-Ok.builder c.args.header.low c.ar
 pub returns-in-Ok-clause-fixed : goal.returns-in-Ok-clause-fixed
 returns-in-Ok-clause-fixed g c = (is-made c.in-Ok.builder c.args.header.low c.args.header.high c.args.header.sigfig c.in-Ok.ensures.0).fixed
 
-pub returns-in-Ok-clause-told : goal.returns-in-Ok-clause-told
-returns-in-Ok-clause-told g c = (is-made c.in-Ok.builder c.args.header.low c.args.header.high c.args.header.sigfig c.in-Ok.ensures.0).told
+pub returns-in-Ok-clause-contents : goal.returns-in-Ok-clause-contents
+returns-in-Ok-clause-contents g c = (is-made c.in-Ok.builder c.args.header.low c.args.header.high c.args.header.sigfig c.in-Ok.ensures.0).contents
 
 pub returns-in-Ok-clause-bins : goal.returns-in-Ok-clause-bins
 returns-in-Ok-clause-bins g c = (is-made c.in-Ok.builder c.args.header.low c.args.header.high c.args.header.sigfig c.in-Ok.ensures.0).bins
 
 pub returns-in-Err-clause-bounds : goal.returns-in-Err-clause-bounds
-returns-in-Err-clause-bounds g c = bounds-refused (header_of c.args.header) c.in-Err.error (defect_of_error c.refused.result) c.in-Err.ensures c.refused.ensures
+returns-in-Err-clause-bounds g c = bounds-refused (header_of c.args.header) c.in-Err.error (defect_of_error c.creation_error.result) c.in-Err.ensures c.creation_error.ensures
 
 pub returns-in-Err-clause-memory : goal.returns-in-Err-clause-memory
-returns-in-Err-clause-memory g c = bounds-memory (header_of c.args.header) c.in-Err.error c.refused.result c.in-Err.ensures c.refused.ensures
+returns-in-Err-clause-memory g c = bounds-memory (header_of c.args.header) c.in-Err.error c.creation_error.result c.in-Err.ensures c.creation_error.ensures
 
 pub returns-then-has_bounds-clause-bounds : goal.returns-then-has_bounds-clause-bounds
 returns-then-has_bounds-clause-bounds g c = defect-none (header_of c.args.header) (bounds-yes c.args.header.low c.args.header.high c.args.header.sigfig (rw (← c.has_bounds.ensures.low c.if-has_bounds.true, ← c.has_bounds.ensures.high c.if-has_bounds.true, ← c.has_bounds.ensures.sigfig c.if-has_bounds.true) c.emptied.ensures.1))
@@ -35,9 +35,9 @@ pub returns-then-has_bounds-clause-fixed : goal.returns-then-has_bounds-clause-f
 returns-then-has_bounds-clause-fixed g c =
     (is-spare c.emptied.result _ _ _ c.args.header.low c.args.header.high c.args.header.sigfig c.emptied.ensures.0 (c.has_bounds.ensures.low c.if-has_bounds.true) (c.has_bounds.ensures.high c.if-has_bounds.true) (c.has_bounds.ensures.sigfig c.if-has_bounds.true)).fixed
 
-pub returns-then-has_bounds-clause-told : goal.returns-then-has_bounds-clause-told
-returns-then-has_bounds-clause-told g c =
-    (is-spare c.emptied.result _ _ _ c.args.header.low c.args.header.high c.args.header.sigfig c.emptied.ensures.0 (c.has_bounds.ensures.low c.if-has_bounds.true) (c.has_bounds.ensures.high c.if-has_bounds.true) (c.has_bounds.ensures.sigfig c.if-has_bounds.true)).told
+pub returns-then-has_bounds-clause-contents : goal.returns-then-has_bounds-clause-contents
+returns-then-has_bounds-clause-contents g c =
+    (is-spare c.emptied.result _ _ _ c.args.header.low c.args.header.high c.args.header.sigfig c.emptied.ensures.0 (c.has_bounds.ensures.low c.if-has_bounds.true) (c.has_bounds.ensures.high c.if-has_bounds.true) (c.has_bounds.ensures.sigfig c.if-has_bounds.true)).contents
 
 pub returns-then-has_bounds-clause-bins : goal.returns-then-has_bounds-clause-bins
 returns-then-has_bounds-clause-bins g c =

@@ -3,7 +3,7 @@ use Rattle.std.proofs.lemmas.Result.{err_from_is_err_and}
 use Rattle.hdrhistogram.specs.HeaderView.{header_of}
 use Rattle.hdrhistogram.specs.Defects.{defect_of_error, FailsBy}
 use Rattle.hdrhistogram.specs.PayloadRead.{counts_in}
-use Rattle.hdrhistogram.specs.V2Read.{Contents, bins_for, contents_of, told_of, v2_at}
+use Rattle.hdrhistogram.specs.V2Read.{Contents, bins_for, contents_of, histogram_contents, v2_at}
 use Rattle.hdrhistogram.proofs.DefectsMemory.{after_bounds_out}
 use Rattle.hdrhistogram.proofs.PayloadReadFilling.{gives_fails}
 use Rattle.hdrhistogram.proofs.V2ReadHistogram.{header-failed, bounds-failed, payload-failed, counts-failed, whole-taken, whole}
@@ -57,8 +57,8 @@ returns-clause-read g c =
     = subst (λ p. counts_in (bins_for header) greatest p ≡ Ok counts) c.deref.ensures.value
     (subst (λ n. counts_in n greatest c.deref.result.now ≡ Ok counts) c.in_ok-empty.ensures.bins c.in_ok-h.ensures.counts) in
     let (t, taken, e, least) = whole-taken (rem c.args.reader.now) (rem c.read_header.new.reader) greatest header c.in_ok-header.ensures.read c.in_ok-empty.ensures.bounds (rem c.read_payload.new.reader) payload counts c.in_ok-read_payload.ensures is in
-    let told : told_of c.in_ok-h.h ≡ contents_of header counts = c.in_ok-h.ensures.told ∙ ap (λ (t : Contents). record t { counts = counts }) c.in_ok-empty.ensures.told in
-    (t, taken, e ∙ ap (λ (x : Contents). whole x) (sym told), least)
+    let contents : histogram_contents c.in_ok-h.h ≡ contents_of header counts = c.in_ok-h.ensures.contents ∙ ap (λ (t : Contents). record t { counts = counts }) c.in_ok-empty.ensures.contents in
+    (t, taken, e ∙ ap (λ (x : Contents). whole x) (sym contents), least)
 
 pub returns-in_err-read_payload-clause-memory : goal.returns-in_err-read_payload-clause-memory
 returns-in_err-read_payload-clause-memory g c =

@@ -3,7 +3,7 @@ use Rattle.hdr_base.specs.Classes.{resolution_of, bins_to}
 use Rattle.hdr_counts.specs.Blocks.{Blocks}
 use Rattle.hdr_model.specs.Unfinished.{unfinished_of}
 use Rattle.hdr_model.specs.Plain.{Plain, empty_plain}
-use Rattle.hdr_model.specs.Refusals.{IsBounds}
+use Rattle.hdr_model.specs.CallErrors.{IsBounds}
 use Rattle.hdr_core.proofs.histogram.builder.HistogramBuilder.emptied.Goals as goal
 
 pub returns : goal.returns

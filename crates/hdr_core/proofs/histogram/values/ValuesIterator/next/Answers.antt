@@ -1,7 +1,7 @@
 use Rattle.std.proofs.Common.{◌≡◌, ◌<◌, false, ◌∷◌, length, map, sym, ap, ◌∙◌, subst, arith}
 use Rattle.hdr_model.specs.Plain.{resolution}
 use Rattle.hdr_model.specs.Quantiles.{rank, is_below, per, position_of_rank, value_at_bin, value_at_quantile, quantiles_from}
-use Rattle.hdr_model.proofs.QuantilesAscend.{rank-per-rises, answers-more, answers-end, answers-none}
+use Rattle.hdr_model.proofs.QuantilesAscend.{rank-per-rises, values-more, values-end, values-none}
 use Rattle.hdr_core.proofs.histogram.values.ValuesIterator.next.Given as given
 use Rattle.hdr_core.proofs.histogram.values.ValuesIterator.next.Goals as goal
 use Rattle.hdr_core.proofs.histogram.values.ValuesIterator.next.Goals.{Joined-else-total-gt0, else-total-gt0-via-then-total-gt0+else-is_below, else-total-gt0-via-else-total-gt0}
@@ -26,8 +26,8 @@ returns-then-is_below-clause-steps g c =
     let q = c.in_ok-first.first.now in
     let some : 0 < h.total = omega (arith, c.if-total-gt0.true, c.len-total.ensures) in (
       sym c.self.view_is ∙ (ap (λ qs. quantiles_from h (per s.whole s.last) (map (per s.whole) qs)) c.in_ok-first.ensures.cases.0
-          ∙ answers-end h s.whole s.last q (map (per s.whole) c.in_ok-first.rest.now) c.self.invariant.1 some (sym c.is_below.ensures ∙ c.if-is_below.true)),
-      answers-none h (per s.whole s.last),
+          ∙ values-end h s.whole s.last q (map (per s.whole) c.in_ok-first.rest.now) c.self.invariant.1 some (sym c.is_below.ensures ∙ c.if-is_below.true)),
+      values-none h (per s.whole s.last),
     )
 
 pub returns-clause-steps : goal.returns-clause-steps
@@ -42,7 +42,7 @@ returns-clause-steps g c =
     let answer_is : c.value_at_rank.result ≡ value_at_quantile h (per w q) = c.value_at_rank.ensures ∙ ap (λ n. value_at_bin (resolution h) n (position_of_rank h.counts c.rank_of-rank.result)) c.num-num.ensures ∙ ap (λ r. value_at_bin (resolution h) q.num (position_of_rank h.counts r)) rank_is in
     rw (c.from-3.ensures, c.from-4.ensures, c.num-num.ensures, c.den-den.ensures.value)
     (sym c.self.view_is ∙ (ap (λ rs. quantiles_from h (per w s.last) (map (per w) rs)) c.in_ok-first.ensures.cases.0
-    ∙ (answers-more h w s.last q qs c.self.invariant.1 (rising g (goal.at.returns-clause-steps g c).Joined-else-total-gt0) ∙ ap (λ x. x ∷ quantiles_from h (per w q) qs) (sym answer_is))))
+    ∙ (values-more h w s.last q qs c.self.invariant.1 (rising g (goal.at.returns-clause-steps g c).Joined-else-total-gt0) ∙ ap (λ x. x ∷ quantiles_from h (per w q) qs) (sym answer_is))))
 
 pub returns-clause-goes : goal.returns-clause-goes
 returns-clause-goes g c = record {

@@ -73,16 +73,16 @@ unfolding resolution_of
 parts greatest h s p large = width-bound (resolution h) s (10 ^ h.sigfig) (resolution-digits greatest h p) (digits-enough h.sigfig) large
 
 -- the top of a class is near each of its values
-pub top-near : (greatest : ℕ) (h : Plain) (s answer : ℕ) → IsPlain greatest h → answer ≡ top_of (resolution h) s → IsTopNear h s answer
-top-near greatest h s answer p e = record {
+pub top-near : (greatest : ℕ) (h : Plain) (s value : ℕ) → IsPlain greatest h → value ≡ top_of (resolution h) s → IsTopNear h s value
+top-near greatest h s value p e = record {
   is_top = e;
   at_least = omega (arith, top-of-value (resolution h) s);
   close = elim (cases_lt s (2 ^ ((resolution h).unit + (resolution h).digits))) [
     | inl small ↦ inl (omega (arith, top-below (resolution h) s, width-of-units (resolution h) s small, width-pos (resolution h) s))
     | inr large ↦ inr (
         let part : width_of (resolution h) s * 10 ^ h.sigfig ≤ lowest_of (resolution h) s = parts greatest h s p large in
-        let gap : answer - s + 1 ≤ width_of (resolution h) s = omega (arith, top-below (resolution h) s, width-pos (resolution h) s) in
-        let row : (answer - s + 1) * 10 ^ h.sigfig ≤ width_of (resolution h) s * 10 ^ h.sigfig = mul-le (answer - s + 1) (10 ^ h.sigfig) (width_of (resolution h) s) (10 ^ h.sigfig) gap (omega arith) in
+        let gap : value - s + 1 ≤ width_of (resolution h) s = omega (arith, top-below (resolution h) s, width-pos (resolution h) s) in
+        let row : (value - s + 1) * 10 ^ h.sigfig ≤ width_of (resolution h) s * 10 ^ h.sigfig = mul-le (value - s + 1) (10 ^ h.sigfig) (width_of (resolution h) s) (10 ^ h.sigfig) gap (omega arith) in
         omega (arith, lowest-le (resolution h) s, one-le-pow h.sigfig 10 (omega arith))
         )
   ];
@@ -90,10 +90,10 @@ top-near greatest h s answer p e = record {
 
 module _ (greatest : ℕ) (h : Plain) (q : Ratio) (p : IsPlain greatest h) (pos : 0 < q.den) where
   -- the class of the rank has the ranked sample
-  pub answer-ranked : (S : List ℕ) (i lowest : ℕ) → StandsFor h S → 0 < length S → FirstReaching h.counts (rank q h.total) i → bin_of (resolution h) lowest ≡ i
+  pub value-ranked : (S : List ℕ) (i lowest : ℕ) → StandsFor h S → 0 < length S → FirstReaching h.counts (rank q h.total) i → bin_of (resolution h) lowest ≡ i
       → IsTopNear h (ranked_sample q S) (top_of (resolution h) lowest)
   unfolding ranked_sample
-  answer-ranked S i lowest s some first is =
+  value-ranked S i lowest s some first is =
       let r = rank q (length S) in
       let k = r - 1 in
       let in_range : k < length S = omega (arith, rank-bound q (length S) pos some, rank-pos q (length S)) in
@@ -103,8 +103,8 @@ module _ (greatest : ℕ) (h : Plain) (q : Ratio) (p : IsPlain greatest h) (pos 
       top-near greatest h (get_or (sorted S) k 0) (top_of (resolution h) lowest) p (bin-top (resolution h) lowest (get_or (sorted S) k 0) (resolution-digits greatest h p) (is ∙ sym class))
 
   -- some class reaches the rank
-  pub answer-some : (S : List ℕ) → StandsFor h S → 0 < length S → sum h.counts < rank q h.total → ⊥
-  answer-some S s some none =
+  pub value-some : (S : List ℕ) → StandsFor h S → 0 < length S → sum h.counts < rank q h.total → ⊥
+  value-some S s some none =
       let all = running h S (length h.counts) s (omega arith) in
       let whole : take (length h.counts) h.counts ≡ h.counts = take_all (length h.counts) h.counts (omega arith) in
       let every = in_first-all (resolution h) (length h.counts) S (All-weaker (λ x. x ≤ reach h) (λ x. bin_of (resolution h) x < length h.counts) (λ x le. room-in greatest h x p le) S s.within) in

@@ -160,8 +160,8 @@ same_counts f g h k p q size e =
     ])
 
 -- bytes that agree are those of histograms that are written alike
-pub told : (f g : ℕ) (h k : Plain) (a b : List ℕ) → IsPlain f h → IsPlain g k → IsV2 h a → IsV2 k b → a ≡ b → IsWrittenAlike h k
-told f g h k a b p q v w e =
+pub contents_agree : (f g : ℕ) (h k : Plain) (a b : List ℕ) → IsPlain f h → IsPlain g k → IsV2 h a → IsV2 k b → a ≡ b → IsWrittenAlike h k
+contents_agree f g h k a b p q v w e =
     let halves = fronts (header h (length v.payload)) (header k (length w.payload)) v.payload w.payload (length-header h _ ∙ sym (length-header k _)) (sym v.text ∙ e ∙ w.text) in
     let fields = one_header h k _ _ halves.0 in
     let low : h.low ≡ k.low = one_eight h.low k.low (low-fits f h p) (low-fits g k q) fields.low in

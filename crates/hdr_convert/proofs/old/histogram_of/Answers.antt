@@ -3,7 +3,7 @@ use Rattle.hdr_base.specs.Classes.{bins_to, resolution_of}
 use Rattle.hdr_model.specs.Plain.{empty_plain}
 use Rattle.hdr_model.specs.Unfinished.{Unfinished}
 use Rattle.hdr_convert.proofs.CounterLaws.{none_set, next_set, all_set}
-use Rattle.hdr_convert.proofs.old.counted.Goals as goal
+use Rattle.hdr_convert.proofs.old.histogram_of.Goals as goal
 
 -- src/old.rt:181:5
 pub loop-bin-init : goal.loop-bin-init

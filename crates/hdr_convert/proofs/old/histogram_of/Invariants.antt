@@ -1,6 +1,6 @@
 use Rattle.std.proofs.Common.{◌≡◌, length}
 use Rattle.hdr_convert.proofs.CounterLaws.{AreSet}
-use Rattle.hdr_convert.proofs.old.counted.Given as goal
+use Rattle.hdr_convert.proofs.old.histogram_of.Given as goal
 
 abbrev pub invariant-loop-bin : goal.invariant-loop-bin
 invariant-loop-bin l =
