@@ -1,4 +1,4 @@
-"""Random inputs for hdrstat, with what the model says of each."""
+"""Random inputs for hdrstat, with the output of the model for each."""
 import dataclasses
 import json
 

@@ -1,4 +1,4 @@
-"""Random interval logs for hdrstat, with what the model says of each."""
+"""Random interval logs for hdrstat, with the output of the model for each."""
 import base64
 import csv
 import io

@@ -271,8 +271,8 @@ def intervals(name, data):
                 continue
             if not found:
                 if line[-1:] == b"\n" and (line[:1] == b"#" or line.startswith(b'"StartTimestamp"')):
-                    said = DECIMALS.fullmatch(line)
-                    decimals = int(said[1]) if said and int(said[1]) <= 18 else decimals
+                    found = DECIMALS.fullmatch(line)
+                    decimals = int(found[1]) if found and int(found[1]) <= 18 else decimals
                     continue
                 raise ValueError
             tag, field = found[1], found[9].rstrip(b"\r")

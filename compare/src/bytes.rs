@@ -36,7 +36,7 @@ fn read(text: &[u8], bits: u64, most: usize) -> (u64, Reading) {
     (fault, reading)
 }
 
-/// What was read of a text, written again; nothing where the text is refused.
+/// What was read of a text, written again; nothing where the text is an error.
 fn rewritten(text: &[u8]) -> Vec<u8> {
     let mut out = vec![0; 2 * text.len() + 64];
     let len = unsafe { hdrb_rewrite(text.as_ptr(), text.len(), out.as_mut_ptr(), out.len()) };
@@ -44,7 +44,7 @@ fn rewritten(text: &[u8]) -> Vec<u8> {
     out
 }
 
-/// What a reading tells of these contents.
+/// These contents as a reading returns them.
 fn expected(contents: &Contents) -> Reading {
     let Contents { low, high, sigfig, bins, .. } = *contents;
     let (mut len, mut counts, mut next) = (0u64, 0u64, contents.filled.iter().peekable());
@@ -104,31 +104,31 @@ fn holds<T: Counter>(histogram: &Histogram<T>, contents: &Contents) -> bool {
 }
 
 /// Whether the Rust crate reads a text by the rules.
-fn agrees<T: Counter>(text: &[u8], answer: &Result<Contents, Fault>) -> bool {
-    let given = with_stated_length(text);
-    let mut left = given.as_slice();
-    match (Deserializer::new().deserialize::<T, _>(&mut left), answer) {
+fn agrees<T: Counter>(text: &[u8], expected: &Result<Contents, Fault>) -> bool {
+    let extended = with_stated_length(text);
+    let mut left = extended.as_slice();
+    match (Deserializer::new().deserialize::<T, _>(&mut left), expected) {
         (Ok(histogram), Ok(contents)) => {
-            given.len() - left.len() == contents.taken && holds(&histogram, contents)
+            extended.len() - left.len() == contents.taken && holds(&histogram, contents)
         }
         (Err(error), Err(fault)) => fault_of(error) == *fault,
         _ => false,
     }
 }
 
-fn upstream_agrees(text: &[u8], bits: u64, answer: &Result<Contents, Fault>) -> bool {
+fn upstream_agrees(text: &[u8], bits: u64, expected: &Result<Contents, Fault>) -> bool {
     match bits {
-        8 => agrees::<u8>(text, answer),
-        16 => agrees::<u16>(text, answer),
-        32 => agrees::<u32>(text, answer),
-        _ => agrees::<u64>(text, answer),
+        8 => agrees::<u8>(text, expected),
+        16 => agrees::<u16>(text, expected),
+        32 => agrees::<u32>(text, expected),
+        _ => agrees::<u64>(text, expected),
     }
 }
 
 /// What was met.
 #[derive(Default)]
 struct Tally {
-    answers: BTreeMap<String, u64>,
+    results: BTreeMap<String, u64>,
     known: BTreeMap<&'static str, u64>,
     by_pieces: u64,
     both_ways: u64,
@@ -136,7 +136,7 @@ struct Tally {
 }
 
 impl Tally {
-    fn tell(&mut self, what: &str, text: &[u8]) {
+    fn report(&mut self, what: &str, text: &[u8]) {
         self.unexplained += 1;
         if self.unexplained <= 20 {
             println!("{what}: {}", hex(text));
@@ -145,44 +145,44 @@ impl Tally {
 
     /// Looks at one text, read into counters of so many bits, and by pieces too where `most` is not 0.
     fn look(&mut self, text: &[u8], bits: u64, most: usize) {
-        let rules::Read { answer, known } = rules::read(text, u64::MAX >> (64 - bits));
-        let name = answer.as_ref().map_or_else(|fault| format!("{fault:?}"), |_| "read".to_string());
-        *self.answers.entry(name).or_default() += 1;
-        let wanted = match &answer {
+        let rules::Read { contents: expected, known } = rules::read(text, u64::MAX >> (64 - bits));
+        let name = expected.as_ref().map_or_else(|fault| format!("{fault:?}"), |_| "read".to_string());
+        *self.results.entry(name).or_default() += 1;
+        let wanted = match &expected {
             Ok(contents) => (0, expected(contents)),
             Err(fault) => (*fault as u64, Reading::default()),
         };
         if read(text, bits, 0) != wanted {
-            self.tell("decode_slice differs", text);
+            self.report("decode_slice differs", text);
         }
         if most > 0 {
             self.by_pieces += 1;
             if read(text, bits, most) != wanted {
-                self.tell("deserialize differs", text);
+                self.report("deserialize differs", text);
             }
         }
-        if !upstream_agrees(text, bits, &answer) {
+        if !upstream_agrees(text, bits, &expected) {
             match known {
                 Some(known) => *self.known.entry(known).or_default() += 1,
-                None => self.tell("the Rust crate differs", text),
+                None => self.report("the Rust crate differs", text),
             }
         }
     }
 
-    /// What was read of a text is written again, and read by the Rust crate as what the text told.
+    /// What was read of a text is written again, and read by the Rust crate to the same contents.
     fn look_both_ways(&mut self, text: &[u8]) -> Vec<u8> {
         let again = rewritten(text);
-        let told = rules::read(text, u64::MAX).answer.map(|contents| Contents { taken: again.len(), ..contents });
+        let expected = rules::read(text, u64::MAX).contents.map(|contents| Contents { taken: again.len(), ..contents });
         self.both_ways += 1;
-        if told.is_err() || !upstream_agrees(&again, 64, &told) {
-            self.tell("written again it differs", text);
+        if expected.is_err() || !upstream_agrees(&again, 64, &expected) {
+            self.report("written again it differs", text);
         }
         again
     }
 
     fn print(&self) {
-        for (answer, times) in &self.answers {
-            println!("{answer} {times}");
+        for (result, times) in &self.results {
+            println!("{result} {times}");
         }
         for (known, times) in &self.known {
             println!("known difference, {known}: {times}");

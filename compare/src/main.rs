@@ -1,5 +1,5 @@
 //! Times the same workloads over the Rust crate hdrhistogram and over this repository's crates, in one process and in turns.
-//! A line for each: `name upstream_ns ours_ns ratio`. The exit status is 1 where a checksum differs. With the words `bytes
+//! A line for each: `name upstream_ns ours_ns ratio`. The exit status is 1 where a checksum differs. With the arguments `bytes
 //! SEED COUNT`, or `bytes` alone and texts on standard input, it compares how V2 texts are read (`bytes.rs`). With `shapes [NAME]`
 //! it counts instructions and times operations on the data that users have (`shapes.rs`).
 //!
@@ -104,14 +104,14 @@ fn run((name, n, upstream, ours): Workload) -> bool {
     same
 }
 
-/// The numbers of the words from the second on.
+/// The numbers among the arguments from the second on.
 fn numbers() -> Option<Vec<u64>> {
-    std::env::args().skip(2).map(|word| word.parse().ok()).collect()
+    std::env::args().skip(2).map(|argument| argument.parse().ok()).collect()
 }
 
-/// Compares how V2 texts are read, where the words ask for it.
-fn compared(word: &str) -> Option<bool> {
-    if word != "bytes" {
+/// Compares how V2 texts are read, where the first argument is `bytes`.
+fn compared(name: &str) -> Option<bool> {
+    if name != "bytes" {
         return None;
     }
     match numbers()?.as_slice() {
@@ -122,13 +122,13 @@ fn compared(word: &str) -> Option<bool> {
 }
 
 fn main() -> ExitCode {
-    let words: Vec<String> = std::env::args().skip(1).collect();
-    match words.first().map(String::as_str) {
-        Some("shape") => return shapes::one(&words[1..]),
-        Some("shapes") => return shapes::all(words.get(1).map_or("", String::as_str)),
+    let arguments: Vec<String> = std::env::args().skip(1).collect();
+    match arguments.first().map(String::as_str) {
+        Some("shape") => return shapes::one(&arguments[1..]),
+        Some("shapes") => return shapes::all(arguments.get(1).map_or("", String::as_str)),
         _ => {}
     }
-    let filter = words.into_iter().next().unwrap_or_default();
+    let filter = arguments.into_iter().next().unwrap_or_default();
     if let Some(same) = compared(&filter) {
         return if same { ExitCode::SUCCESS } else { ExitCode::FAILURE };
     }

@@ -107,15 +107,15 @@ fn geometric_mean(ratios: &[f64]) -> f64 {
 }
 
 /// Runs one row on one side, for callgrind.
-pub fn one(words: &[String]) -> ExitCode {
-    let [name, side, n] = words else { return ExitCode::from(2) };
+pub fn one(arguments: &[String]) -> ExitCode {
+    let [name, side, n] = arguments else { return ExitCode::from(2) };
     let Some(row) = ROWS.iter().find(|row| row.name == name) else { return ExitCode::from(2) };
     let side = if side == "ours" { Side::Ours } else { Side::Upstream };
     black_box(side.work(row, &samples::of(row), n.parse().unwrap_or(0)));
     ExitCode::SUCCESS
 }
 
-/// Whether both sides answer the same; some are other sums by design.
+/// Whether both sides return the same; some are other sums by design.
 fn agree(row: &Row, samples: &[u64]) -> bool {
     Side::Upstream.work(row, samples, 3) == Side::Ours.work(row, samples, 3)
 }

@@ -1,9 +1,9 @@
-//! Prints random rows for `hdr_rows`: calls, and what the Rust crate answers to them.
+//! Prints random rows for `hdr_rows`: calls, and what the Rust crate returns.
 //!
 //!     rows SEED COUNT | crates/hdr_rows/out/hdr_rows
 //!
 //! What is known to differ is left out: marks after a reset at a unit above 1 or after a subtraction, sums after a
-//! subtraction from counters that may be full, the state after a refused subtraction or corrected addition, equality of
+//! subtraction from counters that may be full, the state after a failed subtraction or corrected addition, equality of
 //! arrays of unequal length, and quantiles of more samples than an f64 counts.
 
 use hdrhistogram::{Counter, Histogram};
@@ -31,9 +31,9 @@ impl Random {
     }
 }
 
-/// How a line tells what a call answered.
-fn told<E: Debug>(answer: &Result<(), E>) -> String {
-    match answer {
+/// The end of a line: how a call ended.
+fn ending<E: Debug>(result: &Result<(), E>) -> String {
+    match result {
         Ok(()) => String::new(),
         Err(error) => format!(" = {error:?}"),
     }
@@ -105,17 +105,17 @@ impl<T: Counter> Row<'_, T> {
         let (who, h) = (NAMES[which], &mut self.histograms[which]);
         let number = T::from_u64(count).expect("at most the greatest");
         match call {
-            0..=3 => println!("{who} record_n {value} {count}{}", told(&h.record_n(value, number))),
-            4 => println!("{who} record {value}{}", told(&h.record(value))),
+            0..=3 => println!("{who} record_n {value} {count}{}", ending(&h.record_n(value, number))),
+            4 => println!("{who} record {value}{}", ending(&h.record(value))),
             5 => {
                 h.saturating_record_n(value, number);
                 println!("{who} saturating_record_n {value} {count}");
             }
             6 => {
-                let answer = h.record_n_correct(value, number, interval);
-                println!("{who} record_n_correct {value} {count} {interval}{}", told(&answer));
+                let result = h.record_n_correct(value, number, interval);
+                println!("{who} record_n_correct {value} {count} {interval}{}", ending(&result));
             }
-            7 => println!("{who} record_correct {value} {interval}{}", told(&h.record_correct(value, interval))),
+            7 => println!("{who} record_correct {value} {interval}{}", ending(&h.record_correct(value, interval))),
             8 => {
                 h.clear();
                 println!("{who} clear");
@@ -133,23 +133,23 @@ impl<T: Counter> Row<'_, T> {
         let [one, other] = &mut self.histograms;
         let interval = interval.max(other.max() / 300);
         match call {
-            10 | 11 => println!("one add{}", told(&one.add(&*other))),
-            12 => println!("one set_to{}", told(&one.set_to(&*other))),
+            10 | 11 => println!("one add{}", ending(&one.add(&*other))),
+            12 => println!("one set_to{}", ending(&one.set_to(&*other))),
             13 => {
-                let answer = one.subtract(&*other);
-                println!("one subtract{}", told(&answer));
+                let result = one.subtract(&*other);
+                println!("one subtract{}", ending(&result));
                 self.subtracted = true;
-                return answer.is_ok();
+                return result.is_ok();
             }
             14 => {
-                let answer = one.add_correct(&*other, interval);
-                println!("one add_correct {interval}{}", told(&answer));
-                return answer.is_ok();
+                let result = one.add_correct(&*other, interval);
+                println!("one add_correct {interval}{}", ending(&result));
+                return result.is_ok();
             }
             15 => {
-                let answer = one.set_to_corrected(&*other, interval);
-                println!("one set_to_corrected {interval}{}", told(&answer));
-                return answer.is_ok();
+                let result = one.set_to_corrected(&*other, interval);
+                println!("one set_to_corrected {interval}{}", ending(&result));
+                return result.is_ok();
             }
             _ if one.distinct_values() == other.distinct_values() && self.low == 1 && !self.subtracted => {
                 println!("one is_other = {}", one == other);
@@ -181,7 +181,7 @@ fn row<T: Counter>(random: &mut Random, number: u64, counter: &str, greatest: u6
 }
 
 fn main() {
-    let numbers: Vec<u64> = std::env::args().skip(1).filter_map(|word| word.parse().ok()).collect();
+    let numbers: Vec<u64> = std::env::args().skip(1).filter_map(|argument| argument.parse().ok()).collect();
     let [seed, count] = numbers[..] else {
         eprintln!("usage: rows SEED COUNT");
         std::process::exit(2);

@@ -3,7 +3,7 @@
 pub struct Random(u64);
 
 impl Random {
-    /// The numbers of a seed. Seeds that follow each other give streams that have nothing in common.
+    /// The numbers of a seed. Seeds that follow each other make streams that have nothing in common.
     pub fn new(seed: u64) -> Random {
         let mut random = Random(seed.wrapping_mul(0x9e37_79b9_7f4a_7c15) | 1);
         for _ in 0..8 {

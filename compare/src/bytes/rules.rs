@@ -24,9 +24,9 @@ pub struct Contents {
     pub taken: usize,
 }
 
-/// What is read of a text, and whether the Rust crate is known to answer otherwise.
+/// What is read of a text, and whether the Rust crate is known to differ.
 pub struct Read {
-    pub answer: Result<Contents, Fault>,
+    pub contents: Result<Contents, Fault>,
     pub known: Option<&'static str>,
 }
 
@@ -45,7 +45,7 @@ pub fn digit_bits(sigfig: u8) -> u32 {
     (most - 1).ilog2() + 1
 }
 
-/// The bits that classes below the first bucket's end do not tell apart.
+/// The bits that classes below the first bucket's end do not distinguish.
 pub fn unit_bits(low: u64) -> u32 {
     low.ilog2()
 }
@@ -167,7 +167,7 @@ pub fn read(text: &[u8], greatest: u64) -> Read {
     if text.starts_with(&[0x1c, 0x84, 0x93, 0x14]) {
         known = Some("compressed bytes");
     }
-    let answer = header(text).and_then(|header| {
+    let contents = header(text).and_then(|header| {
         if header.low > 0 && rounded_unit(header.low) != unit_bits(header.low) {
             known = Some("a unit by a logarithm");
         }
@@ -180,5 +180,5 @@ pub fn read(text: &[u8], greatest: u64) -> Read {
         let Header { len, sigfig, low, high } = header;
         Ok(Contents { low, high, sigfig, bins, filled, taken: 40 + len })
     });
-    Read { answer, known }
+    Read { contents, known }
 }

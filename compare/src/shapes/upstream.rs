@@ -29,7 +29,7 @@ impl Shape<'_> {
         histogram
     }
 
-    /// Does something to one histogram n times, and answers its length.
+    /// Does something to one histogram n times, and returns its length.
     fn changed(&self, n: u64, mut change: impl FnMut(&mut Histogram<u64>)) -> u64 {
         let mut histogram = self.filled();
         for _ in 0..n {
@@ -38,12 +38,12 @@ impl Shape<'_> {
         histogram.len()
     }
 
-    /// Asks one histogram n times, and answers the sum of what it gave.
-    fn asked(&self, n: u64, mut ask: impl FnMut(&Histogram<u64>) -> u64) -> u64 {
+    /// Calls a function on one histogram n times, and returns the sum of its results.
+    fn queried(&self, n: u64, mut query: impl FnMut(&Histogram<u64>) -> u64) -> u64 {
         let histogram = self.filled();
         let mut sum = 0u64;
         for _ in 0..n {
-            sum = sum.wrapping_add(ask(black_box(&histogram)));
+            sum = sum.wrapping_add(query(black_box(&histogram)));
         }
         sum
     }
@@ -63,7 +63,7 @@ fn wider(sigfig: u8) -> Histogram<u64> {
 
 fn written(shape: &Shape, n: u64) -> u64 {
     let (mut serializer, mut bytes) = (V2Serializer::new(), Vec::new());
-    shape.asked(n, |histogram| {
+    shape.queried(n, |histogram| {
         bytes.clear();
         serializer.serialize(histogram, &mut bytes).expect("counts below 2^63") as u64
     })
@@ -114,19 +114,19 @@ pub fn work(operation: Operation, sigfig: u8, high: u64, samples: &[u64], n: u64
             record_each(shape, n, |histogram, sample| histogram.record_correct(sample, MIDDLE).expect("within the bounds"))
         }
         Operation::Reset => reset(shape, n),
-        Operation::Median => shape.asked(n, |histogram| histogram.value_at_quantile(black_box(0.5))),
-        Operation::Quantile99 => shape.asked(n, |histogram| histogram.value_at_quantile(black_box(0.99))),
-        Operation::Twentieths => shape.asked(n, twentieths),
+        Operation::Median => shape.queried(n, |histogram| histogram.value_at_quantile(black_box(0.5))),
+        Operation::Quantile99 => shape.queried(n, |histogram| histogram.value_at_quantile(black_box(0.99))),
+        Operation::Twentieths => shape.queried(n, twentieths),
         Operation::Below => {
-            shape.asked(n, |histogram| (histogram.quantile_below(MIDDLE) * histogram.len() as f64).round() as u64)
+            shape.queried(n, |histogram| (histogram.quantile_below(MIDDLE) * histogram.len() as f64).round() as u64)
         }
-        Operation::Between => shape.asked(n, |histogram| histogram.count_between(MIDDLE, MIDDLE * 10)),
-        Operation::Mean => shape.asked(n, |histogram| histogram.mean() as u64),
-        Operation::Clone => shape.asked(n, |histogram| histogram.clone().len()),
-        Operation::CloneCorrect => shape.asked(n, |histogram| histogram.clone_correct(MIDDLE).len()),
+        Operation::Between => shape.queried(n, |histogram| histogram.count_between(MIDDLE, MIDDLE * 10)),
+        Operation::Mean => shape.queried(n, |histogram| histogram.mean() as u64),
+        Operation::Clone => shape.queried(n, |histogram| histogram.clone().len()),
+        Operation::CloneCorrect => shape.queried(n, |histogram| histogram.clone_correct(MIDDLE).len()),
         Operation::Equal => {
             let other = shape.filled();
-            shape.asked(n, |histogram| u64::from(histogram == black_box(&other)))
+            shape.queried(n, |histogram| u64::from(histogram == black_box(&other)))
         }
         Operation::Add => shape.added_to(shape.filled(), n),
         Operation::AddWider => shape.added_to(wider(sigfig), n),
@@ -141,23 +141,23 @@ pub fn work(operation: Operation, sigfig: u8, high: u64, samples: &[u64], n: u64
         Operation::Encode => written(shape, n),
         Operation::Decode => read(shape, n),
         Operation::New => (0..n).fold(0u64, |sum, _| sum.wrapping_add(black_box(shape.empty()).distinct_values() as u64)),
-        Operation::IterAll => shape.asked(n, |histogram| {
+        Operation::IterAll => shape.queried(n, |histogram| {
             histogram.iter_all().fold(0u64, |sum, item| sum.wrapping_add(item.value_iterated_to() ^ item.count_at_value()))
         }),
-        Operation::IterRecorded => shape.asked(n, |histogram| {
+        Operation::IterRecorded => shape.queried(n, |histogram| {
             histogram.iter_recorded().fold(0u64, |sum, item| sum.wrapping_add(item.value_iterated_to() ^ item.count_at_value()))
         }),
-        Operation::IterLinear => shape.asked(n, |histogram| {
+        Operation::IterLinear => shape.queried(n, |histogram| {
             histogram
                 .iter_linear(MIDDLE)
                 .fold(0u64, |sum, item| sum.wrapping_add(item.value_iterated_to() ^ item.count_since_last_iteration()))
         }),
-        Operation::IterLog => shape.asked(n, |histogram| {
+        Operation::IterLog => shape.queried(n, |histogram| {
             histogram
                 .iter_log(1, 2.0)
                 .fold(0u64, |sum, item| sum.wrapping_add(item.value_iterated_to() ^ item.count_since_last_iteration()))
         }),
-        Operation::IterQuantiles => shape.asked(n, |histogram| {
+        Operation::IterQuantiles => shape.queried(n, |histogram| {
             histogram
                 .iter_quantiles(5)
                 .fold(0u64, |sum, item| sum.wrapping_add(item.value_iterated_to() ^ item.count_since_last_iteration()))

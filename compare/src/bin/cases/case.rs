@@ -1,11 +1,11 @@
 //! Random cases.
 
+use crate::arguments::{arguments, right_arguments};
 use crate::damage::mutate;
 use crate::logs;
 use crate::options::{Filter, put_options};
 use crate::random::Random;
 use crate::records;
-use crate::words::{right_words, words};
 
 /// What a case is for.
 #[derive(Clone, Copy, PartialEq)]
@@ -16,12 +16,12 @@ pub enum Kind {
     Merge,
     /// Merging of logs of many lines, of which one may be damaged.
     Lines,
-    /// Merging of logs of a few lines, each of them damaged, whose answers come from the grammar.
+    /// Merging of logs of a few lines, each of them damaged, whose outcomes come from the grammar.
     Grammar,
 }
 
 impl Kind {
-    /// A random kind whose answers come from another program.
+    /// A random kind whose outcomes come from another program.
     fn any(random: &mut Random) -> Kind {
         match random.below(16) {
             0..=3 => Kind::Report,
@@ -44,9 +44,9 @@ pub enum Choice {
 }
 
 impl Choice {
-    /// The choice that a word names.
-    pub fn from_word(word: &str) -> Option<Choice> {
-        match word {
+    /// The choice of a name.
+    pub fn from_name(name: &str) -> Option<Choice> {
+        match name {
             "report" => Some(Choice::Of(Kind::Report)),
             "log" => Some(Choice::Of(Kind::Log)),
             "merge" => Some(Choice::Of(Kind::Merge)),
@@ -59,11 +59,11 @@ impl Choice {
     }
 }
 
-/// Words and an input.
+/// Arguments and an input.
 pub struct Case {
-    pub words: Vec<String>,
+    pub arguments: Vec<String>,
     pub input: Vec<u8>,
-    /// The intervals that the words choose, of a case by the grammar.
+    /// The intervals that the arguments choose, of a case by the grammar.
     pub filter: Option<Filter>,
 }
 
@@ -84,7 +84,7 @@ impl Case {
     fn of_kind(random: &mut Random, kind: Kind) -> Case {
         match kind {
             Kind::Report | Kind::Log => {
-                Case { words: words(random, kind), input: records::input(random, kind), filter: None }
+                Case { arguments: arguments(random, kind), input: records::input(random, kind), filter: None }
             }
             Kind::Merge => Case::of_merge(random, kind, logs::log),
             Kind::Lines => Case::of_merge(random, kind, logs::long_log),
@@ -96,17 +96,17 @@ impl Case {
     fn of_merge(random: &mut Random, kind: Kind, log: fn(&mut Random) -> Vec<u8>) -> Case {
         let log = log(random);
         let filter = Filter::new(random, &log);
-        let mut words = words(random, kind);
-        put_options(random, &mut words, &filter, kind == Kind::Merge);
-        Case { words, input: filter.with_wrong_fields(random, &log), filter: None }
+        let mut arguments = arguments(random, kind);
+        put_options(random, &mut arguments, &filter, kind == Kind::Merge);
+        Case { arguments, input: filter.with_wrong_fields(random, &log), filter: None }
     }
 
     fn of_grammar(random: &mut Random) -> Case {
         let input = logs::damaged_log(random);
         let filter = Filter::new(random, &input);
-        let mut words = ["merge", "0", "1/2"].map(str::to_string).to_vec();
-        put_options(random, &mut words, &filter, false);
-        Case { words, input, filter: Some(filter) }
+        let mut arguments = ["merge", "0", "1/2"].map(str::to_string).to_vec();
+        put_options(random, &mut arguments, &filter, false);
+        Case { arguments, input, filter: Some(filter) }
     }
 
     /// A report or a log of damaged lines.
@@ -118,7 +118,7 @@ impl Case {
         };
         let mut input = sort(random);
         mutate(random, &mut input, sort);
-        Case { words: right_words(random, kind), input, filter: None }
+        Case { arguments: right_arguments(random, kind), input, filter: None }
     }
 
     /// A merge of a log that is damaged in its histograms' bytes, in its text, or in both.
@@ -129,16 +129,16 @@ impl Case {
             mutate(random, &mut input, logs::sound_log);
         }
         let filter = Filter::new(random, &input);
-        let mut words = right_words(random, Kind::Merge);
-        put_options(random, &mut words, &filter, false);
-        Case { words, input, filter: None }
+        let mut arguments = right_arguments(random, Kind::Merge);
+        put_options(random, &mut arguments, &filter, false);
+        Case { arguments, input, filter: None }
     }
 
     /// Whether a program that makes corrections value by value would take long.
     pub fn has_long_corrections(&self) -> bool {
         let lines = self.input.split(|byte| *byte == b'\n');
         let missing = lines.filter_map(records::missing_values).fold(0, u64::saturating_add);
-        self.words.first().is_some_and(|word| word != "merge") && missing > MOST_MISSING
+        self.arguments.first().is_some_and(|name| name != "merge") && missing > MOST_MISSING
     }
 }
 

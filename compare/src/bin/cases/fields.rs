@@ -57,7 +57,7 @@ impl Header {
         let low = match random.below(16) {
             0..=8 => 1,
             9 => random.near_power(62).max(1),
-            // Just below a great power of two, which f64 cannot tell from the power.
+            // Just below a great power of two, which f64 does not distinguish from the power.
             10 | 11 => (1 << (46 + random.below(17))) - 1 - random.below(2),
             _ => random.number(20).max(1),
         };
@@ -104,9 +104,9 @@ impl Header {
 
     fn with_payload(&self, payload: &[u8], stated: u64) -> Vec<u8> {
         let Header { cookie, offset, sigfig, low, high, ratio } = *self;
-        let words = [cookie, stated, offset, sigfig].map(|word| (word as u32).to_be_bytes());
+        let ints = [cookie, stated, offset, sigfig].map(|int| (int as u32).to_be_bytes());
         let longs = [low, high, ratio].map(u64::to_be_bytes);
-        [words.as_flattened(), longs.as_flattened(), payload].concat()
+        [ints.as_flattened(), longs.as_flattened(), payload].concat()
     }
 }
 

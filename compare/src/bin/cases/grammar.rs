@@ -2,7 +2,7 @@
 
 use std::str;
 
-/// What a line says.
+/// The entry of a line.
 pub enum Entry<'a> {
     /// Nothing to a merge: a comment, a start time, or the legend of the columns.
     Nothing,
@@ -18,7 +18,7 @@ pub struct Interval<'a> {
     pub field: &'a [u8],
 }
 
-/// Reads a log line by line. A line that is none is told by the place where it begins, and ends the reading.
+/// Reads a log line by line. A line that is none is an error with the offset where it begins, and ends the reading.
 pub struct Reading<'a> {
     log: &'a [u8],
     at: usize,
@@ -51,7 +51,7 @@ impl<'a> Iterator for Reading<'a> {
     }
 }
 
-/// What a line says; `None` where it is no line of a log.
+/// The entry of a line; `None` where it is no line of a log.
 pub fn entry(line: &[u8]) -> Option<Entry<'_>> {
     if let Some(time) = base_time(line) {
         return Some(Entry::BaseTime(time));

@@ -1,19 +1,19 @@
-//! Compares two programs on random cases: words, and lines on standard input.
+//! Compares two programs on random cases: arguments, and lines on standard input.
 //!
 //!     cases HDR OTHER SEED COUNT [report | log | merge | lines | grammar | mutated | mutated_logs]
 //!
-//! The last word chooses the kind of the cases, which is random without it. `lines` is for merging logs of many lines.
+//! The last argument chooses the kind of the cases, which is random without it. `lines` is for merging logs of many lines.
 //! `grammar` is for logs of damaged lines: there HDR is compared with the grammar of the lines, and OTHER has no part.
 //! `mutated` is for inputs of each command, whose bytes are changed, cut, doubled and spliced; so are the bytes of the logs'
 //! histograms. `mutated_logs` is for those of `merge` alone.
 //!
-//! HDR has to end within five seconds, with a status of 0, 1 or 2, and with a fault and no output where that is not 0, but
+//! HDR has to end within five seconds, with a status of 0, 1 or 2, and with an error and no output where that is not 0, but
 //! for whole intervals of a log. Prints each case in which it does not, or in which standard output, standard error or the
 //! exit status differ, then how many differ, and how many lines of logs were read by HDR as right or as wrong. The exit
 //! status is 1 where some cases differ. The text of a failed read is not compared. Not compared are cases whose corrections
 //! would take OTHER long. A case depends on SEED, its kind and its own number alone.
 
-mod answer;
+mod arguments;
 mod case;
 mod damage;
 mod fields;
@@ -21,12 +21,12 @@ mod grammar;
 mod logs;
 mod model;
 mod options;
+mod outcome;
 mod random;
 mod records;
-mod words;
 
-use answer::Answer;
 use case::{Case, Choice};
+use outcome::Outcome;
 use random::Random;
 use std::io;
 use std::num::NonZero;
@@ -48,50 +48,50 @@ struct Found {
     differing: u64,
     /// The lines of logs that were read.
     lines: u64,
-    /// The cases of which neither the grammar alone nor the other program tells the answer.
-    untold: u64,
+    /// The cases without an expected outcome.
+    skipped: u64,
 }
 
 impl Found {
-    /// What another program answers, or the grammar for its cases; `None` where they tell no answer, or take too long.
-    fn told(&mut self, other: &str, case: &Case, ours: &Answer) -> io::Result<Option<Answer>> {
+    /// The outcome of another program, or that of the grammar for its cases; `None` where there is none, or it takes too long.
+    fn expected(&mut self, other: &str, case: &Case, ours: &Outcome) -> io::Result<Option<Outcome>> {
         let theirs = if let Some(filter) = &case.filter {
-            model::told(filter, &case.input).map(|told| {
-                self.lines += told.lines;
-                Answer::told(told.answer)
+            model::expected(filter, &case.input).map(|expected| {
+                self.lines += expected.lines;
+                Outcome::expected(expected.report)
             })
         } else if case.has_long_corrections() {
             None
         } else {
             self.lines += ours.lines_read(case);
-            Some(Answer::of(other, case)?).filter(|answer| !answer.is_late)
+            Some(Outcome::of(other, case)?).filter(|outcome| !outcome.is_late)
         };
-        self.untold += u64::from(theirs.is_none());
+        self.skipped += u64::from(theirs.is_none());
         Ok(theirs)
     }
 }
 
 impl Comparison {
-    fn from_words(mut words: Vec<String>) -> Option<Comparison> {
-        let choice = if words.len() == 5 { Choice::from_word(&words.pop()?)? } else { Choice::Any };
-        let [hdr, other, seed, count] = <[String; 4]>::try_from(words).ok()?;
+    fn from_arguments(mut arguments: Vec<String>) -> Option<Comparison> {
+        let choice = if arguments.len() == 5 { Choice::from_name(&arguments.pop()?)? } else { Choice::Any };
+        let [hdr, other, seed, count] = <[String; 4]>::try_from(arguments).ok()?;
         Some(Comparison { programs: [hdr, other], seed: seed.parse().ok()?, count: count.parse().ok()?, choice })
     }
 
-    /// Takes a case, and prints it where the answer is wrong by itself, or differs from what the other program or the
-    /// grammar tells.
+    /// Takes a case, and prints it where the outcome is wrong by itself, or differs from that of the other program or
+    /// the grammar.
     fn take(&self, number: u64, found: &mut Found) -> io::Result<()> {
         let case = Case::new(&mut Random::of_case(self.seed, number), self.choice);
         let [hdr, other] = &self.programs;
-        let ours = Answer::of(hdr, &case)?;
-        let theirs = found.told(other, &case, &ours)?;
+        let ours = Outcome::of(hdr, &case)?;
+        let theirs = found.expected(other, &case, &ours)?;
         let wrong = match &theirs {
-            Some(theirs) if ours != *theirs => Some("another answer"),
+            Some(theirs) if ours != *theirs => Some("another outcome"),
             _ => None,
         };
         if let Some(wrong) = ours.wrong(&case).or(wrong) {
             let input = case.input.escape_ascii();
-            println!("case {number}: {wrong}: {:?}\n{input}\n-- {ours}", case.words);
+            println!("case {number}: {wrong}: {:?}\n{input}\n-- {ours}", case.arguments);
             if let Some(theirs) = theirs {
                 println!("-- {theirs}");
             }
@@ -124,7 +124,7 @@ impl Comparison {
                 let found = work.join().expect("no thread panics")?;
                 all.differing += found.differing;
                 all.lines += found.lines;
-                all.untold += found.untold;
+                all.skipped += found.skipped;
             }
             Ok(all)
         })
@@ -132,13 +132,13 @@ impl Comparison {
 }
 
 fn main() -> ExitCode {
-    let Some(comparison) = Comparison::from_words(std::env::args().skip(1).collect()) else {
+    let Some(comparison) = Comparison::from_arguments(std::env::args().skip(1).collect()) else {
         eprintln!("usage: cases HDR OTHER SEED COUNT [report | log | merge | lines | grammar | mutated | mutated_logs]");
         return ExitCode::from(2);
     };
     match comparison.run() {
-        Ok(Found { differing, lines, untold }) => {
-            let compared = comparison.count - untold;
+        Ok(Found { differing, lines, skipped }) => {
+            let compared = comparison.count - skipped;
             println!("{compared} compared, {differing} differ, {lines} lines of logs read");
             if differing == 0 { ExitCode::SUCCESS } else { ExitCode::FAILURE }
         }

@@ -1,4 +1,4 @@
-//! What a merge of a log answers, by the grammar of its lines alone.
+//! What a merge of a log prints, by the grammar of its lines alone.
 
 use crate::grammar::{Entry, Reading, is_base64};
 use crate::options::Filter;
@@ -6,22 +6,22 @@ use crate::options::Filter;
 /// The field of one sample of 0, by no digits.
 pub const ONE_SAMPLE: &[u8] = b"HISTEwAAAAEAAAAAAAAAAAAAAAAAAAABAAAAAAAAAAI/8AAAAAAAAAI=";
 
-/// What the grammar tells of a merge.
-pub struct Told {
+/// What a merge prints, by the grammar.
+pub struct Expected {
     /// The lines that are read, up to the one at fault.
     pub lines: u64,
-    /// The report, or else the fault.
-    pub answer: Result<String, String>,
+    /// The report, or else the error.
+    pub report: Result<String, String>,
 }
 
-/// What `merge` with a filter, no digits and the quantile 1/2 answers, where each field holds one sample. `None` where a
+/// What `merge` prints with a filter, no digits and the quantile 1/2, where each field holds one sample. `None` where a
 /// chosen interval has another field that may hold a histogram.
-pub fn told(filter: &Filter, log: &[u8]) -> Option<Told> {
+pub fn expected(filter: &Filter, log: &[u8]) -> Option<Expected> {
     let (mut lines, mut base, mut intervals, mut samples) = (0, 0, 0, 0);
     for entry in Reading::of(log) {
         lines += 1;
         match entry {
-            Err(at) => return Some(Told { lines, answer: Err(format!("hdr: log: parse error at byte {at}\n")) }),
+            Err(at) => return Some(Expected { lines, report: Err(format!("hdr: log: parse error at byte {at}\n")) }),
             Ok(Entry::Nothing) => {}
             Ok(Entry::BaseTime(time)) => base = time,
             Ok(Entry::Interval(interval)) => {
@@ -30,7 +30,7 @@ pub fn told(filter: &Filter, log: &[u8]) -> Option<Told> {
                     continue;
                 }
                 if !is_base64(interval.field) {
-                    return Some(Told { lines, answer: Err(format!("hdr: interval {intervals}: not base64\n")) });
+                    return Some(Expected { lines, report: Err(format!("hdr: interval {intervals}: not base64\n")) });
                 }
                 if interval.field != ONE_SAMPLE {
                     return None;
@@ -39,7 +39,7 @@ pub fn told(filter: &Filter, log: &[u8]) -> Option<Told> {
             }
         }
     }
-    Some(Told { lines, answer: Ok(report(samples)) })
+    Some(Expected { lines, report: Ok(report(samples)) })
 }
 
 /// The report of so many samples of 0, below 64: the V2 bytes have one byte of payload.

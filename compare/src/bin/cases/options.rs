@@ -99,7 +99,7 @@ fn tag_near(random: &mut Random, intervals: &[(Option<&[u8]>, u128)]) -> String 
         let (tag, _) = intervals[random.below(intervals.len() as u64) as usize];
         String::from_utf8_lossy(tag.unwrap_or_default()).into_owned()
     };
-    // No word holds the byte 0.
+    // No argument holds the byte 0.
     text.replace('\0', "")
 }
 
@@ -118,8 +118,8 @@ fn time_near(random: &mut Random, intervals: &[(Option<&[u8]>, u128)]) -> u64 {
 }
 
 /// Puts the options of a filter in front of the digits, and maybe a type. Seldom are they wrong.
-pub fn put_options(random: &mut Random, words: &mut Vec<String>, filter: &Filter, may_be_wrong: bool) {
-    if words.is_empty() {
+pub fn put_options(random: &mut Random, arguments: &mut Vec<String>, filter: &Filter, may_be_wrong: bool) {
+    if arguments.is_empty() {
         return;
     }
     let mut options = filter.options(random);
@@ -129,14 +129,14 @@ pub fn put_options(random: &mut Random, words: &mut Vec<String>, filter: &Filter
     for last in (1..options.len()).rev() {
         options.swap(last, random.below(last as u64 + 1) as usize);
     }
-    words.splice(1..1, options.into_flattened());
+    arguments.splice(1..1, options.into_flattened());
     if may_be_wrong && random.one_in(12) {
-        put_wrong_option(random, words);
+        put_wrong_option(random, arguments);
     }
 }
 
 /// Puts an option more, or a part of one, which is most often wrong.
-pub fn put_wrong_option(random: &mut Random, words: &mut Vec<String>) {
+pub fn put_wrong_option(random: &mut Random, arguments: &mut Vec<String>) {
     let right = [["--into", "u8"], ["--tag", "a"], ["--from", "0"], ["--to", "5000"]];
     let option = match random.below(4) {
         0 => vec![random.one_of(&NAMES)],
@@ -144,9 +144,9 @@ pub fn put_wrong_option(random: &mut Random, words: &mut Vec<String>) {
         _ => WRONG_OPTIONS[random.below(WRONG_OPTIONS.len() as u64) as usize].to_vec(),
     };
     let at = match random.below(4) {
-        0 => random.below(words.len() as u64 + 1) as usize,
-        1 => words.len(),
-        _ => words.len().min(1),
+        0 => random.below(arguments.len() as u64 + 1) as usize,
+        1 => arguments.len(),
+        _ => arguments.len().min(1),
     };
-    words.splice(at..at, option.into_iter().map(str::to_string));
+    arguments.splice(at..at, option.into_iter().map(str::to_string));
 }

@@ -53,8 +53,8 @@ pub fn input(random: &mut Random, kind: Kind) -> Vec<u8> {
 
 /// How many values a line's correction has to record one by one, where it is one.
 pub fn missing_values(line: &[u8]) -> Option<u64> {
-    let mut words = str::from_utf8(line).ok()?.strip_prefix("c ")?.split(' ');
-    let (value, interval) = (words.next()?.parse::<u64>().ok()?, words.next()?.parse().ok()?);
+    let mut fields = str::from_utf8(line).ok()?.strip_prefix("c ")?.split(' ');
+    let (value, interval) = (fields.next()?.parse::<u64>().ok()?, fields.next()?.parse().ok()?);
     value.checked_div(interval)
 }
 

@@ -1,4 +1,4 @@
-//! Why a run is refused.
+//! The errors of a run.
 
 use hdrhistogram::RecordError;
 use hdrhistogram::serialization::interval_log::IntervalLogWriterError;
@@ -8,11 +8,11 @@ use std::fmt;
 const USAGE: &str = "hdr: usage: hdr report SIGFIG Q.. | hdr log SIGFIG | \
     hdr merge [--into COUNTER] [--tag T] [--from MS] [--to MS] SIGFIG Q..";
 
-/// Why a run is refused. Its text is the line on standard error.
+/// The error of a run. Its text is the line on standard error.
 pub enum Fault {
-    WrongWords,
+    WrongUsage,
     NotACommand(u64),
-    Refused(u64, RecordError),
+    NotRecorded(u64, RecordError),
     NotWritten(u64, IntervalLogWriterError<V2SerializeError>),
     NotALog(usize),
     NotBase64(u64),
@@ -25,7 +25,7 @@ impl Fault {
     /// The exit status.
     pub fn status(&self) -> u8 {
         match self {
-            Fault::WrongWords => 2,
+            Fault::WrongUsage => 2,
             _ => 1,
         }
     }
@@ -34,9 +34,9 @@ impl Fault {
 impl fmt::Display for Fault {
     fn fmt(&self, f: &mut fmt::Formatter<'_>) -> fmt::Result {
         match self {
-            Fault::WrongWords => f.write_str(USAGE),
+            Fault::WrongUsage => f.write_str(USAGE),
             Fault::NotACommand(line) => write!(f, "hdr: line {line}: not a command"),
-            Fault::Refused(line, cause) => write!(f, "hdr: line {line}: {cause}"),
+            Fault::NotRecorded(line, cause) => write!(f, "hdr: line {line}: {cause}"),
             Fault::NotWritten(line, cause) => write!(f, "hdr: line {line}: {cause}"),
             Fault::NotALog(offset) => write!(f, "hdr: log: parse error at byte {offset}"),
             Fault::NotBase64(interval) => write!(f, "hdr: interval {interval}: not base64"),

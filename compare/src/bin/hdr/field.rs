@@ -1,7 +1,7 @@
 //! The field of an interval: Base64 of V2 bytes.
 //!
-//! The crate takes the compressed form, has the unit of `low` by way of f64, makes room for any stated length, and refuses
-//! a move by 2^63 bins. Here the bytes are changed before it sees them, to others that it reads as it should read these.
+//! The crate takes the compressed form, has the unit of `low` by way of f64, makes room for any stated length, and has an
+//! error at a move by 2^63 bins. Here the bytes are changed before it sees them, to others that it reads as it should read these.
 
 use hdrhistogram::Histogram;
 use hdrhistogram::serialization::{DeserializeError, Deserializer};
@@ -16,7 +16,7 @@ const HIGH_FIELD: std::ops::Range<usize> = 24..32;
 const GREATEST_MOVE: [u8; 9] = [0xff; 9];
 const TWO_MOVES: [u8; 10] = [0xfd, 0xff, 0xff, 0xff, 0xff, 0xff, 0xff, 0xff, 0xff, 0x01];
 
-/// Why a field is refused.
+/// The errors of a field.
 pub enum FieldError {
     NotBase64,
     NotRead(DeserializeError),

@@ -3,13 +3,13 @@
 use crate::fault::Fault;
 use hdrhistogram::{Histogram, RecordError};
 
-/// Does what the lines of the input say, on an empty histogram that grows.
+/// Applies the lines of the input to an empty histogram that grows.
 pub fn histogram_of(sigfig: u8, input: &[u8]) -> Result<Histogram<u64>, Fault> {
     let mut histogram = new_histogram(sigfig);
     let (mut left, mut line) = (input, 1);
     while !left.is_empty() {
         let (call, after) = Call::from_text(left).ok_or(Fault::NotACommand(line))?;
-        call.apply(&mut histogram).map_err(|cause| Fault::Refused(line, cause))?;
+        call.apply(&mut histogram).map_err(|cause| Fault::NotRecorded(line, cause))?;
         (left, line) = (after, line + 1);
     }
     Ok(histogram)
@@ -20,7 +20,7 @@ pub fn new_histogram(sigfig: u8) -> Histogram<u64> {
     Histogram::new(sigfig).expect("a histogram keeps 0 to 5 digits")
 }
 
-/// What a line asks for.
+/// The call of a line.
 pub enum Call {
     Nothing,
     Record { value: u64, count: u64 },

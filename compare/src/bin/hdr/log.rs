@@ -1,7 +1,7 @@
 //! The command `log`.
 //!
 //! The crate has times and greatest values in f64, and writes a line's front before it knows that the histogram can be
-//! serialized. Here a line's numbers are exact, and a refused interval leaves nothing.
+//! serialized. Here a line's numbers are exact, and an interval that fails leaves nothing.
 
 use crate::bytes::{ExactSerializer, top};
 use crate::fault::Fault;
@@ -21,7 +21,7 @@ const EXACT_TIME: u64 = 1 << 50;
 /// Values up to here are numbers of f64.
 const EXACT_VALUE: u64 = 1 << 53;
 
-/// Does what the lines of the input say, on an empty histogram that grows, and writes each interval where it ends.
+/// Applies the lines of the input to an empty histogram that grows, and writes each interval where it ends.
 pub fn write_log(sigfig: u8, input: &[u8], output: &mut impl Write) -> Result<(), Fault> {
     let mut histogram = new_histogram(sigfig);
     let line = RefCell::new(Vec::new());
@@ -32,7 +32,7 @@ pub fn write_log(sigfig: u8, input: &[u8], output: &mut impl Write) -> Result<()
     while !left.is_empty() {
         let (command, after) = Command::from_text(left).ok_or(Fault::NotACommand(number))?;
         match command {
-            Command::Call(call) => call.apply(&mut histogram).map_err(|cause| Fault::Refused(number, cause))?,
+            Command::Call(call) => call.apply(&mut histogram).map_err(|cause| Fault::NotRecorded(number, cause))?,
             Command::End(interval) => {
                 line.borrow_mut().clear();
                 interval.write(&histogram, &mut log).map_err(|cause| Fault::NotWritten(number, cause))?;
@@ -46,7 +46,7 @@ pub fn write_log(sigfig: u8, input: &[u8], output: &mut impl Write) -> Result<()
     output.flush().map_err(|_| Fault::CannotWrite)
 }
 
-/// What a line asks for.
+/// The command of a line.
 enum Command<'a> {
     Call(Call),
     End(Interval<'a>),

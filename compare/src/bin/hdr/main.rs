@@ -1,6 +1,6 @@
-//! The commands of the program `hdr` over the Rust crate hdrhistogram: the same words, lines, output, faults and status.
+//! The commands of the program `hdr` over the Rust crate hdrhistogram: the same arguments, lines, output, faults and status.
 //!
-//! What the crate answers otherwise is made good here, in each module beside the call it concerns. Three things stay.
+//! Where the crate differs, this is made good here, in each module beside the call it concerns. Three things stay.
 //! A correction takes as long as it has missing values. A lack of memory ends the process. A stream that was closed is
 //! /dev/null, as Rust's standard library has it.
 
@@ -12,23 +12,23 @@ mod log;
 mod merge;
 mod options;
 mod report;
-mod words;
+mod task;
 
 use fault::Fault;
 use report::{Counted, report};
 use std::io::{self, Read, Write};
 use std::process::ExitCode;
-use words::Task;
+use task::Task;
 
 fn print(text: &str) -> Result<(), Fault> {
     let mut output = io::stdout().lock();
     output.write_all(text.as_bytes()).and_then(|()| output.flush()).map_err(|_| Fault::CannotWrite)
 }
 
-/// Runs a command: the words are judged first, then the whole input is read, and then its lines go in order.
+/// Runs a command: the arguments are checked first, then the whole input is read, and then its lines go in order.
 fn run() -> Result<(), Fault> {
-    let words: Vec<_> = std::env::args_os().skip(1).map(|word| word.into_encoded_bytes()).collect();
-    let task = Task::from_words(&words).ok_or(Fault::WrongWords)?;
+    let arguments: Vec<_> = std::env::args_os().skip(1).map(|argument| argument.into_encoded_bytes()).collect();
+    let task = Task::from_arguments(&arguments).ok_or(Fault::WrongUsage)?;
     let mut input = Vec::new();
     io::stdin().lock().read_to_end(&mut input).map_err(|_| Fault::CannotRead)?;
     match task {
@@ -47,7 +47,7 @@ fn main() -> ExitCode {
     let Err(fault) = run() else {
         return ExitCode::SUCCESS;
     };
-    // There is nobody left to tell where standard error fails.
+    // A failed write to standard error is ignored.
     let _ = writeln!(io::stderr(), "{fault}");
     ExitCode::from(fault.status())
 }

@@ -1,7 +1,7 @@
 //! The command `merge`.
 //!
-//! The crate's parser takes tags that `Tag::new` refuses, and greatest values that are no plain decimals. Its tops of last
-//! classes reach into the `high` of a sum. Here the lines are refused, and `high` is exact.
+//! The crate's parser takes tags that are errors of `Tag::new`, and greatest values that are no plain decimals. Its tops of last
+//! classes reach into the `high` of a sum. Here the lines are errors, and `high` is exact.
 
 use crate::bytes::{high_of, top};
 use crate::fault::Fault;

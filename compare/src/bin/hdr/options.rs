@@ -17,10 +17,10 @@ pub struct Options<'a> {
 }
 
 impl<'a> Options<'a> {
-    /// The options at the front of words, and the words after them; `None` where a value is wrong or a name comes again.
-    pub fn from_words(words: &'a [Vec<u8>]) -> Option<(Options<'a>, &'a [Vec<u8>])> {
+    /// The options that come first, and the arguments after them; `None` where a value is wrong or a name comes again.
+    pub fn from_arguments(arguments: &'a [Vec<u8>]) -> Option<(Options<'a>, &'a [Vec<u8>])> {
         let mut options = Options::default();
-        let mut left = words;
+        let mut left = arguments;
         while let [name, value, after @ ..] = left {
             match &name[..] {
                 b"--into" => put(&mut options.greatest, greatest_count(value)?)?,
@@ -41,7 +41,7 @@ impl<'a> Options<'a> {
 
     /// Whether an interval of this tag that begins at this time, in nanoseconds since the epoch, is chosen.
     pub fn choose(&self, tag: Option<&str>, time: u128) -> bool {
-        let has_tag = self.tag.is_none_or(|asked| tag == Some(asked));
+        let has_tag = self.tag.is_none_or(|chosen| tag == Some(chosen));
         has_tag && self.from.is_none_or(|from| nanos(from) <= time) && self.to.is_none_or(|to| time < nanos(to))
     }
 }
@@ -55,9 +55,9 @@ fn put<T>(place: &mut Option<T>, value: T) -> Option<()> {
     place.replace(value).is_none().then_some(())
 }
 
-/// The greatest count of the type that a word names.
-fn greatest_count(word: &[u8]) -> Option<u64> {
-    match word {
+/// The greatest count of the type that an argument names.
+fn greatest_count(argument: &[u8]) -> Option<u64> {
+    match argument {
         b"u8" => Some(u8::MAX.into()),
         b"u16" => Some(u16::MAX.into()),
         b"u32" => Some(u32::MAX.into()),
@@ -66,13 +66,13 @@ fn greatest_count(word: &[u8]) -> Option<u64> {
     }
 }
 
-fn tag_of(word: &[u8]) -> Option<&str> {
-    let text = str::from_utf8(word).ok()?;
+fn tag_of(argument: &[u8]) -> Option<&str> {
+    let text = str::from_utf8(argument).ok()?;
     Tag::new(text).map(|_| text)
 }
 
-/// The number that a word spells.
-fn whole_number(word: &[u8]) -> Option<u64> {
-    let (number, left) = number(word)?;
+/// The number that an argument spells.
+fn whole_number(argument: &[u8]) -> Option<u64> {
+    let (number, left) = number(argument)?;
     left.is_empty().then_some(number)
 }

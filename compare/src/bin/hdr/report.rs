@@ -6,7 +6,7 @@ use crate::bytes::{bytes_of, high_of, top};
 use hdrhistogram::Histogram;
 use std::fmt::Write;
 
-/// What a report tells of.
+/// What a report is of.
 pub struct Counted {
     pub bins: Histogram<u64>,
     /// How many samples there are, which may be more than the bins hold where some are cut.
@@ -27,7 +27,7 @@ pub fn report(counted: &Counted, quantiles: &[Quantile]) -> String {
     let mut text = format!("len {}\n", counted.total);
     for quantile in quantiles {
         let Quantile { num, den } = quantile;
-        writeln!(text, "{num}/{den} {}", quantile.answer(counted)).expect("a text takes all");
+        writeln!(text, "{num}/{den} {}", quantile.value(counted)).expect("a text takes all");
     }
     text.push_str("v2 ");
     match bytes_of(&counted.bins, counted.high) {
@@ -56,7 +56,7 @@ pub struct Quantile {
 impl Quantile {
     /// The top of the first class where the running sum reaches the place, or its lowest value for a quantile of 0. It is 0
     /// where nothing was recorded, or where cut bins do not reach the place.
-    fn answer(&self, counted: &Counted) -> u64 {
+    fn value(&self, counted: &Counted) -> u64 {
         let place = self.place(counted.total);
         let mut sum = 0;
         let reaching = counted.bins.iter_recorded().find(|class| {

@@ -1,9 +1,9 @@
-//! Prints random rows for `hdr_rows`: iterators and statistics, as a plain model of them answers. Where the Rust crate has
-//! no known fault, its answers are compared with the model's at once.
+//! Prints random rows for `hdr_rows`: iterators and statistics, with the values of a plain model. Where the Rust crate has
+//! no known fault, its values are compared with the model's at once.
 //!
 //!     iterations SEED COUNT | crates/hdr_rows/out/hdr_rows
 //!
-//! COUNT is the number of rows, of 8 calls each. How many answers the Rust crate gave, and how many of them differ, comes last
+//! COUNT is the number of rows, of 8 calls each. How many values the Rust crate returned, and how many of them differ, comes last
 //! on standard error; the exit status is 1 where one differs.
 
 mod model;
@@ -93,16 +93,16 @@ fn listed(items: &[Item]) -> String {
 }
 
 fn numbers(list: &[u64]) -> String {
-    let words: Vec<_> = list.iter().map(u64::to_string).collect();
-    if words.is_empty() { "none".into() } else { words.join(" ") }
+    let texts: Vec<_> = list.iter().map(u64::to_string).collect();
+    if texts.is_empty() { "none".into() } else { texts.join(" ") }
 }
 
 fn fractions(list: &[(u64, u64)]) -> String {
-    let words: Vec<_> = list.iter().map(|(num, den)| format!("{num}/{den}")).collect();
-    words.join(" ")
+    let texts: Vec<_> = list.iter().map(|(num, den)| format!("{num}/{den}")).collect();
+    texts.join(" ")
 }
 
-/// The line of a call: what is asked, and what the model answers.
+/// The line of a call: its arguments, and what the model returns.
 fn line(model: &Model, call: &Call) -> String {
     match call {
         Call::All => format!("iter_all = {}", listed(&model.all())),
@@ -163,7 +163,7 @@ impl<T: Counter> Row<'_, T> {
         }
     }
 
-    /// A call that is asked.
+    /// A call.
     fn call(&mut self, bits: u64) -> Call {
         let reach = self.model.reach();
         let mark = self.model.mark.map_or(0, |bin| self.model.classes[bin].top as u64);
@@ -189,10 +189,10 @@ impl<T: Counter> Row<'_, T> {
     }
 }
 
-/// How many answers were compared with the Rust crate's, and how many of them differ.
+/// How many values were compared with the Rust crate's, and how many of them differ.
 #[derive(Default)]
 struct Compared {
-    asked: u64,
+    calls: u64,
     agreed: u64,
     differ: u64,
 }
@@ -222,19 +222,19 @@ fn row<T: Counter>(random: &mut Random, title: &str, greatest: u64, is_theirs: b
             break;
         }
         println!("one {}", line(&row.model, &call));
-        compared.asked += 1;
-        let answer = row.theirs.as_ref().and_then(|theirs| agrees(theirs, &row.model, &call));
-        compared.agreed += u64::from(answer == Some(true));
-        if answer == Some(false) {
+        compared.calls += 1;
+        let agrees = row.theirs.as_ref().and_then(|theirs| agrees(theirs, &row.model, &call));
+        compared.agreed += u64::from(agrees == Some(true));
+        if agrees == Some(false) {
             compared.differ += 1;
-            eprintln!("{title}: the Rust crate answers otherwise: {}", line(&row.model, &call));
+            eprintln!("{title}: the Rust crate differs: {}", line(&row.model, &call));
         }
     }
     println!();
 }
 
 fn main() -> ExitCode {
-    let numbers: Vec<u64> = std::env::args().skip(1).filter_map(|word| word.parse().ok()).collect();
+    let numbers: Vec<u64> = std::env::args().skip(1).filter_map(|argument| argument.parse().ok()).collect();
     let [seed, count] = numbers[..] else {
         eprintln!("usage: iterations SEED COUNT");
         return ExitCode::from(2);
@@ -251,7 +251,7 @@ fn main() -> ExitCode {
             _ => row::<u16>(&mut random, &format!("random_{number} c12"), 4095, false, all),
         }
     }
-    let Compared { asked, agreed, differ } = compared;
-    eprintln!("{asked} calls; the Rust crate agrees at {agreed}, differs at {differ}");
+    let Compared { calls, agreed, differ } = compared;
+    eprintln!("{calls} calls; the Rust crate agrees at {agreed}, differs at {differ}");
     if differ == 0 { ExitCode::SUCCESS } else { ExitCode::FAILURE }
 }

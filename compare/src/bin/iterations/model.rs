@@ -11,7 +11,7 @@ pub struct Class {
 /// A fraction, as its two numbers.
 pub type Ratio = (u128, u128);
 
-/// What an iterator tells of one step.
+/// What an iterator returns at one step.
 #[derive(Clone, PartialEq, Debug)]
 pub struct Item {
     pub value: u64,
@@ -220,7 +220,7 @@ impl Model {
         self.items(steps)
     }
 
-    /// The answer to a quantile that is a share of 1 or of 100.
+    /// The value at a quantile that is a share of 1 or of 100.
     fn value_at(&self, quantile: (u64, u64), whole: u64) -> u64 {
         let den = u128::from(quantile.1) * u128::from(whole);
         let num = u128::from(quantile.0).min(den);
@@ -236,22 +236,22 @@ impl Model {
         }
     }
 
-    /// The answers to quantiles up to the first that is below the one before.
+    /// The values at quantiles up to the first that is below the one before.
     pub fn values(&self, quantiles: &[(u64, u64)], whole: u64) -> Vec<u64> {
-        let mut answers = Vec::new();
+        let mut values = Vec::new();
         let mut last: (u64, u64) = (0, 1);
         for quantile in quantiles {
             if self.total == 0 {
-                answers.push(0);
+                values.push(0);
                 continue;
             }
             if u128::from(quantile.0) * u128::from(last.1) < u128::from(last.0) * u128::from(quantile.1) {
                 break;
             }
-            answers.push(self.value_at(*quantile, whole));
+            values.push(self.value_at(*quantile, whole));
             last = *quantile;
         }
-        answers
+        values
     }
 
     pub fn below(&self, value: u64) -> Ratio {

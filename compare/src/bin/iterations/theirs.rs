@@ -1,4 +1,4 @@
-//! What the Rust crate answers, beside what the model says.
+//! What the Rust crate returns, beside what the model returns.
 //!
 //! Left out is what is known to differ: values in the last class of all, sums that pass a full counter, levels past the `u64`
 //! or past what an `f64` counts, ticks that no `f64` is, ticks where the last nonempty class is not the greatest that counts
@@ -8,7 +8,7 @@ use crate::model::{Item, Model, Ratio};
 use hdrhistogram::iterators::IterationValue;
 use hdrhistogram::{Counter, Histogram};
 
-/// Up to which sum each share of samples is told from each tick in an `f64`.
+/// Up to which sum each share of samples is distinguished from each tick in an `f64`.
 const FEW: u64 = 1 << 20;
 /// Up to which number an `f64` counts.
 const COUNTED: u64 = 1 << 53;
@@ -36,7 +36,7 @@ fn is_marked(model: &Model) -> bool {
     model.counts.iter().rposition(|count| *count > 0) == model.mark
 }
 
-/// Whether a call on the Rust crate's histogram answers as the model does; `None` where the call is left out.
+/// Whether a call on the Rust crate's histogram returns what the model does; `None` where the call is left out.
 pub fn agrees<T: Counter>(theirs: &Histogram<T>, model: &Model, call: &Call) -> Option<bool> {
     let reach = model.reach();
     let exact = model.counts.iter().map(|n| u128::from(*n)).sum::<u128>() == u128::from(model.total);
@@ -70,8 +70,8 @@ fn values<T: Counter>(theirs: &Histogram<T>, model: &Model, list: &[(u64, u64)])
         return None;
     }
     let quantiles = list.iter().map(|(num, den)| *num as f64 / *den as f64);
-    let answers: Vec<u64> = theirs.value_at_quantiles(quantiles).take(model.values(list, 1).len()).collect();
-    Some(answers == model.values(list, 1))
+    let values: Vec<u64> = theirs.value_at_quantiles(quantiles).take(model.values(list, 1).len()).collect();
+    Some(values == model.values(list, 1))
 }
 
 /// A call that is compared.

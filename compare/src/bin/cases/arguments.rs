@@ -1,4 +1,4 @@
-//! The words of a case.
+//! The arguments of a case.
 
 use crate::case::Kind;
 use crate::options::put_wrong_option;
@@ -11,18 +11,18 @@ const WRONG_QUANTILES: [&str; 18] = [
     "1/18446744073709551616", "18446744073709551616/1",
 ];
 
-/// The words of a case but for options.
-pub fn words(random: &mut Random, kind: Kind) -> Vec<String> {
-    let mut words = right_words(random, kind);
+/// The arguments of a case but for options.
+pub fn arguments(random: &mut Random, kind: Kind) -> Vec<String> {
+    let mut arguments = right_arguments(random, kind);
     // Cases of many lines are for their lines.
     if kind != Kind::Lines {
-        damage(random, &mut words);
+        damage(random, &mut arguments);
     }
-    words
+    arguments
 }
 
-/// The words of a case but for options, most often right.
-pub fn right_words(random: &mut Random, kind: Kind) -> Vec<String> {
+/// The arguments of a case but for options, most often right.
+pub fn right_arguments(random: &mut Random, kind: Kind) -> Vec<String> {
     let name = match kind {
         Kind::Report => "report",
         Kind::Log => "log",
@@ -30,33 +30,33 @@ pub fn right_words(random: &mut Random, kind: Kind) -> Vec<String> {
     };
     // Histograms of four and five digits take long.
     let digits = if random.one_in(8) { random.below(6) } else { random.below(4) };
-    let mut words = vec![name.to_string(), digits.to_string()];
+    let mut arguments = vec![name.to_string(), digits.to_string()];
     let has_quantiles = match kind {
         Kind::Report | Kind::Merge => !random.one_in(32),
         Kind::Log => random.one_in(48),
         Kind::Lines | Kind::Grammar => true,
     };
     let quantiles = if has_quantiles { 1 + random.below(4) } else { 0 };
-    words.extend((0..quantiles).map(|_| quantile(random)));
-    words
+    arguments.extend((0..quantiles).map(|_| quantile(random)));
+    arguments
 }
 
-/// Makes some words wrong.
-fn damage(random: &mut Random, words: &mut Vec<String>) {
+/// Makes some arguments wrong.
+fn damage(random: &mut Random, arguments: &mut Vec<String>) {
     if random.one_in(12) {
-        let at = random.below(words.len() as u64) as usize;
+        let at = random.below(arguments.len() as u64) as usize;
         let wrong = match at {
             0 => random.one_of(&WRONG_NAMES),
             1 => random.one_of(&WRONG_DIGITS),
             _ => random.one_of(&WRONG_QUANTILES),
         };
-        words[at] = wrong.to_string();
+        arguments[at] = wrong.to_string();
     }
     if random.one_in(64) {
-        words.truncate(random.below(3) as usize);
+        arguments.truncate(random.below(3) as usize);
     }
     if random.one_in(128) {
-        put_wrong_option(random, words);
+        put_wrong_option(random, arguments);
     }
 }
 

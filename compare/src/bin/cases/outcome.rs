@@ -1,4 +1,4 @@
-//! What a program answers to a case.
+//! What a program does with a case.
 
 use crate::case::Case;
 use crate::grammar::{Entry, entry};
@@ -13,9 +13,9 @@ use std::time::Duration;
 /// How long a program may take.
 const MOST_TIME: Duration = Duration::from_secs(5);
 
-/// What a program answers to a case.
+/// What a program does with a case: its exit status and its two outputs.
 #[derive(PartialEq)]
-pub struct Answer {
+pub struct Outcome {
     status: ExitStatus,
     output: Vec<u8>,
     error: Vec<u8>,
@@ -23,50 +23,50 @@ pub struct Answer {
     pub is_late: bool,
 }
 
-impl Answer {
-    pub fn of(program: &str, case: &Case) -> io::Result<Answer> {
+impl Outcome {
+    pub fn of(program: &str, case: &Case) -> io::Result<Outcome> {
         let mut child = Command::new(program)
-            .args(&case.words)
+            .args(&case.arguments)
             .stdin(Stdio::piped())
             .stdout(Stdio::piped())
             .stderr(Stdio::piped())
             .spawn()
             .map_err(|error| io::Error::new(error.kind(), format!("{program}: {error}")))?;
         let ((output, error), is_late) = exchanged_in_time(&mut child, &case.input)?;
-        Ok(Answer { status: child.wait()?, output, error: without_cause(error), is_late })
+        Ok(Outcome { status: child.wait()?, output, error: without_cause(error), is_late })
     }
 
-    /// The answer that a model tells.
-    pub fn told(answer: Result<String, String>) -> Answer {
+    /// The outcome with a report, or with an error.
+    pub fn expected(report: Result<String, String>) -> Outcome {
         let exit = |status: i32| ExitStatus::from_raw(status << 8);
-        let (status, output, error) = match answer {
+        let (status, output, error) = match report {
             Ok(report) => (exit(0), report.into_bytes(), Vec::new()),
             Err(fault) => (exit(1), Vec::new(), fault.into_bytes()),
         };
-        Answer { status, output, error, is_late: false }
+        Outcome { status, output, error, is_late: false }
     }
 
-    /// What is wrong with the answer to any input.
+    /// What is wrong with the outcome, whatever the input is.
     pub fn wrong(&self, case: &Case) -> Option<&'static str> {
-        let writes_log = case.words.first().is_some_and(|word| word == "log");
+        let writes_log = case.arguments.first().is_some_and(|name| name == "log");
         let (is_whole, is_silent) = (self.error.ends_with(b"\n"), self.error.is_empty());
         match self.status.code() {
             _ if self.is_late => Some("takes too long"),
             None => Some("crashes"),
             Some(0) if is_silent => None,
-            Some(0) => Some("an answer and a fault"),
-            Some(1 | 2) if !self.error.starts_with(b"hdr: ") => Some("no fault"),
-            Some(1 | 2) if !is_whole && !self.error.ends_with(FAILED) => Some("a fault without an end"),
+            Some(0) => Some("an error and status 0"),
+            Some(1 | 2) if !self.error.starts_with(b"hdr: ") => Some("no error"),
+            Some(1 | 2) if !is_whole && !self.error.ends_with(FAILED) => Some("an error without a line end"),
             Some(1) if writes_log && is_log(&self.output) => None,
             Some(1 | 2) if self.output.is_empty() => None,
-            Some(1 | 2) => Some("output beside a fault"),
+            Some(1 | 2) => Some("output beside an error"),
             Some(_) => Some("another status"),
         }
     }
 
     /// How many lines of the case's log were read.
     pub fn lines_read(&self, case: &Case) -> u64 {
-        if case.words.first().is_none_or(|word| word != "merge") {
+        if case.arguments.first().is_none_or(|name| name != "merge") {
             return 0;
         }
         let is_line_end = |byte: &&u8| **byte == b'\n';
@@ -98,16 +98,16 @@ fn without_cause(mut error: Vec<u8>) -> Vec<u8> {
 }
 
 /// Standard output and standard error.
-type Told = (Vec<u8>, Vec<u8>);
+type Outputs = (Vec<u8>, Vec<u8>);
 
-/// Gives a program its input, and takes its output. The program is stopped where it takes too long, which is told.
-fn exchanged_in_time(child: &mut Child, input: &[u8]) -> io::Result<(Told, bool)> {
+/// Writes a program's input, and reads its outputs. Stops it if it takes too long, and returns whether it did.
+fn exchanged_in_time(child: &mut Child, input: &[u8]) -> io::Result<(Outputs, bool)> {
     let exchange = exchange(child, input);
     thread::scope(|scope| {
         let (send, receive) = mpsc::channel();
         scope.spawn(move || send.send(exchange()));
         match receive.recv_timeout(MOST_TIME) {
-            Ok(told) => Ok((told?, false)),
+            Ok(outputs) => Ok((outputs?, false)),
             Err(_) => {
                 child.kill()?;
                 Ok((receive.recv().expect("the streams are closed")?, true))
@@ -116,14 +116,14 @@ fn exchanged_in_time(child: &mut Child, input: &[u8]) -> io::Result<(Told, bool)
     })
 }
 
-/// What gives a program its input, and takes its output.
-fn exchange<'a>(child: &mut Child, input: &'a [u8]) -> impl FnOnce() -> io::Result<Told> + Send + 'a {
+/// Returns a function that writes a program's input, and reads its outputs.
+fn exchange<'a>(child: &mut Child, input: &'a [u8]) -> impl FnOnce() -> io::Result<Outputs> + Send + 'a {
     let stdin = child.stdin.take().expect("standard input is a pipe");
     let stdout = child.stdout.take().expect("standard output is a pipe");
     let stderr = child.stderr.take().expect("standard error is a pipe");
     move || {
         let (mut stdin, mut stdout, mut stderr) = (stdin, stdout, stderr);
-        // A program with wrong words may end before it has read anything.
+        // A program with wrong arguments may end before it has read anything.
         match stdin.write_all(input) {
             Err(error) if error.kind() != io::ErrorKind::BrokenPipe => return Err(error),
             _ => drop(stdin),
@@ -135,7 +135,7 @@ fn exchange<'a>(child: &mut Child, input: &'a [u8]) -> impl FnOnce() -> io::Resu
     }
 }
 
-impl fmt::Display for Answer {
+impl fmt::Display for Outcome {
     fn fmt(&self, f: &mut fmt::Formatter<'_>) -> fmt::Result {
         let (output, error) = (String::from_utf8_lossy(&self.output), String::from_utf8_lossy(&self.error));
         write!(f, "{}\n{}{}", self.status, output.trim_end(), error.trim_end())
