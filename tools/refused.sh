@@ -1,8 +1,8 @@
 #!/bin/sh
-# For each test below a module `failed_allocations`, as the gate built and proved it: runs it with the first, second, .. request
-# for memory refused, until a run meets no refusal. Each run has to pass, to print 'no memory' exactly where a request was
-# refused, and to have freed what it took. Every other test has to have freed what it took, too. Tests below a module
-# `large_allocations` have to pass where each request for more than 64 KiB is refused. Fails where there is no such test.
+# For each test below a module `failed_allocations`, as the gate built and proved it: runs it with the first, second, .. allocation
+# failing, until no allocation of a run fails. Each run has to pass, to print 'no memory' if and only if an allocation failed,
+# and to free all memory. Every other test has to free all memory, too. Tests below a module `large_allocations` have to pass
+# if each allocation of more than 64 KiB fails. It is a failure if there is no such test.
 set -eu
 cd "$(dirname "$0")/.."
 room=$(mktemp -d)
@@ -20,13 +20,13 @@ for program in crates/*/out/*_tests; do
             grep -q '^refused' "$room/err" && refused=1
             grep -q '^no memory$' "$room/out" && reported=1
             if [ "$status" != 0 ] || [ "$refused" != "$reported" ] || grep -q '^leaked' "$room/err"; then
-                echo "$program $name: request $n: status $status, refused $refused, reported $reported" >&2
+                echo "$program $name: allocation $n: status $status, refused $refused, reported $reported" >&2
                 cat "$room/err" >&2
                 failed=$((failed + 1))
             fi
             [ "$n" -lt 1000 ] || { echo "$program $name: no end" >&2; exit 1; }
         done
-        echo "$name: $((n - 1)) requests refused in turn"
+        echo "$name: $((n - 1)) allocations failed in turn"
     done
     for name in $("$program" --list | sed -n 's/^\(.*large_allocations::[a-z0-9_:]*\): test$/\1/p'); do
         runs=$((runs + 1)) sparing=$((sparing + 1))

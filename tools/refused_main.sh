@@ -1,8 +1,8 @@
 #!/bin/sh
-# Runs the program that rt ci built with no request for memory refused, and then with the first, second, .. one refused, until
-# a run meets no refusal. The runs that meet none answer what is written here. The others answer the same, or say
-# 'hdr: no memory' with status 1: without output then, or for a log with whole intervals from its beginning, at least those
-# that stood where an earlier request was refused. No run may leak memory.
+# Runs the program that rt ci built without a failing allocation, and then with the first, second, .. one failing, until no
+# allocation of a run fails. Such a run prints what is written here. The others print the same, or 'hdr: no memory' with
+# status 1: without output then, or for a log with whole intervals from its start, at least those that were written when an
+# earlier allocation failed. No run may leak memory.
 set -eu
 cd "$(dirname "$0")/.."
 room=$(mktemp -d)
@@ -12,7 +12,7 @@ program=crates/hdr/out/hdr
 [ -x "$program" ] || { echo "$program is not built: run rt run in crates/hdr" >&2; exit 1; }
 runs=0 failed=0
 
-# Runs the words with request $n refused, or none where $n is 0; the answer goes to files, 'refused' lines apart from the fault's.
+# Runs the arguments with allocation $n failing, or none if $n is 0. The outputs go to files, lines 'refused' apart from the error.
 run() {
     status=0 refused=0
     REFUSE=$n LD_PRELOAD="$room/refuse.so" "$program" "$@" <"$room/in" >"$room/out" 2>"$room/all" || status=$?
@@ -21,12 +21,12 @@ run() {
     runs=$((runs + 1))
 }
 
-# Whether the run answered as it would without a refusal.
+# Whether the run printed what it prints if no allocation fails.
 is_right() {
     [ "$status" = "$wanted" ] && cmp -s "$room/out" "$room/right" && cmp -s "$room/err" "$room/fault"
 }
 
-# Whether it said that memory is out, and wrote what may stand then: nothing, or for a log whole lines.
+# Whether it printed that memory ran out, and before that nothing, or for a log whole lines.
 is_refusal() {
     [ "$status" = 1 ] && [ "$(cat "$room/err")" = "hdr: no memory" ] || return 1
     size=$(wc -c <"$room/out")
@@ -36,33 +36,33 @@ is_refusal() {
     [ "$1" = log ] && head -c "$size" "$room/right" | cmp -s - "$room/out" && [ "$(tail -c 1 "$room/out" | od -An -tx1)" = " 0a" ]
 }
 
-# What the next words have to answer: status, fault, and output.
+# What the next arguments have to print: status, error and output.
 wants() {
     wanted=$1
     printf '%b' "$2" >"$room/fault"
     printf '%b' "$3" >"$room/right"
 }
 
-# Counts a failure, and says what the last run answered.
+# Counts a failure, and prints the outputs of the last run.
 fail() {
     echo "$1: status $status, refused $refused" >&2
     cat "$room/out" "$room/err" >&2
     failed=$((failed + 1))
 }
 
-# Words on the input $room/in.
+# Runs arguments on the input $room/in, with each allocation failing in turn.
 each() {
     n=0 kept=0
     run "$@"
-    is_right || fail "$*: no request refused"
+    is_right || fail "$*: no allocation failed"
     refused=1
     while [ "$refused" = 1 ]; do
         n=$((n + 1))
         run "$@"
-        is_right || { [ "$refused" = 1 ] && is_refusal "$1"; } || fail "$*: request $n"
+        is_right || { [ "$refused" = 1 ] && is_refusal "$1"; } || fail "$*: allocation $n"
         [ "$n" -lt 1000 ] || { echo "$*: no end" >&2; exit 1; }
     done
-    echo "hdr $*: $((n - 1)) requests refused in turn, status $wanted"
+    echo "hdr $*: $((n - 1)) allocations failed in turn, status $wanted"
 }
 
 # What stands in V2 bytes of three digits between the payload's length and the lower half of the highest value, and after it.

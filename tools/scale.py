@@ -85,10 +85,10 @@ def without_high(report):
     return f"{numbers}v2 {v2[:48]}{v2[64:]}"
 
 
-def timed(what, run, *words):
-    """What a call gives; tells how long it took."""
+def timed(what, run, *arguments):
+    """Returns the result of a call, and prints how long it took."""
     began = time.monotonic()
-    result = run(*words)
+    result = run(*arguments)
     print(f"{what}: {time.monotonic() - began:.3f}", file=sys.stderr)
     return result
 
