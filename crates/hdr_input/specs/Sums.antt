@@ -22,6 +22,10 @@ pub record Sum : Type 0 where
 abbrev pub view_of_sum : TagSum → Sum
 view_of_sum s = record { tag = option_map string_bytes s.tag; histogram = s.histogram }
 
+-- the sums of logs, in the order of their tags' first intervals
+abbrev pub sums_of : LogSums → List Sum
+sums_of s = map view_of_sum s.sums.items
+
 -- both have the same tag, or none
 abbrev pub is_same_tag : Option (List ℕ) → Option (List ℕ) → Bool
 is_same_tag None None = true
@@ -51,7 +55,7 @@ pub record Summing : Type 0 where
   pub sums : List Sum
 
 abbrev pub view_of_sums : LogSums → Summing
-view_of_sums s = record { filter = view_of_interval_choice s.choice; sigfig = s.sigfig; is_by_tag = s.is_by_tag; base = as_nanos s.base; sums = map view_of_sum s.sums.items }
+view_of_sums s = record { filter = view_of_interval_choice s.choice; sigfig = s.sigfig; is_by_tag = s.is_by_tag; base = as_nanos s.base; sums = sums_of s }
 
 abbrev pub with_base : Summing → ℕ → Summing
 with_base s time = record { filter = s.filter; sigfig = s.sigfig; is_by_tag = s.is_by_tag; base = time; sums = s.sums }
@@ -90,8 +94,8 @@ index_of tag (sum ∷ sums) = if is_same_tag sum.tag tag then Some 0 else option
 -- the sums of tags are found by the indices
 abbrev pub AreIndexed : LogSums → Type 0
 AreIndexed s =
-    ((tag : List ℕ) → get_by_text s.indices tag ≡ index_of (Some tag) (map view_of_sum s.sums.items))
-    × (s.untagged ≡ index_of None (map view_of_sum s.sums.items))
+    ((tag : List ℕ) → get_by_text s.indices tag ≡ index_of (Some tag) (sums_of s))
+    × (s.untagged ≡ index_of None (sums_of s))
 
 -- the sums after a histogram was added to one of them
 unfoldable pub added_at : ℕ → List Sum → Plain → List Sum

@@ -8,7 +8,7 @@ ghost use Rattle.hdr_log.specs.Tags.{tag_text};
 ghost use Rattle.hdr_log.specs.Reading.{view_of_interval};
 ghost use Rattle.hdrhistogram.specs.FieldRead.{IsHeldIn};
 ghost use Rattle.hdr_input.specs.Lines.{entry_of_line, IsPlainField};
-ghost use Rattle.hdr_input.specs.Sums.{view_of_sum, view_of_sums, empty_sum, sum_tag, Adds, TakesEntry, TakesText};
+ghost use Rattle.hdr_input.specs.Sums.{sums_of, view_of_sums, empty_sum, sum_tag, Adds, TakesEntry, TakesText};
 ghost use Rattle.hdr_input.specs.Sums.{AreIndexed, IsSumAt, KeepsOptions, added_at, TakesFrom, with_base};
 ghost use Rattle.hdr_input.specs.Joining.{none_taken, sums_joined};
 ghost use Rattle.hdr_input.specs.Recorded.{AddsField};
@@ -174,7 +174,7 @@ impl<'a> LogSums<'a> {
     fn index_of(&mut self, alloc: Global, tag: Option<Tag<'_>>) -> Result<usize, InputError>
         ensures options { KeepsOptions self.old self.new }
         ensures index { IfOk result (λ index. AreIndexed self.old → IsSumAt self.old.sigfig
-            (map view_of_sum self.old.sums.items) (map view_of_sum self.new.sums.items)
+            (sums_of self.old) (sums_of self.new)
             (sum_tag self.old.is_by_tag (option_map tag_text tag.entry)) index) }
         ensures indices { OnOk result (AreIndexed self.old → AreIndexed self.new) }
     {
@@ -196,8 +196,7 @@ impl<'a> LogSums<'a> {
     fn index_of_tag(&mut self, alloc: Global, tag: &str) -> Result<usize, InputError>
         ensures options { KeepsOptions self.old self.new }
         ensures index { IfOk result (λ index. AreIndexed self.old → IsSumAt self.old.sigfig
-            (map view_of_sum self.old.sums.items) (map view_of_sum self.new.sums.items)
-            (Some tag.now) index) }
+            (sums_of self.old) (sums_of self.new) (Some tag.now) index) }
         ensures indices { OnOk result (AreIndexed self.old → AreIndexed self.new) }
     {
         if let Some(index) = self.indices.get(tag) {
@@ -216,9 +215,8 @@ impl<'a> LogSums<'a> {
     fn push_sum(&mut self, alloc: Global, tag: Option<String>) -> Result<usize, InputError>
         ensures options { KeepsOptions self.old self.new }
         ensures index { IfOk result (λ index. index ≡ length self.old.sums.items) }
-        ensures sums { OnOk result (map view_of_sum self.new.sums.items
-            ≡ map view_of_sum self.old.sums.items
-            ++ empty_sum self.old.sigfig (option_map string_bytes tag) ∷ []) }
+        ensures sums { OnOk result (sums_of self.new
+            ≡ sums_of self.old ++ empty_sum self.old.sigfig (option_map string_bytes tag) ∷ []) }
         ensures indices { self.new.indices ≡ self.old.indices }
         ensures untagged { self.new.untagged ≡ self.old.untagged }
     {
@@ -241,8 +239,7 @@ impl<'a> LogSums<'a> {
         ensures options { KeepsOptions self.old self.new }
         ensures added { OnOk result (index < length self.old.sums.items → (plain : List ℕ) × (h : Plain)
             × IsPlainField field.now plain × IsHeldIn (2 ^ 64 - 1) plain h
-            × (map view_of_sum self.new.sums.items
-            ≡ added_at index (map view_of_sum self.old.sums.items) h)) }
+            × (sums_of self.new ≡ added_at index (sums_of self.old) h)) }
         ensures indices { self.new.indices ≡ self.old.indices }
         ensures untagged { self.new.untagged ≡ self.old.untagged }
     {
@@ -278,7 +275,7 @@ impl<'a> LogSums<'a> {
 
     /// Takes a line with its LF.
     fn take_line(&mut self, alloc: Global, line: &[u8], number: u64) -> Result<(), InputError>
-        ensures said { OnOk result (AreIndexed self.old → TakesEntry (view_of_sums self.old)
+        ensures entry { OnOk result (AreIndexed self.old → TakesEntry (view_of_sums self.old)
             (entry_of_line line.now) (view_of_sums self.new)) }
         ensures indices { OnOk result (AreIndexed self.old → AreIndexed self.new) }
     {

@@ -7,7 +7,7 @@ pub use Rattle.hdr_core.specs.declared.call.Call.TheVariants.{Reset, Record, Cla
 pub use Rattle.hdr_log.proofs.PartsNumbers.{Reads, Reads-more}
 pub use Rattle.hdr_log.specs.Grammar.{Entry, Span, reading, Start, Base}
 pub use Rattle.hdr_log.specs.Parts.{parts, ◌>>=◌, is_digits}
-pub use Rattle.hdr_log.specs.Pieces.{Piece, IsPiece, piece_text, text_of, entry_of_line, is_read}
+pub use Rattle.hdr_log.specs.Pieces.{Piece, IsPiece, piece_text, text_of, entries_of_piece, is_read}
 pub use Rattle.hdr_log.specs.Tags.{tag_text}
 pub use Rattle.hdr_log.specs.Texts.{thousandths_text, to_thousandths, max_thousandths, base64_of, base64_bytes}
 pub use Rattle.hdr_model.specs.Joining.{after_adds, IsPart, AreParts, joined_samples, AnswersRanked}

@@ -1,5 +1,5 @@
 -- The histograms of a log that `log` wrote: what they stand for, and the result of merging them.
-use Rattle.hdr_tool.proofs.Common.{◌≡◌, ℕ, ◌-◌, ◌^◌, List, [], ◌∷◌, Option, Some, None, IfSome, refl, sym, subst, ◌+◌, ◌*◌, ◌<◌, Bool, true, false, cond, arith, length, slice_index, ◌++◌, MatchOption, Result, Ok, Err, map, ap, ◌∙◌, Resolution, Plain, IsPlain, resolution, empty_plain, max_of, after_reset, after_call, CallTo, IsCallOf, StandsWhereFits, State, Call, Reset, Command, Apply, End, command_of, at_command, ends_of, AfterCommand, EndsWith, IsEnd, AllZip, chosen_of, LogThenMerge, AllByRecursion, enumerate_from, Ratio, after_adds, Entry, Span, reading, thousandths_text, to_thousandths, max_thousandths, base64_of, base64_bytes, Piece, IsPiece, piece_text, text_of, entry_of_line, is_read, IsV2, interval_piece, IsIntervalText, histogram_contents, v2_at, IsReadAs, IsReadBack, ReadsV2, Filter, is_chosen, Merging, new_merging, past_interval, with_interval, BytesMerge, FieldMerges, IntervalMerges, MergesOn, EntriesMerge, DeserializeError, MergeError, Fault, Usage, parts, Run, ended_by, prepend, run_command, lines_run, IsLogText, has_too_great_count, IsReport, Task, greatest_into, filter_of, result_err, result_map_both, merge_fault, Reported, MergeReported, outputs_of, append-nil}
+use Rattle.hdr_tool.proofs.Common.{◌≡◌, ℕ, ◌-◌, ◌^◌, List, [], ◌∷◌, Option, Some, None, IfSome, refl, sym, subst, ◌+◌, ◌*◌, ◌<◌, Bool, true, false, cond, arith, length, slice_index, ◌++◌, MatchOption, Result, Ok, Err, map, ap, ◌∙◌, Resolution, Plain, IsPlain, resolution, empty_plain, max_of, after_reset, after_call, CallTo, IsCallOf, StandsWhereFits, State, Call, Reset, Command, Apply, End, command_of, at_command, ends_of, AfterCommand, EndsWith, IsEnd, AllZip, chosen_of, LogThenMerge, AllByRecursion, enumerate_from, Ratio, after_adds, Entry, Span, reading, thousandths_text, to_thousandths, max_thousandths, base64_of, base64_bytes, Piece, IsPiece, piece_text, text_of, entries_of_piece, is_read, IsV2, interval_piece, IsIntervalText, histogram_contents, v2_at, IsReadAs, IsReadBack, ReadsV2, Filter, is_chosen, Merging, new_merging, past_interval, with_interval, BytesMerge, FieldMerges, IntervalMerges, MergesOn, EntriesMerge, DeserializeError, MergeError, Fault, Usage, parts, Run, ended_by, prepend, run_command, lines_run, IsLogText, has_too_great_count, IsReport, Task, greatest_into, filter_of, result_err, result_map_both, merge_fault, Reported, MergeReported, outputs_of, append-nil}
 use Rattle.hdr_tool.proofs.CommandsLines.{IsLineCommand, command_fine}
 use Rattle.std.specs.List.{cons_option, flat_map}
 use Rattle.hdr_log.specs.Grammar.{Interval}
@@ -110,7 +110,7 @@ interval_of i = record { tag = i.tag; start = to_thousandths (i.start * 1_000_00
 abbrev span_of : Logged → Entry
 span_of i = Span (interval_of i)
 
-spans : (is : List Logged) → flat_map entry_of_line (map piece_of is) ≡ map span_of is
+spans : (is : List Logged) → flat_map entries_of_piece (map piece_of is) ≡ map span_of is
 spans [] = refl
 spans (i ∷ is) = ap (λ es. span_of i ∷ es) (spans is)
 

@@ -18,7 +18,7 @@ loop-rest-preserved c =
       number = λ some. let more : 1 < next = above (so_far.number some) in omega (arith, more);
       taken = λ indexed some last rest. so_far.taken indexed some last
           (taken_more (number == 1) (next == 1) c.loop-rest.rest.now c.split_log_line.result.0.now (view_of_sums c.loop-rest.self) (view_of_sums c.take_line.new.self) last
-          (not_first next (above (so_far.number some))) c.split_log_line.ensures.line (c.in_ok-take_line.ensures.said (so_far.indices indexed))
+          (not_first next (above (so_far.number some))) c.split_log_line.ensures.line (c.in_ok-take_line.ensures.entry (so_far.indices indexed))
           (subst (λ r. TakesText (next == 1) r (view_of_sums c.take_line.new.self) last) c.split_log_line.ensures.rest rest));
     }
 
