@@ -237,8 +237,8 @@ impl<'a> LogSums<'a> {
         line: u64,
     ) -> Result<(), InputError>
         ensures options { KeepsOptions self.old self.new }
-        ensures added { OnOk result (index < length self.old.sums.items → (plain : List ℕ) × (h : Plain)
-            × IsPlainField field.now plain × IsHeldIn (2 ^ 64 - 1) plain h
+        ensures added { OnOk result (index < length self.old.sums.items → (text : List ℕ) × (h : Plain)
+            × IsPlainField field.now text × IsHeldIn (2 ^ 64 - 1) text h
             × (sums_of self.new ≡ added_at index (sums_of self.old) h)) }
         ensures indices { self.new.indices ≡ self.old.indices }
         ensures untagged { self.new.untagged ≡ self.old.untagged }
