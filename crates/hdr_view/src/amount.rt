@@ -218,7 +218,7 @@ impl Amount {
     /// Appends the amount as the content of a table's cell, with its unit in a box.
     pub fn push_in_cell(self, text: &mut String) -> Result<(), AllocError>
         ensures { 0 < self.den → self.num * 10 ^ 9 + 1 < 2 ^ 128 → OnOk result ((cell : List ℕ)
-            × IsDecimalOf self.num self.den number
+            × IsDecimalOf self.num self.den cell
             × (string_bytes text.new ≡ string_bytes text.old ++ (cell ++ box_text self.unit))) }
     {
         self.push_number(text)?;
