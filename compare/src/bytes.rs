@@ -145,10 +145,10 @@ impl Tally {
 
     /// Looks at one text, read into counters of so many bits, and by pieces too where `most` is not 0.
     fn look(&mut self, text: &[u8], bits: u64, most: usize) {
-        let rules::Read { contents: expected, known } = rules::read(text, u64::MAX >> (64 - bits));
-        let name = expected.as_ref().map_or_else(|fault| format!("{fault:?}"), |_| "read".to_string());
+        let rules::Read { contents: result, known } = rules::read(text, u64::MAX >> (64 - bits));
+        let name = result.as_ref().map_or_else(|fault| format!("{fault:?}"), |_| "read".to_string());
         *self.results.entry(name).or_default() += 1;
-        let wanted = match &expected {
+        let wanted = match &result {
             Ok(contents) => (0, expected(contents)),
             Err(fault) => (*fault as u64, Reading::default()),
         };
@@ -161,7 +161,7 @@ impl Tally {
                 self.report("deserialize differs", text);
             }
         }
-        if !upstream_agrees(text, bits, &expected) {
+        if !upstream_agrees(text, bits, &result) {
             match known {
                 Some(known) => *self.known.entry(known).or_default() += 1,
                 None => self.report("the Rust crate differs", text),
