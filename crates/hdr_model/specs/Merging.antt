@@ -8,7 +8,7 @@ use Rattle.hdr_model.specs.Recording.{with_bins_to, Times, after_records, sample
 use Rattle.hdr_model.specs.Marks.{earlier_of, later_of}
 use Rattle.hdr_model.specs.Correction.{each_times, missing}
 
--- the nonempty classes of numbers that start at class i: the lowest value of each, repeated by its number
+-- the nonempty classes of numbers that start at class i: the lowest value of each, as many times as its number
 abbrev pub classes_from : Resolution → ℕ → List ℕ → List Times
 classes_from g i [] = []
 classes_from g i (zero ∷ ns) = classes_from g (suc i) ns
@@ -62,7 +62,7 @@ HaveSameNumbers h s = (i : ℕ) → slice_index h.counts i ≡ slice_index s.cou
 abbrev pub SumFits : ℕ → Plain → Plain → Type 0
 SumFits greatest h s = (i : ℕ) → slice_index h.counts i + slice_index s.counts i ≤ greatest
 
--- the lowest values of a histogram's classes, each repeated by its number
+-- the lowest values of a histogram's classes, each as many times as its number
 abbrev pub lowest_values : Plain → List ℕ
 lowest_values h = samples_of (classes_from (resolution h) 0 h.counts)
 
