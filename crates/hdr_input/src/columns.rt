@@ -157,6 +157,8 @@ struct RetryReader<R> {
 }
 
 impl<R: Read> Read for RetryReader<R> {
+    ghost remaining = { λ retry. R.remaining retry.reader };
+
     fn read(&mut self, buf: &mut [u8]) -> io::Result<usize> {
         for _ in 0..u64::MAX {
             match self.reader.read(buf) {
