@@ -1,7 +1,9 @@
 //! What needs the samples of a tag once more: its curve of quantiles, and its heat map.
 
-ghost use Rattle.std.specs.Prelude.{◌≤◌, IfOk};
+ghost use Rattle.std.specs.Prelude.{◌≡◌, ◌<◌, ◌≤◌, ◌++◌, ◌∷◌, [], List, IfOk};
 ghost use Rattle.std.specs.List.{All};
+ghost use Rattle.hdr_figures.specs.Figures.{value_at};
+ghost use Rattle.hdr_charts.specs.declared.detail.CurvePoint.{CurvePoint};
 
 use hdr_draw::heat::{HeatMap, ROWS};
 use hdr_draw::path::WIDTH;
@@ -77,7 +79,10 @@ pub fn curve_of(
     scale: &QuantileScale,
     width: u32,
 ) -> Result<Vec<CurvePoint>, AllocError>
-    ensures { IfOk result (λ v. All (λ p. p.x ≤ width) v.items) }
+    ensures within { IfOk result (λ v. All (λ p. p.x ≤ width) v.items) }
+    ensures end { IfOk result (λ v. 0 < histogram.now.total → (front : List CurvePoint)
+        × (end : CurvePoint) × (v.items ≡ front ++ end ∷ [])
+        × (end.value ≡ value_at histogram.now 1 1)) }
 {
     let mut curve = Vec::new(alloc);
     let all = histogram.len();

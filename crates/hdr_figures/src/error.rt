@@ -23,12 +23,22 @@ pub enum PageError {
 }
 
 impl From<AllocError> for PageError {
+    ghost use Rattle.std.specs.Prelude.{◌≡◌};
+    ghost use Rattle.hdr_figures.specs.declared.error.PageError.TheVariants.{OutOfMemory};
+
+    ghost from_gives = { λ _ error. error ≡ OutOfMemory };
+
     fn from(_error: AllocError) -> PageError {
         PageError::OutOfMemory
     }
 }
 
 impl From<CreationError> for PageError {
+    ghost use Rattle.std.specs.Prelude.{◌≡◌};
+    ghost use Rattle.hdr_figures.specs.Errors.{of_creation};
+
+    ghost from_gives = { λ cause error. error ≡ of_creation cause };
+
     fn from(error: CreationError) -> PageError {
         match error {
             CreationError::OutOfMemory => PageError::OutOfMemory,
@@ -38,6 +48,11 @@ impl From<CreationError> for PageError {
 }
 
 impl From<AdditionError> for PageError {
+    ghost use Rattle.std.specs.Prelude.{◌≡◌};
+    ghost use Rattle.hdr_figures.specs.Errors.{of_addition};
+
+    ghost from_gives = { λ cause error. error ≡ of_addition cause };
+
     fn from(error: AdditionError) -> PageError {
         match error {
             AdditionError::OutOfMemory => PageError::OutOfMemory,
@@ -47,6 +62,11 @@ impl From<AdditionError> for PageError {
 }
 
 impl<T: Drop> From<AllocFailed<T>> for PageError {
+    ghost use Rattle.std.specs.Prelude.{◌≡◌};
+    ghost use Rattle.hdr_figures.specs.declared.error.PageError.TheVariants.{OutOfMemory};
+
+    ghost from_gives = { λ _ error. error ≡ OutOfMemory };
+
     fn from(_error: AllocFailed<T>) -> PageError {
         PageError::OutOfMemory
     }

@@ -8,6 +8,7 @@ use hdr_input::intervals::Intervals;
 use hdr_input::logs::{LONGEST, LogSums};
 use hdr_input::pieces::{LineSink, PIECE, read_lines};
 use hdr_input::plain::PlainLines;
+use hdr_input::retry::RetryReader;
 use hdr_input::{Distribution, InputError, Recording, Tally};
 use hdr_summary::figures::Tagged;
 use hdrhistogram::Histogram;
@@ -105,6 +106,7 @@ fn read_table<R: Read + Drop, S: RowSink>(
     time: Option<&str>,
     sink: &mut S,
 ) -> Result<(), InputError> {
+    let reader = RetryReader { reader };
     let has_header = table.has_header;
     let columns = Columns {
         value: table.column,

@@ -1,5 +1,5 @@
 -- Numbers that are in units already.
-use Rattle.std.proofs.Common.{◌≡◌, ℕ, ◌-◌, ◌/◌, ◌^◌, ◌≤◌, lit<, ◌∷◌, ap, ◌∙◌, arith}
+use Rattle.std.proofs.Common.{◌≡◌, ℕ, ◌-◌, ◌/◌, ◌^◌, ◌<◌, ◌≤◌, lit<, ◌∷◌, ap, ◌∙◌, arith}
 use Rattle.std.proofs.Math.Nat.{pow-le-pow_right}
 use Rattle.std.proofs.lemmas.Nat.{div-mul-add}
 use Rattle.hdr_model.specs.Plain.{Plain}
@@ -10,12 +10,17 @@ use Rattle.hdr_input.specs.Numbers.{in_units}
 use Rattle.hdr_input.specs.Recorded.{after_number}
 use Rattle.hdr_input.specs.declared.number.Number.{Number}
 
+-- a power of ten is positive
+pub positive : (n : ℕ) → 0 < 10 ^ n
+positive n =
+    let from : 0 ≤ n = omega arith in
+    let one : 10 ^ 0 ≤ 10 ^ n = pow-le-pow_right (lit< tt) from in
+    one
+
 -- a number with the decimals of the unit has its digits in units
 pub units_same : (digits decimals : ℕ) → in_units digits decimals decimals ≡ digits
 units_same digits decimals =
-    let from : 0 ≤ decimals = omega arith in
-    let one : 10 ^ 0 ≤ 10 ^ decimals = pow-le-pow_right (lit< tt) from in
-    let some : 1 ≤ 10 ^ decimals = one in
+    let some : 0 < 10 ^ decimals = positive decimals in
     div-mul-add digits (10 ^ decimals) (10 ^ decimals / 2) (omega (arith, some))
 
 -- without an expected interval the value alone is recorded

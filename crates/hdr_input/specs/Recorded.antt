@@ -1,11 +1,15 @@
 -- Histograms after numbers.
-use Rattle.std.specs.Prelude.{◌≡◌, ℕ, ◌+◌, ◌-◌, ◌*◌, ◌%◌, ◌^◌, ◌<◌, ◌≤◌, ◌⊎◌, ◌↔◌, min, max, Some, IsSome, Bool, IsTrue, List}
+use Rattle.std.specs.Prelude.{◌≡◌, ℕ, ◌+◌, ◌-◌, ◌*◌, ◌%◌, ◌^◌, ◌<◌, ◌≤◌, ◌⊎◌, ◌↔◌, min, max, true, Some, IsSome, Result, Ok, Err, Bool, IsTrue, List}
 use Rattle.hdr_base.specs.Classes.{IsFiner}
-use Rattle.hdr_model.specs.Plain.{Plain, resolution}
+use Rattle.hdr_model.specs.Plain.{Plain, resolution, reach}
 use Rattle.hdr_model.specs.Correction.{after_correct}
 use Rattle.hdr_model.specs.Merging.{after_add}
 use Rattle.hdrhistogram.specs.FieldRead.{IsHeldIn}
 use Rattle.hdr_input.specs.Numbers.{in_units}
+use Rattle.hdr_model.specs.declared.errors.RecordError.{RecordError}
+use Rattle.hdr_model.specs.declared.errors.RecordError.TheVariants as record_error
+use Rattle.hdr_input.specs.declared.cause.Cause.{Cause}
+use Rattle.hdr_input.specs.declared.cause.Cause.TheVariants.{MoreDecimals, TooLarge, OutOfMemory}
 use Rattle.hdr_input.specs.declared.number.Number.{Number}
 use Rattle.hdr_input.specs.declared.tally.Tally.{Tally}
 
@@ -34,6 +38,21 @@ Takes old new number = IsSome new.decimals × ((decimals : ℕ) → new.decimals
 -- the unit of a tally stays once it is set
 abbrev pub KeepsUnit : Tally → Tally → Type 0
 KeepsUnit old new = (decimals : ℕ) → old.decimals ≡ Some decimals → (new.decimals ≡ Some decimals) × (new.interval ≡ old.interval)
+
+-- a number is not recorded, for this cause: it has more decimals than the unit, or is too large in it, or memory runs out for more bins
+abbrev pub IsTallyError : Tally → Number → Cause → Type 0
+IsTallyError tally number MoreDecimals = (decimals : ℕ) → tally.decimals ≡ Some decimals → decimals < number.decimals
+IsTallyError tally number TooLarge = (decimals : ℕ) → tally.decimals ≡ Some decimals → decimals ≤ 18 → number.decimals ≤ 18
+    → tally.histogram.auto_resize ≡ true → 2 ^ 64 ≤ in_units number.digits number.decimals decimals
+IsTallyError tally number OutOfMemory = (decimals : ℕ) → tally.decimals ≡ Some decimals
+    → reach tally.histogram < in_units number.digits number.decimals decimals
+IsTallyError tally number _ = ⊥
+
+-- a value was not recorded, for this cause
+abbrev pub IsCauseOf : Result Unit RecordError → Cause → Type 0
+IsCauseOf (Ok _) cause = ⊥
+IsCauseOf (Err record_error.OutOfMemory) cause = cause ≡ OutOfMemory
+IsCauseOf (Err _) cause = cause ≡ TooLarge
 
 -- the histogram that a field holds is added to a sum, and it is coarser than the sum or not
 abbrev pub AddsField : List ℕ → Plain → Plain → Bool → Type 0

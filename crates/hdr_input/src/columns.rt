@@ -7,7 +7,7 @@ use crate::number::Number;
 use crate::tally::Tally;
 use csv::{ByteRecord, ErrorKind, ReaderBuilder};
 use std::alloc::{AllocError, Global};
-use std::io::{self, Read};
+use std::io::Read;
 
 /// How a table is read.
 #[derive(Clone, Copy)]
@@ -150,27 +150,8 @@ fn find_columns(
     Ok((indices, is_header))
 }
 
-/// A reader that retries interrupted reads.
-#[derive(Drop)]
-struct RetryReader<R> {
-    reader: R,
-}
-
-impl<R: Read> Read for RetryReader<R> {
-    ghost remaining = { λ retry. R.remaining retry.reader };
-
-    fn read(&mut self, buf: &mut [u8]) -> io::Result<usize> {
-        for _ in 0..u64::MAX {
-            match self.reader.read(buf) {
-                Err(e) if e.kind() == io::ErrorKind::Interrupted => {}
-                result => return result,
-            }
-        }
-        Err(io::Error::from(io::ErrorKind::Interrupted))
-    }
-}
-
-/// Reads a table to its end. A column has a number from 1, or a name in the first row.
+/// Reads a table to its end. A column has a number from 1, or a name in the first row. An
+/// interrupted read is an error: `RetryReader` retries it.
 pub fn read_rows<R: Read + Drop, S: RowSink>(
     alloc: Global,
     reader: R,
@@ -182,7 +163,7 @@ pub fn read_rows<R: Read + Drop, S: RowSink>(
         .has_headers(false)
         .flexible(true)
         .delimiter(layout.delimiter)
-        .from_reader(alloc, RetryReader { reader });
+        .from_reader(alloc, reader);
     let mut row = ByteRecord::new(alloc);
     let mut found = None;
     for before in 0..u64::MAX {

@@ -59,12 +59,22 @@ pub enum InputError {
 }
 
 impl From<AllocError> for InputError {
+    ghost use Rattle.std.specs.Prelude.{◌≡◌};
+    ghost use Rattle.hdr_input.specs.declared.errors.InputError.TheVariants.{OutOfMemory};
+
+    ghost from_gives = { λ _ error. error ≡ OutOfMemory };
+
     fn from(_error: AllocError) -> InputError {
         InputError::OutOfMemory
     }
 }
 
 impl From<CreationError> for InputError {
+    ghost use Rattle.std.specs.Prelude.{◌≡◌};
+    ghost use Rattle.hdr_input.specs.declared.errors.InputError.TheVariants.{OutOfMemory};
+
+    ghost from_gives = { λ _ error. error ≡ OutOfMemory };
+
     fn from(_error: CreationError) -> InputError {
         InputError::OutOfMemory
     }

@@ -13,6 +13,7 @@ pub mod logs;
 pub mod number;
 pub mod pieces;
 pub mod plain;
+pub mod retry;
 pub mod tally;
 mod wide;
 

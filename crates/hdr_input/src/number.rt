@@ -1,6 +1,6 @@
 //! Decimal numbers, and their values in units.
 
-ghost use Rattle.std.specs.Prelude.{◌≡◌, ◌+◌, ◌-◌, ◌*◌, ◌^◌, ◌<◌, ◌≤◌, min, true, length, IfSome, SomeIff};
+ghost use Rattle.std.specs.Prelude.{◌≡◌, ◌+◌, ◌-◌, ◌*◌, ◌^◌, ◌<◌, ◌≤◌, min, max, true, length, IfNone, IfSome, SomeIff};
 ghost use Rattle.std.specs.Char.{is_ascii_digit, digit_value};
 ghost use Rattle.hdr_input.specs.Numbers.{in_units, BeginsWithDigits, BeginsWithPart};
 ghost use Rattle.hdr_input.specs.Numbers.{BeginsWithNumber, EndsLine};
@@ -179,6 +179,7 @@ impl Number {
     pub fn divided_by_ten(self, times: u32) -> Option<Number>
         ensures digits { IfSome result (λ n. n.digits ≡ self.digits) }
         ensures decimals { IfSome result (λ n. n.decimals ≡ self.decimals + times) }
+        ensures overflow { IfNone result (2 ^ 32 ≤ self.decimals + times) }
     {
         Some(Number {
             digits: self.digits,
@@ -192,6 +193,7 @@ impl Number {
             ≡ self.digits * 10 ^ (times - min times self.decimals)) }
         ensures decimals { IfSome result (λ n. n.decimals
             ≡ self.decimals - min times self.decimals) }
+        ensures overflow { IfNone result (2 ^ 64 ≤ max 1 self.digits * 10 ^ (times - min times self.decimals)) }
     {
         let fewer = times.min(self.decimals);
         let factor = 10u64.checked_pow(times - fewer)?;
@@ -203,8 +205,11 @@ impl Number {
 
     /// Returns the number in units of the last of `decimals`, halves rounded up, or `None` on
     /// overflow.
+    #[tactic(auto, using(crate::proofs::Units::positive))]
     pub fn rounded(self, decimals: u32) -> Option<u64>
-        ensures { IfSome result (λ units. units ≡ in_units self.digits self.decimals decimals) }
+        ensures units { IfSome result (λ units. units ≡ in_units self.digits self.decimals decimals) }
+        ensures overflow { self.decimals ≤ 18 → decimals ≤ 18
+            → IfNone result (2 ^ 64 ≤ in_units self.digits self.decimals decimals) }
     {
         let divisor = 10u128.checked_pow(self.decimals)?;
         let factor = 10u128.checked_pow(decimals)?;

@@ -1,6 +1,6 @@
 //! Logs whose histograms are compressed, read as if they were not.
 
-ghost use Rattle.std.specs.Prelude.{◌≡◌, ◌++◌, ℕ, List, IsTrue, OnOk, IfOk};
+ghost use Rattle.std.specs.Prelude.{◌≡◌, ◌++◌, ℕ, List, IsTrue, true, OnOk, IfOk, IfErr};
 ghost use Rattle.hdr_input.specs.Lines.{IsPlainOf, IsPlainField, HasOtherForm, is_other_form};
 
 use crate::errors::InputError;
@@ -56,7 +56,8 @@ pub fn plain_field<'a>(
     field: &'a str,
     buffer: &'a mut Vec<u8>,
 ) -> Result<&'a str, ConvertError>
-    ensures { IfOk result (λ plain. IsPlainField field.now plain.now) }
+    ensures plain { IfOk result (λ plain. IsPlainField field.now plain.now) }
+    ensures errors { IfErr result (λ _. is_other_form field.now ≡ true) }
 {
     if !is_other_form(field.as_bytes()) {
         return Ok(field);

@@ -1,10 +1,12 @@
 //! Numbers, recorded as they come.
 
 ghost use Rattle.std.specs.Prelude.{◌≡◌, ◌+◌, ◌-◌, ◌^◌, ◌<◌, ◌≤◌, ℕ, min, max, true};
-ghost use Rattle.std.specs.Prelude.{Some, None, Ok, OnOk, IfOk, IsSome, MatchOption};
+ghost use Rattle.std.specs.Prelude.{Some, None, Ok, OnOk, IfOk, IfErr, IsSome, MatchOption};
+ghost use Rattle.hdr_model.specs.CallErrors.{IsCreationError};
 ghost use Rattle.hdr_model.specs.Plain.{empty_plain};
 ghost use Rattle.hdr_input.specs.Numbers.{in_units};
 ghost use Rattle.hdr_input.specs.Recorded.{IsInterval, IsLeast, Takes, KeepsUnit};
+ghost use Rattle.hdr_input.specs.Recorded.{IsTallyError, IsCauseOf};
 
 use crate::cause::Cause;
 use crate::distribution::{Distribution, MOST_DECIMALS};
@@ -54,6 +56,7 @@ impl Tally {
         ensures extremes { IfOk result (λ tally. (tally.min ≡ 2 ^ 64 - 1) × (tally.max ≡ 0)) }
         ensures sum { IfOk result (λ tally. tally.sum ≡ 0) }
         ensures skipped { IfOk result (λ tally. tally.skipped ≡ 0) }
+        ensures errors { IfErr result (IsCreationError 1 2 recording.sigfig) }
     {
         let interval = match recording.decimals {
             Some(decimals) => recording.interval.rounded(decimals).unwrap_or(u64::MAX),
@@ -120,6 +123,7 @@ impl Tally {
     pub fn record(&mut self, number: Number) -> Result<(), Cause>
         ensures number { OnOk result (Takes self.old self.new number) }
         ensures unit { KeepsUnit self.old self.new }
+        ensures errors { IfErr result (IsTallyError self.new number) }
     {
         if self.decimals == Some(number.decimals) && self.interval == 0 {
             let done = self.histogram.record(number.digits);
@@ -134,6 +138,7 @@ impl Tally {
     fn record_other(&mut self, number: Number) -> Result<(), Cause>
         ensures number { OnOk result (Takes self.old self.new number) }
         ensures unit { KeepsUnit self.old self.new }
+        ensures errors { IfErr result (IsTallyError self.new number) }
     {
         let units = self.units_of(number)?;
         let done = self.histogram.record_correct(units, self.interval);
@@ -150,6 +155,7 @@ impl Tally {
         value: u64,
     ) -> Result<(), Cause>
         ensures done { OnOk result (done ≡ Ok tt) }
+        ensures errors { IfErr result (IsCauseOf done) }
         ensures histogram { self.new.histogram ≡ self.old.histogram }
         ensures decimals { self.new.decimals ≡ self.old.decimals }
         ensures interval { self.new.interval ≡ self.old.interval }
@@ -174,7 +180,10 @@ impl Tally {
         ensures units { IfOk result (λ units. (decimals : ℕ) → self.new.decimals ≡ Some decimals
             → units ≡ in_units number.digits number.decimals decimals) }
         ensures set { OnOk result (IsSome self.new.decimals) }
+        ensures errors { IfErr result (IsTallyError self.new number) }
         ensures unit { (decimals : ℕ) → self.old.decimals ≡ Some decimals → self.new ≡ self.old }
+        ensures exact { OnOk result (self.old.recording.decimals ≡ None → (decimals : ℕ)
+            → self.new.decimals ≡ Some decimals → number.decimals ≤ decimals) }
         ensures histogram { self.new.histogram ≡ self.old.histogram }
         ensures min { self.new.min ≡ self.old.min }
         ensures max { self.new.max ≡ self.old.max }
@@ -194,6 +203,7 @@ impl Tally {
     /// more, but at most 18.
     fn set_decimals(&mut self, decimals: u32) -> u32
         ensures decimals { self.new.decimals ≡ Some result }
+        ensures recording { self.new.recording ≡ self.old.recording }
         ensures histogram { self.new.histogram ≡ self.old.histogram }
         ensures min { self.new.min ≡ self.old.min }
         ensures max { self.new.max ≡ self.old.max }

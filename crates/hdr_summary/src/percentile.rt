@@ -1,8 +1,8 @@
 //! Percentiles, and the quantiles that they name.
 
-ghost use Rattle.std.specs.Prelude.{◌≡◌, ◌≤◌, IfSome, true};
+ghost use Rattle.std.specs.Prelude.{◌≡◌, ◌≤◌, IfNone, IfSome, true};
 ghost use Rattle.hdr_log.specs.Parts.{is_digits};
-ghost use Rattle.hdr_summary.specs.Percent.{percent};
+ghost use Rattle.hdr_summary.specs.Percent.{percent, IsBeyond};
 
 use hdr_log::parts::{number, split_once};
 use hdrhistogram::Quantile;
@@ -26,10 +26,12 @@ impl Percentile<'_> {
 
 /// Returns the quantile of the percentile `whole.part`, or `None` if it is above 100, or if its
 /// fraction overflows 64 bits.
-#[tactic(auto, unfolding(hdr_log::specs::Parts::number_of))]
+#[tactic(auto, using(hdr_input::proofs::Units::positive, crate::proofs::Powers::great_power), unfolding(hdr_log::specs::Parts::number_of))]
 pub fn quantile(whole: &[u8], part: &[u8]) -> Option<Quantile>
     ensures value { IfSome result (λ q. q ≡ percent whole.now part.now) }
     ensures within { IfSome result (λ q. q.num ≤ q.den) }
+    ensures errors { IfNone result (is_digits whole.now ≡ true → is_digits part.now ≡ true
+        → IsBeyond (percent whole.now part.now)) }
 {
     let zeros = u32::try_from(part.len()).ok()?;
     let scale = 10u64.checked_pow(zeros)?;

@@ -1,7 +1,7 @@
 //! Units of time, and amounts in them.
 
 ghost use Rattle.std.specs.Prelude.{◌≡◌, ◌≢◌, ◌≤◌, IfNone, IfSome};
-ghost use Rattle.hdr_summary.specs.Units.{unit_name, exponent, IsSameTime};
+ghost use Rattle.hdr_summary.specs.Units.{unit_name, exponent, IsSameTime, IsTooGreat};
 
 use hdr_input::Number;
 use hdr_input::distribution::MOST_DECIMALS;
@@ -59,7 +59,8 @@ fn split_unit(text: &str) -> (&str, Option<Unit>) {
 
 /// Returns the number of one unit in another, or `None` on overflow.
 pub fn in_unit(number: Number, from: Unit, to: Unit) -> Option<Number>
-    ensures { IfSome result (λ n. IsSameTime number from n to) }
+    ensures same { IfSome result (λ n. IsSameTime number from n to) }
+    ensures overflow { IfNone result (IsTooGreat number from to) }
 {
     let from = from.decimals();
     let to = to.decimals();

@@ -1,7 +1,8 @@
 //! What a page shows.
 
-ghost use Rattle.std.specs.Prelude.{◌≡◌, ◌≤◌, ◌<◌, ◌↔◌, IfNone, IfSome, IsTrue, length};
-ghost use Rattle.hdr_view.specs.Views.{figure_of};
+ghost use Rattle.std.specs.Prelude.{◌≡◌, ◌≤◌, ◌<◌, ◌↔◌, ◌==◌, IfNone, IfSome, IsTrue};
+ghost use Rattle.std.specs.Prelude.{length, take, []};
+ghost use Rattle.hdr_view.specs.Views.{figure_of, name_without_tag};
 
 use crate::amount::Units;
 use crate::clock::Clock;
@@ -77,7 +78,7 @@ impl<'a> View<'a> {
 
     /// Returns the tags that are drawn.
     pub fn drawn(&self) -> &[TagFigures<'a>]
-        ensures { length result.now ≤ 10 }
+        ensures tags { result.now ≡ take 10 self.now.log.tags.items }
     {
         self.log
             .tags
@@ -86,7 +87,9 @@ impl<'a> View<'a> {
     }
 
     /// Whether the log has one tag.
-    pub fn is_single(&self) -> bool {
+    pub fn is_single(&self) -> bool
+        ensures { result ≡ (length self.now.log.tags.items == 1) }
+    {
         self.log.tags.len() == 1
     }
 
@@ -170,7 +173,8 @@ impl<'a> View<'a> {
 
     /// Returns the name of a tag.
     pub fn name_of<'n>(&self, tag: &'n str) -> &'n str
-        ensures { 0 < length tag.now → result.now ≡ tag.now }
+        ensures tag { 0 < length tag.now → result.now ≡ tag.now }
+        ensures no_tag { tag.now ≡ [] → result.now ≡ name_without_tag (length self.now.log.tags.items) }
     {
         if !tag.is_empty() {
             return tag;

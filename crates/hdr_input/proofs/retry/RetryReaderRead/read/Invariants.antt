@@ -1,5 +1,5 @@
 use Rattle.std.specs.Io.KnownBytes.{Keeps}
-use Rattle.hdr_input.proofs.columns.RetryReaderRead.read.Given as goal
+use Rattle.hdr_input.proofs.retry.RetryReaderRead.read.Given as goal
 
 -- an interrupted read consumed nothing
 abbrev pub invariant-loop : goal.invariant-loop
