@@ -1,4 +1,4 @@
-use Rattle.std.proofs.Common.{◌≡◌, ℕ, ◌+◌, ◌-◌, ◌*◌, ◌^◌, ◌≤◌, Result, Ok, Err, OnOk, List, ◌++◌, append_assoc, refl, string_bytes, arith}
+use Rattle.std.proofs.Common.{◌≡◌, ℕ, ◌-◌, ◌*◌, ◌^◌, ◌≤◌, Result, Ok, Err, OnOk, List, ◌++◌, append_assoc, refl, string_bytes, arith}
 use Rattle.hdr_draw.specs.Numbers.{IsNearest, IsDecimalOf, decimal_text, exponent}
 use Rattle.hdr_draw.proofs.Decimals.{of_parts}
 use Rattle.hdr_charts.proofs.rates.push_rate_label.Goals as goal
