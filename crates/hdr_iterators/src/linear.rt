@@ -76,7 +76,10 @@ fn end_after<T: Counter>(bins: &Bins<'_, T>, end: Option<u64>, index: usize) -> 
     requires { index < bins_in bins.now }
     ensures { result ≡ end_at bins.now end index }
 {
-    end.or((index >= bins.last()).then_some(bins.top(index)))
+    match end {
+        None if index >= bins.last() => Some(bins.top(index)),
+        end => end,
+    }
 }
 
 /// Whether no level follows this one.

@@ -159,10 +159,12 @@ pub(crate) fn encode_within<T: Counter>(
     let mut written = 0;
     let mut bin = 0usize;
     while bin < bins {
-        let count = count_of(counters, bin);
+        let start = bin;
+        let count = count_of(counters, start);
+        bin += 1;
         if count == 0 {
-            let filled = h.next_filled(bin + 1).min(bins);
-            written = write_run(buf, written, (filled - bin) as u64);
+            let filled = h.next_filled(bin).min(bins);
+            written = write_run(buf, written, (filled - start) as u64);
             bin = filled;
             continue;
         }
@@ -171,7 +173,6 @@ pub(crate) fn encode_within<T: Counter>(
         }
         // Zig-zag encodes a number that is not negative as its double.
         written = write_number(buf, written, 2 * count);
-        bin += 1;
     }
     Ok(written)
 }
