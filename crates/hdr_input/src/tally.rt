@@ -123,6 +123,7 @@ impl Tally {
     pub fn record(&mut self, number: Number) -> Result<(), Cause>
         ensures number { OnOk result (Takes self.old self.new number) }
         ensures unit { KeepsUnit self.old self.new }
+        ensures set { IsSome self.new.decimals }
         ensures errors { IfErr result (IsTallyError self.new number) }
     {
         if self.decimals == Some(number.decimals) && self.interval == 0 {
@@ -138,6 +139,7 @@ impl Tally {
     fn record_other(&mut self, number: Number) -> Result<(), Cause>
         ensures number { OnOk result (Takes self.old self.new number) }
         ensures unit { KeepsUnit self.old self.new }
+        ensures set { IsSome self.new.decimals }
         ensures errors { IfErr result (IsTallyError self.new number) }
     {
         let units = self.units_of(number)?;
@@ -179,7 +181,7 @@ impl Tally {
     pub(crate) fn units_of(&mut self, number: Number) -> Result<u64, Cause>
         ensures units { IfOk result (λ units. (decimals : ℕ) → self.new.decimals ≡ Some decimals
             → units ≡ in_units number.digits number.decimals decimals) }
-        ensures set { OnOk result (IsSome self.new.decimals) }
+        ensures set { IsSome self.new.decimals }
         ensures errors { IfErr result (IsTallyError self.new number) }
         ensures unit { (decimals : ℕ) → self.old.decimals ≡ Some decimals → self.new ≡ self.old }
         ensures exact { OnOk result (self.old.recording.decimals ≡ None → (decimals : ℕ)

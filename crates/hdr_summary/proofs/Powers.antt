@@ -26,7 +26,7 @@ multiplied number from to low high (Some n) f t l digits decimals =
     let powers : n.decimals + exponent to ≡ more + (number.decimals + exponent from) = omega (arith, f, t, l, decimals) in
     by_powers number.digits n.digits more (number.decimals + exponent from) (n.decimals + exponent to) digits powers
 
--- a number that is too great once its decimals are spent is too great for the unit
+-- digits that overflow with some of the zeros between two units overflow with all of them
 pub too_great : (number : Number) (from to : Unit) (low high : ℕ) (o : Option Number) → low ≡ exponent from → high ≡ exponent to
     → IfNone o (2 ^ 64 ≤ max 1 number.digits * 10 ^ (high - low - min (high - low) number.decimals)) → IfNone o (IsTooGreat number from to)
 too_great number from to low high (Some n) f t over = tt
