@@ -174,7 +174,7 @@ hdr_status hdr_auto_resize(struct hdr_histogram *h, bool enabled) HDR_NONNULL;
 /* Clears the samples, and the minimum and maximum. Error: 1. */
 hdr_status hdr_reset(struct hdr_histogram *h) HDR_NONNULL;
 
-/* Clears the samples, but not the minimum and maximum. Error: 1. */
+/* Clears the samples, and keeps hdr_max and hdr_min_nz. hdr_min is 0 until a value is recorded. Error: 1. */
 hdr_status hdr_clear(struct hdr_histogram *h) HDR_NONNULL;
 
 /* Recording. Counts saturate at UINT64_MAX. */
@@ -218,7 +218,7 @@ bool hdr_equal(struct hdr_histogram *h, struct hdr_histogram *other) HDR_NONNULL
 /* Returns the number of samples, UINT64_MAX if it is greater. */
 uint64_t hdr_len(struct hdr_histogram *h) HDR_NONNULL;
 
-/* Returns the lowest value of the first class recorded, 0 if there is none. */
+/* Returns the lowest value of the first class recorded, 0 if there are no samples. */
 uint64_t hdr_min(struct hdr_histogram *h) HDR_NONNULL;
 
 /* Returns the lowest value recorded past the class of 0, UINT64_MAX if there is none. */

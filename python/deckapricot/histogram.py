@@ -162,7 +162,7 @@ class Histogram:
         check(lib.reset(self._at))
 
     def clear(self) -> None:
-        """Clears the samples, but not the minimum and maximum."""
+        """Clears the samples, and keeps max and min_nonzero. min is 0 until a value is recorded."""
         check(lib.clear(self._at))
 
     def _shape(self) -> Shape:
@@ -212,7 +212,7 @@ class Histogram:
 
     @property
     def min(self) -> int:
-        """The lowest value of the first class recorded, 0 if there is none."""
+        """The lowest value of the first class recorded, 0 if there are no samples."""
         return int(lib.min(self._at))
 
     @property

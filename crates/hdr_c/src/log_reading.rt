@@ -11,7 +11,7 @@ use crate::handle::Handle;
 use crate::interval::{Found, Interval, Time};
 use crate::status::{INVALID_LINE, LOG_END, OK, of_field_error};
 use hdr_log::line::{entry, is_skipped};
-use hdr_log::parts::split_once;
+use hdr_log::parts::split_line;
 use hdrhistogram::serialization::interval_log::LogEntry;
 use hdrhistogram::serialization::{Deserializer, FieldDecodeError};
 use std::alloc::Global;
@@ -26,7 +26,7 @@ fn first_interval(log: &[u8], from: usize, base: Option<Time>) -> Found<'_>
     let mut at = from;
     let mut base = base;
     let mut text = &log[from..];
-    while let Some((line, rest)) = split_once(text, b'\n') {
+    while let Some((line, rest)) = split_line(text) {
         let next = at + line.len() + 1;
         if let Some(entry) = entry(line) {
             match entry {

@@ -18,7 +18,8 @@ pub enum ConvertError {
     /// The bytes do not start as those of a histogram.
     #[error("not a histogram")]
     NotAHistogram,
-    /// The bytes start as those of a version before V2.
+    /// The bytes start as those of a version before V2. A conversion returns this only if the width
+    /// of the counters is unknown.
     #[error("a histogram of version {0} with counters of an unknown width")]
     OldVersion(u8),
     /// A histogram of version 1 shifts its values, or has a ratio other than 1.

@@ -175,7 +175,7 @@ impl<T: Counter> Histogram<T> {
         self.total
     }
 
-    /// The old name of `len`.
+    /// As `len`.
     pub fn count(&self) -> u64
         ensures { result ≡ self.now.total }
     {

@@ -9,8 +9,8 @@ use hdr_base::{Counter, saturating_from};
 
 impl<T: Counter> Counts<T> {
     /// Adds the counters of `source`, in blocks of the same length, element by element, as far as
-    /// both have them. Each counter saturates at `T::max_value()`. A section of `source` whose sum
-    /// is 0 is skipped.
+    /// both have them. Each counter saturates at `T::max_value()`. If the sections have one length,
+    /// those of `source` whose sum is 0 are skipped.
     pub fn add_all<F: Counter>(&mut self, source: &Counts<F>)
         requires { self.old.block ≡ source.now.block }
         ensures { self.new ≡ record {

@@ -6,9 +6,6 @@ ghost use Rattle.hdr_draw.specs.Logarithm.{IsLogarithm, bend};
 /// The logarithm of 2: logarithms are in 65,536ths.
 pub const OCTAVE: u64 = 65_536;
 
-/// The greatest logarithm of a value.
-pub const GREATEST: u64 = 64 * OCTAVE;
-
 /// Returns the logarithm of the number from 1 to 2 that is this many 65,536ths above 1.
 #[tactic(auto, using(crate::proofs::Bend::bend_bound), unfolding(crate::specs::Logarithm::bend))]
 fn bend(part: u64) -> u64

@@ -79,26 +79,30 @@ pub struct Decimal {
 
 impl Decimal {
     /// Returns a fraction with three significant digits but at most nine decimals, or as an integer
-    /// from 100 on.
+    /// from 99.95 on. If one more decimal would overflow, the decimals before it are returned.
     pub fn of_fraction(num: u128, den: u128) -> Decimal
         ensures nearest { 0 < den → num * 10 ^ 9 + 1 < 2 ^ 128
             → IsNearest num den (10 ^ result.decimals) result.parts }
         ensures few { result.decimals ≤ 9 }
         ensures even { 0 < den → num * 10 ^ 9 + 1 < 2 ^ 128
             → 2 * (num * 10 ^ result.decimals % den) ≡ den → result.parts % 2 ≡ 0 }
-        ensures digits { result.decimals < 9 → 100 ≤ result.parts }
+        ensures digits { 0 < den → num * 10 ^ 9 + 1 < 2 ^ 128
+            → result.decimals < 9 → 1999 * den ≤ 20 * (num * 10 ^ result.decimals) }
         ensures at_most { 0 < den → num * 10 ^ 9 + 1 < 2 ^ 128
             → 0 < result.decimals → result.parts < 1000 }
     {
+        let mut parts = in_parts(num, den, 1).unwrap_or(0);
         for decimals in 0..MOST_DECIMALS {
-            if let Some(parts) = in_parts(num, den, 10u128.pow(decimals)) {
-                if parts >= 100 {
-                    return Decimal { parts, decimals };
-                }
+            let Some(longer) = in_parts(num, den, 10u128.pow(decimals + 1)) else {
+                return Decimal { parts, decimals };
+            };
+            if longer >= 1_000 {
+                return Decimal { parts, decimals };
             }
+            parts = longer;
         }
         Decimal {
-            parts: in_parts(num, den, 10u128.pow(MOST_DECIMALS)).unwrap_or(0),
+            parts,
             decimals: MOST_DECIMALS,
         }
     }
@@ -145,8 +149,8 @@ impl Decimal {
     }
 }
 
-/// Returns a fraction as a decimal from 1 up to 10, times the power of ten of an exponent. The
-/// exponent is at least 0.
+/// Returns a fraction of 1 or more as a decimal from 1 up to 10, times the power of ten of an
+/// exponent. The exponent of a fraction below 1 is 0.
 pub fn scientific(num: u128, den: u128) -> (Decimal, u32)
     ensures nearest { 0 < den → num * 10 ^ 9 + 1 < 2 ^ 128
         → IsNearest num (den * 10 ^ result.1) (10 ^ result.0.decimals) result.0.parts }
@@ -157,7 +161,7 @@ pub fn scientific(num: u128, den: u128) -> (Decimal, u32)
         let Some(longer) = tens.checked_mul(10) else {
             break;
         };
-        if num.saturating_mul(1_000) < longer.saturating_mul(995) {
+        if num.saturating_mul(10_000) < longer.saturating_mul(9_995) {
             break;
         }
         tens = longer;
@@ -177,8 +181,8 @@ pub fn push_exponent(text: &mut String, power: u32) -> Result<(), AllocError>
     write!(text, "e{power}")
 }
 
-/// Appends a fraction with three significant digits, or as an integer from 100 on. Zeros at the end
-/// of its decimals are left out.
+/// Appends a fraction with three significant digits, or as an integer from 99.95 on. Zeros at the
+/// end of its decimals are left out.
 pub fn push_fraction(text: &mut String, num: u128, den: u128) -> Result<(), AllocError>
     requires some { 0 < den }
     requires fits { num * 10 ^ 9 + 1 < 2 ^ 128 }

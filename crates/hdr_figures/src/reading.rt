@@ -30,7 +30,7 @@ pub struct Interval<'a> {
 }
 
 impl Interval<'_> {
-    /// Returns when it ended, in milliseconds since the epoch.
+    /// Returns when it ended, in milliseconds as `start`.
     pub fn end(&self) -> u64
         ensures { result ≡ min (self.now.start + self.now.length) (2 ^ 64 - 1) }
     {

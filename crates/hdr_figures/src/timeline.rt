@@ -13,7 +13,7 @@ const MOST: u64 = 200;
 /// The first time that is a time of a clock, in milliseconds: 366 days after the epoch.
 const CLOCK_FROM: u64 = 31_622_400_000;
 
-/// The points of time of a log, in milliseconds since the epoch.
+/// The points of time of a log, in milliseconds as `Interval::start`.
 #[derive(Clone, Copy)]
 pub struct Timeline {
     /// When the first interval began, and the last one ended.

@@ -14,7 +14,10 @@ use hdr_summary::figures::Tagged;
 use hdrhistogram::Histogram;
 use hdrhistogram::serialization::interval_log::IntervalChoice;
 use std::alloc::Global;
-use std::io::{BufRead, BufReader, Read};
+use std::io::Read;
+
+/// How many bytes of a longer first line determine the delimiter of a table.
+const START: usize = 8_192;
 
 /// What takes the contents of files.
 trait FileSink {
@@ -106,7 +109,7 @@ fn read_table<R: Read + Drop, S: RowSink>(
     time: Option<&str>,
     sink: &mut S,
 ) -> Result<(), InputError> {
-    let reader = RetryReader { reader };
+    let mut reader = RetryReader { reader };
     let has_header = table.has_header;
     let columns = Columns {
         value: table.column,
@@ -119,19 +122,31 @@ fn read_table<R: Read + Drop, S: RowSink>(
         };
         return read_rows(alloc, reader, columns, layout, sink);
     }
-    let mut reader = match BufReader::new(alloc, reader) {
-        Ok(reader) => reader,
-        Err(error) => return Err(InputError::of_reading(error)),
-    };
-    let delimiter = match reader.fill_buf() {
-        Ok(start) => guess_delimiter(start),
-        Err(error) => return Err(InputError::of_reading(error)),
-    };
+    let start = read_start(alloc, &mut reader)?;
     let layout = Layout {
-        delimiter,
+        delimiter: guess_delimiter(&start),
         has_header,
     };
-    read_rows(alloc, reader, columns, layout, sink)
+    read_rows(alloc, start.as_slice().chain(reader), columns, layout, sink)
+}
+
+/// Returns the first bytes of a table: its first line at least, or `START` bytes or more of that.
+fn read_start<R: Read>(alloc: Global, reader: &mut R) -> Result<Vec<u8>, InputError> {
+    let mut start = Vec::new(alloc);
+    let mut buffer = [0; START];
+    // Each read but the last returns a byte or more.
+    for _ in 0..START {
+        let len = match reader.read(&mut buffer) {
+            Ok(len) => len,
+            Err(error) => return Err(InputError::of_reading(error)),
+        };
+        let bytes = &buffer[..len];
+        start.extend_from_slice(bytes)?;
+        if bytes.is_empty() || bytes.contains(&b'\n') || start.len() >= START {
+            break;
+        }
+    }
+    Ok(start)
 }
 
 /// Reads a file; `-` is standard input.

@@ -26,7 +26,8 @@ use std::io::{Read, Write};
 ///
 /// # Errors
 /// Returns `NotSorted` if an interval of a log begins before the one above it, and `OtherDecimals`
-/// if its values have other decimals than others. What precedes an error may have been written.
+/// if its values have other decimals than others. Otherwise returns the first error of reading,
+/// adding or writing an interval. What precedes an error may have been written.
 pub fn gather_sorted<R: Read + Drop, W: Write>(
     alloc: Global,
     logs: &mut [LogReader<R>],

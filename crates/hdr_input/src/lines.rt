@@ -4,6 +4,7 @@ ghost use Rattle.std.specs.Prelude.{◌<◌, length};
 
 use crate::cause::Cause;
 use crate::errors::{InputError, Place, bad_number};
+use crate::log_lines::without_mark;
 use crate::number::{Number, plain_line, plain_number};
 use crate::pieces::LineSink;
 use crate::tally::Tally;
@@ -22,11 +23,7 @@ fn split_line(text: &[u8]) -> (&[u8], &[u8])
 /// Returns a line without a byte order mark, which only the first line may have, and without
 /// whitespace around it.
 fn trimmed(line: &[u8], number: u64) -> &[u8] {
-    let line = match line {
-        [0xef, 0xbb, 0xbf, rest @ ..] if number == 1 => rest,
-        _ => line,
-    };
-    line.trim_ascii()
+    without_mark(line, number).trim_ascii()
 }
 
 /// Whether a text has a delimiter of a table's columns.
@@ -81,7 +78,7 @@ fn record_line(
 
 /// Records the numbers of lines, and returns the number of the line after them. The first line has
 /// the number `first`.
-pub fn record_lines(
+fn record_lines(
     alloc: Global,
     tally: &mut Tally,
     text: &[u8],

@@ -159,6 +159,10 @@ impl Number {
 
     /// Parses a number such as `12`, `+0.50` or `1.5e-05`. It is rounded to `decimals`, or exact if
     /// that is `None`.
+    ///
+    /// # Errors
+    /// Returns `NotANumber` for another text, and `Negative` for a number below 0. Returns
+    /// `TooManyDecimals` if an exact number has more than 18, and `TooLarge` on overflow.
     pub fn parse(text: &[u8], decimals: Option<u32>) -> Result<Number, Cause> {
         match text {
             [b'-', rest @ ..] => match parse_wide(rest) {

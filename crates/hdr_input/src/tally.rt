@@ -118,6 +118,10 @@ impl Tally {
     }
 
     /// Records a number.
+    ///
+    /// # Errors
+    /// Returns `MoreDecimals` if the number has more decimals than those before it, unless they are
+    /// fixed. Returns `TooLarge` if it overflows in units, or `OutOfMemory`.
     #[inline(always)]
     #[tactic(auto, using(crate::proofs::Units::units_same, crate::proofs::Units::after_alone))]
     pub fn record(&mut self, number: Number) -> Result<(), Cause>

@@ -36,7 +36,7 @@ fn line_end(text: &[u8]) -> Option<usize>
 
 /// Returns the first line without its LF, and the rest after it, or `None` if no LF follows.
 #[tactic(auto, unfolding(crate::specs::Parts::split_at_byte))]
-pub(crate) fn split_line(text: &[u8]) -> Option<(&[u8], &[u8])>
+pub fn split_line(text: &[u8]) -> Option<(&[u8], &[u8])>
     ensures parts { option_map (λ p. (p.0.now, p.1.now)) result ≡ split_at_byte 10 text.now }
     ensures length { IfSome result (λ p. length p.0.now + 1 + length p.1.now ≡ length text.now) }
 {

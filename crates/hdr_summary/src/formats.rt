@@ -10,7 +10,6 @@ mod table;
 use crate::decimals::Conversion;
 use crate::figures::{Figure, Tagged, figures};
 use crate::percentile::Percentile;
-pub use hgrm::push_hgrm;
 pub use separated::{write_field, write_text};
 use std::alloc::{AllocError, Global};
 

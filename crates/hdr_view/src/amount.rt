@@ -225,7 +225,8 @@ impl Amount {
         push_box(text, self.unit)
     }
 
-    /// Appends the number: three significant digits, and integers of the log's own unit in full.
+    /// Appends the number: three significant digits, and integers of the log's own unit in full below
+    /// 10,000,000. From there on it has an exponent.
     pub fn push_number(self, text: &mut String) -> Result<(), AllocError>
         ensures { 0 < self.den → self.num * 10 ^ 9 + 1 < 2 ^ 128 → OnOk result ((added : List ℕ)
             × IsDecimalOf self.num self.den added

@@ -261,7 +261,7 @@ impl View<'_> {
     }
 
     /// Appends the name of a measure.
-    pub fn push_measure(&self, text: &mut String, measure: Measure) -> Result<(), AllocError> {
+    fn push_measure(&self, text: &mut String, measure: Measure) -> Result<(), AllocError> {
         match (measure, self.options.level) {
             (Measure::P50, _) => text.push_str("p50"),
             (Measure::P90, _) => text.push_str("p90"),

@@ -72,8 +72,9 @@ impl<T: Counter> Histogram<T> {
     }
 
     /// Returns an iterator over quantiles that approach 1. `ticks_per_half_distance` equal steps,
-    /// at least 1, cover the first half, then as many half of the rest, and so on; the last is 1
-    /// itself. Each is yielded at the first bin that reaches it.
+    /// at least 1, cover the first half, then as many half of the rest, and so on. Each nonempty
+    /// bin is yielded once for each quantile that it reaches. At the bin that reaches the total,
+    /// the next quantile follows, and then 1.
     pub fn iter_quantiles(
         &self,
         ticks_per_half_distance: u32,

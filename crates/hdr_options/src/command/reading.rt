@@ -81,7 +81,7 @@ pub(crate) fn with_recording<'a>(
     let skip_bad = Arg::new(alloc, "skip-bad")
         .long("skip-bad")
         .action(ArgAction::SetTrue)
-        .help("Skip lines without a number, and print how many");
+        .help("Skip lines whose number is missing or out of range, and print how many");
     let command = command
         .arg(digits)?
         .arg(decimals)?

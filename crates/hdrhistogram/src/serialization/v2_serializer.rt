@@ -76,8 +76,8 @@ impl V2Serializer {
     /// bytes and nine for each bin up to the top mark's.
     ///
     /// The buffer grows once at most, before anything is encoded. If nine bytes for each bin are more
-    /// than 1 MiB, it grows to at most nine bytes for each nonempty bin, for a run before each of
-    /// them, and for a last run.
+    /// than 1 MiB, it grows to at most 40 bytes and nine for each nonempty bin, for a run before each
+    /// of them, and for a last run.
     ///
     /// # Errors
     /// Returns `OutOfMemory` if the buffer can't grow, and then `CountNotSerializable` if a count

@@ -115,8 +115,9 @@ pub enum MergeError {
 ///
 /// # Errors
 /// Returns `Creation` if `sigfig` is above 5, before the log is read. Otherwise returns the first
-/// error of the log, in the order of its lines: `Parse`, `Base64` or `Decode`. Returns
-/// `OutOfMemory` if an allocation fails, also while a histogram is decoded.
+/// error of the log, in the order of its lines: `Parse`, `Base64` or `Decode`. A last line without
+/// a line feed is a `Parse`. Returns `OutOfMemory` if an allocation fails, also while a histogram
+/// is decoded.
 pub fn merge_log<T: Counter>(
     alloc: Global,
     log: &[u8],
