@@ -11,8 +11,8 @@ use crate::parts::split_line;
 use std::marker::Model;
 
 /// An iterator over the entries of a log in order. It ends at the end of the log, or after the first invalid line, whose offset
-/// is the last item. A last line without a line feed is invalid. It skips comments and other headers, borrows the log, and allocates nothing. Contracts see it as the list
-/// of its remaining items.
+/// is the last item. A last line without a line feed is invalid. The iterator skips comments and other headers, borrows the log,
+/// and allocates nothing. Contracts see it as the list of its remaining items.
 #[derive(Drop)]
 pub struct IntervalLogIterator<'a> {
     input: &'a [u8],
