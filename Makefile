@@ -2,7 +2,8 @@
 # make install: installs them below PREFIX, with manual pages, completions and the library for C. make dist: an archive of the
 # same, in dist. make install-c: installs the library for C alone.
 # make test: all rows and cases; make test ROW=NAME or CASE=NAME: one of them. docs/TESTING.md says more.
-# make edits: the wrong bodies alone, which the prover has to refuse: those of crates/*/edits and of crates/*/further-edits.
+# make edits: all wrong bodies, which the prover has to refuse: those of crates/*/edits and of crates/*/further-edits. The gate
+# tries a part of the first (docs/TESTING.md).
 # make quick: proves what has changed since the last commit, over the work that earlier checks kept, and plays the tests.
 # make bench: times beside the Rust crate hdrhistogram (compare/run says where that comes from).
 # make bench-shapes: instructions and times of each operation on the data that users have, beside the same.
@@ -46,15 +47,18 @@ dist: all
 	rm -rf target/$(DIST)
 
 # The edits are tried in a copy of the repository meanwhile, on what the proofs leave of the processors. What comes of them is
-# printed last.
+# printed near the end, and then the processor minutes of all of it.
 check:
+	tools/minutes "make check" $(MAKE) --no-print-directory gate
+
+gate:
 	tools/edits --control
 	$(MAKE) --no-print-directory -j2 proofs-and-runs trials || { cat target/edits.log; exit 1; }
 	cat target/edits.log
 
 trials:
 	mkdir -p target
-	nice tools/edits --fresh >target/edits.log
+	nice tools/edits --fresh --third >target/edits.log
 
 # What the gate does beside the edits.
 proofs-and-runs:
@@ -65,13 +69,14 @@ proofs-and-runs:
 	tools/capi
 	tools/test --proved
 	tools/language
+	tools/imports
 	tools/documents crates/hdr/out/hdr
 
 # On the proved builds where they are fresh; else what is stale is built unproved.
 test:
 	tools/test $(if $(ROW),--row "$(ROW)") $(if $(CASE),--case "$(CASE)")
 
-# The edits alone, the further ones too.
+# All edits alone, the further ones too: before a release.
 edits:
 	tools/edits --further
 
@@ -88,4 +93,4 @@ bench:
 bench-shapes:
 	compare/run shapes
 
-.PHONY: all install install-c dist check proofs-and-runs trials test edits quick bench bench-shapes
+.PHONY: all install install-c dist check gate proofs-and-runs trials test edits quick bench bench-shapes
