@@ -4,7 +4,7 @@ ghost use Rattle.std.specs.Prelude.{◌≡◌, ◌+◌, ◌-◌, ◌<◌, ◌^�
 
 use std::marker::Model;
 
-/// A number of steps. The call that counts them determines the kind: counters updated, or counters and sums read.
+/// A number of steps: of counters updated, or of the definition of a search, where a step is not always one read of memory.
 #[derive(Drop)]
 pub struct Ticks {
     count: u64,

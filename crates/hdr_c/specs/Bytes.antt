@@ -8,7 +8,7 @@ use Rattle.hdrhistogram.specs.V2.{IsV2}
 use Rattle.hdrhistogram.specs.V2Read.{HasBounds, IsReadAs, v2_at}
 use Rattle.hdrhistogram.specs.declared.serialization.errors.DeserializeError.{DeserializeError}
 use Rattle.hdrhistogram.specs.declared.serialization.errors.V2SerializeError.{V2SerializeError}
-use Rattle.hdr_c.specs.Status.{decode_status, encode_status}
+use Rattle.hdr_c.specs.Status.{IsEncodeStatus, decode_status}
 
 -- bytes of which P holds are at the start of the buffer now, or it is too short; `needed` is their number
 abbrev pub Puts : (List ℕ → Type 0) → ℕ → List ℕ → List ℕ → ℕ → Type 0
@@ -21,7 +21,7 @@ abbrev pub Encodes : ℕ → Option Plain → List ℕ → List ℕ → ℕ → 
 Encodes status None old new needed = (status ≡ 1) × (needed ≡ 0) × (new ≡ old)
 Encodes status (Some h) old new needed =
     Puts (IsV2 h) status old new needed
-    ⊎ ((e : V2SerializeError) × (status ≡ encode_status e) × IsToBytesError h e × (needed ≡ 0) × (new ≡ old))
+    ⊎ ((e : V2SerializeError) × IsEncodeStatus e status × IsToBytesError h e × (needed ≡ 0) × (new ≡ old))
 
 -- the handle has the histogram of the first `taken` bytes now, or nothing changes
 abbrev pub Decodes : ℕ → List ℕ → ℕ → Option Plain → Option Plain → Type 0

@@ -1,16 +1,13 @@
 -- The line of an interval, in the caller's memory. Times are in nanoseconds.
 use Rattle.std.specs.Prelude.{◌≡◌, ◌⊎◌, ◌+◌, ◌*◌, ◌==◌, nat_lt, if◌then◌else◌, ℕ, List, Option, Some, None, length}
 use Rattle.hdr_log.specs.Grammar.{is_tag}
-use Rattle.hdr_log.specs.Texts.{IsTimeInRange}
 use Rattle.hdr_model.specs.Plain.{Plain}
-use Rattle.hdrhistogram.specs.LogLeaving.{IsIntervalText}
-use Rattle.hdrhistogram.specs.SerializeErrors.{IsSerializeError}
+use Rattle.hdrhistogram.specs.LogLeaving.{IsIntervalText, IsV2LineError}
 use Rattle.hdrhistogram.specs.V2.{IsV2}
 use Rattle.hdrhistogram.specs.declared.serialization.errors.V2SerializeError.{V2SerializeError}
 use Rattle.hdrhistogram.specs.declared.serialization.interval_log.errors.IntervalLogWriterError.{IntervalLogWriterError}
-use Rattle.hdrhistogram.specs.declared.serialization.interval_log.errors.IntervalLogWriterError.TheVariants.{SerializeError, IoError, TimeOutOfRange, OutOfMemory}
 use Rattle.hdr_c.specs.Bytes.{Puts}
-use Rattle.hdr_c.specs.Status.{line_status}
+use Rattle.hdr_c.specs.Status.{IsLineStatus}
 
 -- a time, unless the nanoseconds are a second or more
 abbrev pub time_at : ℕ → ℕ → Option ℕ
@@ -19,13 +16,6 @@ time_at seconds nanos = if nat_lt nanos 1_000_000_000 then Some (seconds * 1_000
 -- the tag of bytes, none of no bytes, unless they are not a tag
 abbrev pub tag_at : List ℕ → Option (Option (List ℕ))
 tag_at bytes = if length bytes == 0 then Some None else (if is_tag bytes then Some (Some bytes) else None)
-
--- the error of a line: a count is too great, a time is out of range, or memory ran out
-abbrev pub IsLineError : Plain → ℕ → ℕ → IntervalLogWriterError V2SerializeError → Type 0
-IsLineError h start duration (SerializeError e) = IsSerializeError h e
-IsLineError h start duration TimeOutOfRange = IsTimeInRange start × IsTimeInRange duration → ⊥
-IsLineError h start duration (IoError e) = Unit {0}
-IsLineError h start duration OutOfMemory = Unit {0}
 
 -- the buffer is unchanged, and the status is this
 abbrev pub PutsNone : ℕ → ℕ → List ℕ → List ℕ → ℕ → Type 0
@@ -39,4 +29,4 @@ PutsLine status h (Some start) (Some duration) None before after needed = PutsNo
 PutsLine status None (Some start) (Some duration) (Some tag) before after needed = PutsNone 1 status before after needed
 PutsLine status (Some h) (Some start) (Some duration) (Some tag) before after needed =
     Puts (IsIntervalText IsV2 h tag start duration 1) status before after needed
-    ⊎ ((e : IntervalLogWriterError V2SerializeError) × IsLineError h start duration e × PutsNone (line_status e) status before after needed)
+    ⊎ ((e : IntervalLogWriterError V2SerializeError) × IsV2LineError h start duration e × IsLineStatus e status × (needed ≡ 0) × (after ≡ before))

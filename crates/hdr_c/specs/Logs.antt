@@ -2,7 +2,8 @@
 use Rattle.std.specs.Prelude.{◌≡◌, ◌⊎◌, ◌-◌, ◌^◌, ◌+◌, ℕ, Bool, true, false, List, [], ◌∷◌, Option, Some, None, length, drop, min}
 use Rattle.std.specs.Option.{option_map}
 use Rattle.hdr_log.specs.Parts.{parts}
-use Rattle.hdr_log.specs.Grammar.{Entry, Start, Base, Span, entry_of, is_skipped}
+use Rattle.hdr_log.specs.Grammar.{Entry, entry_of, is_skipped}
+use Rattle.hdr_log.specs.Timed.{TimedInterval, base_after, interval_after}
 use Rattle.hdr_log.specs.Grammar as grammar
 use Rattle.hdr_log.specs.Reading.{view_of_interval}
 use Rattle.hdr_model.specs.Plain.{Plain}
@@ -21,11 +22,14 @@ pub data Found : Type 0 where
   Invalid : ℕ → Found
   Line : ℕ → ℕ → Option ℕ → grammar.Interval → Found
 
+-- the interval of a line, or what follows it
+abbrev pub line_or : Option TimedInterval → ℕ → ℕ → Option ℕ → (Option ℕ → Found) → Found
+line_or (Some i) at next base later = Line at next base i.interval
+line_or None at next base later = later base
+
 -- the line at an offset is the interval, or the search goes on after it, or it is invalid
 abbrev pub or_later : Option Entry → Bool → ℕ → ℕ → Option ℕ → (Option ℕ → Found) → Found
-or_later (Some (Span i)) skipped at next base later = Line at next base i
-or_later (Some (Base time)) skipped at next base later = later (Some time)
-or_later (Some (Start time)) skipped at next base later = later base
+or_later (Some entry) skipped at next base later = line_or (interval_after base entry) at next (base_after base entry) later
 or_later None true at next base later = later base
 or_later None false at next base later = Invalid at
 

@@ -1,5 +1,5 @@
 -- The status of an error, as the header names it. 0 is success, and 1 is a closed handle.
-use Rattle.std.specs.Prelude.{ℕ}
+use Rattle.std.specs.Prelude.{◌≡◌, ℕ}
 use Rattle.hdr_model.specs.declared.errors.CreationError.{CreationError}
 use Rattle.hdr_model.specs.declared.errors.CreationError.TheVariants as creation
 use Rattle.hdr_model.specs.declared.errors.RecordError.{RecordError}
@@ -40,12 +40,14 @@ abbrev pub subtraction_status : SubtractionError → ℕ
 subtraction_status subtraction.SubtrahendValueExceedsMinuendRange = 3
 subtraction_status subtraction.SubtrahendCountExceedsMinuendCount = 9
 
-abbrev pub encode_status : V2SerializeError → ℕ
-encode_status encoding.OutOfMemory = 2
-encode_status encoding.CountNotSerializable = 10
-encode_status encoding.UsizeTypeTooSmall = 19
-encode_status (encoding.IoError cause) = 19
+-- the status of an error of encoding in memory, which is one of two
+abbrev pub IsEncodeStatus : V2SerializeError → ℕ → Type 0
+IsEncodeStatus encoding.OutOfMemory status = status ≡ 2
+IsEncodeStatus encoding.CountNotSerializable status = status ≡ 10
+IsEncodeStatus encoding.UsizeTypeTooSmall status = ⊥
+IsEncodeStatus (encoding.IoError cause) status = ⊥
 
+-- the status of an error of decoding bytes
 abbrev pub decode_status : DeserializeError → ℕ
 decode_status decoding.OutOfMemory = 2
 decode_status decoding.UnsuitableCounterType = 9
@@ -56,13 +58,15 @@ decode_status decoding.InvalidParameters = 17
 decode_status decoding.EncodedArrayTooLong = 18
 decode_status decoding.UsizeTypeTooSmall = 19
 
+-- the status of an error of decoding a field
 abbrev pub field_status : FieldDecodeError → ℕ
 field_status field.OutOfMemory = 2
 field_status field.NotBase64 = 25
 field_status (field.Decode e) = decode_status e
 
-abbrev pub line_status : IntervalLogWriterError V2SerializeError → ℕ
-line_status line.OutOfMemory = 2
-line_status (line.IoError cause) = 2
-line_status line.TimeOutOfRange = 21
-line_status (line.SerializeError e) = encode_status e
+-- the status of an error of a line in memory
+abbrev pub IsLineStatus : IntervalLogWriterError V2SerializeError → ℕ → Type 0
+IsLineStatus line.OutOfMemory status = status ≡ 2
+IsLineStatus (line.IoError cause) status = ⊥
+IsLineStatus line.TimeOutOfRange status = status ≡ 21
+IsLineStatus (line.SerializeError e) status = IsEncodeStatus e status

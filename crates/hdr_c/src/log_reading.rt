@@ -1,7 +1,7 @@
 //! The intervals of a log in the caller's memory, one after another.
 
 ghost use Rattle.std.specs.Prelude.{◌≡◌, ◌≤◌, ◌<◌, drop, length};
-ghost use Rattle.std.specs.Option.{option_map};
+ghost use Rattle.std.specs.Option.{option_map, option_or};
 ghost use Rattle.hdr_log.specs.Parts.{parts};
 ghost use Rattle.hdr_c.specs.Calls.{held};
 ghost use Rattle.hdr_c.specs.Logs.{first_from, view_of_found, AreBaseNanosInRange, ReadsNext};
@@ -10,9 +10,9 @@ ghost use Rattle.hdr_c.specs.Times.{as_time, AreNanosInRange};
 use crate::handle::Handle;
 use crate::interval::{Found, Interval, Time};
 use crate::status::{INVALID_LINE, LOG_END, OK, of_field_error};
+use hdr_log::LastBaseTime;
 use hdr_log::line::{entry, is_skipped};
 use hdr_log::parts::split_line;
-use hdrhistogram::serialization::interval_log::LogEntry;
 use hdrhistogram::serialization::{Deserializer, FieldDecodeError};
 use std::alloc::Global;
 
@@ -24,15 +24,13 @@ fn first_interval(log: &[u8], from: usize, base: Option<Time>) -> Found<'_>
     ensures base_nanos { AreNanosInRange base → AreBaseNanosInRange result }
 {
     let mut at = from;
-    let mut base = base;
+    let mut last = LastBaseTime::new(None);
     let mut text = &log[from..];
     while let Some((line, rest)) = split_line(text) {
         let next = at + line.len() + 1;
         if let Some(entry) = entry(line) {
-            match entry {
-                LogEntry::Interval(found) => return Found::Interval(at, next, base, found),
-                LogEntry::BaseTime(time) => base = Some(Time::new(time)),
-                LogEntry::StartTime(_) => {}
+            if let Some(found) = last.timed(entry) {
+                return Found::Interval(at, next, last_base(&last, base), found.interval);
             }
         } else if !is_skipped(line) {
             return Found::Invalid(at);
@@ -44,6 +42,17 @@ fn first_interval(log: &[u8], from: usize, base: Option<Time>) -> Found<'_>
         Found::End
     } else {
         Found::Invalid(at)
+    }
+}
+
+/// Returns the last base time of the lines read, or `base` if they have none.
+fn last_base(last: &LastBaseTime, base: Option<Time>) -> Option<Time>
+    ensures time { option_map as_time result ≡ option_or last.now (option_map as_time base) }
+    ensures nanos { AreNanosInRange base → AreNanosInRange result }
+{
+    match last.get() {
+        Some(time) => Some(Time::new(time)),
+        None => base,
     }
 }
 

@@ -4,10 +4,10 @@ ghost use Rattle.std.specs.Prelude.{◌≡◌, IfErr, IfOk, vec_items};
 ghost use Rattle.std.specs.Option.{option_map};
 ghost use Rattle.std.specs.Duration.{as_nanos};
 ghost use Rattle.hdr_log.specs.Tags.{tag_text};
-ghost use Rattle.hdrhistogram.specs.LogLeaving.{IsIntervalText};
+ghost use Rattle.hdrhistogram.specs.LogLeaving.{IsIntervalText, IsV2LineError};
 ghost use Rattle.hdrhistogram.specs.V2.{IsV2};
 ghost use Rattle.hdr_c.specs.Calls.{held};
-ghost use Rattle.hdr_c.specs.Lines.{IsLineError, PutsLine, tag_at, time_at};
+ghost use Rattle.hdr_c.specs.Lines.{PutsLine, tag_at, time_at};
 
 use crate::handle::Handle;
 use crate::status::{CLOSED, INVALID_TAG, TIME_OUT_OF_RANGE, of_line_error};
@@ -49,12 +49,12 @@ fn line(
 ) -> Result<Vec<u8>, IntervalLogWriterError<V2SerializeError>>
     ensures line { IfOk result (λ line. IsIntervalText IsV2 histogram.now (option_map tag_text tag.entry)
         (as_nanos start) (as_nanos duration) 1 (vec_items line)) }
-    ensures err { IfErr result (IsLineError histogram.now (as_nanos start) (as_nanos duration)) }
+    ensures err { IfErr result (IsV2LineError histogram.now (as_nanos start) (as_nanos duration)) }
 {
     let mut line = Vec::new(alloc);
     let mut serializer = V2Serializer::new(alloc);
     let mut log = IntervalLogWriter::new(alloc, &mut line, &mut serializer, 1);
-    log.write_histogram(histogram, start, duration, tag)?;
+    log.push_v2(histogram, start, duration, tag)?;
     drop(log);
     Ok(line)
 }

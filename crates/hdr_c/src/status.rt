@@ -1,7 +1,10 @@
 //! The statuses that calls return. `capi/hdr.h` names them.
 
-ghost use Rattle.std.specs.Prelude.{◌≡◌, MatchResult};
-ghost use Rattle.hdr_c.specs.Status.{addition_status, creation_status, decode_status, encode_status, field_status, line_status, record_status, subtraction_status};
+ghost use Rattle.std.specs.Prelude.{◌≡◌, ℕ, MatchResult};
+ghost use Rattle.hdr_model.specs.Plain.{Plain};
+ghost use Rattle.hdrhistogram.specs.LogLeaving.{IsV2LineError};
+ghost use Rattle.hdrhistogram.specs.SerializeErrors.{IsCountError, IsToBytesError};
+ghost use Rattle.hdr_c.specs.Status.{IsEncodeStatus, IsLineStatus, addition_status, creation_status, decode_status, field_status, record_status, subtraction_status};
 
 use hdrhistogram::serialization::interval_log::IntervalLogWriterError;
 use hdrhistogram::serialization::{DeserializeError, FieldDecodeError, V2SerializeError};
@@ -111,14 +114,15 @@ pub(crate) fn of_subtraction(subtracted: Result<(), SubtractionError>) -> u32
     }
 }
 
+/// The status of an error of `to_bytes`.
 pub(crate) fn of_encode_error(error: &V2SerializeError) -> u32
-    ensures { result ≡ encode_status error.now }
+    requires { (h : Plain) × IsToBytesError h error.now }
+    ensures { IsEncodeStatus error.now result }
 {
     match error {
         V2SerializeError::CountNotSerializable => COUNT_NOT_SERIALIZABLE,
-        V2SerializeError::UsizeTypeTooSmall => USIZE_TOO_SMALL,
-        // Cannot occur: nothing is written to a stream.
-        V2SerializeError::IoError(_) => USIZE_TOO_SMALL,
+        V2SerializeError::UsizeTypeTooSmall => unreachable!(),
+        V2SerializeError::IoError(_) => unreachable!(),
         V2SerializeError::OutOfMemory => OUT_OF_MEMORY,
     }
 }
@@ -148,14 +152,29 @@ pub(crate) fn of_field_error(error: &FieldDecodeError) -> u32
     }
 }
 
+/// The status of an error of `push_v2`.
 pub(crate) fn of_line_error(error: &IntervalLogWriterError<V2SerializeError>) -> u32
-    ensures { result ≡ line_status error.now }
+    requires { (h : Plain) × (start : ℕ) × (duration : ℕ)
+        × IsV2LineError h start duration error.now }
+    ensures { IsLineStatus error.now result }
 {
     match error {
-        IntervalLogWriterError::SerializeError(cause) => of_encode_error(cause),
-        // The writer is a `Vec`, whose only error is a failed allocation.
-        IntervalLogWriterError::IoError(_) => OUT_OF_MEMORY,
+        IntervalLogWriterError::SerializeError(cause) => of_count_error(cause),
+        IntervalLogWriterError::IoError(_) => unreachable!(),
         IntervalLogWriterError::TimeOutOfRange => TIME_OUT_OF_RANGE,
         IntervalLogWriterError::OutOfMemory => OUT_OF_MEMORY,
+    }
+}
+
+/// The status of the only error of a serializer that `push_v2` returns.
+fn of_count_error(error: &V2SerializeError) -> u32
+    requires { (h : Plain) × IsCountError h error.now }
+    ensures { IsEncodeStatus error.now result }
+{
+    match error {
+        V2SerializeError::CountNotSerializable => COUNT_NOT_SERIALIZABLE,
+        V2SerializeError::UsizeTypeTooSmall => unreachable!(),
+        V2SerializeError::IoError(_) => unreachable!(),
+        V2SerializeError::OutOfMemory => unreachable!(),
     }
 }

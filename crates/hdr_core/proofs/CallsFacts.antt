@@ -9,6 +9,7 @@ use Rattle.hdr_core.specs.Calls.{after_call, CallTo, IsCallOf}
 use Rattle.hdr_model.specs.Runs.{StandsAt, StandsWhereFits, State}
 use Rattle.hdr_core.specs.declared.call.Call.{Call}
 use Rattle.hdr_core.specs.declared.call.Call.TheVariants.{Record, Clamp, Correct, Clear, Reset, Add, AddCorrect}
+use Rattle.hdr_model.proofs.PlainBounds.{bounds, bounds-recorded, bounds-corrected, bounds-cleared, bounds-restarted, bounds-merged, bounds-merged_corrected}
 use Rattle.hdr_model.proofs.PlainKept.{resolution-recorded}
 use Rattle.hdr_model.proofs.RecordingStands.{StandsFor-recorded}
 use Rattle.hdr_model.proofs.MergingStands.{Fits-front, StandsFor-merged, merged-high, resolution-merged, recorded-high_with}
@@ -44,6 +45,17 @@ call-classes greatest most number h Clear fine = resolution-cleared h
 call-classes greatest most number h Reset fine = resolution-restarted h
 call-classes greatest most number h (Add source) fine = resolution-merged greatest most h source.now fine
 call-classes greatest most number h (AddCorrect source i) fine = resolution-merged_corrected greatest h source.now i
+
+-- ---- the bounds
+
+pub call-bounds : {T : Type 0} (greatest : ℕ) (number : T → ℕ) (h : Plain) (call : Call T) → bounds (after_call greatest number call h) ≡ bounds h
+call-bounds greatest number h (Record v n) = bounds-recorded greatest h v (number n)
+call-bounds greatest number h (Clamp v n) = bounds-recorded greatest h (clamp_to_bins h v) (number n)
+call-bounds greatest number h (Correct v n i) = bounds-corrected greatest h v (number n) i
+call-bounds greatest number h Clear = bounds-cleared h
+call-bounds greatest number h Reset = bounds-restarted h
+call-bounds greatest number h (Add source) = bounds-merged greatest h source.now
+call-bounds greatest number h (AddCorrect source i) = bounds-merged_corrected greatest h source.now i
 
 -- ---- the samples
 

@@ -1,5 +1,6 @@
 pub mod Parts
 pub mod Grammar
+pub mod Timed
 pub mod Tags
 pub mod Reading
 pub mod Texts

@@ -18,16 +18,18 @@ pub fn interval_is_read()
         → IsPiece (Measured tag start time max field) → IsIntervalRead tag start time max field }
 {}
 
-/// The Base64 encoding of bytes is a valid field, and decodes to the same bytes.
+/// The Base64 encoding of bytes is a valid field, and decodes to the same bytes. What a field decodes
+/// to is bytes: numbers below 256.
 pub fn base64_is_read()
     ensures field { (bytes : List ℕ) → IsField (base64_of bytes) }
     ensures decoded { (bytes : List ℕ) → IsBytes bytes
         → base64_bytes (base64_of bytes) ≡ Some bytes }
+    ensures bytes { (field bytes : List ℕ) → base64_bytes field ≡ Some bytes → IsBytes bytes }
 {}
 
-/// Everything written to a log is read back, in order: headers and intervals, each time and
-/// greatest value to the thousandth, and the headers that comments contain. Nothing else is read,
-/// and no line is invalid.
+/// The times and intervals written to a log are read back, in order, each time and greatest value
+/// to the thousandth. So are the headers of times that comments contain. Nothing else is read, and
+/// no line is invalid.
 pub fn written_is_read()
     ensures { (pieces : List Piece) → AllByRecursion IsPiece pieces
         → reading (text_of pieces) ≡ map is_read (flat_map entries_of_piece pieces) }

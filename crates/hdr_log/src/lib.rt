@@ -9,7 +9,9 @@ pub mod line;
 pub mod parts;
 mod tag;
 pub mod text;
+mod timed;
 
 pub use entry::{IntervalLogHistogram, LogEntry, LogIteratorError};
 pub use iterator::IntervalLogIterator;
 pub use tag::Tag;
+pub use timed::{LastBaseTime, TimedInterval, TimedIntervals};

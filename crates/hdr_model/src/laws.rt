@@ -1,10 +1,10 @@
 //! Laws over the definitions, each the contract of a function with nothing to do.
 
 ghost use Rattle.std.specs.Prelude.{◌≡◌, ◌↔◌, ℕ, ◌+◌, ◌-◌, ◌/◌, ◌^◌, ◌<◌, ◌≤◌, Bool, true, List, [], ◌∷◌, ◌++◌, length, map, sum, replicate, slice_index, Contains, MatchOption};
-ghost use Rattle.hdr_base.specs.Classes.{IsFiner, top_of};
+ghost use Rattle.hdr_base.specs.Classes.{most_bins, IsFiner, top_of};
 ghost use Rattle.hdr_base.specs.Fractions.{Ratio};
 ghost use Rattle.hdr_counts.specs.Blocks.{IsFirstToReach};
-ghost use Rattle.hdr_model.specs.Plain.{Plain, IsPlain, OfEachPlain, resolution, empty_plain};
+ghost use Rattle.hdr_model.specs.Plain.{Plain, IsPlain, OfEachPlain, max_of, resolution, empty_plain};
 ghost use Rattle.hdr_model.specs.Recording.{after_record, clamp_to_bins, after_clear, after_reset, samples_of};
 ghost use Rattle.hdr_model.specs.Samples.{StandsFor, GainsSamples, OfEachFilled};
 ghost use Rattle.hdr_model.specs.Quantiles.{ranked_sample, position_of_rank, value_at_quantile, value_at_quantiles, IsAscending, IsTopNear};
@@ -74,6 +74,12 @@ pub fn new_is_plain()
         → IsPlain greatest (empty_plain low high sigfig auto_resize) }
 {}
 
+/// A histogram has at most `most_bins` bins, and its greatest recorded value is below 2^64.
+pub fn bins_and_max_are_bounded()
+    ensures bins { OfEachPlain (λ greatest h. length h.counts ≤ most_bins) }
+    ensures max { OfEachPlain (λ greatest h. max_of h < 2 ^ 64) }
+{}
+
 /// A new histogram stands for no samples, and so does one that was cleared or reset.
 pub fn clearing_stands()
     ensures made { (low high sigfig : ℕ) (auto_resize : Bool)
@@ -91,15 +97,21 @@ pub fn adding_stands()
         (corrected_samples (resolution s) i L)) }
 {}
 
-/// A sum is a histogram again, with the classes of the one that was added to; of any source, full counters included.
+/// A sum is a histogram again, with the classes, `low`, `sigfig` and auto-resize of the one that was
+/// added to; of any source, full counters included.
 pub fn adding_keeps()
     ensures merged { OfEachTwo (λ greatest h s. IsPlain greatest (after_add greatest h s)) }
     ensures merged_classes { (greatest most : ℕ) (h s : Plain) → IsPlain most s
         → resolution (after_add greatest h s) ≡ resolution h }
+    ensures merged_bounds { (greatest : ℕ) (h s : Plain) → let sum = after_add greatest h s in
+        (sum.low ≡ h.low) × (sum.sigfig ≡ h.sigfig) × (sum.auto_resize ≡ h.auto_resize) }
     ensures corrected { OfEachTwo (λ greatest h s. (i : ℕ)
         → IsPlain greatest (after_add_correct greatest h s i)) }
     ensures corrected_classes { (greatest : ℕ) (h s : Plain) (i : ℕ)
         → resolution (after_add_correct greatest h s i) ≡ resolution h }
+    ensures corrected_bounds { (greatest : ℕ) (h s : Plain) (i : ℕ)
+        → let sum = after_add_correct greatest h s i in
+        (sum.low ≡ h.low) × (sum.sigfig ≡ h.sigfig) × (sum.auto_resize ≡ h.auto_resize) }
 {}
 
 /// Histograms that are added in order stand for all of their samples, if those fit, for any counter types. The value at each

@@ -1,9 +1,10 @@
 //! What rows can't test: allocations that fail, in turn or if they are large, readers and writers that fail, of the library and
-//! of the program, messages of errors that no row meets, and laws.
+//! of the program, messages of errors that no row meets, the headline, and laws.
 
 mod compressed;
 mod failed_allocations;
 mod failing;
+mod headline;
 mod large_allocations;
 mod laws;
 mod messages;

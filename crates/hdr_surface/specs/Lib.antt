@@ -1,2 +1,3 @@
 pub mod Overflows
 pub mod OwnBytes
+pub mod Together

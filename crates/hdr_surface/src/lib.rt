@@ -2,6 +2,7 @@
 //! A match has every variant and no arm for the rest. A call with a premise shows the simplest test of it.
 #![tactic(auto)]
 
+pub mod after_errors;
 pub mod bytes;
 pub mod classes;
 pub mod counters;
@@ -19,6 +20,7 @@ pub mod lawful;
 pub mod logs;
 pub mod merging;
 pub mod offsets;
+pub mod outcomes;
 pub mod own_counter;
 pub mod own_picker;
 pub mod own_serializer;

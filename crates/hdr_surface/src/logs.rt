@@ -1,9 +1,14 @@
 //! Interval logs: writing, reading and merging.
 
+ghost use Rattle.std.specs.Prelude.{◌≡◌, OnErr, IfErr};
+ghost use Rattle.std.specs.Duration.{as_nanos};
+ghost use Rattle.hdrhistogram.specs.LogLeaving.{IsV2LineError};
+ghost use Rattle.hdrhistogram.specs.LogWriters.{sink};
+
 use hdrhistogram::serialization::interval_log::{
     CommentError, IntervalFilter, IntervalLogHistogram, IntervalLogIterator, IntervalLogWriter,
     IntervalLogWriterBuilder, IntervalLogWriterError, LogEntry, LogIteratorError, MergeError,
-    Merged, Tag, merge_log,
+    Merged, Tag, TimedInterval, TimedIntervals, merge_log,
 };
 use hdrhistogram::serialization::{DeserializeError, Serializer, V2SerializeError, V2Serializer};
 use hdrhistogram::{Counter, CreationError, Histogram};
@@ -81,6 +86,31 @@ pub fn write_histogram<T: Counter, W: Write>(
     log.write_histogram(histogram, start, duration, tag)
 }
 
+/// With V2 bytes that are not copied.
+pub fn write_v2<T: Counter, W: Write>(
+    log: &mut IntervalLogWriter<'_, '_, W, V2Serializer>,
+    histogram: &Histogram<T>,
+    start: Duration,
+    duration: Duration,
+    tag: Option<Tag<'_>>,
+) -> Result<(), IntervalLogWriterError<V2SerializeError>> {
+    log.write_v2(histogram, start, duration, tag)
+}
+
+/// In memory. The log is unchanged after each error, of which none is an i/o error.
+pub fn push_v2<T: Counter>(
+    log: &mut IntervalLogWriter<'_, '_, Vec<u8>, V2Serializer>,
+    histogram: &Histogram<T>,
+    start: Duration,
+    duration: Duration,
+    tag: Option<Tag<'_>>,
+) -> Result<(), IntervalLogWriterError<V2SerializeError>>
+    ensures unchanged { OnErr result ((sink log.new).now.items ≡ (sink log.old).now.items) }
+    ensures err { IfErr result (IsV2LineError histogram.now (as_nanos start) (as_nanos duration)) }
+{
+    log.push_v2(histogram, start, duration, tag)
+}
+
 /// For any writer and serializer.
 pub fn write_histogram_by_any<T: Counter, W: Write, S: Serializer>(
     log: &mut IntervalLogWriter<'_, '_, W, S>,
@@ -144,6 +174,14 @@ pub fn text_of_tag<'a>(tag: &Tag<'a>) -> &'a str {
 
 pub fn entries(log: &[u8]) -> IntervalLogIterator<'_> {
     IntervalLogIterator::new(log)
+}
+
+/// When the first interval of a log begins, in nanoseconds since the epoch.
+pub fn first_time(log: &[u8]) -> Option<u128> {
+    match TimedIntervals::new(log).next() {
+        Some(Ok(TimedInterval { time, interval: _ })) => Some(time),
+        _ => None,
+    }
 }
 
 /// The items of the iterator.

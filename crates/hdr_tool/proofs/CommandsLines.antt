@@ -1,83 +1,10 @@
--- The commands of lines: their values are u64. Value lines of few digits.
-use Rattle.hdr_tool.proofs.Common.{◌≡◌, ℕ, ◌-◌, ◌^◌, ◌<◌, Bool, true, false, cond, ◌&&◌, nat_lt, List, [], ◌∷◌, Option, Some, None, IfSome, refl, zero, suc, ◌+◌, ◌*◌, ◌≤◌, ◌==◌, ◌++◌, length, take, drop, get_or, unwrap_or, sym, ap, ◌∙◌, arith, lit<, option_map, codes, bytes_eq, ap₂, length-append, ltb-true, lt-ltb, ne_eqb, IsCallOf, Call, Record, Clamp, Correct, Clear, Reset, ◌>>=◌, parts, is_digits, first_number, Command, Apply, End, alone, count_of, record_of, correct_of, end_tag_of, end_of, command_of_fields, command_of, BeginsWith, AreNumbers, FirstLine, list_all, onto_first, is_ascii_digit, digit_value, pow-suc, pow-le-pow_right, append-nil, Reads}
+-- Value lines: a number of few digits, the fields of the line, and its call.
+use Rattle.hdr_tool.proofs.Common.{◌≡◌, ℕ, ◌-◌, ◌^◌, ◌<◌, Bool, true, false, ◌&&◌, nat_lt, List, [], ◌∷◌, Option, Some, None, refl, zero, suc, ◌+◌, ◌*◌, ◌≤◌, ◌==◌, ◌++◌, length, take, drop, get_or, unwrap_or, sym, ap, ◌∙◌, arith, lit<, ap₂, length-append, lt-ltb, ne_eqb, Call, Correct, parts, first_number, Apply, count_of, record_of, correct_of, command_of_fields, command_of, BeginsWith, AreNumbers, FirstLine, list_all, onto_first, is_ascii_digit, digit_value, pow-suc, pow-le-pow_right, append-nil}
 use Rattle.std.specs.Str.Parse.{digits_value}
+use Rattle.std.proofs.lemmas.List.Folds.{list_all_more}
+use Rattle.std.proofs.lemmas.Int.Digits.{digits_value_more}
 use Rattle.std.proofs.Common.{length-take}
 use Rattle.hdr_log.specs.Parts.{number_of}
-use Rattle.hdr_tool.specs.Commands.{command_of_name}
-
--- one of two results, and one after another
-pub one_of : {A : Type 0} (P : A → Type 0) (b : Bool) (x y : Option A) → IfSome x P → IfSome y P → IfSome (cond b x y) P
-one_of P true x y p q = p
-one_of P false x y p q = q
-
-pub tail : {A B : Type 0} (P : A → Type 0) (Q : B → Type 0) (o : Option A) (f : A → Option B) → IfSome o P → ((x : A) → P x → IfSome (f x) Q) → IfSome (o >>= f) Q
-tail P Q None f p q = tt
-tail P Q (Some x) f p q = q x p
-
-pub any : {A B : Type 0} (Q : B → Type 0) (o : Option A) (f : A → Option B) → ((x : A) → IfSome (f x) Q) → IfSome (o >>= f) Q
-any Q None f q = tt
-any Q (Some x) f q = q x
-
-abbrev Small : ℕ → Type 0
-Small n = n < 2 ^ 64
-
-pub if_both : (P : ℕ → Type 0) (a b : Bool) (n : ℕ) → (b ≡ true → P n) → IfSome (cond (a && b) (Some n) None) P
-if_both P true true n h = h refl
-if_both P true false n h = tt
-if_both P false true n h = tt
-if_both P false false n h = tt
-
-pub mapped : {A B : Type 0} (P : A → Type 0) (Q : B → Type 0) (f : A → B) (o : Option A) → IfSome o P → ((x : A) → P x → Q (f x)) → IfSome (option_map f o) Q
-mapped P Q f None p q = tt
-mapped P Q f (Some x) p q = q x p
-
-number_small : (text : List ℕ) → IfSome (number_of text) Small
-unfolding number_of
-number_small text =
-    let v = digits_value 10 text in
-    if_both Small (is_digits text) (nat_lt v (2 ^ 64)) v (λ e. ltb-true v (2 ^ 64) e)
-
-first_small : (fields : List (List ℕ)) → IfSome (first_number fields) (λ p. Small p.0)
-first_small [] = tt
-first_small (field ∷ fields) = mapped Small (λ (p : ℕ × List (List ℕ)). Small p.0) (λ n. (n, fields)) (number_of field) (number_small field) (λ n small. small)
-
-abbrev pub IsLineCommand : Command → Type 0
-IsLineCommand (Apply call) = IsCallOf (2 ^ 64 - 1) call
-IsLineCommand (End start duration tag) = Unit {0}
-
-record_fine : (call : ℕ → ℕ → Call ℕ) (fields : List (List ℕ)) → ((v n : ℕ) → Small v → IsLineCommand (Apply (call v n))) → IfSome (record_of call fields) IsLineCommand
-record_fine call fields h =
-    tail (λ (p : ℕ × List (List ℕ)). Small p.0) IsLineCommand (first_number fields) _ (first_small fields) (λ p small. any IsLineCommand (count_of p.1) (λ n. Some (Apply (call p.0 n))) (λ n. h p.0 n small))
-
-correct_fine : (fields : List (List ℕ)) → IfSome (correct_of fields) IsLineCommand
-correct_fine fields =
-    tail (λ (p : ℕ × List (List ℕ)). Small p.0) IsLineCommand (first_number fields) _ (first_small fields) (λ p small.
-    any IsLineCommand (first_number p.1) _ (λ q. any IsLineCommand (count_of q.1) (λ n. Some (Apply (Correct p.0 n q.0))) (λ n. small)))
-
-alone_fine : (call : Call ℕ) (fields : List (List ℕ)) → IsLineCommand (Apply call) → IfSome (option_map Apply (alone call fields)) IsLineCommand
-alone_fine call [] f = f
-alone_fine call (x ∷ xs) f = tt
-
-end_fine : (fields : List (List ℕ)) → IfSome (end_of fields) IsLineCommand
-end_fine fields = any IsLineCommand (first_number fields) _ (λ p. any IsLineCommand (first_number p.1) _ (λ q. any IsLineCommand (end_tag_of q.1) (λ tag. Some (End p.0 q.0 tag)) (λ tag. tt)))
-
-named_fine : (name : List ℕ) (fields : List (List ℕ)) → IfSome (command_of_name name fields) IsLineCommand
-unfolding command_of_name
-named_fine name fields =
-    one_of IsLineCommand (bytes_eq name (codes "r")) _ _ (record_fine Record fields (λ v n small. small))
-    (one_of IsLineCommand (bytes_eq name (codes "s")) _ _ (record_fine Clamp fields (λ v n small. small))
-    (one_of IsLineCommand (bytes_eq name (codes "c")) _ _ (correct_fine fields)
-    (one_of IsLineCommand (bytes_eq name (codes "clear")) _ _ (alone_fine Clear fields tt)
-    (one_of IsLineCommand (bytes_eq name (codes "reset")) _ _ (alone_fine Reset fields tt)
-    (one_of IsLineCommand (bytes_eq name (codes "end")) _ None (end_fine fields) tt)))))
-
-fields_fine : (fields : List (List ℕ)) → IfSome (command_of_fields fields) IsLineCommand
-fields_fine [] = tt
-fields_fine (name ∷ fields) = named_fine name fields
-
--- the command of a line has a value of 64 bits, and adds no histogram
-pub command_fine : (line : List ℕ) → IfSome (command_of line) IsLineCommand
-command_fine line = fields_fine (parts 32 line)
 
 not_end : (b : ℕ) → is_ascii_digit b ≡ true → (b == 10) ≡ false
 not_end b h = grind arith
@@ -116,12 +43,26 @@ unfolding number_of
 spelled xs value n d s f =
     let fits : nat_lt value (2 ^ 64) ≡ true = lt-ltb value (2 ^ 64) f in rw (ne_eqb (length xs) 0 (λ e. absurd (omega (arith, e, n))), d, ← s, fits) refl
 
+-- the first bytes of a text are digits of a number of 64 bits
+pub record AreDigits (text : List ℕ) (at value : ℕ) : Type 0 where
+  pub digits : list_all is_ascii_digit (take at text) ≡ true
+  pub number : value ≡ digits_value 10 (take at text)
+  pub fits : value < 2 ^ 64
+
+pub one_more_digit : (text : List ℕ) (at value : ℕ) → AreDigits text at value → at < length text → is_ascii_digit (get_or text at 0) ≡ true → value * 10 + digit_value (get_or text at 0) < 2 ^ 64
+    → AreDigits text (at + 1) (value * 10 + digit_value (get_or text at 0))
+one_more_digit text at value r l d h = record {
+  digits = list_all_more is_ascii_digit text at 0 l ∙ ap (λ b. b && is_ascii_digit (get_or text at 0)) r.digits ∙ d;
+  number = ap (λ n. n * 10 + digit_value (get_or text at 0)) r.number ∙ sym (digits_value_more 10 text at l);
+  fits = h;
+}
+
 -- digits that were read, and what follows them
-pub begins : (text rest : List ℕ) (value byte at : ℕ) → 0 < at → at < length text → Reads text at value → byte ≡ get_or text at 0 → rest ≡ drop (at + 1) text → BeginsWith text value byte rest
+pub begins : (text rest : List ℕ) (value byte at : ℕ) → 0 < at → at < length text → AreDigits text at value → byte ≡ get_or text at 0 → rest ≡ drop (at + 1) text → BeginsWith text value byte rest
 begins text rest value byte at p l r e f = record {
   digits = take at text;
   are_digits = r.digits;
-  number = spelled (take at text) value (omega (arith, length-take at text)) r.digits r.spelled r.fits;
+  number = spelled (take at text) value (omega (arith, length-take at text)) r.digits r.number r.fits;
   text_is = cut at text l ∙ ap₂ (λ b t. take at text ++ b ∷ t) (sym e) (sym f);
 }
 

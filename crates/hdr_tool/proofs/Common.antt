@@ -4,7 +4,7 @@ pub use Rattle.hdr_base.specs.Fractions.{Ratio}
 pub use Rattle.hdr_core.specs.Calls.{after_call, CallTo, IsCallOf, IsCallError}
 pub use Rattle.hdr_core.specs.declared.call.Call.{Call}
 pub use Rattle.hdr_core.specs.declared.call.Call.TheVariants.{Reset, Record, Clamp, Correct, Clear}
-pub use Rattle.hdr_log.proofs.PartsNumbers.{Reads, Reads-more}
+pub use Rattle.hdr_log.specs.Timed.{TimedInterval, timed, timed_intervals}
 pub use Rattle.hdr_log.specs.Grammar.{Entry, Span, reading, Start, Base}
 pub use Rattle.hdr_log.specs.Parts.{parts, ◌>>=◌, is_digits}
 pub use Rattle.hdr_log.specs.Pieces.{Piece, IsPiece, piece_text, text_of, entries_of_piece, is_read}
@@ -23,7 +23,7 @@ pub use Rattle.hdr_tool.specs.declared.fault.Fault.{Fault}
 pub use Rattle.hdr_tool.specs.declared.fault.Fault.TheVariants.{Usage, NotACommand, NotWritten, NoMemory, CannotRead, CannotWrite}
 pub use Rattle.hdrhistogram.specs.Chosen.{Filter, is_chosen, Every, view_of_filter}
 pub use Rattle.hdrhistogram.specs.LogLeaving.{interval_piece, IsIntervalText}
-pub use Rattle.hdrhistogram.specs.LogMerging.{IsMergeError, Merging, new_merging, past_interval, with_interval, BytesMerge, FieldMerges, IntervalMerges, MergesOn, EntriesMerge, EntryMerges, AreChosen}
+pub use Rattle.hdrhistogram.specs.LogMerging.{IsMergeError, Merging, new_merging, past_interval, with_interval, BytesMerge, FieldMerges, IntervalMerges, MergesOn, ItemsMerge, ItemMerges, AreChosen}
 pub use Rattle.hdrhistogram.specs.LogWriters.{sink, IsSameLog}
 pub use Rattle.hdrhistogram.specs.Streams.{AppendsFront}
 pub use Rattle.hdrhistogram.specs.V2.{IsV2, IsWrittenAlike, HasTooGreatCount, written_counts}

@@ -5,5 +5,10 @@ pub mod OutcomesRuns
 pub mod OutcomesCounts
 pub mod OutcomesOnce
 pub mod LogMergesWritten
+pub mod CommandsParsed
 pub mod CommandsLines
+pub mod ArgumentsFigures
 pub mod LogMergesStands
+pub mod ReportsStand
+pub mod ReportsRecord
+pub mod OutcomesExist

@@ -1,16 +1,22 @@
 -- The histograms of a log that `log` wrote: what they stand for, and the result of merging them.
-use Rattle.hdr_tool.proofs.Common.{◌≡◌, ℕ, ◌-◌, ◌^◌, List, [], ◌∷◌, Option, Some, None, IfSome, refl, sym, subst, ◌+◌, ◌*◌, ◌<◌, Bool, true, false, cond, arith, length, slice_index, ◌++◌, MatchOption, Result, Ok, Err, map, ap, ◌∙◌, Resolution, Plain, IsPlain, resolution, empty_plain, max_of, after_reset, after_call, CallTo, IsCallOf, StandsWhereFits, State, Call, Reset, Command, Apply, End, command_of, at_command, ends_of, AfterCommand, EndsWith, IsEnd, AllZip, chosen_of, LogThenMerge, AllByRecursion, enumerate_from, Ratio, after_adds, Entry, Span, reading, thousandths_text, to_thousandths, max_thousandths, base64_of, base64_bytes, Piece, IsPiece, piece_text, text_of, entries_of_piece, is_read, IsV2, interval_piece, IsIntervalText, histogram_contents, v2_at, IsReadAs, IsReadBack, ReadsV2, Filter, is_chosen, Merging, new_merging, past_interval, with_interval, BytesMerge, FieldMerges, IntervalMerges, MergesOn, EntriesMerge, DeserializeError, MergeError, Fault, Usage, parts, Run, ended_by, prepend, run_command, lines_run, IsLogText, has_too_great_count, IsReport, Task, greatest_into, filter_of, result_err, result_map_both, merge_fault, Reported, MergeReported, outputs_of, append-nil}
-use Rattle.hdr_tool.proofs.CommandsLines.{IsLineCommand, command_fine}
+use Rattle.hdr_tool.proofs.Common.{◌≡◌, ℕ, ◌-◌, ◌^◌, List, [], ◌∷◌, Option, Some, None, IfSome, refl, sym, subst, ◌+◌, ◌*◌, ◌<◌, Bool, true, false, cond, arith, length, slice_index, ◌++◌, MatchOption, Result, Ok, Err, map, ap, ◌∙◌, Resolution, Plain, IsPlain, resolution, empty_plain, max_of, after_reset, after_call, CallTo, IsCallOf, StandsWhereFits, State, Call, Reset, Command, Apply, End, command_of, at_command, ends_of, AfterCommand, EndsWith, IsEnd, AllZip, chosen_of, LogThenMerge, AllByRecursion, enumerate_from, Ratio, after_adds, Entry, Span, reading, TimedInterval, timed, thousandths_text, to_thousandths, max_thousandths, base64_of, base64_bytes, Piece, IsPiece, piece_text, text_of, entries_of_piece, is_read, IsV2, interval_piece, IsIntervalText, histogram_contents, v2_at, IsReadAs, IsReadBack, ReadsV2, Filter, is_chosen, Merging, new_merging, past_interval, with_interval, BytesMerge, FieldMerges, IntervalMerges, MergesOn, ItemsMerge, DeserializeError, MergeError, Fault, Usage, parts, Run, ended_by, prepend, run_command, lines_run, IsLogText, has_too_great_count, IsReport, Task, greatest_into, filter_of, result_err, result_map_both, merge_fault, Reported, MergeReported, outputs_of, append-nil}
+use Rattle.hdr_tool.proofs.CommandsParsed.{IsLineCommand, call_of_line, command_fine}
 use Rattle.std.specs.List.{cons_option, flat_map}
 use Rattle.hdr_log.specs.Grammar.{Interval}
-use Rattle.hdr_log.proofs.GrammarWhole.{pieces_read}
-use Rattle.hdr_log.proofs.TextsBase64.{base64_decoded}
 use Rattle.hdrhistogram.specs.Defects.{Defect}
 use Rattle.hdr_tool.specs.Program.{Outcome}
 use Rattle.hdr_tool.specs.Program as run
 
+-- the bounds that no call changes
+abbrev pub HaveSameBounds : Plain → Plain → Type 0
+HaveSameBounds h k = (h.low ≡ k.low) × (h.sigfig ≡ k.sigfig) × (h.auto_resize ≡ k.auto_resize)
+
+pub same_through : (h k j : Plain) → HaveSameBounds h k → HaveSameBounds k j → HaveSameBounds h j
+same_through h k j a b = (a.0 ∙ b.0, a.1 ∙ b.1, a.2 ∙ b.2)
+
 -- what a call makes of a histogram, by the library's law
 pub record CallsStand : Type 0 where
+  pub same_bounds : (h : Plain) (call : Call ℕ) → HaveSameBounds (after_call (2 ^ 64 - 1) (λ n. n) call h) h
   pub plain : (most : ℕ) (h : Plain) (call : Call ℕ) → IsCallOf most call → IsPlain (2 ^ 64 - 1) h → IsPlain (2 ^ 64 - 1) (after_call (2 ^ 64 - 1) (λ n. n) call h)
   pub classes : (most : ℕ) (h : Plain) (call : Call ℕ) → IsCallOf most call → resolution (after_call (2 ^ 64 - 1) (λ n. n) call h) ≡ resolution h
   pub wherever : (most : ℕ) (h : Plain) (call : Call ℕ) (s t : State) → IsCallOf most call → IsPlain (2 ^ 64 - 1) h → StandsWhereFits (2 ^ 64 - 1) h s
@@ -22,10 +28,11 @@ command_stands : (c : Option Command) (h : Plain) (s : State) (lines : List (ℕ
 command_stands None h s lines Ls calls p st fine a tail = let A : List (run.Interval (List ℕ)) → Type 0 = λ x. AllZip (IsEnd (resolution h)) [] x in subst A (sym a) tt
 command_stands (Some (Apply call)) h s lines Ls calls p st fine a tail =
     let next = after_call (2 ^ 64 - 1) (λ (n : ℕ). n) call h in
-    let same : resolution next ≡ resolution h = calls.classes (2 ^ 64 - 1) h call fine in
+    let is_call = call_of_line call fine in
+    let same : resolution next ≡ resolution h = calls.classes (2 ^ 64 - 1) h call is_call in
     let W : Resolution → Type 0 = λ g. EndsWith g a.0 lines Ls in
     let E : Resolution → Type 0 = λ g. AllZip (IsEnd g) (ends_of next lines) Ls in
-    subst E same (tail next a.0 Ls (calls.plain (2 ^ 64 - 1) h call fine p) (calls.wherever (2 ^ 64 - 1) h call s a.0 fine p st a.1) (subst W (sym same) a.2))
+    subst E same (tail next a.0 Ls (calls.plain (2 ^ 64 - 1) h call is_call p) (calls.wherever (2 ^ 64 - 1) h call s a.0 is_call p st a.1) (subst W (sym same) a.2))
 command_stands (Some (End start duration tag)) h s lines Ls calls p st fine a tail =
     let t : State = record { samples = []; high = s.high } in
     let same : resolution (after_reset h) ≡ resolution h = calls.classes (2 ^ 64 - 1) h Reset tt in
@@ -84,7 +91,7 @@ logs_of (i ∷ is) text (line, rest, t, p, e) =
     subst T (sym e) (one_more i.holds i.tag i.start i.duration is line rest t (logs_of is rest p))
 
 -- the intervals that lines end without a `Fault`
-no_error : {A B C : Type 0} (e : B) (x : A) → (λ (r : Result A B). r) (Err e) ≡ Ok x → C
+pub no_error : {A B C : Type 0} (e : B) (x : A) → (λ (r : Result A B). r) (Err e) ≡ Ok x → C
 no_error e x h = absurd (let f = h in cc)
 
 end_ends : (great : Bool) (i : run.Interval Plain) (f : Fault) (r : Run) (es : List (run.Interval Plain)) (last : Plain) → (cond great (ended_by (Err f)) (prepend (i ∷ []) r)).ended ≡ Ok last → (r.ended ≡ Ok last → r.intervals ≡ es)
@@ -118,15 +125,17 @@ pieces : (is : List Logged) → AllByRecursion IsLogged is → AllByRecursion Is
 pieces [] h = tt
 pieces (i ∷ is) h = (h.0.piece, pieces is h.1)
 
--- a log of intervals is read as they are
-log_read : (is : List Logged) → AllByRecursion IsLogged is → reading (text_of (map piece_of is)) ≡ map is_read (map span_of is)
-log_read is h = pieces_read (map piece_of is) (pieces is h) ∙ ap (map is_read) (spans is)
-
--- what the library's law on reading back says
+-- what the library's laws on reading back say: of bytes, of Base64 and of lines
 pub record ReadsBack : Type 0 where
   pub bytes : (h : Plain) (text : List ℕ) → IsV2 h text → (i : ℕ) → slice_index text i < 256
   pub contents : (greatest : ℕ) (h : Plain) (bytes more : List ℕ) → IsPlain greatest h → IsV2 h bytes → v2_at greatest (bytes ++ more) ≡ Ok (histogram_contents h, more)
   pub histogram : (greatest taken : ℕ) (h k : Plain) (bytes more : List ℕ) → IsPlain greatest h → IsV2 h bytes → IsReadAs greatest (bytes ++ more) k taken → (taken ≡ length bytes) × IsReadBack h k
+  pub decoded : (bytes : List ℕ) → ((i : ℕ) → slice_index bytes i < 256) → base64_bytes (base64_of bytes) ≡ Some bytes
+  pub pieces : (pieces : List Piece) → AllByRecursion IsPiece pieces → reading (text_of pieces) ≡ map is_read (flat_map entries_of_piece pieces)
+
+-- a log of intervals is read as they are
+log_read : ReadsBack → (is : List Logged) → AllByRecursion IsLogged is → reading (text_of (map piece_of is)) ≡ map is_read (map span_of is)
+log_read back is h = back.pieces (map piece_of is) (pieces is h) ∙ ap (map is_read) (spans is)
 
 not_refused : {A : Type 0} (x : A) (f : Defect) (r : Result A Defect) → r ≡ Ok x → r ≡ Err f → ⊥
 not_refused x f r e g = absurd (let h = sym e ∙ g in cc)
@@ -145,7 +154,7 @@ field_added : (greatest : ℕ) (i : Logged) (m : Merging) (r : Result Merging Me
     → (k : Plain) × IsReadBack i.histogram k × (r ≡ Ok (with_interval greatest m k))
 field_added greatest i m r back p v d =
     let F : Option (List ℕ) → Type 0 = λ o. FieldMerges greatest m o r in
-    let f : FieldMerges greatest m (Some i.bytes) r = subst F (base64_decoded i.bytes (back.bytes i.histogram i.bytes v)) d in
+    let f : FieldMerges greatest m (Some i.bytes) r = subst F (back.decoded i.bytes (back.bytes i.histogram i.bytes v)) d in
     let b = read_again i.histogram i.bytes f.0 back p v f.1 in
     let A : Result (Plain × ℕ) DeserializeError → Type 0 = λ x. BytesMerge greatest m x r in
     (b.0, b.3, subst A b.2 f.2)
@@ -155,31 +164,31 @@ abbrev Added : ℕ → Merging → List Plain → Result Merging MergeError → 
 Added greatest m hs r = (ks : List Plain) × AllZip IsReadBack hs ks × ((last : Merging) × (r ≡ Ok last) × (last.histogram ≡ after_adds greatest m.histogram ks))
 
 -- an interval, chosen or not
-interval_merges : (greatest : ℕ) (filter : Filter) (i : Logged) (m : Merging) (entries : List (Result Entry ℕ)) (b : Bool) (hs : List Plain) (step r : Result Merging MergeError)
-    → ReadsBack → IsPlain (2 ^ 64 - 1) i.histogram → IsV2 i.histogram i.bytes → m.base ≡ 0 → IntervalMerges greatest m b (interval_of i) step → MergesOn (EntriesMerge greatest filter entries) step r
-    → ((n : Merging) → n.base ≡ 0 → EntriesMerge greatest filter entries n r → Added greatest n hs r) → Added greatest m (cons_option (cond b (Some i.histogram) None) hs) r
-interval_merges greatest filter i m entries true hs step r back p v base d on rest =
+interval_merges : (greatest : ℕ) (filter : Filter) (i : Logged) (m : Merging) (items : List (Result TimedInterval ℕ)) (b : Bool) (hs : List Plain) (step r : Result Merging MergeError)
+    → ReadsBack → IsPlain (2 ^ 64 - 1) i.histogram → IsV2 i.histogram i.bytes → IntervalMerges greatest m b (interval_of i) step → MergesOn (ItemsMerge greatest filter items) step r
+    → ((n : Merging) → ItemsMerge greatest filter items n r → Added greatest n hs r) → Added greatest m (cons_option (cond b (Some i.histogram) None) hs) r
+interval_merges greatest filter i m items true hs step r back p v d on rest =
     let f = field_added greatest i m step back p v d in
-    let O : Result Merging MergeError → Type 0 = λ x. MergesOn (EntriesMerge greatest filter entries) x r in
-    let a = rest (with_interval greatest m f.0) base (subst O f.2 on) in
+    let O : Result Merging MergeError → Type 0 = λ x. MergesOn (ItemsMerge greatest filter items) x r in
+    let a = rest (with_interval greatest m f.0) (subst O f.2 on) in
     (f.0 ∷ a.0, (f.1, a.1), a.2)
-interval_merges greatest filter i m entries false hs step r back p v base d on rest =
-    let O : Result Merging MergeError → Type 0 = λ x. MergesOn (EntriesMerge greatest filter entries) x r in
-    rest (past_interval m) base (subst O d on)
+interval_merges greatest filter i m items false hs step r back p v d on rest =
+    let O : Result Merging MergeError → Type 0 = λ x. MergesOn (ItemsMerge greatest filter items) x r in
+    rest (past_interval m) (subst O d on)
 
 -- a start in milliseconds is read as it was written
-begins_at : (base ms : ℕ) → base ≡ 0 → base + to_thousandths (ms * 1_000_000) * 1_000_000 ≡ ms * 1_000_000
-begins_at base ms e = omega (arith, e)
+begins_at : (ms : ℕ) → to_thousandths (ms * 1_000_000) * 1_000_000 ≡ ms * 1_000_000
+begins_at ms = omega arith
 
 -- a merge of intervals
-merges : (greatest : ℕ) (filter : Filter) (is : List Logged) (m : Merging) (r : Result Merging MergeError) → ReadsBack → AllByRecursion IsLogged is → AllByRecursion (λ (e : run.Interval Plain). IsPlain (2 ^ 64 - 1) e.holds) (map end_of is) → m.base ≡ 0
-    → EntriesMerge greatest filter (map is_read (map span_of is)) m r → Added greatest m (chosen_of filter (map end_of is)) r
-merges greatest filter [] m r back h p base e = ([], tt, (m, e, refl))
-merges greatest filter (i ∷ is) m r back h p base e =
+merges : (greatest : ℕ) (filter : Filter) (is : List Logged) (m : Merging) (r : Result Merging MergeError) → ReadsBack → AllByRecursion IsLogged is → AllByRecursion (λ (e : run.Interval Plain). IsPlain (2 ^ 64 - 1) e.holds) (map end_of is)
+    → ItemsMerge greatest filter (timed None (map is_read (map span_of is))) m r → Added greatest m (chosen_of filter (map end_of is)) r
+merges greatest filter [] m r back h p e = ([], tt, (m, e, refl))
+merges greatest filter (i ∷ is) m r back h p e =
     let I : Bool → Type 0 = λ b. IntervalMerges greatest m b (interval_of i) e.0 in
-    interval_merges greatest filter i m (map is_read (map span_of is)) (is_chosen filter i.tag (i.start * 1_000_000)) (chosen_of filter (map end_of is)) e.0 r back p.0 h.0.bytes base
-    (subst I (ap (is_chosen filter i.tag) (begins_at m.base i.start base)) e.1) e.2
-    (λ n b f. merges greatest filter is n r back h.1 p.1 b f)
+    interval_merges greatest filter i m (timed None (map is_read (map span_of is))) (is_chosen filter i.tag (i.start * 1_000_000)) (chosen_of filter (map end_of is)) e.0 r back p.0 h.0.bytes
+    (subst I (ap (is_chosen filter i.tag) (begins_at i.start)) e.1) e.2
+    (λ n f. merges greatest filter is n r back h.1 p.1 f)
 
 no_fault : (ended : Result Plain Fault) → None ≡ result_err ended → (last : Plain) × (ended ≡ Ok last)
 no_fault (Ok h) e = (h, refl)
@@ -194,9 +203,9 @@ merged_log h lines fewer greatest filter quantiles written text fault back plain
     let L : List (run.Interval Plain) → Type 0 = λ es. Logs es written in
     let l : Logs (ends_of h lines) written = subst L (ends_are lines h ok.0 ok.1) (logs_of (lines_run true h lines).intervals written d.0) in
     let P : List (run.Interval Plain) → Type 0 = λ es. AllByRecursion (λ (e : run.Interval Plain). IsPlain (2 ^ 64 - 1) e.holds) es in
-    let R : List (Result Entry ℕ) → Type 0 = λ xs. EntriesMerge greatest filter xs (new_merging fewer) t.0 in
-    let read : reading written ≡ map is_read (map span_of l.intervals) = ap reading l.text_is ∙ log_read l.intervals l.each in
-    let m = merges greatest filter l.intervals (new_merging fewer) t.0 back l.each (subst P (sym l.ends) plain) refl (subst R read t.1) in
+    let R : List (Result Entry ℕ) → Type 0 = λ xs. ItemsMerge greatest filter (timed None xs) (new_merging fewer) t.0 in
+    let read : reading written ≡ map is_read (map span_of l.intervals) = ap reading l.text_is ∙ log_read back l.intervals l.each in
+    let m = merges greatest filter l.intervals (new_merging fewer) t.0 back l.each (subst P (sym l.ends) plain) (subst R read t.1) in
     let E : Result Merging MergeError → Type 0 = λ e. Reported quantiles (result_map_both (λ (x : Merging). x.histogram) merge_fault e) text fault in
     let reported = subst E m.2.1 t.2 in
     let B : List (run.Interval Plain) → Type 0 = λ es. AllZip IsReadBack (chosen_of filter es) m.0 in

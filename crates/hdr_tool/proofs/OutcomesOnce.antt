@@ -1,5 +1,5 @@
 -- Arguments and an input have one outcome.
-use Rattle.hdr_tool.proofs.Common.{◌≡◌, ℕ, ◌+◌, ◌-◌, ◌*◌, ◌^◌, Bool, true, false, List, [], ◌∷◌, ◌++◌, Option, Some, None, MatchOption, Result, Ok, Err, refl, sym, ap, ◌∙◌, subst, MatchBool, codes, option_map, Ratio, Plain, Entry, Start, Base, Span, reading, piece_text, base64_bytes, IsV2, IsWrittenAlike, v2_at, ReadsV2, Filter, Every, interval_piece, Merging, new_merging, with_interval, BytesMerge, FieldMerges, IntervalMerges, EntryMerges, MergesOn, EntriesMerge, AreChosen, DeserializeError, MergeError, Fault, Usage, Task, Report, Log, Merge, task_of, greatest_into, filter_of, merge_fault, quantile_line, has_too_great_count, input_run, Reported, result_map_both, outputs_of, Unread, kind_of, OneOutcome}
+use Rattle.hdr_tool.proofs.Common.{◌≡◌, ℕ, ◌+◌, ◌-◌, ◌*◌, ◌^◌, Bool, true, false, List, [], ◌∷◌, ◌++◌, Option, Some, None, MatchOption, Result, Ok, Err, refl, sym, ap, ◌∙◌, subst, MatchBool, codes, option_map, Ratio, Plain, TimedInterval, timed_intervals, piece_text, base64_bytes, IsV2, IsWrittenAlike, v2_at, ReadsV2, Filter, Every, interval_piece, Merging, new_merging, with_interval, BytesMerge, FieldMerges, IntervalMerges, ItemMerges, MergesOn, ItemsMerge, AreChosen, DeserializeError, MergeError, Fault, Usage, Task, Report, Log, Merge, task_of, greatest_into, filter_of, merge_fault, quantile_line, has_too_great_count, input_run, Reported, result_map_both, outputs_of, Unread, kind_of, OneOutcome}
 use Rattle.std.specs.List.{flat_map}
 use Rattle.std.specs.Fmt.{decimal}
 use Rattle.hex.specs.Hex.{encode_lower}
@@ -11,7 +11,7 @@ use Rattle.hdr_tool.specs.Program as run
 -- what the library's laws on bytes and on merging say
 pub record Once : Type 0 where
   pub bytes : (h k : Plain) (a b : List ℕ) → IsV2 h a → IsV2 k b → IsWrittenAlike h k → a ≡ b
-  pub chosen : (filter : Filter) (base : ℕ) (entries : List (Result Entry ℕ)) (hs others : List Plain) → AreChosen filter base entries hs → AreChosen filter base entries others → hs ≡ others
+  pub chosen : (filter : Filter) (items : List (Result TimedInterval ℕ)) (hs others : List Plain) → AreChosen filter items hs → AreChosen filter items others → hs ≡ others
 
 bytes_once : Once → (h : Plain) (a b : List ℕ) → IsV2 h a → IsV2 h b → a ≡ b
 bytes_once once h a b p q = once.bytes h h a b p q (record { low = refl; high = refl; sigfig = refl; counts = refl; top_class = refl })
@@ -59,7 +59,7 @@ module _ (once : Once) (greatest : ℕ) (filter : Filter) where
   histogram_once : (interval : Interval) (bytes : List ℕ) (x y : Plain × ℕ) → base64_bytes interval.field ≡ Some bytes → ReadsV2 (2 ^ 64 - 1) bytes (Ok x) → ReadsV2 (2 ^ 64 - 1) bytes (Ok y) → x.0 ≡ y.0
   unfolding is_chosen
   histogram_once interval bytes x y e p q =
-      first_of x.0 y.0 (once.chosen (record { tags = Every; from = None; to = None }) 0 (Ok (Span interval) ∷ []) (x.0 ∷ []) (y.0 ∷ []) (x.0, [], refl, (bytes, e, x.1, p), refl) (y.0, [], refl, (bytes, e, y.1, q), refl))
+      first_of x.0 y.0 (once.chosen (record { tags = Every; from = None; to = None }) (Ok (record { time = 0; interval = interval }) ∷ []) (x.0 ∷ []) (y.0 ∷ []) (x.0, [], refl, (bytes, e, x.1, p), refl) (y.0, [], refl, (bytes, e, y.1, q), refl))
 
   found_once : (interval : Interval) (m : Merging) (bytes : List ℕ) (x y : Result (Plain × ℕ) DeserializeError) (r s : Result Merging MergeError) → base64_bytes interval.field ≡ Some bytes
       → ReadsV2 (2 ^ 64 - 1) bytes x → BytesMerge greatest m x r → ReadsV2 (2 ^ 64 - 1) bytes y → BytesMerge greatest m y s → Same r s
@@ -76,22 +76,20 @@ module _ (once : Once) (greatest : ℕ) (filter : Filter) where
   interval_once interval m true r s p q = field_merged interval m (base64_bytes interval.field) r s refl p q
   interval_once interval m false r s p q = same_both _ r s p q
 
-  entry_once : (entry : Result Entry ℕ) (m : Merging) (r s : Result Merging MergeError) → EntryMerges greatest filter m entry r → EntryMerges greatest filter m entry s → Same r s
-  entry_once (Ok (Start time)) m r s p q = same_both _ r s p q
-  entry_once (Ok (Base time)) m r s p q = same_both _ r s p q
-  entry_once (Ok (Span interval)) m r s p q = interval_once interval m (is_chosen filter interval.tag (m.base + interval.start)) r s p q
-  entry_once (Err at) m r s p q = same_both _ r s p q
+  item_once : (item : Result TimedInterval ℕ) (m : Merging) (r s : Result Merging MergeError) → ItemMerges greatest filter m item r → ItemMerges greatest filter m item s → Same r s
+  item_once (Ok i) m r s p q = interval_once i.interval m (is_chosen filter i.interval.tag i.time) r s p q
+  item_once (Err at) m r s p q = same_both _ r s p q
 
-  rest_once : (entries : List (Result Entry ℕ)) (x y r s : Result Merging MergeError) → Same x y → MergesOn (EntriesMerge greatest filter entries) x r → MergesOn (EntriesMerge greatest filter entries) y s
-      → ((m : Merging) → EntriesMerge greatest filter entries m r → EntriesMerge greatest filter entries m s → Same r s) → Same r s
-  rest_once entries (Ok m) (Ok n) r s e p q next = next m p (subst (λ x. EntriesMerge greatest filter entries x s) (sym e) q)
-  rest_once entries (Err e) (Err f) r s same p q next = rw (p, q) same
-  rest_once entries (Ok m) (Err f) r s e p q next = absurd e
-  rest_once entries (Err e) (Ok n) r s same p q next = absurd same
+  rest_once : (items : List (Result TimedInterval ℕ)) (x y r s : Result Merging MergeError) → Same x y → MergesOn (ItemsMerge greatest filter items) x r → MergesOn (ItemsMerge greatest filter items) y s
+      → ((m : Merging) → ItemsMerge greatest filter items m r → ItemsMerge greatest filter items m s → Same r s) → Same r s
+  rest_once items (Ok m) (Ok n) r s e p q next = next m p (subst (λ x. ItemsMerge greatest filter items x s) (sym e) q)
+  rest_once items (Err e) (Err f) r s same p q next = rw (p, q) same
+  rest_once items (Ok m) (Err f) r s e p q next = absurd e
+  rest_once items (Err e) (Ok n) r s same p q next = absurd same
 
-  merge_once : (entries : List (Result Entry ℕ)) (m : Merging) (r s : Result Merging MergeError) → EntriesMerge greatest filter entries m r → EntriesMerge greatest filter entries m s → Same r s
+  merge_once : (items : List (Result TimedInterval ℕ)) (m : Merging) (r s : Result Merging MergeError) → ItemsMerge greatest filter items m r → ItemsMerge greatest filter items m s → Same r s
   merge_once [] m r s p q = same_both _ r s p q
-  merge_once (entry ∷ entries) m r s p q = rest_once entries p.0 q.0 r s (entry_once entry m p.0 q.0 p.1 q.1) p.2 q.2 (λ n u v. merge_once entries n r s u v)
+  merge_once (item ∷ items) m r s p q = rest_once items p.0 q.0 r s (item_once item m p.0 q.0 p.1 q.1) p.2 q.2 (λ n u v. merge_once items n r s u v)
 
 merged_once : Once → (quantiles : List Ratio) (r s : Result Merging MergeError) (a b : List ℕ) (f g : Option Fault) → Same r s → Reported quantiles (result_map_both (λ (m : Merging). m.histogram) merge_fault r) a f → Reported quantiles (result_map_both (λ (m : Merging). m.histogram) merge_fault s) b g → (a ≡ b) × (option_map kind_of f ≡ option_map kind_of g)
 merged_once once quantiles (Ok m) (Ok n) a b f g same p q =
@@ -106,7 +104,7 @@ task_once once (Report sigfig quantiles) input a b f g p q =
     let h = reported_once once quantiles (input_run false sigfig input).ended a b f g p q in (h.0, ap (option_map kind_of) h.1)
 task_once once (Log sigfig) input a b f g p q = (text_once once (input_run true sigfig input).intervals a b p.0 q.0, ap (option_map kind_of) (p.1 ∙ sym q.1))
 task_once once (Merge options sigfig quantiles) input a b f g p q =
-    merged_once once quantiles p.0 q.0 a b f g (merge_once once (greatest_into options.into) (filter_of options) (reading input) (new_merging sigfig) p.0 q.0 p.1 q.1) p.2 q.2
+    merged_once once quantiles p.0 q.0 a b f g (merge_once once (greatest_into options.into) (filter_of options) (timed_intervals input) (new_merging sigfig) p.0 q.0 p.1 q.1) p.2 q.2
 
 by_task : Once → (given : Option Task) (input a b : List ℕ) (f g : Option Fault) → MatchOption given ((a ≡ []) × (f ≡ Some Usage)) (λ task. (outputs_of task input).whole a f) → MatchOption given ((b ≡ []) × (g ≡ Some Usage)) (λ task. (outputs_of task input).whole b g)
     → (a ≡ b) × (option_map kind_of f ≡ option_map kind_of g)

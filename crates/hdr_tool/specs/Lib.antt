@@ -4,3 +4,4 @@ pub mod Commands
 pub mod Program
 pub mod Outcomes
 pub mod LogMerges
+pub mod Reports

@@ -16,8 +16,12 @@ use Rattle.hdr_tool.specs.Arguments.{Task, Report, Log, Merge, task_of, greatest
 use Rattle.hdr_tool.specs.Commands.{Command, Apply, End, command_of, number_lines}
 
 -- `NUM/DEN VALUE`, and an LF
+abbrev pub quantile_text : Ratio → ℕ → List ℕ
+quantile_text q value = decimal q.num ++ 47 ∷ [] ++ decimal q.den ++ 32 ∷ [] ++ decimal value ++ 10 ∷ []
+
+-- the line of a quantile
 abbrev pub quantile_line : Plain → Ratio → List ℕ
-quantile_line h q = decimal q.num ++ 47 ∷ [] ++ decimal q.den ++ 32 ∷ [] ++ decimal (value_at_quantile h q) ++ 10 ∷ []
+quantile_line h q = quantile_text q (value_at_quantile h q)
 
 -- some count is too great for bytes
 unfoldable pub has_too_great_count : Plain → Bool
@@ -154,6 +158,10 @@ abbrev pub kind_of : Fault → FaultKind
 kind_of (NotRead k e) = Unread k (defect_of_error e)
 kind_of f = Named f
 
--- arguments and an input have one outcome
+-- arguments and an input have at most one outcome
 abbrev pub OneOutcome : Type 0
 OneOutcome = (arguments : List (List ℕ)) (input a b : List ℕ) (f g : Option Fault) → Outcome arguments input a f → Outcome arguments input b g → (a ≡ b) × (option_map kind_of f ≡ option_map kind_of g)
+
+-- arguments and an input have an outcome
+abbrev pub OutcomeExists : Type 0
+OutcomeExists = (arguments : List (List ℕ)) (input : List ℕ) → (text : List ℕ) × (fault : Option Fault) × Outcome arguments input text fault

@@ -47,7 +47,7 @@ fn end<W: Write>(
     show_plain(histogram);
     let start = Duration::from_millis(start);
     let duration = Duration::from_millis(duration);
-    match log.write_histogram(histogram, start, duration, tag) {
+    match log.write_v2(histogram, start, duration, tag) {
         Ok(()) => {
             histogram.reset();
             Ok(())
@@ -57,7 +57,12 @@ fn end<W: Write>(
             let cause = V2SerializeError::CountNotSerializable;
             Err(Fault::NotWritten(line, IntervalLogWriterError::SerializeError(cause)))
         }
-        Err(IntervalLogWriterError::SerializeError(_)) => Err(Fault::NoMemory),
+        Err(IntervalLogWriterError::SerializeError(V2SerializeError::UsizeTypeTooSmall)) => {
+            unreachable!()
+        }
+        Err(IntervalLogWriterError::SerializeError(V2SerializeError::IoError(_))) => unreachable!(),
+        Err(IntervalLogWriterError::SerializeError(V2SerializeError::OutOfMemory)) =>
+            unreachable!(),
         // The seconds of a `u64` of milliseconds fit a `u64`.
         Err(IntervalLogWriterError::TimeOutOfRange) => unreachable!(),
         Err(IntervalLogWriterError::OutOfMemory) => Err(Fault::NoMemory),

@@ -6,10 +6,11 @@ use Rattle.hdr_model.specs.Marks.{IsTopMark, IsLowerMark}
 use Rattle.hdr_model.specs.Joining.{after_adds}
 use Rattle.hdr_model.specs.Merging.{after_add}
 use Rattle.hdr_model.proofs.PlainBounds.{bounds, bounds-merged, same-bounds}
-use Rattle.hdr_log.specs.Grammar.{Entry, Start, Base, Span, Interval}
+use Rattle.hdr_log.specs.Grammar.{Interval}
+use Rattle.hdr_log.specs.Timed.{TimedInterval}
 use Rattle.hdr_log.specs.Texts.{base64_bytes}
 use Rattle.hdrhistogram.specs.Chosen.{Filter, is_chosen}
-use Rattle.hdrhistogram.specs.LogMerging.{Merging, with_base, past_interval, with_interval, coarser_of, one_if_coarser, BytesMerge, FieldMerges, IntervalMerges, MergesOn, EntriesMerge, ChosenFirst, AreChosen}
+use Rattle.hdrhistogram.specs.LogMerging.{Merging, past_interval, with_interval, coarser_of, one_if_coarser, BytesMerge, FieldMerges, IntervalMerges, MergesOn, ItemsMerge, ChosenFirst, AreChosen}
 use Rattle.hdrhistogram.specs.FieldRead.{IsHeldIn}
 use Rattle.hdrhistogram.specs.V2Read.{Contents, histogram_contents, IsReadAs, ReadsV2}
 use Rattle.hdrhistogram.specs.Defects.{Defect}
@@ -19,9 +20,9 @@ use Rattle.hdrhistogram.proofs.FinerCounted.{resolution-added}
 use Rattle.hdrhistogram.proofs.V2ReadBack.{top-unique, lower-unique}
 
 -- what is added from a state on
-abbrev Adds : ℕ → Filter → Merging → List (Result Entry ℕ) → Merging → Type 0
-Adds greatest filter m entries last =
-    (hs : List Plain) × AreChosen filter m.base entries hs × (last.histogram ≡ after_adds greatest m.histogram hs) × (last.chosen ≡ m.chosen + length hs)
+abbrev Adds : ℕ → Filter → Merging → List (Result TimedInterval ℕ) → Merging → Type 0
+Adds greatest filter m items last =
+    (hs : List Plain) × AreChosen filter items hs × (last.histogram ≡ after_adds greatest m.histogram hs) × (last.chosen ≡ m.chosen + length hs)
     × (last.coarser ≡ m.coarser + coarser_of (resolution m.histogram) hs)
 
 same_Ok : (m n : Merging) → (λ (r : Result Merging MergeError). r) (Ok m) ≡ Ok n → m ≡ n
@@ -30,59 +31,55 @@ same_Ok m n e = cc
 no_error : (m : Merging) (e : MergeError) → (λ (r : Result Merging MergeError). r) (Ok m) ≡ Err e → ⊥
 no_error m e h = absurd (let f = h in cc)
 
--- a step that changed nothing but the base time
-stepped : (greatest : ℕ) (filter : Filter) (m next last : Merging) (entries : List (Result Entry ℕ)) (step : Result Merging MergeError)
-    → step ≡ Ok next → MergesOn (EntriesMerge greatest filter entries) step (Ok last) → EntriesMerge greatest filter entries next (Ok last)
-stepped greatest filter m next last entries step e on = subst (λ x. MergesOn (EntriesMerge greatest filter entries) x (Ok last)) e on
+-- a step without an error
+stepped : (greatest : ℕ) (filter : Filter) (m next last : Merging) (items : List (Result TimedInterval ℕ)) (step : Result Merging MergeError)
+    → step ≡ Ok next → MergesOn (ItemsMerge greatest filter items) step (Ok last) → ItemsMerge greatest filter items next (Ok last)
+stepped greatest filter m next last items step e on = subst (λ x. MergesOn (ItemsMerge greatest filter items) x (Ok last)) e on
 
-failed : {A : Type 0} (greatest : ℕ) (filter : Filter) (last : Merging) (entries : List (Result Entry ℕ)) (step : Result Merging MergeError) (e : MergeError)
-    → step ≡ Err e → MergesOn (EntriesMerge greatest filter entries) step (Ok last) → A
-failed greatest filter last entries step e h on =
-    absurd (no_error last e (subst (λ x. MergesOn (EntriesMerge greatest filter entries) x (Ok last)) h on))
+failed : {A : Type 0} (greatest : ℕ) (filter : Filter) (last : Merging) (items : List (Result TimedInterval ℕ)) (step : Result Merging MergeError) (e : MergeError)
+    → step ≡ Err e → MergesOn (ItemsMerge greatest filter items) step (Ok last) → A
+failed greatest filter last items step e h on =
+    absurd (no_error last e (subst (λ x. MergesOn (ItemsMerge greatest filter items) x (Ok last)) h on))
 
 -- the bytes of a chosen interval were read and added
-bytes_added : (greatest : ℕ) (filter : Filter) (m last : Merging) (entries : List (Result Entry ℕ)) (step : Result Merging MergeError) (bytes : List ℕ) (found : Result (Plain × ℕ) DeserializeError)
-    → ReadsV2 18446744073709551615 bytes found → BytesMerge greatest m found step → MergesOn (EntriesMerge greatest filter entries) step (Ok last)
-    → (h : Plain) × ((taken : ℕ) × IsReadAs 18446744073709551615 bytes h taken) × EntriesMerge greatest filter entries (with_interval greatest m h) (Ok last)
-bytes_added greatest filter m last entries step bytes (Ok found) r b on = (found.0, (found.1, r), stepped greatest filter m (with_interval greatest m found.0) last entries step b on)
-bytes_added greatest filter m last entries step bytes (Err e) r b on = failed greatest filter last entries step _ b on
+bytes_added : (greatest : ℕ) (filter : Filter) (m last : Merging) (items : List (Result TimedInterval ℕ)) (step : Result Merging MergeError) (bytes : List ℕ) (found : Result (Plain × ℕ) DeserializeError)
+    → ReadsV2 18446744073709551615 bytes found → BytesMerge greatest m found step → MergesOn (ItemsMerge greatest filter items) step (Ok last)
+    → (h : Plain) × ((taken : ℕ) × IsReadAs 18446744073709551615 bytes h taken) × ItemsMerge greatest filter items (with_interval greatest m h) (Ok last)
+bytes_added greatest filter m last items step bytes (Ok found) r b on = (found.0, (found.1, r), stepped greatest filter m (with_interval greatest m found.0) last items step b on)
+bytes_added greatest filter m last items step bytes (Err e) r b on = failed greatest filter last items step _ b on
 
-field_added : (greatest : ℕ) (filter : Filter) (m last : Merging) (entries : List (Result Entry ℕ)) (interval : Interval) (step : Result Merging MergeError) (o : Option (List ℕ))
-    → base64_bytes interval.field ≡ o → FieldMerges greatest m o step → MergesOn (EntriesMerge greatest filter entries) step (Ok last)
-    → (h : Plain) × IsHeldIn 18446744073709551615 interval.field h × EntriesMerge greatest filter entries (with_interval greatest m h) (Ok last)
-field_added greatest filter m last entries interval step None e f on = failed greatest filter last entries step _ f on
-field_added greatest filter m last entries interval step (Some bytes) e f on =
-    let b = bytes_added greatest filter m last entries step bytes f.0 f.1 f.2 on in
+field_added : (greatest : ℕ) (filter : Filter) (m last : Merging) (items : List (Result TimedInterval ℕ)) (interval : Interval) (step : Result Merging MergeError) (o : Option (List ℕ))
+    → base64_bytes interval.field ≡ o → FieldMerges greatest m o step → MergesOn (ItemsMerge greatest filter items) step (Ok last)
+    → (h : Plain) × IsHeldIn 18446744073709551615 interval.field h × ItemsMerge greatest filter items (with_interval greatest m h) (Ok last)
+field_added greatest filter m last items interval step None e f on = failed greatest filter last items step _ f on
+field_added greatest filter m last items interval step (Some bytes) e f on =
+    let b = bytes_added greatest filter m last items step bytes f.0 f.1 f.2 on in
     (b.0, (bytes, e, b.1.0, b.1.1), b.2)
 
 -- an interval, chosen or not
-interval_added : (greatest : ℕ) (filter : Filter) (m last : Merging) (entries : List (Result Entry ℕ)) (interval : Interval) (b : Bool) (step : Result Merging MergeError)
-    → IntervalMerges greatest m b interval step → MergesOn (EntriesMerge greatest filter entries) step (Ok last)
-    → ((next : Merging) → EntriesMerge greatest filter entries next (Ok last) → Adds greatest filter next entries last)
-    → (hs : List Plain) × ChosenFirst b interval (AreChosen filter m.base entries) hs × (last.histogram ≡ after_adds greatest m.histogram hs) × (last.chosen ≡ m.chosen + length hs)
+interval_added : (greatest : ℕ) (filter : Filter) (m last : Merging) (items : List (Result TimedInterval ℕ)) (interval : Interval) (b : Bool) (step : Result Merging MergeError)
+    → IntervalMerges greatest m b interval step → MergesOn (ItemsMerge greatest filter items) step (Ok last)
+    → ((next : Merging) → ItemsMerge greatest filter items next (Ok last) → Adds greatest filter next items last)
+    → (hs : List Plain) × ChosenFirst b interval (AreChosen filter items) hs × (last.histogram ≡ after_adds greatest m.histogram hs) × (last.chosen ≡ m.chosen + length hs)
     × (last.coarser ≡ m.coarser + coarser_of (resolution m.histogram) hs)
-interval_added greatest filter m last entries interval true step i on rest =
-    let f = field_added greatest filter m last entries interval step (base64_bytes interval.field) refl i on in
+interval_added greatest filter m last items interval true step i on rest =
+    let f = field_added greatest filter m last items interval step (base64_bytes interval.field) refl i on in
     let r = rest (with_interval greatest m f.0) f.2 in
     let g = resolution m.histogram in
     let S : Resolution → Type 0 = λ g. last.coarser ≡ (m.coarser + one_if_coarser (resolution m.histogram) f.0) + coarser_of g r.0 in
     let coarser : last.coarser ≡ (m.coarser + one_if_coarser g f.0) + coarser_of g r.0 = subst S (resolution-added greatest m.histogram f.0) r.4 in
     (f.0 ∷ r.0, (f.0, r.0, refl, f.1, r.1), r.2, omega (arith, r.3), omega (arith, coarser))
-interval_added greatest filter m last entries interval false step i on rest =
-    rest (past_interval m) (stepped greatest filter m (past_interval m) last entries step i on)
+interval_added greatest filter m last items interval false step i on rest =
+    rest (past_interval m) (stepped greatest filter m (past_interval m) last items step i on)
 
-pub all_added : (greatest : ℕ) (filter : Filter) (entries : List (Result Entry ℕ)) (m last : Merging) → EntriesMerge greatest filter entries m (Ok last) → Adds greatest filter m entries last
+pub all_added : (greatest : ℕ) (filter : Filter) (items : List (Result TimedInterval ℕ)) (m last : Merging) → ItemsMerge greatest filter items m (Ok last) → Adds greatest filter m items last
 all_added greatest filter [] m last e =
     let same : last ≡ m = same_Ok last m e in
     ([], refl, ap (λ (x : Merging). x.histogram) same, omega (arith, ap (λ (x : Merging). x.chosen) same), omega (arith, ap (λ (x : Merging). x.coarser) same))
-all_added greatest filter (Ok (Start time) ∷ entries) m last e =
-    all_added greatest filter entries m last (stepped greatest filter m m last entries e.0 e.1 e.2)
-all_added greatest filter (Ok (Base time) ∷ entries) m last e =
-    all_added greatest filter entries (with_base m time) last (stepped greatest filter m (with_base m time) last entries e.0 e.1 e.2)
-all_added greatest filter (Ok (Span interval) ∷ entries) m last e =
-    interval_added greatest filter m last entries interval (is_chosen filter interval.tag (m.base + interval.start)) e.0 e.1 e.2
-    (λ next on. all_added greatest filter entries next last on)
-all_added greatest filter (Err at ∷ entries) m last e = failed greatest filter last entries e.0 _ e.1 e.2
+all_added greatest filter (Ok i ∷ items) m last e =
+    interval_added greatest filter m last items i.interval (is_chosen filter i.interval.tag i.time) e.0 e.1 e.2
+    (λ next on. all_added greatest filter items next last on)
+all_added greatest filter (Err at ∷ items) m last e = failed greatest filter last items e.0 _ e.1 e.2
 
 -- ---- an interval holds one histogram
 
@@ -124,13 +121,11 @@ first_once true interval Rest hs ks once p q =
     p.2 ∙ ap (λ h. h ∷ p.1) (held_once interval.field p.0 q.0 p.3 q.3) ∙ ap (λ l. q.0 ∷ l) (once p.1 q.1 p.4 q.4) ∙ sym q.2
 first_once false interval Rest hs ks once p q = once hs ks p q
 
-pub chosen_once : (filter : Filter) (base : ℕ) (entries : List (Result Entry ℕ)) (hs ks : List Plain) → AreChosen filter base entries hs → AreChosen filter base entries ks → hs ≡ ks
-chosen_once filter base [] hs ks p q = p ∙ sym q
-chosen_once filter base (Ok (Start time) ∷ entries) hs ks p q = chosen_once filter base entries hs ks p q
-chosen_once filter base (Ok (Base time) ∷ entries) hs ks p q = chosen_once filter time entries hs ks p q
-chosen_once filter base (Ok (Span interval) ∷ entries) hs ks p q =
-    first_once (is_chosen filter interval.tag (base + interval.start)) interval (AreChosen filter base entries) hs ks (λ xs ys r s. chosen_once filter base entries xs ys r s) p q
-chosen_once filter base (Err at ∷ entries) hs ks p q = absurd p
+pub chosen_once : (filter : Filter) (items : List (Result TimedInterval ℕ)) (hs ks : List Plain) → AreChosen filter items hs → AreChosen filter items ks → hs ≡ ks
+chosen_once filter [] hs ks p q = p ∙ sym q
+chosen_once filter (Ok i ∷ items) hs ks p q =
+    first_once (is_chosen filter i.interval.tag i.time) i.interval (AreChosen filter items) hs ks (λ xs ys r s. chosen_once filter items xs ys r s) p q
+chosen_once filter (Err at ∷ items) hs ks p q = absurd p
 
 pub empty_resolution : (n : ℕ) → resolution (empty_plain 1 2 n true) ≡ resolution_of 1 n
 unfolding empty_plain
@@ -147,39 +142,35 @@ read_or_not r p f is not = let both : ◌≡◌ {A = Result (Contents × List �
 bytes_or_not : (o : Option (List ℕ)) (x : List ℕ) → o ≡ None → o ≡ Some x → ⊥
 bytes_or_not o x not is = let both : ◌≡◌ {A = Option (List ℕ)} None (Some x) = sym not ∙ is in absurd cc
 
-bytes_taken : (greatest : ℕ) (filter : Filter) (m : Merging) (entries : List (Result Entry ℕ)) (step r : Result Merging MergeError) (bytes : List ℕ) (h : Plain) (taken : ℕ) (found : Result (Plain × ℕ) DeserializeError)
-    → IsReadAs 18446744073709551615 bytes h taken → ReadsV2 18446744073709551615 bytes found → BytesMerge greatest m found step → MergesOn (EntriesMerge greatest filter entries) step r
-    → ((next : Merging) → next.base ≡ m.base → EntriesMerge greatest filter entries next r → IsDone r) → IsDone r
-bytes_taken greatest filter m entries step r bytes h taken (Ok found) p q b on rest = rest (with_interval greatest m found.0) refl (subst (λ x. MergesOn (EntriesMerge greatest filter entries) x r) b on)
-bytes_taken greatest filter m entries step r bytes h taken (Err e) p q b on rest = absurd (read_or_not _ _ q.0 p.read q.2)
+bytes_taken : (greatest : ℕ) (filter : Filter) (m : Merging) (items : List (Result TimedInterval ℕ)) (step r : Result Merging MergeError) (bytes : List ℕ) (h : Plain) (taken : ℕ) (found : Result (Plain × ℕ) DeserializeError)
+    → IsReadAs 18446744073709551615 bytes h taken → ReadsV2 18446744073709551615 bytes found → BytesMerge greatest m found step → MergesOn (ItemsMerge greatest filter items) step r
+    → ((next : Merging) → ItemsMerge greatest filter items next r → IsDone r) → IsDone r
+bytes_taken greatest filter m items step r bytes h taken (Ok found) p q b on rest = rest (with_interval greatest m found.0) (subst (λ x. MergesOn (ItemsMerge greatest filter items) x r) b on)
+bytes_taken greatest filter m items step r bytes h taken (Err e) p q b on rest = absurd (read_or_not _ _ q.0 p.read q.2)
 
-field_taken : (greatest : ℕ) (filter : Filter) (m : Merging) (entries : List (Result Entry ℕ)) (interval : Interval) (step r : Result Merging MergeError) (h : Plain) (o : Option (List ℕ))
-    → base64_bytes interval.field ≡ o → IsHeldIn 18446744073709551615 interval.field h → FieldMerges greatest m o step → MergesOn (EntriesMerge greatest filter entries) step r
-    → ((next : Merging) → next.base ≡ m.base → EntriesMerge greatest filter entries next r → IsDone r) → IsDone r
-field_taken greatest filter m entries interval step r h None e held f on rest = absurd (bytes_or_not (base64_bytes interval.field) held.0 e held.1)
-field_taken greatest filter m entries interval step r h (Some bytes) e held f on rest =
+field_taken : (greatest : ℕ) (filter : Filter) (m : Merging) (items : List (Result TimedInterval ℕ)) (interval : Interval) (step r : Result Merging MergeError) (h : Plain) (o : Option (List ℕ))
+    → base64_bytes interval.field ≡ o → IsHeldIn 18446744073709551615 interval.field h → FieldMerges greatest m o step → MergesOn (ItemsMerge greatest filter items) step r
+    → ((next : Merging) → ItemsMerge greatest filter items next r → IsDone r) → IsDone r
+field_taken greatest filter m items interval step r h None e held f on rest = absurd (bytes_or_not (base64_bytes interval.field) held.0 e held.1)
+field_taken greatest filter m items interval step r h (Some bytes) e held f on rest =
     let same : held.0 ≡ bytes = same_bytes held.0 bytes (sym held.1 ∙ e) in
-    bytes_taken greatest filter m entries step r bytes h held.2 f.0 (subst (λ t. IsReadAs 18446744073709551615 t h held.2) same held.3) f.1 f.2 on rest
+    bytes_taken greatest filter m items step r bytes h held.2 f.0 (subst (λ t. IsReadAs 18446744073709551615 t h held.2) same held.3) f.1 f.2 on rest
 
-interval_taken : (greatest : ℕ) (filter : Filter) (m : Merging) (entries : List (Result Entry ℕ)) (interval : Interval) (b : Bool) (step r : Result Merging MergeError) (hs : List Plain)
-    → ChosenFirst b interval (AreChosen filter m.base entries) hs → IntervalMerges greatest m b interval step → MergesOn (EntriesMerge greatest filter entries) step r
-    → ((next : Merging) (ks : List Plain) → next.base ≡ m.base → AreChosen filter m.base entries ks → EntriesMerge greatest filter entries next r → IsDone r) → IsDone r
-interval_taken greatest filter m entries interval true step r hs c i on rest =
-    field_taken greatest filter m entries interval step r c.0 (base64_bytes interval.field) refl c.3 i on (λ next same e. rest next c.1 same c.4 e)
-interval_taken greatest filter m entries interval false step r hs c i on rest =
-    rest (past_interval m) hs refl c (subst (λ x. MergesOn (EntriesMerge greatest filter entries) x r) i on)
+interval_taken : (greatest : ℕ) (filter : Filter) (m : Merging) (items : List (Result TimedInterval ℕ)) (interval : Interval) (b : Bool) (step r : Result Merging MergeError) (hs : List Plain)
+    → ChosenFirst b interval (AreChosen filter items) hs → IntervalMerges greatest m b interval step → MergesOn (ItemsMerge greatest filter items) step r
+    → ((next : Merging) (ks : List Plain) → AreChosen filter items ks → ItemsMerge greatest filter items next r → IsDone r) → IsDone r
+interval_taken greatest filter m items interval true step r hs c i on rest =
+    field_taken greatest filter m items interval step r c.0 (base64_bytes interval.field) refl c.3 i on (λ next e. rest next c.1 c.4 e)
+interval_taken greatest filter m items interval false step r hs c i on rest =
+    rest (past_interval m) hs c (subst (λ x. MergesOn (ItemsMerge greatest filter items) x r) i on)
 
-pub all_taken : (greatest : ℕ) (filter : Filter) (entries : List (Result Entry ℕ)) (m : Merging) (r : Result Merging MergeError) (hs : List Plain)
-    → AreChosen filter m.base entries hs → EntriesMerge greatest filter entries m r → IsDone r
+pub all_taken : (greatest : ℕ) (filter : Filter) (items : List (Result TimedInterval ℕ)) (m : Merging) (r : Result Merging MergeError) (hs : List Plain)
+    → AreChosen filter items hs → ItemsMerge greatest filter items m r → IsDone r
 all_taken greatest filter [] m r hs c e = (m, e)
-all_taken greatest filter (Ok (Start time) ∷ entries) m r hs c e =
-    all_taken greatest filter entries m r hs c (subst (λ x. MergesOn (EntriesMerge greatest filter entries) x r) e.1 e.2)
-all_taken greatest filter (Ok (Base time) ∷ entries) m r hs c e =
-    all_taken greatest filter entries (with_base m time) r hs c (subst (λ x. MergesOn (EntriesMerge greatest filter entries) x r) e.1 e.2)
-all_taken greatest filter (Ok (Span interval) ∷ entries) m r hs c e =
-    interval_taken greatest filter m entries interval (is_chosen filter interval.tag (m.base + interval.start)) e.0 r hs c e.1 e.2
-    (λ next ks same d on. all_taken greatest filter entries next r ks (subst (λ b. AreChosen filter b entries ks) (sym same) d) on)
-all_taken greatest filter (Err at ∷ entries) m r hs c e = absurd c
+all_taken greatest filter (Ok i ∷ items) m r hs c e =
+    interval_taken greatest filter m items i.interval (is_chosen filter i.interval.tag i.time) e.0 r hs c e.1 e.2
+    (λ next ks d on. all_taken greatest filter items next r ks d on)
+all_taken greatest filter (Err at ∷ items) m r hs c e = absurd c
 
 -- ---- adding changes neither the lowest value nor the digits
 

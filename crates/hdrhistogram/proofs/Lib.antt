@@ -11,6 +11,7 @@ pub mod V2ReadBack
 pub mod V2ReadHistogram
 pub mod V2ReadHeader
 pub mod V2ReadRestated
+pub mod V2ReadPlain
 pub mod PayloadReadFilling
 pub mod VarintRead
 pub mod LogStartsParts
@@ -21,3 +22,8 @@ pub mod ChosenAdded
 pub mod DefectsMemory
 pub mod FieldMerging
 pub mod FinerCounted
+pub mod BorrowRests
+pub mod BorrowLoans
+pub mod ResultCases
+pub mod FactSteps
+pub mod LogLendingFacts

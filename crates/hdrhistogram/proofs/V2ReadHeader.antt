@@ -92,7 +92,7 @@ eight-whole t n e is =
 abbrev okay : ℕ × List ℕ → Result (ℕ × List ℕ) Defect
 okay x = Ok x
 
-checked_is : (defect : ℕ → Option Defect) (r : Result (ℕ × List ℕ) Defect) (y : ℕ × List ℕ) → check_field defect r ≡ Ok y → (r ≡ Ok y) × (defect y.0 ≡ None)
+pub checked_is : (defect : ℕ → Option Defect) (r : Result (ℕ × List ℕ) Defect) (y : ℕ × List ℕ) → check_field defect r ≡ Ok y → (r ≡ Ok y) × (defect y.0 ≡ None)
 checked_is defect (Err e) y h = absurd cc
 checked_is defect (Ok f) y h = got (defect f.0) refl h
   where

@@ -13,6 +13,7 @@ pub mod FieldRead
 pub mod LogStarts
 pub mod LogLeaving
 pub mod LogWriters
+pub mod LogLending
 pub mod Chosen
 pub mod LogMerging
 pub mod MergeView

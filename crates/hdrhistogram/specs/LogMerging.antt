@@ -9,7 +9,8 @@ use Rattle.hdr_model.specs.Samples.{Fits}
 use Rattle.hdr_model.specs.CallErrors.{IsBounds, IsCreationError}
 use Rattle.hdr_model.specs.declared.errors.CreationError.{CreationError}
 use Rattle.hdr_model.specs.declared.errors.CreationError.TheVariants as make
-use Rattle.hdr_log.specs.Grammar.{Entry, Start, Base, Span, Interval, reading}
+use Rattle.hdr_log.specs.Grammar.{Interval}
+use Rattle.hdr_log.specs.Timed.{TimedInterval, timed_intervals}
 use Rattle.hdr_log.specs.Texts.{base64_bytes}
 use Rattle.hdrhistogram.specs.Chosen.{Filter, is_chosen}
 use Rattle.hdrhistogram.specs.FieldRead.{IsHeldIn}
@@ -20,18 +21,17 @@ use Rattle.hdrhistogram.specs.declared.serialization.errors.FieldDecodeError.The
 use Rattle.hdrhistogram.specs.declared.serialization.interval_log.merge.MergeError.{MergeError}
 use Rattle.hdrhistogram.specs.declared.serialization.interval_log.merge.MergeError.TheVariants.{Creation, Parse, Base64, Decode, OutOfMemory}
 
--- the state of a merge: its histogram, the log's base time, the numbers of intervals read and
--- chosen, and the number of chosen ones that are coarser than the histogram
+-- the state of a merge: its histogram, the numbers of intervals read and chosen, and the number of
+-- chosen ones that are coarser than the histogram
 pub record Merging : Type 0 where
   pub histogram : Plain
-  pub base : ℕ
   pub intervals : ℕ
   pub chosen : ℕ
   pub coarser : ℕ
 
 -- a merge starts with an empty histogram that grows
 abbrev pub new_merging : ℕ → Merging
-new_merging sigfig = record { histogram = empty_plain 1 2 sigfig true; base = 0; intervals = 0; chosen = 0; coarser = 0 }
+new_merging sigfig = record { histogram = empty_plain 1 2 sigfig true; intervals = 0; chosen = 0; coarser = 0 }
 
 -- 1 if the classes of a histogram do not all lie in classes of the resolution (`IsFiner`), and 0
 -- otherwise; the sum of that
@@ -42,19 +42,14 @@ abbrev pub coarser_of : Resolution → List Plain → ℕ
 coarser_of g [] = 0
 coarser_of g (h ∷ hs) = one_if_coarser g h + coarser_of g hs
 
--- the state after a base time, after an interval that is not chosen, and after one whose histogram
--- is added
-abbrev pub with_base : Merging → ℕ → Merging
-with_base m time = record { histogram = m.histogram; base = time; intervals = m.intervals; chosen = m.chosen; coarser = m.coarser }
-
+-- the state after an interval that is not chosen, and after one whose histogram is added
 abbrev pub past_interval : Merging → Merging
-past_interval m = record { histogram = m.histogram; base = m.base; intervals = m.intervals + 1; chosen = m.chosen; coarser = m.coarser }
+past_interval m = record { histogram = m.histogram; intervals = m.intervals + 1; chosen = m.chosen; coarser = m.coarser }
 
 abbrev pub with_interval : ℕ → Merging → Plain → Merging
 with_interval greatest m source =
     record {
       histogram = after_add greatest m.histogram source;
-      base = m.base;
       intervals = m.intervals + 1;
       chosen = m.chosen + 1;
       coarser = m.coarser + one_if_coarser (resolution m.histogram) source;
@@ -75,27 +70,24 @@ abbrev pub IntervalMerges : ℕ → Merging → Bool → Interval → Result Mer
 IntervalMerges greatest m true interval r = FieldMerges greatest m (base64_bytes interval.field) r
 IntervalMerges greatest m false interval r = r ≡ Ok (past_interval m)
 
--- an entry of a log is applied: an interval begins at its start after the last base time, and a
--- start time changes nothing
-abbrev pub EntryMerges : ℕ → Filter → Merging → Result Entry ℕ → Result Merging MergeError → Type 0
-EntryMerges greatest filter m (Ok (Start time)) r = r ≡ Ok m
-EntryMerges greatest filter m (Ok (Base time)) r = r ≡ Ok (with_base m time)
-EntryMerges greatest filter m (Ok (Span interval)) r = IntervalMerges greatest m (is_chosen filter interval.tag (m.base + interval.start)) interval r
-EntryMerges greatest filter m (Err at) r = r ≡ Err (Parse at)
+-- an interval is chosen by its tag and its time, and an invalid line is an error of the merge
+abbrev pub ItemMerges : ℕ → Filter → Merging → Result TimedInterval ℕ → Result Merging MergeError → Type 0
+ItemMerges greatest filter m (Ok i) r = IntervalMerges greatest m (is_chosen filter i.interval.tag i.time) i.interval r
+ItemMerges greatest filter m (Err at) r = r ≡ Err (Parse at)
 
 -- a step with an error ends the merge; otherwise the rest follows
 abbrev pub MergesOn : (Merging → Result Merging MergeError → Type 0) → Result Merging MergeError → Result Merging MergeError → Type 0
 MergesOn Rest (Ok m) r = Rest m r
 MergesOn Rest (Err e) r = r ≡ Err e
 
-abbrev pub EntriesMerge : ℕ → Filter → List (Result Entry ℕ) → Merging → Result Merging MergeError → Type 0
-EntriesMerge greatest filter [] m r = r ≡ Ok m
-EntriesMerge greatest filter (entry ∷ entries) m r =
-    (step : Result Merging MergeError) × EntryMerges greatest filter m entry step × MergesOn (EntriesMerge greatest filter entries) step r
+abbrev pub ItemsMerge : ℕ → Filter → List (Result TimedInterval ℕ) → Merging → Result Merging MergeError → Type 0
+ItemsMerge greatest filter [] m r = r ≡ Ok m
+ItemsMerge greatest filter (item ∷ items) m r =
+    (step : Result Merging MergeError) × ItemMerges greatest filter m item step × MergesOn (ItemsMerge greatest filter items) step r
 
 -- a log is merged into a histogram of these digits, if there is one
 abbrev pub Merges : ℕ → Filter → ℕ → List ℕ → Result Merging MergeError → Type 0
-Merges greatest filter sigfig log r = EntriesMerge greatest filter (reading log) (new_merging sigfig) r
+Merges greatest filter sigfig log r = ItemsMerge greatest filter (timed_intervals log) (new_merging sigfig) r
 
 -- the error of creating the histogram, and the error of decoding an interval's field
 abbrev pub creation_error : CreationError → MergeError
@@ -124,7 +116,7 @@ IsMergeError greatest filter sigfig log e = IsBounds 1 2 sigfig × Merges greate
 -- a histogram and the numbers of chosen and of coarser intervals are the result of a merge
 abbrev pub IsMergedBy : (Result Merging MergeError → Type 0) → Plain → ℕ → ℕ → Type 0
 IsMergedBy Ends histogram chosen coarser =
-    (base : ℕ) × (intervals : ℕ) × Ends (Ok (record { histogram = histogram; base = base; intervals = intervals; chosen = chosen; coarser = coarser }))
+    (intervals : ℕ) × Ends (Ok (record { histogram = histogram; intervals = intervals; chosen = chosen; coarser = coarser }))
 
 -- the same, for any number of coarser intervals
 abbrev pub IsMerged : (Result Merging MergeError → Type 0) → Plain → ℕ → Type 0
@@ -135,22 +127,19 @@ abbrev pub IsOfDigits : ℕ → MergeError → Type 0
 IsOfDigits sigfig (Creation e) = (e ≡ make.SigFigExceedsMax) × (5 < sigfig)
 IsOfDigits sigfig e = Unit {0}
 
--- the histograms of the chosen intervals among entries, from a base time on
+-- the histograms of the chosen intervals among these
 abbrev pub ChosenFirst : Bool → Interval → (List Plain → Type 0) → List Plain → Type 0
 ChosenFirst true interval Rest hs = (h : Plain) × (rest : List Plain) × (hs ≡ h ∷ rest) × IsHeldIn 18446744073709551615 interval.field h × Rest rest
 ChosenFirst false interval Rest hs = Rest hs
 
-abbrev pub AreChosen : Filter → ℕ → List (Result Entry ℕ) → List Plain → Type 0
-AreChosen filter base [] hs = hs ≡ []
-AreChosen filter base (Ok (Start time) ∷ entries) hs = AreChosen filter base entries hs
-AreChosen filter base (Ok (Base time) ∷ entries) hs = AreChosen filter time entries hs
-AreChosen filter base (Ok (Span interval) ∷ entries) hs =
-    ChosenFirst (is_chosen filter interval.tag (base + interval.start)) interval (AreChosen filter base entries) hs
-AreChosen filter base (Err at ∷ entries) hs = ⊥
+abbrev pub AreChosen : Filter → List (Result TimedInterval ℕ) → List Plain → Type 0
+AreChosen filter [] hs = hs ≡ []
+AreChosen filter (Ok i ∷ items) hs = ChosenFirst (is_chosen filter i.interval.tag i.time) i.interval (AreChosen filter items) hs
+AreChosen filter (Err at ∷ items) hs = ⊥
 
 -- the histograms of the chosen intervals of a log
 abbrev pub AreChosenIn : Filter → List ℕ → List Plain → Type 0
-AreChosenIn filter log hs = AreChosen filter 0 (reading log) hs
+AreChosenIn filter log hs = AreChosen filter (timed_intervals log) hs
 
 -- a merge added these histograms in order, and counted them and those that are coarser than the sum
 abbrev pub HasAdded : ℕ → ℕ → Merging → List Plain → Type 0

@@ -2,7 +2,7 @@
 //! law.
 
 ghost use Rattle.hdr_model.specs.Equality.{same_plain};
-ghost use Rattle.std.specs.Prelude.{◌≡◌, ◌↔◌, ℕ, ◌^◌, ◌<◌, ◌≤◌, ◌++◌, List, length, slice_index, All, ℤ, true, Result, Ok, IsOk};
+ghost use Rattle.std.specs.Prelude.{◌≡◌, ◌↔◌, ℕ, ◌^◌, ◌<◌, ◌≤◌, ◌++◌, List, length, slice_index, All, ℤ, true, Some, Result, Ok, IsOk};
 ghost use Rattle.std.specs.List.{AllByRecursion};
 ghost use Rattle.hdr_base.specs.Classes.{Resolution, IsFiner};
 ghost use Rattle.hdr_model.specs.Plain.{Plain, IsPlain, resolution};
@@ -10,18 +10,23 @@ ghost use Rattle.hdr_model.specs.Samples.{StandsFor};
 ghost use Rattle.hdr_base.specs.Fractions.{Ratio};
 ghost use Rattle.hdr_model.specs.Quantiles.{value_at_quantile};
 ghost use Rattle.hdr_model.specs.Joining.{joined_samples, AnswersRanked};
-ghost use Rattle.hdr_log.specs.Grammar.{Entry};
+ghost use Rattle.hdr_log.specs.Texts.{AreBytes};
+ghost use Rattle.hdr_log.specs.Timed.{TimedInterval};
 ghost use Rattle.hdrhistogram.specs.Chosen.{Filter};
 ghost use Rattle.hdrhistogram.specs.LogMerging.{Merging, Merges, AreChosen, AreChosenIn, HasAdded, MergesSamples, coarser_of};
 ghost use Rattle.hdrhistogram.specs.declared.serialization.interval_log.merge.MergeError.{MergeError};
+ghost use Rattle.hdrhistogram.specs.declared.serialization.errors.DeserializeError.{DeserializeError};
+ghost use Rattle.hdrhistogram.specs.Defects.{cut, defect_of_error};
 ghost use Rattle.hdrhistogram.specs.Varint.{Spells, IsShortest};
 ghost use Rattle.hdrhistogram.specs.ZigZag.{zig_zag, from_zig_zag};
 ghost use Rattle.hdrhistogram.specs.Payload.{Part, IsSplit, IsPayload};
 ghost use Rattle.hdrhistogram.specs.V2.{IsV2, IsWrittenAlike};
 ghost use Rattle.hdrhistogram.specs.PayloadRead.{Parted, split_spellings, AreSpellings};
-ghost use Rattle.hdrhistogram.specs.V2Read.{v2_at, Contents, histogram_contents, IsRestated, IsReadBack, IsReadAs};
+ghost use Rattle.hdrhistogram.specs.V2Read.{v2_at, Contents, histogram_contents, IsRestated, IsReadBack, IsReadAs, ReadsV2};
 
+use crate::serialization::DeserializeError;
 use hdr_core::laws::{clearing_stands, joined_stands, new_is_plain, samples_are_counted};
+use std::io::{self, ErrorKind};
 
 /// Each number below 2^64 has exactly one canonical varint. No varint is longer than nine bytes.
 pub fn one_canonical_spelling()
@@ -98,8 +103,26 @@ pub fn bytes_read_back()
     ensures equal { (h k : Plain) → IsRestated h → IsReadBack h k → same_plain k h ≡ true }
 {}
 
-/// A histogram that was encoded and decoded has the same classes, total and value at each quantile,
-/// 0 and those above 1 included. It stands for the same samples.
+/// Returns the error of bytes that end too soon.
+fn early_end() -> DeserializeError
+    ensures { defect_of_error result ≡ Some cut }
+{
+    DeserializeError::IoError(io::Error::from(ErrorKind::UnexpectedEof))
+}
+
+/// Decoding any bytes has a result: a histogram, or an error that names their defect. What is
+/// decoded is a histogram, for the same counter type.
+pub fn bytes_are_read()
+    ensures exists { (greatest : ℕ) (text : List ℕ)
+        → (found : Result (Plain × ℕ) DeserializeError) × ReadsV2 greatest text found }
+    ensures plain { (greatest taken : ℕ) (text : List ℕ) (h : Plain)
+        → AreBytes text → IsReadAs greatest text h taken → IsPlain greatest h }
+{
+    let _cut = early_end();
+}
+
+/// A histogram that was encoded and decoded has the same classes. If it stood for samples, it still
+/// does, with the same total and value at each quantile, 0 and those above 1 included.
 pub fn read_back_stands()
     ensures plain { (greatest : ℕ) (h k : Plain) → IsPlain greatest h → IsReadBack h k
         → IsPlain greatest k }
@@ -124,9 +147,9 @@ pub fn merging_adds_the_chosen()
         → (hs : List Plain) × AreChosenIn filter log hs × HasAdded most sigfig m hs }
     ensures finer { (g : Resolution) (hs : List Plain)
         → (coarser_of g hs ≡ 0) ↔ AllByRecursion (λ (h : Plain). IsFiner (resolution h) g) hs }
-    ensures only { (filter : Filter) (base : ℕ) (entries : List (Result Entry ℕ))
-        (hs others : List Plain) → AreChosen filter base entries hs
-        → AreChosen filter base entries others → hs ≡ others }
+    ensures only { (filter : Filter) (intervals : List (Result TimedInterval ℕ))
+        (hs others : List Plain) → AreChosen filter intervals hs
+        → AreChosen filter intervals others → hs ≡ others }
     ensures taken { (greatest sigfig : ℕ) (filter : Filter) (log : List ℕ) (hs : List Plain)
         (r : Result Merging MergeError) → AreChosenIn filter log hs
         → Merges greatest filter sigfig log r → IsOk r }

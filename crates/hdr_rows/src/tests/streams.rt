@@ -171,6 +171,20 @@ fn writes_interval(
     is_expected_result(result, &sink, 13) && sink.holds_prefix(LINE.as_slice())
 }
 
+/// The same for an interval whose V2 bytes are not copied.
+fn writes_v2(
+    alloc: Global,
+    h: &Histogram<u64>,
+    serializer: &mut V2Serializer,
+    mut sink: Sink,
+) -> bool {
+    let result = {
+        let mut log = IntervalLogWriter::new(alloc, &mut sink, serializer, 1);
+        log.write_v2(h, Duration::new(0, 0), Duration::new(1, 0), Tag::new("a"))
+    };
+    is_expected_result(result, &sink, 13) && sink.holds_prefix(LINE.as_slice())
+}
+
 /// The same for a log's start with a comment, and 2 calls.
 fn writes_start(
     builder: &IntervalLogWriterBuilder,
@@ -201,6 +215,11 @@ fn log_each(rt: &(impl Abort + AllocGlobal), kind: Option<ErrorKind>) -> Result<
     builder.add_comment("a comment")?;
     for fails_at in 1..15usize {
         let is_expected = writes_interval(
+            rt.alloc(),
+            &h,
+            &mut serializer,
+            seven_byte_sink(fails_at, kind),
+        ) && writes_v2(
             rt.alloc(),
             &h,
             &mut serializer,

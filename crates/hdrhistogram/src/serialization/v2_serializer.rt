@@ -81,8 +81,8 @@ impl V2Serializer {
     ///
     /// # Errors
     /// Returns `OutOfMemory` if the buffer can't grow, and then `CountNotSerializable` if a count
-    /// is above `i64::MAX`. After an error the serializer holds no bytes; the clause `after` that
-    /// says so is starred, for proofs of borrows alone.
+    /// is above `i64::MAX`. After an error the serializer holds no bytes (`after`, a clause on what
+    /// it holds once the result's borrow has ended).
     pub fn to_bytes<T: Counter>(&mut self, h: &Histogram<T>) -> Result<&[u8], V2SerializeError>
         ensures bytes { IfOk result (λ bytes. IsV2 h.now bytes.now) }
         ensures at_most { IfOk result (λ bytes. (length bytes.now ≤ 40 + 9 * written_bins h.now)

@@ -215,9 +215,9 @@ fn empty_and_log(alloc: Global) -> Option<(Histogram<u64>, Vec<u8>)> {
     Some((h, log))
 }
 
-/// A log of a comment of two lines, which ends at 6, and of two intervals of an empty histogram, of 75 bytes each.
-const LOG: &[u8; 156] =
-    b"#a\n#b\n0.000,0.000,0.000,HISTEwAAAAEAAAAAAAAAAAAAAAAAAAABAAAAAAAAAAI/8AAAAAAAAAA=\n0.000,0.000,0.000,HISTEwAAAAEAAAAAAAAAAAAAAAAAAAABAAAAAAAAAAI/8AAAAAAAAAA=\n";
+/// A log of a comment of two lines, which ends at 6, and of three intervals of an empty histogram, of 75 bytes each.
+const LOG: &[u8; 231] =
+    b"#a\n#b\n0.000,0.000,0.000,HISTEwAAAAEAAAAAAAAAAAAAAAAAAAABAAAAAAAAAAI/8AAAAAAAAAA=\n0.000,0.000,0.000,HISTEwAAAAEAAAAAAAAAAAAAAAAAAAABAAAAAAAAAAI/8AAAAAAAAAA=\n0.000,0.000,0.000,HISTEwAAAAEAAAAAAAAAAAAAAAAAAAABAAAAAAAAAAI/8AAAAAAAAAA=\n";
 
 /// Whether a part of a log was written; otherwise an allocation failed. `None` for any other error.
 fn succeeds(outcome: Result<(), IntervalLogWriterError<V2SerializeError>>) -> Option<bool> {
@@ -240,13 +240,16 @@ fn parts_written(
     if !succeeds(writer.write_comment("a\nb"))? {
         return Some(0);
     }
-    for parts in 1..3usize {
-        let result = writer.write_histogram(h, Duration::new(0, 0), Duration::new(0, 0), None);
-        if !succeeds(result)? {
-            return Some(parts);
-        }
+    if !succeeds(writer.write_histogram(h, Duration::ZERO, Duration::ZERO, None))? {
+        return Some(1);
     }
-    Some(3)
+    if !succeeds(writer.write_v2(h, Duration::ZERO, Duration::ZERO, None))? {
+        return Some(2);
+    }
+    if !succeeds(writer.push_v2(h, Duration::ZERO, Duration::ZERO, None))? {
+        return Some(3);
+    }
+    Some(4)
 }
 
 /// A part whose allocation fails leaves the parts before it, and nothing of its own.
@@ -262,9 +265,9 @@ fn log_part_by_part(rt: HostRuntime) -> Result<(), Fail> {
     let Some(parts) = parts else {
         return Err(Fail::from("another error"));
     };
-    let end = [0, 6, 81, 156].get(parts).copied().unwrap_or(0);
+    let end = [0, 6, 81, 156, 231].get(parts).copied().unwrap_or(0);
     assert!(rt; log.as_slice() == LOG.as_slice().get(..end).unwrap_or(&[]));
-    if parts < 3 {
+    if parts < 4 {
         println!(rt; "no memory")?;
     }
     Ok(())

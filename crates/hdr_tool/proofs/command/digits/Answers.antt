@@ -1,6 +1,6 @@
-use Rattle.hdr_tool.proofs.Common.{◌≡◌, ◌+◌, ◌*◌, ◌<◌, ◌^◌, true, get_or, length, refl, subst, sym, ◌∙◌, arith, is_ascii_digit, digit_value, Reads, Reads-more}
+use Rattle.hdr_tool.proofs.Common.{◌≡◌, ◌+◌, ◌*◌, ◌<◌, ◌^◌, true, get_or, length, refl, subst, sym, ◌∙◌, arith, is_ascii_digit, digit_value}
 use Rattle.hdr_tool.proofs.LinesParts.{left_all}
-use Rattle.hdr_tool.proofs.CommandsLines.{digit_small, digit_less, begins, few_more}
+use Rattle.hdr_tool.proofs.CommandsLines.{AreDigits, one_more_digit, digit_small, digit_less, begins, few_more}
 use Rattle.hdr_tool.proofs.command.digits.Goals as goal
 
 pub returns-then-not-is_ascii_digit : goal.returns-then-not-is_ascii_digit
@@ -29,6 +29,6 @@ loop-at-preserved c =
     let within : c.loop-at.at < length digits = omega (arith, c.loop-at-test.true, c.min-at-end.ensures) in
     let few = few_more c.loop-at.at c.loop-at.value (digit_value byte) (omega (arith, c.loop-at-test.true, c.min-at-end.ensures)) c.loop-at.invariant.small (digit_small byte digit) in
     record {
-      reads = subst (λ d. Reads digits (c.loop-at.at + 1) (c.loop-at.value * 10 + d)) same (Reads-more digits c.loop-at.at c.loop-at.value c.loop-at.invariant.reads within digit few.1);
+      reads = subst (λ d. AreDigits digits (c.loop-at.at + 1) (c.loop-at.value * 10 + d)) same (one_more_digit digits c.loop-at.at c.loop-at.value c.loop-at.invariant.reads within digit few.1);
       small = subst (λ d. c.loop-at.value * 10 + d < 10 ^ (c.loop-at.at + 1)) same few.0;
     }

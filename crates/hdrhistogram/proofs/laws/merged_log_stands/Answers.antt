@@ -3,7 +3,7 @@ use Rattle.hdr_base.specs.Classes.{Resolution}
 use Rattle.hdr_model.specs.Plain.{Plain, empty_plain}
 use Rattle.hdr_model.specs.Samples.{StandsFor, Fits}
 use Rattle.hdr_model.specs.Joining.{after_adds, AreParts, joined_samples, AnswersRanked}
-use Rattle.hdr_log.specs.Grammar.{reading}
+use Rattle.hdr_log.specs.Timed.{timed_intervals}
 use Rattle.hdrhistogram.proofs.ChosenAdded.{empty_resolution}
 use Rattle.hdrhistogram.proofs.laws.merged_log_stands.Goals as goal
 
@@ -12,7 +12,7 @@ returns-clause-sum c = λ greatest sigfig filter log m Ls given.
     let hs = given.histograms in
     let h = empty_plain 1 2 sigfig true in
     let a = c.merging_adds_the_chosen.ensures.added greatest sigfig filter log m given.merged in
-    let same = a.2.0 ∙ ap (after_adds greatest h) (c.merging_adds_the_chosen.ensures.only filter 0 (reading log) a.0 hs a.1 given.chosen) in
+    let same = a.2.0 ∙ ap (after_adds greatest h) (c.merging_adds_the_chosen.ensures.only filter (timed_intervals log) a.0 hs a.1 given.chosen) in
     let resolution = sym (empty_resolution sigfig) in
     let sum = c.joined_stands.ensures.sum greatest 18446744073709551615 h hs [] Ls given.counts
     (c.new_is_plain.ensures greatest 1 2 sigfig true given.bounds (lit< tt)) (c.clearing_stands.ensures.made 1 2 sigfig true)
@@ -24,7 +24,7 @@ returns-clause-ranked c = λ greatest sigfig filter log m Ls given.
     let hs = given.histograms in
     let h = empty_plain 1 2 sigfig true in
     let a = c.merging_adds_the_chosen.ensures.added greatest sigfig filter log m given.merged in
-    let same = a.2.0 ∙ ap (after_adds greatest h) (c.merging_adds_the_chosen.ensures.only filter 0 (reading log) a.0 hs a.1 given.chosen) in
+    let same = a.2.0 ∙ ap (after_adds greatest h) (c.merging_adds_the_chosen.ensures.only filter (timed_intervals log) a.0 hs a.1 given.chosen) in
     let resolution = sym (empty_resolution sigfig) in
     let ranked = c.joined_stands.ensures.ranked greatest 18446744073709551615 h hs [] Ls given.counts
     (c.new_is_plain.ensures greatest 1 2 sigfig true given.bounds (lit< tt)) (c.clearing_stands.ensures.made 1 2 sigfig true)

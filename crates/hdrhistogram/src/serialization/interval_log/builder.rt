@@ -1,6 +1,7 @@
 //! The start of a log.
 
 ghost use Rattle.std.specs.Prelude.{◌≡◌, ◌≢◌, ◌<◌, ◌++◌, ◌∷◌, [], ◌↔◌, ℕ, List, false, Some, None, Ok, IfOk, OnOk, OnErr, IfErr, MatchOption, map, string_bytes};
+ghost use Rattle.std.specs.Borrow.{sem, fsep};
 ghost use Rattle.std.specs.List.{flat_map};
 ghost use Rattle.std.specs.Option.{option_map};
 ghost use Rattle.std.specs.Duration.{as_nanos};
@@ -9,6 +10,7 @@ ghost use Rattle.hdr_log.specs.Pieces.{Comment, StartsAt, BasedAt, piece_text, t
 ghost use Rattle.hdrhistogram.specs.LogStarts.{new_start, thousandths_set, AreSmall, time_pieces, divisor_pieces, start_pieces, IsStartText, AreTimesInRange};
 ghost use Rattle.hdrhistogram.specs.LogLeaving.{WritesText, IsNoSerializeError, is_time_error};
 ghost use Rattle.hdrhistogram.specs.LogWriters.{sink, serializer_of, divisor_of};
+ghost use Rattle.hdrhistogram.specs.LogLending.{writer_rests, serializer_rests};
 
 use crate::serialization::interval_log::errors::{CommentError, IntervalLogWriterError};
 use crate::serialization::interval_log::writer::{IntervalLogWriter, write_text};
@@ -147,13 +149,15 @@ impl IntervalLogWriterBuilder {
     /// `writer` and `serializer` until it is dropped.
     ///
     /// # Errors
-    /// Those of `write_headers`. What is written on error is a clause of `write_headers`. For this
-    /// call it is only tested: no clause here is about a borrowed writer after an error.
+    /// Those of `write_headers`, with the same output. After an error `serializer` is unchanged.
+    /// The clause `left` says both. It is starred, so a caller's proof can use it only by hand.
     pub fn begin_log_with<'a, 'b, W: Write, S: Serializer>(
         &self,
         writer: &'a mut W,
         serializer: &'b mut S,
     ) -> Result<IntervalLogWriter<'a, 'b, W, S>, IntervalLogWriterError<S::SerializeError>>
+        ensures* left { sem 𝓛 (fsep (writer_rests W.row W.contents self.now writer.entry result)
+            (serializer_rests S.row serializer.entry result)) }
         ensures writer { IfOk result (λ log. (sink log).ghost_name ≡ writer.entry.ghost_name) }
         ensures serializer { IfOk result (λ log. (serializer_of log).ghost_name
             ≡ serializer.entry.ghost_name) }
@@ -165,10 +169,26 @@ impl IntervalLogWriterBuilder {
         ensures plain { self.now ≡ new_start → IfErr result (λ _. ⊥) }
         ensures no_serialize_error { IfErr result IsNoSerializeError }
     {
-        self.write_headers(writer)?;
+        match self.write_headers(writer) {
+            Ok(()) => Ok(self.continue_log(writer, serializer)),
+            Err(e) => Err(e),
+        }
+    }
+
+    /// Creates the writer of a log whose start is written.
+    fn continue_log<'a, 'b, W: Write, S: Serializer>(
+        &self,
+        writer: &'a mut W,
+        serializer: &'b mut S,
+    ) -> IntervalLogWriter<'a, 'b, W, S>
+        ensures writer { (sink result).ghost_name ≡ writer.entry.ghost_name }
+        ensures serializer { (serializer_of result).ghost_name ≡ serializer.entry.ghost_name }
+        ensures holds { (sink result).now ≡ writer.old }
+        ensures lent { ((serializer_of result).now ≡ serializer.old)
+            × (divisor_of result ≡ self.now.divisor) }
+    {
         let divisor = self.max_value_divisor;
-        let log = IntervalLogWriter::new(self.alloc, writer, serializer, divisor);
-        Ok(log)
+        IntervalLogWriter::new(self.alloc, writer, serializer, divisor)
     }
 }
 

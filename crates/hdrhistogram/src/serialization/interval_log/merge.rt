@@ -7,16 +7,16 @@ ghost use Rattle.hdr_model.specs.Plain.{resolution};
 ghost use Rattle.hdr_model.specs.CallErrors.{IsBounds, IsCreationError};
 ghost use Rattle.hdr_log.specs.Tags.{tag_text};
 ghost use Rattle.hdr_log.specs.Texts.{base64_bytes};
-ghost use Rattle.hdr_log.specs.Reading.{view_of_interval, view_of_item};
+ghost use Rattle.hdr_log.specs.Reading.{view_of_interval, view_of_timed_item};
 ghost use Rattle.hdrhistogram.specs.Chosen.{chooses_tag, begins_from, begins_before, is_chosen, view_of_choice, view_of_filter, view_of_interval_choice};
-ghost use Rattle.hdrhistogram.specs.LogMerging.{one_if_coarser, FieldMerges, EntryMerges, Merges, IsStepError, IsMergeError, IsMergedBy, IsMerged, IsOfDigits, creation_error, field_error};
+ghost use Rattle.hdrhistogram.specs.LogMerging.{one_if_coarser, FieldMerges, ItemMerges, Merges, IsStepError, IsMergeError, IsMergedBy, IsMerged, IsOfDigits, creation_error, field_error};
 ghost use Rattle.hdrhistogram.specs.MergeView.{view_of_merging};
 
 use crate::serialization::deserializer::Deserializer;
 use crate::serialization::errors::{DeserializeError, FieldDecodeError};
 use hdr_base::Counter;
 use hdr_core::{CreationError, Histogram};
-use hdr_log::{IntervalLogHistogram, IntervalLogIterator, LogEntry, LogIteratorError, Tag};
+use hdr_log::{IntervalLogHistogram, LogIteratorError, Tag, TimedInterval, TimedIntervals};
 use std::alloc::Global;
 use std::time::Duration;
 use thiserror::Error;
@@ -159,13 +159,12 @@ pub fn merge_chosen<T: Counter>(
         histogram,
         deserializer: Deserializer::new(alloc),
         spare: None,
-        base: Duration::ZERO,
         intervals: 0,
         chosen: 0,
         coarser: 0,
     };
-    for entry in IntervalLogIterator::new(log) {
-        if let Err(error) = merge_entry(&mut merging, choice, &entry) {
+    for item in TimedIntervals::new(log) {
+        if let Err(error) = merge_item(&mut merging, choice, &item) {
             return Err(error);
         }
     }
@@ -184,8 +183,6 @@ struct Merging<T: Counter> {
     deserializer: Deserializer,
     /// The histogram that was added last: the next one is decoded into its memory.
     spare: Option<Histogram<u64>>,
-    /// The log's base time.
-    base: Duration,
     /// The numbers of intervals read, of those of them that were chosen, and of those of these that
     /// are coarser than the histogram.
     intervals: u64,
@@ -203,11 +200,11 @@ fn not_made(cause: CreationError) -> MergeError
     }
 }
 
-/// Applies an entry of a log, or returns the error of an invalid line.
-fn merge_entry<T: Counter>(
+/// Merges an interval of a log if it is chosen, or returns the error of an invalid line.
+fn merge_item<T: Counter>(
     merging: &mut Merging<T>,
     choice: &IntervalChoice<'_>,
-    entry: &Result<LogEntry<'_>, LogIteratorError>,
+    item: &Result<TimedInterval<'_>, LogIteratorError>,
 ) -> Result<(), MergeError>
     // The numbers of intervals do not overflow.
     requires fits { merging.old.intervals + 1 < 2 ^ 64 }
@@ -217,21 +214,16 @@ fn merge_entry<T: Counter>(
     ensures at_most { merging.new.intervals ≤ merging.old.intervals + 1 }
     ensures chosen { merging.new.chosen ≤ merging.new.intervals }
     ensures coarser { merging.new.coarser ≤ merging.new.intervals }
-    // The state after the entry, or its error.
-    ensures ok { OnOk result (EntryMerges T.greatest (view_of_interval_choice choice.now)
-        (view_of_merging merging.old) (view_of_item entry.now) (Ok (view_of_merging merging.new))) }
-    ensures err { IfErr result (IsStepError (λ e. EntryMerges T.greatest
+    // The state after the item, or its error.
+    ensures ok { OnOk result (ItemMerges T.greatest (view_of_interval_choice choice.now)
+        (view_of_merging merging.old) (view_of_timed_item item.now) (Ok (view_of_merging merging.new))) }
+    ensures err { IfErr result (IsStepError (λ e. ItemMerges T.greatest
         (view_of_interval_choice choice.now) (view_of_merging merging.old)
-        (view_of_item entry.now) (Err e))) }
+        (view_of_timed_item item.now) (Err e))) }
 {
-    match entry {
-        Ok(LogEntry::StartTime(_)) => Ok(()),
-        Ok(LogEntry::BaseTime(time)) => {
-            merging.base = *time;
-            Ok(())
-        }
-        Ok(LogEntry::Interval(interval)) => {
-            if choice.chooses(merging.base, interval) {
+    match item {
+        Ok(TimedInterval { time, interval }) => {
+            if choice.chooses_at(interval.tag(), *time) {
                 merge_field(merging, interval.encoded_histogram())
             } else {
                 merging.intervals += 1;
@@ -319,15 +311,21 @@ impl<'a> IntervalFilter<'a> {
 
 impl IntervalChoice<'_> {
     /// Whether `interval` is chosen, if `base` is the last base time before it.
-    #[tactic(auto, unfolding(crate::specs::Chosen::is_chosen))]
     pub fn chooses(&self, base: Duration, interval: &IntervalLogHistogram<'_>) -> bool
         ensures { result ≡ is_chosen (view_of_interval_choice self.now) (view_of_interval interval.now).tag
             (as_nanos base + (view_of_interval interval.now).start) }
     {
         let time = base.as_nanos() + interval.start_timestamp().as_nanos();
-        chooses_tag(self.tags, interval.tag())
-            && begins_from(self.from, time)
-            && begins_before(self.to, time)
+        self.chooses_at(interval.tag(), time)
+    }
+
+    /// Whether an interval of `tag` is chosen that begins at `time`, in nanoseconds since the epoch.
+    #[tactic(auto, unfolding(crate::specs::Chosen::is_chosen))]
+    fn chooses_at(&self, tag: Option<Tag<'_>>, time: u128) -> bool
+        ensures { result ≡ is_chosen (view_of_interval_choice self.now)
+            (option_map tag_text tag.entry) time }
+    {
+        chooses_tag(self.tags, tag) && begins_from(self.from, time) && begins_before(self.to, time)
     }
 }
 
