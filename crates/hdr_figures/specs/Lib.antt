@@ -1,2 +1,5 @@
 pub mod Errors
 pub mod Figures
+pub mod Intervals
+pub mod Levels
+pub mod Widths

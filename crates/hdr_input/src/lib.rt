@@ -1,5 +1,4 @@
-//! Numbers from text, one on each line or in a column of a table, and the histograms of interval
-//! logs.
+//! Numbers from text, one on each line or in a column of a table.
 #![tactic(auto)]
 
 pub mod cause;
@@ -9,7 +8,6 @@ pub mod errors;
 pub mod intervals;
 pub mod lines;
 pub mod log_lines;
-pub mod logs;
 pub mod number;
 pub mod pieces;
 pub mod plain;

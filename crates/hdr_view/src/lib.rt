@@ -7,4 +7,5 @@ pub mod clock;
 pub mod name;
 pub mod options;
 pub mod sentence;
+pub mod slow;
 pub mod view;

@@ -1,5 +1,6 @@
 //! The command line of `hdrstat convert`.
 
+use crate::command::reading::with_choice;
 use crate::command::{logs, option, quiet};
 use clap::{Command, Error};
 use std::alloc::Global;
@@ -25,5 +26,5 @@ pub(crate) fn convert<'a>(alloc: Global) -> Result<Command<'a>, Error> {
         .arg(to)?
         .arg(quiet(alloc))?
         .arg(logs(alloc))?;
-    Ok(command)
+    with_choice(alloc, command)
 }

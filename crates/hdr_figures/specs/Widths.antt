@@ -1,0 +1,15 @@
+-- The width of classes.
+use Rattle.std.specs.Prelude.{◌≡◌, ℕ, ◌-◌, ◌^◌, ◌⊎◌, max, min}
+use Rattle.hdr_base.specs.Classes.{HasScale, resolution_of, top_of}
+use Rattle.hdr_model.specs.Plain.{Plain}
+use Rattle.hdr_figures.specs.declared.sum.Width.{Width}
+
+-- a value is the highest one of the class of another: of classes of some width
+abbrev pub IsHighest : Width → ℕ → ℕ → Type 0
+IsHighest width value highest =
+    (HasScale width.low width.sigfig → highest ≡ top_of (resolution_of width.low width.sigfig) value)
+    × (¬ HasScale width.low width.sigfig → highest ≡ 2 ^ 64 - 1)
+
+-- classes that have those of a width and those of a histogram in them
+abbrev pub IsJoin : Width → (low sigfig : ℕ) → Width → Type 0
+IsJoin old low sigfig new = (new.low ≡ max old.low low) × (new.sigfig ≡ min old.sigfig sigfig)

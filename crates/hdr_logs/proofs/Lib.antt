@@ -1,0 +1,3 @@
+pub mod LinesRead
+pub mod Indices
+pub mod Texts
