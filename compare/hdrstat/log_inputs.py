@@ -6,7 +6,7 @@ import json
 import zlib
 
 from inputs import FORMATS, USUAL, Case, digits, figures, percentiles, shown
-from logs import CAUSES, NOTES, RATIO, bin_of, decode, encode, gathered, side_by_side, sums
+from logs import CAUSES, RATIO, bin_of, decode, encode, gathered, side_by_side, sums
 from model import LIMIT, Failure, Samples, Tally, class_of, Options
 
 TAGS = [None, b"a", b"b", b"GET", b"caf\xc3\xa9", b"=1+1", b"-2", b'say"', b"a;b", b""]
@@ -92,7 +92,7 @@ def log_text(random, step):
             field = field_of(random, random_samples(random))
             lines.append(head + b",".join([start, seconds(random, random.choice([step, 1, 9000])), random.choice([b"1.000", b"7", b".5", b"3."]), field]))
         if random.random() < 0.1:
-            lines.append(random.choice([b"#note", b"", b"#[BaseTime: 2.000 x]", b"#[BaseTime: x]", b"#[StartTime: -1.0 x]", b"#[Values have x decimals]", b"  "]))
+            lines.append(random.choice([b"#note", b"", b"#[BaseTime: 2.000 x]", b"#[BaseTime: x]", b"  "]))
     if random.random() < 0.1:
         random.shuffle(lines)
     text = b"".join(line + end for line in lines)
@@ -101,8 +101,8 @@ def log_text(random, step):
         for _ in range(random.randint(1, 3)):
             text[random.randrange(len(text))] = random.choice([0, 10, 13, 32, 44, 255, random.randrange(256)])
         text = bytes(text)
-    if random.random() < 0.06 and text:
-        text = text[: random.choice([-1, -1, random.randrange(len(text))])]
+    if random.random() < 0.03:
+        text = text[:-1]
     return b"\xef\xbb\xbf" + text if random.random() < 0.03 else text
 
 
@@ -111,6 +111,8 @@ def log_error(failure):
     name, line, text, why = failure.text
     if why == "log":
         return f"hdrstat: {name}: {line}: `{shown(text)}` is not a line of an interval log\n".encode()
+    if why == "decimals":
+        return f"hdrstat: {name}: {line}: the values have {text[0]} decimals, and those before it {text[1]}\n".encode()
     if why == "other decimals":
         return f"hdrstat: {name}: {line}: the values have {text[0]} decimals, and others {text[1]}; write the logs by the same --decimals\n".encode()
     if why == "order":
@@ -118,11 +120,6 @@ def log_error(failure):
     if why == "interval" and text in CAUSES:
         return f"hdrstat: {name}: {line}: {CAUSES[text]}\n".encode()
     return None
-
-
-def notes_text(notes, names):
-    """What standard error has of the lines of these logs that are not read."""
-    return "".join(f"hdrstat: {name}: line {line}: {NOTES[kind]}\n" for name in names for line, kind in notes.get(name, [])).encode()
 
 
 def logs_of(random):
@@ -203,38 +200,26 @@ def log_case(random):
     arguments += ["-f", name]
     by_tag = random.random() < 0.3
     arguments += ["--by-tag"] * by_tag
-    notes = {}
     try:
-        found, coarser, decimals, all_chosen = sums(logs, sigfig, by_tag, notes, **chosen)
+        found, coarser, decimals = sums(logs, sigfig, by_tag, **chosen)
     except Failure as failure:
-        # The notes of the log that has the error are not printed.
-        error, names = log_error(failure), list(logs)
-        before = names[: names.index(failure.text[0])]
-        return case_of(arguments, logs, (b"", None if error is None else notes_text(notes, before) + error, 1))
-    told = notes_text(notes, logs)
-    if coarser:
-        told += f"hdrstat: {coarser} of {all_chosen} intervals coarser than {sigfig} digits\n".encode()
+        return case_of(arguments, logs, (b"", log_error(failure), 1))
     if by_tag:
         out = TAGGED[name]([(tag, figures(tally_of(it, decimals), wanted)) for tag, it in found.items()]).encode()
-        return case_of(arguments, logs, (out, told, 0))
+        return case_of(arguments, logs, (out, None if coarser else b"", 0))
     total = found.get(None) or Samples(sigfig)
     out = FORMATS[name](figures(tally_of(total, decimals), wanted)).encode()
-    return case_of(arguments, logs, (out, told, 0))
+    return case_of(arguments, logs, (out, None if coarser else b"", 0))
 
 
 def gather_case(random):
     logs = logs_of(random)
     arguments, gather = random.choice([(["gather"], side_by_side), (["gather", "--unsorted"], gathered)])
-    notes = {}
     try:
-        found = gather(logs, notes)
+        found = gather(logs)
     except Failure as failure:
-        return case_of(arguments, logs, (None, None if any(notes.values()) else log_error(failure), 1))
-    told = notes_text(notes, logs)
-    read, finer = sum(it[4] for it in found), sum(it[5] for it in found)
-    if finer:
-        told += f"hdrstat: {finer} of {read} intervals finer than their sum, which has the digits of the coarsest\n".encode()
-    return case_of(arguments, logs, (Gathered(found), told, 0))
+        return case_of(arguments, logs, (None, log_error(failure), 1))
+    return case_of(arguments, logs, (Gathered(found), b"", 0))
 
 
 class Gathered:
@@ -242,7 +227,7 @@ class Gathered:
 
     def __init__(self, found):
         self.lines = []
-        for tag, start, duration, samples, _, _ in found:
+        for tag, start, duration, samples in found:
             top = class_of(max(samples.counts), samples.sigfig, samples.low)[1] if samples.counts else 0
             head = (b"Tag=%s," % tag if tag is not None else b"") + b"%d.%03d" % divmod(start, 1000)
             length = b"%d.%03d" % divmod((duration + 500_000) // 1_000_000, 1000)

@@ -226,15 +226,6 @@ def nanoseconds(plus, seconds, part):
     return int(seconds) * 10**9 + int(part[:9].ljust(9, b"0"))
 
 
-NOTES = {
-    "end": "the last line has no end and is left out",
-    "StartTime": "the start time is invalid and is ignored",
-    "BaseTime": "the base time is invalid and is ignored",
-    "decimals": "the number of decimals is invalid and is ignored",
-}
-MOST_NOTES = 100
-
-
 @dataclasses.dataclass
 class Interval:
     line: int
@@ -266,72 +257,30 @@ class Interval:
         return (self.start + 500_000) // 1_000_000, self.tag is not None, self.tag or b""
 
 
-def is_whole(it):
-    """Whether the histogram of an interval is complete."""
-    try:
-        it.samples("")
-    except Failure:
-        return False
-    return True
-
-
-def intervals(name, data, notes):
-    """The intervals of a log, each with its start after the last base time before it. Appends the notes of its lines."""
+def intervals(name, data):
+    """The intervals of a log, each with its start after the last base time before it."""
     base = decimals = 0
-    mine = notes.setdefault(name, [])
-
-    def note(number, kind):
-        if len(mine) < MOST_NOTES:
-            mine.append((number, kind))
-
     for number, line in enumerate(re.findall(rb".*\n|.+$", data), 1):
         line = line.removeprefix(MARK) if number == 1 else line
         if not line.strip(SPACE):
             continue
-        if line[-1:] != b"\n":
-            it = unended(number, decimals, base, line)
-            if it is None:
-                note(number, "end")
-            else:
-                yield it
-            continue
         try:
-            header = HEADER.fullmatch(line)
+            header, found = HEADER.fullmatch(line), INTERVAL.fullmatch(line)
             if header and int(header[3]) < LIMIT:
                 base = nanoseconds(*header.groups()[1:]) if header[1] == b"BaseTime" else base
                 continue
-            if not INTERVAL.fullmatch(line) and (line[:1] == b"#" or line.startswith(b'"StartTimestamp"')):
-                found = DECIMALS.fullmatch(line)
-                if found and int(found[1]) <= 18:
-                    decimals = int(found[1])
-                else:
-                    for start, kind in ((b"#[BaseTime: ", "BaseTime"), (b"#[StartTime: ", "StartTime"), (b"#[Values have ", "decimals")):
-                        if line.startswith(start):
-                            note(number, kind)
-                continue
-            yield interval(number, decimals, base, line)
+            if not found:
+                if line[-1:] == b"\n" and (line[:1] == b"#" or line.startswith(b'"StartTimestamp"')):
+                    found = DECIMALS.fullmatch(line)
+                    decimals = int(found[1]) if found and int(found[1]) <= 18 else decimals
+                    continue
+                raise ValueError
+            tag, field = found[1], found[9].rstrip(b"\r")
+            (tag or b"").decode()
+            found[9].decode()
+            yield Interval(number, decimals, tag, base + nanoseconds(*found.groups()[1:4]), nanoseconds(*found.groups()[4:7]), field)
         except ValueError as error:
             raise Failure((name, f"line {number}", line.strip(SPACE), "log")) from error
-
-
-def interval(number, decimals, base, line):
-    """The interval of a line with its LF; a ValueError if it is none. An empty tag is none."""
-    found = INTERVAL.fullmatch(line)
-    if not found:
-        raise ValueError
-    tag, field = found[1], found[9].rstrip(b"\r")
-    (tag or b"").decode()
-    found[9].decode()
-    return Interval(number, decimals, tag or None, base + nanoseconds(*found.groups()[1:4]), nanoseconds(*found.groups()[4:7]), field)
-
-
-def unended(number, decimals, base, line):
-    """The interval of a last line without an LF, if it is whole, and otherwise None."""
-    try:
-        it = interval(number, decimals, base, line + b"\n")
-    except ValueError:
-        return None
-    return it if is_whole(it) else None
 
 
 def add(total, samples):
@@ -353,38 +302,37 @@ def closed(total):
     return total
 
 
-def sums(logs, sigfig, by_tag, notes, tag=None, since=0, until=None):
-    """By tag, the sums of the chosen intervals of logs, in the order of first tags, how many intervals are coarser than sums, decimals, and
-    how many intervals are chosen.
+def sums(logs, sigfig, by_tag, tag=None, since=0, until=None):
+    """By tag, the sums of the chosen intervals of logs, in the order of first tags, how many intervals are coarser than sums, and decimals.
 
     An empty `tag` chooses the intervals without one.
     """
-    found, coarser, decimals, chosen = {}, 0, None, 0
+    found, coarser, decimals = {}, 0, None
     for name, data in logs.items():
-        for it in intervals(name, data, notes):
+        for it in intervals(name, data):
             if (tag is not None and it.tag != (tag or None)) or it.start < since or (until is not None and it.start >= until):
                 continue
             decimals = it.decimals if decimals is None else decimals
             if it.decimals != decimals:
-                raise Failure((name, f"line {it.line}", (it.decimals, decimals), "other decimals"))
-            samples, chosen = it.samples(name), chosen + 1
+                raise Failure((name, f"line {it.line}", (it.decimals, decimals), "decimals"))
+            samples = it.samples(name)
             total = found.setdefault(it.tag if by_tag else None, Samples(sigfig))
             coarser += not is_finer(samples, total)
             add(total, samples)
-    return {key: closed(total) for key, total in found.items()}, coarser, decimals or 0, chosen
+    return {key: closed(total) for key, total in found.items()}, coarser, decimals or 0
 
 
-def converted(name, data, notes):
+def converted(name, data):
     """The intervals of a log, each of which is converted if it has another form."""
-    for it in intervals(name, data, notes):
-        if has_other_form(it.field):
+    for it in intervals(name, data):
+        if has_other_form(it.field.rpartition(b",")[2]):
             it.found(name, lambda _: None)
         yield it
 
 
-def gathered(logs, notes):
+def gathered(logs):
     """The intervals of logs in any order as one log: by time in milliseconds and tag, each with its duration and samples."""
-    found = [(name, it) for name, data in logs.items() for it in converted(name, data, notes)]
+    found = [(name, it) for name, data in logs.items() for it in converted(name, data)]
     check_decimals(found, max((it.decimals for _, it in found), default=0))
     return sums_by_key(found)
 
@@ -396,9 +344,9 @@ def check_decimals(intervals_of_logs, decimals):
             raise Failure((name, f"line {it.line}", (it.decimals, decimals), "other decimals"))
 
 
-def side_by_side(logs, notes):
+def side_by_side(logs):
     """The intervals of logs in order of time as one log, up to the first failure."""
-    rests = [(name, converted(name, data, notes)) for name, data in logs.items()]
+    rests = [(name, converted(name, data)) for name, data in logs.items()]
     nexts = [next(rest, None) for _, rest in rests]
     decimals = max((it.decimals for it in nexts if it), default=0)
     out = []
@@ -417,17 +365,15 @@ def side_by_side(logs, notes):
 
 
 def sums_by_key(intervals_of_logs):
-    """The sums of intervals of the same time and tag, in ascending order, each with the numbers of its intervals and of those that are
-    finer than it."""
+    """The sums of intervals of the same time and tag, in ascending order."""
     found = {}
     for name, it in intervals_of_logs:
         found.setdefault(it.key(), []).append((name, it))
     out = []
     for (start, has_tag, tag), parts in sorted(found.items(), key=lambda it: it[0]):
-        total, found_samples = None, []
+        total = None
         for name, it in parts:
             samples = it.samples(name)
-            found_samples.append(samples)
             if total is None or is_finer(samples, total):
                 one, other = total or samples, samples if total else None
             elif is_finer(total, samples):
@@ -439,5 +385,5 @@ def sums_by_key(intervals_of_logs):
                 add(joined, other)
                 one = joined
             total = one
-        out.append((tag if has_tag else None, start, max(it.duration for _, it in parts), total, len(parts), sum(not is_finer(total, it) for it in found_samples)))
+        out.append((tag if has_tag else None, start, max(it.duration for _, it in parts), total))
     return out

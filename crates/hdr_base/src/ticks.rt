@@ -4,8 +4,7 @@ ghost use Rattle.std.specs.Prelude.{◌≡◌, ◌+◌, ◌-◌, ◌<◌, ◌^�
 
 use std::marker::Model;
 
-/// A number of steps. The call that counts them determines the kind: a counter that is updated, or a block's sum or a counter that
-/// the search of a quantile compares. A step of such a search is one of its definition, and not always one read of memory.
+/// A number of steps: of counters updated, or of the definition of a search, where a step is not always one read of memory.
 #[derive(Drop)]
 pub struct Ticks {
     count: u64,

@@ -1,4 +1,4 @@
-//! What needs all samples of a tag: its curve of quantiles, and its heat map.
+//! What needs the samples of a tag once more: its curve of quantiles, and its heat map.
 
 ghost use Rattle.std.specs.Prelude.{◌≡◌, ◌<◌, ◌≤◌, ◌++◌, ◌∷◌, [], List, IfOk};
 ghost use Rattle.std.specs.List.{All};
@@ -9,7 +9,10 @@ use hdr_draw::heat::{HeatMap, ROWS};
 use hdr_draw::path::WIDTH;
 use hdr_draw::quantiles::QuantileScale;
 use hdr_draw::rows::Rows;
-use hdr_figures::figures::{TagSamples, value_at};
+use hdr_figures::error::PageError;
+use hdr_figures::figures::{Key, TagFigures, decoded, value_at};
+use hdr_view::view::View;
+use hdrhistogram::serialization::Deserializer;
 use hdrhistogram::{Histogram, Quantile};
 use std::alloc::{AllocError, Global};
 
@@ -27,23 +30,45 @@ pub(crate) struct Detail {
     pub heat: HeatMap,
 }
 
-/// Returns the curve and the heat map of a tag over a number of points of time.
+/// Returns the curve and the heat map of a tag.
 pub(crate) fn detail_of(
     alloc: Global,
-    samples: &TagSamples<'_>,
-    points: usize,
+    view: &View<'_>,
+    tag: &TagFigures<'_>,
     rows: &Rows,
     quantiles: &QuantileScale,
-) -> Result<Detail, AllocError> {
-    let mut heat = HeatMap::new(alloc, points)?;
-    for cell in &samples.cells {
-        let row = (ROWS - 1).saturating_sub(rows.row(cell.value));
-        heat.add(cell.point, row, cell.count);
+) -> Result<Detail, PageError> {
+    let mut deserializer = Deserializer::new(alloc);
+    let mut heat = HeatMap::new(alloc, view.timeline.points)?;
+    let mut sum = Histogram::new(alloc, 3)?;
+    for key in keys_of_tag(&view.keys, tag.index) {
+        if let Some(interval) = view.intervals.list.get(key.interval) {
+            let histogram = decoded(&mut deserializer, interval)?;
+            add_heat(&mut heat, key.point, &histogram, rows);
+            sum.add(&histogram)?;
+        }
     }
     Ok(Detail {
-        curve: curve_of(alloc, &samples.sum.histogram, quantiles, WIDTH)?,
+        curve: curve_of(alloc, &sum, quantiles, WIDTH)?,
         heat,
     })
+}
+
+/// Returns the keys of a tag.
+fn keys_of_tag(keys: &[Key], tag: usize) -> &[Key] {
+    let from = keys.partition_point(|key| key.tag < tag);
+    let rest = keys.get(from..).unwrap_or(&[]);
+    let to = rest.partition_point(|key| key.tag == tag);
+    rest.get(..to).unwrap_or(&[])
+}
+
+/// Adds the samples of an interval to a column of a heat map, in their classes' highest values.
+fn add_heat(heat: &mut HeatMap, column: usize, histogram: &Histogram<u64>, rows: &Rows) {
+    for step in histogram.iter_recorded() {
+        let above = rows.row(step.value_iterated_to());
+        let row = (ROWS - 1).saturating_sub(above);
+        heat.add(column, row, step.count_at_value());
+    }
 }
 
 /// Returns the curve of quantiles: from the least value to the greatest, each point 6 % nearer to

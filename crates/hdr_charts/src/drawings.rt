@@ -4,17 +4,17 @@ use crate::detail::detail_of;
 use crate::over_time::push_over_time;
 use crate::percentiles::{push_percentiles, quantiles};
 use crate::tag_drawing::push_tag_drawing;
+use hdr_figures::error::PageError;
 use hdr_view::view::View;
-use std::alloc::{AllocError, Global};
+use std::alloc::Global;
 
 /// Appends the drawings.
-pub fn push_drawings(view: &View<'_>, alloc: Global, text: &mut String) -> Result<(), AllocError> {
+pub fn push_drawings(view: &View<'_>, alloc: Global, text: &mut String) -> Result<(), PageError> {
     let rows = view.scale().rows(alloc)?;
     let quantiles = quantiles(view);
     let mut details = Vec::new(alloc);
-    let points = view.timeline.points;
-    for samples in &view.log.drawn {
-        details.push(detail_of(alloc, samples, points, &rows, &quantiles)?)?;
+    for tag in view.drawn() {
+        details.push(detail_of(alloc, view, tag, &rows, &quantiles)?)?;
     }
     let has_times = !view.is_instant();
     text.push_str(if has_times {
@@ -35,5 +35,6 @@ pub fn push_drawings(view: &View<'_>, alloc: Global, text: &mut String) -> Resul
     if !has_times || view.is_single() {
         push_percentiles(view, alloc, text, &details)?;
     }
-    text.push_str("</div>\n")
+    text.push_str("</div>\n")?;
+    Ok(())
 }

@@ -10,5 +10,4 @@ pub mod legend;
 mod over_time;
 pub mod percentiles;
 mod rates;
-pub mod style;
 mod tag_drawing;

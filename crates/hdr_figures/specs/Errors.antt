@@ -1,12 +1,10 @@
--- Errors of logs and of histograms, as errors of a page.
+-- Errors of histograms, as errors of a page.
 use Rattle.hdr_model.specs.declared.errors.CreationError.{CreationError}
 use Rattle.hdr_model.specs.declared.errors.CreationError.TheVariants as make
 use Rattle.hdr_model.specs.declared.errors.AdditionError.{AdditionError}
 use Rattle.hdr_model.specs.declared.errors.AdditionError.TheVariants as addition
-use Rattle.hdr_logs.specs.declared.error.LogError.{LogError}
-use Rattle.hdr_logs.specs.declared.error.LogError.TheVariants as log
 use Rattle.hdr_figures.specs.declared.error.PageError.{PageError}
-use Rattle.hdr_figures.specs.declared.error.PageError.TheVariants.{Log, Creation, Addition, OutOfMemory}
+use Rattle.hdr_figures.specs.declared.error.PageError.TheVariants.{Creation, Addition, OutOfMemory}
 
 -- the error of a histogram that is not made
 abbrev pub of_creation : CreationError → PageError
@@ -17,8 +15,3 @@ of_creation error = Creation error
 abbrev pub of_addition : AdditionError → PageError
 of_addition addition.OutOfMemory = OutOfMemory
 of_addition error = Addition error
-
--- the error of a log that is not read
-abbrev pub of_log : LogError → PageError
-of_log log.OutOfMemory = OutOfMemory
-of_log error = Log error

@@ -21,6 +21,10 @@ pub record AreFiguresOf (h : Plain) (f : Figures) : Type 0 where
   pub p999 : f.p999 ≡ value_at h 999 1000
   pub max : f.max ≡ value_at h 1 1
 
+-- a value is more times its usual one than another: their fractions are compared, 0 as 1
+abbrev pub IsFurther : ℕ → ℕ → ℕ → ℕ → Type 0
+IsFurther value usual other other_usual = other * max 1 usual < value * max 1 other_usual
+
 -- how long a point of time is: a step, or less if the log ends within it, but at least a millisecond
 abbrev pub length_at : Timeline → ℕ → ℕ
 length_at t point = max 1 (min t.step (t.last - (t.first + t.step * point)))

@@ -1,5 +1,2 @@
 pub mod Errors
 pub mod Figures
-pub mod Intervals
-pub mod Levels
-pub mod Widths

@@ -1,6 +1,6 @@
 //! Why a log is not shown.
 
-use hdr_logs::{LogError, Place};
+use hdr_input::InputError;
 use hdrhistogram::{AdditionError, CreationError};
 use std::alloc::{AllocError, AllocFailed};
 use thiserror::Error;
@@ -8,11 +8,9 @@ use thiserror::Error;
 /// Why logs are not shown.
 #[derive(Debug, Drop, Error)]
 pub enum PageError {
-    /// A log is not read, or its values have other decimals than those of others.
-    #[error("{0}")]
-    Log(LogError),
-    #[error("{0}: the interval begins past 64 bits of milliseconds")]
-    TooLate(Place),
+    /// The log at this index is invalid.
+    #[error("{cause}")]
+    Input { log: usize, cause: InputError },
     /// A unit is set, and the values have decimals of it.
     #[error("the values have {0} decimals; without --unit they are shown in units of the last one")]
     Decimals(u32),
@@ -22,20 +20,6 @@ pub enum PageError {
     Addition(AdditionError),
     #[error("out of memory")]
     OutOfMemory,
-}
-
-impl From<LogError> for PageError {
-    ghost use Rattle.std.specs.Prelude.{◌≡◌};
-    ghost use Rattle.hdr_figures.specs.Errors.{of_log};
-
-    ghost from_gives = { λ cause error. error ≡ of_log cause };
-
-    fn from(error: LogError) -> PageError {
-        match error {
-            LogError::OutOfMemory => PageError::OutOfMemory,
-            error => PageError::Log(error),
-        }
-    }
 }
 
 impl From<AllocError> for PageError {
@@ -89,11 +73,18 @@ impl<T: Drop> From<AllocFailed<T>> for PageError {
 }
 
 impl PageError {
+    /// Returns the error of the log at this index, which is not read.
+    pub(crate) fn of_input(log: usize, cause: InputError) -> PageError {
+        match cause {
+            InputError::OutOfMemory => PageError::OutOfMemory,
+            cause => PageError::Input { log, cause },
+        }
+    }
+
     /// Returns the index of the log that has the error, if one has.
     pub fn log(&self) -> Option<usize> {
         match self {
-            PageError::Log(cause) => cause.file(),
-            PageError::TooLate(place) => Some(place.file),
+            PageError::Input { log, .. } => Some(*log),
             _ => None,
         }
     }

@@ -4,7 +4,7 @@ ghost use Rattle.std.specs.Prelude.{◌≡◌, ◌≤◌, ◌<◌, ◌+◌, ◌-
 ghost use Rattle.std.specs.List.{All};
 ghost use Rattle.hdr_figures.specs.Figures.{length_at};
 
-use crate::intervals::PageInterval;
+use crate::reading::Interval;
 use std::alloc::{AllocError, Global};
 
 /// The most points of time.
@@ -13,7 +13,7 @@ const MOST: u64 = 200;
 /// The first time that is a time of a clock, in milliseconds: 366 days after the epoch.
 const CLOCK_FROM: u64 = 31_622_400_000;
 
-/// The points of time of a log, in milliseconds as `PageInterval::start`.
+/// The points of time of a log, in milliseconds as `Interval::start`.
 #[derive(Clone, Copy)]
 pub struct Timeline {
     /// When the first interval began, and the last one ended.
@@ -28,7 +28,7 @@ pub struct Timeline {
 
 impl Timeline {
     /// Returns the points of time of intervals.
-    pub fn new(alloc: Global, intervals: &[PageInterval]) -> Result<Timeline, AllocError>
+    pub fn new(alloc: Global, intervals: &[Interval<'_>]) -> Result<Timeline, AllocError>
         ensures points { IfOk result (λ t. (1 ≤ t.points) × (t.points ≤ 200)) }
         ensures first { IfOk result (λ t. All (λ i. t.first ≤ i.start) intervals.now) }
         ensures last { IfOk result (λ t. All (λ i. min (i.start + i.length) (2 ^ 64 - 1) ≤ t.last)

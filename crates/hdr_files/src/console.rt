@@ -124,11 +124,6 @@ impl Read for LateInput<'_> {
     }
 }
 
-/// Returns the names of the files that are read: standard input if names are omitted.
-pub fn files_of<'a>(names: &'a [&'a str]) -> &'a [&'a str] {
-    if names.is_empty() { &["-"] } else { names }
-}
-
 /// Returns the name of a file for an error.
 pub fn display_name(name: &str) -> &str {
     if name == "-" { "standard input" } else { name }

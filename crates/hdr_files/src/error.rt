@@ -1,8 +1,6 @@
 //! Why files are not read.
 
-use crate::console::file_at;
 use hdr_input::InputError;
-use hdr_logs::LogError;
 use std::alloc::{AllocError, AllocFailed, Global};
 use std::io;
 use thiserror::Error;
@@ -13,9 +11,6 @@ pub enum FileError {
     /// A file, or standard input, is not read.
     #[error("{file}: {cause}")]
     Input { file: String, cause: InputError },
-    /// A log is not read.
-    #[error("{file}: {cause}")]
-    Log { file: String, cause: LogError },
     /// A file is not opened, or not written.
     #[error("{file}: {cause}")]
     Open { file: String, cause: io::Error },
@@ -41,14 +36,6 @@ impl FileError {
         match (String::from_str(alloc, file), cause) {
             (Err(_), _) | (_, InputError::OutOfMemory) => FileError::OutOfMemory,
             (Ok(file), cause) => FileError::Input { file, cause },
-        }
-    }
-
-    /// Returns the error of a log that is not read. These are the names of the logs.
-    pub fn log(alloc: Global, names: &[&str], cause: LogError) -> FileError {
-        match (file_at(alloc, names, cause.file()), cause) {
-            (Err(_), _) | (_, LogError::OutOfMemory) => FileError::OutOfMemory,
-            (Ok(file), cause) => FileError::Log { file, cause },
         }
     }
 

@@ -1,14 +1,15 @@
 //! Files and standard input.
 
-use crate::console::{Console, display_name, files_of};
+use crate::console::{Console, display_name};
 use crate::error::FileError;
 use crate::reading::{Reading, Source, Table};
 use hdr_input::columns::{Columns, Layout, RowSink, guess_delimiter, read_rows};
 use hdr_input::intervals::Intervals;
-use hdr_input::pieces::{PIECE, read_lines};
+use hdr_input::logs::{LONGEST, LogSums};
+use hdr_input::pieces::{LineSink, PIECE, read_lines};
+use hdr_input::plain::PlainLines;
 use hdr_input::retry::RetryReader;
 use hdr_input::{Distribution, InputError, Recording, Tally};
-use hdr_logs::{LogSums, Note};
 use hdr_summary::figures::Tagged;
 use hdrhistogram::Histogram;
 use hdrhistogram::serialization::interval_log::IntervalChoice;
@@ -40,6 +41,12 @@ impl FileSink for Numbers<'_> {
     }
 }
 
+impl FileSink for LogSums<'_> {
+    fn take<R: Read + Drop>(&mut self, alloc: Global, mut reader: R) -> Result<(), InputError> {
+        self.read_log(alloc, &mut reader)
+    }
+}
+
 /// Numbers and their times, from columns of tables.
 #[derive(Drop)]
 struct TimedNumbers<'a> {
@@ -53,6 +60,44 @@ impl FileSink for TimedNumbers<'_> {
         let table = self.table;
         let time = Some(self.time);
         read_table(alloc, reader, table, time, &mut self.intervals)
+    }
+}
+
+/// The lines of a file.
+#[derive(Drop)]
+struct Lines {
+    bytes: Vec<u8>,
+}
+
+impl LineSink for Lines {
+    ghost takes = { λ _ _ _ _ _. Unit {0} };
+
+    ghost takes_none = { λ _ _. tt };
+
+    ghost takes_more = { λ _ _ _ _ _ _ _ _ _ _ _. tt };
+
+    fn take_lines(&mut self, _alloc: Global, lines: &[u8], first: u64) -> Result<u64, InputError> {
+        self.bytes.extend_from_slice(lines)?;
+        let count = lines.iter().filter(|byte| **byte == b'\n').count() as u64;
+        Ok(first.saturating_add(count))
+    }
+}
+
+/// What takes the lines of logs, with plain histograms.
+#[derive(Drop)]
+struct Contents {
+    files: Vec<Vec<u8>>,
+}
+
+impl FileSink for Contents {
+    fn take<R: Read + Drop>(&mut self, alloc: Global, mut reader: R) -> Result<(), InputError> {
+        let bytes = Vec::new(alloc);
+        let mut lines = PlainLines::new(alloc, Lines { bytes });
+        read_lines(alloc, &mut reader, LONGEST, &mut lines)?;
+        match self.files.push(lines.into_sink().bytes) {
+            Ok(()) => Ok(()),
+            Err(_) => Err(InputError::OutOfMemory),
+        }
     }
 }
 
@@ -176,13 +221,35 @@ pub fn read_intervals<'a>(
     Ok(numbers.intervals)
 }
 
-/// Prints the lines of logs that are not read on standard error, with the names of the logs.
-pub fn print_notes(rt: &HostRuntime, names: &[&str], notes: &[Note]) {
-    for note in notes {
-        let name = names.get(note.place.file).copied().unwrap_or("-");
-        let file = display_name(name);
-        let _ = eprintln!(rt; "hdrstat: {file}: {note}");
+/// Returns the lines of logs, with plain histograms.
+pub fn read_plain_logs(rt: &HostRuntime, names: &[&str]) -> Result<Vec<Vec<u8>>, FileError> {
+    let mut contents = Contents {
+        files: Vec::new(rt.alloc()),
+    };
+    let is_quiet = true;
+    read_files(Console { rt, is_quiet }, names, &mut contents)?;
+    Ok(contents.files)
+}
+
+/// What passes the lines of files on.
+#[derive(Drop)]
+struct LogLines<'a, S> {
+    sink: &'a mut S,
+}
+
+impl<S: LineSink> FileSink for LogLines<'_, S> {
+    fn take<R: Read + Drop>(&mut self, alloc: Global, mut reader: R) -> Result<(), InputError> {
+        read_lines(alloc, &mut reader, LONGEST, self.sink)
     }
+}
+
+/// Passes the lines of logs to `sink`.
+pub fn read_log_lines<S: LineSink>(
+    console: Console<'_>,
+    names: &[&str],
+    sink: &mut S,
+) -> Result<(), FileError> {
+    read_files(console, names, &mut LogLines { sink })
 }
 
 /// Prints on standard error how many of the chosen intervals are coarser than their sum, if any are.
@@ -196,19 +263,8 @@ fn print_coarser(rt: &HostRuntime, sums: &LogSums<'_>, sigfig: u8) {
     }
 }
 
-/// Adds the chosen intervals of logs.
-fn add_logs(console: Console<'_>, names: &[&str], sums: &mut LogSums<'_>) -> Result<(), FileError> {
-    let alloc = console.rt.alloc();
-    for (file, name) in files_of(names).iter().enumerate() {
-        if let Err(cause) = sums.read_log(alloc, file, console.open(*name)?) {
-            return Err(FileError::log(alloc, names, cause));
-        }
-    }
-    Ok(())
-}
-
 /// Returns the sums of logs. If intervals are coarser than their sum, their number is printed on
-/// standard error, and so are the lines that are not read.
+/// standard error.
 fn read_logs(
     console: Console<'_>,
     names: &[&str],
@@ -218,9 +274,7 @@ fn read_logs(
 ) -> Result<Vec<Tagged>, FileError> {
     let alloc = console.rt.alloc();
     let mut sums = LogSums::new(alloc, choice, sigfig, is_by_tag);
-    let added = add_logs(console, names, &mut sums);
-    print_notes(console.rt, names, sums.notes());
-    added?;
+    read_files(console, names, &mut sums)?;
     print_coarser(console.rt, &sums, sigfig);
     let decimals = sums.decimals();
     let mut parts = Vec::new(alloc);

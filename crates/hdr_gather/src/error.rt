@@ -1,18 +1,44 @@
 //! Why logs are not gathered.
 
-use hdr_logs::{LogError, Place};
+use hdr_input::InputError;
 use hdrhistogram::AdditionError;
 use hdrhistogram::serialization::V2SerializeError;
 use hdrhistogram::serialization::interval_log::{CommentError, IntervalLogWriterError};
 use std::alloc::{AllocError, AllocFailed};
 use thiserror::Error;
 
+/// A line of one of several logs.
+#[derive(Debug, Clone, Copy, Error)]
+#[error("line {line}")]
+pub struct Place {
+    /// The index of the log.
+    pub log: usize,
+    /// The number of the line, from 1.
+    pub line: u64,
+}
+
+impl Place {
+    /// Returns the error of a log that is not read.
+    pub(crate) fn error(self, cause: InputError) -> GatherError {
+        match cause {
+            InputError::OutOfMemory => GatherError::OutOfMemory,
+            cause => GatherError::Input {
+                log: self.log,
+                cause,
+            },
+        }
+    }
+}
+
 /// Why logs are not gathered.
 #[derive(Debug, Drop, Error)]
 pub enum GatherError {
-    /// A log is not read, or its values have other decimals than those of others.
-    #[error("{0}")]
-    Log(LogError),
+    /// The log of this index is not read.
+    #[error("{cause}")]
+    Input {
+        log: usize,
+        cause: InputError,
+    },
     #[error("{0}: the interval begins past 64 bits of milliseconds")]
     TooLate(Place),
     /// It begins before the interval above it.
@@ -20,6 +46,12 @@ pub enum GatherError {
     NotSorted(Place),
     #[error("{0}: the interval is neither finer nor coarser than others of its time and tag")]
     NotNested(Place),
+    #[error("{place}: the values have {decimals} decimals, and others {others}; write the logs by the same --decimals")]
+    OtherDecimals {
+        place: Place,
+        decimals: u32,
+        others: u32,
+    },
     #[error("{0}")]
     Add(AdditionError),
     #[error("{0}")]
@@ -28,15 +60,6 @@ pub enum GatherError {
     TooManyLines,
     #[error("out of memory")]
     OutOfMemory,
-}
-
-impl From<LogError> for GatherError {
-    fn from(error: LogError) -> GatherError {
-        match error {
-            LogError::OutOfMemory => GatherError::OutOfMemory,
-            error => GatherError::Log(error),
-        }
-    }
 }
 
 impl From<AllocError> for GatherError {
@@ -82,10 +105,11 @@ impl GatherError {
     /// Returns the index of the log that has the error, if one has.
     pub fn log(&self) -> Option<usize> {
         match self {
-            GatherError::Log(cause) => cause.file(),
+            GatherError::Input { log, .. } => Some(*log),
             GatherError::TooLate(place)
             | GatherError::NotSorted(place)
-            | GatherError::NotNested(place) => Some(place.file),
+            | GatherError::NotNested(place)
+            | GatherError::OtherDecimals { place, .. } => Some(place.log),
             _ => None,
         }
     }

@@ -13,16 +13,15 @@ ghost use Rattle.hdr_gather.specs.Logs.{Gathers, WritesStart, WritesRest, next_s
 use crate::error::GatherError;
 use crate::part::{Part, in_order};
 use crate::reader::{Held, LogReader};
-use crate::sum::Counts;
 use crate::write_parts;
-use hdr_logs::decimals_comment;
+use hdr_input::log_lines::decimals_comment;
 use hdrhistogram::serialization::V2Serializer;
 use hdrhistogram::serialization::interval_log::{IntervalLogWriter, IntervalLogWriterBuilder};
 use std::alloc::Global;
 use std::io::{Read, Write};
 
-/// Merges logs, and writes the result as one log, with one interval for each tag and time. Returns
-/// how many intervals were read. The logs are read side by side, and each has to be in order of time: at most the intervals of one start
+/// Merges logs, and writes the result as one log, with one interval for each tag and time. The logs
+/// are read side by side, and each has to be in order of time: at most the intervals of one start
 /// are kept in memory. If a comment has the decimals of the values, the log begins with it.
 ///
 /// # Errors
@@ -31,9 +30,9 @@ use std::io::{Read, Write};
 /// adding or writing an interval. What precedes an error may have been written.
 pub fn gather_sorted<R: Read + Drop, W: Write>(
     alloc: Global,
-    logs: &mut [LogReader<'_, R>],
+    logs: &mut [LogReader<R>],
     output: &mut W,
-) -> Result<Counts, GatherError>
+) -> Result<(), GatherError>
     ensures { OnOk result (Gathers R.remaining logs.old (W.contents output.old)
         (W.contents output.new)) }
 {
@@ -44,19 +43,18 @@ pub fn gather_sorted<R: Read + Drop, W: Write>(
         .max();
     let mut serializer = V2Serializer::new(alloc);
     let mut log = begin_log(alloc, decimals, output, &mut serializer)?;
-    let mut counts = Counts::NONE;
-    write_in_order(alloc, logs, decimals.unwrap_or(0), &mut log, &mut counts)?;
+    write_in_order(alloc, logs, decimals.unwrap_or(0), &mut log)?;
     drop(log);
-    Ok(counts)
+    Ok(())
 }
 
 /// Merges logs, as `gather_sorted` does. They may be in any order of time: all of them are read
 /// first, one after another.
 pub fn gather_unsorted<R: Read + Drop, W: Write>(
     alloc: Global,
-    logs: &mut [LogReader<'_, R>],
+    logs: &mut [LogReader<R>],
     output: &mut W,
-) -> Result<Counts, GatherError>
+) -> Result<(), GatherError>
     ensures { OnOk result (Gathers R.remaining logs.old (W.contents output.old)
         (W.contents output.new)) }
 {
@@ -66,10 +64,9 @@ pub fn gather_unsorted<R: Read + Drop, W: Write>(
     in_order(&mut parts)?;
     let mut serializer = V2Serializer::new(alloc);
     let mut log = begin_log(alloc, decimals, output, &mut serializer)?;
-    let mut counts = Counts::NONE;
-    write_parts(alloc, &parts, &mut log, &mut counts)?;
+    write_parts(alloc, &parts, &mut log)?;
     drop(log);
-    Ok(counts)
+    Ok(())
 }
 
 /// Returns the start of a log with the decimals of its values in a comment, if there are any.
@@ -103,10 +100,7 @@ fn begin_log<'a, 'b, W: Write>(
 }
 
 /// Reads up to the first interval of each log.
-fn begin_logs<R: Read + Drop>(
-    alloc: Global,
-    logs: &mut [LogReader<'_, R>],
-) -> Result<(), GatherError>
+fn begin_logs<R: Read + Drop>(alloc: Global, logs: &mut [LogReader<R>]) -> Result<(), GatherError>
     ensures left { OnOk result (Loses R.remaining logs.old logs.new []) }
     ensures ready { OnOk result (All (IsKnown R.remaining) logs.old
         → All (IsReady R.remaining) logs.new) }
@@ -121,10 +115,9 @@ fn begin_logs<R: Read + Drop>(
 /// proportion to the number of starts times the number of logs.
 fn write_in_order<R: Read + Drop, W: Write>(
     alloc: Global,
-    logs: &mut [LogReader<'_, R>],
+    logs: &mut [LogReader<R>],
     decimals: u32,
     log: &mut IntervalLogWriter<'_, '_, W, V2Serializer>,
-    counts: &mut Counts,
 ) -> Result<(), GatherError>
     requires { divisor_of log.old ≡ 1 }
     ensures same_log { IsSameLog log.old log.new }
@@ -138,7 +131,7 @@ fn write_in_order<R: Read + Drop, W: Write>(
         let held = take_held(alloc, logs, start)?;
         let mut parts = parts_of(alloc, &held, decimals)?;
         in_order(&mut parts)?;
-        write_parts(alloc, &parts, log, counts)?;
+        write_parts(alloc, &parts, log)?;
     }
     Err(GatherError::TooManyLines)
 }
@@ -146,7 +139,7 @@ fn write_in_order<R: Read + Drop, W: Write>(
 /// Takes all intervals of logs.
 fn take_logs<R: Read + Drop>(
     alloc: Global,
-    logs: &mut [LogReader<'_, R>],
+    logs: &mut [LogReader<R>],
 ) -> Result<Vec<Held>, GatherError>
     ensures { IfOk result (λ taken. All (IsKnown R.remaining) logs.old
         → AreLeft R.remaining logs.old (intervals_of (vec_items taken))) }
@@ -161,7 +154,7 @@ fn take_logs<R: Read + Drop>(
 /// Appends all intervals of a log.
 fn take_all<R: Read + Drop>(
     alloc: Global,
-    reader: &mut LogReader<'_, R>,
+    reader: &mut LogReader<R>,
     taken: &mut Vec<Held>,
 ) -> Result<(), GatherError>
     ensures left { OnOk result (Takes R.remaining reader.old reader.new (vec_items taken.old)
@@ -181,7 +174,7 @@ fn take_all<R: Read + Drop>(
 /// Appends the next interval of a log, which there is not at first, and reads up to the one after it.
 fn take_next<R: Read + Drop>(
     alloc: Global,
-    reader: &mut LogReader<'_, R>,
+    reader: &mut LogReader<R>,
     taken: &mut Vec<Held>,
 ) -> Result<(), GatherError>
     ensures left { OnOk result (Takes R.remaining reader.old reader.new (vec_items taken.old)
@@ -210,7 +203,7 @@ fn earlier(one: Option<u64>, other: Option<u64>) -> Option<u64>
 }
 
 /// Returns when the first of the next intervals of logs begins.
-fn first_start<R: Read + Drop>(logs: &[LogReader<'_, R>]) -> Option<u64>
+fn first_start<R: Read + Drop>(logs: &[LogReader<R>]) -> Option<u64>
     ensures { (low : ℕ) → IfSome result (λ t. low ≤ t) ↔ All (IsFrom low) logs.now }
 {
     let mut first = None;
@@ -223,7 +216,7 @@ fn first_start<R: Read + Drop>(logs: &[LogReader<'_, R>]) -> Option<u64>
 /// Takes the intervals of logs that begin at this time, up to the first that begins later.
 fn take_held<R: Read + Drop>(
     alloc: Global,
-    logs: &mut [LogReader<'_, R>],
+    logs: &mut [LogReader<R>],
     start: u64,
 ) -> Result<Vec<Held>, GatherError>
     requires { All (IsFrom start) logs.old }
@@ -244,7 +237,7 @@ fn take_held<R: Read + Drop>(
 /// Appends the intervals of a log that begin at this time, up to the first that begins later.
 fn take_from<R: Read + Drop>(
     alloc: Global,
-    reader: &mut LogReader<'_, R>,
+    reader: &mut LogReader<R>,
     start: u64,
     taken: &mut Vec<Held>,
 ) -> Result<(), GatherError>
@@ -267,7 +260,7 @@ fn take_from<R: Read + Drop>(
 }
 
 /// Returns an error if the next interval of a log begins before this time.
-fn check_order<R: Read + Drop>(reader: &LogReader<'_, R>, start: u64) -> Result<(), GatherError>
+fn check_order<R: Read + Drop>(reader: &LogReader<R>, start: u64) -> Result<(), GatherError>
     ensures ok { OnOk result (IsFrom start reader.now) }
     ensures err { OnErr result (IsSomeAnd (next_start reader.now) (λ next. next < start)) }
 {
@@ -286,13 +279,14 @@ fn parts_of(alloc: Global, lines: &[Held], decimals: u32) -> Result<Vec<Part<'_>
 {
     let mut parts = Vec::new(alloc);
     for held in lines {
-        push_part(held, decimals, &mut parts)?;
+        push_part(alloc, held, decimals, &mut parts)?;
     }
     Ok(parts)
 }
 
 /// Appends the interval of a line. It is an error unless its values have these decimals.
 fn push_part<'a>(
+    alloc: Global,
     held: &'a Held,
     decimals: u32,
     parts: &mut Vec<Part<'a>>,
@@ -305,6 +299,8 @@ fn push_part<'a>(
     ensures decimals { OnOk result (held_decimals held.now ≡ decimals) }
 {
     held.check_decimals(decimals)?;
-    parts.push(held.part())?;
-    Ok(())
+    match held.part(alloc)? {
+        Some(part) => Ok(parts.push(part)?),
+        None => Ok(()),
+    }
 }

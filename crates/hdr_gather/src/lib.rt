@@ -23,9 +23,8 @@ mod gathering;
 mod part;
 mod reader;
 mod sum;
-mod tag;
 
-pub use error::GatherError;
+pub use error::{GatherError, Place};
 pub use gathering::{gather_sorted, gather_unsorted};
 use hdrhistogram::serialization::V2Serializer;
 use hdrhistogram::serialization::interval_log::IntervalLogWriter;
@@ -34,7 +33,6 @@ pub use reader::LogReader;
 use std::alloc::Global;
 use std::io::Write;
 use std::time::Duration;
-pub use sum::Counts;
 use sum::{longest, sum_of};
 
 /// Writes the interval that parts of the same key become, as long as the longest of them.
@@ -43,16 +41,15 @@ fn write_sum<W: Write>(
     first: &Part<'_>,
     others: &[Part<'_>],
     log: &mut IntervalLogWriter<'_, '_, W, V2Serializer>,
-    counts: &mut Counts,
 ) -> Result<(), GatherError>
     requires { divisor_of log.old ≡ 1 }
     ensures same_log { IsSameLog log.old log.new }
     ensures written { OnOk result ((text : List ℕ) × IsLineOf first.now others.now text
         × Appends (W.contents (sink log.old).now) (W.contents (sink log.new).now) text) }
 {
-    let sum = sum_of(alloc, first, others, counts)?;
+    let sum = sum_of(alloc, first, others)?;
     let start = Duration::from_millis(first.start);
-    log.write_v2(&sum, start, longest(first, others), first.tag)?;
+    log.write_histogram(&sum, start, longest(first, others), first.tag)?;
     Ok(())
 }
 
@@ -61,7 +58,6 @@ pub(crate) fn write_parts<W: Write>(
     alloc: Global,
     parts: &[Part<'_>],
     log: &mut IntervalLogWriter<'_, '_, W, V2Serializer>,
-    counts: &mut Counts,
 ) -> Result<(), GatherError>
     requires divisor { divisor_of log.old ≡ 1 }
     requires sorted { AreSorted parts.now }
@@ -73,7 +69,7 @@ pub(crate) fn write_parts<W: Write>(
     while at < parts.len() {
         let first = &parts[at];
         let end = at + 1 + same_key(first, &parts[at + 1..]);
-        write_sum(alloc, first, &parts[at + 1..end], log, counts)?;
+        write_sum(alloc, first, &parts[at + 1..end], log)?;
         at = end;
     }
     Ok(())

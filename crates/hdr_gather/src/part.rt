@@ -4,11 +4,14 @@ ghost use Rattle.std.specs.Prelude.{◌≡◌, ◌≢◌, ◌≤◌, ◌<◌, �
 ghost use Rattle.std.specs.List.{AllWithin, HoldsAt};
 ghost use Rattle.std.specs.List.Sorted.{IsPermutation};
 ghost use Rattle.hdr_gather.specs.Logs.{Ascend};
+ghost use Rattle.std.specs.Duration.{as_nanos};
+ghost use Rattle.hdr_log.specs.Reading.{view_of_interval};
+ghost use Rattle.hdr_gather.specs.Intervals.{timed, timed_of};
 ghost use Rattle.hdr_gather.specs.Keys.{key_of, AreSorted};
 ghost use Rattle.hdr_gather.specs.Times.{nearest_millisecond};
 
-use hdr_logs::Place;
-use hdrhistogram::serialization::interval_log::Tag;
+use crate::error::Place;
+use hdrhistogram::serialization::interval_log::{IntervalLogHistogram, Tag};
 use std::alloc::AllocError;
 use std::time::Duration;
 
@@ -34,12 +37,26 @@ impl<'a> Part<'a> {
     }
 }
 
-/// Returns a time in nanoseconds to the nearest millisecond, or `None` if that does not fit 64 bits.
-pub(crate) fn milliseconds(nanos: u128) -> Option<u64>
-    ensures { IfSome result (λ ms. ms ≡ nearest_millisecond nanos) }
+/// Returns a time after a base time, to the nearest millisecond, or `None` if that does not fit 64
+/// bits.
+pub(crate) fn milliseconds(base: Duration, start: Duration) -> Option<u64>
+    ensures { IfSome result (λ ms. ms ≡ nearest_millisecond (as_nanos base + as_nanos start)) }
 {
-    let rounded = nanos.checked_add(500_000)? / 1_000_000;
-    u64::try_from(rounded).ok()
+    let nanos = base.as_nanos() + start.as_nanos();
+    u64::try_from((nanos + 500_000) / 1_000_000).ok()
+}
+
+/// Returns the interval of a line, which begins at this time.
+pub(crate) fn part_of<'a>(start: u64, place: Place, interval: &IntervalLogHistogram<'a>) -> Part<'a>
+    ensures { timed_of result ≡ timed start (view_of_interval interval.now) }
+{
+    Part {
+        start,
+        tag: interval.tag(),
+        duration: interval.duration(),
+        field: interval.encoded_histogram(),
+        place,
+    }
 }
 
 /// Whether an interval begins at the time of `first` and has its tag.

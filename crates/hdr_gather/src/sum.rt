@@ -6,9 +6,9 @@ ghost use Rattle.hdr_gather.specs.Lines.{IsLongest};
 ghost use Rattle.hdr_gather.specs.Parts.{field_of, duration_of};
 ghost use Rattle.hdr_gather.specs.Sums.{IsJoined, IsGrowing, IsSumOf};
 
-use crate::error::GatherError;
+use crate::error::{GatherError, Place};
 use crate::part::Part;
-use hdr_logs::{LogError, Place};
+use hdr_input::InputError;
 use hdrhistogram::Histogram;
 use hdrhistogram::serialization::Deserializer;
 use std::alloc::Global;
@@ -27,7 +27,7 @@ fn histogram_of(
             histogram.auto(true);
             Ok(histogram)
         }
-        Err(cause) => Err(LogError::of_field(place, cause).into()),
+        Err(cause) => Err(place.error(InputError::of_interval(place.line, cause))),
     }
 }
 
@@ -51,56 +51,20 @@ fn joined(
     Err(GatherError::NotNested(place))
 }
 
-/// How many intervals were gathered.
-#[derive(Debug, Clone, Copy, PartialEq, Eq)]
-pub struct Counts {
-    /// The number of intervals.
-    pub intervals: u64,
-    /// The number of them that are finer than the sum that they are in: their samples lose digits.
-    pub finer: u64,
-}
-
-impl Counts {
-    /// No intervals.
-    pub(crate) const NONE: Counts = Counts {
-        intervals: 0,
-        finer: 0,
-    };
-}
-
-/// Returns how many intervals of a sum are finer than it, after one more. Before, there are `count`
-/// of them, of which `finer` are finer.
-fn finer_after(sum: &Histogram<u64>, one: &Histogram<u64>, count: u64, finer: u64) -> u64 {
-    if !sum.refines(one) {
-        finer.saturating_add(1)
-    } else if one.refines(sum) {
-        finer
-    } else {
-        count
-    }
-}
-
-/// The sum of the histograms of an interval and of others, which are counted.
+/// The sum of the histograms of an interval and of others.
 pub(crate) fn sum_of(
     alloc: Global,
     first: &Part<'_>,
     others: &[Part<'_>],
-    counts: &mut Counts,
 ) -> Result<Histogram<u64>, GatherError>
     ensures { IfOk result (IsSumOf (field_of first.now ∷ map field_of others.now)) }
 {
     let mut deserializer = Deserializer::new(alloc);
     let mut sum = histogram_of(&mut deserializer, first)?;
-    let mut count = 1u64;
-    let mut finer = 0u64;
     for part in others {
         let histogram = histogram_of(&mut deserializer, part)?;
-        finer = finer_after(&sum, &histogram, count, finer);
-        count = count.saturating_add(1);
         sum = joined(sum, histogram, part.place)?;
     }
-    counts.intervals = counts.intervals.saturating_add(count);
-    counts.finer = counts.finer.saturating_add(finer);
     Ok(sum)
 }
 

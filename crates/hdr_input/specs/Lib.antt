@@ -1,3 +1,5 @@
 pub mod Numbers
 pub mod Recorded
 pub mod Lines
+pub mod Sums
+pub mod Joining

@@ -9,6 +9,16 @@ use Rattle.hdr_log.specs.Grammar.{Entry, reading, after_front}
 use Rattle.hdr_convert.specs.Lines.{IsLineIn, IsLastField, IsFieldIn}
 use Rattle.hdr_convert.specs.declared.bytes.Form.TheVariants.{Plain}
 
+-- the next line is read, through its LF, or what is left; there is none at the end
+abbrev pub ReadsLine : Option (List ℕ) → Option (List ℕ) → Option (List ℕ) → Type 0
+ReadsLine old new None = IsAtEnd old × DropsThrough old new 10
+ReadsLine old new (Some line) = IfSome old (λ text. line ≡ take_through 10 text) × DropsThrough old new 10
+
+-- the lines of a text, each with its LF, which only the last may lack
+abbrev pub AreLines : List (List ℕ) → List ℕ → Type 0
+AreLines [] text = text ≡ []
+AreLines (line ∷ lines) text = (line ≡ take_through 10 text) × AreLines lines (drop_through 10 text)
+
 -- a line without a byte order mark, which only the first line may have
 abbrev pub without_mark : Bool → List ℕ → List ℕ
 without_mark is_first line = if is_first then unwrap_or (after_front (239 ∷ 187 ∷ 191 ∷ []) line) line else line

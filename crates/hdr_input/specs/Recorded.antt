@@ -53,3 +53,8 @@ abbrev pub IsCauseOf : Result Unit RecordError → Cause → Type 0
 IsCauseOf (Ok _) cause = ⊥
 IsCauseOf (Err record_error.OutOfMemory) cause = cause ≡ OutOfMemory
 IsCauseOf (Err _) cause = cause ≡ TooLarge
+
+-- the histogram that a field holds is added to a sum, and it is coarser than the sum or not
+abbrev pub AddsField : List ℕ → Plain → Plain → Bool → Type 0
+AddsField field old new coarser = (held : Plain) × IsHeldIn (2 ^ 64 - 1) field held × (new ≡ after_add (2 ^ 64 - 1) old held)
+    × (IsTrue coarser ↔ (IsFiner (resolution held) (resolution old) → ⊥))

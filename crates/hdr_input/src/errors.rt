@@ -118,7 +118,7 @@ impl InputError {
 const SHOWN: usize = 40;
 
 /// Returns the start of a text for an error. Control characters are shown as `?`.
-pub fn excerpt(alloc: Global, text: &[u8]) -> Result<String, AllocError> {
+pub(crate) fn excerpt(alloc: Global, text: &[u8]) -> Result<String, AllocError> {
     let mut bytes = text[..text.len().min(SHOWN)].to_vec(alloc)?;
     for byte in bytes.iter_mut() {
         if byte.is_ascii_control() {

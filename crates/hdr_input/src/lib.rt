@@ -1,4 +1,5 @@
-//! Numbers from text, one on each line or in a column of a table.
+//! Numbers from text, one on each line or in a column of a table, and the histograms of interval
+//! logs.
 #![tactic(auto)]
 
 pub mod cause;
@@ -8,6 +9,7 @@ pub mod errors;
 pub mod intervals;
 pub mod lines;
 pub mod log_lines;
+pub mod logs;
 pub mod number;
 pub mod pieces;
 pub mod plain;

@@ -1,10 +1,10 @@
 //! Lines with a number each.
 
-ghost use Rattle.std.specs.Prelude.{◌≡◌, ◌==◌, ◌<◌, length};
-ghost use Rattle.hdr_input.specs.Lines.{without_mark};
+ghost use Rattle.std.specs.Prelude.{◌<◌, length};
 
 use crate::cause::Cause;
 use crate::errors::{InputError, Place, bad_number};
+use crate::log_lines::without_mark;
 use crate::number::{Number, plain_line, plain_number};
 use crate::pieces::LineSink;
 use crate::tally::Tally;
@@ -17,16 +17,6 @@ fn split_line(text: &[u8]) -> (&[u8], &[u8])
     match text.iter().position(|b| *b == b'\n') {
         Some(at) => (&text[..at], &text[at + 1..]),
         None => (text, &text[text.len()..]),
-    }
-}
-
-/// Returns a line without a byte order mark, which only the first line may have.
-pub fn without_mark(line: &[u8], number: u64) -> &[u8]
-    ensures { result.now ≡ without_mark (number == 1) line.now }
-{
-    match line {
-        [0xef, 0xbb, 0xbf, rest @ ..] if number == 1 => rest,
-        _ => line,
     }
 }
 

@@ -137,7 +137,7 @@ pub fn tag_of<'a>(alloc: Global, matches: &ArgMatches<'a>) -> Result<Option<Tag<
 }
 
 /// Returns the choice of intervals.
-pub fn choice_of<'a>(
+fn choice_of<'a>(
     alloc: Global,
     matches: &ArgMatches<'a>,
 ) -> Result<IntervalChoice<'a>, UsageError> {

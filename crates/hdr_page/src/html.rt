@@ -4,7 +4,6 @@ use crate::style::push_style;
 use crate::table::push_table;
 use hdr_charts::drawings::push_drawings;
 use hdr_figures::error::PageError;
-use hdr_figures::intervals::PageIntervals;
 use hdr_view::name::{IN_TITLE, push_shown};
 use hdr_view::options::PageOptions;
 use hdr_view::view::{Form, View};
@@ -13,14 +12,14 @@ use std::alloc::Global;
 const HEAD: &str = "<!DOCTYPE html>\n<html lang=\"en\"><head><meta charset=\"utf-8\">\
 <meta name=\"viewport\" content=\"width=device-width,initial-scale=1\"><title>";
 
-/// Returns the page of intervals: a sentence, the slow times, a table with a row for each tag, and
+/// Returns the page of logs: a sentence, the slow times, a table with a row for each tag, and
 /// drawings.
 pub fn page(
     alloc: Global,
-    intervals: &PageIntervals,
+    logs: &[Vec<u8>],
     options: PageOptions<'_>,
 ) -> Result<String, PageError> {
-    let view = View::new(alloc, intervals, options, Form::Html)?;
+    let view = View::new(alloc, logs, options, Form::Html)?;
     let mut text = String::from_str(alloc, HEAD)?;
     push_shown(alloc, &mut text, options.title, IN_TITLE)?;
     text.push_str("</title><style>")?;

@@ -9,7 +9,6 @@ mod table;
 mod terminal;
 
 pub use hdr_figures::error::PageError;
-pub use hdr_figures::intervals::PageIntervals;
 pub use hdr_figures::level::PageLevel;
 pub use hdr_view::options::PageOptions;
 pub use html::page;

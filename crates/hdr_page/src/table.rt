@@ -2,10 +2,10 @@
 
 use hdr_charts::legend::push_mark;
 use hdr_draw::number::{push_grouped, push_rate};
-use hdr_figures::figures::{DRAWN, Figures, TagFigures};
+use hdr_figures::figures::{Figures, TagFigures};
 use hdr_view::amount::Amount;
 use hdr_view::name::IN_TABLE;
-use hdr_view::view::View;
+use hdr_view::view::{DRAWN, View};
 use std::alloc::{AllocError, Global};
 
 /// The rows that are shown at once.

@@ -6,7 +6,6 @@ use hdr_charts::percentiles::LINES;
 use hdr_draw::quantiles::QuantileScale;
 use hdr_draw::values::{Tick, ValueScale};
 use hdr_figures::error::PageError;
-use hdr_figures::intervals::PageIntervals;
 use hdr_view::name::columns;
 use hdr_view::options::PageOptions;
 use hdr_view::view::{Form, View};
@@ -22,13 +21,13 @@ const ROWS: u32 = 16;
 
 const BLOCKS: [&str; 9] = [" ", "▁", "▂", "▃", "▄", "▅", "▆", "▇", "█"];
 
-/// Returns the page of intervals as text for a terminal with 80 columns.
+/// Returns the page of logs as text for a terminal with 80 columns.
 pub fn page_text(
     alloc: Global,
-    intervals: &PageIntervals,
+    logs: &[Vec<u8>],
     options: PageOptions<'_>,
 ) -> Result<String, PageError> {
-    let view = View::new(alloc, intervals, options, Form::Plain)?;
+    let view = View::new(alloc, logs, options, Form::Plain)?;
     let mut summary = String::new(alloc);
     view.push_summary(alloc, &mut summary)?;
     let mut text = String::new(alloc);
@@ -88,7 +87,7 @@ fn heights(
 ) -> Result<Vec<u32>, AllocError> {
     let last = COLUMNS - 1;
     let mut heights = vec![in alloc; 0; COLUMNS]?;
-    for point in curve_of(alloc, &view.log.sum.histogram, quantiles, last as u32)? {
+    for point in curve_of(alloc, &view.log.sum, quantiles, last as u32)? {
         let above = scale.place(point.value, ROWS * 8);
         for height in heights.iter_mut().skip(point.x as usize) {
             *height = above.max(1);

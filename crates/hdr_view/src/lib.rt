@@ -7,5 +7,4 @@ pub mod clock;
 pub mod name;
 pub mod options;
 pub mod sentence;
-pub mod slow;
 pub mod view;

@@ -3,11 +3,9 @@
 use crate::clock::{TimeStyle, push_length};
 use crate::name::{IN_SLOW_TIME, IN_TABLE, IN_TITLE};
 use crate::options::{is_p99, push_percentile};
-use crate::slow::{LETTERS, Mark, Measure, SlowTime, TIMES};
-use crate::view::View;
+use crate::view::{DRAWN, View};
 use hdr_draw::number::push_grouped;
-use hdr_figures::figures::DRAWN;
-use hdr_figures::level::Verdict;
+use hdr_figures::slow::{LETTERS, Mark, Measure, SlowTime, TIMES};
 use std::alloc::{AllocError, Global};
 
 impl View<'_> {
@@ -18,7 +16,6 @@ impl View<'_> {
         self.push_markup(text, "</h1>")?;
         text.push_str("\n")?;
         self.push_sentence(alloc, text)?;
-        self.push_coarser(text)?;
         if self.log.all.count == 0 || self.is_instant() {
             self.push_markup(text, "<p class=\"soft\">")?;
         } else if self.slow.named.is_empty() {
@@ -95,14 +92,13 @@ impl View<'_> {
         let Some(level) = self.options.level else {
             return Ok(());
         };
-        let all = &self.log.all;
-        let verdict = level.verdict(all);
+        let found = self.log.all.at_level;
         text.push_str(" ")?;
         self.push_markup(text, "<b>")?;
-        text.push_str(match verdict {
-            Verdict::Over => "Over the level",
-            Verdict::MayBeOver => "May be over the level",
-            Verdict::Within => "Within the level",
+        text.push_str(if found > level.value {
+            "Over the level"
+        } else {
+            "Within the level"
         })?;
         self.push_markup(text, "</b>")?;
         text.push_str(" of ")?;
@@ -111,35 +107,10 @@ impl View<'_> {
         self.units.push_label(text, level.value)?;
         if !is_p99(level) {
             text.push_str(" (")?;
-            self.units.push(text, all.at_level)?;
+            self.units.push(text, found)?;
             text.push_str(")")?;
         }
-        if verdict == Verdict::MayBeOver {
-            text.push_str(": the class of its value ends at ")?;
-            self.units.push_label(text, all.highest_at_level)?;
-        }
         text.push_str(".")
-    }
-
-    /// Appends how many intervals are coarser than the sums, if any are.
-    fn push_coarser(&self, text: &mut String) -> Result<(), AllocError> {
-        let coarser = self.log.coarser;
-        if coarser == 0 {
-            return Ok(());
-        }
-        self.push_markup(text, "<p class=\"soft\">")?;
-        push_grouped(text, coarser)?;
-        text.push_str(" of ")?;
-        push_grouped(text, self.intervals as u64)?;
-        text.push_str(if coarser == 1 {
-            " intervals is coarser than 3 digits: its samples count as the lowest values of their \
-             classes."
-        } else {
-            " intervals are coarser than 3 digits: their samples count as the lowest values of their \
-             classes."
-        })?;
-        self.push_markup(text, "</p>")?;
-        text.push_str("\n")
     }
 
     /// Appends a line for each slow time.

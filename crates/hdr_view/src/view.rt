@@ -8,15 +8,17 @@ use crate::amount::Units;
 use crate::clock::Clock;
 use crate::name::{push_shown, shortened};
 use crate::options::PageOptions;
-use crate::slow::{SlowTimes, slow_times};
 use hdr_draw::path::Joint;
 use hdr_draw::values::ValueScale;
 use hdr_figures::error::PageError;
-use hdr_figures::figures::{DRAWN, LogFigures, PointFigures, TagFigures};
-use hdr_figures::intervals::PageIntervals;
-use hdr_figures::sums::{figures_of, keys_of};
+use hdr_figures::figures::{Key, LogFigures, PointFigures, TagFigures, figures_of, keys_of};
+use hdr_figures::reading::Intervals;
+use hdr_figures::slow::{SlowTimes, slow_times};
 use hdr_figures::timeline::Timeline;
 use std::alloc::{AllocError, Global};
+
+/// The most tags that are drawn.
+pub const DRAWN: usize = 10;
 
 /// The form of a page.
 #[derive(Clone, Copy, PartialEq, Eq)]
@@ -34,30 +36,31 @@ pub struct View<'a> {
     pub units: Units,
     pub timeline: Timeline,
     pub clock: Clock,
-    /// The number of intervals.
-    pub intervals: usize,
+    pub intervals: Intervals<'a>,
+    pub keys: Vec<Key>,
     pub log: LogFigures<'a>,
     pub slow: SlowTimes,
 }
 
 impl<'a> View<'a> {
-    /// Returns what a page of intervals shows.
+    /// Returns what a page of logs shows.
     pub fn new(
         alloc: Global,
-        intervals: &'a PageIntervals,
+        logs: &'a [Vec<u8>],
         options: PageOptions<'a>,
         form: Form,
     ) -> Result<View<'a>, PageError> {
+        let intervals = Intervals::read(alloc, logs, options.tag)?;
         if options.unit.is_some() && intervals.decimals() > 0 {
             return Err(PageError::Decimals(intervals.decimals()));
         }
         let timeline = Timeline::new(alloc, &intervals.list)?;
-        let keys = keys_of(alloc, &intervals.list, &timeline)?;
+        let keys = keys_of(alloc, &intervals, &timeline)?;
         let level = match options.level {
             Some(level) => level.quantile(),
             None => None,
         };
-        let log = figures_of(alloc, &intervals.list, &keys, &timeline, level)?;
+        let log = figures_of(alloc, &intervals, &keys, &timeline, level)?;
         let drawn = log.tags.get(..DRAWN).unwrap_or(log.tags.as_slice());
         let slow = slow_times(alloc, drawn, timeline.points, options.level)?;
         Ok(View {
@@ -66,7 +69,8 @@ impl<'a> View<'a> {
             units: Units::new(options.unit),
             timeline,
             clock: Clock::new(&timeline),
-            intervals: intervals.list.len(),
+            intervals,
+            keys,
             log,
             slow,
         })

@@ -4,68 +4,68 @@ use crate::console_of;
 use crate::error::StatError;
 use crate::output::print;
 use clap::ArgMatches;
-use hdr_convert::Form;
-use hdr_files::console::files_of;
-use hdr_files::input::print_notes;
-use hdr_files::{Console, FileError};
-use hdr_logs::{LineBuffer, LogError, LogReader};
-use hdr_options::reading::choice_of;
-use hdrhistogram::serialization::interval_log::IntervalChoice;
-use std::io::Read;
+use hdr_convert::{Form, convert_line};
+use hdr_files::input::read_log_lines;
+use hdr_input::InputError;
+use hdr_input::log_lines::split_log_line;
+use hdr_input::pieces::LineSink;
+use std::alloc::Global;
 use std::process::ExitCode;
 
-/// The length of the lines that are printed at once, unless the input has no more yet.
-const PIECE: usize = 65_536;
-
-/// Prints the lines that are converted, and leaves none.
-fn print_lines(rt: &HostRuntime, converted: &mut Vec<u8>) -> Result<(), StatError> {
-    print(rt, converted)?;
-    converted.clear();
-    Ok(())
+/// What prints the lines of logs with their histograms in a form.
+#[derive(Drop)]
+struct Conversion<'a> {
+    rt: &'a HostRuntime,
+    form: Form,
+    /// The lines of a piece, converted.
+    converted: Vec<u8>,
+    /// Why they were not printed.
+    failed: Option<StatError>,
 }
 
-/// Prints a log with its histograms in a form, up to its first error.
-fn print_log<R: Read + Drop>(
-    console: Console<'_>,
-    log: &mut LogReader<'_, R>,
-    form: Form,
-) -> Result<Result<(), LogError>, StatError> {
-    let alloc = console.rt.alloc();
-    let mut buffer = LineBuffer::new(alloc);
-    let mut converted = Vec::new(alloc);
-    for _ in 0..u64::MAX {
-        let line = log.convert_line(alloc, form, &mut buffer, &mut converted);
-        let is_last = !matches!(line, Ok(true));
-        if is_last || converted.len() >= PIECE || log.is_drained() {
-            print_lines(console.rt, &mut converted)?;
-        }
-        if is_last {
-            return Ok(line.map(|_| ()));
+impl LineSink for Conversion<'_> {
+    ghost takes = { λ _ _ _ _ _. Unit {0} };
+
+    ghost takes_none = { λ _ _. tt };
+
+    ghost takes_more = { λ _ _ _ _ _ _ _ _ _ _ _. tt };
+
+    fn take_lines(&mut self, alloc: Global, lines: &[u8], first: u64) -> Result<u64, InputError> {
+        self.converted.clear();
+        let next = convert_lines(alloc, lines, first, self.form, &mut self.converted);
+        match print(self.rt, &self.converted) {
+            Ok(()) => next,
+            Err(error) => {
+                self.failed = Some(error);
+                Err(InputError::OutOfMemory)
+            }
         }
     }
-    Ok(Err(LogError::TooManyLines))
 }
 
-/// Prints the chosen intervals of the log of this index with their histograms in a form.
-fn convert_log(
-    console: Console<'_>,
-    names: &[&str],
-    file: usize,
+/// Appends lines with their histograms in a form, up to the first error, and returns the number of the line after them.
+fn convert_lines(
+    alloc: Global,
+    lines: &[u8],
+    first: u64,
     form: Form,
-    choice: IntervalChoice<'_>,
-) -> Result<(), StatError> {
-    let alloc = console.rt.alloc();
-    let input = console.open(files_of(names).get(file).copied().unwrap_or("-"))?;
-    let mut log = match LogReader::new(alloc, file, input, choice) {
-        Ok(log) => log,
-        Err(_) => return Err(StatError::OutOfMemory),
-    };
-    let converted = print_log(console, &mut log, form)?;
-    print_notes(console.rt, names, log.notes());
-    match converted {
-        Ok(()) => Ok(()),
-        Err(cause) => Err(FileError::log(alloc, names, cause).into()),
+    converted: &mut Vec<u8>,
+) -> Result<u64, InputError> {
+    let mut rest = lines;
+    let mut number = first;
+    while !rest.is_empty() {
+        let (line, after) = split_log_line(rest, number);
+        let len = converted.len();
+        if line.trim_ascii().is_empty() {
+            converted.extend_from_slice(line)?;
+        } else if let Err(cause) = convert_line(alloc, line, form, converted) {
+            converted.truncate(len);
+            return Err(InputError::of_line(alloc, number, line, cause));
+        }
+        rest = after;
+        number = number.saturating_add(1);
     }
+    Ok(number)
 }
 
 /// Prints logs with their histograms in the form of the arguments.
@@ -74,11 +74,20 @@ pub(crate) fn convert(rt: &HostRuntime, matches: &ArgMatches<'_>) -> Result<Exit
         Some("compressed") => Form::Compressed,
         _ => Form::Plain,
     };
-    let choice = choice_of(rt.alloc(), matches)?;
+    let mut conversion = Conversion {
+        rt,
+        form,
+        converted: Vec::new(rt.alloc()),
+        failed: None,
+    };
     let names = matches.get_strs("LOG").unwrap_or(&[]);
-    let console = console_of(rt, matches);
-    for file in 0..files_of(names).len() {
-        convert_log(console, names, file, form, choice)?;
+    let read = read_log_lines(console_of(rt, matches), names, &mut conversion);
+    let Conversion { failed, .. } = conversion;
+    match failed {
+        Some(error) => Err(error),
+        None => {
+            read?;
+            Ok(ExitCode::SUCCESS)
+        }
     }
-    Ok(ExitCode::SUCCESS)
 }

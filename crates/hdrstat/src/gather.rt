@@ -4,12 +4,10 @@ use crate::console_of;
 use crate::error::StatError;
 use crate::output::Output;
 use clap::ArgMatches;
-use hdr_files::console::{file_at, files_of};
-use hdr_files::input::print_notes;
+use hdr_files::console::file_at;
 use hdr_files::{Console, LateInput};
-use hdr_gather::{Counts, GatherError, LogReader, gather_sorted, gather_unsorted};
-use hdr_options::reading::choice_of;
-use hdrhistogram::serialization::interval_log::{IntervalChoice, IntervalLogWriterError};
+use hdr_gather::{GatherError, LogReader, gather_sorted, gather_unsorted};
+use hdrhistogram::serialization::interval_log::IntervalLogWriterError;
 use std::alloc::Global;
 use std::process::ExitCode;
 
@@ -33,14 +31,13 @@ fn reader<'a>(
     console: Console<'a>,
     index: usize,
     name: &'a str,
-    choice: IntervalChoice<'a>,
     is_open: bool,
-) -> Result<LogReader<'a, LateInput<'a>>, StatError> {
+) -> Result<LogReader<LateInput<'a>>, StatError> {
     let mut input = LateInput::new(console, name);
     if is_open {
         input.open()?;
     }
-    match LogReader::new(console.rt.alloc(), index, input, choice) {
+    match LogReader::new(console.rt.alloc(), index, input) {
         Ok(log) => Ok(log),
         Err(_) => Err(StatError::OutOfMemory),
     }
@@ -49,25 +46,17 @@ fn reader<'a>(
 /// Returns readers of logs, or of standard input if names are omitted.
 fn readers<'a>(
     console: Console<'a>,
-    names: &'a [&'a str],
-    choice: IntervalChoice<'a>,
+    names: &[&'a str],
     are_open: bool,
-) -> Result<Vec<LogReader<'a, LateInput<'a>>>, StatError> {
+) -> Result<Vec<LogReader<LateInput<'a>>>, StatError> {
     let mut logs = Vec::new(console.rt.alloc());
-    for (index, name) in files_of(names).iter().enumerate() {
-        logs.push(reader(console, index, *name, choice, are_open)?)?;
+    if names.is_empty() {
+        logs.push(reader(console, 0, "-", are_open)?)?;
+    }
+    for (index, name) in names.iter().enumerate() {
+        logs.push(reader(console, index, *name, are_open)?)?;
     }
     Ok(logs)
-}
-
-/// Prints on standard error how many intervals are finer than the sum that they are in, if any are.
-fn print_finer(rt: &HostRuntime, counts: Counts) {
-    let Counts { intervals, finer } = counts;
-    if finer > 0 {
-        let _ = eprintln!(rt;
-            "hdrstat: {finer} of {intervals} intervals finer than their sum, which has the digits of the coarsest"
-        );
-    }
 }
 
 /// Merges logs, and prints the result as one log. Logs in any order are opened one after another.
@@ -77,23 +66,16 @@ pub(crate) fn gather_logs(
 ) -> Result<ExitCode, StatError> {
     let alloc = rt.alloc();
     let names = matches.get_strs("LOG").unwrap_or(&[]);
-    let choice = choice_of(alloc, matches)?;
     let is_unsorted = matches.get_flag("unsorted");
-    let mut logs = readers(console_of(rt, matches), names, choice, !is_unsorted)?;
+    let mut logs = readers(console_of(rt, matches), names, !is_unsorted)?;
     let mut output = Output::new(rt);
     let gathered = if is_unsorted {
         gather_unsorted(alloc, &mut logs, &mut output)
     } else {
         gather_sorted(alloc, &mut logs, &mut output)
     };
-    for log in &logs {
-        print_notes(rt, names, log.notes());
-    }
     match gathered {
-        Ok(counts) => {
-            print_finer(rt, counts);
-            Ok(ExitCode::SUCCESS)
-        }
+        Ok(()) => Ok(ExitCode::SUCCESS),
         Err(cause) => Err(failed(alloc, names, cause)),
     }
 }

@@ -6,7 +6,7 @@ use crate::output::print;
 use clap::ArgMatches;
 use hdr_files::input::{read_intervals, read_numbers};
 use hdr_input::intervals::Intervals;
-use hdr_logs::decimals_comment;
+use hdr_input::log_lines::decimals_comment;
 use hdr_options::UsageError;
 use hdr_options::reading::{nanoseconds_of, recording_of, table_of, tag_of};
 use hdrhistogram::Histogram;
@@ -29,7 +29,7 @@ fn single_log(
     let mut builder = IntervalLogWriterBuilder::new(alloc);
     builder.add_comment(comment.as_str())?;
     let mut log = builder.begin_log_with(&mut output, &mut serializer)?;
-    log.push_v2(histogram, Duration::ZERO, Duration::ZERO, tag)?;
+    log.write_histogram(histogram, Duration::ZERO, Duration::ZERO, tag)?;
     drop(log);
     Ok(output)
 }
@@ -51,7 +51,7 @@ fn interval_log(
     for interval in &intervals.intervals {
         let start = Duration::from_nanos(interval.number.saturating_mul(length));
         let length = Duration::from_nanos(length);
-        log.push_v2(&interval.histogram, start, length, tag)?;
+        log.write_histogram(&interval.histogram, start, length, tag)?;
     }
     drop(log);
     Ok(output)

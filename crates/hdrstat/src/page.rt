@@ -3,14 +3,13 @@
 use crate::error::StatError;
 use crate::output::print;
 use clap::ArgMatches;
-use hdr_files::console::{file_at, files_of};
-use hdr_files::input::print_notes;
-use hdr_files::{Console, FileError};
+use hdr_files::FileError;
+use hdr_files::console::file_at;
+use hdr_files::input::read_plain_logs;
 use hdr_options::UsageError;
-use hdr_options::reading::{choice_of, unit_of};
-use hdr_page::{PageError, PageIntervals, PageLevel, PageOptions, page, page_text, rows};
+use hdr_options::reading::{tag_of, unit_of};
+use hdr_page::{PageError, PageLevel, PageOptions, page, page_text, rows};
 use hdr_summary::units::{Unit, parse_amount};
-use hdrhistogram::serialization::interval_log::IntervalChoice;
 use std::alloc::Global;
 use std::fs;
 use std::process::ExitCode;
@@ -60,57 +59,36 @@ fn level_of(
 /// Returns what the arguments say of a page.
 fn options_of<'a>(alloc: Global, matches: &ArgMatches<'a>) -> Result<PageOptions<'a>, StatError> {
     let unit = unit_of(matches);
+    let tag = match tag_of(alloc, matches)? {
+        Some(tag) => Some(tag.as_str()),
+        None => None,
+    };
     Ok(PageOptions {
         title: matches.get_str("title").unwrap_or("Interval log"),
         unit,
         level: level_of(alloc, matches, unit)?,
+        tag,
     })
 }
 
-/// Adds the chosen intervals of logs.
-fn add_logs(
-    console: Console<'_>,
-    names: &[&str],
-    choice: IntervalChoice<'_>,
-    intervals: &mut PageIntervals,
-) -> Result<(), StatError> {
-    let alloc = console.rt.alloc();
-    for (file, name) in files_of(names).iter().enumerate() {
-        let input = console.open(*name)?;
-        if let Err(cause) = intervals.read_log(alloc, file, input, choice) {
-            return Err(failed(alloc, names, cause));
-        }
-    }
-    Ok(())
-}
-
-/// Returns the chosen intervals of logs. The lines that are not read are printed on standard error.
-fn read_logs(
-    rt: &HostRuntime,
-    names: &[&str],
-    choice: IntervalChoice<'_>,
-) -> Result<PageIntervals, StatError> {
-    let is_quiet = true;
-    let mut intervals = PageIntervals::new(rt.alloc());
-    let added = add_logs(Console { rt, is_quiet }, names, choice, &mut intervals);
-    print_notes(rt, names, intervals.notes());
-    added?;
-    Ok(intervals)
-}
-
-/// Returns the text of intervals that the arguments ask for.
+/// Returns the text of logs that the arguments ask for.
 fn text_of(
     alloc: Global,
     matches: &ArgMatches<'_>,
-    intervals: &PageIntervals,
+    names: &[&str],
+    logs: &[Vec<u8>],
     options: PageOptions<'_>,
-) -> Result<String, PageError> {
-    if matches.get_flag("intervals") {
-        rows(alloc, intervals)
+) -> Result<String, StatError> {
+    let shown = if matches.get_flag("intervals") {
+        rows(alloc, logs, options.tag)
     } else if matches.get_flag("text") {
-        page_text(alloc, intervals, options)
+        page_text(alloc, logs, options)
     } else {
-        page(alloc, intervals, options)
+        page(alloc, logs, options)
+    };
+    match shown {
+        Ok(text) => Ok(text),
+        Err(cause) => Err(failed(alloc, names, cause)),
     }
 }
 
@@ -118,13 +96,9 @@ fn text_of(
 pub(crate) fn show(rt: &HostRuntime, matches: &ArgMatches<'_>) -> Result<ExitCode, StatError> {
     let alloc = rt.alloc();
     let options = options_of(alloc, matches)?;
-    let choice = choice_of(alloc, matches)?;
     let names = matches.get_strs("LOG").unwrap_or(&[]);
-    let intervals = read_logs(rt, names, choice)?;
-    let text = match text_of(alloc, matches, &intervals, options) {
-        Ok(text) => text,
-        Err(cause) => return Err(failed(alloc, names, cause)),
-    };
+    let logs = read_plain_logs(rt, names)?;
+    let text = text_of(alloc, matches, names, &logs, options)?;
     match matches.get_str("output") {
         Some(file) => {
             if let Err(cause) = fs::write(rt, file, text.as_str()) {

@@ -25,11 +25,10 @@ impl<T: Counter> Histogram<T> {
         self.value_at_rank(quantile.num(), rank, self.counts.position_of_rank(rank))
     }
 
-    /// As `value_at_quantile`. `ticks` grows by one for each block's sum and each counter that the
-    /// search compares: a tick is a step of the definition, and not a read of memory. There are at
-    /// most as many as there are blocks and counters in a block together. A
-    /// block holds half as many bins as the first bucket. Its sum is added up from those of its
-    /// sections, or at `sigfig` 0 and 1 from its counters, and costs one tick.
+    /// As `value_at_quantile`. `ticks` grows by one for each block's sum and each counter compared,
+    /// at most as many as there are blocks and counters in a block. A tick is a step, and not a
+    /// read: a block, half as many bins as the first bucket, has its sum added up from those of its
+    /// sections, or at `sigfig` 0 and 1 from its counters.
     pub fn value_at_quantile_counted(&self, quantile: Quantile, ticks: &mut Ticks) -> u64
         requires { ticks.old ≤ 2 ^ 63 }
         ensures value { result ≡ value_at_quantile self.now quantile }

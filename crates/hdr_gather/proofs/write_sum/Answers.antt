@@ -15,6 +15,6 @@ interval_at h tag a b d v w t e f i =
 
 pub returns-clause-written : goal.returns-clause-written
 returns-clause-written g c =
-    let l = c.in_ok-write_v2.ensures.leaves in
+    let l = c.in_ok-write_histogram.ensures.leaves in
     let line = interval_at _ (option_map tag_text c.args.first.now.tag) _ _ _ _ _ l.0 c.from_millis-start.ensures c.requires l.1 in
     (l.0, (c.in_ok-sum.sum, as_nanos c.longest.result, c.in_ok-sum.ensures, c.longest.ensures, line), l.2)

@@ -1,6 +1,5 @@
 //! The command line of `hdrstat convert`.
 
-use crate::command::reading::with_choice;
 use crate::command::{logs, option, quiet};
 use clap::{Command, Error};
 use std::alloc::Global;
@@ -26,5 +25,5 @@ pub(crate) fn convert<'a>(alloc: Global) -> Result<Command<'a>, Error> {
         .arg(to)?
         .arg(quiet(alloc))?
         .arg(logs(alloc))?;
-    with_choice(alloc, command)
+    Ok(command)
 }

@@ -1,6 +1,5 @@
 //! The command line of `hdrstat gather`.
 
-use crate::command::reading::with_choice;
 use crate::command::{logs, quiet};
 use clap::{Arg, ArgAction, Command, Error};
 use std::alloc::Global;
@@ -30,5 +29,5 @@ pub(crate) fn gather<'a>(alloc: Global) -> Result<Command<'a>, Error> {
         )?
         .arg(quiet(alloc))?
         .arg(logs(alloc))?;
-    with_choice(alloc, command)
+    Ok(command)
 }

@@ -1,6 +1,5 @@
 //! The command line of `hdrstat page`.
 
-use crate::command::reading::with_choice;
 use crate::command::{logs, option};
 use clap::{Arg, ArgAction, Command, Error};
 use hdr_summary::units::Unit;
@@ -38,8 +37,14 @@ fn with_content<'a>(alloc: Global, command: Command<'a>) -> Result<Command<'a>, 
     );
     let help = "Quantile, and the value that it should not exceed, such as 99/100=5ms";
     let level = option(alloc, "level", "LEVEL", help);
-    let command = command.arg(unit)?.arg(title)?.arg(level)?;
-    with_choice(alloc, command)
+    let tag = option(
+        alloc,
+        "tag",
+        "TAG",
+        "Show the intervals with this tag alone, or with none if it is empty",
+    );
+    let command = command.arg(unit)?.arg(title)?.arg(level)?.arg(tag)?;
+    Ok(command)
 }
 
 /// Returns the command line of `hdrstat page`.

@@ -35,39 +35,18 @@ pub(crate) fn with_tables<'a>(alloc: Global, command: Command<'a>) -> Result<Com
     Ok(command)
 }
 
-/// Returns the option that chooses a tag.
-fn tag<'a>(alloc: Global) -> Arg<'a> {
-    let help = "Only intervals of this tag, or of none if it is empty";
-    option(alloc, "tag", "TAG", help)
-}
-
-/// Returns the option of the first time.
-fn from_time<'a>(alloc: Global) -> Arg<'a> {
-    let help = "Only intervals that begin at this time or later, in seconds";
-    option(alloc, "from-time", "TIME", help)
-}
-
-/// Returns the option of the time after the last one.
-fn to_time<'a>(alloc: Global) -> Arg<'a> {
-    let help = "Only intervals that begin before this time, in seconds";
-    option(alloc, "to-time", "TIME", help)
-}
-
-/// Adds the options that choose intervals.
-pub(crate) fn with_choice<'a>(alloc: Global, command: Command<'a>) -> Result<Command<'a>, Error> {
-    let command = command
-        .arg(tag(alloc))?
-        .arg(from_time(alloc))?
-        .arg(to_time(alloc))?;
-    Ok(command)
-}
-
 /// Adds the options of logs.
 fn with_logs<'a>(alloc: Global, command: Command<'a>) -> Result<Command<'a>, Error> {
     let from = option(alloc, "from", "KIND", "Read numbers, or interval logs")
         .value_parser(["numbers", "log"].as_slice())
         .default_value("numbers")
         .help_heading(LOGS);
+    let help = "Only intervals of this tag, or of none if it is empty";
+    let tag = option(alloc, "tag", "TAG", help).help_heading(LOGS);
+    let help = "Only intervals that begin at this time or later, in seconds";
+    let from_time = option(alloc, "from-time", "TIME", help).help_heading(LOGS);
+    let help = "Only intervals that begin before this time, in seconds";
+    let to_time = option(alloc, "to-time", "TIME", help).help_heading(LOGS);
     let by_tag = Arg::new(alloc, "by-tag")
         .long("by-tag")
         .action(ArgAction::SetTrue)
@@ -75,9 +54,9 @@ fn with_logs<'a>(alloc: Global, command: Command<'a>) -> Result<Command<'a>, Err
         .help_heading(LOGS);
     let command = command
         .arg(from)?
-        .arg(tag(alloc).help_heading(LOGS))?
-        .arg(from_time(alloc).help_heading(LOGS))?
-        .arg(to_time(alloc).help_heading(LOGS))?
+        .arg(tag)?
+        .arg(from_time)?
+        .arg(to_time)?
         .arg(by_tag)?;
     Ok(command)
 }

@@ -1,3 +1,0 @@
-pub mod LinesRead
-pub mod Indices
-pub mod Texts
