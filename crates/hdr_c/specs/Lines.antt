@@ -4,7 +4,7 @@ use Rattle.hdr_log.specs.Grammar.{is_tag}
 use Rattle.hdr_model.specs.Plain.{Plain}
 use Rattle.hdrhistogram.specs.LogLeaving.{IsIntervalText, IsV2LineError}
 use Rattle.hdrhistogram.specs.V2.{IsV2}
-use Rattle.hdrhistogram.specs.declared.serialization.errors.V2SerializeError.{V2SerializeError}
+use Rattle.hdrhistogram.specs.declared.serialization.errors.CountNotSerializable.{CountNotSerializable}
 use Rattle.hdrhistogram.specs.declared.serialization.interval_log.errors.IntervalLogWriterError.{IntervalLogWriterError}
 use Rattle.hdr_c.specs.Bytes.{Puts}
 use Rattle.hdr_c.specs.Status.{IsLineStatus}
@@ -29,4 +29,4 @@ PutsLine status h (Some start) (Some duration) None before after needed = PutsNo
 PutsLine status None (Some start) (Some duration) (Some tag) before after needed = PutsNone 1 status before after needed
 PutsLine status (Some h) (Some start) (Some duration) (Some tag) before after needed =
     Puts (IsIntervalText IsV2 h tag start duration 1) status before after needed
-    ⊎ ((e : IntervalLogWriterError V2SerializeError) × IsV2LineError h start duration e × IsLineStatus e status × (needed ≡ 0) × (after ≡ before))
+    ⊎ ((e : IntervalLogWriterError CountNotSerializable) × IsV2LineError h start duration e × IsLineStatus e status × (needed ≡ 0) × (after ≡ before))

@@ -8,6 +8,7 @@ use Rattle.hdr_model.specs.declared.errors.AdditionError.{AdditionError}
 use Rattle.hdr_model.specs.declared.errors.AdditionError.TheVariants as addition
 use Rattle.hdr_model.specs.declared.errors.SubtractionError.{SubtractionError}
 use Rattle.hdr_model.specs.declared.errors.SubtractionError.TheVariants as subtraction
+use Rattle.hdrhistogram.specs.declared.serialization.errors.CountNotSerializable.{CountNotSerializable}
 use Rattle.hdrhistogram.specs.declared.serialization.errors.V2SerializeError.{V2SerializeError}
 use Rattle.hdrhistogram.specs.declared.serialization.errors.V2SerializeError.TheVariants as encoding
 use Rattle.hdrhistogram.specs.declared.serialization.errors.DeserializeError.{DeserializeError}
@@ -65,8 +66,8 @@ field_status field.NotBase64 = 25
 field_status (field.Decode e) = decode_status e
 
 -- the status of an error of a line in memory
-abbrev pub IsLineStatus : IntervalLogWriterError V2SerializeError → ℕ → Type 0
+abbrev pub IsLineStatus : IntervalLogWriterError CountNotSerializable → ℕ → Type 0
 IsLineStatus line.OutOfMemory status = status ≡ 2
 IsLineStatus (line.IoError cause) status = ⊥
 IsLineStatus line.TimeOutOfRange status = status ≡ 21
-IsLineStatus (line.SerializeError e) status = IsEncodeStatus e status
+IsLineStatus (line.SerializeError e) status = status ≡ 10

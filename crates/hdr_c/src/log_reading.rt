@@ -24,7 +24,7 @@ fn first_interval(log: &[u8], from: usize, base: Option<Time>) -> Found<'_>
     ensures base_nanos { AreNanosInRange base → AreBaseNanosInRange result }
 {
     let mut at = from;
-    let mut last = LastBaseTime::new(None);
+    let mut last = LastBaseTime::new();
     let mut text = &log[from..];
     while let Some((line, rest)) = split_line(text) {
         let next = at + line.len() + 1;

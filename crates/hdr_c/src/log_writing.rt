@@ -15,7 +15,7 @@ use crate::v2_bytes::copy_to;
 use hdr_log::parts::text;
 use hdrhistogram::Histogram;
 use hdrhistogram::serialization::interval_log::{IntervalLogWriter, IntervalLogWriterError, Tag};
-use hdrhistogram::serialization::{V2SerializeError, V2Serializer};
+use hdrhistogram::serialization::{CountNotSerializable, V2Serializer};
 use std::alloc::Global;
 use std::time::Duration;
 
@@ -46,7 +46,7 @@ fn line(
     start: Duration,
     duration: Duration,
     tag: Option<Tag<'_>>,
-) -> Result<Vec<u8>, IntervalLogWriterError<V2SerializeError>>
+) -> Result<Vec<u8>, IntervalLogWriterError<CountNotSerializable>>
     ensures line { IfOk result (λ line. IsIntervalText IsV2 histogram.now (option_map tag_text tag.entry)
         (as_nanos start) (as_nanos duration) 1 (vec_items line)) }
     ensures err { IfErr result (IsV2LineError histogram.now (as_nanos start) (as_nanos duration)) }

@@ -3,11 +3,13 @@
 ghost use Rattle.std.specs.Prelude.{◌≡◌, ℕ, MatchResult};
 ghost use Rattle.hdr_model.specs.Plain.{Plain};
 ghost use Rattle.hdrhistogram.specs.LogLeaving.{IsV2LineError};
-ghost use Rattle.hdrhistogram.specs.SerializeErrors.{IsCountError, IsToBytesError};
+ghost use Rattle.hdrhistogram.specs.SerializeErrors.{IsToBytesError};
 ghost use Rattle.hdr_c.specs.Status.{IsEncodeStatus, IsLineStatus, addition_status, creation_status, decode_status, field_status, record_status, subtraction_status};
 
 use hdrhistogram::serialization::interval_log::IntervalLogWriterError;
-use hdrhistogram::serialization::{DeserializeError, FieldDecodeError, V2SerializeError};
+use hdrhistogram::serialization::{
+    CountNotSerializable, DeserializeError, FieldDecodeError, V2SerializeError,
+};
 use hdrhistogram::{AdditionError, CreationError, RecordError, SubtractionError};
 
 pub(crate) const OK: u32 = 0;
@@ -153,28 +155,15 @@ pub(crate) fn of_field_error(error: &FieldDecodeError) -> u32
 }
 
 /// The status of an error of `push_v2`.
-pub(crate) fn of_line_error(error: &IntervalLogWriterError<V2SerializeError>) -> u32
+pub(crate) fn of_line_error(error: &IntervalLogWriterError<CountNotSerializable>) -> u32
     requires { (h : Plain) × (start : ℕ) × (duration : ℕ)
         × IsV2LineError h start duration error.now }
     ensures { IsLineStatus error.now result }
 {
     match error {
-        IntervalLogWriterError::SerializeError(cause) => of_count_error(cause),
+        IntervalLogWriterError::SerializeError(_) => COUNT_NOT_SERIALIZABLE,
         IntervalLogWriterError::IoError(_) => unreachable!(),
         IntervalLogWriterError::TimeOutOfRange => TIME_OUT_OF_RANGE,
         IntervalLogWriterError::OutOfMemory => OUT_OF_MEMORY,
-    }
-}
-
-/// The status of the only error of a serializer that `push_v2` returns.
-fn of_count_error(error: &V2SerializeError) -> u32
-    requires { (h : Plain) × IsCountError h error.now }
-    ensures { IsEncodeStatus error.now result }
-{
-    match error {
-        V2SerializeError::CountNotSerializable => COUNT_NOT_SERIALIZABLE,
-        V2SerializeError::UsizeTypeTooSmall => unreachable!(),
-        V2SerializeError::IoError(_) => unreachable!(),
-        V2SerializeError::OutOfMemory => unreachable!(),
     }
 }

@@ -1,13 +1,11 @@
 //! Through the line of a log.
 
-ghost use Rattle.std.specs.Prelude.{◌<◌, ℕ, IfOk, OnOk, IfErr, MatchOption, vec_items};
+ghost use Rattle.std.specs.Prelude.{◌<◌, IfOk, OnOk, IfErr, MatchOption, vec_items};
 ghost use Rattle.std.specs.Option.{option_map};
 ghost use Rattle.std.specs.Duration.{as_nanos};
 ghost use Rattle.hdr_log.specs.Tags.{tag_text};
 ghost use Rattle.hdr_log.specs.Texts.{IsTimeInRange};
 ghost use Rattle.hdrhistogram.specs.LogLeaving.{IsIntervalText};
-ghost use Rattle.hdr_model.specs.Plain.{Plain};
-ghost use Rattle.hdrhistogram.specs.SerializeErrors.{IsCountError};
 ghost use Rattle.hdrhistogram.specs.V2.{IsV2};
 ghost use Rattle.hdrhistogram.specs.V2Read.{IsReadBack};
 ghost use Rattle.hdr_headline.specs.Alike.{StandsAlike, IsFirstField, BeginsWithNone};
@@ -19,7 +17,7 @@ use hdrhistogram::laws::{bytes_read_back, read_back_stands};
 use hdrhistogram::serialization::interval_log::{
     IntervalLogIterator, IntervalLogWriter, IntervalLogWriterError, LogEntry, Tag,
 };
-use hdrhistogram::serialization::{Deserializer, FieldDecodeError, V2SerializeError, V2Serializer};
+use hdrhistogram::serialization::{Deserializer, FieldDecodeError, V2Serializer};
 use hdrhistogram::{Counter, Histogram};
 use std::alloc::Global;
 use std::time::Duration;
@@ -52,27 +50,15 @@ fn line<T: Counter>(
     let mut log = IntervalLogWriter::new(alloc, &mut line, serializer, interval.divisor);
     match log.push_v2(histogram, interval.start, interval.duration, interval.tag) {
         Ok(()) => {}
-        Err(IntervalLogWriterError::SerializeError(error)) => return Err(count_error(error)),
+        Err(IntervalLogWriterError::SerializeError(_)) => {
+            return Err(HeadlineError::CountNotSerializable);
+        }
         Err(IntervalLogWriterError::IoError(_)) => unreachable!(),
         Err(IntervalLogWriterError::TimeOutOfRange) => return Err(HeadlineError::TimeOutOfRange),
         Err(IntervalLogWriterError::OutOfMemory) => return Err(HeadlineError::OutOfMemory),
     }
     drop(log);
     Ok(line)
-}
-
-/// Converts the only error of a serializer that `push_v2` returns.
-fn count_error(error: V2SerializeError) -> HeadlineError
-    requires { (h : Plain) × IsCountError h error }
-    ensures { (h : Plain) → (start duration : ℕ) → IsCountError h error
-        → IsLineError h start duration result }
-{
-    match error {
-        V2SerializeError::CountNotSerializable => HeadlineError::CountNotSerializable,
-        V2SerializeError::UsizeTypeTooSmall => unreachable!(),
-        V2SerializeError::IoError(_) => unreachable!(),
-        V2SerializeError::OutOfMemory => unreachable!(),
-    }
 }
 
 /// Returns the field of a log's first interval, if nothing comes before it.

@@ -1,11 +1,11 @@
 //! The intervals of a log, with the times at which they begin.
 
-ghost use Rattle.std.specs.Prelude.{◌≡◌, ◌≤◌, ◌+◌, ℕ, length};
+ghost use Rattle.std.specs.Prelude.{◌≡◌, ◌≤◌, ◌+◌, None, length};
 ghost use Rattle.std.specs.Option.{option_map};
 ghost use Rattle.std.specs.Duration.{as_nanos};
 ghost use Rattle.std.specs.Iterator.{YieldsFirstBy, item_count};
 ghost use Rattle.hdr_log.specs.Reading.{view_of_entry, view_of_timed, view_of_timed_item};
-ghost use Rattle.hdr_log.specs.Timed.{base_after, interval_after, time_after, timed_intervals};
+ghost use Rattle.hdr_log.specs.Timed.{base_after, interval_after, timed_intervals};
 
 use crate::entry::{IntervalLogHistogram, LogEntry, LogIteratorError};
 use crate::iterator::IntervalLogIterator;
@@ -39,11 +39,11 @@ impl Model for LastBaseTime {
 }
 
 impl LastBaseTime {
-    /// Returns this base time, or none.
-    pub fn new(base: Option<Duration>) -> LastBaseTime
-        ensures { result ≡ option_map as_nanos base }
+    /// Returns that there is no base time yet.
+    pub fn new() -> LastBaseTime
+        ensures { result ≡ None }
     {
-        LastBaseTime { base }
+        LastBaseTime { base: None }
     }
 
     /// The base time, if there is one.
@@ -51,13 +51,6 @@ impl LastBaseTime {
         ensures { option_map as_nanos result ≡ self.now }
     {
         self.base
-    }
-
-    /// When the intervals after it count from: the base time, or the epoch if there is none.
-    pub fn or_epoch(&self) -> Duration
-        ensures { (start : ℕ) → time_after self.now start ≡ as_nanos result + start }
-    {
-        self.base.unwrap_or(Duration::ZERO)
     }
 
     /// Takes the next entry of the log: returns its interval with the time at which it begins, or takes over its base time.
@@ -72,7 +65,8 @@ impl LastBaseTime {
                 None
             }
             LogEntry::Interval(interval) => {
-                let time = self.or_epoch().as_nanos() + interval.start_timestamp().as_nanos();
+                let base = self.base.unwrap_or(Duration::ZERO);
+                let time = base.as_nanos() + interval.start_timestamp().as_nanos();
                 Some(TimedInterval { time, interval })
             }
         }
@@ -103,7 +97,7 @@ impl<'a> TimedIntervals<'a> {
         ensures at_most { length result ≤ length log.now + 1 }
     {
         TimedIntervals {
-            base: LastBaseTime::new(None),
+            base: LastBaseTime::new(),
             entries: IntervalLogIterator::new(log),
         }
     }

@@ -1,9 +1,7 @@
 -- What laws of several crates say together.
 use Rattle.std.specs.Prelude.{◌≡◌, ◌-◌, ◌^◌, ◌<◌, ◌≤◌, ℕ, List, [], Some, None, length, Result, IfOk}
-use Rattle.std.specs.List.{enumerate_from}
 use Rattle.hdr_base.specs.Classes.{most_bins, resolution_of}
 use Rattle.hdr_base.specs.Fractions.{Ratio}
-use Rattle.hdr_log.specs.Parts.{parts}
 use Rattle.hdr_log.specs.Texts.{base64_bytes}
 use Rattle.hdr_model.specs.Plain.{Plain, IsPlain, max_of}
 use Rattle.hdr_model.specs.Runs.{State}
@@ -12,14 +10,14 @@ use Rattle.hdrhistogram.specs.V2Read.{ReadsV2}
 use Rattle.hdrhistogram.specs.declared.serialization.errors.DeserializeError.{DeserializeError}
 use Rattle.hdr_tool.specs.Arguments.{Report, task_of}
 use Rattle.hdr_tool.specs.Program.{Outcome}
-use Rattle.hdr_tool.specs.Reports.{LinesTo, ReportsSamples}
+use Rattle.hdr_tool.specs.Reports.{InputRecords, ReportsSamples}
 
 -- if the lines of a report record samples that fit, it prints the report of these samples
 abbrev pub SamplesAreReported : Type 0
 SamplesAreReported =
     (report : List (List ℕ)) (sigfig : ℕ) (quantiles : List Ratio) (input : List ℕ) (t : State)
     → task_of report ≡ Some (Report sigfig quantiles)
-    → LinesTo (resolution_of 1 sigfig) (record { samples = []; high = 2 }) (enumerate_from 1 (parts 10 input)) t
+    → InputRecords sigfig input t
     → Fits (2 ^ 64 - 1) (resolution_of 1 sigfig) t.samples
     → (text : List ℕ) × Outcome report input text None × ReportsSamples sigfig t.samples quantiles text
 
@@ -29,7 +27,7 @@ LinesAreReported =
     (report : List (List ℕ)) (sigfig : ℕ) (quantiles : List Ratio) (input text : List ℕ)
     → task_of report ≡ Some (Report sigfig quantiles)
     → Outcome report input text None
-    → (t : State) × LinesTo (resolution_of 1 sigfig) (record { samples = []; high = 2 }) (enumerate_from 1 (parts 10 input)) t
+    → (t : State) × InputRecords sigfig input t
     × (Fits (2 ^ 64 - 1) (resolution_of 1 sigfig) t.samples → ReportsSamples sigfig t.samples quantiles text)
 
 -- a field in Base64 decodes to a histogram whose bins and greatest value are bounded, or has a defect

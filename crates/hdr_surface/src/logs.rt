@@ -10,7 +10,9 @@ use hdrhistogram::serialization::interval_log::{
     IntervalLogWriterBuilder, IntervalLogWriterError, LogEntry, LogIteratorError, MergeError,
     Merged, Tag, TimedInterval, TimedIntervals, merge_log,
 };
-use hdrhistogram::serialization::{DeserializeError, Serializer, V2SerializeError, V2Serializer};
+use hdrhistogram::serialization::{
+    CountNotSerializable, DeserializeError, Serializer, V2SerializeError, V2Serializer,
+};
 use hdrhistogram::{Counter, CreationError, Histogram};
 use std::alloc::Global;
 use std::io::{self, Write};
@@ -93,7 +95,7 @@ pub fn write_v2<T: Counter, W: Write>(
     start: Duration,
     duration: Duration,
     tag: Option<Tag<'_>>,
-) -> Result<(), IntervalLogWriterError<V2SerializeError>> {
+) -> Result<(), IntervalLogWriterError<CountNotSerializable>> {
     log.write_v2(histogram, start, duration, tag)
 }
 
@@ -104,7 +106,7 @@ pub fn push_v2<T: Counter>(
     start: Duration,
     duration: Duration,
     tag: Option<Tag<'_>>,
-) -> Result<(), IntervalLogWriterError<V2SerializeError>>
+) -> Result<(), IntervalLogWriterError<CountNotSerializable>>
     ensures unchanged { OnErr result ((sink log.new).now.items ≡ (sink log.old).now.items) }
     ensures err { IfErr result (IsV2LineError histogram.now (as_nanos start) (as_nanos duration)) }
 {

@@ -20,6 +20,10 @@ LinesTo g s [] t = t ≡ s
 LinesTo g s ((k, []) ∷ lines) t = LinesTo g s lines t
 LinesTo g s ((k, b ∷ line) ∷ lines) t = AfterCallLine g s (command_of (b ∷ line)) (λ r. LinesTo g r lines t)
 
+-- the lines of an input record these samples, from none on
+abbrev pub InputRecords : ℕ → List ℕ → State → Type 0
+InputRecords sigfig input t = LinesTo (resolution_of 1 sigfig) (record { samples = []; high = 2 }) (enumerate_from 1 (parts 10 input)) t
+
 -- a text is a line for each quantile, in order; if there is a sample, the value at one above 0 is the top of the class of the
 -- ranked sample, and near that sample
 abbrev pub LinesRanked : Plain → List ℕ → List Ratio → List ℕ → Type 0
@@ -46,7 +50,7 @@ abbrev pub ReportStands : Type 0
 ReportStands =
     (report : List (List ℕ)) (sigfig : ℕ) (quantiles : List Ratio) (input text : List ℕ) (fault : Option Fault) (t : State)
     → task_of report ≡ Some (Report sigfig quantiles)
-    → LinesTo (resolution_of 1 sigfig) (record { samples = []; high = 2 }) (enumerate_from 1 (parts 10 input)) t
+    → InputRecords sigfig input t
     → Fits (2 ^ 64 - 1) (resolution_of 1 sigfig) t.samples
     → Outcome report input text fault
     → (fault ≡ None) × ReportsSamples sigfig t.samples quantiles text
@@ -57,4 +61,4 @@ ReportRecords =
     (report : List (List ℕ)) (sigfig : ℕ) (quantiles : List Ratio) (input text : List ℕ)
     → task_of report ≡ Some (Report sigfig quantiles)
     → Outcome report input text None
-    → (t : State) × LinesTo (resolution_of 1 sigfig) (record { samples = []; high = 2 }) (enumerate_from 1 (parts 10 input)) t
+    → (t : State) × InputRecords sigfig input t

@@ -53,16 +53,10 @@ fn end<W: Write>(
             Ok(())
         }
         Err(IntervalLogWriterError::IoError(_)) => Err(Fault::CannotWrite),
-        Err(IntervalLogWriterError::SerializeError(V2SerializeError::CountNotSerializable)) => {
+        Err(IntervalLogWriterError::SerializeError(_)) => {
             let cause = V2SerializeError::CountNotSerializable;
             Err(Fault::NotWritten(line, IntervalLogWriterError::SerializeError(cause)))
         }
-        Err(IntervalLogWriterError::SerializeError(V2SerializeError::UsizeTypeTooSmall)) => {
-            unreachable!()
-        }
-        Err(IntervalLogWriterError::SerializeError(V2SerializeError::IoError(_))) => unreachable!(),
-        Err(IntervalLogWriterError::SerializeError(V2SerializeError::OutOfMemory)) =>
-            unreachable!(),
         // The seconds of a `u64` of milliseconds fit a `u64`.
         Err(IntervalLogWriterError::TimeOutOfRange) => unreachable!(),
         Err(IntervalLogWriterError::OutOfMemory) => Err(Fault::NoMemory),

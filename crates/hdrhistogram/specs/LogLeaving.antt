@@ -4,9 +4,9 @@ use Rattle.std.specs.Io.KnownBytes.{Appends, Keeps}
 use Rattle.hdr_model.specs.Plain.{Plain, max_of}
 use Rattle.hdr_log.specs.Texts.{AreBytes, IsTimeInRange, to_thousandths, max_thousandths, base64_of}
 use Rattle.hdr_log.specs.Pieces.{Piece, Measured, IsPiece, piece_text}
-use Rattle.hdrhistogram.specs.SerializeErrors.{IsCountError}
 use Rattle.hdrhistogram.specs.Streams.{AppendsFront}
-use Rattle.hdrhistogram.specs.declared.serialization.errors.V2SerializeError.{V2SerializeError}
+use Rattle.hdrhistogram.specs.V2.{HasTooGreatCount}
+use Rattle.hdrhistogram.specs.declared.serialization.errors.CountNotSerializable.{CountNotSerializable}
 use Rattle.hdrhistogram.specs.declared.serialization.interval_log.errors.IntervalLogWriterError.{IntervalLogWriterError}
 use Rattle.hdrhistogram.specs.declared.serialization.interval_log.errors.IntervalLogWriterError.TheVariants.{SerializeError, IoError, TimeOutOfRange, OutOfMemory}
 
@@ -50,8 +50,8 @@ IsSerializerError Q OutOfMemory = Unit {0}
 
 -- why a histogram has no line of V2 bytes: a count is too great, a time is out of range, or memory ran out. Times are in
 -- nanoseconds
-abbrev pub IsV2LineError : Plain → ℕ → ℕ → IntervalLogWriterError V2SerializeError → Type 0
-IsV2LineError h start duration (SerializeError e) = IsCountError h e
+abbrev pub IsV2LineError : Plain → ℕ → ℕ → IntervalLogWriterError CountNotSerializable → Type 0
+IsV2LineError h start duration (SerializeError e) = HasTooGreatCount h
 IsV2LineError h start duration (IoError e) = ⊥
 IsV2LineError h start duration TimeOutOfRange = IsTimeInRange start × IsTimeInRange duration → ⊥
 IsV2LineError h start duration OutOfMemory = Unit {0}

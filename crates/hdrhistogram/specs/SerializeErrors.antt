@@ -21,13 +21,6 @@ IsSerializeError h UsizeTypeTooSmall = ⊥
 IsSerializeError h (IoError e) = Unit {0}
 IsSerializeError h OutOfMemory = Unit {0}
 
--- a count is too great
-abbrev pub IsCountError : Plain → V2SerializeError → Type 0
-IsCountError h CountNotSerializable = HasTooGreatCount h
-IsCountError h UsizeTypeTooSmall = ⊥
-IsCountError h (IoError e) = ⊥
-IsCountError h OutOfMemory = ⊥
-
 -- on error at most a part of the bytes is written: a proper prefix after an i/o error, and nothing
 -- after any other
 abbrev pub SerializeFails : Plain → Option (List ℕ) → Option (List ℕ) → V2SerializeError → Type 0

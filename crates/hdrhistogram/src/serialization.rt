@@ -14,6 +14,6 @@ mod varint;
 mod zig_zag;
 
 pub use deserializer::Deserializer;
-pub use errors::{DeserializeError, FieldDecodeError, V2SerializeError};
+pub use errors::{CountNotSerializable, DeserializeError, FieldDecodeError, V2SerializeError};
 pub use serializer::Serializer;
 pub use v2_serializer::V2Serializer;

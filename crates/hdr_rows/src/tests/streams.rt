@@ -144,8 +144,8 @@ const LINE: &[u8; 85] =
     b"Tag=a,0.000,1.000,2.000,HISTEwAAAAMAAAAAAAAAAwAAAAAAAAABAAAAAAAAAAI/8AAAAAAAAAACCA==\n";
 
 /// Whether a part of a log is written by `calls` calls, or the error of one of them is returned.
-fn is_expected_result(
-    outcome: Result<(), IntervalLogWriterError<V2SerializeError>>,
+fn is_expected_result<E: Drop>(
+    outcome: Result<(), IntervalLogWriterError<E>>,
     sink: &Sink,
     calls: usize,
 ) -> bool {

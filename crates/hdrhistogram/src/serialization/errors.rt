@@ -24,6 +24,12 @@ pub enum V2SerializeError {
     OutOfMemory,
 }
 
+/// A count is above `i64::MAX`, the greatest that zig-zag encodes: the error of a serializer whose
+/// bytes are not written to a stream.
+#[derive(Debug, Clone, Copy, PartialEq, Eq, Drop, Error)]
+#[error("A count above i64::MAX cannot be zig-zag encoded")]
+pub struct CountNotSerializable;
+
 impl From<io::Error> for V2SerializeError {
     ghost use Rattle.std.specs.Prelude.{◌≡◌};
     ghost use Rattle.hdrhistogram.specs.declared.serialization.errors.V2SerializeError.TheVariants.{IoError};

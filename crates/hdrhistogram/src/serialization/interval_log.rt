@@ -3,8 +3,7 @@
 //!
 //! `IntervalLogWriterBuilder` starts a log, `IntervalLogWriter` writes it, and
 //! `IntervalLogIterator` reads it in place. `TimedIntervals` has its intervals alone, with the times
-//! at which they begin. `merge_log` adds the histograms of a log's chosen
-//! intervals.
+//! at which they begin. `merge_log` adds the histograms of a log's chosen intervals.
 
 mod buffer;
 mod builder;

@@ -222,9 +222,16 @@ const LOG: &[u8; 231] =
 /// Whether a part of a log was written; otherwise an allocation failed. `None` for any other error.
 fn succeeds(outcome: Result<(), IntervalLogWriterError<V2SerializeError>>) -> Option<bool> {
     match outcome {
+        Err(IntervalLogWriterError::SerializeError(V2SerializeError::OutOfMemory)) => Some(false),
+        outcome => succeeds_v2(outcome),
+    }
+}
+
+/// The same, if only the log's own error is one of memory.
+fn succeeds_v2<E: Drop>(outcome: Result<(), IntervalLogWriterError<E>>) -> Option<bool> {
+    match outcome {
         Ok(()) => Some(true),
         Err(IntervalLogWriterError::OutOfMemory) => Some(false),
-        Err(IntervalLogWriterError::SerializeError(V2SerializeError::OutOfMemory)) => Some(false),
         Err(_) => None,
     }
 }
@@ -243,10 +250,10 @@ fn parts_written(
     if !succeeds(writer.write_histogram(h, Duration::ZERO, Duration::ZERO, None))? {
         return Some(1);
     }
-    if !succeeds(writer.write_v2(h, Duration::ZERO, Duration::ZERO, None))? {
+    if !succeeds_v2(writer.write_v2(h, Duration::ZERO, Duration::ZERO, None))? {
         return Some(2);
     }
-    if !succeeds(writer.push_v2(h, Duration::ZERO, Duration::ZERO, None))? {
+    if !succeeds_v2(writer.push_v2(h, Duration::ZERO, Duration::ZERO, None))? {
         return Some(3);
     }
     Some(4)

@@ -19,9 +19,9 @@ returns-in-Err-IoError-clause-goes g c =
     end_failed c.args.line c.args.histogram.now c.args.start c.args.duration (option_map tag_text c.args.tag) (g.W.Write.contents (sink c.args.log.now).now) (g.W.Write.contents (sink c.write_v2.new.self).now) CannotWrite c.show_plain.ensures
     (l.0, interval_same IsV2 c.args.histogram.now (option_map tag_text c.args.tag) _ _ _ _ _ _ l.0 c.from_millis-start.ensures c.from_millis-duration.ensures c.requires l.1, l.2)
 
-pub returns-in-Err-SerializeError-CountNotSerializable-clause-goes : goal.returns-in-Err-SerializeError-CountNotSerializable-clause-goes
-returns-in-Err-SerializeError-CountNotSerializable-clause-goes g c =
-    let l = rw (c.in-Err-SerializeError-CountNotSerializable.field-0-is, c.in-Err-SerializeError-CountNotSerializable.field-0-0-is) at c.in-Err-SerializeError-CountNotSerializable.ensures.leaves in
+pub returns-in-Err-SerializeError-clause-goes : goal.returns-in-Err-SerializeError-clause-goes
+returns-in-Err-SerializeError-clause-goes g c =
+    let l = rw c.in-Err-SerializeError.field-0-is at c.in-Err-SerializeError.ensures.leaves in
     end_refused c.args.line c.args.histogram.now c.args.start c.args.duration (option_map tag_text c.args.tag) (g.W.Write.contents (sink c.args.log.now).now) (g.W.Write.contents (sink c.write_v2.new.self).now) l.0 l.1
 
 pub returns-in-Err-OutOfMemory-clause-goes : goal.returns-in-Err-OutOfMemory-clause-goes

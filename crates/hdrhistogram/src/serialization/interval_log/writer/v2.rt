@@ -5,9 +5,9 @@ ghost use Rattle.std.specs.Duration.{as_nanos};
 ghost use Rattle.hdr_log.specs.Texts.{IsTimeInRange};
 ghost use Rattle.hdrhistogram.specs.LogLeaving.{WritesText, IsV2LineError, is_time_error};
 ghost use Rattle.hdrhistogram.specs.LogWriters.{sink, serializer_of, divisor_of, IsSameLog, IsLineFor};
-ghost use Rattle.hdrhistogram.specs.SerializeErrors.{IsCountError};
-ghost use Rattle.hdrhistogram.specs.V2.{IsV2};
+ghost use Rattle.hdrhistogram.specs.V2.{IsV2, HasTooGreatCount};
 
+use crate::serialization::errors::CountNotSerializable;
 use crate::serialization::interval_log::errors::IntervalLogWriterError;
 use crate::serialization::interval_log::writer::{IntervalLogWriter, write_text};
 use crate::serialization::v2_serializer::{V2SerializeError, V2Serializer};
@@ -23,19 +23,19 @@ impl<'a, 'b, W: Write> IntervalLogWriter<'a, 'b, W, V2Serializer> {
     /// are fewer.
     ///
     /// # Errors
-    /// Returns `SerializeError` only with `CountNotSerializable`, if a count is above `i64::MAX`.
-    /// Returns `OutOfMemory` also if the serializer's buffer can't grow. The others are those of
-    /// `write_histogram`, and leave what it leaves.
+    /// Returns `SerializeError` if a count is above `i64::MAX`. Returns `OutOfMemory` also if the
+    /// serializer's buffer can't grow. The others are those of `write_histogram`, and leave what it
+    /// leaves.
     pub fn write_v2<T: Counter>(
         &mut self,
         h: &Histogram<T>,
         start_timestamp: Duration,
         duration: Duration,
         tag: Option<Tag<'_>>,
-    ) -> Result<(), IntervalLogWriterError<V2SerializeError>>
+    ) -> Result<(), IntervalLogWriterError<CountNotSerializable>>
         ensures same_log { IsSameLog self.old self.new }
         ensures leaves { WritesText (IsLineFor self.old IsV2 h.now tag.entry start_timestamp duration)
-            (IsCountError h.now) (W.contents (sink self.old).now)
+            (λ _. HasTooGreatCount h.now) (W.contents (sink self.old).now)
             (W.contents (sink self.new).now) result }
         ensures early { is_time_error result ≡ true → (serializer_of self.new).now ≡ (serializer_of self.old).now }
         ensures time { (is_time_error result ≡ false)
@@ -58,10 +58,10 @@ impl<'a, 'b> IntervalLogWriter<'a, 'b, Vec<u8>, V2Serializer> {
         start_timestamp: Duration,
         duration: Duration,
         tag: Option<Tag<'_>>,
-    ) -> Result<(), IntervalLogWriterError<V2SerializeError>>
+    ) -> Result<(), IntervalLogWriterError<CountNotSerializable>>
         ensures same_log { IsSameLog self.old self.new }
         ensures leaves { WritesText (IsLineFor self.old IsV2 h.now tag.entry start_timestamp duration)
-            (IsCountError h.now) (Some (sink self.old).now.items)
+            (λ _. HasTooGreatCount h.now) (Some (sink self.old).now.items)
             (Some (sink self.new).now.items) result }
         ensures err { IfErr result (IsV2LineError h.now (as_nanos start_timestamp) (as_nanos duration)) }
         ensures unchanged { OnErr result ((sink self.new).now.items ≡ (sink self.old).now.items) }
@@ -83,7 +83,7 @@ impl<'a, 'b, W> IntervalLogWriter<'a, 'b, W, V2Serializer> {
         start_timestamp: Duration,
         duration: Duration,
         tag: Option<Tag<'_>>,
-    ) -> Result<Vec<u8>, IntervalLogWriterError<V2SerializeError>>
+    ) -> Result<Vec<u8>, IntervalLogWriterError<CountNotSerializable>>
         ensures same_log { IsSameLog self.old self.new }
         ensures unwritten { (sink self.new).now ≡ (sink self.old).now }
         ensures line { IfOk result (λ line. IsLineFor self.old IsV2 h.now tag.entry start_timestamp
@@ -100,8 +100,7 @@ impl<'a, 'b, W> IntervalLogWriter<'a, 'b, W, V2Serializer> {
         let bytes = match self.serializer.to_bytes(h) {
             Ok(bytes) => bytes,
             Err(V2SerializeError::CountNotSerializable) => {
-                let cause = V2SerializeError::CountNotSerializable;
-                return Err(IntervalLogWriterError::SerializeError(cause));
+                return Err(IntervalLogWriterError::SerializeError(CountNotSerializable));
             }
             Err(V2SerializeError::OutOfMemory) => return Err(IntervalLogWriterError::OutOfMemory),
             Err(V2SerializeError::UsizeTypeTooSmall) => unreachable!(),
