@@ -39,7 +39,7 @@ impl Model for LastBaseTime {
 }
 
 impl LastBaseTime {
-    /// Returns that there is no base time yet.
+    /// Returns the state before the first base time.
     pub fn new() -> LastBaseTime
         ensures { result ≡ None }
     {
