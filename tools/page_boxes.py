@@ -1,6 +1,6 @@
 """The faults of a page by the boxes of its drawings' own texts, for tools/page_check where there is no browser.
 
-The style's lengths are those of crates/hdr_page/src/style.rt. A letter is as wide as in Arial, which most of the style's fonts have
+The lengths are those of style.rt in crates/hdr_page/src. A letter is as wide as in Arial, which most of the style's fonts have
 nearly the widths of; a mark that combines adds nothing to the width, and a third of a line to the height. A name at a curve's end is
 in a box that reaches to the right side of its drawing, where a browser cuts it.
 """

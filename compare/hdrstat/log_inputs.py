@@ -5,8 +5,8 @@ import io
 import json
 import zlib
 
-from inputs import FORMATS, USUAL, Case, digits, figures, percentiles, shown
-from logs import CAUSES, RATIO, bin_of, decode, encode, gathered, side_by_side, sums
+from inputs import FORMATS, UNITS, USUAL, Case, digits, figures, level, percentiles, shown
+from logs import CAUSES, NOTES, RATIO, Undecodable, bin_of, closed, decode, decoded, encode, inflated, read_first, side_by_side, sums, sums_by_key, with_form
 from model import LIMIT, Failure, Samples, Tally, class_of, Options
 
 TAGS = [None, b"a", b"b", b"GET", b"caf\xc3\xa9", b"=1+1", b"-2", b'say"', b"a;b", b""]
@@ -92,7 +92,7 @@ def log_text(random, step):
             field = field_of(random, random_samples(random))
             lines.append(head + b",".join([start, seconds(random, random.choice([step, 1, 9000])), random.choice([b"1.000", b"7", b".5", b"3."]), field]))
         if random.random() < 0.1:
-            lines.append(random.choice([b"#note", b"", b"#[BaseTime: 2.000 x]", b"#[BaseTime: x]", b"  "]))
+            lines.append(random.choice([b"#note", b"", b"#[BaseTime: 2.000 x]", b"#[BaseTime: x]", b"#[StartTime: -1.0 x]", b"#[Values have x decimals]", b"  "]))
     if random.random() < 0.1:
         random.shuffle(lines)
     text = b"".join(line + end for line in lines)
@@ -101,8 +101,8 @@ def log_text(random, step):
         for _ in range(random.randint(1, 3)):
             text[random.randrange(len(text))] = random.choice([0, 10, 13, 32, 44, 255, random.randrange(256)])
         text = bytes(text)
-    if random.random() < 0.03:
-        text = text[:-1]
+    if random.random() < 0.06 and text:
+        text = text[: random.choice([-1, -1, random.randrange(len(text))])]
     return b"\xef\xbb\xbf" + text if random.random() < 0.03 else text
 
 
@@ -111,15 +111,22 @@ def log_error(failure):
     name, line, text, why = failure.text
     if why == "log":
         return f"hdrstat: {name}: {line}: `{shown(text)}` is not a line of an interval log\n".encode()
-    if why == "decimals":
-        return f"hdrstat: {name}: {line}: the values have {text[0]} decimals, and those before it {text[1]}\n".encode()
     if why == "other decimals":
         return f"hdrstat: {name}: {line}: the values have {text[0]} decimals, and others {text[1]}; write the logs by the same --decimals\n".encode()
+    if why == "late":
+        return f"hdrstat: {name}: {line}: the interval begins past 64 bits of milliseconds\n".encode()
+    if why == "nest":
+        return f"hdrstat: {name}: {line}: the interval is neither finer nor coarser than others of its time and tag\n".encode()
     if why == "order":
         return f"hdrstat: {name}: {line}: the interval begins before the one above it; --unsorted gathers such logs\n".encode()
     if why == "interval" and text in CAUSES:
         return f"hdrstat: {name}: {line}: {CAUSES[text]}\n".encode()
     return None
+
+
+def notes_text(notes, names):
+    """What standard error has of the lines of these logs that are not read."""
+    return "".join(f"hdrstat: {name}: line {line}: {NOTES[kind]}\n" for name in names for line, kind in notes.get(name, [])).encode()
 
 
 def logs_of(random):
@@ -130,10 +137,40 @@ def logs_of(random):
     return {name: log_text(random, step) for name in ("one", "two", "three")[: random.randint(1, 3)]}
 
 
-def case_of(arguments, logs, wanted):
+def case_of(arguments, logs, wanted, option=()):
+    """A case whose files are arguments, each of them behind an option if there is one."""
     stdin = logs.get("standard input", b"")
     files = {name: data for name, data in logs.items() if name != "standard input"}
-    return Case([*arguments, *files], stdin, files, wanted)
+    return Case([*arguments, *(word for name in files for word in (*option, name))], stdin, files, wanted)
+
+
+def failed(failure, notes, names, arguments, logs, option=()):
+    """A case that prints nothing and fails, after the notes of these logs."""
+    error = log_error(failure)
+    return case_of(arguments, logs, (b"", None if error is None else notes_text(notes, names) + error, 1), option)
+
+
+def before(failure, logs):
+    """The names of the logs before the one that fails, whose notes are printed."""
+    names = list(logs)
+    return names[: names.index(failure.text[0])]
+
+
+def choice_of(random):
+    """A choice of intervals, as arguments and as the model takes it."""
+    arguments, choice = [], {}
+    if random.random() < 0.3:
+        choice["tag"] = random.choice([it for it in TAGS if it is not None])
+        arguments += [f"--tag={choice['tag'].decode()}"]
+    if random.random() < 0.2:
+        since = random.randint(0, 4000)
+        choice["since"] = since * 1_000_000
+        arguments += ["--from-time", "%d.%03d" % divmod(since, 1000)]
+    if random.random() < 0.2:
+        until = random.randint(0, 9000)
+        choice["until"] = until * 1_000_000
+        arguments += ["--to-time", "%d.%03d" % divmod(until, 1000)]
+    return arguments, choice
 
 
 def tally_of(samples, decimals):
@@ -152,16 +189,22 @@ def tagged_table(rows):
     return "".join("  ".join([f"{line[0]:{wide[0]}}", *(f"{it:>{to}}" for it, to in zip(line[1:], wide[1:]))]) + "\n" for line in lines)
 
 
+def shown_tag(tag):
+    """A tag in a table for a spreadsheet, which may take it for a formula."""
+    tag = (tag or b"").decode()
+    return "'" + tag if tag[:1] in ("=", "+", "-", "@", "\t", "\r") and tag else tag
+
+
+def csv_text(rows):
+    out = io.StringIO()
+    csv.writer(out, lineterminator="\n").writerows(rows)
+    return out.getvalue()
+
+
 def tagged_csv(rows):
     """The same as CSV, with an apostrophe before what a spreadsheet takes for a formula."""
-    out = io.StringIO()
-    table = csv.writer(out, lineterminator="\n")
-    for tag, found in rows:
-        if not out.getvalue():
-            table.writerow(["tag", *(name for name, _ in found)])
-        tag = (tag or b"").decode()
-        table.writerow(["'" + tag if tag[:1] in ("=", "+", "-", "@", "\t", "\r") and tag else tag, *(value or "" for _, value in found)])
-    return out.getvalue()
+    names = [["tag", *(name for name, _ in found)] for _, found in rows[:1]]
+    return csv_text([*names, *([shown_tag(tag), *(value or "" for _, value in found)] for tag, found in rows)])
 
 
 def tagged_json(rows):
@@ -184,42 +227,137 @@ def log_case(random):
     if random.random() < 0.4:
         text, wanted = percentiles(random)
         arguments += ["-p", text]
-    chosen = {}
-    if random.random() < 0.3:
-        chosen["tag"] = random.choice([it for it in TAGS if it is not None])
-        arguments += [f"--tag={chosen['tag'].decode()}"]
-    if random.random() < 0.2:
-        since = random.randint(0, 4000)
-        chosen["since"] = since * 1_000_000
-        arguments += ["--from-time", "%d.%03d" % divmod(since, 1000)]
-    if random.random() < 0.2:
-        until = random.randint(0, 9000)
-        chosen["until"] = until * 1_000_000
-        arguments += ["--to-time", "%d.%03d" % divmod(until, 1000)]
+    more, choice = choice_of(random)
+    arguments += more
     name = random.choice(["table", "csv", "json"])
     arguments += ["-f", name]
     by_tag = random.random() < 0.3
     arguments += ["--by-tag"] * by_tag
+    notes = {}
     try:
-        found, coarser, decimals = sums(logs, sigfig, by_tag, **chosen)
+        found, coarser, decimals, chosen = sums(logs, sigfig, by_tag, notes, choice)
     except Failure as failure:
-        return case_of(arguments, logs, (b"", log_error(failure), 1))
+        return failed(failure, notes, before(failure, logs), arguments, logs)
+    told = notes_text(notes, logs) + coarser_text(coarser, chosen, sigfig)
     if by_tag:
         out = TAGGED[name]([(tag, figures(tally_of(it, decimals), wanted)) for tag, it in found.items()]).encode()
-        return case_of(arguments, logs, (out, None if coarser else b"", 0))
+        return case_of(arguments, logs, (out, told, 0))
     total = found.get(None) or Samples(sigfig)
     out = FORMATS[name](figures(tally_of(total, decimals), wanted)).encode()
-    return case_of(arguments, logs, (out, None if coarser else b"", 0))
+    return case_of(arguments, logs, (out, told, 0))
+
+
+def coarser_text(coarser, chosen, sigfig):
+    return f"hdrstat: {coarser} of {chosen} intervals coarser than {sigfig} digits\n".encode() if coarser else b""
+
+
+def log_check_case(random):
+    """A case of check on logs."""
+    logs, notes = logs_of(random), {}
+    arguments, choice = choice_of(random)
+    unit = random.choice([None, None, *UNITS])
+    arguments = ["check", "--from", "log", *arguments, *(["--unit", unit] if unit else [])]
+    try:
+        found, coarser, decimals, chosen = sums(logs, 3, False, notes, choice)
+    except Failure as failure:
+        return failed(failure, notes, before(failure, logs), [*arguments, "count>=0"], logs, ["-i"])
+    tally = tally_of(found.get(None) or Samples(3), decimals)
+    levels = [it for it in (level(random, tally, unit) for _ in range(random.randint(1, 4))) if it[1] is not None]
+    levels = levels or [("count>=0", True, str(tally.samples.len()))]
+    is_empty_allowed = random.random() < 0.5
+    arguments += [*(["--allow-empty"] if is_empty_allowed else []), *(text for text, _, _ in levels)]
+    told = notes_text(notes, logs) + coarser_text(coarser, chosen, 3)
+    if not tally.samples.len() and not is_empty_allowed:
+        return case_of(arguments, logs, (b"", told + b"hdrstat: no numbers; --allow-empty accepts an empty input\n", 3), ["-i"])
+    if not tally.samples.len():
+        levels = [it if it[0].startswith("count") else (it[0], True, "-") for it in levels]
+    out = "".join(f"{'kept' if is_kept else 'broken'} {text} {value}\n" for text, is_kept, value in levels)
+    return case_of(arguments, logs, (out.encode(), told, 0 if all(it for _, it, _ in levels) else 3), ["-i"])
 
 
 def gather_case(random):
-    logs = logs_of(random)
-    arguments, gather = random.choice([(["gather"], side_by_side), (["gather", "--unsorted"], gathered)])
+    logs, notes, is_unsorted = logs_of(random), {}, random.random() < 0.5
+    arguments, choice = choice_of(random)
+    arguments = ["gather", *(["--unsorted"] if is_unsorted else []), *arguments]
+    if is_unsorted:
+        try:
+            read = read_first(logs, notes, choice)
+        except Failure as failure:
+            return failed(failure, notes, before(failure, logs), arguments, logs)
     try:
-        found = gather(logs)
+        found = sums_by_key(read) if is_unsorted else side_by_side(logs, notes, choice)
     except Failure as failure:
-        return case_of(arguments, logs, (None, log_error(failure), 1))
-    return case_of(arguments, logs, (Gathered(found), b"", 0))
+        error = log_error(failure)
+        return case_of(arguments, logs, (None, None if error is None else notes_text(notes, logs) + error, 1))
+    told = notes_text(notes, logs)
+    read, finer = sum(it[4] for it in found), sum(it[5] for it in found)
+    if finer:
+        told += f"hdrstat: {finer} of {read} intervals finer than their sum, which has the digits of the coarsest\n".encode()
+    return case_of(arguments, logs, (Gathered(found), told, 0))
+
+
+def convert_case(random):
+    logs, notes, form = logs_of(random), {}, random.choice(["plain", "compressed"])
+    arguments, choice = choice_of(random)
+    lines, failure = with_form(logs, form == "compressed", notes, choice)
+    error = log_error(failure) if failure else b""
+    told = None if error is None else notes_text(notes, logs) + error
+    return case_of(["convert", "--to", form, *arguments], logs, (Converted(lines), told, 1 if failure else 0))
+
+
+class Converted:
+    """The lines of logs, equal to an output that has them, where a new stream may have any bytes that hold the same."""
+
+    def __init__(self, lines):
+        self.lines = lines
+
+    def __eq__(self, other):
+        for line in self.lines:
+            if isinstance(line, bytes):
+                if not other.startswith(line):
+                    return False
+                other = other[len(line) :]
+                continue
+            came, _, other = other.partition(b"\n")
+            if holding(came) != line:
+                return False
+        return not other
+
+    def __repr__(self):
+        return repr(self.lines)
+
+
+def holding(line):
+    """What is before the histogram of a line, and the V2 bytes that it compresses, or None if it compresses none."""
+    head, _, field = line.rpartition(b",")
+    try:
+        return head + b",", inflated(decoded(field))
+    except Undecodable:
+        return head + b",", None
+
+
+def page_case(random):
+    """A case of page --intervals."""
+    logs, notes = logs_of(random), {}
+    arguments, choice = choice_of(random)
+    arguments = ["page", "--intervals", *arguments]
+    try:
+        read = read_first(logs, notes, choice)
+    except Failure as failure:
+        return failed(failure, notes, before(failure, logs), arguments, logs)
+    rows = [["start", "tag", "length", "count", "50%", "90%", "99%", "99.9%", "100%"]]
+    try:
+        rows += [row_of(it, closed(it.samples(name))) for name, it in read]
+    except Failure as failure:
+        return failed(failure, notes, logs, arguments, logs)
+    return case_of(arguments, logs, (csv_text(rows).encode(), notes_text(notes, logs), 0))
+
+
+def row_of(it, samples):
+    """The row of an interval: its times in seconds, its tag, and its figures."""
+    start, length = ("%d.%03d" % divmod(time, 1000) for time in (it.key()[0], it.length()))
+    values = [samples.at(num, den) for num, den in ((1, 2), (9, 10), (99, 100), (999, 1000), (1, 1))]
+    return [start, shown_tag(it.tag), length, samples.len(), *values]
 
 
 class Gathered:
@@ -227,7 +365,7 @@ class Gathered:
 
     def __init__(self, found):
         self.lines = []
-        for tag, start, duration, samples in found:
+        for tag, start, duration, samples, _, _ in found:
             top = class_of(max(samples.counts), samples.sigfig, samples.low)[1] if samples.counts else 0
             head = (b"Tag=%s," % tag if tag is not None else b"") + b"%d.%03d" % divmod(start, 1000)
             length = b"%d.%03d" % divmod((duration + 500_000) // 1_000_000, 1000)

@@ -226,6 +226,26 @@ def nanoseconds(plus, seconds, part):
     return int(seconds) * 10**9 + int(part[:9].ljust(9, b"0"))
 
 
+def decoded(field):
+    """The bytes of a field."""
+    try:
+        data = base64.b64decode(field, validate=True)
+    except binascii.Error as error:
+        raise Undecodable("base64") from error
+    if base64.b64encode(data) != field:
+        raise Undecodable("base64")
+    return data
+
+
+NOTES = {
+    "end": "the last line has no end and is left out",
+    "StartTime": "the start time is invalid and is ignored",
+    "BaseTime": "the base time is invalid and is ignored",
+    "decimals": "the number of decimals is invalid and is ignored",
+}
+MOST_NOTES = 100
+
+
 @dataclasses.dataclass
 class Interval:
     line: int
@@ -238,49 +258,93 @@ class Interval:
     def found(self, name, read):
         """What is read from the bytes of its histogram, or the failure that names its line."""
         try:
-            try:
-                data = base64.b64decode(self.field, validate=True)
-            except binascii.Error as error:
-                raise Undecodable("base64") from error
-            if base64.b64encode(data) != self.field:
-                raise Undecodable("base64")
-            return read(plain(data) if has_other_form(self.field) and data[:4] != COOKIE else data)
+            return read(decoded(self.field))
         except Undecodable as bad:
             raise Failure((name, f"line {self.line}", str(bad), "interval")) from bad
 
     def samples(self, name):
         """The samples of its histogram."""
-        return self.found(name, decode)
+        return self.found(name, lambda data: decode(self.plain(data)))
+
+    def plain(self, data):
+        """The V2 bytes of its histogram, if its field begins as one of another form."""
+        return plain(data) if has_other_form(self.field) and data[:4] != COOKIE else data
 
     def key(self):
         """The time in milliseconds, and the tag."""
         return (self.start + 500_000) // 1_000_000, self.tag is not None, self.tag or b""
 
+    def length(self):
+        """How long it is, in milliseconds."""
+        return min((self.duration + 500_000) // 1_000_000, LIMIT - 1)
 
-def intervals(name, data):
-    """The intervals of a log, each with its start after the last base time before it."""
+
+def is_whole(it):
+    """Whether the histogram of an interval is complete."""
+    try:
+        it.samples("")
+    except Failure:
+        return False
+    return True
+
+
+def intervals(name, data, notes):
+    """The intervals of a log, each with its start after the last base time before it. Appends the notes of its lines."""
     base = decimals = 0
+    mine = notes.setdefault(name, [])
+
+    def note(number, kind):
+        if len(mine) < MOST_NOTES:
+            mine.append((number, kind))
+
     for number, line in enumerate(re.findall(rb".*\n|.+$", data), 1):
         line = line.removeprefix(MARK) if number == 1 else line
         if not line.strip(SPACE):
             continue
+        if line[-1:] != b"\n":
+            it = unended(number, decimals, base, line)
+            if it is None:
+                note(number, "end")
+            else:
+                yield it
+            continue
         try:
-            header, found = HEADER.fullmatch(line), INTERVAL.fullmatch(line)
+            header = HEADER.fullmatch(line)
             if header and int(header[3]) < LIMIT:
                 base = nanoseconds(*header.groups()[1:]) if header[1] == b"BaseTime" else base
                 continue
-            if not found:
-                if line[-1:] == b"\n" and (line[:1] == b"#" or line.startswith(b'"StartTimestamp"')):
-                    found = DECIMALS.fullmatch(line)
-                    decimals = int(found[1]) if found and int(found[1]) <= 18 else decimals
-                    continue
-                raise ValueError
-            tag, field = found[1], found[9].rstrip(b"\r")
-            (tag or b"").decode()
-            found[9].decode()
-            yield Interval(number, decimals, tag, base + nanoseconds(*found.groups()[1:4]), nanoseconds(*found.groups()[4:7]), field)
+            if not INTERVAL.fullmatch(line) and (line[:1] == b"#" or line.startswith(b'"StartTimestamp"')):
+                found = DECIMALS.fullmatch(line)
+                if found and int(found[1]) <= 18:
+                    decimals = int(found[1])
+                else:
+                    for start, kind in ((b"#[BaseTime: ", "BaseTime"), (b"#[StartTime: ", "StartTime"), (b"#[Values have ", "decimals")):
+                        if line.startswith(start):
+                            note(number, kind)
+                continue
+            yield interval(number, decimals, base, line)
         except ValueError as error:
             raise Failure((name, f"line {number}", line.strip(SPACE), "log")) from error
+
+
+def interval(number, decimals, base, line):
+    """The interval of a line with its LF; a ValueError if it is none. An empty tag is none."""
+    found = INTERVAL.fullmatch(line)
+    if not found:
+        raise ValueError
+    tag, field = found[1], found[9].rstrip(b"\r")
+    (tag or b"").decode()
+    found[9].decode()
+    return Interval(number, decimals, tag or None, base + nanoseconds(*found.groups()[1:4]), nanoseconds(*found.groups()[4:7]), field)
+
+
+def unended(number, decimals, base, line):
+    """The interval of a last line without an LF, if it is whole, and otherwise None."""
+    try:
+        it = interval(number, decimals, base, line + b"\n")
+    except ValueError:
+        return None
+    return it if is_whole(it) else None
 
 
 def add(total, samples):
@@ -302,39 +366,49 @@ def closed(total):
     return total
 
 
-def sums(logs, sigfig, by_tag, tag=None, since=0, until=None):
-    """By tag, the sums of the chosen intervals of logs, in the order of first tags, how many intervals are coarser than sums, and decimals.
+def is_chosen(it, tag=None, since=0, until=None):
+    """Whether an interval is chosen. An empty `tag` chooses the intervals without one."""
+    return (tag is None or it.tag == (tag or None)) and since <= it.start and (until is None or it.start < until)
 
-    An empty `tag` chooses the intervals without one.
-    """
-    found, coarser, decimals = {}, 0, None
+
+def sums(logs, sigfig, by_tag, notes, choice):
+    """By tag, the sums of the chosen intervals of logs, in the order of first tags, how many intervals are coarser than sums, decimals, and
+    how many intervals are chosen."""
+    found, coarser, decimals, chosen = {}, 0, None, 0
     for name, data in logs.items():
-        for it in intervals(name, data):
-            if (tag is not None and it.tag != (tag or None)) or it.start < since or (until is not None and it.start >= until):
+        for it in intervals(name, data, notes):
+            if not is_chosen(it, **choice):
                 continue
             decimals = it.decimals if decimals is None else decimals
             if it.decimals != decimals:
-                raise Failure((name, f"line {it.line}", (it.decimals, decimals), "decimals"))
-            samples = it.samples(name)
+                raise Failure((name, f"line {it.line}", (it.decimals, decimals), "other decimals"))
+            samples, chosen = it.samples(name), chosen + 1
             total = found.setdefault(it.tag if by_tag else None, Samples(sigfig))
             coarser += not is_finer(samples, total)
             add(total, samples)
-    return {key: closed(total) for key, total in found.items()}, coarser, decimals or 0
+    return {key: closed(total) for key, total in found.items()}, coarser, decimals or 0, chosen
 
 
-def converted(name, data):
-    """The intervals of a log, each of which is converted if it has another form."""
-    for it in intervals(name, data):
-        if has_other_form(it.field.rpartition(b",")[2]):
-            it.found(name, lambda _: None)
+def stored(name, data, notes, choice):
+    """The chosen intervals of a log. Each of another form is converted, and has to begin within 64 bits of milliseconds."""
+    for it in intervals(name, data, notes):
+        if not is_chosen(it, **choice):
+            continue
+        if has_other_form(it.field):
+            it.found(name, it.plain)
+        if it.key()[0] >= LIMIT:
+            raise Failure((name, f"line {it.line}", b"", "late"))
         yield it
 
 
-def gathered(logs):
-    """The intervals of logs in any order as one log: by time in milliseconds and tag, each with its duration and samples."""
-    found = [(name, it) for name, data in logs.items() for it in converted(name, data)]
-    check_decimals(found, max((it.decimals for _, it in found), default=0))
-    return sums_by_key(found)
+def read_first(logs, notes, choice):
+    """The chosen intervals of logs, read one log after another, with the names of their logs."""
+    found = []
+    for name, data in logs.items():
+        for it in stored(name, data, notes, choice):
+            found.append((name, it))
+            check_decimals(found[-1:], found[0][1].decimals)
+    return found
 
 
 def check_decimals(intervals_of_logs, decimals):
@@ -344,9 +418,9 @@ def check_decimals(intervals_of_logs, decimals):
             raise Failure((name, f"line {it.line}", (it.decimals, decimals), "other decimals"))
 
 
-def side_by_side(logs):
-    """The intervals of logs in order of time as one log, up to the first failure."""
-    rests = [(name, converted(name, data)) for name, data in logs.items()]
+def side_by_side(logs, notes, choice):
+    """The chosen intervals of logs in order of time as one log, up to the first failure."""
+    rests = [(name, stored(name, data, notes, choice)) for name, data in logs.items()]
     nexts = [next(rest, None) for _, rest in rests]
     decimals = max((it.decimals for it in nexts if it), default=0)
     out = []
@@ -365,15 +439,17 @@ def side_by_side(logs):
 
 
 def sums_by_key(intervals_of_logs):
-    """The sums of intervals of the same time and tag, in ascending order."""
+    """The sums of intervals of the same time and tag, in ascending order, each with the numbers of its intervals and of those that are
+    finer than it."""
     found = {}
     for name, it in intervals_of_logs:
         found.setdefault(it.key(), []).append((name, it))
     out = []
     for (start, has_tag, tag), parts in sorted(found.items(), key=lambda it: it[0]):
-        total = None
+        total, found_samples = None, []
         for name, it in parts:
             samples = it.samples(name)
+            found_samples.append(samples)
             if total is None or is_finer(samples, total):
                 one, other = total or samples, samples if total else None
             elif is_finer(total, samples):
@@ -385,5 +461,37 @@ def sums_by_key(intervals_of_logs):
                 add(joined, other)
                 one = joined
             total = one
-        out.append((tag if has_tag else None, start, max(it.duration for _, it in parts), total))
+        out.append((tag if has_tag else None, start, max(it.duration for _, it in parts), total, len(parts), sum(not is_finer(total, it) for it in found_samples)))
     return out
+
+
+def with_form(logs, is_compressed, notes, choice):
+    """The lines of logs with the chosen histograms in a form, and the failure after them, if there is one. A line whose histogram becomes
+    compressed is a pair: what is before the histogram, and its V2 bytes."""
+    out = []
+    for name, data in logs.items():
+        found, failure = {}, None
+        try:
+            for it in intervals(name, data, notes):
+                found[it.line] = it.found(name, lambda data: in_form(data, is_compressed)) if is_chosen(it, **choice) else None
+        except Failure as bad:
+            failure = bad
+        for number, line in enumerate(re.findall(rb".*\n|.+$", data), 1):
+            if failure and failure.text[1] == f"line {number}":
+                break
+            line = line.removeprefix(MARK) if number == 1 else line
+            if number not in found:
+                out += [] if line[-1:] != b"\n" and line.strip(SPACE) else [line]
+            elif found[number]:
+                head, (bytes_of_field, becomes_compressed) = line.rpartition(b",")[0] + b",", found[number]
+                out.append((head, bytes_of_field) if becomes_compressed else head + base64.b64encode(bytes_of_field) + b"\n")
+        if failure:
+            return out, failure
+    return out, None
+
+
+def in_form(data, is_compressed):
+    """The bytes of a histogram in a form, or its V2 bytes and True if they are to be compressed."""
+    if is_compressed and data[:4] == COMPRESSED:
+        return data, False
+    return data if data[:4] == COOKIE else plain(data), is_compressed

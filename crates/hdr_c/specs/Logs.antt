@@ -11,7 +11,7 @@ use Rattle.hdrhistogram.specs.FieldRead.{IsHeldIn, IsFieldDecodeError}
 use Rattle.hdrhistogram.specs.declared.serialization.errors.FieldDecodeError.{FieldDecodeError}
 use Rattle.hdr_c.specs.declared.interval.Found as code
 use Rattle.hdr_c.specs.declared.interval.Found.TheVariants as code_found
-use Rattle.hdr_c.specs.declared.interval.Interval as c
+use Rattle.hdr_c.specs.declared.interval.NextInterval as c
 use Rattle.hdr_c.specs.Status.{field_status}
 use Rattle.hdr_c.specs.Times.{as_time, base_of, IsInterval, AreNanosInRange}
 
@@ -55,7 +55,7 @@ AreBaseNanosInRange (code_found.Invalid at) = Unit {0}
 AreBaseNanosInRange (code_found.Interval at next base found) = AreNanosInRange base
 
 -- the status and the interval that a call returns, and the histogram of the handle after it
-abbrev pub IsNext : ℕ → Found → c.Interval → c.Interval → Option Plain → Option Plain → Type 0
+abbrev pub IsNext : ℕ → Found → c.NextInterval → c.NextInterval → Option Plain → Option Plain → Type 0
 IsNext status End old new before after = (status ≡ 23) × (new ≡ old) × (after ≡ before)
 IsNext status (Invalid at) old new before after = (status ≡ 24) × (new ≡ record old { next = at }) × (after ≡ before)
 IsNext status (Line at next base found) old new before after =
@@ -64,7 +64,7 @@ IsNext status (Line at next base found) old new before after =
     ⊎ ((e : FieldDecodeError) × (status ≡ field_status e) × IsFieldDecodeError (2 ^ 64 - 1) found.field e × (after ≡ before)))
 
 -- the next interval of a log is read
-abbrev pub ReadsNext : ℕ → List ℕ → c.Interval → c.Interval → Option Plain → Option Plain → Type 0
+abbrev pub ReadsNext : ℕ → List ℕ → c.NextInterval → c.NextInterval → Option Plain → Option Plain → Type 0
 ReadsNext status log old new before after =
     IsNext status (first_from (min old.next (length log)) (base_of old) (parts 10 (drop (min old.next (length log)) log)))
     old new before after

@@ -2,7 +2,7 @@
 use Rattle.std.specs.Prelude.{◌≡◌, ◌+◌, ◌*◌, ◌-◌, ◌^◌, ◌<◌, min, ℕ, Bool, true, false, Option, Some, None, List, length}
 use Rattle.hdr_log.specs.Grammar as grammar
 use Rattle.hdr_c.specs.declared.interval.Time.{Time}
-use Rattle.hdr_c.specs.declared.interval.Interval.{Interval}
+use Rattle.hdr_c.specs.declared.interval.NextInterval.{NextInterval}
 
 abbrev pub as_time : Time → ℕ
 as_time t = t.seconds * 1_000_000_000 + t.nanos
@@ -12,7 +12,7 @@ if_has true time = Some time
 if_has false time = None
 
 -- the base time, if there is one
-abbrev pub base_of : Interval → Option ℕ
+abbrev pub base_of : NextInterval → Option ℕ
 base_of i = if_has i.has_base (as_time i.base)
 
 -- the nanoseconds of a time, if there is one, are less than a second
@@ -27,7 +27,7 @@ tag_length (Some tag) = length tag
 
 -- C's interval has what the line from `at` to `after` has, and the base time before it. The tag follows the four bytes of
 -- `Tag=`
-pub record IsInterval (at after : ℕ) (before : Option ℕ) (found : grammar.Interval) (i : Interval) : Type 0 where
+pub record IsInterval (at after : ℕ) (before : Option ℕ) (found : grammar.Interval) (i : NextInterval) : Type 0 where
   pub next : i.next ≡ after
   pub start : as_time i.start ≡ found.start
   pub start_nanos : i.start.nanos < 1_000_000_000

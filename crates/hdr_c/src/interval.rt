@@ -21,7 +21,7 @@ pub struct Time {
 /// with. The base time is that of the last header before it. If it has no tag, the tag has no bytes.
 #[repr(C)]
 #[derive(Drop)]
-pub struct Interval {
+pub struct NextInterval {
     pub next: usize,
     pub start: Time,
     pub duration: Time,
@@ -57,7 +57,7 @@ impl Time {
     }
 }
 
-impl Interval {
+impl NextInterval {
     /// Returns the base time, if it has one.
     pub(crate) fn base(&self) -> Option<Time>
         ensures time { option_map as_time result ≡ base_of self.now }
@@ -72,12 +72,12 @@ impl Interval {
         next: usize,
         base: Option<Time>,
         found: &IntervalLogHistogram<'_>,
-    ) -> Interval
+    ) -> NextInterval
         ensures interval { IsInterval at next (option_map as_time base) (view_of_interval found.now) result }
         ensures base_nanos { AreNanosInRange base → result.base.nanos < 1_000_000_000 }
     {
         let tag = found.tag();
-        Interval {
+        NextInterval {
             next,
             start: Time::new(found.start_timestamp()),
             duration: Time::new(found.duration()),

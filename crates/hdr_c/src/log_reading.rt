@@ -8,7 +8,7 @@ ghost use Rattle.hdr_c.specs.Logs.{first_from, view_of_found, AreBaseNanosInRang
 ghost use Rattle.hdr_c.specs.Times.{as_time, AreNanosInRange};
 
 use crate::handle::Handle;
-use crate::interval::{Found, Interval, Time};
+use crate::interval::{Found, NextInterval, Time};
 use crate::status::{INVALID_LINE, LOG_END, OK, of_field_error};
 use hdr_log::LastBaseTime;
 use hdr_log::line::{entry, is_skipped};
@@ -62,7 +62,7 @@ pub extern "C" fn hdr_log_next(
     h: &mut Handle,
     alloc: Global,
     log: &[u8],
-    interval: &mut Interval,
+    interval: &mut NextInterval,
 ) -> u32
     ensures read { ReadsNext result log.now interval.old interval.new (held h.old) (held h.new) }
     ensures base_nanos { interval.old.base.nanos < 1_000_000_000 → interval.new.base.nanos < 1_000_000_000 }
@@ -76,7 +76,7 @@ pub extern "C" fn hdr_log_next(
         }
         Found::Interval(at, next, base, found) => (at, next, base, found),
     };
-    *interval = Interval::new(at, next, base, &found);
+    *interval = NextInterval::new(at, next, base, &found);
     let field = found.encoded_histogram();
     let histogram = match Deserializer::new(alloc).decode_field::<u64>(field) {
         Ok(histogram) => histogram,

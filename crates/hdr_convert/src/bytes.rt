@@ -9,7 +9,7 @@ ghost use Rattle.hdr_convert.specs.Converted.{IsV2Of, IsCompressedOf, IsReadable
 use crate::errors::ConvertError;
 use crate::old::{VERSION_0, VERSION_1, is_old, v2_of_old};
 use byteorder::{BigEndian, ByteOrder};
-use hdr_zlib::{Level, deflate, inflate};
+use hdr_zlib::{CompressionLevel, deflate, inflate};
 use std::alloc::Global;
 
 /// The first four bytes of V2 bytes, and of compressed ones.
@@ -103,7 +103,7 @@ pub fn compressed(alloc: Global, bytes: Vec<u8>) -> Result<Vec<u8>, ConvertError
         return Ok(bytes);
     }
     let plain = v2_bytes(alloc, bytes)?;
-    with_header(alloc, &deflate(alloc, &plain, Level::Huffman)?)
+    with_header(alloc, &deflate(alloc, &plain, CompressionLevel::Huffman)?)
 }
 
 /// Whether bytes start as compressed V2 bytes.

@@ -11,4 +11,4 @@ mod old;
 
 pub use bytes::{Form, compressed, form_of, v2_bytes};
 pub use errors::ConvertError;
-pub use line::{convert_field, convert_line};
+pub use line::{convert_field, convert_interval, convert_line};

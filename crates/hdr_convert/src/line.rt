@@ -42,8 +42,11 @@ pub fn convert_line(
     }
 }
 
-/// Appends the line of an interval, whose histogram is `field`, with the histogram in `form`.
-fn convert_interval(
+/// Appends the line of an interval, whose histogram is `field`, with the histogram in `form` and a line feed.
+///
+/// # Errors
+/// As `convert_line`.
+pub fn convert_interval(
     alloc: Global,
     line: &[u8],
     field: &str,

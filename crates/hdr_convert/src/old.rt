@@ -57,10 +57,7 @@ pub(crate) fn v2_of_old(alloc: Global, bytes: &[u8]) -> Result<Vec<u8>, ConvertE
 pub(crate) fn is_old(bytes: &[u8]) -> bool
     ensures { (result ≡ true) ↔ IsOld bytes.now }
 {
-    if let Some(_) = width_of(bytes, VERSION_0) {
-        return true;
-    }
-    width_of(bytes, VERSION_1).is_some()
+    width_of(bytes, VERSION_0).is_some() || width_of(bytes, VERSION_1).is_some()
 }
 
 /// Reads bytes of version 0 or 1.

@@ -8,7 +8,7 @@ use Rattle.std.specs.Int.{div_ceil}
 use Rattle.std.specs.List.{All, Contains}
 use Rattle.std.proofs.lemmas.Grind.{get_or_default_zero}
 use Rattle.std.proofs.lemmas.List.Elements.{All-contains, All-nil, All-push, All-map, Contains-get_or, Contains-push, Contains-append_left}
-use Rattle.hdr_draw.specs.declared.values.Tick.{Tick}
+use Rattle.hdr_draw.specs.declared.values.AxisTick.{AxisTick}
 use Rattle.hdr_draw.specs.Lines.{AreLines, HasLine, IsLine}
 use Rattle.hdr_draw.specs.Rows.{Ends}
 use Rattle.hdr_draw.specs.Scales.{IsValuePlace}
@@ -61,7 +61,7 @@ later xs a i k h l =
     rw e at (rises xs a i (k - i - 1) (omega arith))
 
 -- the lines of the steps before an index
-pub record Drawn (decade octave : ℕ) (xs : List ℕ) (i : ℕ) (ts : List Tick) : Type 0 where
+pub record Drawn (decade octave : ℕ) (xs : List ℕ) (i : ℕ) (ts : List AxisTick) : Type 0 where
   pub lines : All (IsLine decade octave) ts
   pub among : All (λ t. Contains xs t.value) ts
   pub before : All (λ t. (k : ℕ) → i ≤ k → k < length xs → t.value < slice_index xs k) ts
@@ -77,11 +77,11 @@ none_drawn d o xs = record {
   all = λ k l. absurd (omega arith);
 }
 
-before_more : (xs : List ℕ) (i : ℕ) (ts : List Tick) → All (λ t. (k : ℕ) → i ≤ k → k < length xs → t.value < slice_index xs k) ts
+before_more : (xs : List ℕ) (i : ℕ) (ts : List AxisTick) → All (λ t. (k : ℕ) → i ≤ k → k < length xs → t.value < slice_index xs k) ts
     → All (λ t. (k : ℕ) → i + 1 ≤ k → k < length xs → t.value < slice_index xs k) ts
 before_more xs i ts a = λ j d h k l. a j d h k (omega arith)
 
-pub left_out : (decade octave : ℕ) (xs : List ℕ) (i : ℕ) (ts : List Tick) → Drawn decade octave xs i ts → (HasLine decade (slice_index xs i) → ⊥)
+pub left_out : (decade octave : ℕ) (xs : List ℕ) (i : ℕ) (ts : List AxisTick) → Drawn decade octave xs i ts → (HasLine decade (slice_index xs i) → ⊥)
     → Drawn decade octave xs (i + 1) ts
 left_out d o xs i ts a n = record {
   lines = a.lines;
@@ -94,7 +94,7 @@ left_out d o xs i ts a n = record {
   ];
 }
 
-pub pushed : (decade octave : ℕ) (xs : List ℕ) (i : ℕ) (ts : List Tick) (t : Tick) → IsStrictlyAscending xs → i < length xs → Drawn decade octave xs i ts
+pub pushed : (decade octave : ℕ) (xs : List ℕ) (i : ℕ) (ts : List AxisTick) (t : AxisTick) → IsStrictlyAscending xs → i < length xs → Drawn decade octave xs i ts
     → IsLine decade octave t → t.value ≡ slice_index xs i → Drawn decade octave xs (i + 1) (ts ++ t ∷ [])
 pushed d o xs i ts t up h a l e =
     let m : map (λ t. t.value) (ts ++ t ∷ []) ≡ map (λ t. t.value) ts ++ t.value ∷ [] = map-append (λ t. t.value) ts (t ∷ []) in
@@ -112,7 +112,7 @@ pushed d o xs i ts t up h a l e =
       ]);
     }
 
-pub all_drawn : (e : Ends) (height decade octave : ℕ) (xs : List ℕ) (ts : List Tick) → IsValuePlace e height (min (10 * e.low) (2 ^ 64 - 1)) decade
+pub all_drawn : (e : Ends) (height decade octave : ℕ) (xs : List ℕ) (ts : List AxisTick) → IsValuePlace e height (min (10 * e.low) (2 ^ 64 - 1)) decade
     → IsValuePlace e height (min (2 * e.low) (2 ^ 64 - 1)) octave → All IsStep xs → All (λ n. (e.low ≤ n) × (n ≤ e.high)) xs
     → ((n : ℕ) → IsStep n → e.low ≤ n → n ≤ e.high → Contains xs n) → Drawn decade octave xs (length xs) ts → AreLines e height ts
 all_drawn e height decade octave xs ts p q s i every a = record {

@@ -37,7 +37,7 @@ impl Model for ValueScale {
 
 /// A line across the field of a scale.
 #[derive(Clone, Copy, Debug)]
-pub struct Tick {
+pub struct AxisTick {
     pub value: u64,
     /// Whether its text is drawn: the texts of a scale keep a distance.
     pub has_text: bool,
@@ -75,7 +75,7 @@ impl ValueScale {
     }
 
     /// Returns the steps of the scale that have a line in a field of this height.
-    pub fn ticks(&self, alloc: Global, height: u32) -> Result<Vec<Tick>, AllocError>
+    pub fn ticks(&self, alloc: Global, height: u32) -> Result<Vec<AxisTick>, AllocError>
         ensures { IfOk result (λ v. AreLines self.now height v.items) }
     {
         let decade = self.place(self.low.saturating_mul(10), height);
@@ -92,14 +92,14 @@ impl ValueScale {
 }
 
 /// Returns the line of a step for the widths of a decade and an octave, or `None` if it has none.
-fn line_of(step: u64, decade: u32, octave: u32) -> Option<Tick>
+fn line_of(step: u64, decade: u32, octave: u32) -> Option<AxisTick>
     ensures value { IfSome result (λ t. t.value ≡ step) }
     ensures line { IfSome result (λ t. IsLine decade octave t) }
     ensures none { IfNone result (HasLine decade step → ⊥) }
 {
     if let Some(power) = power_of(step) {
         let every = GAP.div_ceil(decade.max(1));
-        return Some(Tick {
+        return Some(AxisTick {
             value: step,
             has_text: power % every == 0,
             is_power: true,
@@ -108,7 +108,7 @@ fn line_of(step: u64, decade: u32, octave: u32) -> Option<Tick>
     if decade < GAP {
         return None;
     }
-    Some(Tick {
+    Some(AxisTick {
         value: step,
         has_text: octave >= GAP,
         is_power: false,

@@ -1,9 +1,10 @@
 -- The figures of a histogram.
-use Rattle.std.specs.Prelude.{◌≡◌, ℕ, ◌+◌, ◌-◌, ◌*◌, ◌<◌, max, min}
+use Rattle.std.specs.Prelude.{◌≡◌, ℕ, ◌+◌, ◌-◌, ◌*◌, ◌^◌, Some, unwrap_or, max, min}
 use Rattle.hdr_model.specs.Plain.{Plain, min_of}
 use Rattle.hdr_model.specs.Quantiles.{value_at_quantile}
 use Rattle.hdr_model.specs.Statistics.{mean}
 use Rattle.hdr_figures.specs.declared.figures.Figures.{Figures}
+use Rattle.hdr_figures.specs.declared.figures.Total.{Total}
 use Rattle.hdr_figures.specs.declared.timeline.Timeline.{Timeline}
 
 -- the value at the quantile num / den
@@ -21,9 +22,9 @@ pub record AreFiguresOf (h : Plain) (f : Figures) : Type 0 where
   pub p999 : f.p999 ≡ value_at h 999 1000
   pub max : f.max ≡ value_at h 1 1
 
--- a value is more times its usual one than another: their fractions are compared, 0 as 1
-abbrev pub IsFurther : ℕ → ℕ → ℕ → ℕ → Type 0
-IsFurther value usual other other_usual = other * max 1 usual < value * max 1 other_usual
+-- the number and the greatest of samples at a point of time, with those of a tag
+abbrev pub with_figures : Total → Figures → Total
+with_figures t f = record { count = min (t.count + f.count) (2 ^ 64 - 1); max = Some (max (unwrap_or t.max 0) f.max) }
 
 -- how long a point of time is: a step, or less if the log ends within it, but at least a millisecond
 abbrev pub length_at : Timeline → ℕ → ℕ

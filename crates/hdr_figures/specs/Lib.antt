@@ -1,2 +1,4 @@
-pub mod Errors
 pub mod Figures
+pub mod Intervals
+pub mod Levels
+pub mod Widths

@@ -1,10 +1,10 @@
 //! Points of time, each of which merges some intervals.
 
 ghost use Rattle.std.specs.Prelude.{◌≡◌, ◌≤◌, ◌<◌, ◌+◌, ◌-◌, ◌*◌, ◌/◌, ◌^◌, ◌↔◌, IfOk, IsTrue, max, min};
-ghost use Rattle.std.specs.List.{All};
 ghost use Rattle.hdr_figures.specs.Figures.{length_at};
+ghost use Rattle.hdr_figures.specs.Intervals.{first_start, last_end};
 
-use crate::reading::Interval;
+use hdr_logs::StoredInterval;
 use std::alloc::{AllocError, Global};
 
 /// The most points of time.
@@ -13,7 +13,7 @@ const MOST: u64 = 200;
 /// The first time that is a time of a clock, in milliseconds: 366 days after the epoch.
 const CLOCK_FROM: u64 = 31_622_400_000;
 
-/// The points of time of a log, in milliseconds as `Interval::start`.
+/// The points of time of a log, in milliseconds as `StoredInterval::start`.
 #[derive(Clone, Copy)]
 pub struct Timeline {
     /// When the first interval began, and the last one ended.
@@ -28,11 +28,10 @@ pub struct Timeline {
 
 impl Timeline {
     /// Returns the points of time of intervals.
-    pub fn new(alloc: Global, intervals: &[Interval<'_>]) -> Result<Timeline, AllocError>
+    pub fn new(alloc: Global, intervals: &[StoredInterval]) -> Result<Timeline, AllocError>
         ensures points { IfOk result (λ t. (1 ≤ t.points) × (t.points ≤ 200)) }
-        ensures first { IfOk result (λ t. All (λ i. t.first ≤ i.start) intervals.now) }
-        ensures last { IfOk result (λ t. All (λ i. min (i.start + i.length) (2 ^ 64 - 1) ≤ t.last)
-            intervals.now) }
+        ensures first { IfOk result (λ t. t.first ≡ min (first_start intervals.now) (last_end intervals.now)) }
+        ensures last { IfOk result (λ t. t.last ≡ last_end intervals.now) }
     {
         let mut first = u64::MAX;
         let mut last = 0;
@@ -40,7 +39,7 @@ impl Timeline {
         for interval in intervals {
             first = first.min(interval.start);
             last = last.max(interval.end());
-            lengths.push(interval.length)?;
+            lengths.push(interval.length())?;
         }
         lengths.sort()?;
         let usual = match lengths.get(lengths.len() / 2) {

@@ -7,7 +7,7 @@
 
 use anyhow::{Result, bail};
 use byteorder::{ByteOrder, LittleEndian};
-use hdr_zlib::{Level, deflate, inflate};
+use hdr_zlib::{CompressionLevel, deflate, inflate};
 use std::alloc::Global;
 use std::env;
 use std::io::{Read, Write};
@@ -34,7 +34,7 @@ fn push_frame(output: &mut Vec<u8>, bytes: Option<&[u8]>) -> Result<()> {
 fn run_frame(alloc: Global, output: &mut Vec<u8>, bytes: &[u8], mode: Mode) -> Result<()> {
     match mode {
         Mode::Deflate => {
-            let stream = deflate(alloc, bytes, Level::Huffman)?;
+            let stream = deflate(alloc, bytes, CompressionLevel::Huffman)?;
             push_frame(output, Some(stream.as_slice()))
         }
         Mode::Inflate(limit) => match inflate(alloc, bytes, limit) {

@@ -6,5 +6,4 @@ pub mod Longest
 pub mod Groups
 pub mod Ascending
 pub mod Readers
-pub mod Texts
 pub mod Left

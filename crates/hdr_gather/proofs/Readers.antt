@@ -1,8 +1,8 @@
 -- Logs of which one more is known.
 use Rattle.std.proofs.Common.{◌≡◌, ℕ, suc, ◌+◌, ◌<◌, ◌↔◌, List, [], ◌∷◌, ◌++◌, length, take, get_or, sym, ap, subst, ◌∙◌, ◌≤◌, Option, Some, None, IfSome, arith}
 use Rattle.std.specs.List.{All}
-use Rattle.hdr_gather.specs.declared.reader.LogReader.{LogReader}
-use Rattle.hdr_gather.specs.Logs.{next_start, IsFrom}
+use Rattle.hdr_gather.specs.declared.peekable.PeekableLog.{PeekableLog}
+use Rattle.hdr_gather.specs.Left.{next_start, IsFrom}
 use Rattle.std.proofs.Math.Seq.{take-suc}
 use Rattle.std.proofs.lemmas.List.Elements.{All-cons, All-head, All-nil, All-append}
 use Rattle.hdr_gather.proofs.Parts.{all_front, all_behind}
@@ -20,7 +20,7 @@ module _ {X : Type 0} (P : X → Type 0) where
       )
 
 -- logs go on from 0
-pub all_from_0 : {R : Type 0} (logs : List (LogReader R)) → All (IsFrom 0) logs
+pub all_from_0 : {R : Type 0} (logs : List (PeekableLog R)) → All (IsFrom 0) logs
 all_from_0 [] = All-nil (IsFrom 0)
 all_from_0 (x ∷ logs) = All-cons (IsFrom 0) x logs (from_0 (next_start x)) (all_from_0 logs)
   where
@@ -29,7 +29,7 @@ all_from_0 (x ∷ logs) = All-cons (IsFrom 0) x logs (from_0 (next_start x)) (al
     from_0 (Some t) = omega arith
 
 -- a log that goes on from a later time
-pub from_later : {R : Type 0} (log : LogReader R) (start : ℕ) → IsFrom (start + 1) log → IsFrom start log
+pub from_later : {R : Type 0} (log : PeekableLog R) (start : ℕ) → IsFrom (start + 1) log → IsFrom start log
 from_later log start h = by_next (next_start log) h
   where
     by_next : (o : Option ℕ) → IfSome o (λ t. start + 1 ≤ t) → IfSome o (λ t. start ≤ t)

@@ -2,32 +2,71 @@
 
 ghost use Rattle.std.specs.Prelude.{◌≡◌, ◌≤◌, ◌⊎◌, ◌∷◌, IfOk, map};
 ghost use Rattle.std.specs.Duration.{as_nanos};
+ghost use Rattle.hdr_logs.specs.Stored.{view_of_stored};
+ghost use Rattle.hdr_gather.specs.Keys.{all_of};
 ghost use Rattle.hdr_gather.specs.Lines.{IsLongest};
-ghost use Rattle.hdr_gather.specs.Parts.{field_of, duration_of};
 ghost use Rattle.hdr_gather.specs.Sums.{IsJoined, IsGrowing, IsSumOf};
 
-use crate::error::{GatherError, Place};
-use crate::part::Part;
-use hdr_input::InputError;
+use hdr_logs::{LogError, Place, StoredInterval};
 use hdrhistogram::Histogram;
 use hdrhistogram::serialization::Deserializer;
 use std::alloc::Global;
 use std::time::Duration;
 
-/// The histogram of an interval, which grows.
+/// How many intervals were gathered.
+#[derive(Debug, Clone, Copy, Default, PartialEq, Eq)]
+pub struct Counts {
+    /// The number of intervals.
+    pub intervals: u64,
+    /// The number of them that are finer than the sum that they are in: their samples lose digits.
+    pub finer: u64,
+}
+
+/// Returns the sum of the histograms of an interval and of others, which are counted.
+pub(crate) fn sum_of(
+    alloc: Global,
+    first: &StoredInterval,
+    others: &[&StoredInterval],
+    counts: &mut Counts,
+) -> Result<Histogram<u64>, LogError>
+    ensures { IfOk result (IsSumOf (map (λ i. i.field) (view_of_stored first.now ∷ all_of others.now))) }
+{
+    let mut deserializer = Deserializer::new(alloc);
+    let mut sum = histogram_of(&mut deserializer, first)?;
+    let mut count = 1u64;
+    let mut finer = 0u64;
+    for part in others {
+        let histogram = histogram_of(&mut deserializer, part)?;
+        finer = finer_after(&sum, &histogram, count, finer);
+        count = count.saturating_add(1);
+        sum = joined(sum, histogram, part.place)?;
+    }
+    counts.intervals = counts.intervals.saturating_add(count);
+    counts.finer = counts.finer.saturating_add(finer);
+    Ok(sum)
+}
+
+/// Returns the histogram of an interval, which grows.
 fn histogram_of(
     deserializer: &mut Deserializer,
-    part: &Part<'_>,
-) -> Result<Histogram<u64>, GatherError>
-    ensures { IfOk result (IsGrowing (field_of part.now)) }
+    interval: &StoredInterval,
+) -> Result<Histogram<u64>, LogError>
+    ensures { IfOk result (IsGrowing (view_of_stored interval.now).field) }
 {
-    let place = part.place;
-    match deserializer.decode_field(part.field) {
-        Ok(mut histogram) => {
-            histogram.auto(true);
-            Ok(histogram)
-        }
-        Err(cause) => Err(place.error(InputError::of_interval(place.line, cause))),
+    let mut histogram = interval.histogram(deserializer, None)?;
+    histogram.auto(true);
+    Ok(histogram)
+}
+
+/// Returns how many intervals of a sum are finer than it, after one more. Before, there are `count`
+/// of them, of which `finer` are finer.
+fn finer_after(sum: &Histogram<u64>, one: &Histogram<u64>, count: u64, finer: u64) -> u64 {
+    if !sum.refines(one) {
+        finer.saturating_add(1)
+    } else if one.refines(sum) {
+        finer
+    } else {
+        count
     }
 }
 
@@ -37,7 +76,7 @@ fn joined(
     mut one: Histogram<u64>,
     mut other: Histogram<u64>,
     place: Place,
-) -> Result<Histogram<u64>, GatherError>
+) -> Result<Histogram<u64>, LogError>
     ensures { IfOk result (IsJoined one other) }
 {
     if other.refines(&one) {
@@ -48,27 +87,21 @@ fn joined(
         other.add(&one)?;
         return Ok(other);
     }
-    Err(GatherError::NotNested(place))
+    Err(LogError::NotNested(place))
 }
 
-/// The sum of the histograms of an interval and of others.
-pub(crate) fn sum_of(
-    alloc: Global,
-    first: &Part<'_>,
-    others: &[Part<'_>],
-) -> Result<Histogram<u64>, GatherError>
-    ensures { IfOk result (IsSumOf (field_of first.now ∷ map field_of others.now)) }
+/// Returns how long the longest of an interval and others is.
+pub(crate) fn longest(first: &StoredInterval, others: &[&StoredInterval]) -> Duration
+    ensures { IsLongest (map (λ i. i.duration) (view_of_stored first.now ∷ all_of others.now)) (as_nanos result) }
 {
-    let mut deserializer = Deserializer::new(alloc);
-    let mut sum = histogram_of(&mut deserializer, first)?;
+    let mut longest = first.duration;
     for part in others {
-        let histogram = histogram_of(&mut deserializer, part)?;
-        sum = joined(sum, histogram, part.place)?;
+        longest = longer(longest, part.duration);
     }
-    Ok(sum)
+    longest
 }
 
-/// The longer of two durations.
+/// Returns the longer of two durations.
 fn longer(one: Duration, other: Duration) -> Duration
     ensures low { as_nanos one ≤ as_nanos result }
     ensures high { as_nanos other ≤ as_nanos result }
@@ -79,15 +112,4 @@ fn longer(one: Duration, other: Duration) -> Duration
     } else {
         one
     }
-}
-
-/// How long the longest of an interval and others is.
-pub(crate) fn longest(first: &Part<'_>, others: &[Part<'_>]) -> Duration
-    ensures { IsLongest (map duration_of (first.now ∷ others.now)) (as_nanos result) }
-{
-    let mut longest = first.duration;
-    for part in others {
-        longest = longer(longest, part.duration);
-    }
-    longest
 }

@@ -3,7 +3,7 @@ use Rattle.std.proofs.Common.{◌≡◌, ℕ, suc, ◌+◌, ◌-◌, ◌≤◌, 
 use Rattle.std.proofs.Math.Seq.{take-add, take-append-add}
 use Rattle.std.proofs.lemmas.List.{take-take, take-append-le, length-take, length-take-le}
 use Rattle.std.specs.Io.{IsEmptyOrEndsWith}
-use Rattle.std.specs.Io.KnownBytes.{Consumes, IsAtEnd, Keeps}
+use Rattle.std.specs.Io.KnownBytes.{Consumes, IsAtEnd}
 use Rattle.hdr_input.specs.Lines.{IsComplete}
 use Rattle.std.proofs.KnownBytes.{Consumes-trans}
 
@@ -40,13 +40,6 @@ ends_complete [] ends = tt
 ends_complete (x ∷ []) ends = ends (omega arith)
 ends_complete (x ∷ y ∷ xs) ends = ends_complete (y ∷ xs) (tail_complete x (y ∷ xs) ends)
 
--- what is read after a read that failed
-pub kept_read : (a b c : Option (List ℕ)) (bytes : List ℕ) → Keeps a b → Consumes b c bytes → Consumes a c bytes
-kept_read None b c bytes kept gave = tt
-kept_read (Some x) None c bytes kept gave = absurd kept
-kept_read (Some x) (Some y) None bytes kept gave = absurd gave
-kept_read (Some x) (Some y) (Some z) bytes kept gave = sym kept ∙ gave
-
 -- bytes behind the start of a buffer
 pub put_behind : (items view new post tail : List ℕ) (len held count : ℕ) → view ≡ items → length view ≡ len → held + count ≤ len → count ≤ length new
     → take (held + count) (take len (take held view ++ (new ++ post) ++ tail)) ≡ take held items ++ take count new
@@ -72,12 +65,11 @@ abbrev pub IsReadBehind : Option (List ℕ) → Option (List ℕ) → List ℕ �
 IsReadBehind b c held piece = (bytes : List ℕ) × Consumes b c bytes × (piece ≡ held ++ bytes)
 
 -- the sink takes the complete lines of a piece, and the rest is held
-pub piece_taken : (a b c : Option (List ℕ)) (done old room items lines kept : List ℕ) (held end complete : ℕ) → lines ≡ items → complete ≤ end
-    → take held room ≡ take held old → Consumes a b (done ++ take held old) → IsReadBehind b c (take held room) (take end items)
+pub piece_taken : (a b c : Option (List ℕ)) (done old items lines kept : List ℕ) (held end complete : ℕ) → lines ≡ items → complete ≤ end
+    → Consumes a b (done ++ take held old) → IsReadBehind b c (take held old) (take end items)
     → take (end - complete) kept ≡ take (end - complete) (drop complete items) → Consumes a c ((done ++ take complete lines) ++ take (end - complete) kept)
-piece_taken a b c done old room items lines kept held end complete sent low room_kept before read rest =
-    let held_first : Consumes a b (done ++ take held room) = subst (λ l. Consumes a b (done ++ l)) (sym room_kept) before in
-    let all : Consumes a c (done ++ take end items) = subst (λ l. Consumes a c (done ++ l)) (sym read.2) (read_behind a b c done (take held room) read.0 held_first read.1) in
+piece_taken a b c done old items lines kept held end complete sent low before read rest =
+    let all : Consumes a c (done ++ take end items) = subst (λ l. Consumes a c (done ++ l)) (sym read.2) (read_behind a b c done (take held old) read.0 before read.1) in
     let parts : end ≡ complete + (end - complete) = omega (arith, low) in
     let split : Consumes a c ((done ++ take complete items) ++ take (end - complete) (drop complete items)) =
     front_complete a c done items complete (end - complete) (subst (λ n. Consumes a c (done ++ take n items)) parts all) in
@@ -85,10 +77,10 @@ piece_taken a b c done old room items lines kept held end complete sent low room
     (subst (λ l. Consumes a c ((done ++ take complete items) ++ l)) (sym rest) split)
 
 -- the sink takes all of the last piece
-pub last_taken : (a b c : Option (List ℕ)) (done old room items lines : List ℕ) (held end complete : ℕ) → lines ≡ items → complete ≡ end
-    → take held room ≡ take held old → Consumes a b (done ++ take held old) → IsReadBehind b c (take held room) (take end items) → Consumes a c (done ++ take complete lines)
-last_taken a b c done old room items lines held end complete sent same room_kept before read =
+pub last_taken : (a b c : Option (List ℕ)) (done old items lines : List ℕ) (held end complete : ℕ) → lines ≡ items → complete ≡ end
+    → Consumes a b (done ++ take held old) → IsReadBehind b c (take held old) (take end items) → Consumes a c (done ++ take complete lines)
+last_taken a b c done old items lines held end complete sent same before read =
     let low : complete ≤ end = omega (arith, same) in
     let none : end - complete ≡ 0 = omega (arith, same) in
-    let taken = piece_taken a b c done old room items lines (drop complete items) held end complete sent low room_kept before read refl in
+    let taken = piece_taken a b c done old items lines (drop complete items) held end complete sent low before read refl in
     subst (Consumes a c) (ap (λ n. (done ++ take complete lines) ++ take n (drop complete items)) none ∙ append-nil (done ++ take complete lines)) taken

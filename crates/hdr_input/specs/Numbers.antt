@@ -1,5 +1,5 @@
 -- Decimal numbers in units, and the digits of their texts.
-use Rattle.std.specs.Prelude.{◌≡◌, ◌≢◌, ℕ, ◌+◌, ◌*◌, ◌/◌, ◌^◌, ◌⊎◌, true, List, ◌∷◌, ◌++◌, length}
+use Rattle.std.specs.Prelude.{◌≡◌, ℕ, ◌+◌, ◌*◌, ◌/◌, ◌^◌, ◌<◌, ◌⊎◌, true, List, ◌∷◌, ◌++◌, length}
 use Rattle.std.specs.Char.{is_ascii_digit}
 use Rattle.std.specs.List.{list_all}
 use Rattle.std.specs.Str.Parse.{digits_value_after}
@@ -17,22 +17,8 @@ BeginsWithDigits start text value rest =
 abbrev pub EndsLine : List ℕ → List ℕ → Type 0
 EndsLine text rest = (text ≡ 10 ∷ rest) ⊎ (text ≡ 13 ∷ 10 ∷ rest)
 
--- a text begins with a line of digits, whose value is this, and the rest follows its end
-abbrev pub BeginsWithWhole : List ℕ → ℕ → List ℕ → Type 0
-BeginsWithWhole text value rest =
-    (end : List ℕ) × BeginsWithDigits 0 text value end × (length end ≢ length text) × EndsLine end rest
-
--- a text begins with digits after a point, to the end of the line; their value after the digits before the point is this
-abbrev pub BeginsWithPart : ℕ → List ℕ → ℕ → ℕ → List ℕ → Type 0
-BeginsWithPart whole text value decimals rest =
-    (end : List ℕ) × BeginsWithDigits whole text value end × (decimals + length end ≡ length text) × EndsLine end rest
-
--- a text begins with a line of digits with a point after the first or a later one
-abbrev pub BeginsWithDecimal : List ℕ → ℕ → ℕ → List ℕ → Type 0
-BeginsWithDecimal text value decimals rest =
-    (whole : ℕ) × (after : List ℕ) × BeginsWithDigits 0 text whole (46 ∷ after) × BeginsWithPart whole after value decimals rest
-
--- a text begins with a line that is a plain number
+-- a text begins with digits, with at most a point after the first or a later one, which are a number of these decimals, and the rest follows
 abbrev pub BeginsWithNumber : List ℕ → ℕ → ℕ → List ℕ → Type 0
 BeginsWithNumber text value decimals rest =
-    (BeginsWithWhole text value rest × (decimals ≡ 0)) ⊎ BeginsWithDecimal text value decimals rest
+    (BeginsWithDigits 0 text value rest × (length rest < length text) × (decimals ≡ 0))
+    ⊎ ((whole : ℕ) × (after : List ℕ) × BeginsWithDigits 0 text whole (46 ∷ after) × BeginsWithDigits whole after value rest × (decimals + length rest ≡ length after))

@@ -1,10 +1,7 @@
 -- Histograms after numbers.
-use Rattle.std.specs.Prelude.{◌≡◌, ℕ, ◌+◌, ◌-◌, ◌*◌, ◌%◌, ◌^◌, ◌<◌, ◌≤◌, ◌⊎◌, ◌↔◌, min, max, true, Some, IsSome, Result, Ok, Err, Bool, IsTrue, List}
-use Rattle.hdr_base.specs.Classes.{IsFiner}
-use Rattle.hdr_model.specs.Plain.{Plain, resolution, reach}
+use Rattle.std.specs.Prelude.{◌≡◌, ℕ, ◌+◌, ◌-◌, ◌*◌, ◌%◌, ◌^◌, ◌<◌, ◌≤◌, ◌⊎◌, min, max, true, Some, IsSome, Result, Ok, Err}
+use Rattle.hdr_model.specs.Plain.{Plain, reach}
 use Rattle.hdr_model.specs.Correction.{after_correct}
-use Rattle.hdr_model.specs.Merging.{after_add}
-use Rattle.hdrhistogram.specs.FieldRead.{IsHeldIn}
 use Rattle.hdr_input.specs.Numbers.{in_units}
 use Rattle.hdr_model.specs.declared.errors.RecordError.{RecordError}
 use Rattle.hdr_model.specs.declared.errors.RecordError.TheVariants as record_error
@@ -53,8 +50,3 @@ abbrev pub IsCauseOf : Result Unit RecordError → Cause → Type 0
 IsCauseOf (Ok _) cause = ⊥
 IsCauseOf (Err record_error.OutOfMemory) cause = cause ≡ OutOfMemory
 IsCauseOf (Err _) cause = cause ≡ TooLarge
-
--- the histogram that a field holds is added to a sum, and it is coarser than the sum or not
-abbrev pub AddsField : List ℕ → Plain → Plain → Bool → Type 0
-AddsField field old new coarser = (held : Plain) × IsHeldIn (2 ^ 64 - 1) field held × (new ≡ after_add (2 ^ 64 - 1) old held)
-    × (IsTrue coarser ↔ (IsFiner (resolution held) (resolution old) → ⊥))

@@ -1,8 +1,8 @@
 //! Numbers from a column of a table.
 
 use crate::cause::Cause;
-use crate::errors::{InputError, Place, excerpt};
-use crate::lines::{record_text, skip_or_err};
+use crate::errors::{InputError, InputPlace, excerpt};
+use crate::lines::{record_text, skip_or_err, split_line};
 use crate::number::Number;
 use crate::tally::Tally;
 use csv::{ByteRecord, ErrorKind, ReaderBuilder};
@@ -11,7 +11,7 @@ use std::io::Read;
 
 /// How a table is read.
 #[derive(Clone, Copy)]
-pub struct Layout {
+pub struct TableLayout {
     /// The byte between two columns.
     pub delimiter: u8,
     /// Whether the first line may have names of columns.
@@ -34,7 +34,7 @@ pub struct Indices {
 
 /// A column that was found.
 #[derive(Clone, Copy)]
-struct Found {
+struct FoundColumn {
     index: usize,
     /// Whether it was found by its name.
     is_named: bool,
@@ -90,20 +90,9 @@ fn names_of(alloc: Global, names: &ByteRecord) -> Result<String, AllocError> {
     Ok(text)
 }
 
-/// Returns the error of a column that the first row does not have.
-fn no_column(alloc: Global, names: &ByteRecord, wanted: &str) -> InputError {
-    match (String::from_str(alloc, wanted), names_of(alloc, names)) {
-        (Ok(wanted), Ok(names)) => InputError::NoColumn { wanted, names },
-        _ => InputError::OutOfMemory,
-    }
-}
-
 /// Whether the field of a row is a number.
 fn has_number(row: &ByteRecord, index: usize) -> bool {
-    match row.get(index) {
-        Some(field) => Number::parse(field.trim_ascii(), None) != Err(Cause::NotANumber),
-        None => false,
-    }
+    field(row, index).is_some_and(|field| Number::parse(field, None) != Err(Cause::NotANumber))
 }
 
 /// Finds a column. A number of a column of the first row, from 1, comes before a name.
@@ -111,8 +100,8 @@ fn find_column(
     alloc: Global,
     names: &ByteRecord,
     wanted: &str,
-    layout: Layout,
-) -> Result<Found, InputError> {
+    layout: TableLayout,
+) -> Result<FoundColumn, InputError> {
     let number = index_of_number(wanted);
     let named = if layout.has_header && !number.is_some_and(|index| index < names.len()) {
         index_of_name(names, wanted)
@@ -120,11 +109,14 @@ fn find_column(
         None
     };
     match named.or(number) {
-        Some(index) => Ok(Found {
+        Some(index) => Ok(FoundColumn {
             index,
             is_named: named.is_some(),
         }),
-        None => Err(no_column(alloc, names, wanted)),
+        None => Err(InputError::NoColumn {
+            wanted: String::from_str(alloc, wanted)?,
+            names: names_of(alloc, names)?,
+        }),
     }
 }
 
@@ -134,7 +126,7 @@ fn find_columns(
     alloc: Global,
     names: &ByteRecord,
     columns: Columns<'_>,
-    layout: Layout,
+    layout: TableLayout,
 ) -> Result<(Indices, bool), InputError> {
     let value = find_column(alloc, names, columns.value, layout)?;
     let time = match columns.time {
@@ -156,7 +148,7 @@ pub fn read_rows<R: Read + Drop, S: RowSink>(
     alloc: Global,
     reader: R,
     columns: Columns<'_>,
-    layout: Layout,
+    layout: TableLayout,
     sink: &mut S,
 ) -> Result<(), InputError> {
     let mut rows = ReaderBuilder::new()
@@ -165,24 +157,17 @@ pub fn read_rows<R: Read + Drop, S: RowSink>(
         .delimiter(layout.delimiter)
         .from_reader(alloc, reader);
     let mut row = ByteRecord::new(alloc);
-    let mut found = None;
-    for before in 0..u64::MAX {
-        match rows.read_byte_record(&mut row) {
-            Ok(true) => {}
-            Ok(false) => break,
-            Err(error) => return Err(reading_error(error)),
+    if !rows.read_byte_record(&mut row).map_err(reading_error)? {
+        return Ok(());
+    }
+    let (indices, is_header) = find_columns(alloc, &row, columns, layout)?;
+    if !is_header {
+        sink.take_row(alloc, &row, indices, 1)?;
+    }
+    for before in 1..u64::MAX {
+        if !rows.read_byte_record(&mut row).map_err(reading_error)? {
+            break;
         }
-        let indices = match found {
-            Some(indices) => indices,
-            None => {
-                let (indices, is_header) = find_columns(alloc, &row, columns, layout)?;
-                found = Some(indices);
-                if is_header {
-                    continue;
-                }
-                indices
-            }
-        };
         sink.take_row(alloc, &row, indices, before + 1)?;
     }
     Ok(())
@@ -190,10 +175,7 @@ pub fn read_rows<R: Read + Drop, S: RowSink>(
 
 /// Returns the field of a row, without whitespace around it.
 pub(crate) fn field(row: &ByteRecord, index: usize) -> Option<&[u8]> {
-    match row.get(index) {
-        Some(field) => Some(field.trim_ascii()),
-        None => None,
-    }
+    row.get(index).map(|field| field.trim_ascii())
 }
 
 impl RowSink for Tally {
@@ -205,7 +187,7 @@ impl RowSink for Tally {
         indices: Indices,
         number: u64,
     ) -> Result<(), InputError> {
-        let place = Place::Row(number);
+        let place = InputPlace::Row(number);
         let Some(text) = field(row, indices.value) else {
             return skip_or_err(alloc, self, place, row.as_slice(), Cause::NoField);
         };
@@ -219,19 +201,12 @@ impl RowSink for Tally {
 /// Returns the delimiter of a table by its first bytes: a tab if the first line has one, otherwise
 /// a semicolon if it has one and no comma, otherwise a comma.
 pub fn guess_delimiter(start: &[u8]) -> u8 {
-    let mut guess = b',';
-    let mut has_comma = false;
-    for byte in start {
-        match *byte {
-            b'\t' => return b'\t',
-            b'\n' => return guess,
-            b',' => {
-                has_comma = true;
-                guess = b',';
-            }
-            b';' if !has_comma => guess = b';',
-            _ => {}
-        }
+    let (line, _) = split_line(start);
+    if line.contains(&b'\t') {
+        b'\t'
+    } else if line.contains(&b';') && !line.contains(&b',') {
+        b';'
+    } else {
+        b','
     }
-    guess
 }

@@ -2,7 +2,7 @@
 
 use crate::cause::Cause;
 use crate::columns::{Indices, RowSink, field};
-use crate::errors::{InputError, Place};
+use crate::errors::{InputError, InputPlace};
 use crate::lines::skip_or_err;
 use crate::number::Number;
 use crate::tally::{Recording, Tally};
@@ -16,7 +16,7 @@ const TIME_DECIMALS: u32 = 9;
 
 /// An interval with numbers.
 #[derive(Drop)]
-pub struct Interval {
+pub struct TimeSlice {
     /// The number of the interval, which begins at as many lengths after 0.
     pub number: u64,
     pub histogram: Histogram<u64>,
@@ -26,7 +26,7 @@ pub struct Interval {
 #[derive(Drop)]
 pub struct Intervals {
     /// The intervals with numbers, in the order in which they were first read.
-    pub intervals: Vec<Interval>,
+    pub intervals: Vec<TimeSlice>,
     /// Converts numbers to units, and counts the lines skipped. Its histogram stays empty.
     pub tally: Tally,
     sigfig: u8,
@@ -54,33 +54,24 @@ impl Intervals {
         })
     }
 
-    /// Returns the number of the interval of a time in nanoseconds.
-    fn interval_at(&self, time: u64) -> u64 {
-        time.checked_div(self.length).unwrap_or(0)
-    }
-
     /// Returns the index of the interval of this number, which is added if it is new.
     fn index_of(&mut self, alloc: Global, number: u64) -> Result<usize, Cause> {
-        if let Some(interval) = self.intervals.get(self.last) {
-            if interval.number == number {
-                return Ok(self.last);
-            }
+        let last = self.intervals.get(self.last);
+        if last.is_some_and(|slice| slice.number == number) {
+            return Ok(self.last);
         }
         if let Some(index) = self.indices.get(&number) {
             return Ok(*index);
         }
         let index = self.intervals.len();
-        let histogram = match Histogram::new(alloc, self.sigfig) {
-            Ok(histogram) => histogram,
-            Err(_) => return Err(Cause::OutOfMemory),
-        };
-        if self.indices.insert(number, index).is_err() {
-            return Err(Cause::OutOfMemory);
-        }
-        match self.intervals.push(Interval { number, histogram }) {
-            Ok(()) => Ok(index),
-            Err(_) => Err(Cause::OutOfMemory),
-        }
+        let histogram = Histogram::new(alloc, self.sigfig).map_err(|_| Cause::OutOfMemory)?;
+        self.indices
+            .insert(number, index)
+            .map_err(|_| Cause::OutOfMemory)?;
+        self.intervals
+            .push(TimeSlice { number, histogram })
+            .map_err(|_| Cause::OutOfMemory)?;
+        Ok(index)
     }
 
     /// Records a number in the interval of a time in nanoseconds.
@@ -88,14 +79,13 @@ impl Intervals {
         let number = Number::parse(text, self.tally.fixed_decimals())?;
         let units = self.tally.units_of(number)?;
         let missing = self.tally.interval;
-        let interval = self.interval_at(time);
-        let index = self.index_of(alloc, interval)?;
-        self.last = index;
-        match self.intervals.get_mut(index) {
-            Some(interval) => match interval.histogram.record_correct(units, missing) {
-                Ok(()) => Ok(()),
-                Err(_) => Err(Cause::OutOfMemory),
-            },
+        let slice = time.checked_div(self.length).unwrap_or(0);
+        self.last = self.index_of(alloc, slice)?;
+        match self.intervals.get_mut(self.last) {
+            Some(slice) => slice
+                .histogram
+                .record_correct(units, missing)
+                .map_err(|_| Cause::OutOfMemory),
             None => Ok(()),
         }
     }
@@ -119,7 +109,7 @@ impl RowSink for Intervals {
         indices: Indices,
         number: u64,
     ) -> Result<(), InputError> {
-        let place = Place::Row(number);
+        let place = InputPlace::Row(number);
         let time = indices.time.and_then(|index| field(row, index));
         let (Some(text), Some(time)) = (field(row, indices.value), time) else {
             return skip_or_err(

@@ -1,5 +1,4 @@
-//! Numbers from text, one on each line or in a column of a table, and the histograms of interval
-//! logs.
+//! Numbers from text, one on each line or in a column of a table.
 #![tactic(auto)]
 
 pub mod cause;
@@ -8,11 +7,8 @@ pub mod distribution;
 pub mod errors;
 pub mod intervals;
 pub mod lines;
-pub mod log_lines;
-pub mod logs;
 pub mod number;
 pub mod pieces;
-pub mod plain;
 pub mod retry;
 pub mod tally;
 mod wide;

@@ -1,17 +1,17 @@
 //! Lines with a number each.
 
-ghost use Rattle.std.specs.Prelude.{◌<◌, length};
+ghost use Rattle.std.specs.Prelude.{◌≡◌, ◌==◌, ◌<◌, length};
+ghost use Rattle.hdr_input.specs.Lines.{without_mark};
 
 use crate::cause::Cause;
-use crate::errors::{InputError, Place, bad_number};
-use crate::log_lines::without_mark;
+use crate::errors::{InputError, InputPlace, bad_number};
 use crate::number::{Number, plain_line, plain_number};
 use crate::pieces::LineSink;
 use crate::tally::Tally;
 use std::alloc::Global;
 
 /// Splits a text after its first line. The line is returned without its LF.
-fn split_line(text: &[u8]) -> (&[u8], &[u8])
+pub(crate) fn split_line(text: &[u8]) -> (&[u8], &[u8])
     ensures { 0 < length text.now → length result.1.now < length text.now }
 {
     match text.iter().position(|b| *b == b'\n') {
@@ -20,10 +20,14 @@ fn split_line(text: &[u8]) -> (&[u8], &[u8])
     }
 }
 
-/// Returns a line without a byte order mark, which only the first line may have, and without
-/// whitespace around it.
-fn trimmed(line: &[u8], number: u64) -> &[u8] {
-    without_mark(line, number).trim_ascii()
+/// Returns a line without a byte order mark, which only the first line may have.
+pub fn without_mark(line: &[u8], number: u64) -> &[u8]
+    ensures { result.now ≡ without_mark (number == 1) line.now }
+{
+    match line {
+        [0xef, 0xbb, 0xbf, rest @ ..] if number == 1 => rest,
+        _ => line,
+    }
 }
 
 /// Whether a text has a delimiter of a table's columns.
@@ -46,7 +50,7 @@ pub(crate) fn record_text(tally: &mut Tally, text: &[u8]) -> Result<(), Cause> {
 pub(crate) fn skip_or_err(
     alloc: Global,
     tally: &mut Tally,
-    place: Place,
+    place: InputPlace,
     text: &[u8],
     cause: Cause,
 ) -> Result<(), InputError> {
@@ -63,16 +67,16 @@ fn record_line(
     line: &[u8],
     number: u64,
 ) -> Result<(), InputError> {
-    let text = trimmed(line, number);
+    let text = without_mark(line, number).trim_ascii();
     if text.is_empty() || text.starts_with(b"#") {
         return Ok(());
     }
     match record_text(tally, text) {
         Ok(()) => Ok(()),
         Err(Cause::NotANumber) if has_delimiter(text) => {
-            skip_or_err(alloc, tally, Place::Line(number), text, Cause::Table)
+            skip_or_err(alloc, tally, InputPlace::Line(number), text, Cause::Table)
         }
-        Err(cause) => skip_or_err(alloc, tally, Place::Line(number), text, cause),
+        Err(cause) => skip_or_err(alloc, tally, InputPlace::Line(number), text, cause),
     }
 }
 
@@ -91,7 +95,13 @@ fn record_lines(
             Some((value, after)) => {
                 if let Err(cause) = tally.record(value) {
                     let (line, _) = split_line(rest);
-                    skip_or_err(alloc, tally, Place::Line(number), line.trim_ascii(), cause)?;
+                    skip_or_err(
+                        alloc,
+                        tally,
+                        InputPlace::Line(number),
+                        line.trim_ascii(),
+                        cause,
+                    )?;
                 }
                 rest = after;
             }

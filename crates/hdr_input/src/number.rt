@@ -1,12 +1,11 @@
 //! Decimal numbers, and their values in units.
 
-ghost use Rattle.std.specs.Prelude.{◌≡◌, ◌+◌, ◌-◌, ◌*◌, ◌^◌, ◌<◌, ◌≤◌, min, max, true, length, IfNone, IfSome, SomeIff};
+ghost use Rattle.std.specs.Prelude.{◌≡◌, ◌+◌, ◌-◌, ◌*◌, ◌^◌, ◌<◌, ◌≤◌, ℕ, List, [], min, max, true, length, IfNone, IfSome, SomeIff};
 ghost use Rattle.std.specs.Char.{is_ascii_digit, digit_value};
-ghost use Rattle.hdr_input.specs.Numbers.{in_units, BeginsWithDigits, BeginsWithPart};
-ghost use Rattle.hdr_input.specs.Numbers.{BeginsWithNumber, EndsLine};
+ghost use Rattle.hdr_input.specs.Numbers.{in_units, BeginsWithDigits, BeginsWithNumber, EndsLine};
 
 use crate::cause::Cause;
-use crate::wide::parse_wide;
+use crate::wide::{parse_wide, split_sign};
 
 /// A decimal number: `12.50` is 1250 by 2 decimals.
 #[derive(Debug, Clone, Copy, PartialEq, Eq)]
@@ -87,68 +86,44 @@ fn after_line_end(text: &[u8]) -> Option<&[u8]>
 #[inline(always)]
 pub(crate) fn plain_line(text: &[u8]) -> Option<(Number, &[u8])>
     ensures length { IfSome result (λ p. length p.1.now < length text.now) }
-    ensures value { IfSome result (λ p. BeginsWithNumber text.now p.0.digits p.0.decimals p.1.now) }
+    ensures value { IfSome result (λ p. (end : List ℕ)
+        × BeginsWithNumber text.now p.0.digits p.0.decimals end × EndsLine end p.1.now) }
 {
-    let (digits, rest) = leading_digits(0, 0, text)?;
-    let before = text.len() - rest.len();
-    if before == 0 {
-        return None;
-    }
-    if let [b'.', fraction @ ..] = rest {
-        return plain_fraction(digits, before, fraction);
-    }
-    let after = after_line_end(rest)?;
-    Some((
-        Number {
-            digits,
-            decimals: 0,
-        },
-        after,
-    ))
-}
-
-/// Parses the digits after a point, to the end of the line, as those of a number that has `whole`,
-/// which are `before` digits, before the point.
-#[inline(always)]
-fn plain_fraction(whole: u64, before: usize, fraction: &[u8]) -> Option<(Number, &[u8])>
-    requires few { before ≤ MOST_DIGITS }
-    requires small { whole < 10 ^ before }
-    ensures length { IfSome result (λ p. length p.1.now < length fraction.now) }
-    ensures value { IfSome result
-        (λ p. BeginsWithPart whole fraction.now p.0.digits p.0.decimals p.1.now) }
-{
-    let (digits, rest) = leading_digits(whole, before, fraction)?;
-    let decimals = (fraction.len() - rest.len()) as u32;
-    let after = after_line_end(rest)?;
-    Some((Number { digits, decimals }, after))
+    let (number, rest) = plain_start(text)?;
+    Some((number, after_line_end(rest)?))
 }
 
 /// Parses a number that is digits with at most a point after the first or a later one.
-pub(crate) fn plain_number(text: &[u8]) -> Option<Number> {
-    let (digits, rest) = leading_digits(0, 0, text)?;
-    let before = text.len() - rest.len();
-    match rest {
-        _ if before == 0 => None,
-        [] => Some(Number {
-            digits,
-            decimals: 0,
-        }),
-        [b'.', fraction @ ..] => whole_fraction(digits, before, fraction),
+pub(crate) fn plain_number(text: &[u8]) -> Option<Number>
+    ensures { IfSome result (λ n. BeginsWithNumber text.now n.digits n.decimals []) }
+{
+    match plain_start(text)? {
+        (number, []) => Some(number),
         _ => None,
     }
 }
 
-/// Parses the digits after a point, as `plain_fraction` does, to the end of the text.
-fn whole_fraction(whole: u64, before: usize, fraction: &[u8]) -> Option<Number>
-    requires few { before ≤ MOST_DIGITS }
-    requires small { whole < 10 ^ before }
+/// Parses the digits that a text begins with, with at most a point after the first or a later one.
+/// Returns the number with the rest. Returns `None` if it has more than `MOST_DIGITS`.
+#[inline(always)]
+fn plain_start(text: &[u8]) -> Option<(Number, &[u8])>
+    ensures length { IfSome result (λ p. length p.1.now < length text.now) }
+    ensures value { IfSome result (λ p. BeginsWithNumber text.now p.0.digits p.0.decimals p.1.now) }
 {
-    let (digits, rest) = leading_digits(whole, before, fraction)?;
-    if !rest.is_empty() {
-        return None;
+    let (digits, rest) = leading_digits(0, 0, text)?;
+    let before = text.len() - rest.len();
+    match rest {
+        _ if before == 0 => None,
+        [b'.', fraction @ ..] => {
+            let (digits, rest) = leading_digits(digits, before, fraction)?;
+            let decimals = (fraction.len() - rest.len()) as u32;
+            Some((Number { digits, decimals }, rest))
+        }
+        _ => {
+            let decimals = 0;
+            Some((Number { digits, decimals }, rest))
+        }
     }
-    let decimals = fraction.len() as u32;
-    Some(Number { digits, decimals })
 }
 
 impl Number {
@@ -164,19 +139,12 @@ impl Number {
     /// Returns `NotANumber` for another text, and `Negative` for a number below 0. Returns
     /// `TooManyDecimals` if an exact number has more than 18, and `TooLarge` on overflow.
     pub fn parse(text: &[u8], decimals: Option<u32>) -> Result<Number, Cause> {
-        match text {
-            [b'-', rest @ ..] => match parse_wide(rest) {
-                None => Err(Cause::NotANumber),
-                Some(number) if number.is_zero() => number.narrowed(decimals),
-                Some(_) => Err(Cause::Negative),
-            },
-            [b'+', rest @ ..] => parse_wide(rest)
-                .ok_or(Cause::NotANumber)?
-                .narrowed(decimals),
-            _ => parse_wide(text)
-                .ok_or(Cause::NotANumber)?
-                .narrowed(decimals),
+        let (is_negative, digits) = split_sign(text);
+        let number = parse_wide(digits).ok_or(Cause::NotANumber)?;
+        if is_negative && !number.is_zero() {
+            return Err(Cause::Negative);
         }
+        number.narrowed(decimals)
     }
 
     /// Divides the number by 10 to the power of `times`. Returns `None` on overflow.

@@ -1,4 +1,4 @@
-//! Lines from a reader, in pieces: of the input no more is held than a piece, or the longest line.
+//! Lines from a reader, in pieces: of the input no more is held than a piece.
 
 ghost use Rattle.std.specs.Prelude.{◌≡◌, ◌++◌, ◌-◌, ◌<◌, ◌≤◌, ℕ, List, [], false, true, length, take, drop};
 ghost use Rattle.std.specs.Prelude.{IfOk, IfSome, OnOk, vec_len};
@@ -7,13 +7,14 @@ ghost use Rattle.std.specs.Io.KnownBytes.{Consumes, IsAtEnd};
 ghost use Rattle.hdr_input.specs.Lines.{IsComplete};
 
 use crate::cause::Cause;
-use crate::errors::{InputError, Place, bad_number};
+use crate::errors::{InputError, InputPlace, bad_number};
+use crate::retry::RetryReader;
 use memchr::memrchr;
 use std::alloc::Global;
 use std::io::{self, ErrorKind, Read};
 
 /// The size of a piece.
-pub const PIECE: usize = 65_536;
+const PIECE: usize = 65_536;
 
 /// What takes the lines of an input.
 pub trait LineSink {
@@ -35,24 +36,6 @@ pub trait LineSink {
         → takes first (text ++ more) next a c };
 }
 
-/// Reads into a buffer, and retries if interrupted.
-fn read_some<R: Read>(reader: &mut R, buffer: &mut [u8]) -> Result<usize, InputError>
-    ensures bound { IfOk result (λ count. count ≤ length buffer.old) }
-    ensures bytes { IfOk result (λ count. Consumes (R.remaining reader.old) (R.remaining reader.new)
-        (take count buffer.new)) }
-    ensures end { IfOk result (λ count. count ≡ 0 → 0 < length buffer.old
-        → IsAtEnd (R.remaining reader.new)) }
-{
-    for _ in 0..u64::MAX {
-        match reader.read(buffer) {
-            Ok(count) => return Ok(count),
-            Err(e) if e.kind() == ErrorKind::Interrupted => {}
-            Err(e) => return Err(InputError::of_reading(e)),
-        }
-    }
-    Err(InputError::Io(io::Error::from(ErrorKind::Interrupted)))
-}
-
 /// Reads behind the first `held` bytes of a buffer. Returns the end of what was read.
 fn read_behind<R: Read>(
     reader: &mut R,
@@ -68,8 +51,10 @@ fn read_behind<R: Read>(
     ensures end { IfOk result (λ end. end ≡ held → held < vec_len buffer.old
         → IsAtEnd (R.remaining reader.new)) }
 {
-    let count = read_some(reader, &mut buffer[held..])?;
-    Ok(held + count)
+    match reader.read(&mut buffer[held..]) {
+        Ok(count) => Ok(held + count),
+        Err(error) => Err(InputError::of_reading(error)),
+    }
 }
 
 /// Returns the length of the complete lines of a piece, whose first `held` bytes end none: all of
@@ -89,32 +74,6 @@ fn complete_len(piece: &[u8], held: usize, is_last: bool) -> usize
     }
 }
 
-/// Doubles a buffer that a part of one line fills, unless the line has `longest` bytes or more.
-fn make_room(
-    alloc: Global,
-    buffer: &mut Vec<u8>,
-    held: usize,
-    longest: usize,
-    line: u64,
-) -> Result<(), InputError>
-    ensures room { OnOk result (0 < vec_len buffer.old → held ≤ vec_len buffer.old
-        → held < vec_len buffer.new) }
-    ensures kept { OnOk result (held ≤ vec_len buffer.old
-        → take held buffer.new.items ≡ take held buffer.old.items) }
-{
-    let len = buffer.len();
-    if held < len {
-        return Ok(());
-    }
-    if len >= longest {
-        let cause = Cause::TooLong(longest);
-        return Err(bad_number(alloc, Place::Line(line), buffer, cause));
-    }
-    let more = len.saturating_add(len).min(longest);
-    buffer.resize(more, 0)?;
-    Ok(())
-}
-
 /// Moves what follows the complete lines of a piece to the start of its buffer.
 fn keep_rest(buffer: &mut Vec<u8>, complete: usize, end: usize)
     requires { (complete ≤ end) × (end ≤ vec_len buffer.old) }
@@ -127,23 +86,26 @@ fn keep_rest(buffer: &mut Vec<u8>, complete: usize, end: usize)
     }
 }
 
-/// Reads all lines of a reader. Without its LF each has fewer than `longest` bytes.
-pub fn read_lines<R: Read, S: LineSink>(
+/// Reads all lines of a reader, and retries a read that was interrupted. Without its LF each line has
+/// fewer bytes than a piece.
+pub fn read_lines<R: Read + Drop, S: LineSink>(
     alloc: Global,
-    reader: &mut R,
-    longest: usize,
+    reader: R,
     sink: &mut S,
 ) -> Result<(), InputError>
     ensures { OnOk result ((text : List ℕ) × (next : ℕ)
-        × IfSome (R.remaining reader.old) (λ whole. text ≡ whole)
+        × IfSome (R.remaining reader) (λ whole. text ≡ whole)
         × S.takes 1 text next sink.old sink.new) }
 {
+    let mut reader = RetryReader { reader };
     let mut buffer = vec![in alloc; 0u8; PIECE]?;
     let mut held = 0usize;
     let mut line = 1u64;
     for _ in 0..u64::MAX {
-        make_room(alloc, &mut buffer, held, longest, line)?;
-        let end = read_behind(reader, &mut buffer, held)?;
+        if held >= buffer.len() {
+            return Err(too_long(alloc, line, &buffer));
+        }
+        let end = read_behind(&mut reader, &mut buffer, held)?;
         let complete = complete_len(&buffer[..end], held, end == held);
         line = sink.take_lines(alloc, &buffer[..complete], line)?;
         if end == held {
@@ -153,4 +115,10 @@ pub fn read_lines<R: Read, S: LineSink>(
         held = end - complete;
     }
     Err(InputError::Io(io::Error::from(ErrorKind::Interrupted)))
+}
+
+/// Returns the error of a line that has the bytes of a piece and has not ended.
+fn too_long(alloc: Global, line: u64, piece: &[u8]) -> InputError {
+    let cause = Cause::TooLong(PIECE);
+    bad_number(alloc, InputPlace::Line(line), piece, cause)
 }

@@ -16,7 +16,7 @@ pub(crate) struct Wide {
 }
 
 /// The greatest exponent that is distinguished from greater ones.
-const GREATEST_EXPONENT: i64 = 1_000_000_000;
+const GREATEST_EXPONENT: u32 = 1_000_000_000;
 
 /// Returns 10 to a power, or `None` on overflow.
 fn power_of_ten(exponent: i64) -> Option<u128> {
@@ -33,14 +33,13 @@ fn with_digit(number: Wide, digit: u8, is_fraction: bool) -> Wide {
         Some(digits) if !number.is_full => Wide {
             digits,
             exponent: number.exponent.saturating_sub(i64::from(is_fraction)),
-            is_full: false,
-            is_cut: false,
+            ..number
         },
         _ => Wide {
-            digits: number.digits,
             exponent: number.exponent.saturating_add(i64::from(!is_fraction)),
             is_full: true,
             is_cut: number.is_cut || digit > 0,
+            ..number
         },
     }
 }
@@ -82,33 +81,25 @@ fn mantissa(text: &[u8]) -> Option<Wide> {
     with_digits(number, fraction, true)
 }
 
-/// Parses an exponent such as `5` or `-05`. A greater one than `GREATEST_EXPONENT` is lowered to
-/// it.
-fn exponent(text: &[u8]) -> Option<i64> {
-    let (is_negative, digits) = match text {
+/// Splits a text after its sign, if it has one. Returns whether that is `-`, and the rest.
+pub(crate) fn split_sign(text: &[u8]) -> (bool, &[u8]) {
+    match text {
         [b'-', rest @ ..] => (true, rest),
         [b'+', rest @ ..] => (false, rest),
         _ => (false, text),
-    };
-    if digits.is_empty() {
+    }
+}
+
+/// Parses an exponent such as `5` or `-05`. A greater one than `GREATEST_EXPONENT` is lowered to
+/// it.
+fn exponent(text: &[u8]) -> Option<i64> {
+    let (is_negative, digits) = split_sign(text);
+    if digits.is_empty() || !digits.iter().all(|digit| digit.is_ascii_digit()) {
         return None;
     }
-    let mut value = 0i64;
-    for byte in digits {
-        let digit = *byte;
-        if !digit.is_ascii_digit() {
-            return None;
-        }
-        value = value
-            .saturating_mul(10)
-            .saturating_add(i64::from(digit - b'0'))
-            .min(GREATEST_EXPONENT);
-    }
-    Some(if is_negative {
-        0i64.saturating_sub(value)
-    } else {
-        value
-    })
+    let value = str::from_utf8(digits).ok()?.parse::<u32>();
+    let value = i64::from(value.unwrap_or(GREATEST_EXPONENT).min(GREATEST_EXPONENT));
+    Some(if is_negative { -value } else { value })
 }
 
 /// Parses a number without sign, such as `12`, `0.50` or `1.5e-05`.
@@ -119,10 +110,8 @@ pub(crate) fn parse_wide(text: &[u8]) -> Option<Wide> {
             let number = mantissa(&text[..at])?;
             let exponent = exponent(&text[at + 1..])?;
             Some(Wide {
-                digits: number.digits,
                 exponent: number.exponent.saturating_add(exponent),
-                is_full: number.is_full,
-                is_cut: number.is_cut,
+                ..number
             })
         }
     }
@@ -176,10 +165,7 @@ impl Wide {
     /// Returns the digits divided by 10 to a power, halves rounded up. Digits are below 10^39, so a
     /// greater power leaves 0.
     fn divided(self, power: i64) -> u128 {
-        match power_of_ten(power) {
-            Some(divisor) => rounded_quotient(self.digits, divisor),
-            None => 0,
-        }
+        power_of_ten(power).map_or(0, |divisor| rounded_quotient(self.digits, divisor))
     }
 }
 

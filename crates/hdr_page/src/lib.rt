@@ -2,13 +2,13 @@
 //! for a terminal, or as a row for each interval.
 #![tactic(auto)]
 
+mod charts;
 mod html;
 mod separated;
 mod style;
 mod table;
 mod terminal;
 
-pub use hdr_figures::error::PageError;
 pub use hdr_figures::level::PageLevel;
 pub use hdr_view::options::PageOptions;
 pub use html::page;

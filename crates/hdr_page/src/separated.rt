@@ -1,9 +1,8 @@
 //! A row for each interval of a log.
 
 use csv::{Writer, WriterBuilder};
-use hdr_figures::error::PageError;
-use hdr_figures::figures::{Figures, decoded};
-use hdr_figures::reading::{Interval, Intervals};
+use hdr_figures::figures::Figures;
+use hdr_logs::{LogError, LogIntervals, StoredInterval};
 use hdr_summary::formats::{write_field, write_text};
 use hdrhistogram::serialization::Deserializer;
 use std::alloc::{AllocError, Global};
@@ -12,24 +11,23 @@ const NAMES: [&str; 9] = [
     "start", "tag", "length", "count", "50%", "90%", "99%", "99.9%", "100%",
 ];
 
-/// Returns a row for each interval of logs in order, after a line that names the fields. Times are
-/// in seconds. A tag that a spreadsheet may take for a formula follows an apostrophe.
-pub fn rows(alloc: Global, logs: &[Vec<u8>], tag: Option<&str>) -> Result<String, PageError> {
-    let intervals = Intervals::read(alloc, logs, tag)?;
+/// Returns a row for each interval in order, after a line that names the fields. Times are in
+/// seconds. A tag that a spreadsheet may take for a formula follows an apostrophe.
+pub fn rows(alloc: Global, intervals: &LogIntervals) -> Result<String, LogError> {
     let mut table = WriterBuilder::new().from_writer(Vec::new(alloc));
     for name in NAMES {
         write_field(&mut table, name)?;
     }
     end_row(&mut table)?;
     let mut deserializer = Deserializer::new(alloc);
+    let mut spare = None;
     for interval in &intervals.list {
-        let histogram = decoded(&mut deserializer, interval)?;
-        let tag = intervals.tag_at(interval.tag);
-        let figures = Figures::of(&histogram, None);
-        write_row(alloc, &mut table, interval, tag, &figures)?;
+        let histogram = interval.histogram(&mut deserializer, spare.take())?;
+        write_row(alloc, &mut table, interval, &Figures::of(&histogram))?;
+        spare = Some(histogram);
     }
     let bytes = table.into_inner().map_err(|_| AllocError)?;
-    String::from_utf8(bytes).map_err(|_| PageError::OutOfMemory)
+    String::from_utf8(bytes).map_err(|_| LogError::OutOfMemory)
 }
 
 /// Writes a number.
@@ -59,13 +57,12 @@ fn end_row(table: &mut Writer<Vec<u8>>) -> Result<(), AllocError> {
 fn write_row(
     alloc: Global,
     table: &mut Writer<Vec<u8>>,
-    interval: &Interval<'_>,
-    tag: &str,
+    interval: &StoredInterval,
     figures: &Figures,
 ) -> Result<(), AllocError> {
     write_time(alloc, table, interval.start)?;
-    write_text(alloc, table, tag)?;
-    write_time(alloc, table, interval.length)?;
+    write_text(alloc, table, interval.name())?;
+    write_time(alloc, table, interval.length())?;
     write_number(alloc, table, figures.count)?;
     write_number(alloc, table, figures.p50)?;
     write_number(alloc, table, figures.p90)?;

@@ -35,7 +35,7 @@ const ROOT_DARK: &str = "}
 --line:#454c55;--thin:#272c33;--band:#ffffff17;";
 
 /// The style after the colours.
-const REST: &str = "}}
+const RULES: &str = "}}
 *{box-sizing:border-box}
 body{margin:0 auto;padding:20px 24px 40px;max-width:1600px;background:var(--bg);
 color:var(--ink);font:14px/1.45 system-ui,-apple-system,'Segoe UI',Roboto,'Noto Sans',
@@ -107,6 +107,16 @@ td i{width:1.8em}
 @media print{body{padding:0;max-width:none;font-size:12px}.say{font-size:16px}figure,tr{
 break-inside:avoid}.two{grid-template-columns:minmax(0,1fr)}.sw{display:none}}";
 
+/// Appends the style.
+pub(crate) fn push_style(text: &mut String) -> Result<(), AllocError> {
+    text.push_str(ROOT)?;
+    push_colours(text, &LIGHT, &HEAT_LIGHT)?;
+    text.push_str(ROOT_DARK)?;
+    push_colours(text, &DARK, &HEAT_DARK)?;
+    text.push_str(RULES)?;
+    push_classes(text)
+}
+
 /// Appends the colours of tags and of heat maps.
 fn push_colours(text: &mut String, tags: &[&str], heat: &[&str]) -> Result<(), AllocError> {
     for (index, colour) in tags.iter().enumerate() {
@@ -118,13 +128,8 @@ fn push_colours(text: &mut String, tags: &[&str], heat: &[&str]) -> Result<(), A
     Ok(())
 }
 
-/// Appends the style.
-pub(crate) fn push_style(text: &mut String) -> Result<(), AllocError> {
-    text.push_str(ROOT)?;
-    push_colours(text, &LIGHT, &HEAT_LIGHT)?;
-    text.push_str(ROOT_DARK)?;
-    push_colours(text, &DARK, &HEAT_DARK)?;
-    text.push_str(REST)?;
+/// Appends the classes that have a colour.
+fn push_classes(text: &mut String) -> Result<(), AllocError> {
     for index in 0..LIGHT.len() {
         write!(text, ".t{index}{{--t:var(--t{index})}}")?;
     }

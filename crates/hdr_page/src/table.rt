@@ -1,12 +1,12 @@
 //! The table of tags.
 
-use hdr_charts::legend::push_mark;
-use hdr_draw::number::{push_grouped, push_rate};
-use hdr_figures::figures::{Figures, TagFigures};
+use crate::charts::legend::push_mark;
+use hdr_view::view::View;
 use hdr_view::amount::Amount;
 use hdr_view::name::IN_TABLE;
-use hdr_view::view::{DRAWN, View};
-use std::alloc::{AllocError, Global};
+use hdr_draw::number::{push_grouped, push_rate};
+use hdr_figures::figures::{DRAWN, Figures, TagFigures};
+use std::alloc::AllocError;
 
 /// The rows that are shown at once.
 const OPEN: usize = 40;
@@ -32,10 +32,10 @@ fn columns(figures: &Figures) -> [u64; COLUMNS] {
 
 /// Returns the value that is bold in each column: its greatest, if that is 1.5 times its median or
 /// more.
-fn bold_values(alloc: Global, view: &View<'_>) -> Result<[Option<u64>; COLUMNS], AllocError> {
+fn bold_values(view: &View<'_>) -> Result<[Option<u64>; COLUMNS], AllocError> {
     let mut bold = [None; COLUMNS];
     for (column, bold) in bold.iter_mut().enumerate() {
-        let mut values = Vec::new(alloc);
+        let mut values = Vec::new(view.alloc);
         for tag in &view.log.tags {
             if tag.figures.count > 0 {
                 if let Some(value) = columns(&tag.figures).get(column) {
@@ -55,12 +55,8 @@ fn bold_values(alloc: Global, view: &View<'_>) -> Result<[Option<u64>; COLUMNS],
 }
 
 /// Appends the table.
-pub(crate) fn push_table(
-    view: &View<'_>,
-    alloc: Global,
-    text: &mut String,
-) -> Result<(), AllocError> {
-    let bold = bold_values(alloc, view)?;
+pub(crate) fn push_table(view: &View<'_>, text: &mut String) -> Result<(), AllocError> {
+    let bold = bold_values(view)?;
     text.push_str(HEAD)?;
     if !view.is_single() {
         let length = view.timeline.last.saturating_sub(view.timeline.first);
@@ -72,7 +68,7 @@ pub(crate) fn push_table(
         if index == OPEN {
             push_fold(text, more)?;
         }
-        push_tag_row(view, alloc, text, index, tag, &bold)?;
+        push_tag_row(view, text, index, tag, &bold)?;
     }
     text.push_str("</tbody></table>")?;
     if more > 0 {
@@ -104,7 +100,6 @@ fn push_fold(text: &mut String, more: usize) -> Result<(), AllocError> {
 /// Appends the row of a tag.
 fn push_tag_row(
     view: &View<'_>,
-    alloc: Global,
     text: &mut String,
     index: usize,
     tag: &TagFigures<'_>,
@@ -114,7 +109,7 @@ fn push_tag_row(
     if index < DRAWN && !view.is_single() {
         push_mark(text, index)?;
     }
-    view.push_isolated(alloc, text, tag.tag, IN_TABLE)?;
+    view.push_isolated(text, tag.tag, IN_TABLE)?;
     push_row(view, text, &tag.figures, tag.length, bold)
 }
 
@@ -161,10 +156,7 @@ fn push_cell(
     text.push_str(if is_bold { "<td class=w>" } else { "<td>" })?;
     match amount {
         Some(amount) => amount.push_in_cell(text),
-        None => text.push_str(if view.units.is_known() {
-            "–<i></i>"
-        } else {
-            "–"
-        }),
+        None if view.units.unit.is_some() => text.push_str("–<i></i>"),
+        None => text.push_str("–"),
     }
 }

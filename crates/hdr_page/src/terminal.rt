@@ -1,14 +1,18 @@
 //! The page for a terminal: the sentence, the slow times, and the curve of percentiles of all
 //! samples in blocks.
 
-use hdr_charts::detail::curve_of;
-use hdr_charts::percentiles::LINES;
-use hdr_draw::quantiles::QuantileScale;
-use hdr_draw::values::{Tick, ValueScale};
-use hdr_figures::error::PageError;
+ghost use Rattle.std.specs.Prelude.{◌≡◌, IfOk, IsSome};
+ghost use Rattle.std.specs.List.{All};
+ghost use Rattle.hdr_logs.specs.Stored.{HaveSameDecimals, decimals_of};
+
+use crate::charts::detail::curve_of;
+use crate::charts::percentiles::LINES;
 use hdr_view::name::columns;
 use hdr_view::options::PageOptions;
-use hdr_view::view::{Form, View};
+use hdr_view::view::{PageForm, View};
+use hdr_draw::quantiles::QuantileScale;
+use hdr_draw::values::{AxisTick, ValueScale};
+use hdr_logs::{LogError, LogIntervals};
 use std::alloc::{AllocError, Global};
 
 /// The columns of a label and a space, and of the curve: 80 together.
@@ -21,20 +25,23 @@ const ROWS: u32 = 16;
 
 const BLOCKS: [&str; 9] = [" ", "▁", "▂", "▃", "▄", "▅", "▆", "▇", "█"];
 
-/// Returns the page of logs as text for a terminal with 80 columns.
+/// Returns the page of intervals as text for a terminal with 80 columns.
 pub fn page_text(
     alloc: Global,
-    logs: &[Vec<u8>],
+    intervals: &LogIntervals,
     options: PageOptions<'_>,
-) -> Result<String, PageError> {
-    let view = View::new(alloc, logs, options, Form::Plain)?;
+) -> Result<String, LogError>
+    ensures { IfOk result (λ _. IsSome options.entry.unit → HaveSameDecimals intervals.now
+        → All (λ i. decimals_of i ≡ 0) intervals.now.list.items) }
+{
+    let view = View::new(alloc, intervals, options, PageForm::Plain)?;
     let mut summary = String::new(alloc);
-    view.push_summary(alloc, &mut summary)?;
+    view.push_summary(&mut summary)?;
     let mut text = String::new(alloc);
     push_wrapped(&mut text, summary.as_str())?;
     if view.log.all.count > 0 {
         text.push_str("\n")?;
-        push_blocks(&view, alloc, &mut text)?;
+        push_blocks(&view, &mut text)?;
     }
     Ok(text)
 }
@@ -62,32 +69,31 @@ fn push_wrapped(text: &mut String, summary: &str) -> Result<(), AllocError> {
 }
 
 /// Appends the curve of percentiles.
-fn push_blocks(view: &View<'_>, alloc: Global, text: &mut String) -> Result<(), AllocError> {
+fn push_blocks(view: &View<'_>, text: &mut String) -> Result<(), AllocError> {
     let scale = view.scale();
     let quantiles = QuantileScale::new(view.log.all.count);
-    let heights = heights(view, alloc, &scale, &quantiles)?;
-    let ticks = scale.ticks(alloc, ROWS * 150)?;
+    let heights = heights(view, &scale, &quantiles)?;
+    let ticks = scale.ticks(view.alloc, ROWS * 150)?;
     for row in (0..ROWS).rev() {
-        push_row_label(view, alloc, text, &scale, &ticks, row)?;
+        push_row_label(view, text, &scale, &ticks, row)?;
         for height in &heights {
             let blocks = height.saturating_sub(row * 8).min(8) as usize;
             text.push_str(BLOCKS.get(blocks).copied().unwrap_or(" "))?;
         }
         text.push_str("\n")?;
     }
-    push_axis(alloc, text, &quantiles)
+    push_axis(view.alloc, text, &quantiles)
 }
 
 /// Returns the height of each column, in eighths of a row.
 fn heights(
     view: &View<'_>,
-    alloc: Global,
     scale: &ValueScale,
     quantiles: &QuantileScale,
 ) -> Result<Vec<u32>, AllocError> {
     let last = COLUMNS - 1;
-    let mut heights = vec![in alloc; 0; COLUMNS]?;
-    for point in curve_of(alloc, &view.log.sum, quantiles, last as u32)? {
+    let mut heights = vec![in view.alloc; 0; COLUMNS]?;
+    for point in curve_of(view.alloc, &view.log.sum.histogram, quantiles, last as u32)? {
         let above = scale.place(point.value, ROWS * 8);
         for height in heights.iter_mut().skip(point.x as usize) {
             *height = above.max(1);
@@ -99,17 +105,16 @@ fn heights(
 /// Appends the label of the greatest step in a row, if it has one, in the columns of a label.
 fn push_row_label(
     view: &View<'_>,
-    alloc: Global,
     text: &mut String,
     scale: &ValueScale,
-    ticks: &[Tick],
+    ticks: &[AxisTick],
     row: u32,
 ) -> Result<(), AllocError> {
-    let mut label = String::new(alloc);
+    let mut label = String::new(view.alloc);
     for tick in ticks {
         let is_here = scale.place(tick.value, ROWS * 8).saturating_sub(1) / 8 == row;
         if tick.has_text && is_here {
-            label = String::new(alloc);
+            label = String::new(view.alloc);
             view.units.push_label(&mut label, tick.value)?;
         }
     }

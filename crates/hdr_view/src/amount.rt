@@ -1,6 +1,6 @@
 //! Values with their units.
 
-ghost use Rattle.std.specs.Prelude.{ℕ, List, Option, None, Some, ◌≡◌, ◌<◌, ◌≤◌, ◌+◌, ◌*◌, ◌^◌, ◌++◌, ◌↔◌, IfSome, IfNone, IsTrue, IsSome, OnOk, string_bytes};
+ghost use Rattle.std.specs.Prelude.{ℕ, List, Option, None, Some, ◌≡◌, ◌<◌, ◌≤◌, ◌+◌, ◌*◌, ◌^◌, ◌++◌, IfSome, IfNone, IsSome, OnOk, string_bytes};
 ghost use Rattle.hdr_draw.specs.Numbers.{IsDecimalOf};
 ghost use Rattle.hdr_view.specs.Amounts.{IsExact, IsInUnit, IsLabel, IsValueText, box_text, longer_by, unit_name, unit_text};
 
@@ -11,7 +11,7 @@ use hdrhistogram::Fraction;
 use std::alloc::AllocError;
 
 /// A space at which a line is not broken.
-pub const SPACE: &str = "\u{a0}";
+pub(crate) const SPACE: &str = "\u{a0}";
 
 /// The index of the longest unit of time.
 const LONGEST: usize = 3;
@@ -56,22 +56,10 @@ fn name_of(unit: usize) -> &'static str
 
 impl Units {
     /// Returns the unit of values.
-    pub fn new(unit: Option<Unit>) -> Units {
+    pub(crate) fn new(unit: Option<Unit>) -> Units {
         Units {
-            unit: unit.map(|unit| match unit {
-                Unit::Nanoseconds => 0,
-                Unit::Microseconds => 1,
-                Unit::Milliseconds => 2,
-                Unit::Seconds => LONGEST,
-            }),
+            unit: unit.map(|unit| LONGEST.saturating_sub(unit.decimals() as usize / 3)),
         }
-    }
-
-    /// Whether the unit is known.
-    pub fn is_known(self) -> bool
-        ensures { IsTrue result ↔ IsSome self.unit }
-    {
-        self.unit.is_some()
     }
 
     /// Returns an amount in the longest unit of which it is one or more, after rounding.
@@ -227,7 +215,7 @@ impl Amount {
 
     /// Appends the number: three significant digits, and integers of the log's own unit in full below
     /// 10,000,000. From there on it has an exponent.
-    pub fn push_number(self, text: &mut String) -> Result<(), AllocError>
+    pub(crate) fn push_number(self, text: &mut String) -> Result<(), AllocError>
         ensures { 0 < self.den → self.num * 10 ^ 9 + 1 < 2 ^ 128 → OnOk result ((added : List ℕ)
             × IsDecimalOf self.num self.den added
             × (string_bytes text.new ≡ string_bytes text.old ++ added)) }

@@ -60,10 +60,7 @@ fn civil(time: u64) -> Option<DateTime> {
 /// Returns the name of a month.
 fn month_name(date: DateTime) -> &'static str {
     let index = u8::try_from(date.month()).unwrap_or(1).saturating_sub(1);
-    match MONTHS.get(index as usize) {
-        Some(name) => *name,
-        None => "",
-    }
+    MONTHS.get(index as usize).copied().unwrap_or("")
 }
 
 /// Appends a day such as `26 Nov`.
@@ -76,7 +73,7 @@ fn push_day(text: &mut String, date: DateTime) -> Result<(), AllocError> {
 
 impl Clock {
     /// Returns the clock of a log.
-    pub fn new(timeline: &Timeline) -> Clock {
+    pub(crate) fn new(timeline: &Timeline) -> Clock {
         let has_clock = timeline.has_clock();
         Clock {
             first: timeline.first,
@@ -84,11 +81,6 @@ impl Clock {
             has_days: has_clock && timeline.first / DAY != timeline.last / DAY,
             has_hours: timeline.last.saturating_sub(timeline.first) >= HOUR,
         }
-    }
-
-    /// Whether times are those of a clock.
-    pub fn has_clock(self) -> bool {
-        self.has_clock
     }
 
     /// Appends a time, in milliseconds since the epoch.
@@ -132,7 +124,7 @@ impl Clock {
 
     /// Appends the day of a time with its year after a comma, such as `, 25 November 2026`. A year
     /// past 9999 is left out.
-    pub fn push_date(self, text: &mut String, time: u64) -> Result<(), AllocError> {
+    pub(crate) fn push_date(self, text: &mut String, time: u64) -> Result<(), AllocError> {
         let Some(date) = civil(time) else {
             return Ok(());
         };
@@ -155,7 +147,8 @@ pub fn push_length(text: &mut String, milliseconds: u64) -> Result<(), AllocErro
     let mut rest = milliseconds.saturating_add(500) / 1_000;
     let mut written = 0u32;
     for (size, name) in LENGTHS {
-        if rest >= size && written < 2 {
+        let is_last = size == 1 && written == 0;
+        if (rest >= size || is_last) && written < 2 {
             if written > 0 {
                 text.push_str(SPACE)?;
             }
@@ -167,11 +160,6 @@ pub fn push_length(text: &mut String, milliseconds: u64) -> Result<(), AllocErro
         } else if written > 0 {
             break;
         }
-    }
-    if written == 0 {
-        text.push_str("0")?;
-        text.push_str(SPACE)?;
-        text.push_str("s")?;
     }
     Ok(())
 }

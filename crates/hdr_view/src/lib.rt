@@ -6,5 +6,6 @@ pub mod amount;
 pub mod clock;
 pub mod name;
 pub mod options;
-pub mod sentence;
+mod sentence;
+pub mod slow;
 pub mod view;

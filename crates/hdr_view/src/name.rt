@@ -12,7 +12,7 @@ use unicode_width::UnicodeWidthChar;
 pub const IN_TABLE: usize = 40;
 
 /// The most columns of a tag in the line of a slow time.
-pub const IN_SLOW_TIME: usize = 24;
+pub(crate) const IN_SLOW_TIME: usize = 24;
 
 /// The most columns of a tag at the end of a curve.
 pub const AT_CURVE: usize = 20;
@@ -77,7 +77,7 @@ pub fn columns(name: &str, most: usize) -> usize {
 
 /// Returns a text of at most a number of columns. Characters that are invisible are replaced, marks
 /// past the second of a character are left out, and an ellipsis ends a text that is longer.
-pub fn shortened(alloc: Global, name: &str, most: usize) -> Result<String, AllocError> {
+pub(crate) fn shortened(alloc: Global, name: &str, most: usize) -> Result<String, AllocError> {
     let is_long = columns(name, most) > most;
     let limit = most.saturating_sub(if is_long { 1 } else { 0 });
     let mut text = String::new(alloc);
@@ -105,7 +105,7 @@ pub fn shortened(alloc: Global, name: &str, most: usize) -> Result<String, Alloc
 }
 
 /// Appends a text of a log as HTML writes it, with at most a number of columns.
-pub fn push_shown(
+pub(crate) fn push_shown(
     alloc: Global,
     text: &mut String,
     name: &str,

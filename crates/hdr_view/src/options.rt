@@ -15,8 +15,6 @@ pub struct PageOptions<'a> {
     /// The unit of the log's values, if it is known.
     pub unit: Option<Unit>,
     pub level: Option<PageLevel>,
-    /// The only tag that is shown, or `None` for all; an empty one for intervals without a tag.
-    pub tag: Option<&'a str>,
 }
 
 /// Whether the quantile of a level is 99/100.

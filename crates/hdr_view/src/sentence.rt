@@ -3,19 +3,22 @@
 use crate::clock::{TimeStyle, push_length};
 use crate::name::{IN_SLOW_TIME, IN_TABLE, IN_TITLE};
 use crate::options::{is_p99, push_percentile};
-use crate::view::{DRAWN, View};
+use crate::slow::{LETTERS, Mark, SlowMeasure, SlowTime, TIMES};
+use crate::view::View;
 use hdr_draw::number::push_grouped;
-use hdr_figures::slow::{LETTERS, Mark, Measure, SlowTime, TIMES};
-use std::alloc::{AllocError, Global};
+use hdr_figures::figures::DRAWN;
+use hdr_figures::level::Verdict;
+use std::alloc::AllocError;
 
 impl View<'_> {
     /// Appends the title, the sentence and the slow times.
-    pub fn push_summary(&self, alloc: Global, text: &mut String) -> Result<(), AllocError> {
+    pub fn push_summary(&self, text: &mut String) -> Result<(), AllocError> {
         self.push_markup(text, "<h1>")?;
-        self.push_shown(alloc, text, self.options.title, IN_TITLE)?;
+        self.push_shown(text, self.options.title, IN_TITLE)?;
         self.push_markup(text, "</h1>")?;
         text.push_str("\n")?;
-        self.push_sentence(alloc, text)?;
+        self.push_sentence(text)?;
+        self.push_coarser(text)?;
         if self.log.all.count == 0 || self.is_instant() {
             self.push_markup(text, "<p class=\"soft\">")?;
         } else if self.slow.named.is_empty() {
@@ -23,7 +26,7 @@ impl View<'_> {
             text.push_str("Never slow: ")?;
             self.push_rule(text)?;
         } else {
-            self.push_slow_times(alloc, text)?;
+            self.push_slow_times(text)?;
             self.push_markup(text, "<p class=\"soft\">")?;
             text.push_str("Slow: ")?;
             self.push_rule(text)?;
@@ -32,7 +35,7 @@ impl View<'_> {
     }
 
     /// Appends the sentence on all samples.
-    fn push_sentence(&self, alloc: Global, text: &mut String) -> Result<(), AllocError> {
+    fn push_sentence(&self, text: &mut String) -> Result<(), AllocError> {
         let all = &self.log.all;
         let length = self.timeline.last.saturating_sub(self.timeline.first);
         self.push_markup(text, "<p class=\"say\">")?;
@@ -56,7 +59,7 @@ impl View<'_> {
         self.push_bold(text, "p99 ", all.p99)?;
         text.push_str(", ")?;
         self.push_bold(text, "max ", all.max)?;
-        self.push_worst(alloc, text)?;
+        self.push_worst(text)?;
         text.push_str(".")?;
         self.push_verdict(text)?;
         self.push_markup(text, "</p>")?;
@@ -72,19 +75,20 @@ impl View<'_> {
     }
 
     /// Appends when the greatest sample came, and in which tag.
-    fn push_worst(&self, alloc: Global, text: &mut String) -> Result<(), AllocError> {
+    fn push_worst(&self, text: &mut String) -> Result<(), AllocError> {
         let Some(worst) = self.log.worst else {
             return Ok(());
         };
         if !self.is_instant() {
             text.push_str(" at ")?;
-            self.clock.push(text, worst.start, TimeStyle::Full)?;
+            self.clock
+                .push(text, worst.interval.start, TimeStyle::Full)?;
         }
         if self.is_single() {
             return Ok(());
         }
         text.push_str(" in ")?;
-        self.push_isolated(alloc, text, worst.tag, IN_TABLE)
+        self.push_isolated(text, worst.interval.name(), IN_TABLE)
     }
 
     /// Appends whether all samples keep the level.
@@ -92,13 +96,14 @@ impl View<'_> {
         let Some(level) = self.options.level else {
             return Ok(());
         };
-        let found = self.log.all.at_level;
+        let all = &self.log.all;
+        let verdict = level.verdict(all);
         text.push_str(" ")?;
         self.push_markup(text, "<b>")?;
-        text.push_str(if found > level.value {
-            "Over the level"
-        } else {
-            "Within the level"
+        text.push_str(match verdict {
+            Verdict::Over => "Over the level",
+            Verdict::MayBeOver => "May be over the level",
+            Verdict::Within => "Within the level",
         })?;
         self.push_markup(text, "</b>")?;
         text.push_str(" of ")?;
@@ -107,22 +112,44 @@ impl View<'_> {
         self.units.push_label(text, level.value)?;
         if !is_p99(level) {
             text.push_str(" (")?;
-            self.units.push(text, found)?;
+            self.units.push(text, all.at_level)?;
             text.push_str(")")?;
+        }
+        if verdict == Verdict::MayBeOver {
+            text.push_str(": the class of its value ends at ")?;
+            self.units.push_label(text, all.highest_at_level)?;
         }
         text.push_str(".")
     }
 
+    /// Appends how many intervals are coarser than the sums, if any are.
+    fn push_coarser(&self, text: &mut String) -> Result<(), AllocError> {
+        let coarser = self.log.coarser;
+        if coarser == 0 {
+            return Ok(());
+        }
+        self.push_markup(text, "<p class=\"soft\">")?;
+        push_grouped(text, coarser)?;
+        text.push_str(" of ")?;
+        push_grouped(text, self.intervals as u64)?;
+        text.push_str(if coarser == 1 {
+            " intervals is coarser than 3 digits: its samples count as the lowest values of their \
+             classes."
+        } else {
+            " intervals are coarser than 3 digits: their samples count as the lowest values of their \
+             classes."
+        })?;
+        self.push_markup(text, "</p>")?;
+        text.push_str("\n")
+    }
+
     /// Appends a line for each slow time.
-    fn push_slow_times(&self, alloc: Global, text: &mut String) -> Result<(), AllocError> {
+    fn push_slow_times(&self, text: &mut String) -> Result<(), AllocError> {
         self.push_markup(text, "<ul class=\"slow\" aria-label=\"Slow times\">\n")?;
         let peak = self.peak();
         for (time, letter) in self.slow.named.iter().zip(LETTERS) {
-            let is_peak = match &peak {
-                Some(peak) => !peak.is_further(&time.worst),
-                None => false,
-            };
-            self.push_slow_time(alloc, text, time, letter, is_peak)?;
+            let is_peak = peak.is_some_and(|peak| !peak.is_further(&time.worst));
+            self.push_slow_time(text, time, letter, is_peak)?;
         }
         self.push_markup(text, "</ul>\n")?;
         let others = self.slow.others;
@@ -139,11 +166,7 @@ impl View<'_> {
     fn peak(&self) -> Option<Mark> {
         let mut peak: Option<Mark> = None;
         for time in &self.slow.named {
-            let is_further = match &peak {
-                Some(peak) => time.worst.is_further(peak),
-                None => true,
-            };
-            if is_further {
+            if peak.is_none_or(|peak| time.worst.is_further(&peak)) {
                 peak = Some(time.worst);
             }
         }
@@ -153,7 +176,6 @@ impl View<'_> {
     /// Appends the line of a slow time.
     fn push_slow_time(
         &self,
-        alloc: Global,
         text: &mut String,
         time: &SlowTime,
         letter: &str,
@@ -165,9 +187,9 @@ impl View<'_> {
         text.push_str(" Slow from ")?;
         self.push_span(text, time)?;
         text.push_str(":")?;
-        self.push_slow_tags(alloc, text, time)?;
+        self.push_slow_tags(text, time)?;
         text.push_str(" ")?;
-        self.push_slowest(alloc, text, time, is_peak)?;
+        self.push_slowest(text, time, is_peak)?;
         text.push_str(" ")?;
         self.push_markup(text, "<span class=\"soft\">")?;
         text.push_str("(usually ")?;
@@ -180,7 +202,6 @@ impl View<'_> {
     /// Appends the measure at the worst point of a slow time, when that was, and in which tag.
     fn push_slowest(
         &self,
-        alloc: Global,
         text: &mut String,
         time: &SlowTime,
         is_peak: bool,
@@ -197,10 +218,13 @@ impl View<'_> {
             text.push_str(" at ")?;
             self.push_start(text, worst.point)?;
         }
-        if time.slow_count() > 1 {
-            self.push_in_tag(alloc, text, worst.tag)?;
+        match self.log.tags.get(worst.tag) {
+            Some(tag) if time.slow_count() > 1 => {
+                text.push_str(" in ")?;
+                self.push_isolated(text, tag.tag, IN_SLOW_TIME)
+            }
+            _ => Ok(()),
         }
-        Ok(())
     }
 
     /// Appends when a slow time began, and how long it was.
@@ -217,27 +241,8 @@ impl View<'_> {
         self.clock.push(text, start, TimeStyle::Full)
     }
 
-    /// Appends the tag of an index, after `in`.
-    fn push_in_tag(
-        &self,
-        alloc: Global,
-        text: &mut String,
-        index: usize,
-    ) -> Result<(), AllocError> {
-        let Some(tag) = self.log.tags.get(index) else {
-            return Ok(());
-        };
-        text.push_str(" in ")?;
-        self.push_isolated(alloc, text, tag.tag, IN_SLOW_TIME)
-    }
-
     /// Appends which tags are slow, unless there is one tag alone.
-    fn push_slow_tags(
-        &self,
-        alloc: Global,
-        text: &mut String,
-        time: &SlowTime,
-    ) -> Result<(), AllocError> {
+    fn push_slow_tags(&self, text: &mut String, time: &SlowTime) -> Result<(), AllocError> {
         if self.is_single() {
             return Ok(());
         }
@@ -249,7 +254,7 @@ impl View<'_> {
         for (tag, is_slow) in self.log.tags.iter().zip(time.tags.iter()) {
             if *is_slow && named < 3 {
                 text.push_str(if named == 0 { " " } else { ", " })?;
-                self.push_isolated(alloc, text, tag.tag, IN_SLOW_TIME)?;
+                self.push_isolated(text, tag.tag, IN_SLOW_TIME)?;
                 named += 1;
             }
         }
@@ -261,11 +266,11 @@ impl View<'_> {
     }
 
     /// Appends the name of a measure.
-    fn push_measure(&self, text: &mut String, measure: Measure) -> Result<(), AllocError> {
+    fn push_measure(&self, text: &mut String, measure: SlowMeasure) -> Result<(), AllocError> {
         match (measure, self.options.level) {
-            (Measure::P50, _) => text.push_str("p50"),
-            (Measure::P90, _) => text.push_str("p90"),
-            (Measure::Level, Some(level)) => push_percentile(text, level),
+            (SlowMeasure::P50, _) => text.push_str("p50"),
+            (SlowMeasure::P90, _) => text.push_str("p90"),
+            (SlowMeasure::Level, Some(level)) => push_percentile(text, level),
             _ => text.push_str("p99"),
         }
     }
@@ -303,7 +308,7 @@ impl View<'_> {
 
     /// Appends from when to when the log is, and ends the paragraph.
     fn push_zone(&self, text: &mut String) -> Result<(), AllocError> {
-        if self.clock.has_clock() {
+        if self.timeline.has_clock() {
             self.clock.push(text, self.timeline.first, TimeStyle::Full)?;
             text.push_str(" to ")?;
             self.clock.push(text, self.timeline.last, TimeStyle::Full)?;

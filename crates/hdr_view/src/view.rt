@@ -1,28 +1,27 @@
 //! What a page shows.
 
-ghost use Rattle.std.specs.Prelude.{◌≡◌, ◌≤◌, ◌<◌, ◌↔◌, ◌==◌, IfNone, IfSome, IsTrue};
-ghost use Rattle.std.specs.Prelude.{length, take, []};
+ghost use Rattle.std.specs.Prelude.{ℕ, ◌≡◌, ◌≤◌, ◌<◌, ◌↔◌, ◌==◌, IfOk, IfSome, IsSome, IsTrue, length, []};
+ghost use Rattle.std.specs.List.{All};
+ghost use Rattle.hdr_draw.specs.Scales.{IsValueScale};
+ghost use Rattle.hdr_logs.specs.Stored.{HaveSameDecimals, decimals_of};
 ghost use Rattle.hdr_view.specs.Views.{figure_of, name_without_tag};
 
 use crate::amount::Units;
 use crate::clock::Clock;
 use crate::name::{push_shown, shortened};
 use crate::options::PageOptions;
+use crate::slow::{SlowTimes, slow_times};
 use hdr_draw::path::Joint;
 use hdr_draw::values::ValueScale;
-use hdr_figures::error::PageError;
-use hdr_figures::figures::{Key, LogFigures, PointFigures, TagFigures, figures_of, keys_of};
-use hdr_figures::reading::Intervals;
-use hdr_figures::slow::{SlowTimes, slow_times};
+use hdr_figures::figures::{Figures, LogFigures, TagFigures};
+use hdr_figures::sums::figures_of;
 use hdr_figures::timeline::Timeline;
+use hdr_logs::{LogError, LogIntervals};
 use std::alloc::{AllocError, Global};
-
-/// The most tags that are drawn.
-pub const DRAWN: usize = 10;
 
 /// The form of a page.
 #[derive(Clone, Copy, PartialEq, Eq)]
-pub enum Form {
+pub enum PageForm {
     Html,
     /// Text for a terminal.
     Plain,
@@ -31,59 +30,52 @@ pub enum Form {
 /// What a page shows.
 #[derive(Drop)]
 pub struct View<'a> {
-    pub form: Form,
+    pub alloc: Global,
+    pub form: PageForm,
     pub options: PageOptions<'a>,
     pub units: Units,
     pub timeline: Timeline,
     pub clock: Clock,
-    pub intervals: Intervals<'a>,
-    pub keys: Vec<Key>,
+    /// The number of intervals.
+    pub intervals: usize,
     pub log: LogFigures<'a>,
     pub slow: SlowTimes,
 }
 
 impl<'a> View<'a> {
-    /// Returns what a page of logs shows.
+    /// Returns what a page of intervals shows.
+    ///
+    /// # Errors
+    /// Returns an error if a unit is set and the values have decimals of it, if a histogram is
+    /// invalid, or if an allocation fails.
     pub fn new(
         alloc: Global,
-        logs: &'a [Vec<u8>],
+        intervals: &'a LogIntervals,
         options: PageOptions<'a>,
-        form: Form,
-    ) -> Result<View<'a>, PageError> {
-        let intervals = Intervals::read(alloc, logs, options.tag)?;
-        if options.unit.is_some() && intervals.decimals() > 0 {
-            return Err(PageError::Decimals(intervals.decimals()));
+        form: PageForm,
+    ) -> Result<View<'a>, LogError>
+        ensures { IfOk result (λ _. IsSome options.entry.unit → HaveSameDecimals intervals.now
+            → All (λ i. decimals_of i ≡ 0) intervals.now.list.items) }
+    {
+        let decimals = intervals.decimals().unwrap_or(0);
+        if options.unit.is_some() && decimals > 0 {
+            return Err(LogError::UnitOfDecimals(decimals));
         }
         let timeline = Timeline::new(alloc, &intervals.list)?;
-        let keys = keys_of(alloc, &intervals, &timeline)?;
-        let level = match options.level {
-            Some(level) => level.quantile(),
-            None => None,
-        };
-        let log = figures_of(alloc, &intervals, &keys, &timeline, level)?;
-        let drawn = log.tags.get(..DRAWN).unwrap_or(log.tags.as_slice());
-        let slow = slow_times(alloc, drawn, timeline.points, options.level)?;
+        let level = options.level.and_then(|level| level.quantile());
+        let log = figures_of(alloc, &intervals.list, &timeline, level)?;
+        let slow = slow_times(alloc, log.drawn_tags(), timeline.points, options.level)?;
         Ok(View {
+            alloc,
             form,
             options,
             units: Units::new(options.unit),
             timeline,
             clock: Clock::new(&timeline),
-            intervals,
-            keys,
+            intervals: intervals.list.len(),
             log,
             slow,
         })
-    }
-
-    /// Returns the tags that are drawn.
-    pub fn drawn(&self) -> &[TagFigures<'a>]
-        ensures tags { result.now ≡ take 10 self.now.log.tags.items }
-    {
-        self.log
-            .tags
-            .get(..DRAWN)
-            .unwrap_or(self.log.tags.as_slice())
     }
 
     /// Whether the log has one tag.
@@ -101,12 +93,12 @@ impl<'a> View<'a> {
     }
 
     /// Returns the least value, or the level if that is less.
-    fn least(&self) -> u64 {
-        let least = self.log.all.min;
-        match self.options.level {
-            Some(level) => least.min(level.value),
-            None => least,
-        }
+    fn least(&self) -> u64
+        ensures below { result ≤ self.now.log.all.min }
+        ensures level { IfSome self.now.options.level (λ l. result ≤ l.value) }
+    {
+        let level = self.options.level.map_or(u64::MAX, |level| level.value);
+        self.log.all.min.min(level)
     }
 
     /// Returns the greatest value, or the level if that is greater.
@@ -120,59 +112,49 @@ impl<'a> View<'a> {
     }
 
     /// Returns the scale of all values, and of the level.
-    pub fn scale(&self) -> ValueScale {
+    pub fn scale(&self) -> ValueScale
+        ensures { (least : ℕ) × (greatest : ℕ) × IsValueScale result least greatest
+            × (least ≤ self.now.log.all.min) × (self.now.log.all.max ≤ greatest) }
+    {
         ValueScale::new(self.least(), self.greatest())
     }
 
     /// Appends the name of a tag, with at most a number of columns.
-    pub fn push_tag(
-        &self,
-        alloc: Global,
-        text: &mut String,
-        tag: &str,
-        most: usize,
-    ) -> Result<(), AllocError> {
-        self.push_shown(alloc, text, self.name_of(tag), most)
+    pub fn push_tag(&self, text: &mut String, tag: &str, most: usize) -> Result<(), AllocError> {
+        self.push_shown(text, self.name_of(tag), most)
     }
 
     /// Appends the name of a tag in `<bdi>`, so that its direction does not affect the text around
     /// it.
     pub fn push_isolated(
         &self,
-        alloc: Global,
         text: &mut String,
         tag: &str,
         most: usize,
     ) -> Result<(), AllocError> {
         self.push_markup(text, "<bdi>")?;
-        self.push_tag(alloc, text, tag, most)?;
+        self.push_tag(text, tag, most)?;
         self.push_markup(text, "</bdi>")
     }
 
     /// Appends a text of a log, with at most a number of columns.
-    pub fn push_shown(
-        &self,
-        alloc: Global,
-        text: &mut String,
-        name: &str,
-        most: usize,
-    ) -> Result<(), AllocError> {
+    pub fn push_shown(&self, text: &mut String, name: &str, most: usize) -> Result<(), AllocError> {
         match self.form {
-            Form::Html => push_shown(alloc, text, name, most),
-            Form::Plain => text.push_str(shortened(alloc, name, most)?.as_str()),
+            PageForm::Html => push_shown(self.alloc, text, name, most),
+            PageForm::Plain => text.push_str(shortened(self.alloc, name, most)?.as_str()),
         }
     }
 
     /// Appends a tag of HTML, unless the text is plain.
-    pub fn push_markup(&self, text: &mut String, tag: &str) -> Result<(), AllocError> {
+    pub(crate) fn push_markup(&self, text: &mut String, tag: &str) -> Result<(), AllocError> {
         match self.form {
-            Form::Html => text.push_str(tag),
-            Form::Plain => Ok(()),
+            PageForm::Html => text.push_str(tag),
+            PageForm::Plain => Ok(()),
         }
     }
 
     /// Returns the name of a tag.
-    pub fn name_of<'n>(&self, tag: &'n str) -> &'n str
+    pub(crate) fn name_of<'n>(&self, tag: &'n str) -> &'n str
         ensures tag { 0 < length tag.now → result.now ≡ tag.now }
         ensures no_tag { tag.now ≡ [] → result.now ≡ name_without_tag (length self.now.log.tags.items) }
     {
@@ -205,24 +187,19 @@ impl Series {
         }
     }
 
-    /// Returns the value of a point, or `None` without samples.
-    pub fn of(self, point: &PointFigures) -> Option<u64>
-        ensures none { IfNone result (point.now.figures.count ≡ 0) }
-        ensures some { IfSome result (λ v. 0 < point.now.figures.count) }
-        ensures value { IfSome result (λ v. v ≡ figure_of self point.now.figures) }
+    /// Returns the figure that the line shows.
+    pub fn of(self, figures: &Figures) -> u64
+        ensures { result ≡ figure_of self figures.now }
     {
-        if point.figures.count == 0 {
-            return None;
+        match self {
+            Series::P50 => figures.p50,
+            Series::P90 => figures.p90,
+            Series::P99 => figures.p99,
+            Series::Max => figures.max,
         }
-        Some(match self {
-            Series::P50 => point.figures.p50,
-            Series::P90 => point.figures.p90,
-            Series::P99 => point.figures.p99,
-            Series::Max => point.figures.max,
-        })
     }
 
-    /// Returns the values of all points of a tag.
+    /// Returns the values of all points of a tag: `None` without samples.
     pub fn values(
         self,
         alloc: Global,
@@ -232,7 +209,7 @@ impl Series {
         let mut values = vec![in alloc; None; points]?;
         for point in &tag.points {
             if let Some(value) = values.get_mut(point.point) {
-                *value = self.of(point);
+                *value = Some(self.of(&point.figures));
             }
         }
         Ok(values)

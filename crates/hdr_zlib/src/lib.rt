@@ -19,6 +19,6 @@ mod runs;
 mod stream;
 
 pub use checksum::adler32;
-pub use compress::{Level, deflate};
+pub use compress::{CompressionLevel, deflate};
 pub use errors::InflateError;
 pub use stream::inflate;

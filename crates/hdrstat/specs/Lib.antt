@@ -1,1 +1,2 @@
+pub mod Delimiters
 pub mod Statuses

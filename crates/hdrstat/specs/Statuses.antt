@@ -1,7 +1,7 @@
 -- Exit statuses.
 use Rattle.std.specs.Prelude.{ℕ}
-use Rattle.hdrstat.specs.declared.error.StatError.{StatError}
-use Rattle.hdrstat.specs.declared.error.StatError.TheVariants.{Usage}
+use Rattle.hdrstat.specs.declared.errors.StatError.{StatError}
+use Rattle.hdrstat.specs.declared.errors.StatError.TheVariants.{Usage}
 
 -- the status of an error: 2 of the usage, 1 of the input or the output
 abbrev pub status_of : StatError → ℕ

@@ -1,20 +1,14 @@
 //! `hdrstat`: percentiles of numbers and of interval logs, a subcommand for each question.
 #![tactic(auto)]
 
-mod check;
-mod convert;
-mod error;
-mod gather;
-mod log;
+mod errors;
+mod files;
+mod options;
 mod output;
-mod page;
-mod summary;
+mod subcommands;
 
-use clap::ArgMatches;
 use clap::error::ErrorKind as UsageErrorKind;
-use error::StatError;
-use hdr_files::Console;
-use hdr_options::command;
+use errors::StatError;
 use std::env;
 use std::io::{self, ErrorKind};
 use std::process::ExitCode;
@@ -22,12 +16,38 @@ use std::process::ExitCode;
 /// The status of a usage error.
 const USAGE: u8 = 2;
 
-/// Returns the process with the choice of the arguments.
-fn console_of<'a>(rt: &'a HostRuntime, matches: &ArgMatches<'_>) -> Console<'a> {
-    Console {
-        rt,
-        is_quiet: matches.get_flag("quiet"),
+fn main(rt: HostRuntime) -> ExitCode {
+    let arguments: Vec<String> = match env::args(&rt) {
+        Ok(arguments) => match arguments.collect(rt.alloc()) {
+            Ok(arguments) => arguments,
+            Err(_) => return fail(&rt, "", &StatError::OutOfMemory),
+        },
+        Err(error) => return bad_arguments(&rt, &error),
+    };
+    let command = match subcommands::command(rt.alloc()) {
+        Ok(command) => command,
+        Err(error) => return print_of_clap(&rt, &error),
+    };
+    let matches = match command.try_get_matches_from(arguments.as_slice()) {
+        Ok(matches) => matches,
+        Err(error) => return print_of_clap(&rt, &error),
+    };
+    let Some((name, matches)) = matches.subcommand() else {
+        return ExitCode::from(USAGE);
+    };
+    match subcommands::run(&rt, name, matches) {
+        Ok(status) => status,
+        Err(error) => fail(&rt, name, &error),
     }
+}
+
+/// Returns the status if the arguments are not read.
+fn bad_arguments(rt: &HostRuntime, error: &io::Error) -> ExitCode {
+    if error.kind() == ErrorKind::OutOfMemory {
+        return fail(rt, "", &StatError::OutOfMemory);
+    }
+    let _ = eprintln!(rt; "error: an argument is not valid UTF-8");
+    ExitCode::from(USAGE)
 }
 
 /// Prints a usage error of clap, or the help or the version, and returns the status.
@@ -55,51 +75,4 @@ fn fail(rt: &HostRuntime, subcommand: &str, error: &StatError) -> ExitCode {
         }
     }
     ExitCode::from(error.status())
-}
-
-/// Runs a subcommand.
-fn run(rt: &HostRuntime, name: &str, matches: &ArgMatches<'_>) -> ExitCode {
-    let status = match name {
-        "check" => check::check(rt, matches),
-        "convert" => convert::convert(rt, matches),
-        "gather" => gather::gather_logs(rt, matches),
-        "log" => log::log(rt, matches),
-        "page" => page::show(rt, matches),
-        _ => summary::summary(rt, matches),
-    };
-    match status {
-        Ok(status) => status,
-        Err(error) => fail(rt, name, &error),
-    }
-}
-
-/// Returns the status if the arguments are not read.
-fn bad_arguments(rt: &HostRuntime, error: &io::Error) -> ExitCode {
-    if error.kind() == ErrorKind::OutOfMemory {
-        return fail(rt, "", &StatError::OutOfMemory);
-    }
-    let _ = eprintln!(rt; "error: an argument is not valid UTF-8");
-    ExitCode::from(USAGE)
-}
-
-fn main(rt: HostRuntime) -> ExitCode {
-    let arguments: Vec<String> = match env::args(&rt) {
-        Ok(arguments) => match arguments.collect(rt.alloc()) {
-            Ok(arguments) => arguments,
-            Err(_) => return fail(&rt, "", &StatError::OutOfMemory),
-        },
-        Err(error) => return bad_arguments(&rt, &error),
-    };
-    let command = match command::hdrstat(rt.alloc()) {
-        Ok(command) => command,
-        Err(error) => return print_of_clap(&rt, &error),
-    };
-    let matches = match command.try_get_matches_from(arguments.as_slice()) {
-        Ok(matches) => matches,
-        Err(error) => return print_of_clap(&rt, &error),
-    };
-    match matches.subcommand() {
-        Some((name, matches)) => run(&rt, name, matches),
-        None => ExitCode::from(USAGE),
-    }
 }

@@ -1,6 +1,6 @@
 //! Standard output.
 
-use crate::error::StatError;
+use crate::errors::StatError;
 use std::io::{self, Stdout, Write};
 
 /// Standard output, to which writes are complete: one that is interrupted is retried.

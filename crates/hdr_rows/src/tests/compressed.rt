@@ -3,7 +3,7 @@
 use crate::tests::FIRST_RUN;
 use crate::tests::messages::assert_message;
 use hdr_convert::{ConvertError, Form, compressed, convert_line, form_of, v2_bytes};
-use hdr_zlib::{InflateError, Level, adler32, deflate, inflate};
+use hdr_zlib::{CompressionLevel, InflateError, adler32, deflate, inflate};
 use std::process::Abort;
 use std::test::Fail;
 
@@ -40,7 +40,7 @@ fn each_prefix_of_a_stream_is_incomplete(rt: HostRuntime) -> Result<(), Fail> {
 
 #[test]
 fn inflates_what_deflate_writes(rt: HostRuntime) -> Result<(), Fail> {
-    for level in [Level::Stored, Level::Huffman] {
+    for level in [CompressionLevel::Stored, CompressionLevel::Huffman] {
         let stream = deflate(rt.alloc(), &FIRST_RUN, level)?;
         let bytes = inflate(rt.alloc(), &stream, 43)?;
         assert_eq!(rt; bytes.as_slice(), FIRST_RUN.as_slice());

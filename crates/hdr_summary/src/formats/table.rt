@@ -1,52 +1,67 @@
 //! Aligned tables.
 
-use crate::figures::{Figure, push_tag};
+use crate::figures::push_tag;
 use crate::formats::{Row, or_none};
 use std::alloc::{AllocError, Global};
 
 /// What a table shows in place of a tag that an interval does not have.
 const NO_TAG: &str = "(no tag)";
 
-/// Returns the length of a number before its point.
-fn whole_len(value: &str) -> usize {
-    match value.as_bytes().iter().position(|b| *b == b'.') {
-        Some(at) => at,
-        None => value.len(),
-    }
-}
-
-/// Appends spaces.
-fn push_spaces(text: &mut String, count: usize) -> Result<(), AllocError> {
-    for _ in 0..count {
-        text.push(' ')?;
-    }
-    Ok(())
-}
-
-/// Appends a line for each figure, with the points of the values aligned.
-fn push_list(text: &mut String, figures: &[Figure]) -> Result<(), AllocError> {
-    let mut names = 0;
-    let mut wholes = 0;
-    for figure in figures {
-        names = names.max(figure.name.len());
-        wholes = wholes.max(whole_len(or_none(figure, "-")));
-    }
-    for figure in figures {
-        let value = or_none(figure, "-");
-        text.push_str(figure.name.as_str())?;
-        push_spaces(text, names.saturating_sub(figure.name.len()))?;
-        text.push_str("  ")?;
-        push_spaces(text, wholes.saturating_sub(whole_len(value)))?;
-        text.push_str(value)?;
-        text.push('\n')?;
-    }
-    Ok(())
-}
-
-/// Appends the figures of distributions without tags.
+/// Appends the figures of distributions without tags: a line for each, with the points of the
+/// values aligned.
 pub(crate) fn push_figures(text: &mut String, rows: &[Row<'_>]) -> Result<(), AllocError> {
     for row in rows {
-        push_list(text, &row.figures)?;
+        let names = row.figures.iter().map(|figure| figure.name.len());
+        let names = names.max().unwrap_or(0);
+        let wholes = row
+            .figures
+            .iter()
+            .map(|figure| whole_len(or_none(figure, "-")));
+        let wholes = wholes.max().unwrap_or(0);
+        for figure in &row.figures {
+            let value = or_none(figure, "-");
+            text.push_str(figure.name.as_str())?;
+            push_spaces(text, names.saturating_sub(figure.name.len()))?;
+            text.push_str("  ")?;
+            push_spaces(text, wholes.saturating_sub(whole_len(value)))?;
+            text.push_str(value)?;
+            text.push('\n')?;
+        }
+    }
+    Ok(())
+}
+
+/// Returns the length of a number before its point.
+fn whole_len(value: &str) -> usize {
+    value.find('.').unwrap_or(value.len())
+}
+
+/// Appends a line of names, and a line for each tag.
+pub(crate) fn push_tagged(
+    alloc: Global,
+    text: &mut String,
+    rows: &[Row<'_>],
+) -> Result<(), AllocError> {
+    let Some(first) = rows.first() else {
+        return Ok(());
+    };
+    let widths = widths(alloc, rows, first.figures.len())?;
+    let tags = rows.iter().map(|row| char_count(tag_of(row)));
+    let tags = tags.max().unwrap_or(0).max("tag".len());
+    text.push_str("tag")?;
+    push_spaces(text, tags.saturating_sub("tag".len()))?;
+    for (figure, width) in first.figures.iter().zip(&widths) {
+        push_cell(text, figure.name.as_str(), *width)?;
+    }
+    text.push('\n')?;
+    for row in rows {
+        let tag = tag_of(row);
+        push_tag(text, tag)?;
+        push_spaces(text, tags.saturating_sub(char_count(tag)))?;
+        for (figure, width) in row.figures.iter().zip(&widths) {
+            push_cell(text, or_none(figure, "-"), *width)?;
+        }
+        text.push('\n')?;
     }
     Ok(())
 }
@@ -61,32 +76,16 @@ fn char_count(text: &str) -> usize {
     text.chars().count()
 }
 
+/// Returns the widths of the columns.
+fn widths(alloc: Global, rows: &[Row<'_>], columns: usize) -> Result<Vec<usize>, AllocError> {
+    (0..columns).map(|index| width(rows, index)).collect(alloc)
+}
+
 /// Returns the width of the column at an index: that of its name, or of its longest value.
 fn width(rows: &[Row<'_>], index: usize) -> usize {
-    let mut width = 0;
-    for row in rows {
-        if let Some(figure) = row.figures.get(index) {
-            width = width.max(figure.name.len());
-            width = width.max(or_none(figure, "-").len());
-        }
-    }
-    width
-}
-
-/// Returns the widths of the columns.
-fn widths(alloc: Global, rows: &[Row<'_>]) -> Result<Vec<usize>, AllocError> {
-    let mut widths = Vec::new(alloc);
-    if let Some(first) = rows.first() {
-        for index in 0..first.figures.len() {
-            widths.push(width(rows, index))?;
-        }
-    }
-    Ok(widths)
-}
-
-/// Returns the width of the column at an index.
-fn width_at(widths: &[usize], index: usize) -> usize {
-    widths.get(index).copied().unwrap_or(0)
+    let figures = rows.iter().filter_map(|row| row.figures.get(index));
+    let widths = figures.map(|figure| figure.name.len().max(or_none(figure, "-").len()));
+    widths.max().unwrap_or(0)
 }
 
 /// Appends a text to the right of its column.
@@ -96,43 +95,10 @@ fn push_cell(text: &mut String, cell: &str, width: usize) -> Result<(), AllocErr
     text.push_str(cell)
 }
 
-/// Appends a line of names, and a line for each tag.
-pub(crate) fn push_tagged(
-    alloc: Global,
-    text: &mut String,
-    rows: &[Row<'_>],
-) -> Result<(), AllocError> {
-    let widths = widths(alloc, rows)?;
-    let mut tags = "tag".len();
-    for row in rows {
-        tags = tags.max(char_count(tag_of(row)));
-    }
-    if let Some(first) = rows.first() {
-        text.push_str("tag")?;
-        push_spaces(text, tags.saturating_sub("tag".len()))?;
-        for (index, figure) in first.figures.iter().enumerate() {
-            push_cell(text, figure.name.as_str(), width_at(&widths, index))?;
-        }
-        text.push('\n')?;
-    }
-    for row in rows {
-        push_row(text, &widths, row, tags)?;
+/// Appends spaces.
+fn push_spaces(text: &mut String, count: usize) -> Result<(), AllocError> {
+    for _ in 0..count {
+        text.push(' ')?;
     }
     Ok(())
-}
-
-/// Appends the line of a tag.
-fn push_row(
-    text: &mut String,
-    widths: &[usize],
-    row: &Row<'_>,
-    tags: usize,
-) -> Result<(), AllocError> {
-    let tag = tag_of(row);
-    push_tag(text, tag)?;
-    push_spaces(text, tags.saturating_sub(char_count(tag)))?;
-    for (index, figure) in row.figures.iter().enumerate() {
-        push_cell(text, or_none(figure, "-"), width_at(widths, index))?;
-    }
-    text.push('\n')
 }

@@ -9,26 +9,25 @@ pub loop-init : goal.loop-init
 loop-init g c = record {
   within = omega arith;
   some = omega (arith, c.in_ok-buffer.ensures.len);
-  read = ([], Consumes-nil (g.R.Read.remaining c.args.reader.now), tt, g.met.S.LineSink.takes_none 1 c.args.sink.now);
+  read = ([], Consumes-nil (g.R.Read.remaining c.args.reader), tt, g.met.S.LineSink.takes_none 1 c.args.sink.now);
 }
 
 pub returns-then-end-held : goal.returns-then-end-held
 returns-then-end-held g c =
-    let start = g.R.Read.remaining c.args.reader.now in
-    let before = g.R.Read.remaining c.loop.reader in
-    let after = g.R.Read.remaining c.read_behind.new.reader in
+    let start = g.R.Read.remaining c.args.reader in
+    let before = g.R.Read.remaining c.loop.reader.reader in
+    let after = g.R.Read.remaining c.read_behind.new.reader.reader in
     let done = c.loop.invariant.read in
     let held = c.loop.held in
     let end = c.in_ok-end.end in
     let complete = c.complete_len-complete.result in
-    let lines = c.deref-in-loop.result.now in
+    let lines = c.deref-in-loop-2.result.now in
     let items = c.read_behind.new.buffer.items in
-    let room = c.in_ok-make_room.ensures in
-    let some : held < vec_len c.make_room.new.buffer = room.room c.loop.invariant.some c.loop.invariant.within in
+    let some : held < vec_len c.loop.buffer = omega (arith, c.if-held-len.false, c.len.ensures) in
     let whole : complete ≡ end = c.complete_len-complete.ensures.last (eq-eqb end held c.if-end-held.true)
-    ∙ length-take-le end c.deref.result.now (omega (arith, c.deref.ensures.len, c.in_ok-end.ensures.bound.1)) in
-    let taken = last_taken start before after done.0 c.loop.buffer.items c.make_room.new.buffer.items items lines held end complete c.deref-in-loop.ensures.value whole
-    (room.kept c.loop.invariant.within) done.1 c.in_ok-end.ensures.bytes in
+    ∙ length-take-le end c.deref-in-loop.result.now (omega (arith, c.deref-in-loop.ensures.len, c.in_ok-end.ensures.bound.1)) in
+    let taken = last_taken start before after done.0 c.loop.buffer.items items lines held end complete c.deref-in-loop-2.ensures.value whole
+    done.1 c.in_ok-end.ensures.bytes in
     let text : List ℕ = done.0 ++ take complete lines in (
       text,
       c.in_ok-line.line,
@@ -38,22 +37,21 @@ returns-then-end-held g c =
 
 pub loop-preserved : goal.loop-preserved
 loop-preserved g c =
-    let start = g.R.Read.remaining c.args.reader.now in
-    let before = g.R.Read.remaining c.loop.reader in
-    let after = g.R.Read.remaining c.read_behind.new.reader in
+    let start = g.R.Read.remaining c.args.reader in
+    let before = g.R.Read.remaining c.loop.reader.reader in
+    let after = g.R.Read.remaining c.read_behind.new.reader.reader in
     let done = c.loop.invariant.read in
     let held = c.loop.held in
     let end = c.in_ok-end.end in
     let complete = c.complete_len-complete.result in
-    let lines = c.deref-in-loop.result.now in
+    let lines = c.deref-in-loop-2.result.now in
     let items = c.read_behind.new.buffer.items in
-    let room = c.in_ok-make_room.ensures in
-    let some : held < vec_len c.make_room.new.buffer = room.room c.loop.invariant.some c.loop.invariant.within in
-    let low : complete ≤ end = below_end c.deref.result.now end complete c.complete_len-complete.ensures.bound in
-    let ends = lines_complete items c.deref.result.now lines end complete c.deref.ensures.value c.deref-in-loop.ensures.value low
+    let some : held < vec_len c.loop.buffer = omega (arith, c.if-held-len.false, c.len.ensures) in
+    let low : complete ≤ end = below_end c.deref-in-loop.result.now end complete c.complete_len-complete.ensures.bound in
+    let ends = lines_complete items c.deref-in-loop.result.now lines end complete c.deref-in-loop.ensures.value c.deref-in-loop-2.ensures.value low
     (c.complete_len-complete.ensures.complete (false_from_ne_true (end == held) (λ e. c.if-end-held.false (eqb-true end held e)))) in
-    let taken = piece_taken start before after done.0 c.loop.buffer.items c.make_room.new.buffer.items items lines c.keep_rest.new.buffer.items held end complete c.deref-in-loop.ensures.value low
-    (room.kept c.loop.invariant.within) done.1 c.in_ok-end.ensures.bytes c.keep_rest.ensures.rest in
+    let taken = piece_taken start before after done.0 c.loop.buffer.items items lines c.keep_rest.new.buffer.items held end complete c.deref-in-loop-2.ensures.value low
+    done.1 c.in_ok-end.ensures.bytes c.keep_rest.ensures.rest in
     record {
       within = omega (arith, c.keep_rest.ensures.len, c.in_ok-end.ensures.bound.1);
       some = omega (arith, some, c.keep_rest.ensures.len, c.in_ok-end.ensures.len);

@@ -8,6 +8,6 @@ abbrev pub invariant-loop : goal.invariant-loop
 invariant-loop g l = record {
   within : l.held ≤ vec_len l.buffer;
   some : 0 < vec_len l.buffer;
-  read : (done : List ℕ) × Consumes (g.R.Read.remaining l.initial.reader) (g.R.Read.remaining l.reader) (done ++ take l.held l.buffer.items)
+  read : (done : List ℕ) × Consumes (g.R.Read.remaining l.initial.reader.reader) (g.R.Read.remaining l.reader.reader) (done ++ take l.held l.buffer.items)
       × IsComplete done × g.S.LineSink.takes 1 done l.line l.initial.sink l.sink;
 }

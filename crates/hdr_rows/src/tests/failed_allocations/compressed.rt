@@ -3,13 +3,13 @@
 use crate::tests::FIRST_RUN;
 use crate::tests::compressed::{COMPRESSED, PLAIN};
 use hdr_convert::{ConvertError, Form, convert_line};
-use hdr_zlib::{InflateError, Level, deflate, inflate};
+use hdr_zlib::{CompressionLevel, InflateError, deflate, inflate};
 use std::alloc::Global;
 use std::process::Abort;
 use std::test::Fail;
 
 /// Whether a stream is written and read; otherwise an allocation failed.
-fn is_written_and_read(rt: &impl Abort, alloc: Global, level: Level) -> bool {
+fn is_written_and_read(rt: &impl Abort, alloc: Global, level: CompressionLevel) -> bool {
     let Ok(stream) = deflate(alloc, &FIRST_RUN, level) else {
         return false;
     };
@@ -29,8 +29,8 @@ fn is_written_and_read(rt: &impl Abort, alloc: Global, level: Level) -> bool {
 
 #[test]
 fn streams(rt: HostRuntime) -> Result<(), Fail> {
-    let stored = is_written_and_read(&rt, rt.alloc(), Level::Stored);
-    let coded = is_written_and_read(&rt, rt.alloc(), Level::Huffman);
+    let stored = is_written_and_read(&rt, rt.alloc(), CompressionLevel::Stored);
+    let coded = is_written_and_read(&rt, rt.alloc(), CompressionLevel::Huffman);
     if !(stored && coded) {
         println!(rt; "no memory")?;
     }

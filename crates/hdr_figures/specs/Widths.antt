@@ -1,0 +1,19 @@
+-- The width of classes.
+use Rattle.std.specs.Prelude.{◌≡◌, ℕ, ◌-◌, ◌^◌, max, min}
+use Rattle.hdr_base.specs.Classes.{HasScale, resolution_of, top_of}
+use Rattle.hdr_model.specs.Plain.{Plain}
+use Rattle.hdr_figures.specs.declared.sum.Width.{Width}
+
+-- a value is the highest one of the class of another: of classes of some width
+abbrev pub IsHighest : Width → ℕ → ℕ → Type 0
+IsHighest width value highest =
+    (HasScale width.low width.sigfig → highest ≡ top_of (resolution_of width.low width.sigfig) value)
+    × (¬ HasScale width.low width.sigfig → highest ≡ 2 ^ 64 - 1)
+
+-- the width of the classes of a histogram
+abbrev pub IsWidthOf : Plain → Width → Type 0
+IsWidthOf h width = (width.low ≡ h.low) × (width.sigfig ≡ h.sigfig)
+
+-- the width of classes that have those of two widths in them
+abbrev pub IsJoin : Width → Width → Width → Type 0
+IsJoin one other both = (both.low ≡ max one.low other.low) × (both.sigfig ≡ min one.sigfig other.sigfig)

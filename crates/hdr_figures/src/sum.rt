@@ -1,0 +1,126 @@
+//! Sums of intervals.
+
+ghost use Rattle.std.specs.Prelude.{◌≡◌, ◌-◌, ◌^◌, ◌↔◌, true, IfOk, OnOk, IsTrue, MatchOption};
+ghost use Rattle.hdr_base.specs.Classes.{IsFiner};
+ghost use Rattle.hdr_model.specs.Plain.{empty_plain, resolution};
+ghost use Rattle.hdr_model.specs.Merging.{after_add};
+ghost use Rattle.hdr_model.specs.Quantiles.{value_at_quantile};
+ghost use Rattle.hdr_model.specs.Recording.{after_reset};
+ghost use Rattle.hdr_figures.specs.Figures.{AreFiguresOf};
+ghost use Rattle.hdr_figures.specs.Widths.{IsHighest, IsJoin, IsWidthOf};
+
+use crate::figures::Figures;
+use hdr_base::Scale;
+use hdr_logs::add;
+use hdrhistogram::{AdditionError, CreationError, Histogram, Quantile};
+use std::alloc::Global;
+
+/// The significant digits of sums.
+const DIGITS: u8 = 3;
+
+/// The width of classes: their least one, and the significant digits that they keep.
+#[derive(Clone, Copy)]
+struct Width {
+    low: u64,
+    sigfig: u8,
+}
+
+impl Width {
+    /// Returns the width of the classes of a histogram.
+    fn of(histogram: &Histogram<u64>) -> Width
+        ensures { IsWidthOf histogram.now result }
+    {
+        Width {
+            low: histogram.low(),
+            sigfig: histogram.sigfig(),
+        }
+    }
+
+    /// Returns the width of classes that have those of both in them.
+    fn join(self, other: Width) -> Width
+        ensures { IsJoin self other result }
+    {
+        Width {
+            low: self.low.max(other.low),
+            sigfig: self.sigfig.min(other.sigfig),
+        }
+    }
+
+    /// Returns the highest value of the class of a value.
+    fn highest(self, value: u64) -> u64
+        ensures { IsHighest self value result }
+    {
+        match Scale::new(self.low, self.sigfig) {
+            Some(scale) => scale.top(value),
+            None => u64::MAX,
+        }
+    }
+}
+
+/// A sum of intervals.
+#[derive(Drop)]
+pub struct Sum {
+    pub histogram: Histogram<u64>,
+    /// The width of classes that have those of all intervals in them.
+    width: Width,
+}
+
+impl Sum {
+    /// Returns the sum of no intervals.
+    pub(crate) fn new(alloc: Global) -> Result<Sum, CreationError>
+        ensures { IfOk result (λ sum. sum.histogram ≡ empty_plain 1 2 3 true) }
+    {
+        Ok(Sum::of(Histogram::new(alloc, DIGITS)?))
+    }
+
+    /// Returns the sum of one interval, which has this histogram.
+    pub(crate) fn of(histogram: Histogram<u64>) -> Sum
+        ensures histogram { result.histogram ≡ histogram }
+        ensures width { IsWidthOf histogram result.width }
+    {
+        let width = Width::of(&histogram);
+        Sum { histogram, width }
+    }
+
+    /// Removes all intervals.
+    pub(crate) fn reset(&mut self)
+        ensures histogram { self.new.histogram ≡ after_reset self.old.histogram }
+        ensures width { IsWidthOf self.new.histogram self.new.width }
+    {
+        self.histogram.reset();
+        self.width = Width::of(&self.histogram);
+    }
+
+    /// Adds the intervals of another sum. Returns whether that is coarser.
+    pub(crate) fn add(&mut self, other: &Sum) -> Result<bool, AdditionError>
+        ensures sum { OnOk result (self.new.histogram
+            ≡ after_add (2 ^ 64 - 1) self.old.histogram other.now.histogram) }
+        ensures width { OnOk result (IsJoin self.old.width other.now.width self.new.width) }
+        ensures coarser { IfOk result (λ is_coarser. IsTrue is_coarser
+            ↔ (IsFiner (resolution other.now.histogram) (resolution self.old.histogram) → ⊥)) }
+    {
+        let is_coarser = add(&mut self.histogram, &other.histogram)?;
+        self.width = self.width.join(other.width);
+        Ok(is_coarser)
+    }
+
+    /// Returns the figures of the samples, with those at the quantile of a level if there is one.
+    pub(crate) fn figures(&self, level: Option<Quantile>) -> Figures
+        ensures figures { AreFiguresOf self.now.histogram result }
+        ensures level { MatchOption level (result.at_level ≡ 0)
+            (λ q. result.at_level ≡ value_at_quantile self.now.histogram q) }
+        ensures highest { MatchOption level (result.highest_at_level ≡ 0)
+            (λ q. IsHighest self.now.width (value_at_quantile self.now.histogram q) result.highest_at_level) }
+    {
+        let figures = Figures::of(&self.histogram);
+        let Some(quantile) = level else {
+            return figures;
+        };
+        let value = self.histogram.value_at_quantile(quantile);
+        Figures {
+            at_level: value,
+            highest_at_level: self.width.highest(value),
+            ..figures
+        }
+    }
+}

@@ -1,0 +1,76 @@
+-- The intervals that logs have left while they are gathered.
+use Rattle.std.specs.Prelude.{◌≡◌, ◌≤◌, ℕ, List, [], ◌∷◌, ◌++◌, Option, Some, None, IfSome, map}
+use Rattle.std.specs.List.{All}
+use Rattle.std.specs.List.Sorted.{IsPermutation}
+use Rattle.std.specs.Option.{option_map}
+use Rattle.hdrhistogram.specs.Chosen.{Filter}
+use Rattle.hdr_logs.specs.Intervals.{LogInterval}
+use Rattle.hdr_logs.specs.Intervals as logs
+use Rattle.hdr_logs.specs.Reading as reading
+use Rattle.hdr_logs.specs.Stored.{Stored, stored, view_of_stored}
+use Rattle.hdr_logs.specs.declared.stored.StoredInterval.{StoredInterval}
+use Rattle.hdr_gather.specs.Logs.{Writes, WritesLog}
+use Rattle.hdr_gather.specs.declared.peekable.PeekableLog.{PeekableLog}
+
+-- the chosen intervals of a log, as they are stored
+abbrev pub LogHolds : Filter → List ℕ → List Stored → Type 0
+LogHolds filter text all = (intervals : List LogInterval) × (all ≡ map stored intervals) × logs.LogHolds filter text intervals
+
+-- the chosen intervals of the lines that are not read yet
+abbrev pub UnreadHold : {R : Type 0} → (R → Option (List ℕ)) → PeekableLog R → List Stored → Type 0
+UnreadHold remaining log all = (intervals : List LogInterval) × (all ≡ map stored intervals) × reading.UnreadHold remaining log.log intervals
+
+abbrev pub next_interval : Option StoredInterval → List Stored
+next_interval None = []
+next_interval (Some next) = view_of_stored next ∷ []
+
+-- the intervals that a log has left: the one that it holds, and those that are not read yet
+abbrev pub HasLeft : {R : Type 0} → (R → Option (List ℕ)) → PeekableLog R → List Stored → Type 0
+HasLeft remaining log all = (rest : List Stored) × (all ≡ next_interval log.next ++ rest) × UnreadHold remaining log rest
+
+-- the intervals that logs have left, one log after another
+abbrev pub HaveLeft : {R : Type 0} → (R → Option (List ℕ)) → List (PeekableLog R) → List Stored → Type 0
+HaveLeft remaining [] all = all ≡ []
+HaveLeft remaining (log ∷ logs) all =
+    (one : List Stored) × (others : List Stored) × (all ≡ one ++ others) × HasLeft remaining log one × HaveLeft remaining logs others
+
+-- the bytes that are not read yet are known
+abbrev pub IsKnown : {R : Type 0} → (R → Option (List ℕ)) → PeekableLog R → Type 0
+IsKnown remaining log = reading.IsKnown remaining log.log
+
+-- the bytes that are not read yet are known, and without a next interval their lines have none
+abbrev pub IsReadyAt : {R : Type 0} → (R → Option (List ℕ)) → PeekableLog R → Option StoredInterval → Type 0
+IsReadyAt remaining log next = IsKnown remaining log × (next ≡ None → UnreadHold remaining log [])
+
+abbrev pub IsReady : {R : Type 0} → (R → Option (List ℕ)) → PeekableLog R → Type 0
+IsReady remaining log = IsReadyAt remaining log log.next
+
+-- when the next interval of a log begins, if it has one
+abbrev pub next_start : {R : Type 0} → PeekableLog R → Option ℕ
+next_start log = option_map (λ next. next.start) log.next
+
+-- it begins at this time or later
+abbrev pub IsFrom : {R : Type 0} → ℕ → PeekableLog R → Type 0
+IsFrom low log = IfSome (next_start log) (λ start. low ≤ start)
+
+-- these are the intervals that logs have left, each once
+abbrev pub AreLeft : {R : Type 0} → (R → Option (List ℕ)) → List (PeekableLog R) → List Stored → Type 0
+AreLeft remaining logs intervals = (all : List Stored) × HaveLeft remaining logs all × IsPermutation all intervals
+
+-- where logs have intervals left now, they had these and those left before
+abbrev pub Loses : {R : Type 0} → (R → Option (List ℕ)) → List (PeekableLog R) → List (PeekableLog R) → List Stored → Type 0
+Loses remaining old new taken = (rest : List Stored) → HaveLeft remaining new rest → AreLeft remaining old (taken ++ rest)
+
+-- intervals were taken from a log, one by one, and appended to others
+abbrev pub Takes : {R : Type 0} → (R → Option (List ℕ)) → PeekableLog R → PeekableLog R → List StoredInterval → List StoredInterval → Type 0
+Takes remaining old new before after =
+    (taken : List StoredInterval) × (after ≡ before ++ taken)
+    × ((rest : List Stored) → HasLeft remaining new rest → HasLeft remaining old (map view_of_stored taken ++ rest))
+
+-- the intervals that logs have left were written in order: all of them, if the logs are ready
+abbrev pub WritesRest : {R : Type 0} → (R → Option (List ℕ)) → List (PeekableLog R) → Option (List ℕ) → Option (List ℕ) → Type 0
+WritesRest remaining logs old new = (all : List Stored) × Writes all old new × (All (IsReady remaining) logs → AreLeft remaining logs all)
+
+-- a log was written of all intervals that logs have left, if the bytes that are not read yet are known
+abbrev pub Gathers : {R : Type 0} → (R → Option (List ℕ)) → List (PeekableLog R) → Option (List ℕ) → Option (List ℕ) → Type 0
+Gathers remaining logs old new = (all : List Stored) × WritesLog all old new × (All (IsKnown remaining) logs → AreLeft remaining logs all)

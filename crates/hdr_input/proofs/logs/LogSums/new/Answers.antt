@@ -1,7 +1,0 @@
-use Rattle.std.proofs.Common.{rules}
-use Rattle.hdr_input.specs.Sums.{index_of}
-use Rattle.hdr_input.proofs.logs.LogSums.new.Goals as goal
-
-pub returns-clause-indices : goal.returns-clause-indices
-unfolding index_of
-returns-clause-indices c = (λ tag. search rules, search rules)

@@ -1,0 +1,4 @@
+pub mod LinesRead
+pub mod Indices
+pub mod Texts
+pub mod Storing

@@ -1,0 +1,55 @@
+use Rattle.std.proofs.Common.{◌++◌, ◌∷◌, [], List, sym, subst, append_assoc, append-nil}
+use Rattle.hdrhistogram.specs.Chosen.{view_of_interval_choice}
+use Rattle.hdr_logs.specs.Intervals.{LogInterval, LogHolds, view_of_log_interval}
+use Rattle.hdr_logs.specs.Reading.{UnreadHold, IsEnd, intervals_of_line}
+use Rattle.hdr_logs.specs.Stored.{intervals_of}
+use Rattle.hdr_logs.proofs.Storing.{keeps_more}
+use Rattle.hdr_logs.proofs.Texts.{if_known}
+use Rattle.hdr_logs.proofs.intervals.LogIntervals.read_log.Goals.{in-Chosen+in_ok-push-in-Chosen, in-Other}
+use Rattle.hdr_logs.proofs.intervals.LogIntervals.read_log.Goals as goal
+
+pub loop-init : goal.loop-init
+loop-init g c = record {
+  known = λ known. known;
+  decimals = λ same. same;
+  kept = ([], sym (append-nil (intervals_of c.args.self.now)), λ rest left. left);
+}
+
+pub loop-preserved : goal.loop-preserved
+loop-preserved g c =
+    let remaining = g.R.Read.remaining in
+    let before = c.loop.invariant.kept in
+    let line = c.in_ok-interval.ensures in
+    let begun = c.in_ok-log.log in
+    elim c.match-branch-3.branch [
+      | in-Chosen+in_ok-push-in-Chosen w ↦
+          let i = view_of_log_interval w.in-Chosen.interval in
+          let pushed = w.in_ok-push-in-Chosen.ensures in
+          let more = keeps_more (intervals_of c.args.self.now) (intervals_of c.loop.self) (intervals_of w.push.new.self) before.0 i before.1 pushed.interval in
+          let left : (rest : List LogInterval) → UnreadHold remaining c.next_line.new.self rest → UnreadHold remaining begun ((before.0 ++ i ∷ []) ++ rest) = λ rest h.
+          let here = subst (λ l. UnreadHold remaining c.loop.log (intervals_of_line l ++ rest)) w.in-Chosen.is (line.intervals rest h) in
+          subst (UnreadHold remaining begun) (sym (append_assoc before.0 (i ∷ []) rest)) (before.2 (i ∷ rest) here) in
+          rw w.self-is (record {
+            known = λ known. line.known (c.loop.invariant.known known);
+            decimals = λ same. pushed.decimals (c.loop.invariant.decimals same);
+            kept = (before.0 ++ i ∷ [], more, left);
+          })
+      | in-Other w ↦
+          rw w.self-is (record {
+            known = λ known. line.known (c.loop.invariant.known known);
+            decimals = c.loop.invariant.decimals;
+            kept = (before.0, before.1, λ rest h. before.2 rest (subst (λ l. UnreadHold remaining c.loop.log (intervals_of_line l ++ rest)) w.in-Other.is (line.intervals rest h)));
+          })
+    ]
+
+pub returns-in-End-clause-intervals : goal.returns-in-End-clause-intervals
+returns-in-End-clause-intervals g c =
+    let remaining = g.R.Read.remaining in
+    let before = c.loop.invariant.kept in
+    let line = c.in_ok-interval.ensures in
+    let filter = view_of_interval_choice c.args.choice in
+    let holds = if_known (λ text. LogHolds filter text before.0) (remaining c.args.reader) (λ known.
+    let all = line.end (subst IsEnd (sym c.in-End.is) tt) (c.loop.invariant.known (c.in_ok-log.ensures.known known)) in
+    let here = subst (λ l. UnreadHold remaining c.loop.log (intervals_of_line l ++ [])) c.in-End.is (line.intervals [] all) in
+    c.in_ok-log.ensures.log before.0 (subst (UnreadHold remaining c.in_ok-log.log) (append-nil before.0) (before.2 [] here))) in
+    (before.0, holds, before.1)

@@ -1,0 +1,9 @@
+pub mod Errors
+pub mod Lines
+pub mod Fields
+pub mod Entries
+pub mod Intervals
+pub mod Times
+pub mod Stored
+pub mod Reading
+pub mod Sums

@@ -1,0 +1,104 @@
+-- The sums of the chosen intervals of logs.
+use Rattle.std.specs.Prelude.{◌≡◌, ℕ, zero, suc, ◌-◌, ◌^◌, ◌<◌, ◌↔◌, Bool, true, false, IsTrue, if◌then◌else◌, List, [], ◌∷◌, length, map, Option, Some, None}
+use Rattle.std.specs.Option.{option_map}
+use Rattle.std.specs.HashMap.{get_by_text}
+use Rattle.std.specs.Str.{bytes_eq}
+use Rattle.std.specs.String.{string_bytes}
+use Rattle.hdr_base.specs.Classes.{IsFiner}
+use Rattle.hdr_model.specs.Plain.{Plain, empty_plain, resolution}
+use Rattle.hdr_model.specs.Merging.{after_add}
+use Rattle.hdrhistogram.specs.Chosen.{Filter, view_of_interval_choice}
+use Rattle.hdrhistogram.specs.FieldRead.{IsHeldIn}
+use Rattle.hdr_logs.specs.Intervals.{LogInterval}
+use Rattle.hdr_logs.specs.declared.sums.TagSum.{TagSum}
+use Rattle.hdr_logs.specs.declared.sums.LogSums.{LogSums}
+
+-- a sum of intervals, and their tag, or none
+pub record Sum : Type 0 where
+  pub tag : Option (List ℕ)
+  pub histogram : Plain
+
+abbrev pub view_of_sum : TagSum → Sum
+view_of_sum s = record { tag = option_map string_bytes s.tag; histogram = s.histogram }
+
+-- the sums of logs, in the order of their tags' first intervals
+abbrev pub sums_of : LogSums → List Sum
+sums_of s = map view_of_sum s.sums.items
+
+-- both have the same tag, or none
+abbrev pub is_same_tag : Option (List ℕ) → Option (List ℕ) → Bool
+is_same_tag None None = true
+is_same_tag None (Some other) = false
+is_same_tag (Some tag) None = false
+is_same_tag (Some tag) (Some other) = bytes_eq tag other
+
+-- a sum without intervals, which grows
+abbrev pub empty_sum : ℕ → Option (List ℕ) → Sum
+empty_sum sigfig tag = record { tag = tag; histogram = empty_plain 1 2 sigfig true }
+
+abbrev pub with_added : Sum → Plain → Sum
+with_added sum h = record { tag = sum.tag; histogram = after_add (2 ^ 64 - 1) sum.histogram h }
+
+-- the sums after a histogram was added to that of a tag, which begins without intervals
+unfoldable pub after_interval : ℕ → List Sum → Option (List ℕ) → Plain → List Sum
+after_interval sigfig [] tag h = with_added (empty_sum sigfig tag) h ∷ []
+after_interval sigfig (sum ∷ sums) tag h =
+    if is_same_tag sum.tag tag then with_added sum h ∷ sums else sum ∷ after_interval sigfig sums tag h
+
+-- the choice of intervals, the digits of sums, whether each tag has one, and the sums
+pub record Summing : Type 0 where
+  pub filter : Filter
+  pub sigfig : ℕ
+  pub is_by_tag : Bool
+  pub sums : List Sum
+
+abbrev pub view_of_sums : LogSums → Summing
+view_of_sums s = record { filter = view_of_interval_choice s.choice; sigfig = s.sigfig; is_by_tag = s.is_by_tag; sums = sums_of s }
+
+abbrev pub with_sums : Summing → List Sum → Summing
+with_sums s sums = record { filter = s.filter; sigfig = s.sigfig; is_by_tag = s.is_by_tag; sums = sums }
+
+-- the tag of an interval's sum
+abbrev pub sum_tag : Bool → Option (List ℕ) → Option (List ℕ)
+sum_tag is_by_tag tag = if is_by_tag then tag else None
+
+-- the histogram of an interval is added to the sum of its tag
+abbrev pub Adds : Summing → LogInterval → Summing → Type 0
+Adds old i new =
+    (h : Plain) × IsHeldIn (2 ^ 64 - 1) i.field h
+    × (new ≡ with_sums old (after_interval old.sigfig old.sums (sum_tag old.is_by_tag i.tag) h))
+
+-- intervals are added, one after the other
+abbrev pub AddsAll : Summing → List LogInterval → Summing → Type 0
+AddsAll old [] new = new ≡ old
+AddsAll old (i ∷ all) new = (mid : Summing) × Adds old i mid × AddsAll mid all new
+
+-- the histogram that a field holds is added to a sum, and it is coarser than the sum or not
+abbrev pub AddsField : List ℕ → Plain → Plain → Bool → Type 0
+AddsField field old new coarser = (held : Plain) × IsHeldIn (2 ^ 64 - 1) field held × (new ≡ after_add (2 ^ 64 - 1) old held)
+    × (IsTrue coarser ↔ (IsFiner (resolution held) (resolution old) → ⊥))
+
+-- the index of the first sum of a tag
+unfoldable pub index_of : Option (List ℕ) → List Sum → Option ℕ
+index_of tag [] = None
+index_of tag (sum ∷ sums) = if is_same_tag sum.tag tag then Some 0 else option_map suc (index_of tag sums)
+
+-- the sums of tags are found by the indices
+abbrev pub AreIndexed : LogSums → Type 0
+AreIndexed s =
+    ((tag : List ℕ) → get_by_text s.indices tag ≡ index_of (Some tag) (sums_of s))
+    × (s.untagged ≡ index_of None (sums_of s))
+
+-- the sums after a histogram was added to one of them
+unfoldable pub added_at : ℕ → List Sum → Plain → List Sum
+added_at i [] h = []
+added_at zero (sum ∷ sums) h = with_added sum h ∷ sums
+added_at (suc i) (sum ∷ sums) h = sum ∷ added_at i sums h
+
+-- the sum of a tag is at this index, where it was or without intervals
+abbrev pub IsSumAt : ℕ → List Sum → List Sum → Option (List ℕ) → ℕ → Type 0
+IsSumAt sigfig old new tag i = (i < length new) × ((h : Plain) → after_interval sigfig old tag h ≡ added_at i new h)
+
+-- only the sums and their indices may differ
+abbrev pub KeepsOptions : LogSums → LogSums → Type 0
+KeepsOptions old new = (new.choice ≡ old.choice) × (new.sigfig ≡ old.sigfig) × (new.is_by_tag ≡ old.is_by_tag)

@@ -1,0 +1,183 @@
+//! Why a log is not read.
+
+use crate::lines::LONGEST;
+use crate::place::Place;
+use hdr_convert::ConvertError;
+use hdrhistogram::serialization::interval_log::{CommentError, IntervalLogWriterError};
+use hdrhistogram::serialization::{CountNotSerializable, FieldDecodeError};
+use hdrhistogram::{AdditionError, CreationError};
+use std::alloc::{AllocError, AllocFailed};
+use std::io;
+use thiserror::Error;
+
+/// Why a log is not read.
+#[derive(Debug, Drop, Error)]
+pub enum LogError {
+    /// The line is neither an interval nor a line that is skipped.
+    #[error("{place}: `{text}` is not a line of an interval log")]
+    NotALine {
+        place: Place,
+        text: String,
+    },
+    /// The line has at least `LONGEST` bytes.
+    #[error("{place}: `{text}` begins a line of {LONGEST} bytes or more")]
+    TooLong {
+        place: Place,
+        text: String,
+    },
+    /// The values have other decimals than those of other intervals.
+    #[error("{place}: the values have {decimals} decimals, and others {others}; write the logs by the same --decimals")]
+    OtherDecimals {
+        place: Place,
+        decimals: u32,
+        others: u32,
+    },
+    /// The histogram of the interval is not decoded.
+    #[error("{place}: {cause}")]
+    Field {
+        place: Place,
+        cause: FieldDecodeError,
+    },
+    /// The histogram of the interval is not converted.
+    #[error("{place}: {cause}")]
+    Conversion {
+        place: Place,
+        cause: ConvertError,
+    },
+    /// The interval is not stored.
+    #[error("{0}: the interval begins past 64 bits of milliseconds")]
+    TooLate(Place),
+    /// The interval begins before the one above it.
+    #[error("{0}: the interval begins before the one above it; --unsorted gathers such logs")]
+    NotSorted(Place),
+    #[error("{0}: the interval is neither finer nor coarser than others of its time and tag")]
+    NotNested(Place),
+    /// A unit is set, and the values have these decimals of it.
+    #[error("the values have {0} decimals; without --unit they are shown in units of the last one")]
+    UnitOfDecimals(u32),
+    /// A log is not written.
+    #[error("{0}")]
+    Write(IntervalLogWriterError<CountNotSerializable>),
+    /// The file of this index is not read.
+    #[error("cannot read: {cause}")]
+    Io {
+        file: usize,
+        cause: io::Error,
+    },
+    #[error("a log has 2^64 lines or more")]
+    TooManyLines,
+    #[error("out of memory")]
+    OutOfMemory,
+}
+
+impl From<AllocError> for LogError {
+    ghost use Rattle.std.specs.Prelude.{◌≡◌};
+    ghost use Rattle.hdr_logs.specs.declared.errors.LogError.TheVariants.{OutOfMemory};
+
+    ghost from_gives = { λ _ error. error ≡ OutOfMemory };
+
+    fn from(_error: AllocError) -> LogError {
+        LogError::OutOfMemory
+    }
+}
+
+impl<T: Drop> From<AllocFailed<T>> for LogError {
+    ghost use Rattle.std.specs.Prelude.{◌≡◌};
+    ghost use Rattle.hdr_logs.specs.declared.errors.LogError.TheVariants.{OutOfMemory};
+
+    ghost from_gives = { λ _ error. error ≡ OutOfMemory };
+
+    fn from(_error: AllocFailed<T>) -> LogError {
+        LogError::OutOfMemory
+    }
+}
+
+// Sums have valid digits and grow, so that they are not made or not added to only if memory runs out.
+impl From<CreationError> for LogError {
+    ghost use Rattle.std.specs.Prelude.{◌≡◌};
+    ghost use Rattle.hdr_logs.specs.declared.errors.LogError.TheVariants.{OutOfMemory};
+
+    ghost from_gives = { λ _ error. error ≡ OutOfMemory };
+
+    fn from(_error: CreationError) -> LogError {
+        LogError::OutOfMemory
+    }
+}
+
+impl From<AdditionError> for LogError {
+    ghost use Rattle.std.specs.Prelude.{◌≡◌};
+    ghost use Rattle.hdr_logs.specs.declared.errors.LogError.TheVariants.{OutOfMemory};
+
+    ghost from_gives = { λ _ error. error ≡ OutOfMemory };
+
+    fn from(_error: AdditionError) -> LogError {
+        LogError::OutOfMemory
+    }
+}
+
+impl From<CommentError> for LogError {
+    ghost use Rattle.std.specs.Prelude.{◌≡◌};
+    ghost use Rattle.hdr_logs.specs.declared.errors.LogError.TheVariants.{OutOfMemory};
+
+    ghost from_gives = { λ _ error. error ≡ OutOfMemory };
+
+    fn from(_error: CommentError) -> LogError {
+        LogError::OutOfMemory
+    }
+}
+
+impl From<IntervalLogWriterError<CountNotSerializable>> for LogError {
+    ghost use Rattle.std.specs.Prelude.{◌≡◌};
+    ghost use Rattle.hdr_logs.specs.Errors.{of_writing};
+
+    ghost from_gives = { λ cause error. error ≡ of_writing cause };
+
+    fn from(error: IntervalLogWriterError<CountNotSerializable>) -> LogError {
+        match error {
+            IntervalLogWriterError::OutOfMemory => LogError::OutOfMemory,
+            error => LogError::Write(error),
+        }
+    }
+}
+
+impl LogError {
+    /// Returns the index of the file that has the error, if one has.
+    pub fn file(&self) -> Option<usize> {
+        match self {
+            LogError::NotALine { place, .. }
+            | LogError::TooLong { place, .. }
+            | LogError::OtherDecimals { place, .. }
+            | LogError::Field { place, .. }
+            | LogError::Conversion { place, .. }
+            | LogError::TooLate(place)
+            | LogError::NotSorted(place)
+            | LogError::NotNested(place) => Some(place.file),
+            LogError::Io { file, .. } => Some(*file),
+            _ => None,
+        }
+    }
+
+    /// Returns the error of a file that is not read.
+    pub(crate) fn of_reading(file: usize, cause: io::Error) -> LogError {
+        match cause.kind() {
+            io::ErrorKind::OutOfMemory => LogError::OutOfMemory,
+            _ => LogError::Io { file, cause },
+        }
+    }
+
+    /// Returns the error of an interval whose histogram is not decoded.
+    pub fn of_field(place: Place, cause: FieldDecodeError) -> LogError {
+        match cause {
+            FieldDecodeError::OutOfMemory => LogError::OutOfMemory,
+            cause => LogError::Field { place, cause },
+        }
+    }
+
+    /// Returns the error of an interval whose histogram is not converted.
+    pub(crate) fn of_conversion(place: Place, cause: ConvertError) -> LogError {
+        match cause {
+            ConvertError::OutOfMemory => LogError::OutOfMemory,
+            cause => LogError::Conversion { place, cause },
+        }
+    }
+}

@@ -1,0 +1,94 @@
+//! The chosen intervals of logs, whose histograms are not decoded yet.
+
+ghost use Rattle.std.specs.Prelude.{◌≡◌, ◌∷◌, [], List, OnOk, IfSome, unwrap_or};
+ghost use Rattle.std.specs.List.{All};
+ghost use Rattle.hdrhistogram.specs.Chosen.{view_of_interval_choice};
+ghost use Rattle.hdr_logs.specs.Intervals.{LogInterval, LogHolds, view_of_log_interval};
+ghost use Rattle.hdr_logs.specs.Stored.{Keeps, HaveSameDecimals, decimals_of};
+
+use crate::errors::LogError;
+use crate::headers::check_decimals;
+use crate::interval::Interval;
+use crate::note::Note;
+use crate::reader::{LineBuffer, LogLine, LogReader};
+use crate::stored::StoredInterval;
+use hdrhistogram::serialization::interval_log::IntervalChoice;
+use std::alloc::Global;
+use std::io::Read;
+
+/// The chosen intervals of logs, in order.
+#[derive(Drop)]
+pub struct LogIntervals {
+    pub list: Vec<StoredInterval>,
+    notes: Vec<Note>,
+}
+
+impl LogIntervals {
+    /// Returns no intervals.
+    pub fn new(alloc: Global) -> LogIntervals
+        ensures { result.list.items ≡ [] }
+    {
+        LogIntervals {
+            list: Vec::new(alloc),
+            notes: Vec::new(alloc),
+        }
+    }
+
+    /// Reads the file of this index to its end, and adds its chosen intervals.
+    ///
+    /// # Errors
+    /// Returns an error if the log is not read, or if an interval has other decimals than those
+    /// before it, or begins past 64 bits of milliseconds.
+    pub fn read_log<R: Read + Drop>(
+        &mut self,
+        alloc: Global,
+        file: usize,
+        reader: R,
+        choice: IntervalChoice<'_>,
+    ) -> Result<(), LogError>
+        ensures intervals { OnOk result ((all : List LogInterval)
+            × IfSome (R.remaining reader) (λ text. LogHolds (view_of_interval_choice choice.entry) text all)
+            × Keeps self.old all self.new) }
+        ensures decimals { OnOk result (HaveSameDecimals self.old → HaveSameDecimals self.new) }
+    {
+        let mut buffer = LineBuffer::new(alloc);
+        let mut log = LogReader::new(alloc, file, reader, choice)?;
+        for _ in 0..u64::MAX {
+            match log.next_line(alloc, &mut buffer)? {
+                LogLine::Chosen(interval) => self.push(alloc, &interval)?,
+                LogLine::Other => {}
+                LogLine::End => {
+                    self.notes.extend_from_slice(log.notes())?;
+                    return Ok(());
+                }
+            }
+        }
+        Err(LogError::TooManyLines)
+    }
+
+    /// Adds an interval.
+    fn push(&mut self, alloc: Global, interval: &Interval<'_>) -> Result<(), LogError>
+        ensures interval { OnOk result (Keeps self.old (view_of_log_interval interval.now ∷ []) self.new) }
+        ensures decimals { OnOk result (HaveSameDecimals self.old → HaveSameDecimals self.new) }
+    {
+        let interval = StoredInterval::new(alloc, interval)?;
+        let first = self.list.first().unwrap_or(&interval);
+        let others = first.decimals.unwrap_or(0);
+        check_decimals(interval.place, interval.decimals, others)?;
+        self.list.push(interval)?;
+        Ok(())
+    }
+
+    /// Returns the decimals of the values, if a comment has them.
+    pub fn decimals(&self) -> Option<u32>
+        ensures { HaveSameDecimals self.now
+            → All (λ s. decimals_of s ≡ unwrap_or result 0) self.now.list.items }
+    {
+        self.list.iter().find_map(|interval| interval.decimals)
+    }
+
+    /// The lines of the logs that were not read, at most 100 of each log.
+    pub fn notes(&self) -> &[Note] {
+        &self.notes
+    }
+}

@@ -1,0 +1,31 @@
+//! Interval logs, read line by line from any reader: their chosen intervals with the times at which they begin, copies of these, and
+//! their sums.
+//!
+//! Histograms that are compressed, or of another version, are converted. An empty tag counts as
+//! none. A last line without a line feed counts if it is a complete interval, and is otherwise left out.
+#![tactic(auto)]
+
+mod adding;
+mod errors;
+mod headers;
+mod interval;
+mod intervals;
+mod lines;
+mod note;
+mod parser;
+mod place;
+mod plain;
+mod reader;
+mod stored;
+mod sums;
+
+pub use adding::add;
+pub use errors::LogError;
+pub use headers::{check_decimals, decimals_comment};
+pub use interval::Interval;
+pub use intervals::LogIntervals;
+pub use note::{Note, NoteKind};
+pub use place::Place;
+pub use reader::{LineBuffer, LogLine, LogReader};
+pub use stored::StoredInterval;
+pub use sums::{LogSums, TagSum};

@@ -1,0 +1,181 @@
+//! A log that is read line by line.
+
+ghost use Rattle.std.specs.Prelude.{◌++◌, List, [], Ok, IfOk, OnOk, IfSome, IsSome};
+ghost use Rattle.hdrhistogram.specs.Chosen.{view_of_interval_choice};
+ghost use Rattle.hdr_logs.specs.Intervals.{LogInterval, LogHolds};
+ghost use Rattle.hdr_logs.specs.Reading.{intervals_of_line, IsEnd, UnreadHold, IsKnown};
+
+use crate::errors::LogError;
+use crate::interval::{Interval, chooses, tag_of};
+use crate::lines::read_line;
+use crate::note::Note;
+use crate::parser::{LogParser, is_left_out};
+use crate::place::Place;
+use crate::plain::plain_field;
+use hdr_convert::{Form, convert_interval};
+use hdr_input::lines::without_mark;
+use hdrhistogram::serialization::interval_log::IntervalChoice;
+use std::alloc::Global;
+use std::io::{BufReader, Read};
+
+/// The memory of a line.
+#[derive(Drop)]
+pub struct LineBuffer {
+    /// The line with its LF.
+    line: Vec<u8>,
+    /// Its histogram, if it was converted.
+    plain: Vec<u8>,
+}
+
+impl LineBuffer {
+    /// Returns the memory of no line yet.
+    pub fn new(alloc: Global) -> LineBuffer {
+        LineBuffer {
+            line: Vec::new(alloc),
+            plain: Vec::new(alloc),
+        }
+    }
+}
+
+/// What the next line of a log is.
+#[derive(Drop)]
+pub enum LogLine<'a> {
+    /// A chosen interval.
+    Chosen(Interval<'a>),
+    /// An interval that is not chosen, or a line without one.
+    Other,
+    /// The end of the log.
+    End,
+}
+
+/// A log that is read line by line.
+#[derive(Drop)]
+pub struct LogReader<'c, R> {
+    reader: BufReader<R>,
+    parser: LogParser,
+    choice: IntervalChoice<'c>,
+}
+
+impl<'c, R: Read + Drop> LogReader<'c, R> {
+    /// Returns a reader of the file of this index, of which nothing is read yet.
+    ///
+    /// # Errors
+    /// Returns an error if an allocation fails.
+    pub fn new(
+        alloc: Global,
+        file: usize,
+        reader: R,
+        choice: IntervalChoice<'c>,
+    ) -> Result<LogReader<'c, R>, LogError>
+        ensures log { IfOk result (λ log. (all : List LogInterval) → UnreadHold R.remaining log all
+            → IfSome (R.remaining reader) (λ text. LogHolds (view_of_interval_choice choice.entry) text all)) }
+        ensures known { IfOk result (λ log. IsSome (R.remaining reader) → IsKnown R.remaining log) }
+    {
+        match BufReader::new(alloc, reader) {
+            Ok(reader) => Ok(LogReader {
+                reader,
+                parser: LogParser::new(alloc, file),
+                choice,
+            }),
+            Err(_) => Err(LogError::OutOfMemory),
+        }
+    }
+
+    /// Reads the next line into `buffer`, and returns its interval if it has one that is chosen.
+    ///
+    /// # Errors
+    /// Returns an error if the line is invalid or too long, if its histogram is chosen and is not
+    /// converted, if the reader fails, or if an allocation fails.
+    pub fn next_line<'a>(
+        &mut self,
+        alloc: Global,
+        buffer: &'a mut LineBuffer,
+    ) -> Result<LogLine<'a>, LogError>
+        ensures intervals { IfOk result (λ line. (rest : List LogInterval)
+            → UnreadHold R.remaining self.new rest
+            → UnreadHold R.remaining self.old (intervals_of_line line ++ rest)) }
+        ensures end { IfOk result (λ line. IsEnd line → IsKnown R.remaining self.old
+            → UnreadHold R.remaining self.new []) }
+        ensures known { OnOk result (IsKnown R.remaining self.old → IsKnown R.remaining self.new) }
+    {
+        let next = self.next_place();
+        if !read_line(alloc, &mut self.reader, &mut buffer.line, next)? {
+            return Ok(LogLine::End);
+        }
+        let Some(timed) = self.parser.parse_line(alloc, &buffer.line)? else {
+            return Ok(LogLine::Other);
+        };
+        if !chooses(&self.choice, &timed) {
+            return Ok(LogLine::Other);
+        }
+        let field = timed.interval.encoded_histogram();
+        match plain_field(alloc, field, &mut buffer.plain) {
+            Ok(field) => Ok(LogLine::Chosen(Interval {
+                time: timed.time,
+                tag: tag_of(&timed.interval),
+                duration: timed.interval.duration(),
+                field,
+                decimals: self.parser.decimals,
+                place: next,
+            })),
+            Err(cause) => Err(LogError::of_conversion(next, cause)),
+        }
+    }
+
+    /// Reads the next line into `buffer`, and appends it to `output`, with its histogram in `form`.
+    /// Intervals that are not chosen, and a last line that is not read, are left out. Returns
+    /// whether there was a line.
+    ///
+    /// # Errors
+    /// As `next_line`. `output` is then unchanged.
+    pub fn convert_line(
+        &mut self,
+        alloc: Global,
+        form: Form,
+        buffer: &mut LineBuffer,
+        output: &mut Vec<u8>,
+    ) -> Result<bool, LogError> {
+        let next = self.next_place();
+        if !read_line(alloc, &mut self.reader, &mut buffer.line, next)? {
+            return Ok(false);
+        }
+        let line = without_mark(&buffer.line, next.line);
+        match self.parser.parse_line(alloc, &buffer.line)? {
+            None if is_left_out(line) => {}
+            None => output.extend_from_slice(line)?,
+            Some(timed) if chooses(&self.choice, &timed) => {
+                let field = timed.interval.encoded_histogram();
+                let len = output.len();
+                if let Err(cause) = convert_interval(alloc, line, field, form, output) {
+                    output.truncate(len);
+                    return Err(LogError::of_conversion(next, cause));
+                }
+            }
+            Some(_) => {}
+        }
+        Ok(true)
+    }
+
+    /// The number of the next line, and its file.
+    fn next_place(&self) -> Place {
+        Place {
+            line: self.parser.place.line.saturating_add(1),
+            ..self.parser.place
+        }
+    }
+
+    /// Whether all that was read from the reader is taken, so that the next line waits for it.
+    pub fn is_drained(&self) -> bool {
+        self.reader.buffer().is_empty()
+    }
+
+    /// The line that was read last.
+    pub fn place(&self) -> Place {
+        self.parser.place
+    }
+
+    /// The lines so far that are not read, at most 100 of them.
+    pub fn notes(&self) -> &[Note] {
+        &self.parser.notes
+    }
+}

@@ -1,0 +1,89 @@
+//! The logs of the arguments.
+
+use crate::errors::StatError;
+use crate::files::Files;
+use hdr_input::Distribution;
+use hdr_logs::{LogError, LogIntervals, LogSums, Note, TagSum};
+use hdr_summary::figures::Tagged;
+use hdrhistogram::Histogram;
+use hdrhistogram::serialization::interval_log::IntervalChoice;
+
+/// Returns the sums of the chosen intervals of logs: one, or one for each tag. If intervals are
+/// coarser than their sum, their number is printed on standard error.
+pub(crate) fn read_sums(
+    files: Files<'_, '_, '_>,
+    sigfig: u8,
+    choice: IntervalChoice<'_>,
+    is_by_tag: bool,
+) -> Result<Vec<Tagged>, StatError> {
+    let alloc = files.alloc();
+    let mut sums = LogSums::new(alloc, choice, sigfig, is_by_tag);
+    let read = files.read_each(|index, input| {
+        sums.read_log(alloc, index, input)
+            .map_err(|cause| files.log_error(cause))
+    });
+    files.print_notes(sums.notes());
+    read?;
+    print_coarser(files.rt, &sums, sigfig);
+    let decimals = sums.decimals();
+    let mut parts = Vec::new(alloc);
+    for TagSum { tag, histogram } in sums.sums {
+        let distribution = Distribution::of_histogram(histogram, decimals);
+        parts.push(Tagged { tag, distribution })?;
+    }
+    if parts.is_empty() && !is_by_tag {
+        let empty = Histogram::new(alloc, sigfig)?;
+        parts.push(Tagged {
+            tag: None,
+            distribution: Distribution::of_histogram(empty, decimals),
+        })?;
+    }
+    Ok(parts)
+}
+
+/// Prints on standard error how many of the chosen intervals are coarser than their sum, if any are.
+fn print_coarser(rt: &HostRuntime, sums: &LogSums<'_>, sigfig: u8) {
+    let coarser = sums.coarser;
+    let chosen = sums.chosen;
+    if coarser > 0 {
+        let _ = eprintln!(rt;
+            "hdrstat: {coarser} of {chosen} intervals coarser than {sigfig} digits"
+        );
+    }
+}
+
+/// Returns the chosen intervals of logs.
+pub(crate) fn read_intervals(
+    files: Files<'_, '_, '_>,
+    choice: IntervalChoice<'_>,
+) -> Result<LogIntervals, StatError> {
+    let alloc = files.alloc();
+    let mut intervals = LogIntervals::new(alloc);
+    let read = files.read_each(|index, input| {
+        intervals
+            .read_log(alloc, index, input, choice)
+            .map_err(|cause| files.log_error(cause))
+    });
+    files.print_notes(intervals.notes());
+    read?;
+    Ok(intervals)
+}
+
+impl Files<'_, '_, '_> {
+    /// Returns the error of logs, with the name of the log that has it, if one has.
+    pub(crate) fn log_error(self, cause: LogError) -> StatError {
+        let name = match cause.file() {
+            Some(index) => self.name(index),
+            None => "the logs",
+        };
+        StatError::logs(self.alloc(), name, cause)
+    }
+
+    /// Prints the lines of logs that are not read on standard error, with the names of the logs.
+    pub(crate) fn print_notes(self, notes: &[Note]) {
+        for note in notes {
+            let file = self.name(note.place.file);
+            let _ = eprintln!(self.rt; "hdrstat: {file}: {note}");
+        }
+    }
+}

@@ -1,0 +1,4 @@
+//! The arguments that several subcommands have, and what they mean.
+
+pub(crate) mod arguments;
+pub(crate) mod matches;

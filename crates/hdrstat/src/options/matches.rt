@@ -1,0 +1,227 @@
+//! What arguments mean.
+
+ghost use Rattle.std.specs.Prelude.{◌↔◌, IfSome, IsTrue};
+ghost use Rattle.hdrstat.specs.Delimiters.{IsDelimiter};
+
+use crate::errors::StatError;
+use crate::files::numbers::Table;
+use clap::ArgMatches;
+use hdr_input::{Number, Recording};
+use hdr_summary::units::{Unit, in_unit, parse_amount};
+use hdrhistogram::serialization::interval_log::{IntervalChoice, Tag, TagChoice};
+use std::alloc::Global;
+use std::time::Duration;
+
+/// What the input is, and how it is read.
+#[derive(Clone, Copy)]
+pub(crate) enum Reading<'a> {
+    /// A number on each line, or a table.
+    Numbers {
+        recording: Recording,
+        table: Option<Table<'a>>,
+    },
+    /// Interval logs.
+    Logs {
+        choice: IntervalChoice<'a>,
+        sigfig: u8,
+        is_by_tag: bool,
+    },
+}
+
+/// Returns how the input is read.
+pub(crate) fn reading_of<'a>(
+    alloc: Global,
+    matches: &ArgMatches<'a>,
+) -> Result<Reading<'a>, StatError> {
+    let is_log = matches.get_str("from") == Some("log");
+    if let Some(option) = misplaced_option(matches, is_log) {
+        let why = if is_log {
+            "is not an option of --from log"
+        } else {
+            "is an option of --from log alone"
+        };
+        return Err(StatError::usage(alloc, option, why));
+    }
+    if is_log {
+        Ok(Reading::Logs {
+            choice: choice_of(alloc, matches)?,
+            sigfig: digits_of(matches),
+            is_by_tag: matches.get_flag("by-tag"),
+        })
+    } else {
+        Ok(Reading::Numbers {
+            recording: recording_of(alloc, matches)?,
+            table: table_of(alloc, matches)?,
+        })
+    }
+}
+
+/// Options of numbers, and options of logs, which have a value.
+const OF_NUMBERS: [&str; 4] = [
+    "--column",
+    "--delimiter",
+    "--decimals",
+    "--expected-interval",
+];
+
+const OF_LOGS: [&str; 3] = ["--tag", "--from-time", "--to-time"];
+
+/// Returns an option that does not go with the input, if one is present.
+fn misplaced_option(matches: &ArgMatches<'_>, is_log: bool) -> Option<&'static str> {
+    if is_log {
+        if matches.get_flag("skip-bad") {
+            return Some("--skip-bad");
+        }
+        return first_present(matches, OF_NUMBERS.as_slice());
+    }
+    if matches.get_flag("by-tag") {
+        return Some("--by-tag");
+    }
+    first_present(matches, OF_LOGS.as_slice())
+}
+
+/// Returns the first of some options that is present, if one is.
+fn first_present<'a>(matches: &ArgMatches<'_>, options: &[&'a str]) -> Option<&'a str> {
+    options.iter().copied().find(|option| matches.get_str(option.trim_start_matches('-')).is_some())
+}
+
+/// Returns how numbers are recorded.
+pub(crate) fn recording_of(
+    alloc: Global,
+    matches: &ArgMatches<'_>,
+) -> Result<Recording, StatError> {
+    Ok(Recording {
+        sigfig: digits_of(matches),
+        decimals: matches.get_one::<u32>("decimals"),
+        interval: interval_of(alloc, matches)?,
+        skips_bad: matches.get_flag("skip-bad"),
+    })
+}
+
+/// Returns the significant digits.
+fn digits_of(matches: &ArgMatches<'_>) -> u8 {
+    matches.get_one::<u8>("digits").unwrap_or(3)
+}
+
+/// Returns the expected interval, 0 if there is none.
+fn interval_of(alloc: Global, matches: &ArgMatches<'_>) -> Result<Number, StatError> {
+    let Some(text) = matches.get_str("expected-interval") else {
+        return Ok(Number::ZERO);
+    };
+    let interval = parse_amount(text, unit_of(matches)).unwrap_or(Number::ZERO);
+    if interval.digits == 0 {
+        let why = "is not an interval above 0, such as 10, 0.01 or, with --unit, 10ms";
+        return Err(StatError::usage(alloc, text, why));
+    }
+    if is_rounded_to_zero(interval, matches.get_one::<u32>("decimals")) {
+        let why = "is an interval of 0, if it is rounded to --decimals";
+        return Err(StatError::usage(alloc, text, why));
+    }
+    Ok(interval)
+}
+
+/// Whether a number is 0 if it is rounded to `decimals`.
+fn is_rounded_to_zero(number: Number, decimals: Option<u32>) -> bool {
+    decimals.is_some_and(|decimals| number.rounded(decimals) == Some(0))
+}
+
+/// Returns the unit of the numbers, if there is one.
+pub(crate) fn unit_of(matches: &ArgMatches<'_>) -> Option<Unit> {
+    Unit::from_name(matches.get_str("unit")?)
+}
+
+/// Returns the table of the arguments, if they name a column.
+pub(crate) fn table_of<'a>(
+    alloc: Global,
+    matches: &ArgMatches<'a>,
+) -> Result<Option<Table<'a>>, StatError> {
+    let Some(column) = matches.get_str("column") else {
+        return Ok(None);
+    };
+    Ok(Some(Table {
+        column,
+        delimiter: delimiter_of(alloc, matches)?,
+        has_header: !matches.get_flag("no-header"),
+    }))
+}
+
+/// Returns the delimiter of tables, if there is one.
+fn delimiter_of(alloc: Global, matches: &ArgMatches<'_>) -> Result<Option<u8>, StatError> {
+    let Some(text) = matches.get_str("delimiter") else {
+        return Ok(None);
+    };
+    let why = "is not a delimiter: comma, tab, semicolon, space, or one ASCII character";
+    let delimiter = parse_delimiter(text).ok_or_else(|| StatError::usage(alloc, text, why))?;
+    Ok(Some(delimiter))
+}
+
+/// Parses a delimiter: a name, or a character of ASCII.
+fn parse_delimiter(name: &str) -> Option<u8>
+    ensures { IfSome result IsDelimiter }
+{
+    match name {
+        "comma" => Some(b','),
+        "tab" => Some(b'\t'),
+        "semicolon" => Some(b';'),
+        "space" => Some(b' '),
+        _ => match name.as_bytes() {
+            [byte] if is_delimiter(*byte) => Some(*byte),
+            _ => None,
+        },
+    }
+}
+
+/// Whether a byte may be a delimiter. Quotes and ends of lines may not.
+fn is_delimiter(byte: u8) -> bool
+    ensures { IsTrue result ↔ IsDelimiter byte }
+{
+    byte.is_ascii() && byte != b'"' && byte != b'\n' && byte != b'\r'
+}
+
+/// Returns the choice of intervals.
+pub(crate) fn choice_of<'a>(
+    alloc: Global,
+    matches: &ArgMatches<'a>,
+) -> Result<IntervalChoice<'a>, StatError> {
+    let tags = match tag_of(alloc, matches)? {
+        Some(tag) if tag.as_str().is_empty() => TagChoice::Untagged,
+        Some(tag) => TagChoice::Tagged(tag),
+        None => TagChoice::Every,
+    };
+    let from = nanoseconds_of(alloc, matches, "from-time")?.map(Duration::from_nanos);
+    let to = nanoseconds_of(alloc, matches, "to-time")?.map(Duration::from_nanos);
+    Ok(IntervalChoice { tags, from, to })
+}
+
+/// Returns the tag of the arguments, if there is one.
+pub(crate) fn tag_of<'a>(
+    alloc: Global,
+    matches: &ArgMatches<'a>,
+) -> Result<Option<Tag<'a>>, StatError> {
+    let Some(text) = matches.get_str("tag") else {
+        return Ok(None);
+    };
+    let why = "is not a tag: it has a comma, a space or an end of line";
+    let tag = Tag::new(text).ok_or_else(|| StatError::usage(alloc, text, why))?;
+    Ok(Some(tag))
+}
+
+/// Returns the time of an option in nanoseconds. It is in seconds if it has no unit.
+pub(crate) fn nanoseconds_of(
+    alloc: Global,
+    matches: &ArgMatches<'_>,
+    option: &str,
+) -> Result<Option<u64>, StatError> {
+    let Some(text) = matches.get_str(option) else {
+        return Ok(None);
+    };
+    let why = "is not a time, such as 1764054000, 90.5 or 500ms";
+    let nanos = parse_nanoseconds(text).ok_or_else(|| StatError::usage(alloc, text, why))?;
+    Ok(Some(nanos))
+}
+
+/// Parses a time, which is in seconds if it has no unit.
+fn parse_nanoseconds(text: &str) -> Option<u64> {
+    let time = parse_amount(text, Some(Unit::Seconds))?;
+    in_unit(time, Unit::Seconds, Unit::Nanoseconds)?.rounded(0)
+}

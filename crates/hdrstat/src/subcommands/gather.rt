@@ -1,0 +1,86 @@
+//! `hdrstat gather`.
+
+use crate::errors::StatError;
+use crate::files::Files;
+use crate::files::logs::read_intervals;
+use crate::options::arguments::{flag, logs, quiet, with_choice};
+use crate::options::matches::choice_of;
+use crate::output::Output;
+use clap::{ArgMatches, Command, Error};
+use hdr_gather::{Counts, PeekableLog, gather_sorted, gather_unsorted};
+use hdrhistogram::serialization::interval_log::IntervalChoice;
+use std::alloc::Global;
+use std::process::ExitCode;
+
+const AFTER: &str = "\
+Intervals of the same tag that begin at the same time become one, with the samples of all.
+They are written in order of time and then of tag. The output can be gathered again.
+Each log has to be in order of time, as logs are written: they are read side by side, in the
+memory of the intervals of one start, which are written once all logs are past it.
+
+Examples:
+  hdrstat gather host1.log host2.log >all.log
+  cat host1.log host2.log | hdrstat gather --unsorted >all.log
+
+Status: 0; 1 if a log is invalid, or input or output fails; 2 for a usage error.";
+
+/// Returns the command line of `hdrstat gather`.
+pub(crate) fn command<'a>(alloc: Global) -> Result<Command<'a>, Error> {
+    let help = "Read all logs first, whose intervals may be in any order";
+    let command = Command::new(alloc, "gather")
+        .about("Merge the interval logs of many hosts into one")
+        .after_help(AFTER)
+        .arg(flag(alloc, "unsorted", help))?
+        .arg(quiet(alloc))?
+        .arg(logs(alloc))?;
+    with_choice(alloc, command)
+}
+
+/// Merges logs, and prints the result as one log.
+pub(crate) fn run(rt: &HostRuntime, matches: &ArgMatches<'_>) -> Result<ExitCode, StatError> {
+    let choice = choice_of(rt.alloc(), matches)?;
+    let files = Files {
+        rt,
+        names: matches.get_strs("LOG").unwrap_or(&[]),
+        is_quiet: matches.get_flag("quiet"),
+    };
+    let counts = if matches.get_flag("unsorted") {
+        let intervals = read_intervals(files, choice)?;
+        gather_unsorted(rt.alloc(), &intervals, &mut Output::new(rt)).map_err(
+            |cause| files.log_error(cause),
+        )?
+    } else {
+        gather_side_by_side(files, choice)?
+    };
+    print_finer(rt, counts);
+    Ok(ExitCode::SUCCESS)
+}
+
+/// Merges logs, which are all open at once and in order of time.
+fn gather_side_by_side(
+    files: Files<'_, '_, '_>,
+    choice: IntervalChoice<'_>,
+) -> Result<Counts, StatError> {
+    let alloc = files.alloc();
+    let mut logs = Vec::new(alloc);
+    files.read_each(|index, input| {
+        let log = PeekableLog::new(alloc, index, input, choice);
+        logs.push(log.map_err(|cause| files.log_error(cause))?)?;
+        Ok(())
+    })?;
+    let gathered = gather_sorted(alloc, &mut logs, &mut Output::new(files.rt));
+    for log in &logs {
+        files.print_notes(log.notes());
+    }
+    gathered.map_err(|cause| files.log_error(cause))
+}
+
+/// Prints on standard error how many intervals are finer than the sum that they are in, if any are.
+fn print_finer(rt: &HostRuntime, counts: Counts) {
+    let Counts { intervals, finer } = counts;
+    if finer > 0 {
+        let _ = eprintln!(rt;
+            "hdrstat: {finer} of {intervals} intervals finer than their sum, which has the digits of the coarsest"
+        );
+    }
+}
