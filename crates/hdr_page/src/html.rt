@@ -7,10 +7,10 @@ ghost use Rattle.hdr_logs.specs.Stored.{HaveSameDecimals, decimals_of};
 use crate::charts::push_drawings;
 use crate::style::push_style;
 use crate::table::push_table;
+use hdr_logs::{LogError, LogIntervals};
 use hdr_view::name::IN_TITLE;
 use hdr_view::options::PageOptions;
 use hdr_view::view::{PageForm, View};
-use hdr_logs::{LogError, LogIntervals};
 use std::alloc::Global;
 
 const HEAD: &str = "<!DOCTYPE html>\n<html lang=\"en\"><head><meta charset=\"utf-8\">\

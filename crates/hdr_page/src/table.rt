@@ -1,11 +1,11 @@
 //! The table of tags.
 
 use crate::charts::legend::push_mark;
-use hdr_view::view::View;
-use hdr_view::amount::Amount;
-use hdr_view::name::IN_TABLE;
 use hdr_draw::number::{push_grouped, push_rate};
 use hdr_figures::figures::{DRAWN, Figures, TagFigures};
+use hdr_view::amount::Amount;
+use hdr_view::name::IN_TABLE;
+use hdr_view::view::View;
 use std::alloc::AllocError;
 
 /// The rows that are shown at once.

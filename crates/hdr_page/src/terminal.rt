@@ -7,12 +7,12 @@ ghost use Rattle.hdr_logs.specs.Stored.{HaveSameDecimals, decimals_of};
 
 use crate::charts::detail::curve_of;
 use crate::charts::percentiles::LINES;
-use hdr_view::name::columns;
-use hdr_view::options::PageOptions;
-use hdr_view::view::{PageForm, View};
 use hdr_draw::quantiles::QuantileScale;
 use hdr_draw::values::{AxisTick, ValueScale};
 use hdr_logs::{LogError, LogIntervals};
+use hdr_view::name::columns;
+use hdr_view::options::PageOptions;
+use hdr_view::view::{PageForm, View};
 use std::alloc::{AllocError, Global};
 
 /// The columns of a label and a space, and of the curve: 80 together.

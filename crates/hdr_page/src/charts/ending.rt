@@ -2,10 +2,10 @@
 
 use crate::charts::field::{Field, FieldScale};
 use crate::charts::legend::line_class;
-use hdr_view::view::View;
-use hdr_view::name::AT_CURVE;
 use hdr_draw::tenths::push_tenths;
 use hdr_draw::values::GAP;
+use hdr_view::name::AT_CURVE;
+use hdr_view::view::View;
 use std::alloc::{AllocError, Global};
 
 /// How far the upper side of a name is above the end of its curve, in pixels.

@@ -2,8 +2,6 @@
 
 ghost use Rattle.std.specs.Prelude.{◌≡◌, ◌≤◌, ◌+◌, ◌-◌, ◌*◌, ◌^◌, min};
 
-use hdr_view::amount::Units;
-use hdr_view::view::{Series, View};
 use hdr_draw::axis::Axis;
 use hdr_draw::path::{Joint, Path};
 use hdr_draw::steps::step_above;
@@ -11,6 +9,8 @@ use hdr_draw::tenths::push_tenths;
 use hdr_draw::values::{AxisTick, ValueScale};
 use hdr_figures::figures::TagFigures;
 use hdr_figures::level::PageLevel;
+use hdr_view::amount::Units;
+use hdr_view::view::{Series, View};
 use std::alloc::{AllocError, Global};
 
 /// A part of a drawing: where it begins, and its height, in pixels.

@@ -1,14 +1,14 @@
 //! The frames of drawings: their texts, axes, grids and slow times.
 
 use crate::charts::field::{Field, FieldScale};
-use hdr_view::view::View;
-use hdr_view::clock::{TimeStyle, push_length};
-use hdr_view::name::{AT_CURVE, columns};
-use hdr_view::slow::LETTERS;
 use hdr_draw::axis::Axis;
 use hdr_draw::path::{WIDTH, left_of};
 use hdr_draw::tenths::push_tenths;
 use hdr_draw::times::{TimeSteps, TimeTick};
+use hdr_view::clock::{TimeStyle, push_length};
+use hdr_view::name::{AT_CURVE, columns};
+use hdr_view::slow::LETTERS;
+use hdr_view::view::View;
 use std::alloc::AllocError;
 
 /// The height of a drawing beside its parts: what is above and below.

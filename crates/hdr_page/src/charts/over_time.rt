@@ -4,9 +4,9 @@ use crate::charts::ending::{Ending, last_level, push_level_ending};
 use crate::charts::field::{Field, FieldScale};
 use crate::charts::frame::{Frame, push_caption, push_names};
 use crate::charts::legend::line_class;
-use hdr_view::view::{Series, View};
 use hdr_draw::path::Joint;
 use hdr_draw::values::ValueScale;
+use hdr_view::view::{Series, View};
 use std::alloc::AllocError;
 
 /// The part of the values, and that of samples a second.

@@ -5,11 +5,11 @@ use crate::charts::ending::{Ending, push_level_ending};
 use crate::charts::field::{Field, FieldScale, push_path};
 use crate::charts::frame::{Frame, push_below, push_names};
 use crate::charts::legend::line_class;
-use hdr_view::view::View;
-use hdr_view::name::AT_CURVE;
 use hdr_draw::path::{Path, Point, WIDTH};
 use hdr_draw::quantiles::QuantileScale;
 use hdr_draw::tenths::push_tenths;
+use hdr_view::name::AT_CURVE;
+use hdr_view::view::View;
 use std::alloc::{AllocError, Global};
 
 /// The part of the curves.

@@ -4,9 +4,9 @@ ghost use Rattle.std.specs.Prelude.{ℕ, List, ◌≡◌, ◌≤◌, ◌<◌, �
 ghost use Rattle.hdr_draw.specs.Numbers.{IsDecimalOf};
 
 use crate::charts::field::Field;
-use hdr_view::view::View;
 use hdr_draw::number::{push_exponent, push_fraction, push_rate, scientific};
 use hdr_figures::figures::TagFigures;
+use hdr_view::view::View;
 use std::alloc::AllocError;
 
 /// From here on a rate in 1,000 seconds has an exponent, beside the drawing.

@@ -6,10 +6,10 @@ use crate::charts::field::{Field, FieldScale};
 use crate::charts::frame::{Frame, push_caption};
 use crate::charts::legend::{push_legend, push_mark};
 use crate::charts::rates::rate_range;
-use hdr_view::name::{AT_CURVE, IN_TABLE};
-use hdr_view::view::{Series, View};
 use hdr_draw::heat::ROWS;
 use hdr_figures::figures::TagFigures;
+use hdr_view::name::{AT_CURVE, IN_TABLE};
+use hdr_view::view::{Series, View};
 use std::alloc::AllocError;
 
 /// The parts of the drawing.
