@@ -6,8 +6,8 @@ use Rattle.hdr_core.specs.declared.call.RunError.{RunError}
 use Rattle.hdr_log.specs.Texts.{IsTimeInRange}
 use Rattle.hdr_model.specs.Plain.{Plain}
 use Rattle.hdrhistogram.specs.V2.{HasTooGreatCount}
-use Rattle.hdr_headline.specs.declared.error.HeadlineError.{HeadlineError}
-use Rattle.hdr_headline.specs.declared.error.HeadlineError.TheVariants.{Call, CountNotSerializable, TimeOutOfRange, OutOfMemory}
+use Rattle.hdr_headline.specs.declared.errors.HeadlineError.{HeadlineError}
+use Rattle.hdr_headline.specs.declared.errors.HeadlineError.TheVariants.{Call, CountNotSerializable, TimeOutOfRange, OutOfMemory}
 
 -- a call failed: those before it were accepted and applied, and this is its error
 pub record IsFailedCall {T : Type 0} (greatest : ℕ) (number : T → ℕ) (calls : List (core.Call T)) (old new : Plain) (e : RunError) : Type 0 where

@@ -6,7 +6,7 @@ ghost use Rattle.hdrhistogram.specs.V2Read.{IsReadBack};
 ghost use Rattle.hdr_headline.specs.Alike.{StandsAlike};
 ghost use Rattle.hdr_headline.specs.Errors.{IsBytesError};
 
-use crate::error::HeadlineError;
+use crate::errors::HeadlineError;
 use hdrhistogram::laws::{bytes_read_back, read_back_stands};
 use hdrhistogram::serialization::{DeserializeError, Deserializer, V2SerializeError, V2Serializer};
 use hdrhistogram::{Counter, Histogram};

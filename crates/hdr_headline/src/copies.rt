@@ -12,7 +12,7 @@ ghost use Rattle.hdr_headline.specs.Alike.{BothStandAlike};
 ghost use Rattle.hdr_headline.specs.Errors.{IsHeadlineError};
 
 use crate::bytes::through_bytes;
-use crate::error::HeadlineError;
+use crate::errors::HeadlineError;
 use crate::line::{LineParts, through_line};
 use hdrhistogram::serialization::{Deserializer, V2Serializer};
 use hdrhistogram::{Call, Counter, Histogram, Quantile};

@@ -4,10 +4,10 @@
 
 mod bytes;
 mod copies;
-mod error;
+mod errors;
 mod line;
 
 pub use bytes::through_bytes;
 pub use copies::{Copies, headline};
-pub use error::HeadlineError;
+pub use errors::HeadlineError;
 pub use line::{LineParts, through_line};

@@ -11,7 +11,7 @@ ghost use Rattle.hdrhistogram.specs.V2Read.{IsReadBack};
 ghost use Rattle.hdr_headline.specs.Alike.{StandsAlike, IsFirstField, BeginsWithNone};
 ghost use Rattle.hdr_headline.specs.Errors.{IsLineError};
 
-use crate::error::HeadlineError;
+use crate::errors::HeadlineError;
 use hdr_log::laws::{base64_is_read, written_is_read};
 use hdrhistogram::laws::{bytes_read_back, read_back_stands};
 use hdrhistogram::serialization::interval_log::{

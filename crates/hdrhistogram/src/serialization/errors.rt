@@ -24,8 +24,8 @@ pub enum V2SerializeError {
     OutOfMemory,
 }
 
-/// A count is above `i64::MAX`, the greatest that zig-zag encodes: the error of a serializer whose
-/// bytes are not written to a stream.
+/// A count is above `i64::MAX`, the greatest that zig-zag encodes: the only reason, apart from
+/// memory, for which `IntervalLogWriter::write_v2` can't encode a histogram.
 #[derive(Debug, Clone, Copy, PartialEq, Eq, Drop, Error)]
 #[error("A count above i64::MAX cannot be zig-zag encoded")]
 pub struct CountNotSerializable;

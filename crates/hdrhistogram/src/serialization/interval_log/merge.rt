@@ -321,7 +321,7 @@ impl IntervalChoice<'_> {
 
     /// Whether an interval of `tag` is chosen that begins at `time`, in nanoseconds since the epoch.
     #[tactic(auto, unfolding(crate::specs::Chosen::is_chosen))]
-    fn chooses_at(&self, tag: Option<Tag<'_>>, time: u128) -> bool
+    pub fn chooses_at(&self, tag: Option<Tag<'_>>, time: u128) -> bool
         ensures { result ≡ is_chosen (view_of_interval_choice self.now)
             (option_map tag_text tag.entry) time }
     {
