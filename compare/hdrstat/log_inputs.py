@@ -28,7 +28,7 @@ def compressed(random, data):
     stream = zlib.compress(data, random.randint(0, 9))
     if random.random() < 0.02:
         stream = stream[: random.randrange(len(stream))]
-    length = len(stream) + random.choice([0] * 50 + [1, -1])
+    length = max(len(stream) + random.choice([0] * 50 + [1, -1]), 0)
     cookie = random.choice([b"\x1c\x84\x93\x14"] * 50 + [bytes.fromhex(it) for it in ("1c849301", "1c849311", "1c849312", "1c849342", "1c849308", "1c849329", "0c72124e", "0c72124f", "1c849315")])
     return cookie + length.to_bytes(4, "big") + stream
 

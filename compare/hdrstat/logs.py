@@ -371,14 +371,21 @@ def is_chosen(it, tag=None, since=0, until=None):
     return (tag is None or it.tag == (tag or None)) and since <= it.start and (until is None or it.start < until)
 
 
+def chosen_intervals(name, data, notes, choice):
+    """The chosen intervals of a log. Each of another form is converted when its line is read."""
+    for it in intervals(name, data, notes):
+        if is_chosen(it, **choice):
+            if has_other_form(it.field):
+                it.found(name, it.plain)
+            yield it
+
+
 def sums(logs, sigfig, by_tag, notes, choice):
     """By tag, the sums of the chosen intervals of logs, in the order of first tags, how many intervals are coarser than sums, decimals, and
     how many intervals are chosen."""
     found, coarser, decimals, chosen = {}, 0, None, 0
     for name, data in logs.items():
-        for it in intervals(name, data, notes):
-            if not is_chosen(it, **choice):
-                continue
+        for it in chosen_intervals(name, data, notes, choice):
             decimals = it.decimals if decimals is None else decimals
             if it.decimals != decimals:
                 raise Failure((name, f"line {it.line}", (it.decimals, decimals), "other decimals"))
@@ -390,12 +397,8 @@ def sums(logs, sigfig, by_tag, notes, choice):
 
 
 def stored(name, data, notes, choice):
-    """The chosen intervals of a log. Each of another form is converted, and has to begin within 64 bits of milliseconds."""
-    for it in intervals(name, data, notes):
-        if not is_chosen(it, **choice):
-            continue
-        if has_other_form(it.field):
-            it.found(name, it.plain)
+    """The chosen intervals of a log, each of which has to begin within 64 bits of milliseconds."""
+    for it in chosen_intervals(name, data, notes, choice):
         if it.key()[0] >= LIMIT:
             raise Failure((name, f"line {it.line}", b"", "late"))
         yield it
