@@ -1,5 +1,5 @@
 -- The entries of an interval log that is read line by line.
-use Rattle.std.specs.Prelude.{◌≡◌, ⊤, ◌⊎◌, ◌^◌, ◌-◌, ◌<◌, ℕ, Bool, false, if◌then◌else◌, List, [], ◌∷◌, length, nat_eq, Option, Some, None, Result, Ok}
+use Rattle.std.specs.Prelude.{◌≡◌, ⊤, ◌⊎◌, ◌^◌, ◌-◌, ◌<◌, ℕ, Bool, false, if◌then◌else◌, List, [], ◌∷◌, length, nat_eq, not, ◌&&◌, Option, Some, None, Result, Ok}
 use Rattle.std.specs.List.{list_all, ends_with}
 use Rattle.std.specs.Option.{option_map}
 use Rattle.std.specs.Char.{is_ascii_whitespace}
@@ -25,6 +25,10 @@ HoldsHistogram field = (plain : List ℕ) × (h : Plain) × IsPlainField field p
 -- a line ends with an LF
 abbrev pub is_ended : List ℕ → Bool
 is_ended line = ends_with nat_eq line (10 ∷ [])
+
+-- a line without an interval is left out: it has no LF, and is not blank
+abbrev pub is_left_out : List ℕ → Bool
+is_left_out line = not (is_ended line) && not (list_all is_ascii_whitespace line)
 
 -- the entry of a last line without an LF: none, or an interval whose histogram is complete
 abbrev pub IsUnended : List ℕ → Option Entry → Type 0

@@ -7,3 +7,4 @@ pub mod Times
 pub mod Stored
 pub mod Reading
 pub mod Sums
+pub mod Conversion

@@ -6,6 +6,7 @@
 #![tactic(auto)]
 
 mod adding;
+mod conversion;
 mod errors;
 mod headers;
 mod interval;

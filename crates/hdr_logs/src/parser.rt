@@ -7,7 +7,7 @@ ghost use Rattle.std.specs.Char.{is_ascii_whitespace};
 ghost use Rattle.hdr_log.specs.Grammar.{Entry, Span, entry_of};
 ghost use Rattle.hdr_log.specs.Reading.{view_of_entry, view_of_interval, view_of_timed};
 ghost use Rattle.hdr_input.specs.Lines.{without_mark};
-ghost use Rattle.hdr_logs.specs.Entries.{IsEntry, IsUnended, HoldsHistogram, is_ended, base_then, interval_then};
+ghost use Rattle.hdr_logs.specs.Entries.{IsEntry, IsUnended, HoldsHistogram, is_ended, is_left_out, base_then, interval_then};
 
 use crate::errors::LogError;
 use crate::headers::{decimals_of, invalid_header};
@@ -56,7 +56,9 @@ fn is_ended(line: &[u8]) -> bool
 }
 
 /// Whether a line without an interval is left out: it has no LF, and is not blank.
-pub(crate) fn is_left_out(line: &[u8]) -> bool {
+pub(crate) fn is_left_out(line: &[u8]) -> bool
+    ensures { result ≡ is_left_out line.now }
+{
     !is_ended(line) && !is_blank(line)
 }
 

@@ -1,18 +1,22 @@
 //! A log that is read line by line.
 
-ghost use Rattle.std.specs.Prelude.{◌++◌, List, [], Ok, IfOk, OnOk, IfSome, IsSome};
+ghost use Rattle.std.specs.Prelude.{◌≡◌, ◌+◌, ◌-◌, ◌^◌, ◌++◌, ℕ, min, false, List, [], Ok, IfOk, OnOk, OnErr, IfSome, IsSome};
+ghost use Rattle.std.specs.Io.KnownBytes.{IsAtEnd};
 ghost use Rattle.hdrhistogram.specs.Chosen.{view_of_interval_choice};
 ghost use Rattle.hdr_logs.specs.Intervals.{LogInterval, LogHolds};
-ghost use Rattle.hdr_logs.specs.Reading.{intervals_of_line, IsEnd, UnreadHold, IsKnown};
+ghost use Rattle.hdr_convert.specs.declared.bytes.Form.{Form};
+ghost use Rattle.hdr_logs.specs.Conversion.{LogBecomes, UnreadBecomes, ConvertsLine};
+ghost use Rattle.hdr_logs.specs.Reading.{intervals_of_line, unread, IsEnd, UnreadHold, IsKnown};
 
+use crate::conversion::push_line;
 use crate::errors::LogError;
 use crate::interval::{Interval, chooses, tag_of};
 use crate::lines::read_line;
 use crate::note::Note;
-use crate::parser::{LogParser, is_left_out};
+use crate::parser::LogParser;
 use crate::place::Place;
 use crate::plain::plain_field;
-use hdr_convert::{Form, convert_interval};
+use hdr_convert::Form;
 use hdr_input::lines::without_mark;
 use hdrhistogram::serialization::interval_log::IntervalChoice;
 use std::alloc::Global;
@@ -69,6 +73,8 @@ impl<'c, R: Read + Drop> LogReader<'c, R> {
     ) -> Result<LogReader<'c, R>, LogError>
         ensures log { IfOk result (λ log. (all : List LogInterval) → UnreadHold R.remaining log all
             → IfSome (R.remaining reader) (λ text. LogHolds (view_of_interval_choice choice.entry) text all)) }
+        ensures conversion { IfOk result (λ log. (form : Form) (text : List ℕ) → UnreadBecomes R.remaining form log text
+            → IfSome (R.remaining reader) (λ old. LogBecomes form (view_of_interval_choice choice.entry) old text)) }
         ensures known { IfOk result (λ log. IsSome (R.remaining reader) → IsKnown R.remaining log) }
     {
         match BufReader::new(alloc, reader) {
@@ -134,30 +140,32 @@ impl<'c, R: Read + Drop> LogReader<'c, R> {
         form: Form,
         buffer: &mut LineBuffer,
         output: &mut Vec<u8>,
-    ) -> Result<bool, LogError> {
+    ) -> Result<bool, LogError>
+        ensures line { OnOk result (ConvertsLine R.remaining form self.old self.new output.old.items
+            output.new.items) }
+        ensures end { result ≡ Ok false → IsAtEnd (unread R.remaining self.old)
+            × (output.new.items ≡ output.old.items) }
+        ensures rest { result ≡ Ok false → IsKnown R.remaining self.old
+            → UnreadBecomes R.remaining form self.new [] }
+        ensures known { OnOk result (IsKnown R.remaining self.old → IsKnown R.remaining self.new) }
+        ensures err { OnErr result (output.new.items ≡ output.old.items) }
+    {
         let next = self.next_place();
         if !read_line(alloc, &mut self.reader, &mut buffer.line, next)? {
             return Ok(false);
         }
+        let timed = self.parser.parse_line(alloc, &buffer.line)?;
         let line = without_mark(&buffer.line, next.line);
-        match self.parser.parse_line(alloc, &buffer.line)? {
-            None if is_left_out(line) => {}
-            None => output.extend_from_slice(line)?,
-            Some(timed) if chooses(&self.choice, &timed) => {
-                let field = timed.interval.encoded_histogram();
-                let len = output.len();
-                if let Err(cause) = convert_interval(alloc, line, field, form, output) {
-                    output.truncate(len);
-                    return Err(LogError::of_conversion(next, cause));
-                }
-            }
-            Some(_) => {}
+        match push_line(alloc, &self.choice, form, line, timed, output) {
+            Ok(()) => Ok(true),
+            Err(cause) => Err(LogError::of_conversion(next, cause)),
         }
-        Ok(true)
     }
 
     /// The number of the next line, and its file.
-    fn next_place(&self) -> Place {
+    fn next_place(&self) -> Place
+        ensures { result.line ≡ min (self.now.parser.place.line + 1) (2 ^ 64 - 1) }
+    {
         Place {
             line: self.parser.place.line.saturating_add(1),
             ..self.parser.place

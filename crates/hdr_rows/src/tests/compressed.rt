@@ -2,7 +2,7 @@
 
 use crate::tests::FIRST_RUN;
 use crate::tests::messages::assert_message;
-use hdr_convert::{ConvertError, Form, compressed, convert_line, form_of, v2_bytes};
+use hdr_convert::{ConvertError, Form, compressed, convert_field, form_of, v2_bytes};
 use hdr_zlib::{CompressionLevel, InflateError, adler32, deflate, inflate};
 use std::process::Abort;
 use std::test::Fail;
@@ -12,13 +12,12 @@ const HELLO: [u8; 16] = [
     120, 218, 203, 72, 205, 201, 201, 87, 200, 64, 144, 0, 58, 46, 6, 125,
 ];
 
-/// The interval of Java's library with 1 once and 2 four times, by three digits.
-pub const COMPRESSED: &str =
-    "Tag=a,0.000,1.000,2.000,HISTFAAAABx42pNpmSzMwMDAzAABMJoRSjPZf4CxOABCFwKJ\n";
+/// The histogram of Java's library with 1 once and 2 four times, by three digits, in Base64.
+pub const COMPRESSED: &str = "HISTFAAAABx42pNpmSzMwMDAzAABMJoRSjPZf4CxOABCFwKJ";
 
 /// The same as `hdr log` writes it.
 pub const PLAIN: &str =
-    "Tag=a,0.000,1.000,2.000,HISTEwAAAAMAAAAAAAAAAwAAAAAAAAABAAAAAAAAAAI/8AAAAAAAAAACCA==\n";
+    "HISTEwAAAAMAAAAAAAAAAwAAAAAAAAABAAAAAAAAAAI/8AAAAAAAAAACCA==";
 
 #[test]
 fn inflates_what_zlib_writes(rt: HostRuntime) -> Result<(), Fail> {
@@ -49,14 +48,15 @@ fn inflates_what_deflate_writes(rt: HostRuntime) -> Result<(), Fail> {
 }
 
 #[test]
-fn converts_an_interval_of_java(rt: HostRuntime) -> Result<(), Fail> {
-    let mut line = Vec::new(rt.alloc());
-    convert_line(rt.alloc(), COMPRESSED.as_bytes(), Form::Plain, &mut line)?;
-    assert_eq!(rt; line.as_slice(), PLAIN.as_bytes());
-    line.clear();
-    convert_line(rt.alloc(), PLAIN.as_bytes(), Form::Compressed, &mut line)?;
+fn converts_a_histogram_of_java(rt: HostRuntime) -> Result<(), Fail> {
+    let mut field = Vec::new(rt.alloc());
+    convert_field(rt.alloc(), COMPRESSED, Form::Plain, &mut field)?;
+    assert_eq!(rt; field.as_slice(), PLAIN.as_bytes());
+    field.clear();
+    convert_field(rt.alloc(), PLAIN, Form::Compressed, &mut field)?;
+    let packed = str::from_utf8(&field)?;
     let mut again = Vec::new(rt.alloc());
-    convert_line(rt.alloc(), &line, Form::Plain, &mut again)?;
+    convert_field(rt.alloc(), packed, Form::Plain, &mut again)?;
     assert_eq!(rt; again.as_slice(), PLAIN.as_bytes());
     Ok(())
 }

@@ -2,7 +2,7 @@
 
 use crate::tests::FIRST_RUN;
 use crate::tests::compressed::{COMPRESSED, PLAIN};
-use hdr_convert::{ConvertError, Form, convert_line};
+use hdr_convert::{ConvertError, Form, convert_interval};
 use hdr_zlib::{CompressionLevel, InflateError, deflate, inflate};
 use std::alloc::Global;
 use std::process::Abort;
@@ -37,10 +37,13 @@ fn streams(rt: HostRuntime) -> Result<(), Fail> {
     Ok(())
 }
 
+/// The line of an interval.
+const LINE: &[u8] = b"Tag=a,0.000,1.000,2.000,\n";
+
 /// Whether a line is converted; otherwise an allocation failed.
-fn is_converted(rt: &impl Abort, alloc: Global, line: &str, form: Form) -> bool {
+fn is_converted(rt: &impl Abort, alloc: Global, field: &str, form: Form) -> bool {
     let mut output = Vec::new(alloc);
-    let converted = convert_line(alloc, line.as_bytes(), form, &mut output);
+    let converted = convert_interval(alloc, LINE, field, form, &mut output);
     drop(output);
     match converted {
         Ok(()) => true,

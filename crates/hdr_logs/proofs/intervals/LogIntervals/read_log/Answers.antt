@@ -4,7 +4,7 @@ use Rattle.hdr_logs.specs.Intervals.{LogInterval, LogHolds, view_of_log_interval
 use Rattle.hdr_logs.specs.Reading.{UnreadHold, IsEnd, intervals_of_line}
 use Rattle.hdr_logs.specs.Stored.{intervals_of}
 use Rattle.hdr_logs.proofs.Storing.{keeps_more}
-use Rattle.hdr_logs.proofs.Texts.{if_known}
+use Rattle.hdr_logs.proofs.NextLine.{if_known}
 use Rattle.hdr_logs.proofs.intervals.LogIntervals.read_log.Goals.{in-Chosen+in_ok-push-in-Chosen, in-Other}
 use Rattle.hdr_logs.proofs.intervals.LogIntervals.read_log.Goals as goal
 
