@@ -73,7 +73,7 @@ complete -c hdrstat -n '__fish_seen_subcommand_from page' -l level -x -d 'Quanti
 complete -c hdrstat -n '__fish_seen_subcommand_from page' -l tag -x -d 'Only intervals of this tag, or of none if it is empty'
 complete -c hdrstat -n '__fish_seen_subcommand_from page' -l from-time -x -d 'Only intervals that begin at this time or later, in seconds'
 complete -c hdrstat -n '__fish_seen_subcommand_from page' -l to-time -x -d 'Only intervals that begin before this time, in seconds'
-complete -c hdrstat -n '__fish_seen_subcommand_from page' -s o -l output -r -F -d 'File to write, not standard output'
+complete -c hdrstat -n '__fish_seen_subcommand_from page' -s o -l output -r -F -d 'File to write, or - for standard output'
 complete -c hdrstat -n '__fish_seen_subcommand_from page' -l text -d 'Print text for a terminal, and no page'
 complete -c hdrstat -n '__fish_seen_subcommand_from page' -l intervals -d 'Print CSV with a row for each interval, and no page'
 complete -c hdrstat -n '__fish_seen_subcommand_from page' -s h -l help -d 'Print help'

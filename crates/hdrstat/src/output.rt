@@ -1,7 +1,11 @@
-//! Standard output.
+//! Standard output, and a file in place of it.
+
+mod replace;
 
 use crate::errors::StatError;
 use std::io::{self, Stdout, Write};
+
+pub(crate) use replace::{check_output, write_output};
 
 /// Standard output, to which writes are complete: one that is interrupted is retried.
 #[derive(Drop)]

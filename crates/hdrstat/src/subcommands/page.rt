@@ -7,13 +7,12 @@ use crate::files::Files;
 use crate::files::logs::read_intervals;
 use crate::options::arguments::{flag, logs, option, with_choice};
 use crate::options::matches::{choice_of, unit_of};
-use crate::output::print;
+use crate::output::{check_output, write_output};
 use clap::{ArgMatches, Command, Error};
 use hdr_logs::{LogError, LogIntervals};
 use hdr_page::{PageLevel, PageOptions, page, page_text, rows};
 use hdr_summary::units::{Unit, parse_amount};
 use std::alloc::Global;
-use std::fs;
 use std::process::ExitCode;
 
 const AFTER: &str = "\
@@ -38,7 +37,7 @@ Status: 0; 1 if a log is invalid, or input or output fails; 2 for a usage error.
 
 /// Returns the command line of `hdrstat page`.
 pub(crate) fn command<'a>(alloc: Global) -> Result<Command<'a>, Error> {
-    let help = "File to write, not standard output";
+    let help = "File to write, or - for standard output";
     let output = option(alloc, "output", "FILE", help).short('o');
     let help = "Print text for a terminal, and no page";
     let text = flag(alloc, "text", help).conflicts_with("intervals")?;
@@ -82,16 +81,13 @@ pub(crate) fn run(rt: &HostRuntime, matches: &ArgMatches<'_>) -> Result<ExitCode
         names: matches.get_strs("LOG").unwrap_or(&[]),
         is_quiet: true,
     };
+    let output = matches.get_str("output").unwrap_or("-");
+    check_output(rt, output, files.names)?;
     let intervals = read_intervals(files, choice)?;
     let text = text_of(alloc, matches, &intervals, options).map_err(|cause| files.log_error(
         cause,
     ))?;
-    match matches.get_str("output") {
-        Some(file) => fs::write(rt, file, text.as_str()).map_err(|cause| StatError::file(
-            alloc, file, cause,
-        ))?,
-        None => print(rt, text.as_bytes())?,
-    }
+    write_output(rt, output, text.as_bytes())?;
     Ok(ExitCode::SUCCESS)
 }
 
