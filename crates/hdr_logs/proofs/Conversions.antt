@@ -24,6 +24,6 @@ pub line_becomes : (form : Form) (filter : Filter) (old new : Option (List ℕ))
     → IfSome new (λ text. TextBecomes form filter (now == 0) after text rest) → IfSome old (λ text. TextBecomes form filter (number == 0) base text (start ++ rest))
 line_becomes form filter old new number now base after line entry start rest next reads says is becomes left =
     let step : (text : List ℕ) → line ≡ take_through 10 text → TextBecomes form filter (now == 0) after (drop_through 10 text) rest → TextBecomes form filter (number == 0) base text (start ++ rest) =
-      λ text first left. let later = subst (λ b. TextBecomes form filter b after (drop_through 10 text) rest) (not_first number now next) left in
-      becomes_more form filter (number == 0) base text line entry start rest first says becomes (subst (λ o. TextBecomes form filter false o (drop_through 10 text) rest) is later) in
+    λ text first left. let later = subst (λ b. TextBecomes form filter b after (drop_through 10 text) rest) (not_first number now next) left in
+    becomes_more form filter (number == 0) base text line entry start rest first says becomes (subst (λ o. TextBecomes form filter false o (drop_through 10 text) rest) is later) in
     some_line (λ text. TextBecomes form filter (now == 0) after text rest) (λ text. TextBecomes form filter (number == 0) base text (start ++ rest)) old new line reads step left

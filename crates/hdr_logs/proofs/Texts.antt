@@ -1,15 +1,14 @@
 -- What the lines of a text have, by one line more at its start.
-use Rattle.std.proofs.Common.{◌≡◌, ℕ, ◌+◌, ◌-◌, ◌^◌, min, ◌==◌, Bool, true, false, List, [], ◌∷◌, Option, Some, None, IfSome, IsSome, Result, Ok, refl, sym, ap, subst, ◌∙◌, arith, inl, inr, eqb-true}
-use Rattle.std.proofs.lemmas.Bool.{false≢true, false_from_ne_true}
-use Rattle.std.proofs.lemmas.Option.{none-some}
-use Rattle.std.specs.Io.BufRead.{take_through, drop_through, DropsThrough}
+use Rattle.std.proofs.Common.{◌≡◌, ℕ, ◌+◌, ◌-◌, ◌^◌, min, ◌==◌, Bool, true, false, List, ◌∷◌, Option, Some, None, IfSome, Result, refl, sym, ap, subst}
+use Rattle.std.specs.Io.BufRead.{take_through, drop_through}
 use Rattle.hdr_log.specs.Grammar.{Entry, Start, Base, Span}
 use Rattle.hdr_log.specs.Timed.{TimedInterval, timed}
 use Rattle.hdrhistogram.specs.Chosen.{Filter}
 use Rattle.hdr_input.specs.Lines.{without_mark}
-use Rattle.hdr_logs.specs.Lines.{ReadsLine, AreLines}
+use Rattle.hdr_logs.specs.Lines.{ReadsLine}
 use Rattle.hdr_logs.specs.Fields.{IsPlainField}
-use Rattle.hdr_logs.specs.Entries.{entry_of_line, IsEntry, AreEntries, base_then, interval_then, and_entry}
+use Rattle.hdr_logs.specs.Entries.{IsEntry, base_then, interval_then, and_entry}
+use Rattle.hdr_logs.proofs.NextLine.{some_line, not_first}
 use Rattle.hdr_logs.specs.Intervals.{LogInterval, BeginsIf, AreChosen, TextHolds, is_chosen_interval, plain_interval}
 
 -- what becomes of the interval of a line, if it has one
