@@ -12,8 +12,8 @@ Ascend low high [] = low ≤ high
 Ascend low high (first ∷ others) = (low ≤ first.start) × (first.start < high) × Ascend first.start high others
 
 -- these intervals were written, which begin in order of time, from `low` on and before `high`
-abbrev pub WritesFrom : ℕ → ℕ → List Stored → Option (List ℕ) → Option (List ℕ) → Type 0
-WritesFrom low high all old new = Ascend low high all × Writes all old new
+abbrev pub WritesFrom : ℕ → ℕ → List Stored → ℕ → Option (List ℕ) → Option (List ℕ) → Type 0
+WritesFrom low high all finer old new = Ascend low high all × Writes all finer old new
 
 ascend_lower : (a b high : ℕ) (ps : List Stored) → a ≤ b → Ascend b high ps → Ascend a high ps
 unfolding Ascend
@@ -54,11 +54,12 @@ ascend_same s (p ∷ ps) h =
     (first, below, subst (λ x. Ascend x (s + 1) ps) (sym is) (ascend_same s ps (All-tail (λ p. p.start ≡ s) p ps h)))
 
 -- intervals after intervals that begin earlier
-pub writes_then : (a b c d : ℕ) (all more : List Stored) (o m n : Option (List ℕ)) → WritesFrom a b all o m → b ≤ c → Ascend c d more → Writes more m n → WritesFrom a d (all ++ more) o n
-writes_then a b c d all more o m n s l ascend t =
-    (ascend_append a b d all more s.0 (ascend_lower b c d more l ascend), writes_both all more o m n b (ascend_below a b all s.0) (ascend_above c d b more l ascend) s.1 t)
+pub writes_then : (a b c d : ℕ) (all more : List Stored) (f g : ℕ) (o m n : Option (List ℕ)) → WritesFrom a b all f o m → b ≤ c → Ascend c d more → Writes more g m n
+    → WritesFrom a d (all ++ more) (f + g) o n
+writes_then a b c d all more f g o m n s l ascend t =
+    (ascend_append a b d all more s.0 (ascend_lower b c d more l ascend), writes_both all more f g o m n b (ascend_below a b all s.0) (ascend_above c d b more l ascend) s.1 t)
 
 -- no intervals
-pub writes_nothing : (low : ℕ) (o : Option (List ℕ)) → WritesFrom low low [] o o
+pub writes_nothing : (low : ℕ) (o : Option (List ℕ)) → WritesFrom low low [] 0 o o
 unfolding Ascend
 writes_nothing low o = let same : low ≤ low = omega arith in (same, writes_none o)

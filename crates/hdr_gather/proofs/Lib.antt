@@ -1,5 +1,6 @@
 pub mod Parts
 pub mod Exchange
+pub mod Counting
 pub mod Summing
 pub mod Keys
 pub mod Longest

@@ -1,5 +1,5 @@
 -- The intervals that logs have left while they are gathered.
-use Rattle.std.specs.Prelude.{◌≡◌, ◌≤◌, ℕ, List, [], ◌∷◌, ◌++◌, Option, Some, None, IfSome, map}
+use Rattle.std.specs.Prelude.{◌≡◌, ◌≤◌, ℕ, List, [], ◌∷◌, ◌++◌, Option, Some, None, IfSome, length, map}
 use Rattle.std.specs.List.{All}
 use Rattle.std.specs.List.Sorted.{IsPermutation}
 use Rattle.std.specs.Option.{option_map}
@@ -9,7 +9,9 @@ use Rattle.hdr_logs.specs.Intervals as logs
 use Rattle.hdr_logs.specs.Reading as reading
 use Rattle.hdr_logs.specs.Stored.{Stored, stored, view_of_stored}
 use Rattle.hdr_logs.specs.declared.stored.StoredInterval.{StoredInterval}
+use Rattle.hdr_gather.specs.Counts.{CountsMore}
 use Rattle.hdr_gather.specs.Logs.{Writes, WritesLog}
+use Rattle.hdr_gather.specs.declared.sum.Counts.{Counts}
 use Rattle.hdr_gather.specs.declared.peekable.PeekableLog.{PeekableLog}
 
 -- the chosen intervals of a log, as they are stored
@@ -67,10 +69,11 @@ Takes remaining old new before after =
     (taken : List StoredInterval) × (after ≡ before ++ taken)
     × ((rest : List Stored) → HasLeft remaining new rest → HasLeft remaining old (map view_of_stored taken ++ rest))
 
--- the intervals that logs have left were written in order: all of them, if the logs are ready
-abbrev pub WritesRest : {R : Type 0} → (R → Option (List ℕ)) → List (PeekableLog R) → Option (List ℕ) → Option (List ℕ) → Type 0
-WritesRest remaining logs old new = (all : List Stored) × Writes all old new × (All (IsReady remaining) logs → AreLeft remaining logs all)
+-- the intervals that logs have left were written in order, and counted: all of them, if the logs are ready
+abbrev pub WritesRest : {R : Type 0} → (R → Option (List ℕ)) → List (PeekableLog R) → Counts → Counts → Option (List ℕ) → Option (List ℕ) → Type 0
+WritesRest remaining logs before after old new =
+    (all : List Stored) × (finer : ℕ) × Writes all finer old new × CountsMore before (length all) finer after × (All (IsReady remaining) logs → AreLeft remaining logs all)
 
 -- a log was written of all intervals that logs have left, if the bytes that are not read yet are known
-abbrev pub Gathers : {R : Type 0} → (R → Option (List ℕ)) → List (PeekableLog R) → Option (List ℕ) → Option (List ℕ) → Type 0
-Gathers remaining logs old new = (all : List Stored) × WritesLog all old new × (All (IsKnown remaining) logs → AreLeft remaining logs all)
+abbrev pub Gathers : {R : Type 0} → (R → Option (List ℕ)) → List (PeekableLog R) → Counts → Option (List ℕ) → Option (List ℕ) → Type 0
+Gathers remaining logs counts old new = (all : List Stored) × WritesLog all counts old new × (All (IsKnown remaining) logs → AreLeft remaining logs all)

@@ -12,8 +12,9 @@ use Rattle.hdr_gather.specs.Sums.{IsSumOf}
 abbrev pub IsLongest : List ℕ → ℕ → Type 0
 IsLongest durations longest = Contains durations longest × All (λ duration. duration ≤ longest) durations
 
--- the line of an interval and of others of its time and tag: it has this time and tag, is as long as the longest, and has the sum of their histograms
-abbrev pub IsLineOf : Stored → List Stored → List ℕ → Type 0
-IsLineOf first others text =
-    (sum : Plain) × (length : ℕ) × IsSumOf (map (λ i. i.field) (first ∷ others)) sum × IsLongest (map (λ i. i.duration) (first ∷ others)) length
+-- the line of an interval and of others of its time and tag: it has this time and tag, is as long as the longest, and has the sum of their histograms,
+-- of which some are finer
+abbrev pub IsLineOf : Stored → List Stored → ℕ → List ℕ → Type 0
+IsLineOf first others finer text =
+    (sum : Plain) × (length : ℕ) × IsSumOf (map (λ i. i.field) (first ∷ others)) sum finer × IsLongest (map (λ i. i.duration) (first ∷ others)) length
     × IsIntervalText IsV2 sum (tag_or_none (Some first.tag)) (first.start * 1_000_000) length 1 text

@@ -8,7 +8,7 @@ ghost use Rattle.hdr_gather.specs.Left.{IsKnown, IsReady, IsFrom, Loses, Takes, 
 ghost use Rattle.hdr_gather.specs.Logs.{WritesLog};
 
 use crate::peekable::PeekableLog;
-use crate::sum::Counts;
+use crate::sum::{Counts, Summing};
 use crate::writing::{write_intervals, write_start};
 use hdr_logs::{LogError, LogIntervals, StoredInterval, check_decimals};
 use hdrhistogram::serialization::V2Serializer;
@@ -29,7 +29,7 @@ pub fn gather_sorted<R: Read + Drop, W: Write>(
     logs: &mut [PeekableLog<'_, R>],
     output: &mut W,
 ) -> Result<Counts, LogError>
-    ensures { OnOk result (Gathers R.remaining logs.old (W.contents output.old)
+    ensures { IfOk result (λ counts. Gathers R.remaining logs.old counts (W.contents output.old)
         (W.contents output.new)) }
 {
     begin_logs(alloc, logs)?;
@@ -37,10 +37,10 @@ pub fn gather_sorted<R: Read + Drop, W: Write>(
     write_start(alloc, decimals, output)?;
     let mut serializer = V2Serializer::new(alloc);
     let mut log = IntervalLogWriter::new(alloc, output, &mut serializer, 1);
-    let mut counts = Counts::default();
-    write_in_order(alloc, logs, decimals.unwrap_or(0), &mut log, &mut counts)?;
+    let mut sums = Summing::new(alloc);
+    write_in_order(alloc, logs, decimals.unwrap_or(0), &mut log, &mut sums)?;
     drop(log);
-    Ok(counts)
+    Ok(sums.counts)
 }
 
 /// Merges the intervals of logs, which may be in any order of time, and writes the result as one
@@ -53,16 +53,16 @@ pub fn gather_unsorted<W: Write>(
     intervals: &LogIntervals,
     output: &mut W,
 ) -> Result<Counts, LogError>
-    ensures { OnOk result (WritesLog (intervals_of intervals.now) (W.contents output.old)
-        (W.contents output.new)) }
+    ensures { IfOk result (λ counts. WritesLog (intervals_of intervals.now) counts
+        (W.contents output.old) (W.contents output.new)) }
 {
     write_start(alloc, intervals.decimals(), output)?;
     let mut serializer = V2Serializer::new(alloc);
     let mut log = IntervalLogWriter::new(alloc, output, &mut serializer, 1);
-    let mut counts = Counts::default();
-    write_intervals(alloc, &intervals.list, &mut log, &mut counts)?;
+    let mut sums = Summing::new(alloc);
+    write_intervals(alloc, &intervals.list, &mut log, &mut sums)?;
     drop(log);
-    Ok(counts)
+    Ok(sums.counts)
 }
 
 /// Reads up to the first interval of each log.
@@ -87,12 +87,12 @@ fn write_in_order<R: Read + Drop, W: Write>(
     logs: &mut [PeekableLog<'_, R>],
     decimals: u32,
     log: &mut IntervalLogWriter<'_, '_, W, V2Serializer>,
-    counts: &mut Counts,
+    sums: &mut Summing,
 ) -> Result<(), LogError>
     requires { divisor_of log.old ≡ 1 }
     ensures same_log { IsSameLog log.old log.new }
-    ensures written { OnOk result (WritesRest R.remaining logs.old (W.contents (sink log.old).now)
-        (W.contents (sink log.new).now)) }
+    ensures written { OnOk result (WritesRest R.remaining logs.old sums.old.counts sums.new.counts
+        (W.contents (sink log.old).now) (W.contents (sink log.new).now)) }
 {
     for _ in 0..u64::MAX {
         let Some(start) = first_start(logs) else {
@@ -100,7 +100,7 @@ fn write_in_order<R: Read + Drop, W: Write>(
         };
         let intervals = take_at(alloc, logs, start)?;
         check_all(&intervals, decimals)?;
-        write_intervals(alloc, &intervals, log, counts)?;
+        write_intervals(alloc, &intervals, log, sums)?;
     }
     Err(LogError::TooManyLines)
 }

@@ -1,16 +1,19 @@
 //! The sum of intervals.
 
-ghost use Rattle.std.specs.Prelude.{◌≡◌, ◌≤◌, ◌⊎◌, ◌∷◌, IfOk, map};
+ghost use Rattle.std.specs.Prelude.{◌≡◌, ◌≤◌, ◌+◌, ◌⊎◌, ◌++◌, ◌∷◌, [], List, IfOk, OnOk, map};
 ghost use Rattle.std.specs.Duration.{as_nanos};
+ghost use Rattle.hdr_model.specs.Plain.{Plain, resolution};
 ghost use Rattle.hdr_logs.specs.Stored.{view_of_stored};
+ghost use Rattle.hdr_gather.specs.Counts.{one_if_finer, AreCounts};
 ghost use Rattle.hdr_gather.specs.Keys.{all_of};
 ghost use Rattle.hdr_gather.specs.Lines.{IsLongest};
-ghost use Rattle.hdr_gather.specs.Sums.{IsJoined, IsGrowing, IsSumOf};
+ghost use Rattle.hdr_gather.specs.Sums.{IsSum, IsGrowing, SumsFields};
 
 use hdr_logs::{LogError, Place, StoredInterval};
 use hdrhistogram::Histogram;
 use hdrhistogram::serialization::Deserializer;
 use std::alloc::Global;
+use std::mem;
 use std::time::Duration;
 
 /// How many intervals were gathered.
@@ -22,72 +25,125 @@ pub struct Counts {
     pub finer: u64,
 }
 
-/// Returns the sum of the histograms of an interval and of others, which are counted.
-pub(crate) fn sum_of(
-    alloc: Global,
-    first: &StoredInterval,
-    others: &[&StoredInterval],
-    counts: &mut Counts,
-) -> Result<Histogram<u64>, LogError>
-    ensures { IfOk result (IsSumOf (map (λ i. i.field) (view_of_stored first.now ∷ all_of others.now))) }
-{
-    let mut deserializer = Deserializer::new(alloc);
-    let mut sum = histogram_of(&mut deserializer, first)?;
-    let mut count = 1u64;
-    let mut finer = 0u64;
-    for part in others {
-        let histogram = histogram_of(&mut deserializer, part)?;
-        finer = finer_after(&sum, &histogram, count, finer);
-        count = count.saturating_add(1);
-        sum = joined(sum, histogram, part.place)?;
-    }
-    counts.intervals = counts.intervals.saturating_add(count);
-    counts.finer = counts.finer.saturating_add(finer);
-    Ok(sum)
-}
-
-/// Returns the histogram of an interval, which grows.
-fn histogram_of(
-    deserializer: &mut Deserializer,
-    interval: &StoredInterval,
-) -> Result<Histogram<u64>, LogError>
-    ensures { IfOk result (IsGrowing (view_of_stored interval.now).field) }
-{
-    let mut histogram = interval.histogram(deserializer, None)?;
-    histogram.auto(true);
-    Ok(histogram)
-}
-
-/// Returns how many intervals of a sum are finer than it, after one more. Before, there are `count`
-/// of them, of which `finer` are finer.
-fn finer_after(sum: &Histogram<u64>, one: &Histogram<u64>, count: u64, finer: u64) -> u64 {
-    if !sum.refines(one) {
-        finer.saturating_add(1)
-    } else if one.refines(sum) {
-        finer
-    } else {
-        count
+impl Counts {
+    /// Adds the numbers of more intervals. Both saturate.
+    fn add(&mut self, intervals: u64, finer: u64)
+        ensures { AreCounts self.new (self.old.intervals + intervals) (self.old.finer + finer) }
+    {
+        self.intervals = self.intervals.saturating_add(intervals);
+        self.finer = self.finer.saturating_add(finer);
     }
 }
 
-/// Returns the histogram of the samples of both, by the coarser classes. It is an error if the
-/// classes of neither lie in those of the other; `place` is the line that `other` was read from.
-fn joined(
-    mut one: Histogram<u64>,
-    mut other: Histogram<u64>,
-    place: Place,
-) -> Result<Histogram<u64>, LogError>
-    ensures { IfOk result (IsJoined one other) }
+/// The sum of the histograms of intervals, by the coarsest of their classes.
+#[derive(Drop)]
+pub(crate) struct IntervalSum {
+    pub histogram: Histogram<u64>,
+    counts: Counts,
+}
+
+impl IntervalSum {
+    /// Returns the sum of one histogram.
+    fn new(histogram: Histogram<u64>) -> IntervalSum
+        ensures { IsSum (histogram ∷ []) result }
+    {
+        IntervalSum {
+            histogram,
+            counts: Counts {
+                intervals: 1,
+                finer: 0,
+            },
+        }
+    }
+
+    /// Adds a histogram, by the coarser classes. Returns a histogram that is no longer used. It is an
+    /// error if the classes of neither lie in those of the other; `place` is the line that `other`
+    /// was read from.
+    fn add(&mut self, mut other: Histogram<u64>, place: Place) -> Result<Histogram<u64>, LogError>
+        ensures { OnOk result ((hs : List Plain) → IsSum hs self.old → IsSum (hs ++ other ∷ []) self.new) }
+    {
+        if other.refines(&self.histogram) {
+            let finer = one_if_finer(&self.histogram, &other);
+            self.histogram.add(&other)?;
+            self.counts.add(1, finer);
+            return Ok(other);
+        }
+        if self.histogram.refines(&other) {
+            other.add(&self.histogram)?;
+            let finer = mem::replace(&mut self.histogram, other);
+            self.counts.finer = self.counts.intervals;
+            self.counts.add(1, 0);
+            return Ok(finer);
+        }
+        Err(LogError::NotNested(place))
+    }
+}
+
+/// Returns 1 if a histogram is finer than a sum, and 0 otherwise.
+fn one_if_finer(sum: &Histogram<u64>, one: &Histogram<u64>) -> u64
+    ensures { result ≡ one_if_finer (resolution sum.now) one.now }
 {
-    if other.refines(&one) {
-        one.add(&other)?;
-        return Ok(one);
+    if sum.refines(one) { 0 } else { 1 }
+}
+
+/// The sums of intervals, one after the other.
+#[derive(Drop)]
+pub(crate) struct Summing {
+    /// The intervals of the sums so far.
+    pub counts: Counts,
+    deserializer: Deserializer,
+    /// A histogram whose memory is used again.
+    spare: Option<Histogram<u64>>,
+}
+
+impl Summing {
+    /// Returns the state before the first sum.
+    pub fn new(alloc: Global) -> Summing
+        ensures { AreCounts result.counts 0 0 }
+    {
+        Summing {
+            counts: Counts::default(),
+            deserializer: Deserializer::new(alloc),
+            spare: None,
+        }
     }
-    if one.refines(&other) {
-        other.add(&one)?;
-        return Ok(other);
+
+    /// Returns the sum of the histograms of an interval and of others.
+    pub fn sum_of(
+        &mut self,
+        first: &StoredInterval,
+        others: &[&StoredInterval],
+    ) -> Result<IntervalSum, LogError>
+        ensures sum { IfOk result (SumsFields (map (λ i. i.field) (view_of_stored first.now ∷ all_of others.now))) }
+        ensures counts { self.new.counts ≡ self.old.counts }
+    {
+        let mut sum = IntervalSum::new(self.histogram_of(first)?);
+        for part in others {
+            let histogram = self.histogram_of(part)?;
+            self.spare = Some(sum.add(histogram, part.place)?);
+        }
+        Ok(sum)
     }
-    Err(LogError::NotNested(place))
+
+    /// Returns the histogram of an interval, which grows.
+    fn histogram_of(&mut self, interval: &StoredInterval) -> Result<Histogram<u64>, LogError>
+        ensures histogram { IfOk result (IsGrowing (view_of_stored interval.now).field) }
+        ensures counts { self.new.counts ≡ self.old.counts }
+    {
+        let spare = self.spare.take();
+        let mut histogram = interval.histogram(&mut self.deserializer, spare)?;
+        histogram.auto(true);
+        Ok(histogram)
+    }
+
+    /// Counts the intervals of a sum that was written.
+    pub fn count(&mut self, sum: IntervalSum)
+        ensures { AreCounts self.new.counts (self.old.counts.intervals + sum.counts.intervals)
+            (self.old.counts.finer + sum.counts.finer) }
+    {
+        self.counts.add(sum.counts.intervals, sum.counts.finer);
+        self.spare = Some(sum.histogram);
+    }
 }
 
 /// Returns how long the longest of an interval and others is.

@@ -1,15 +1,14 @@
 //! Logs that are written of intervals.
 
-ghost use Rattle.std.specs.Prelude.{◌≡◌, List, ℕ, OnOk, map};
-ghost use Rattle.std.specs.Io.KnownBytes.{Appends};
+ghost use Rattle.std.specs.Prelude.{◌≡◌, ◌+◌, ℕ, OnOk, length, map};
 ghost use Rattle.hdrhistogram.specs.LogWriters.{sink, divisor_of, IsSameLog};
 ghost use Rattle.hdr_logs.specs.Stored.{view_of_stored};
+ghost use Rattle.hdr_gather.specs.Counts.{CountsMore};
 ghost use Rattle.hdr_gather.specs.Keys.{all_of, AreSorted};
-ghost use Rattle.hdr_gather.specs.Lines.{IsLineOf};
-ghost use Rattle.hdr_gather.specs.Logs.{WritesStart, Writes, WritesAll};
+ghost use Rattle.hdr_gather.specs.Logs.{WritesStart, WritesLine, Writes, WritesAll};
 
 use crate::order::{same_key, sort};
-use crate::sum::{Counts, longest, sum_of};
+use crate::sum::{Summing, longest};
 use hdr_logs::{LogError, StoredInterval, decimals_comment};
 use hdrhistogram::serialization::interval_log::{IntervalLogWriter, IntervalLogWriterBuilder};
 use hdrhistogram::serialization::{CountNotSerializable, V2Serializer};
@@ -39,36 +38,37 @@ pub(crate) fn write_intervals<W: Write>(
     alloc: Global,
     intervals: &[StoredInterval],
     log: &mut IntervalLogWriter<'_, '_, W, V2Serializer>,
-    counts: &mut Counts,
+    sums: &mut Summing,
 ) -> Result<(), LogError>
     requires { divisor_of log.old ≡ 1 }
     ensures same_log { IsSameLog log.old log.new }
-    ensures written { OnOk result (WritesAll (map view_of_stored intervals.now)
-        (W.contents (sink log.old).now) (W.contents (sink log.new).now)) }
+    ensures written { OnOk result ((finer : ℕ) × WritesAll (map view_of_stored intervals.now) finer
+        (W.contents (sink log.old).now) (W.contents (sink log.new).now)
+        × CountsMore sums.old.counts (length intervals.now) finer sums.new.counts) }
 {
     let mut parts = intervals.iter().collect(alloc)?;
     sort(&mut parts)?;
-    write_parts(alloc, &parts, log, counts)
+    write_parts(&parts, log, sums)
 }
 
 /// Writes the intervals that sorted ones become, one for each time and tag.
 fn write_parts<W: Write>(
-    alloc: Global,
     parts: &[&StoredInterval],
     log: &mut IntervalLogWriter<'_, '_, W, V2Serializer>,
-    counts: &mut Counts,
+    sums: &mut Summing,
 ) -> Result<(), LogError>
     requires divisor { divisor_of log.old ≡ 1 }
     requires sorted { AreSorted (all_of parts.now) }
     ensures same_log { IsSameLog log.old log.new }
-    ensures written { OnOk result (Writes (all_of parts.now) (W.contents (sink log.old).now)
-        (W.contents (sink log.new).now)) }
+    ensures written { OnOk result ((finer : ℕ) × Writes (all_of parts.now) finer
+        (W.contents (sink log.old).now) (W.contents (sink log.new).now)
+        × CountsMore sums.old.counts (length parts.now) finer sums.new.counts) }
 {
     let mut at = 0;
     while at < parts.len() {
         let first = parts[at];
         let end = at + 1 + same_key(first, &parts[at + 1..]);
-        write_sum(alloc, first, &parts[at + 1..end], log, counts)?;
+        write_sum(first, &parts[at + 1..end], log, sums)?;
         at = end;
     }
     Ok(())
@@ -76,20 +76,20 @@ fn write_parts<W: Write>(
 
 /// Writes the interval that intervals of the same key become, as long as the longest of them.
 fn write_sum<W: Write>(
-    alloc: Global,
     first: &StoredInterval,
     others: &[&StoredInterval],
     log: &mut IntervalLogWriter<'_, '_, W, V2Serializer>,
-    counts: &mut Counts,
+    sums: &mut Summing,
 ) -> Result<(), LogError>
     requires { divisor_of log.old ≡ 1 }
     ensures same_log { IsSameLog log.old log.new }
-    ensures written { OnOk result ((text : List ℕ)
-        × IsLineOf (view_of_stored first.now) (all_of others.now) text
-        × Appends (W.contents (sink log.old).now) (W.contents (sink log.new).now) text) }
+    ensures written { OnOk result ((finer : ℕ) × WritesLine (view_of_stored first.now)
+        (all_of others.now) finer (W.contents (sink log.old).now) (W.contents (sink log.new).now)
+        × CountsMore sums.old.counts (length others.now + 1) finer sums.new.counts) }
 {
-    let sum = sum_of(alloc, first, others, counts)?;
+    let sum = sums.sum_of(first, others)?;
     let start = Duration::from_millis(first.start);
-    log.write_v2(&sum, start, longest(first, others), first.tag())?;
+    log.write_v2(&sum.histogram, start, longest(first, others), first.tag())?;
+    sums.count(sum);
     Ok(())
 }
