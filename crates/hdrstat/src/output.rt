@@ -3,9 +3,8 @@
 mod replace;
 
 use crate::errors::StatError;
-use std::io::{self, Stdout, Write};
-
 pub(crate) use replace::{check_output, write_output};
+use std::io::{self, Stdout, Write};
 
 /// Standard output, to which writes are complete: one that is interrupted is retried.
 #[derive(Drop)]

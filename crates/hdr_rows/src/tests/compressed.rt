@@ -16,8 +16,7 @@ const HELLO: [u8; 16] = [
 pub const COMPRESSED: &str = "HISTFAAAABx42pNpmSzMwMDAzAABMJoRSjPZf4CxOABCFwKJ";
 
 /// The same as `hdr log` writes it.
-pub const PLAIN: &str =
-    "HISTEwAAAAMAAAAAAAAAAwAAAAAAAAABAAAAAAAAAAI/8AAAAAAAAAACCA==";
+pub const PLAIN: &str = "HISTEwAAAAMAAAAAAAAAAwAAAAAAAAABAAAAAAAAAAI/8AAAAAAAAAACCA==";
 
 #[test]
 fn inflates_what_zlib_writes(rt: HostRuntime) -> Result<(), Fail> {
