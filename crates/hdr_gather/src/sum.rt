@@ -92,8 +92,10 @@ pub(crate) struct Summing {
     /// The intervals of the sums so far.
     pub counts: Counts,
     deserializer: Deserializer,
-    /// A histogram whose memory is used again.
-    spare: Option<Histogram<u64>>,
+    /// The last sum, whose memory is used again.
+    last_sum: Option<Histogram<u64>>,
+    /// A histogram that was added, whose memory is used again.
+    last_part: Option<Histogram<u64>>,
 }
 
 impl Summing {
@@ -104,7 +106,8 @@ impl Summing {
         Summing {
             counts: Counts::default(),
             deserializer: Deserializer::new(alloc),
-            spare: None,
+            last_sum: None,
+            last_part: None,
         }
     }
 
@@ -117,20 +120,25 @@ impl Summing {
         ensures sum { IfOk result (SumsFields (map (λ i. i.field) (view_of_stored first.now ∷ all_of others.now))) }
         ensures counts { self.new.counts ≡ self.old.counts }
     {
-        let mut sum = IntervalSum::new(self.histogram_of(first)?);
+        let spare = self.last_sum.take();
+        let mut sum = IntervalSum::new(self.histogram_of(first, spare)?);
         for part in others {
-            let histogram = self.histogram_of(part)?;
-            self.spare = Some(sum.add(histogram, part.place)?);
+            let spare = self.last_part.take();
+            let histogram = self.histogram_of(part, spare)?;
+            self.last_part = Some(sum.add(histogram, part.place)?);
         }
         Ok(sum)
     }
 
-    /// Returns the histogram of an interval, which grows.
-    fn histogram_of(&mut self, interval: &StoredInterval) -> Result<Histogram<u64>, LogError>
+    /// Returns the histogram of an interval, which grows, in the memory of `spare`.
+    fn histogram_of(
+        &mut self,
+        interval: &StoredInterval,
+        spare: Option<Histogram<u64>>,
+    ) -> Result<Histogram<u64>, LogError>
         ensures histogram { IfOk result (IsGrowing (view_of_stored interval.now).field) }
         ensures counts { self.new.counts ≡ self.old.counts }
     {
-        let spare = self.spare.take();
         let mut histogram = interval.histogram(&mut self.deserializer, spare)?;
         histogram.auto(true);
         Ok(histogram)
@@ -142,7 +150,7 @@ impl Summing {
             (self.old.counts.finer + sum.counts.finer) }
     {
         self.counts.add(sum.counts.intervals, sum.counts.finer);
-        self.spare = Some(sum.histogram);
+        self.last_sum = Some(sum.histogram);
     }
 }
 
