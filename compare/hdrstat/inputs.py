@@ -2,6 +2,7 @@
 import dataclasses
 import json
 
+from levels import UNITS, Known, checked, fraction, status_of
 from model import Failure, Options, Tally, decimal_text, rounded
 
 REASONS = {
@@ -284,42 +285,36 @@ def table_case(random):
 
 # Checks
 
-UNITS = {"ns": 9, "us": 6, "ms": 3, "s": 0}
-SIGNS = {"<": lambda a, b: a < b, "<=": lambda a, b: a <= b, ">": lambda a, b: a > b, ">=": lambda a, b: a >= b}
 
+class NumberTally:
+    """What levels see of numbers."""
 
-def level(random, tally, unit):
-    """A level: its text, whether it is kept, and the value."""
-    samples, decimals = tally.samples, tally.decimals or 0
-    name = random.choice(["count", "min", "max", "p50", "p99", "p99.9", "p0", "p100", "p75.5"])
-    if name == "count":
-        value, places = samples.len(), 0
-    elif name in ("min", "max"):
-        value, places = (samples.least if name == "min" else samples.greatest) or 0, decimals
-    else:
-        whole, _, part = name[1:].partition(".")
-        value, places = samples.at(int(whole + part), 100 * 10 ** len(part)), decimals
-    near = max(0, value + random.choice([-1, 0, 0, 1, random.randint(-1000, 1000)]))
-    digits, shift = near, places
-    if random.random() < 0.3:
-        digits, shift = digits * 10 + random.randint(0, 9), places + 1
-    sign = random.choice(list(SIGNS))
-    text, scale = decimal_text(digits, shift), 0
-    if unit and name != "count" and random.random() < 0.5:
-        suffix = random.choice(list(UNITS))
-        scale = UNITS[unit] - UNITS[suffix]
-        text += suffix
-    # (the level is digits / 10^shift, times 10^scale in the unit of the input)
-    a, b = value * 10**shift, digits * 10**places
-    a, b = (a, b * 10**scale) if scale >= 0 else (a * 10**-scale, b)
-    too_large = digits * 10 ** max(scale - shift, 0) >= 2**64 or max(shift, shift - scale) > 18 or digits >= 2**64
-    return f"{name}{sign}{text}", None if too_large else SIGNS[sign](a, b), decimal_text(value, places)
+    def __init__(self, tally):
+        self.decimals, self.samples, self.exact = tally.decimals, tally.samples, tally.exact
+
+    def known(self):
+        numbers = [fraction(digits, decimals) for digits, decimals, _ in self.exact]
+        return [Known(it, it, 1) for it in numbers]
+
+    def in_units(self, _):
+        """The numbers as they are rounded, which a mean is of."""
+        values = [fraction(value, self.decimals or 0) for _, _, value in self.exact]
+        return [Known(it, it, 1) for it in values]
+
+    def greatest_within(self, level):
+        return max(value for digits, decimals, value in self.exact if level.is_within(fraction(digits, decimals)))
 
 
 def check_case(random):
     decimals = random.choice([0, 0, 1, 3])
     arguments, chosen = options(random, decimals)
     data = numbers(random, decimals)
+    if random.random() < 0.25:
+        text, chosen.interval = amount(random, decimals)
+        arguments += ["--expected-interval", text]
+        data = b"\n".join(decimal_text(random.randint(0, 300_000), decimals).encode() for _ in range(random.randint(0, 30)))
+        if chosen.decimals is not None and not rounded(*chosen.interval, chosen.decimals):
+            return Case(["check", *arguments, "count>=0"], data, {}, (b"", None, 2))
     unit = random.choice([None, None, *UNITS])
     arguments += ["--unit", unit] if unit else []
     tally, failure = Tally(chosen), None
@@ -327,15 +322,17 @@ def check_case(random):
         tally.lines("standard input", data)
     except Failure as it:
         failure = it
-    levels = [it for it in (level(random, tally, unit) for _ in range(random.randint(1, 4))) if it[1] is not None]
-    levels = levels or [("count>=0", True, str(tally.samples.len()))]
+    seen = NumberTally(tally)
+    samples = seen.known()
+    texts, lines = checked(random, samples, seen, unit)
     is_empty_allowed = random.random() < 0.2
-    arguments = ["check", *arguments, *(["--allow-empty"] if is_empty_allowed else []), *(text for text, _, _ in levels)]
+    arguments = ["check", *arguments, *(["--allow-empty"] if is_empty_allowed else []), *texts]
     if failure:
         return Case(arguments, data, {}, (b"", f"hdrstat: {error_text(failure)}\n".encode(), 1))
-    if not tally.samples.len() and not is_empty_allowed:
-        return Case(arguments, data, {}, (b"", None, 3))
-    if not tally.samples.len():
-        levels = [it if it[0].startswith("count") else (it[0], True, "-") for it in levels]
-    out = "".join(f"{'kept' if is_kept else 'broken'} {text} {value}\n" for text, is_kept, value in levels)
-    return Case(arguments, data, {}, (out.encode(), None, 0 if all(it for _, it, _ in levels) else 3))
+    is_mostly_skipped = tally.skipped > tally.lines_read
+    told = f"hdrstat: bad lines skipped: {tally.skipped}\n".encode() if tally.skipped else b""
+    told += b"hdrstat: more lines were skipped than read\n" if is_mostly_skipped else b""
+    if not samples and not is_empty_allowed:
+        return Case(arguments, data, {}, (b"", told + b"hdrstat: no numbers; --allow-empty accepts an empty input\n", 3))
+    out = "".join(f"{verdict} {text} {rest}\n" for text, (verdict, rest) in zip(texts, lines))
+    return Case(arguments, data, {}, (out.encode(), told, status_of([verdict for verdict, _ in lines], is_mostly_skipped)))

@@ -3,9 +3,12 @@ import base64
 import csv
 import io
 import json
+import unicodedata
 import zlib
+from fractions import Fraction
 
-from inputs import FORMATS, UNITS, USUAL, Case, digits, figures, level, percentiles, shown
+from inputs import FORMATS, USUAL, Case, digits, figures, percentiles, shown
+from levels import UNITS, Level, LogTally, classes_of, checked_line, random_level, status_of
 from logs import CAUSES, NOTES, RATIO, Undecodable, bin_of, closed, decode, decoded, encode, inflated, read_first, side_by_side, sums, sums_by_key, with_form
 from model import LIMIT, Failure, Samples, Tally, class_of, Options
 
@@ -256,23 +259,38 @@ def log_check_case(random):
     logs, notes = logs_of(random), {}
     arguments, choice = choice_of(random)
     unit = random.choice([None, None, *UNITS])
-    arguments = ["check", "--from", "log", *arguments, *(["--unit", unit] if unit else [])]
+    sigfig, by_tag = random.choice([3, 3, 3, random.randint(0, 5)]), random.random() < 0.3
+    arguments = ["check", "--from", "log", *arguments, *(["--unit", unit] if unit else []), *(["-d", str(sigfig)] if sigfig != 3 else [])]
+    arguments += ["--by-tag"] * by_tag
+    classes = {}
     try:
-        found, coarser, decimals, chosen = sums(logs, 3, False, notes, choice)
+        found, coarser, decimals, chosen = sums(logs, sigfig, by_tag, notes, choice, classes)
     except Failure as failure:
         return failed(failure, notes, before(failure, logs), [*arguments, "count>=0"], logs, ["-i"])
-    tally = tally_of(found.get(None) or Samples(3), decimals)
-    levels = [it for it in (level(random, tally, unit) for _ in range(random.randint(1, 4))) if it[1] is not None]
-    levels = levels or [("count>=0", True, str(tally.samples.len()))]
+    if not found and not by_tag:
+        found = {None: Samples(sigfig)}
+    parts = [(tag, LogTally(total, decimals), [it for one in classes.get(tag, []) for it in classes_of(one, decimals)]) for tag, total in found.items()]
+    levels = [it for it in (random_level(random, samples, tally, unit) for _ in range(random.randint(1, 3)) for _, tally, samples in parts[:2]) if it]
+    levels = levels or [Level("count>=0", "count", ">=", Fraction(0))]
     is_empty_allowed = random.random() < 0.5
-    arguments += [*(["--allow-empty"] if is_empty_allowed else []), *(text for text, _, _ in levels)]
-    told = notes_text(notes, logs) + coarser_text(coarser, chosen, 3)
-    if not tally.samples.len() and not is_empty_allowed:
+    arguments += [*(["--allow-empty"] if is_empty_allowed else []), *(it.text for it in levels)]
+    told = notes_text(notes, logs) + coarser_text(coarser, chosen, sigfig)
+    if not any(samples for _, _, samples in parts) and not is_empty_allowed:
         return case_of(arguments, logs, (b"", told + b"hdrstat: no numbers; --allow-empty accepts an empty input\n", 3), ["-i"])
-    if not tally.samples.len():
-        levels = [it if it[0].startswith("count") else (it[0], True, "-") for it in levels]
-    out = "".join(f"{'kept' if is_kept else 'broken'} {text} {value}\n" for text, is_kept, value in levels)
-    return case_of(arguments, logs, (out.encode(), told, 0 if all(it for _, it, _ in levels) else 3), ["-i"])
+    out, verdicts = "", []
+    for tag, tally, samples in parts:
+        count = tally.samples.len()
+        mean = Fraction(tally.samples.mean_of_classes(), count) if count else None
+        for level in levels:
+            verdict, rest = checked_line(level, samples, tally, mean)
+            verdicts.append(verdict)
+            out += f"{verdict} {level.text} {rest}" + ("" if tag is None else " " + shown_control(tag)) + "\n"
+    return case_of(arguments, logs, (out.encode(), told, status_of(verdicts)), ["-i"])
+
+
+def shown_control(tag):
+    """A tag with control characters as ?."""
+    return "".join("?" if unicodedata.category(it) == "Cc" else it for it in tag.decode())
 
 
 def gather_case(random):

@@ -380,9 +380,9 @@ def chosen_intervals(name, data, notes, choice):
             yield it
 
 
-def sums(logs, sigfig, by_tag, notes, choice):
+def sums(logs, sigfig, by_tag, notes, choice, parts=None):
     """By tag, the sums of the chosen intervals of logs, in the order of first tags, how many intervals are coarser than sums, decimals, and
-    how many intervals are chosen."""
+    how many intervals are chosen. By tag, the samples of each interval are added to `parts`."""
     found, coarser, decimals, chosen = {}, 0, None, 0
     for name, data in logs.items():
         for it in chosen_intervals(name, data, notes, choice):
@@ -392,6 +392,8 @@ def sums(logs, sigfig, by_tag, notes, choice):
             samples, chosen = it.samples(name), chosen + 1
             total = found.setdefault(it.tag if by_tag else None, Samples(sigfig))
             coarser += not is_finer(samples, total)
+            if parts is not None:
+                parts.setdefault(it.tag if by_tag else None, []).append(samples)
             add(total, samples)
     return {key: closed(total) for key, total in found.items()}, coarser, decimals or 0, chosen
 

@@ -134,6 +134,8 @@ class Tally:
 
     def __init__(self, options):
         self.options, self.samples, self.skipped = options, Samples(options.sigfig), 0
+        # The numbers as they were read: their digits and decimals, and their values in units; with the missing samples
+        self.exact, self.lines_read = [], 0
         self.decimals, self.interval = options.decimals, 0
         if self.decimals is not None:
             self.interval = min(rounded(*options.interval, self.decimals), LIMIT - 1)
@@ -158,9 +160,12 @@ class Tally:
         if value >= LIMIT:
             raise Bad("large")
         self.samples.add(value)
+        self.exact.append((digits, decimals, value))
+        self.lines_read += 1
         missing = value - self.interval
         while self.interval and missing >= self.interval:
             self.samples.add(missing)
+            self.exact.append((missing, self.decimals, missing))
             missing -= self.interval
 
     def take(self, name, row, text):

@@ -1,9 +1,11 @@
 //! Numbers from a column of a table.
 
+use crate::bound_tally::BoundTally;
 use crate::cause::Cause;
 use crate::errors::{InputError, InputPlace, excerpt};
 use crate::lines::{record_text, skip_or_err, split_line};
 use crate::number::Number;
+use crate::sink::NumberSink;
 use crate::tally::Tally;
 use csv::{ByteRecord, ErrorKind, ReaderBuilder};
 use std::alloc::{AllocError, Global};
@@ -178,6 +180,27 @@ pub(crate) fn field(row: &ByteRecord, index: usize) -> Option<&[u8]> {
     row.get(index).map(|field| field.trim_ascii())
 }
 
+/// Records the number of the row of this number.
+#[inline(always)]
+fn record_row<S: NumberSink>(
+    alloc: Global,
+    sink: &mut S,
+    row: &ByteRecord,
+    index: usize,
+    number: u64,
+) -> Result<(), InputError>
+    ensures { S.takes sink.old sink.new }
+{
+    let place = InputPlace::Row(number);
+    let Some(text) = field(row, index) else {
+        return skip_or_err(alloc, sink, place, row.as_slice(), Cause::NoField);
+    };
+    match record_text(sink, text) {
+        Ok(()) => Ok(()),
+        Err(cause) => skip_or_err(alloc, sink, place, text, cause),
+    }
+}
+
 impl RowSink for Tally {
     #[inline(always)]
     fn take_row(
@@ -187,14 +210,20 @@ impl RowSink for Tally {
         indices: Indices,
         number: u64,
     ) -> Result<(), InputError> {
-        let place = InputPlace::Row(number);
-        let Some(text) = field(row, indices.value) else {
-            return skip_or_err(alloc, self, place, row.as_slice(), Cause::NoField);
-        };
-        match record_text(self, text) {
-            Ok(()) => Ok(()),
-            Err(cause) => skip_or_err(alloc, self, place, text, cause),
-        }
+        record_row(alloc, self, row, indices.value, number)
+    }
+}
+
+impl RowSink for BoundTally {
+    #[inline(always)]
+    fn take_row(
+        &mut self,
+        alloc: Global,
+        row: &ByteRecord,
+        indices: Indices,
+        number: u64,
+    ) -> Result<(), InputError> {
+        record_row(alloc, self, row, indices.value, number)
     }
 }
 

@@ -3,11 +3,14 @@
 ghost use Rattle.std.specs.Prelude.{◌≡◌, ◌==◌, ◌<◌, length};
 ghost use Rattle.hdr_input.specs.Lines.{without_mark};
 
+use crate::bound_tally::BoundTally;
 use crate::cause::Cause;
 use crate::errors::{InputError, InputPlace, bad_number};
-use crate::number::{Number, plain_line, plain_number};
+use crate::number::{plain_line, plain_number};
 use crate::pieces::LineSink;
+use crate::sink::NumberSink;
 use crate::tally::Tally;
+use crate::wide::parse_unsigned;
 use std::alloc::Global;
 
 /// Splits a text after its first line. The line is returned without its LF.
@@ -35,69 +38,76 @@ fn has_delimiter(text: &[u8]) -> bool {
     text.iter().any(|b| matches!(*b, b',' | b'\t' | b';'))
 }
 
-/// Parses and records a number.
-pub(crate) fn record_text(tally: &mut Tally, text: &[u8]) -> Result<(), Cause> {
-    let number = match plain_number(text) {
-        Some(number) => number,
-        None => Number::parse(text, tally.fixed_decimals())?,
-    };
-    tally.record(number)
+/// Parses a number, and passes it to a sink.
+pub(crate) fn record_text<S: NumberSink>(sink: &mut S, text: &[u8]) -> Result<(), Cause>
+    ensures { S.takes sink.old sink.new }
+{
+    match plain_number(text) {
+        Some(number) => sink.record(number),
+        None => sink.record_wide(parse_unsigned(text)?),
+    }
 }
 
-/// Counts a bad line if the tally skips it, and otherwise returns its error.
+/// Counts a bad line if the sink skips it, and otherwise returns its error.
 #[cold]
 #[inline(never)]
-pub(crate) fn skip_or_err(
+pub(crate) fn skip_or_err<S: NumberSink>(
     alloc: Global,
-    tally: &mut Tally,
+    sink: &mut S,
     place: InputPlace,
     text: &[u8],
     cause: Cause,
-) -> Result<(), InputError> {
-    if tally.count_if_skipped(cause) {
+) -> Result<(), InputError>
+    ensures { S.takes sink.old sink.new }
+{
+    if sink.count_if_skipped(cause) {
         return Ok(());
     }
     Err(bad_number(alloc, place, text, cause))
 }
 
 /// Records the number of a line. An empty line and a comment have none.
-fn record_line(
+fn record_line<S: NumberSink>(
     alloc: Global,
-    tally: &mut Tally,
+    sink: &mut S,
     line: &[u8],
     number: u64,
-) -> Result<(), InputError> {
+) -> Result<(), InputError>
+    ensures { S.takes sink.old sink.new }
+{
     let text = without_mark(line, number).trim_ascii();
     if text.is_empty() || text.starts_with(b"#") {
         return Ok(());
     }
-    match record_text(tally, text) {
+    match record_text(sink, text) {
         Ok(()) => Ok(()),
         Err(Cause::NotANumber) if has_delimiter(text) => {
-            skip_or_err(alloc, tally, InputPlace::Line(number), text, Cause::Table)
+            skip_or_err(alloc, sink, InputPlace::Line(number), text, Cause::Table)
         }
-        Err(cause) => skip_or_err(alloc, tally, InputPlace::Line(number), text, cause),
+        Err(cause) => skip_or_err(alloc, sink, InputPlace::Line(number), text, cause),
     }
 }
 
 /// Records the numbers of lines, and returns the number of the line after them. The first line has
 /// the number `first`.
-fn record_lines(
+fn record_lines<S: NumberSink>(
     alloc: Global,
-    tally: &mut Tally,
+    sink: &mut S,
     text: &[u8],
     first: u64,
-) -> Result<u64, InputError> {
+) -> Result<u64, InputError>
+    ensures { S.takes sink.old sink.new }
+{
     let mut rest = text;
     let mut number = first;
     while !rest.is_empty() {
         match plain_line(rest) {
             Some((value, after)) => {
-                if let Err(cause) = tally.record(value) {
+                if let Err(cause) = sink.record(value) {
                     let (line, _) = split_line(rest);
                     skip_or_err(
                         alloc,
-                        tally,
+                        sink,
                         InputPlace::Line(number),
                         line.trim_ascii(),
                         cause,
@@ -107,7 +117,7 @@ fn record_lines(
             }
             None => {
                 let (line, after) = split_line(rest);
-                record_line(alloc, tally, line, number)?;
+                record_line(alloc, sink, line, number)?;
                 rest = after;
             }
         }
@@ -122,6 +132,20 @@ impl LineSink for Tally {
     ghost takes_none = { λ _ _. tt };
 
     ghost takes_more = { λ _ _ _ _ _ _ _ _ _ _ _. tt };
+
+    fn take_lines(&mut self, alloc: Global, lines: &[u8], first: u64) -> Result<u64, InputError> {
+        record_lines(alloc, self, lines, first)
+    }
+}
+
+impl LineSink for BoundTally {
+    ghost use Rattle.hdr_input.specs.BoundLaws.{CountsSome, counts_nothing, counts_after};
+
+    ghost takes = { λ _ _ _ old new. CountsSome old new };
+
+    ghost takes_none = { λ _ sink. counts_nothing sink };
+
+    ghost takes_more = { λ _ _ _ _ _ a b c _ first more. counts_after a b c first more };
 
     fn take_lines(&mut self, alloc: Global, lines: &[u8], first: u64) -> Result<u64, InputError> {
         record_lines(alloc, self, lines, first)

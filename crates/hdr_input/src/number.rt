@@ -5,7 +5,7 @@ ghost use Rattle.std.specs.Char.{is_ascii_digit, digit_value};
 ghost use Rattle.hdr_input.specs.Numbers.{in_units, BeginsWithDigits, BeginsWithNumber, EndsLine};
 
 use crate::cause::Cause;
-use crate::wide::{parse_wide, split_sign};
+use crate::wide::parse_unsigned;
 
 /// A decimal number: `12.50` is 1250 by 2 decimals.
 #[derive(Debug, Clone, Copy, PartialEq, Eq)]
@@ -139,12 +139,7 @@ impl Number {
     /// Returns `NotANumber` for another text, and `Negative` for a number below 0. Returns
     /// `TooManyDecimals` if an exact number has more than 18, and `TooLarge` on overflow.
     pub fn parse(text: &[u8], decimals: Option<u32>) -> Result<Number, Cause> {
-        let (is_negative, digits) = split_sign(text);
-        let number = parse_wide(digits).ok_or(Cause::NotANumber)?;
-        if is_negative && !number.is_zero() {
-            return Err(Cause::Negative);
-        }
-        number.narrowed(decimals)
+        parse_unsigned(text)?.narrowed(decimals)
     }
 
     /// Divides the number by 10 to the power of `times`. Returns `None` on overflow.

@@ -11,6 +11,8 @@ ghost use Rattle.hdr_input.specs.Recorded.{IsTallyError, IsCauseOf};
 use crate::cause::Cause;
 use crate::distribution::{Distribution, MOST_DECIMALS};
 use crate::number::Number;
+use crate::sink::NumberSink;
+use crate::wide::Wide;
 use hdrhistogram::{CreationError, Histogram, RecordError};
 use std::alloc::Global;
 
@@ -74,8 +76,10 @@ impl Tally {
         })
     }
 
-    /// Counts a line that is bad for this cause, if such lines are skipped, and returns whether.
-    pub(crate) fn count_if_skipped(&mut self, cause: Cause) -> bool {
+    /// As `NumberSink::count_if_skipped`.
+    pub(crate) fn count_skipped(&mut self, cause: Cause) -> bool
+        ensures { self.new.decimals ≡ self.old.decimals }
+    {
         let is_skipped = self.recording.skips_bad && cause.may_be_skipped();
         if is_skipped {
             self.skipped = self.skipped.saturating_add(1);
@@ -84,7 +88,9 @@ impl Tally {
     }
 
     /// Returns the decimals of a unit.
-    pub fn decimals(&self) -> u32 {
+    pub fn decimals(&self) -> u32
+        ensures { (decimals : ℕ) → self.now.decimals ≡ Some decimals → result ≡ decimals }
+    {
         self.decimals.unwrap_or(0)
     }
 
@@ -225,6 +231,27 @@ impl Tally {
             .rounded(decimals)
             .unwrap_or(u64::MAX);
         decimals
+    }
+}
+
+impl NumberSink for Tally {
+    ghost takes = { λ _ _. Unit {0} };
+
+    ghost takes_none = { λ _. tt };
+
+    ghost takes_more = { λ _ _ _ _ _. tt };
+
+    #[inline(always)]
+    fn record(&mut self, number: Number) -> Result<(), Cause> {
+        self.record(number)
+    }
+
+    fn record_wide(&mut self, number: Wide) -> Result<(), Cause> {
+        self.record(number.narrowed(self.fixed_decimals())?)
+    }
+
+    fn count_if_skipped(&mut self, cause: Cause) -> bool {
+        self.count_skipped(cause)
     }
 }
 

@@ -82,7 +82,7 @@ fn mantissa(text: &[u8]) -> Option<Wide> {
 }
 
 /// Splits a text after its sign, if it has one. Returns whether that is `-`, and the rest.
-pub(crate) fn split_sign(text: &[u8]) -> (bool, &[u8]) {
+fn split_sign(text: &[u8]) -> (bool, &[u8]) {
     match text {
         [b'-', rest @ ..] => (true, rest),
         [b'+', rest @ ..] => (false, rest),
@@ -103,7 +103,7 @@ fn exponent(text: &[u8]) -> Option<i64> {
 }
 
 /// Parses a number without sign, such as `12`, `0.50` or `1.5e-05`.
-pub(crate) fn parse_wide(text: &[u8]) -> Option<Wide> {
+fn parse_wide(text: &[u8]) -> Option<Wide> {
     match text.iter().position(|b| *b == b'e' || *b == b'E') {
         None => mantissa(text),
         Some(at) => {
@@ -117,10 +117,43 @@ pub(crate) fn parse_wide(text: &[u8]) -> Option<Wide> {
     }
 }
 
+/// Parses a number such as `12`, `+0.50` or `1.5e-05`.
+///
+/// # Errors
+/// Returns `NotANumber` for another text, and `Negative` for a number below 0.
+pub(crate) fn parse_unsigned(text: &[u8]) -> Result<Wide, Cause> {
+    let (is_negative, digits) = split_sign(text);
+    let number = parse_wide(digits).ok_or(Cause::NotANumber)?;
+    if is_negative && !number.is_zero() {
+        return Err(Cause::Negative);
+    }
+    Ok(number)
+}
+
 impl Wide {
     /// Whether the number is 0.
-    pub(crate) fn is_zero(self) -> bool {
+    fn is_zero(self) -> bool {
         self.digits == 0
+    }
+
+    /// Returns the position of the number, as `Number::position`.
+    pub(crate) fn position(self) -> u128 {
+        let power = self.exponent.saturating_add(i64::from(MOST_DECIMALS));
+        let divisor = power_of_ten(0i64.saturating_sub(power).max(0));
+        let factor = power_of_ten(power.max(0));
+        match (divisor, factor) {
+            (None, _) => self.digits.min(1),
+            (_, None) => u128::MAX >> 1,
+            (Some(divisor), Some(factor)) => {
+                let units = self.digits.checked_div(divisor).unwrap_or(0);
+                let rest = self.digits.checked_rem(divisor).unwrap_or(0);
+                let is_above = rest > 0 || self.is_cut;
+                units
+                    .saturating_mul(factor)
+                    .saturating_mul(2)
+                    .saturating_add(u128::from(is_above))
+            }
+        }
     }
 
     /// Returns the number rounded to `decimals`, or the exact number if that is `None`.

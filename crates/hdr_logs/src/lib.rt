@@ -29,4 +29,5 @@ pub use note::{Note, NoteKind};
 pub use place::Place;
 pub use reader::{LineBuffer, LogLine, LogReader};
 pub use stored::StoredInterval;
+pub use sums::sink::HistogramSink;
 pub use sums::{LogSums, TagSum};

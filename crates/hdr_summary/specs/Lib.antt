@@ -2,3 +2,4 @@ pub mod Decimals
 pub mod Levels
 pub mod Percent
 pub mod Units
+pub mod Verdicts

@@ -1,15 +1,12 @@
 //! Levels that figures have to keep, such as `p99<=200ms`.
 
 ghost use Rattle.std.specs.Prelude.{◌≡◌, ◌≤◌, ◌↔◌, IsTrue};
-ghost use Rattle.std.specs.List.{All};
-ghost use Rattle.hdr_summary.specs.Levels.{IsOnSide, units_of, decimals_of, HasValue, IsKept};
+ghost use Rattle.hdr_summary.specs.Levels.{IsOnSide, is_upper, bound_of};
 
-use crate::decimals::decimal;
 use crate::percentile::parse_percentile;
 use crate::units::{Unit, parse_amount};
-use hdr_input::{Distribution, Number};
+use hdr_input::{Bound, Number};
 use hdrhistogram::Quantile;
-use std::alloc::{AllocError, Global};
 
 /// The figure of a level.
 #[derive(Clone, Copy)]
@@ -17,6 +14,7 @@ pub enum Measure {
     Count,
     Min,
     Max,
+    Mean,
     Quantile(Quantile),
 }
 
@@ -45,6 +43,7 @@ fn parse_measure(name: &str) -> Option<Measure> {
         "count" => Some(Measure::Count),
         "min" => Some(Measure::Min),
         "max" => Some(Measure::Max),
+        "mean" => Some(Measure::Mean),
         _ => match parse_percentile(name) {
             Some(percentile) => Some(Measure::Quantile(percentile.quantile)),
             None => None,
@@ -86,7 +85,7 @@ pub fn parse_level(text: &str, unit: Option<Unit>) -> Option<Level<'_>> {
 }
 
 /// Whether `units`, of which 10^decimals are 1, are on this side of a number.
-fn is_on_side(units: u64, decimals: u32, side: Side, number: Number) -> bool
+pub(crate) fn is_on_side(units: u64, decimals: u32, side: Side, number: Number) -> bool
     requires few { decimals ≤ 18 }
     requires few_of_number { number.decimals ≤ 18 }
     ensures { IsTrue result ↔ IsOnSide side units decimals number.digits number.decimals }
@@ -101,69 +100,25 @@ fn is_on_side(units: u64, decimals: u32, side: Side, number: Number) -> bool
     }
 }
 
-/// Returns the value of a figure, in units.
-fn units_of(distribution: &Distribution, measure: Measure) -> u64
-    ensures { result ≡ units_of distribution.now measure }
-{
-    match measure {
-        Measure::Count => distribution.histogram.len(),
-        Measure::Min => distribution.min,
-        Measure::Max => distribution.max,
-        Measure::Quantile(quantile) => distribution.value_at_quantile(quantile),
-    }
-}
-
-/// Returns the decimals of a unit of a figure.
-fn decimals_of(distribution: &Distribution, measure: Measure) -> u32
-    ensures value { result ≡ decimals_of distribution.now measure }
-    ensures few { result ≤ 18 }
-{
-    match measure {
-        Measure::Count => 0,
-        _ => distribution.decimals,
+impl Side {
+    /// Whether a level of this side bounds figures from above.
+    pub fn is_upper(self) -> bool
+        ensures { result ≡ is_upper self }
+    {
+        matches!(self, Side::Below | Side::AtMost)
     }
 }
 
 impl Level<'_> {
-    /// Whether the level's figure has a value: without numbers only a count has one.
-    fn has_value(&self, distribution: &Distribution) -> bool
-        ensures { IsTrue result ↔ HasValue distribution.now self.now.measure }
+    /// Returns the bound of the numbers that are below the level, or at it if it is `<=` or `>`. The
+    /// others are on the other side.
+    pub fn bound(&self) -> Bound
+        ensures value { result ≡ bound_of self.now.side self.now.number }
+        ensures few { result.number.decimals ≤ 18 }
     {
-        match self.measure {
-            Measure::Count => true,
-            _ => !distribution.histogram.is_empty(),
+        Bound {
+            number: self.number,
+            is_included: matches!(self.side, Side::AtMost | Side::Above),
         }
     }
-
-    /// Whether the level is kept: its figure is on its side, or has no value.
-    pub fn is_kept(&self, distribution: &Distribution) -> bool
-        ensures { IsTrue result ↔ IsKept distribution.now self.now.measure self.now.side
-            self.now.number.digits self.now.number.decimals }
-    {
-        let units = units_of(distribution, self.measure);
-        let decimals = decimals_of(distribution, self.measure);
-        !self.has_value(distribution) || is_on_side(units, decimals, self.side, self.number)
-    }
-
-    /// Returns the value of the level's figure as a decimal. Without numbers only a count has one.
-    pub fn value(
-        &self,
-        alloc: Global,
-        distribution: &Distribution,
-    ) -> Result<Option<String>, AllocError> {
-        if !self.has_value(distribution) {
-            return Ok(None);
-        }
-        let units = units_of(distribution, self.measure);
-        let decimals = decimals_of(distribution, self.measure);
-        Ok(Some(decimal(alloc, u128::from(units), decimals)?))
-    }
-}
-
-/// Whether a distribution keeps all levels.
-pub fn keeps_all(distribution: &Distribution, levels: &[Level<'_>]) -> bool
-    ensures { IsTrue result ↔ All (λ level. IsKept distribution.now level.measure level.side
-        level.number.digits level.number.decimals) levels.now }
-{
-    levels.iter().all(|level| level.is_kept(distribution))
 }

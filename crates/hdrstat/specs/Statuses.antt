@@ -1,9 +1,25 @@
 -- Exit statuses.
-use Rattle.std.specs.Prelude.{ℕ}
+use Rattle.std.specs.Prelude.{ℕ, Bool, if◌then◌else◌, ◌||◌, not, true, false, List}
+use Rattle.std.specs.List.{list_any}
+use Rattle.hdr_summary.specs.declared.verdicts.Verdict.{Verdict}
+use Rattle.hdr_summary.specs.declared.verdicts.Verdict.TheVariants.{Kept, Broken}
 use Rattle.hdrstat.specs.declared.errors.StatError.{StatError}
 use Rattle.hdrstat.specs.declared.errors.StatError.TheVariants.{Usage}
+
+abbrev pub is_broken : Verdict → Bool
+is_broken Broken = true
+is_broken v = false
+
+abbrev pub is_kept : Verdict → Bool
+is_kept Kept = true
+is_kept v = false
 
 -- the status of an error: 2 of the usage, 1 of the input or the output
 abbrev pub status_of : StatError → ℕ
 status_of (Usage text) = 2
 status_of e = 1
+
+-- the status of verdicts: 3 if one is broken, 0 if all are kept and most lines were read, otherwise 4
+abbrev pub status_of_verdicts : Bool → List Verdict → ℕ
+status_of_verdicts is_skipped verdicts =
+    if list_any is_broken verdicts then 3 else if is_skipped || list_any (λ v. not (is_kept v)) verdicts then 4 else 0

@@ -1,5 +1,6 @@
 //! The files of the arguments, read one after another.
 
+pub(crate) mod checks;
 pub(crate) mod logs;
 pub(crate) mod numbers;
 mod progress;

@@ -5,7 +5,7 @@ printf 't,v\n0,100\n1,100\n' | "$1" log -c v --time t --every 1s | grep -v '^#' 
 for tag in $(seq 41); do
     sed "s/^/Tag=$tag,/" "$room/lines"
 done >"$room/log"
-for level in '' '--level 1/2=99'; do
+for level in '' '--level p50<=99'; do
     "$1" page $level "$room/log" | sed -n '/^<p class="soft">\(Never s\|S\)low: /s/<[^>]*>//gp; s/.*<summary>\(.*\)<.summary>.*/\1/p'
 done
-"$1" page --tag 41 --level 1/2=100 "$room/log" | sed -n '/ever slow: /s/<[^>]*>//gp'
+"$1" page --tag 41 --level 'p50<=100' "$room/log" | sed -n '/ever slow: /s/<[^>]*>//gp'

@@ -7,6 +7,7 @@ use hdr_logs::{LogError, LogIntervals, LogSums, Note, TagSum};
 use hdr_summary::figures::Tagged;
 use hdrhistogram::Histogram;
 use hdrhistogram::serialization::interval_log::IntervalChoice;
+use std::alloc::Global;
 
 /// Returns the sums of the chosen intervals of logs: one, or one for each tag. If intervals are
 /// coarser than their sum, their number is printed on standard error.
@@ -25,6 +26,16 @@ pub(crate) fn read_sums(
     files.print_notes(sums.notes());
     read?;
     print_coarser(files.rt, &sums, sigfig);
+    parts_of(alloc, sums, sigfig, is_by_tag)
+}
+
+/// Returns the distributions of sums: one, or one for each tag.
+pub(crate) fn parts_of(
+    alloc: Global,
+    sums: LogSums<'_>,
+    sigfig: u8,
+    is_by_tag: bool,
+) -> Result<Vec<Tagged>, StatError> {
     let decimals = sums.decimals();
     let mut parts = Vec::new(alloc);
     for TagSum { tag, histogram } in sums.sums {
@@ -42,7 +53,7 @@ pub(crate) fn read_sums(
 }
 
 /// Prints on standard error how many of the chosen intervals are coarser than their sum, if any are.
-fn print_coarser(rt: &HostRuntime, sums: &LogSums<'_>, sigfig: u8) {
+pub(crate) fn print_coarser(rt: &HostRuntime, sums: &LogSums<'_>, sigfig: u8) {
     let coarser = sums.coarser;
     let chosen = sums.chosen;
     if coarser > 0 {

@@ -4,7 +4,7 @@ use crate::errors::StatError;
 use crate::files::Files;
 use hdr_input::columns::{Columns, RowSink, TableLayout, guess_delimiter, read_rows};
 use hdr_input::intervals::Intervals;
-use hdr_input::pieces::read_lines;
+use hdr_input::pieces::{LineSink, read_lines};
 use hdr_input::retry::RetryReader;
 use hdr_input::{InputError, Recording, Tally};
 use std::alloc::Global;
@@ -28,17 +28,26 @@ pub(crate) fn read_numbers(
     recording: Recording,
     table: Option<Table<'_>>,
 ) -> Result<Tally, StatError> {
-    let alloc = files.alloc();
-    let mut tally = Tally::new(alloc, recording)?;
-    files.read_each(|index, input| {
-        let read = match table {
-            Some(table) => read_table(alloc, input, table, None, &mut tally),
-            None => read_lines(alloc, input, &mut tally),
-        };
-        read.map_err(|cause| StatError::numbers(alloc, files.name(index), cause))
-    })?;
+    let mut tally = Tally::new(files.alloc(), recording)?;
+    read_numbers_into(files, table, &mut tally)?;
     print_skipped(files.rt, &tally);
     Ok(tally)
+}
+
+/// Reads the numbers of files into `sink`.
+pub(crate) fn read_numbers_into<S: LineSink + RowSink>(
+    files: Files<'_, '_, '_>,
+    table: Option<Table<'_>>,
+    sink: &mut S,
+) -> Result<(), StatError> {
+    let alloc = files.alloc();
+    files.read_each(|index, input| {
+        let read = match table {
+            Some(table) => read_table(alloc, input, table, None, sink),
+            None => read_lines(alloc, input, sink),
+        };
+        read.map_err(|cause| StatError::numbers(alloc, files.name(index), cause))
+    })
 }
 
 /// Returns the numbers of a column of files, cut into intervals of this length in nanoseconds.
@@ -61,7 +70,7 @@ pub(crate) fn read_timed_numbers(
 }
 
 /// Prints the number of lines skipped on standard error, if there are any.
-fn print_skipped(rt: &HostRuntime, tally: &Tally) {
+pub(crate) fn print_skipped(rt: &HostRuntime, tally: &Tally) {
     let skipped = tally.skipped;
     if skipped > 0 {
         let _ = eprintln!(rt; "hdrstat: bad lines skipped: {skipped}");

@@ -1,33 +1,38 @@
 //! `hdrstat check`.
 
-ghost use Rattle.std.specs.Prelude.{◌≡◌, ◌≢◌, ◌↔◌, IsTrue};
-ghost use Rattle.std.specs.List.{All};
-ghost use Rattle.hdr_summary.specs.Levels.{IsKept};
+ghost use Rattle.std.specs.Prelude.{◌≡◌};
+ghost use Rattle.hdrstat.specs.Statuses.{status_of_verdicts};
 
 use crate::errors::StatError;
 use crate::files::Files;
+use crate::files::checks::{check_logs, check_numbers};
 use crate::options::arguments::{flag, option, with_reading};
-use crate::options::matches::{reading_of, unit_of};
+use crate::options::matches::{Reading, reading_of, unit_of};
 use crate::output::print;
-use crate::subcommands::read_parts;
 use clap::{Arg, ArgAction, ArgMatches, Command, Error};
-use hdr_summary::figures::{Tagged, push_tag};
-use hdr_summary::levels::{Level, keeps_all, parse_level};
+use hdr_summary::levels::{Level, parse_level};
 use hdr_summary::units::Unit;
+use hdr_summary::verdicts::Verdict;
 use std::alloc::Global;
 use std::process::ExitCode;
 
 const AFTER: &str = "\
-A level is a figure (count, min, max, or a percentile such as p99), a sign (<, <=, > or >=)
-and a number. Each is printed on a line, as kept or broken, with the value of its figure.
+A level is a figure (count, min, max, mean, or a percentile such as p99), a sign (<, <=, > or
+>=) and a number. Each is printed on a line, with the value of its figure:
+  kept, broken  the sample of the percentile's rank is on the side of the level, or is not
+  undecided     a log only has the class of that sample, which has values on both sides
+  few           too few samples, all of them on the side where so few are likely to be
+
+Numbers are compared as they were read, and with levels as they are written.
 
 Examples:
   hdrstat check 'p99<0.2' 'max<=1' <latencies.txt
   hdrstat check 'p99<200ms' 'count>=1000' --unit s -c response-time -i hey.csv
   hdrstat check 'p99.9<=5000' --from log --by-tag -i service.log
 
-Status: 0 if each level is kept; 3 if one is broken, or if there are no numbers; 1 if the
-input is invalid, or input or output fails; 2 for a usage error.";
+Status: 0 if each level is kept; 3 if one is broken, or if there are no numbers; 4 if none is
+broken, but one is undecided or few, or more lines were skipped than read; 1 if the input is
+invalid, or input or output fails; 2 for a usage error.";
 
 /// Returns the command line of `hdrstat check`.
 pub(crate) fn command<'a>(alloc: Global) -> Result<Command<'a>, Error> {
@@ -52,6 +57,9 @@ pub(crate) fn command<'a>(alloc: Global) -> Result<Command<'a>, Error> {
 /// The status if a level is broken, or if the input is empty.
 const BROKEN: u8 = 3;
 
+/// The status if none is broken, and not all are kept.
+const UNDECIDED: u8 = 4;
+
 /// Compares the figures of the numbers of files with levels.
 pub(crate) fn run(rt: &HostRuntime, matches: &ArgMatches<'_>) -> Result<ExitCode, StatError> {
     let alloc = rt.alloc();
@@ -63,29 +71,35 @@ pub(crate) fn run(rt: &HostRuntime, matches: &ArgMatches<'_>) -> Result<ExitCode
         names: matches.get_strs("input").unwrap_or(&[]),
         is_quiet: matches.get_flag("quiet"),
     };
-    let parts = read_parts(files, reading)?;
-    if is_empty(&parts) && !matches.get_flag("allow-empty") {
+    let checked = match reading {
+        Reading::Numbers { recording, table } => check_numbers(files, recording, table, &levels)?,
+        Reading::Logs {
+            choice,
+            sigfig,
+            is_by_tag,
+        } => check_logs(files, sigfig, choice, is_by_tag, &levels)?,
+    };
+    if checked.is_empty() && !matches.get_flag("allow-empty") {
         let _ = eprintln!(rt; "hdrstat: no numbers; --allow-empty accepts an empty input");
         return Ok(ExitCode::from(BROKEN));
     }
-    let mut text = String::new(alloc);
-    for part in &parts {
-        push_verdicts(alloc, &mut text, part, &levels)?;
-    }
+    let text = checked.text(alloc, &levels)?;
     print(rt, text.as_bytes())?;
-    Ok(ExitCode::from(status_of(&parts, &levels)))
+    Ok(ExitCode::from(status_of(&checked.verdicts(alloc)?, checked.is_mostly_skipped)))
 }
 
-/// Returns the status: 0 if each distribution keeps all levels.
-fn status_of(parts: &[Tagged], levels: &[Level<'_>]) -> u8
-    ensures kept { (result ≡ 0) ↔ All (λ part. All (λ level. IsKept part.distribution level.measure
-        level.side level.number.digits level.number.decimals) levels.now) parts.now }
-    ensures broken { result ≢ 0 → result ≡ BROKEN }
+/// Returns the status: 0 if all levels are kept and most lines were read, `BROKEN` if a level is
+/// broken.
+fn status_of(verdicts: &[Verdict], is_mostly_skipped: bool) -> u8
+    ensures { result ≡ status_of_verdicts is_mostly_skipped verdicts.now }
 {
-    let all_kept = parts
-        .iter()
-        .all(|part| keeps_all(&part.distribution, levels));
-    if all_kept { 0 } else { BROKEN }
+    if verdicts.contains(&Verdict::Broken) {
+        BROKEN
+    } else if is_mostly_skipped || !verdicts.iter().all(|verdict| *verdict == Verdict::Kept) {
+        UNDECIDED
+    } else {
+        0
+    }
 }
 
 /// Parses levels.
@@ -105,39 +119,4 @@ fn levels_of<'a>(
         }
     }
     Ok(levels)
-}
-
-/// Whether nothing was recorded.
-fn is_empty(parts: &[Tagged]) -> bool
-    ensures { IsTrue result ↔ All (λ part. part.distribution.histogram.total ≡ 0) parts.now }
-{
-    parts
-        .iter()
-        .all(|part| part.distribution.histogram.is_empty())
-}
-
-/// Appends a line for each level of a distribution.
-fn push_verdicts(
-    alloc: Global,
-    text: &mut String,
-    part: &Tagged,
-    levels: &[Level<'_>],
-) -> Result<(), StatError> {
-    for level in levels {
-        let value = level.value(alloc, &part.distribution)?;
-        let is_kept = level.is_kept(&part.distribution);
-        let verdict = if is_kept { "kept" } else { "broken" };
-        let level_text = level.text;
-        write!(text, "{verdict} {level_text} ")?;
-        match &value {
-            Some(value) => text.push_str(value.as_str())?,
-            None => text.push('-')?,
-        }
-        if let Some(tag) = &part.tag {
-            text.push(' ')?;
-            push_tag(text, tag.as_str())?;
-        }
-        text.push('\n')?;
-    }
-    Ok(())
 }

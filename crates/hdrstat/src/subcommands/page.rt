@@ -11,7 +11,8 @@ use crate::output::{check_output, write_output};
 use clap::{ArgMatches, Command, Error};
 use hdr_logs::{LogError, LogIntervals};
 use hdr_page::{PageLevel, PageOptions, page, page_text, rows};
-use hdr_summary::units::{Unit, parse_amount};
+use hdr_summary::levels::{Level, Measure, parse_level};
+use hdr_summary::units::Unit;
 use std::alloc::Global;
 use std::process::ExitCode;
 
@@ -31,7 +32,7 @@ formula, which is one that begins with =, +, -, @, a tab or a CR.
 
 Examples:
   hdrstat page --unit us service.log >page.html
-  hdrstat page --unit us --level 99/100=5ms -o page.html service.log
+  hdrstat page --unit us --level 'p99<=5ms' -o page.html service.log
 
 Status: 0; 1 if a log is invalid, or input or output fails; 2 for a usage error.";
 
@@ -60,7 +61,7 @@ fn with_content<'a>(alloc: Global, command: Command<'a>) -> Result<Command<'a>, 
     let unit = option(alloc, "unit", "UNIT", help).value_parser(Unit::NAMES.as_slice());
     let help = "Title of the page [default: Interval log]";
     let title = option(alloc, "title", "TEXT", help);
-    let help = "Quantile, and the value that it should not exceed, such as 99/100=5ms";
+    let help = "Percentile, and the value that it should not exceed, such as 'p99<=5ms'";
     let level = option(alloc, "level", "LEVEL", help);
     let command = command.arg(unit)?.arg(title)?.arg(level)?;
     with_choice(alloc, command)
@@ -70,11 +71,7 @@ fn with_content<'a>(alloc: Global, command: Command<'a>) -> Result<Command<'a>, 
 pub(crate) fn run(rt: &HostRuntime, matches: &ArgMatches<'_>) -> Result<ExitCode, StatError> {
     let alloc = rt.alloc();
     let unit = unit_of(matches);
-    let options = PageOptions {
-        title: matches.get_str("title").unwrap_or("Interval log"),
-        unit,
-        level: level_of(alloc, matches, unit)?,
-    };
+    let level = level_of(alloc, matches, unit)?;
     let choice = choice_of(alloc, matches)?;
     let files = Files {
         rt,
@@ -84,6 +81,15 @@ pub(crate) fn run(rt: &HostRuntime, matches: &ArgMatches<'_>) -> Result<ExitCode
     let output = matches.get_str("output").unwrap_or("-");
     check_output(rt, output, files.names)?;
     let intervals = read_intervals(files, choice)?;
+    let level = match &level {
+        Some(level) => page_level(level, intervals.decimals().unwrap_or(0)),
+        None => None,
+    };
+    let options = PageOptions {
+        title: matches.get_str("title").unwrap_or("Interval log"),
+        unit,
+        level,
+    };
     let text = text_of(alloc, matches, &intervals, options).map_err(|cause| files.log_error(
         cause,
     ))?;
@@ -91,32 +97,38 @@ pub(crate) fn run(rt: &HostRuntime, matches: &ArgMatches<'_>) -> Result<ExitCode
     Ok(ExitCode::SUCCESS)
 }
 
-/// Returns the level of the arguments, if there is one.
-fn level_of(
+/// Returns the level of the arguments, if there is one. It is a percentile that values are not to
+/// exceed.
+fn level_of<'a>(
     alloc: Global,
-    matches: &ArgMatches<'_>,
+    matches: &ArgMatches<'a>,
     unit: Option<Unit>,
-) -> Result<Option<PageLevel>, StatError> {
+) -> Result<Option<Level<'a>>, StatError> {
     let Some(text) = matches.get_str("level") else {
         return Ok(None);
     };
-    let why = "is not a level, such as 99/100=5000 or, with --unit, 99/100=5ms";
-    let level = parse_page_level(text, unit).ok_or_else(|| StatError::usage(alloc, text, why))?;
-    Ok(Some(level))
+    match parse_level(text, unit) {
+        Some(level) if page_level(&level, 0).is_some() => Ok(Some(level)),
+        _ => {
+            let why = "is not a level of a percentile, such as p99<=5000 or, with --unit, p99<5ms";
+            Err(StatError::usage(alloc, text, why))
+        }
+    }
 }
 
-/// Parses a level such as `99/100=5ms`. Its value is rounded to the unit of the log.
-fn parse_page_level(text: &str, unit: Option<Unit>) -> Option<PageLevel>
+/// Returns the level of a page of values of these decimals: the greatest value that the level
+/// allows. There is none unless the level bounds a percentile from above.
+fn page_level(level: &Level<'_>, decimals: u32) -> Option<PageLevel>
     ensures { IfSome result (λ level. (0 < level.den) × (level.num ≤ level.den)) }
 {
-    let (quantile, amount) = text.split_once('=')?;
-    let (num, den) = quantile.split_once('/')?;
-    let num = num.parse::<u64>().ok()?;
-    let den = den.parse::<u64>().ok()?;
-    if den == 0 || num > den {
+    let Measure::Quantile(quantile) = level.measure else {
+        return None;
+    };
+    let (num, den) = (quantile.num(), quantile.den());
+    if !level.side.is_upper() || num > den {
         return None;
     }
-    let value = parse_amount(amount, unit)?.rounded(0)?;
+    let value = level.bound().most(decimals)?;
     Some(PageLevel { num, den, value })
 }
 
