@@ -18,17 +18,17 @@ use Rattle.hdr_input.specs.Bounds.{ends_of, Has, AreAscending, counted_to, missi
 pub ends-counted : (q : BoundCount → Bool) (u : ℕ) (counts : List BoundCount) → ends_of (counted q u counts) ≡ ends_of counts
 ends-counted q u [] = refl
 ends-counted q u (c ∷ counts) = elim (q c) as (λ b. ends_of (if b then with_number u c ∷ counts else c ∷ counted q u counts) ≡ ends_of (c ∷ counts)) [
-    | true ↦ refl
-    | false ↦ ap (λ es. c.end ∷ es) (ends-counted q u counts)
-  ]
+  | true ↦ refl
+  | false ↦ ap (λ es. c.end ∷ es) (ends-counted q u counts)
+]
 
 -- the missing samples stay
 pub missing-counted : (q : BoundCount → Bool) (u e : ℕ) (counts : List BoundCount) → missing_to e (counted q u counts) ≡ missing_to e counts
 missing-counted q u e [] = refl
 missing-counted q u e (c ∷ counts) = elim (q c) as (λ b. missing_to e (if b then with_number u c ∷ counts else c ∷ counted q u counts) ≡ missing_to e (c ∷ counts)) [
-    | true ↦ refl
-    | false ↦ ap (λ m. if c.end == e then c.missing else m) (missing-counted q u e counts)
-  ]
+  | true ↦ refl
+  | false ↦ ap (λ m. if c.end == e then c.missing else m) (missing-counted q u e counts)
+]
 
 -- each count may still grow
 abbrev MayGrow : List BoundCount → Type 0

@@ -12,14 +12,20 @@ CountsSome old new = (numbers : List Number) × Counts old numbers new
 
 -- nothing is counted where nothing changes
 pub counts_nothing : (t : BoundTally) → CountsSome t t
-counts_nothing t = ([], record {
-  ends = refl;
-  all = λ S h. let P : List Number → Type 0 = λ numbers. HasCounted t numbers in subst P (sym (append-nil S)) h;
-})
+counts_nothing t = (
+  [],
+  record {
+    ends = refl;
+    all = λ S h. let P : List Number → Type 0 = λ numbers. HasCounted t numbers in subst P (sym (append-nil S)) h;
+  },
+)
 
 -- what is counted after the first is counted after both
 pub counts_after : (a b c : BoundTally) → CountsSome a b → CountsSome b c → CountsSome a c
-counts_after a b c first more = (first.0 ++ more.0, record {
-  ends = more.1.ends ∙ first.1.ends;
-  all = λ S h. let P : List Number → Type 0 = λ numbers. HasCounted c numbers in subst P (append_assoc S first.0 more.0) (more.1.all (S ++ first.0) (first.1.all S h));
-})
+counts_after a b c first more = (
+  first.0 ++ more.0,
+  record {
+    ends = more.1.ends ∙ first.1.ends;
+    all = λ S h. let P : List Number → Type 0 = λ numbers. HasCounted c numbers in subst P (append_assoc S first.0 more.0) (more.1.all (S ++ first.0) (first.1.all S h));
+  },
+)

@@ -48,11 +48,7 @@ impl Checked {
     }
 
     /// Returns a line for each level of each tag.
-    pub(crate) fn text(
-        &self,
-        alloc: Global,
-        levels: &[Level<'_>],
-    ) -> Result<String, StatError> {
+    pub(crate) fn text(&self, alloc: Global, levels: &[Level<'_>]) -> Result<String, StatError> {
         let mut text = String::new(alloc);
         for part in &self.parts {
             let samples = CheckedSamples {
