@@ -9,7 +9,7 @@ use thiserror::Error;
 /// Why a line of a log is not converted.
 #[derive(Clone, Copy, Debug, PartialEq, Eq, Error)]
 pub enum ConvertError {
-    /// It is neither an interval nor a line that is skipped.
+    /// The line of an interval has no comma.
     #[error("not a line of a log")]
     NotALine,
     /// Its last field is not valid Base64.

@@ -56,8 +56,8 @@ impl IntervalSum {
         }
     }
 
-    /// Adds a histogram, by the coarser classes. Returns a histogram that is no longer used. It is an
-    /// error if the classes of neither lie in those of the other; `place` is the line that `other`
+    /// Adds a histogram, by the coarser classes. Returns a histogram that is no longer needed. It is
+    /// an error if the classes of neither lie in those of the other; `place` is the line that `other`
     /// was read from.
     fn add(&mut self, mut other: Histogram<u64>, place: Place) -> Result<Histogram<u64>, LogError>
         ensures { OnOk result ((hs : List Plain) → IsSum hs self.old → IsSum (hs ++ other ∷ []) self.new) }
@@ -92,9 +92,9 @@ pub(crate) struct Summing {
     /// The intervals of the sums so far.
     pub counts: Counts,
     deserializer: Deserializer,
-    /// The last sum, whose memory is used again.
+    /// The last sum. Its memory is used again.
     last_sum: Option<Histogram<u64>>,
-    /// A histogram that was added, whose memory is used again.
+    /// The histogram that the last addition no longer needs. Its memory is used again.
     last_part: Option<Histogram<u64>>,
 }
 

@@ -3,9 +3,9 @@
 ghost use Rattle.std.specs.Prelude.{◌≡◌, ◌+◌, ◌-◌, ◌^◌, ◌++◌, ℕ, min, false, List, [], Ok, IfOk, OnOk, OnErr, IfSome, IsSome};
 ghost use Rattle.std.specs.Io.KnownBytes.{IsAtEnd};
 ghost use Rattle.hdrhistogram.specs.Chosen.{view_of_interval_choice};
-ghost use Rattle.hdr_logs.specs.Intervals.{LogInterval, LogHolds};
 ghost use Rattle.hdr_convert.specs.declared.bytes.Form.{Form};
 ghost use Rattle.hdr_logs.specs.Conversion.{LogBecomes, UnreadBecomes, ConvertsLine};
+ghost use Rattle.hdr_logs.specs.Intervals.{LogInterval, LogHolds};
 ghost use Rattle.hdr_logs.specs.Reading.{intervals_of_line, unread, IsEnd, UnreadHold, IsKnown};
 
 use crate::conversion::push_line;
