@@ -69,7 +69,7 @@ complete -c hdrstat -n '__fish_seen_subcommand_from convert' -l to-time -x -d 'O
 complete -c hdrstat -n '__fish_seen_subcommand_from convert' -s h -l help -d 'Print help'
 complete -c hdrstat -n '__fish_seen_subcommand_from page' -l unit -x -a 'ns us ms s' -d 'Unit of the values of the logs, which are then shown with units'
 complete -c hdrstat -n '__fish_seen_subcommand_from page' -l title -x -d 'Title of the page'
-complete -c hdrstat -n '__fish_seen_subcommand_from page' -l level -x -d 'Quantile, and the value that it should not exceed, such as 99/100=5ms'
+complete -c hdrstat -n '__fish_seen_subcommand_from page' -l level -x -d 'Percentile, and the value that it should not exceed, such as '"'"'p99<=5ms'"'"''
 complete -c hdrstat -n '__fish_seen_subcommand_from page' -l tag -x -d 'Only intervals of this tag, or of none if it is empty'
 complete -c hdrstat -n '__fish_seen_subcommand_from page' -l from-time -x -d 'Only intervals that begin at this time or later, in seconds'
 complete -c hdrstat -n '__fish_seen_subcommand_from page' -l to-time -x -d 'Only intervals that begin before this time, in seconds'

@@ -138,6 +138,9 @@ impl Wide {
 
     /// Returns the position of the number, as `Number::position`.
     pub(crate) fn position(self) -> u128 {
+        if self.is_zero() {
+            return 0;
+        }
         let power = self.exponent.saturating_add(i64::from(MOST_DECIMALS));
         let divisor = power_of_ten(0i64.saturating_sub(power).max(0));
         let factor = power_of_ten(power.max(0));

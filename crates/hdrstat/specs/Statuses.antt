@@ -1,6 +1,6 @@
 -- Exit statuses.
-use Rattle.std.specs.Prelude.{ℕ, Bool, if◌then◌else◌, ◌||◌, not, true, false, List}
-use Rattle.std.specs.List.{list_any}
+use Rattle.std.specs.Prelude.{ℕ, Bool, if◌then◌else◌, true, false, List}
+use Rattle.std.specs.List.{list_any, list_all}
 use Rattle.hdr_summary.specs.declared.verdicts.Verdict.{Verdict}
 use Rattle.hdr_summary.specs.declared.verdicts.Verdict.TheVariants.{Kept, Broken}
 use Rattle.hdrstat.specs.declared.errors.StatError.{StatError}
@@ -22,4 +22,4 @@ status_of e = 1
 -- the status of verdicts: 3 if one is broken, 0 if all are kept and most lines were read, otherwise 4
 abbrev pub status_of_verdicts : Bool → List Verdict → ℕ
 status_of_verdicts is_skipped verdicts =
-    if list_any is_broken verdicts then 3 else if is_skipped || list_any (λ v. not (is_kept v)) verdicts then 4 else 0
+    if list_any is_broken verdicts then 3 else if is_skipped then 4 else if list_all is_kept verdicts then 0 else 4

@@ -1,7 +1,8 @@
 //! `hdrstat check`.
 
 ghost use Rattle.std.specs.Prelude.{◌≡◌};
-ghost use Rattle.hdrstat.specs.Statuses.{status_of_verdicts};
+ghost use Rattle.std.specs.List.{list_any, list_all};
+ghost use Rattle.hdrstat.specs.Statuses.{is_broken, is_kept, status_of_verdicts};
 
 use crate::errors::StatError;
 use crate::files::Files;
@@ -88,17 +89,47 @@ pub(crate) fn run(rt: &HostRuntime, matches: &ArgMatches<'_>) -> Result<ExitCode
     Ok(ExitCode::from(status_of(&checked.verdicts(alloc)?, checked.is_mostly_skipped)))
 }
 
+/// Whether a verdict is that of a level that is broken.
+fn is_broken(verdict: Verdict) -> bool
+    ensures { result ≡ is_broken verdict }
+{
+    matches!(verdict, Verdict::Broken)
+}
+
+/// Whether a verdict is that of a level that is kept.
+fn is_kept(verdict: Verdict) -> bool
+    ensures { result ≡ is_kept verdict }
+{
+    matches!(verdict, Verdict::Kept)
+}
+
+/// Whether a level is broken.
+fn have_broken(verdicts: &[Verdict]) -> bool
+    ensures { result ≡ list_any is_broken verdicts.now }
+{
+    verdicts.iter().any(|verdict| is_broken(*verdict))
+}
+
+/// Whether all levels are kept.
+fn are_kept(verdicts: &[Verdict]) -> bool
+    ensures { result ≡ list_all is_kept verdicts.now }
+{
+    verdicts.iter().all(|verdict| is_kept(*verdict))
+}
+
 /// Returns the status: 0 if all levels are kept and most lines were read, `BROKEN` if a level is
 /// broken.
 fn status_of(verdicts: &[Verdict], is_mostly_skipped: bool) -> u8
     ensures { result ≡ status_of_verdicts is_mostly_skipped verdicts.now }
 {
-    if verdicts.contains(&Verdict::Broken) {
+    if have_broken(verdicts) {
         BROKEN
-    } else if is_mostly_skipped || !verdicts.iter().all(|verdict| *verdict == Verdict::Kept) {
+    } else if is_mostly_skipped {
         UNDECIDED
-    } else {
+    } else if are_kept(verdicts) {
         0
+    } else {
+        UNDECIDED
     }
 }
 
