@@ -59,7 +59,7 @@ impl<'r, 'l, 'n> Files<'r, 'l, 'n> {
 }
 
 /// Returns names, or that of standard input if there are none.
-fn or_standard_input<'a, 'n>(names: &'a [&'n str]) -> &'a [&'n str] {
+pub(crate) fn or_standard_input<'a, 'n>(names: &'a [&'n str]) -> &'a [&'n str] {
     if names.is_empty() { &["-"] } else { names }
 }
 

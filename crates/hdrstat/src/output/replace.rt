@@ -1,8 +1,9 @@
 //! A file of the output, which is complete or as it was.
 
 use crate::errors::StatError;
+use crate::files::or_standard_input;
 use crate::output::print;
-use std::fs::{self, File, Permissions};
+use std::fs::{self, File, Metadata, Permissions};
 use std::io::{self, ErrorKind, Write};
 use std::os::unix::fs::MetadataExt;
 
@@ -36,14 +37,25 @@ fn is_input(rt: &HostRuntime, name: &str, inputs: &[&str]) -> bool {
     let Ok(file) = fs::metadata(rt, name) else {
         return false;
     };
-    let inputs = if inputs.is_empty() { &["-"] } else { inputs };
-    inputs.iter().any(|input| {
-        let path = if *input == "-" { "/dev/stdin" } else { *input };
-        match fs::metadata(rt, path) {
-            Ok(input) => file.is_file() && input.dev() == file.dev() && input.ino() == file.ino(),
-            Err(_) => false,
+    for input in or_standard_input(inputs) {
+        if is_same(rt, path_of(*input), &file) {
+            return true;
         }
-    })
+    }
+    false
+}
+
+/// Returns the path of an input, which may be standard input.
+fn path_of<'a>(input: &'a str) -> &'a str {
+    if input == "-" { "/dev/stdin" } else { input }
+}
+
+/// Whether a path is that of a file.
+fn is_same(rt: &HostRuntime, path: &str, file: &Metadata) -> bool {
+    match fs::metadata(rt, path) {
+        Ok(other) => file.is_file() && other.dev() == file.dev() && other.ino() == file.ino(),
+        Err(_) => false,
+    }
 }
 
 /// Writes bytes to a file, which need not exist.
@@ -67,12 +79,22 @@ fn replace(
     bytes: &[u8],
 ) -> io::Result<()> {
     let (beside, file) = create_beside(rt, name)?;
-    let beside = beside.as_str();
-    let written = fill(file, permissions, bytes).and_then(|()| fs::rename(rt, beside, name));
-    if written.is_err() {
-        let _ = fs::remove_file(rt, beside);
+    match fill(file, permissions, bytes) {
+        Ok(()) => rename(rt, beside.as_str(), name),
+        Err(cause) => {
+            let _ = fs::remove_file(rt, beside.as_str());
+            Err(cause)
+        }
     }
-    written
+}
+
+/// Renames a file. It is removed after an error.
+fn rename(rt: &HostRuntime, from: &str, to: &str) -> io::Result<()> {
+    let renamed = fs::rename(rt, from, to);
+    if renamed.is_err() {
+        let _ = fs::remove_file(rt, from);
+    }
+    renamed
 }
 
 /// Creates a file beside that of a name, and returns its own name.
