@@ -31,6 +31,11 @@ def run(program, case, room):
     return ran.stdout, ran.stderr, ran.returncode
 
 
+def without_letters(output):
+    """The rows of page --intervals without their last field, the letter of an incident, which the model does not have."""
+    return b"".join(line.rpartition(b",")[0] + b"\n" for line in output.splitlines())
+
+
 def show(seed, case, came, room):
     print(f"== {seed}: hdrstat {' '.join(case.arguments)}")
     kept = tempfile.mkdtemp(prefix="hdrstat-case-")
@@ -51,6 +56,8 @@ def main():
             kind = kinds[number % len(kinds)] if kinds else list(KINDS)[number % len(KINDS)]
             case = KINDS[kind](random.Random(f"{seed}:{number}"))
             came = run(program, case, room)
+            if kind == "page":
+                came = (without_letters(came[0]), *came[1:])
             done[kind] = done.get(kind, 0) + 1
             if any(wanted is not None and wanted != it for wanted, it in zip(case.wanted, came)):
                 differ += 1

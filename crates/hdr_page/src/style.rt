@@ -72,7 +72,7 @@ line-height:15px;text-align:left;color:var(--soft)}.d .o{padding-left:21px}
 .e{text-anchor:end}.m{text-anchor:middle}text.b{fill:var(--ink)}
 path{fill:none;vector-effect:non-scaling-stroke;stroke-linejoin:round}
 .g{stroke:var(--thin)}.G{stroke:var(--line)}
-.band{fill:var(--band)}
+.band,.gap{fill:var(--band)}
 .level{stroke:var(--ink);stroke-width:1.5;stroke-dasharray:7 4}
 .h{vector-effect:none;stroke-width:1;shape-rendering:crispEdges}
 .c{stroke:var(--t);stroke-width:2}

@@ -1,5 +1,7 @@
-//! The page for a terminal: the sentence, the slow times, and the curve of percentiles of all
-//! samples in blocks.
+//! The page for a terminal: the sentence, the incidents, a row for each tag, and the curve of
+//! percentiles of all samples in blocks.
+
+mod rows;
 
 ghost use Rattle.std.specs.Prelude.{◌≡◌, IfOk, IsSome};
 ghost use Rattle.std.specs.List.{All};
@@ -13,6 +15,7 @@ use hdr_logs::{LogError, LogIntervals};
 use hdr_view::name::columns;
 use hdr_view::options::PageOptions;
 use hdr_view::view::{PageForm, View};
+use rows::push_rows;
 use std::alloc::{AllocError, Global};
 
 /// The columns of a label and a space, and of the curve: 80 together.
@@ -40,6 +43,8 @@ pub fn page_text(
     let mut text = String::new(alloc);
     push_wrapped(&mut text, summary.as_str())?;
     if view.log.all.count > 0 {
+        text.push_str("\n")?;
+        push_rows(&view, &mut text)?;
         text.push_str("\n")?;
         push_blocks(&view, &mut text)?;
     }

@@ -4,8 +4,11 @@
 
 pub mod amount;
 pub mod clock;
+mod description;
+mod incidents;
 pub mod name;
+pub mod naming;
 pub mod options;
 mod sentence;
-pub mod slow;
+mod tested;
 pub mod view;

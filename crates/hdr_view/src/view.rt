@@ -9,14 +9,16 @@ ghost use Rattle.hdr_view.specs.Views.{figure_of, name_without_tag};
 use crate::amount::Units;
 use crate::clock::Clock;
 use crate::name::{push_shown, shortened};
+use crate::naming::Naming;
 use crate::options::PageOptions;
-use crate::slow::{SlowTimes, slow_times};
 use hdr_draw::path::Joint;
 use hdr_draw::values::ValueScale;
 use hdr_figures::figures::{Figures, LogFigures, TagFigures};
+use hdr_figures::level::PageLevel;
 use hdr_figures::sums::figures_of;
 use hdr_figures::timeline::Timeline;
 use hdr_logs::{LogError, LogIntervals};
+use hdr_verdict::{Level, LogVerdict, Tail, verdict_of};
 use std::alloc::{AllocError, Global};
 
 /// The form of a page.
@@ -39,7 +41,8 @@ pub struct View<'a> {
     /// The number of intervals.
     pub intervals: usize,
     pub log: LogFigures<'a>,
-    pub slow: SlowTimes,
+    pub verdict: LogVerdict<'a>,
+    pub naming: Naming,
 }
 
 impl<'a> View<'a> {
@@ -64,7 +67,9 @@ impl<'a> View<'a> {
         let timeline = Timeline::new(alloc, &intervals.list)?;
         let level = options.level.and_then(|level| level.quantile());
         let log = figures_of(alloc, &intervals.list, &timeline, level)?;
-        let slow = slow_times(alloc, log.drawn_tags(), timeline.points, options.level)?;
+        let level = options.level.and_then(|level| level_of(level));
+        let verdict = verdict_of(alloc, &intervals.list, level)?;
+        let naming = Naming::new(alloc, &verdict.incidents)?;
         Ok(View {
             alloc,
             form,
@@ -74,7 +79,8 @@ impl<'a> View<'a> {
             clock: Clock::new(&timeline),
             intervals: intervals.list.len(),
             log,
-            slow,
+            verdict,
+            naming,
         })
     }
 
@@ -167,6 +173,20 @@ impl<'a> View<'a> {
             "(no tag)"
         }
     }
+}
+
+/// Returns the level of a quantile above 0, as one of the tail that the quantile leaves out.
+fn level_of(level: PageLevel) -> Option<Level> {
+    if level.num == 0 || level.num > level.den || level.den >= 1 << 63 {
+        return None;
+    }
+    Some(Level {
+        tail: Tail {
+            num: level.den - level.num,
+            den: level.den,
+        },
+        value: level.value,
+    })
 }
 
 /// The figure of a point that a line shows.

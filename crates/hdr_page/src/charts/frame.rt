@@ -2,12 +2,13 @@
 
 use crate::charts::field::{Field, FieldScale};
 use hdr_draw::axis::Axis;
-use hdr_draw::path::{WIDTH, left_of};
+use hdr_draw::path::WIDTH;
 use hdr_draw::tenths::push_tenths;
 use hdr_draw::times::{TimeSteps, TimeTick};
+use hdr_verdict::{EpisodeKind, Incident};
 use hdr_view::clock::{TimeStyle, push_length};
 use hdr_view::name::{AT_CURVE, columns};
-use hdr_view::slow::LETTERS;
+use hdr_view::naming::LETTERS;
 use hdr_view::view::View;
 use std::alloc::AllocError;
 
@@ -21,8 +22,11 @@ pub(crate) struct Frame<'f> {
     pub class: &'f str,
     /// The ids of its texts begin with this.
     pub id: &'f str,
-    /// All parts together.
+    /// All parts together, and that of samples a second.
     pub all: Field,
+    pub rates: Field,
+    /// The index of its tag, if it has one alone.
+    pub tag: Option<usize>,
     /// Whether there are names of tags at the right.
     pub has_names: bool,
 }
@@ -41,6 +45,7 @@ impl Frame<'_> {
             id,
             all,
             has_names,
+            ..
         } = self;
         let height = all.height.saturating_add(AROUND);
         write!(text, "<svg class=\"d {class}\" height=\"{height}\"")?;
@@ -67,7 +72,7 @@ impl Frame<'_> {
         for part in parts {
             part.push_grid(view.alloc, text, scale, view.units)?;
         }
-        push_bands(view, text, self.all)?;
+        self.push_bands(view, text)?;
         match parts.first() {
             Some(part) => part.push_level(text, scale, view.options.level),
             None => Ok(()),
@@ -156,32 +161,94 @@ fn push_time_grid(
     text.push_str("\"/></svg>")
 }
 
-/// Appends the slow times: a band and a letter of each.
-fn push_bands(view: &View<'_>, text: &mut String, field: Field) -> Result<(), AllocError> {
-    if view.slow.named.is_empty() {
-        return Ok(());
+/// The least width of a band, of `WIDTH`.
+const NARROWEST: u32 = 40;
+
+/// The kinds of incidents with the classes of their bands.
+const BANDS: [(EpisodeKind, &str); 4] = [
+    (EpisodeKind::Slow, "band"),
+    (EpisodeKind::Stall, "band"),
+    (EpisodeKind::Gap, "gap"),
+    (EpisodeKind::Fall, "gap"),
+];
+
+impl Frame<'_> {
+    /// Appends a band and a letter of each incident of the drawing's tag.
+    fn push_bands(self, view: &View<'_>, text: &mut String) -> Result<(), AllocError> {
+        for (kind, class) in BANDS {
+            self.push_bands_of(view, text, kind, class)?;
+        }
+        for (named, letter) in view.naming.named.iter().zip(LETTERS) {
+            for index in &named.all {
+                match view.verdict.incidents.get(*index) {
+                    Some(incident) if self.has(incident) => {
+                        let (left, right) = place_of(view, incident);
+                        text.push_str("<text class=\"m b\" x=\"")?;
+                        push_tenths(text, u32::midpoint(left, right) / 10)?;
+                        write!(text, "%\" y=\"-5\">{letter}</text>")?;
+                    }
+                    _ => {}
+                }
+            }
+        }
+        Ok(())
     }
-    let points = view.timeline.points;
-    let height = field.height;
-    field.push_begin(text)?;
-    text.push_str("<path class=\"band\" d=\"")?;
-    for time in &view.slow.named {
-        text.push_str("M")?;
-        push_tenths(text, left_of(time.from, points))?;
-        text.push_str(" 0H")?;
-        push_tenths(text, left_of(time.to, points))?;
-        write!(text, "V{height}H")?;
-        push_tenths(text, left_of(time.from, points))?;
-        text.push_str("Z")?;
+
+    /// Appends the bands of incidents of a kind. Falls are in the part of the rates alone.
+    fn push_bands_of(
+        self,
+        view: &View<'_>,
+        text: &mut String,
+        kind: EpisodeKind,
+        class: &str,
+    ) -> Result<(), AllocError> {
+        let field = if kind == EpisodeKind::Fall {
+            self.rates
+        } else {
+            self.all
+        };
+        let height = field.height;
+        let mut path = String::new(view.alloc);
+        for index in view.naming.named.iter().flat_map(|named| named.all.iter()) {
+            match view.verdict.incidents.get(*index) {
+                Some(incident) if incident.heaviest.kind == kind && self.has(incident) => {
+                    let (left, right) = place_of(view, incident);
+                    path.push_str("M")?;
+                    push_tenths(&mut path, left)?;
+                    path.push_str(" 0H")?;
+                    push_tenths(&mut path, right)?;
+                    write!(path, "V{height}H")?;
+                    push_tenths(&mut path, left)?;
+                    path.push_str("Z")?;
+                }
+                _ => {}
+            }
+        }
+        if path.is_empty() {
+            return Ok(());
+        }
+        field.push_begin(text)?;
+        write!(text, "<path class=\"{class}\" d=\"{path}\"/></svg>")
     }
-    text.push_str("\"/></svg>")?;
-    for (time, letter) in view.slow.named.iter().zip(LETTERS) {
-        let middle = u32::midpoint(left_of(time.from, points), left_of(time.to, points));
-        text.push_str("<text class=\"m b\" x=\"")?;
-        push_tenths(text, middle / 10)?;
-        write!(text, "%\" y=\"-5\">{letter}</text>")?;
+
+    /// Whether an incident is one of the drawing's tag.
+    fn has(self, incident: &Incident) -> bool {
+        self.tag.is_none_or(|tag| {
+            incident.heaviest.tag == tag || incident.joined.iter().any(|episode| episode.tag == tag)
+        })
     }
-    Ok(())
+}
+
+/// Returns where an incident begins and ends, of `WIDTH`.
+fn place_of(view: &View<'_>, incident: &Incident) -> (u32, u32) {
+    let first = view.timeline.first;
+    let axis = Axis::new(first, first.saturating_add(view.timeline.span()));
+    let left = axis.place(incident.heaviest.start, WIDTH);
+    let right = axis.place(incident.heaviest.end, WIDTH);
+    (
+        left.min(WIDTH - NARROWEST),
+        right.max(left.saturating_add(NARROWEST)).min(WIDTH),
+    )
 }
 
 /// Begins a text below a field. `x` is in ten-thousandths of its width. A narrow drawing has the

@@ -27,6 +27,8 @@ const FRAME: Frame<'_> = Frame {
         top: 0,
         height: 332,
     },
+    rates: RATES,
+    tag: None,
     has_names: true,
 };
 

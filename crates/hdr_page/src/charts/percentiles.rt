@@ -160,6 +160,8 @@ fn push_curves_head(view: &View<'_>, text: &mut String, kind: Kind) -> Result<()
         class: kind.class,
         id: kind.id,
         all: CURVES,
+        rates: CURVES,
+        tag: None,
         has_names: true,
     };
     frame.push_head(view, text, title.as_str(), description.as_str())

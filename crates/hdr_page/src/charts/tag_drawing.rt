@@ -56,6 +56,8 @@ pub(crate) fn push_tag_drawing(
         class: "tag",
         id: id.as_str(),
         all: ALL,
+        rates: RATES,
+        tag: Some(index),
         has_names: false,
     };
     let mut title = String::new(view.alloc);

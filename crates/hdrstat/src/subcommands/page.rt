@@ -17,12 +17,14 @@ use std::alloc::Global;
 use std::process::ExitCode;
 
 const AFTER: &str = "\
-The page begins with a sentence on all samples, and with the times that were slow. A table has a
-row for each tag. Drawings show the percentiles over time, all percentiles, and a heat map of each
-of the ten tags with the most samples. The page has no script, and needs no other file.
+The page begins with a sentence on all samples, and with what was slow or missing: when, for how
+long, of which tags, and how bad. A table has a row for each tag. Drawings show the percentiles
+over time, all percentiles, and a heat map of each of the ten tags with the most samples. The page
+has no script, and needs no other file.
 
-A time is slow if the p99 of one of these tags is at least 4 times its median over time, or with
---level if its quantile is above the level. The sentence compares the level with all samples.
+A time is slow if p50, p90, p99 or p99.9 of a tag is far above its usual value, and samples are
+missing below half of the usual rate. The page says what far is, and which tags and percentiles
+have too few samples to be tested. With --level the sentence also says which tags keep it.
 
 Values are in units of the last decimal, where a comment of the log has decimals as `hdrstat log`
 writes it. --unit is then an error.

@@ -1,0 +1,15 @@
+use Rattle.std.proofs.Common.{◌≡◌, rules, tests, ◌∙◌}
+use Rattle.std.specs.List.{list_any}
+use Rattle.std.proofs.lemmas.Iterator.{YieldsList-from_slice}
+use Rattle.std.proofs.lemmas.Iterator.Search.{any_from_yields_List}
+use Rattle.hdr_verdict.specs.declared.episode.Episode.{Episode}
+use Rattle.hdr_verdict.specs.Episodes.{EpisodeValue}
+use Rattle.hdr_verdict.proofs.Joining.{any-joined}
+use Rattle.hdr_verdict.proofs.incident.Incident.has_lasting.Goals as goal
+
+pub returns-else-self : goal.returns-else-self
+returns-else-self c =
+    let joined = c.args.self.now.joined.items in
+    let found : c.any.result ≡ list_any (λ (e : Episode). e.lasts) joined =
+    any_from_yields_List (λ (e : Episode). e.lasts) _ _ c.any.result c.any.ensures.ran (YieldsList-from_slice joined cc) (λ x b q k. search (rules, tests)) in
+    found ∙ any-joined (λ (e : EpisodeValue). e.lasts) c.args.self.now c.if-self.false

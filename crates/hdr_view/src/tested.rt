@@ -1,0 +1,184 @@
+//! What was tested, by which rule, and the level.
+
+use crate::clock::{TimeStyle, push_length};
+use crate::incidents::push_tail;
+use crate::options::push_percentile;
+use crate::sentence::push_count;
+use crate::view::View;
+use hdr_draw::number::push_grouped;
+use hdr_figures::level::{PageLevel, Verdict};
+use hdr_verdict::{FEWEST_BLOCKS, Span, TagFindings, Tail, all_tails, fewest_samples};
+use std::alloc::AllocError;
+use std::cmp::Reverse;
+
+/// The most tags over the level that are named, and the most times of each.
+const MOST_OVER: usize = 5;
+
+const MOST_TIMES: usize = 3;
+
+impl View<'_> {
+    /// Appends which percentiles were tested, and which were not for want of samples.
+    pub(crate) fn push_tested(&self, text: &mut String) -> Result<(), AllocError> {
+        let tags = self.verdict.tags.len();
+        let mut tested = String::new(self.alloc);
+        let mut untested = String::new(self.alloc);
+        for tail in all_tails() {
+            let count = self.tags_with_test(tail);
+            if count == tags {
+                push_separated(&mut tested, ", ")?;
+                push_tail(&mut tested, tail)?;
+            } else if count == 0 {
+                push_separated(&mut untested, ", ")?;
+                push_tail(&mut untested, tail)?;
+                push_below(&mut untested, "", tail)?;
+            }
+        }
+        if !tested.is_empty() && tags > 1 {
+            write!(tested, " of all {tags} tags")?;
+        }
+        self.push_partly_tested(&mut tested)?;
+        text.push_str("Tested: ")?;
+        text.push_str(if tested.is_empty() {
+            "nothing"
+        } else {
+            tested.as_str()
+        })?;
+        self.push_untested(text, untested.as_str())
+    }
+
+    /// Appends the percentiles that were tested for some tags alone.
+    fn push_partly_tested(&self, text: &mut String) -> Result<(), AllocError> {
+        let tags = self.verdict.tags.len();
+        for tail in all_tails() {
+            let count = self.tags_with_test(tail);
+            if count > 0 && count < tags {
+                push_separated(text, "; ")?;
+                push_tail(text, tail)?;
+                write!(text, " of {count} of {tags} tags")?;
+                push_below(text, "the others have ", tail)?;
+            }
+        }
+        Ok(())
+    }
+
+    /// Appends the percentiles that were tested for no tag.
+    fn push_untested(&self, text: &mut String, untested: &str) -> Result<(), AllocError> {
+        let is_short = |tag: &TagFindings<'_>| tag.cells < FEWEST_BLOCKS;
+        if self.verdict.tags.iter().all(is_short) {
+            write!(
+                text,
+                "; nothing can be usual in below {FEWEST_BLOCKS} intervals"
+            )?;
+        } else if !untested.is_empty() {
+            text.push_str(". Too few samples for ")?;
+            text.push_str(untested)?;
+        }
+        text.push_str(". ")
+    }
+
+    /// Returns the number of tags of which a tail was tested.
+    fn tags_with_test(&self, tail: Tail) -> usize {
+        let has_test = |tag: &TagFindings<'_>| tag.tests.iter().any(|test| test.tail.is(tail));
+        self.verdict.tags.iter().filter(|tag| has_test(tag)).count()
+    }
+
+    /// Appends when a time is slow, and when samples are missing.
+    pub(crate) fn push_rule(&self, text: &mut String) -> Result<(), AllocError> {
+        let bar = self.verdict.bar;
+        write!(
+            text,
+            "Slow: such a percentile is 3/2 of its usual value (its lower quartile over time) over 8 \
+             intervals or more, 2 times over 4, 3 over 2, or 4 times in one, by as much as {bar} \
+             samples that are all above. Missing: below half of the samples a second of the 16 \
+             intervals before. "
+        )
+    }
+
+    /// Appends which tags keep the level, and when the others did not.
+    pub(crate) fn push_level_verdict(&self, text: &mut String) -> Result<(), AllocError> {
+        let Some(level) = self.options.level else {
+            return Ok(());
+        };
+        let mut others = Vec::new(self.alloc);
+        for (index, tag) in self.log.tags.iter().enumerate() {
+            if level.verdict(&tag.figures) != Verdict::Within {
+                let value = tag.figures.at_level;
+                others
+                    .push((Reverse(value), index))
+                    .map_err(|_| AllocError)?;
+            }
+        }
+        others.sort()?;
+        let tags = self.log.tags.len();
+        text.push_str(" ")?;
+        self.push_markup(text, "<b>")?;
+        push_grouped(text, tags.saturating_sub(others.len()) as u64)?;
+        text.push_str(" of ")?;
+        push_count(text, tags as u64, "tag")?;
+        text.push_str(" within ")?;
+        push_percentile(text, level)?;
+        text.push_str(" ")?;
+        self.units.push_label(text, level.value)?;
+        self.push_markup(text, "</b>")?;
+        for (_, index) in others.iter().take(MOST_OVER) {
+            text.push_str("; ")?;
+            self.push_over(text, level, *index)?;
+        }
+        let more = others.len().saturating_sub(MOST_OVER);
+        if more > 0 {
+            write!(text, "; and {more} more")?;
+        }
+        text.push_str(".")
+    }
+
+    /// Appends a tag that is over the level or may be, its value, and when it was over.
+    fn push_over(
+        &self,
+        text: &mut String,
+        level: PageLevel,
+        index: usize,
+    ) -> Result<(), AllocError> {
+        let Some(tag) = self.log.tags.get(index) else {
+            return Ok(());
+        };
+        self.push_tag_at(text, index)?;
+        text.push_str(" ")?;
+        if level.verdict(&tag.figures) == Verdict::MayBeOver {
+            text.push_str("may be over: the class of its value ends at ")?;
+            return self.units.push_label(text, tag.figures.highest_at_level);
+        }
+        self.units.push(text, tag.figures.at_level)?;
+        match self.verdict.tags.get(index) {
+            Some(found) if !self.is_instant() => self.push_times_over(text, &found.over),
+            _ => Ok(()),
+        }
+    }
+
+    /// Appends when a tag was over the level.
+    fn push_times_over(&self, text: &mut String, over: &[Span]) -> Result<(), AllocError> {
+        for (at, span) in over.iter().take(MOST_TIMES).enumerate() {
+            text.push_str(if at == 0 { ", broken from " } else { " and " })?;
+            self.clock.push(text, span.start, TimeStyle::Full)?;
+            text.push_str(" for ")?;
+            push_length(text, span.end.saturating_sub(span.start))?;
+        }
+        Ok(())
+    }
+}
+
+/// Appends a separator, unless the text is empty.
+fn push_separated(text: &mut String, separator: &str) -> Result<(), AllocError> {
+    if text.is_empty() {
+        return Ok(());
+    }
+    text.push_str(separator)
+}
+
+/// Appends in brackets how many samples are too few for a tail.
+fn push_below(text: &mut String, who: &str, tail: Tail) -> Result<(), AllocError> {
+    text.push_str(" (")?;
+    text.push_str(who)?;
+    text.push_str("below ")?;
+    push_grouped(text, fewest_samples(tail))?;
+    text.push_str(" samples)")
+}
