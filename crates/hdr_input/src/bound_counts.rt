@@ -37,13 +37,12 @@ impl BoundCount {
 
     /// Counts a number.
     #[inline(always)]
-    fn with_number(self, units: u64) -> BoundCount
-        ensures { result ≡ with_number units self }
+    fn add_number(&mut self, units: u64)
+        ensures { self.new ≡ with_number units self.old }
     {
-        BoundCount {
-            count: self.count.wrapping_add(1),
-            greatest: self.greatest.max(units),
-            ..self
+        self.count = self.count.wrapping_add(1);
+        if units > self.greatest {
+            self.greatest = units;
         }
     }
 
@@ -120,7 +119,7 @@ pub(crate) fn count_units(counts: &mut [BoundCount], units: u64)
     ensures { counts.new ≡ counted (λ c. nat_le units c.most) units counts.old }
 {
     if let Some(at) = first_within(counts, units) {
-        counts[at] = counts[at].with_number(units);
+        counts[at].add_number(units);
     }
 }
 
@@ -130,7 +129,7 @@ pub(crate) fn count_position(counts: &mut [BoundCount], place: u128, units: u64)
     ensures { counts.new ≡ counted (λ c. nat_lt place c.end) units counts.old }
 {
     if let Some(at) = first_before(counts, place) {
-        counts[at] = counts[at].with_number(units);
+        counts[at].add_number(units);
     }
 }
 

@@ -129,7 +129,6 @@ impl Tally {
     /// Returns `MoreDecimals` if the number has more decimals than those before it, unless they are
     /// fixed. Returns `TooLarge` if it overflows in units, or `OutOfMemory`.
     #[inline(always)]
-    #[tactic(auto, using(crate::proofs::Units::units_same, crate::proofs::Units::after_alone))]
     pub fn record(&mut self, number: Number) -> Result<(), Cause>
         ensures number { OnOk result (Takes self.old self.new number) }
         ensures unit { KeepsUnit self.old self.new }
@@ -137,10 +136,24 @@ impl Tally {
         ensures errors { IfErr result (IsTallyError self.new number) }
     {
         if self.decimals == Some(number.decimals) && self.interval == 0 {
-            let done = self.histogram.record(number.digits);
-            return self.update_extremes(done, number.digits, number.digits);
+            return self.record_alone(number);
         }
         self.record_other(number)
+    }
+
+    /// Records a number that is in units, if no interval is expected.
+    #[inline(always)]
+    #[tactic(auto, using(crate::proofs::Units::units_same, crate::proofs::Units::after_alone))]
+    pub(crate) fn record_alone(&mut self, number: Number) -> Result<(), Cause>
+        ensures number { OnOk result (self.old.decimals ≡ Some number.decimals
+            → self.old.interval ≡ 0 → Takes self.old self.new number) }
+        ensures decimals { self.new.decimals ≡ self.old.decimals }
+        ensures interval { self.new.interval ≡ self.old.interval }
+        ensures errors { IfErr result (λ cause. self.old.decimals ≡ Some number.decimals
+            → IsTallyError self.new number cause) }
+    {
+        let done = self.histogram.record(number.digits);
+        self.update_extremes(done, number.digits, number.digits)
     }
 
     /// Records a number that is not in units, or a number with its missing samples, if an interval
