@@ -8,5 +8,5 @@ for digits in 1 2; do
     "$1" summary --from log -f csv -p 99 log
     "$1" check 'p99<=1990' --from log -i log
     echo "status $?"
-    "$1" page --text --level 'p99<=1990' log | sed -n '/level/,/^$/p' | tr '\n' ' ' | grep -o '[MOW][^.]* level of [^.]*[.]'
+    "$1" page --text --level 'p99<=1990' log | sed '1d;/^$/,$d' | tr '\n' ' ' | grep -o '[01] of 1 tag within [^.]*[.]'
 done
