@@ -365,10 +365,18 @@ def page_case(random):
         return failed(failure, notes, before(failure, logs), arguments, logs)
     rows = [["start", "tag", "length", "count", "50%", "90%", "99%", "99.9%", "100%"]]
     try:
-        rows += [row_of(it, closed(it.samples(name))) for name, it in read]
+        for name, it in sorted(read, key=by_tag_and_time):
+            it.samples(name)
     except Failure as failure:
         return failed(failure, notes, logs, arguments, logs)
+    rows += [row_of(it, closed(it.samples(name))) for name, it in read]
     return case_of(arguments, logs, (csv_text(rows).encode(), notes_text(notes, logs), 0))
+
+
+def by_tag_and_time(named):
+    """The order in which histograms are decoded: by tag, start and end."""
+    start, _, tag = named[1].key()
+    return tag, start, min(start + named[1].length(), LIMIT - 1)
 
 
 def row_of(it, samples):
