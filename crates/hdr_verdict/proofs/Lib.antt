@@ -21,3 +21,4 @@ pub mod IncidentFacts
 pub mod CountFacts
 pub mod SlowFacts
 pub mod RunValues
+pub mod GroupFacts

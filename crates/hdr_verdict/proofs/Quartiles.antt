@@ -1,5 +1,5 @@
 -- The value of a rank in an ascending list.
-use Rattle.std.proofs.Common.{◌≡◌, ℕ, zero, suc, ◌/◌, ◌<◌, ◌≤◌, Bool, false, leb, ltb, cond, List, [], ◌∷◌, length, get_or, count_by, refl, sym, subst, ◌∙◌, arith, inl, inr, add-one, is_lt, nat_cmp}
+use Rattle.std.proofs.Common.{◌≡◌, ℕ, zero, suc, ◌*◌, ◌/◌, ◌<◌, ◌≤◌, Bool, false, leb, ltb, cond, List, [], ◌∷◌, length, get_or, count_by, refl, sym, subst, ◌∙◌, arith, inl, inr, add-one, is_lt, nat_cmp}
 use Rattle.std.specs.List.{All}
 use Rattle.std.specs.List.Sorted.{IsPermutation, IsSorted}
 use Rattle.std.proofs.lemmas.Bool.Decides.{nat_tests}
@@ -8,6 +8,7 @@ use Rattle.std.proofs.lemmas.List.Sums.{sum_by-le-sum_by}
 use Rattle.std.proofs.lemmas.List.Sorted.{sum_by-IsPermutation}
 use Rattle.hdr_model.specs.Quantiles.{sorted}
 use Rattle.hdr_model.proofs.QuantilesOrder.{Ascends, sorted-count, sorted-Ascends, sorted-length, at-or-below, below}
+use Rattle.hdr_verdict.specs.Groups.{ninth_decile}
 use Rattle.hdr_verdict.specs.Usual.{lower_quartile}
 
 -- no number is less than the one before it
@@ -56,19 +57,29 @@ same-at xs ys k up-x up-y same in-x in-y = elim (cases_lt (get_or ys k 0) (get_o
   | inr ge ↦ ge
 ]
 
+-- the number of an index in ascending order
+pub value-at : (xs ys : List ℕ) (k : ℕ) → IsPermutation xs ys → Rising ys → length ys ≡ length xs → k < length xs → get_or ys k 0 ≡ get_or (sorted xs) k 0
+value-at xs ys k moved up many inside =
+    let s = sorted xs in
+    let a = rising-ascends ys up in
+    let b = sorted-Ascends xs in
+    let counts : (p : ℕ → Bool) → count_by p ys ≡ count_by p s = λ p. sum_by-IsPermutation (λ x. cond (p x) 1 0) xs ys moved ∙ sym (sorted-count p xs) in
+    let in-y : k < length ys = omega arith in
+    let in-s : k < length s = omega (arith, sorted-length xs) in
+    let le = same-at ys s k a b counts in-y in-s in
+    let ge = same-at s ys k b a (λ p. sym (counts p)) in-s in-y in
+    omega (arith, le, ge)
+
 pub quartile-at : (xs ys : List ℕ) → IsPermutation xs ys → Rising ys → length ys ≡ length xs → get_or ys (length xs / 4) 0 ≡ lower_quartile xs
 unfolding lower_quartile
 quartile-at [] [] moved up many = refl
 quartile-at [] (y ∷ ys) moved up many = absurd (omega arith)
-quartile-at (x ∷ xs) ys moved up many =
-    let all = x ∷ xs in
-    let k = length all / 4 in
-    let s = sorted all in
-    let a = rising-ascends ys up in
-    let b = sorted-Ascends all in
-    let counts : (p : ℕ → Bool) → count_by p ys ≡ count_by p s = λ p. sum_by-IsPermutation (λ x. cond (p x) 1 0) all ys moved ∙ sym (sorted-count p all) in
-    let in-y : k < length ys = omega arith in
-    let in-s : k < length s = omega (arith, sorted-length all) in
-    let le = same-at ys s k a b counts in-y in-s in
-    let ge = same-at s ys k b a (λ p. sym (counts p)) in-s in-y in
-    omega (arith, le, ge)
+quartile-at (x ∷ xs) ys moved up many = value-at (x ∷ xs) ys (length (x ∷ xs) / 4) moved up many (omega arith)
+
+pub decile-at : (other : ℕ) (xs ys : List ℕ) → IsPermutation xs ys → Rising ys → length ys ≡ length xs → length xs * 9 / 10 < length xs → get_or ys (length xs * 9 / 10) 0 ≡ ninth_decile other xs
+decile-at other [] ys moved up many inside = absurd (omega arith)
+decile-at other (x ∷ xs) ys moved up many inside = value-at (x ∷ xs) ys (length (x ∷ xs) * 9 / 10) moved up many inside
+
+pub decile-none : (other : ℕ) (xs : List ℕ) → length xs ≤ length xs * 9 / 10 → other ≡ ninth_decile other xs
+decile-none other [] none = refl
+decile-none other (x ∷ xs) none = absurd (omega arith)

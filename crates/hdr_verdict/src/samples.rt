@@ -5,7 +5,7 @@ ghost use Rattle.std.specs.List.{sum_by};
 ghost use Rattle.hdr_base.specs.Classes.{HasScale};
 ghost use Rattle.hdr_model.specs.Plain.{resolution};
 ghost use Rattle.hdr_model.specs.Quantiles.{ranked_sample};
-ghost use Rattle.hdr_verdict.specs.Cells.{AreWithin};
+ghost use Rattle.hdr_verdict.specs.Cells.{AreWithin, cells_of_intervals};
 ghost use Rattle.hdr_verdict.specs.Decoders.{intervals_of};
 
 use crate::cell::{Cell, cells_of};
@@ -43,7 +43,12 @@ impl<'a> TagSamples<'a> {
         intervals: Vec<&'a StoredInterval>,
         end: u64,
     ) -> Result<TagSamples<'a>, LogError>
-        ensures { IfOk result (λ s. (all : List Held) → AreHeld (map (λ i. i.now) intervals.entry.items) all
+        ensures cells { IfOk result (λ s. (all : List Held)
+            → AreHeld (map (λ i. i.now) intervals.entry.items) all
+            → cells_of s ≡ cells_of_intervals (map (λ i. i.now) intervals.entry.items)
+            (map (λ held. length held.samples) all) end) }
+        ensures samples { IfOk result (λ s. (all : List Held)
+            → AreHeld (map (λ i. i.now) intervals.entry.items) all
             → let cells = samples_of_cells all (width_of all) (cells_of s) in
             CanCount cells → HasSamples s cells) }
     {

@@ -1,9 +1,8 @@
-use Rattle.std.proofs.Common.{IfSome}
-use Rattle.hdr_verdict.specs.Groups.{IsGroupOf, AreGroupsOf}
+use Rattle.std.proofs.Common.{◌≡◌, ◌++◌, None, drop, map, Bor}
+use Rattle.hdr_logs.specs.declared.stored.StoredInterval.{StoredInterval}
+use Rattle.hdr_verdict.specs.Groups.{groups_from}
 use Rattle.hdr_verdict.proofs.cell.groups_of.Given as goal
 
 abbrev pub invariant-loop-index : goal.invariant-loop-index
-invariant-loop-index l = record {
-  groups : AreGroupsOf (l.index) l.groups.items;
-  last : IfSome l.last (IsGroupOf (l.index));
-}
+invariant-loop-index l =
+    l.groups.items ++ groups_from l.last l.index (drop l.index (map (λ (r : Bor StoredInterval). r.now) l.intervals)) ≡ groups_from None 0 (map (λ (r : Bor StoredInterval). r.now) l.intervals)
