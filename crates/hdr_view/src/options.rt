@@ -1,6 +1,6 @@
 //! How a page is made.
 
-ghost use Rattle.std.specs.Prelude.{ℕ, List, ◌≡◌, ◌<◌, ◌*◌, ◌++◌, ◌↔◌, IsTrue, OnOk, codes, string_bytes};
+ghost use Rattle.std.specs.Prelude.{ℕ, List, ◌≡◌, ◌<◌, ◌*◌, ◌++◌, OnOk, codes, string_bytes};
 ghost use Rattle.hdr_draw.specs.Numbers.{IsDecimalOf};
 
 use hdr_draw::number::{Decimal, in_parts};
@@ -15,13 +15,6 @@ pub struct PageOptions<'a> {
     /// The unit of the log's values, if it is known.
     pub unit: Option<Unit>,
     pub level: Option<PageLevel>,
-}
-
-/// Whether the quantile of a level is 99/100.
-pub(crate) fn is_p99(level: PageLevel) -> bool
-    ensures { IsTrue result ↔ level.num * 100 ≡ level.den * 99 }
-{
-    u128::from(level.num) * 100 == u128::from(level.den) * 99
 }
 
 /// Appends the percentile of a level, such as `p99.9`.
