@@ -126,7 +126,18 @@ fn nanos(text: &[u8]) -> Option<u32>
     }
     let kept = kept(text);
     let number = number(kept)?;
-    Some((number * 10u64.pow(9 - kept.len() as u32)) as u32)
+    Some((number * nanos_of_unit(kept.len())) as u32)
+}
+
+/// Returns the nanoseconds of the last of these digits after a point. Most times have three.
+fn nanos_of_unit(digits: usize) -> u64
+    requires { digits ≤ 9 }
+    ensures { result ≡ 10 ^ (9 - digits) }
+{
+    match digits {
+        3 => 1_000_000,
+        _ => 10u64.pow(9 - digits as u32),
+    }
 }
 
 /// Parses a time in seconds.

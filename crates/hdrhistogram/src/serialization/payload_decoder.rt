@@ -8,7 +8,7 @@ ghost use Rattle.hdrhistogram.specs.V2Read.{builder_contents, histogram_contents
 
 use crate::serialization::errors::DeserializeError;
 use crate::serialization::fields::unexpected_eof;
-use crate::serialization::varint::{short_varint_at, varint_at};
+use crate::serialization::varint::{byte_varint_at, short_varint_at, varint_at};
 use crate::serialization::zig_zag::zig_zag_decode;
 use hdr_base::Counter;
 use hdr_core::{Histogram, HistogramBuilder};
@@ -40,6 +40,36 @@ fn apply_number<T: Counter>(
     place
         .checked_add(1)
         .ok_or(DeserializeError::UsizeTypeTooSmall)
+}
+
+/// Fast path: decodes a number of one byte at the start of `bytes`, and applies it at the bin
+/// `place`. Returns the number of its bins. Returns `None`, and sets nothing, for any other varint,
+/// for a count out of range, and past the last bin.
+#[inline(always)]
+fn put_byte<T: Counter>(
+    builder: &mut HistogramBuilder<T>,
+    place: u64,
+    bytes: &[u8],
+) -> Option<u64>
+    ensures put { IfSome result (λ moved. IsNumberPut T.greatest place bytes.now builder.old.counts
+        builder.new.counts 1 moved) }
+    ensures below { IfSome result (λ moved. place + moved < 2 ^ 64) }
+    ensures rest { builder.new ≡ record builder.old { counts = builder.new.counts } }
+    ensures unchanged { IfNone result (builder.new ≡ builder.old) }
+{
+    let number = byte_varint_at(bytes)?;
+    if place >= builder.distinct_values() as u64 {
+        return None;
+    }
+    if number % 2 != 0 {
+        return Some(number / 2 + 1);
+    }
+    if number == 0 {
+        return Some(1);
+    }
+    let count = T::from_u64(number / 2)?;
+    builder.set(place as usize, count);
+    Some(1)
 }
 
 /// Fast path: decodes a number of one or two bytes at the start of `bytes`, and applies it at the
@@ -123,6 +153,11 @@ fn decode_counts<T: Counter>(
     let mut at = 0;
     let mut place = 0;
     while at < payload.len() {
+        if let Some(moved) = put_byte(builder, place, &payload[at..]) {
+            at += 1;
+            place += moved;
+            continue;
+        }
         if put_pair(builder, place, &payload[at..]) {
             at += 4;
             place += 2;

@@ -69,6 +69,24 @@ pub(crate) fn varint_at(bytes: &[u8]) -> Option<(u64, usize)>
     short_varint_at(bytes).or_else(|| read_long(bytes))
 }
 
+/// Fast path: decodes a varint of one byte at the start of `bytes`. Returns `None` for a longer
+/// varint, and if `bytes` is empty.
+#[inline(always)]
+pub(crate) fn byte_varint_at(bytes: &[u8]) -> Option<u64>
+    ensures within { IfSome result (λ _. 1 ≤ length bytes.now) }
+    ensures found { IfSome result (λ n. Spells (take 1 bytes.now) n) }
+    ensures small { IfSome result (λ n. n < 128) }
+{
+    if bytes.is_empty() {
+        return None;
+    }
+    let first = u64::from(bytes[0]);
+    if first >= LAST_BELOW {
+        return None;
+    }
+    Some(first)
+}
+
 /// Fast path: decodes a varint of one or two bytes at the start of `bytes`, without a branch on its
 /// length. Returns `None` for a longer varint, and if `bytes` has fewer than two bytes.
 #[inline(always)]

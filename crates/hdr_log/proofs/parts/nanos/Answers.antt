@@ -19,15 +19,15 @@ returns-in_err-number-clause-value c = absurd (kept_not_none c.args.text.now c.k
 
 pub overflow_mul-result : goal.overflow_mul-result
 overflow_mul-result c =
-    let s : (c.in_ok-number.number * c.pow.result < 1_000_000_000) × (Some (c.in_ok-number.number * c.pow.result) ≡ nanos_of c.args.text.now) = small _ c.kept-kept.result.now _ _ c.if-not-is_digits.ensures c.kept-kept.ensures c.in_ok-number.ensures c.pow.ensures in
+    let s : (c.in_ok-number.number * c.nanos_of_unit.result < 1_000_000_000) × (Some (c.in_ok-number.number * c.nanos_of_unit.result) ≡ nanos_of c.args.text.now) = small _ c.kept-kept.result.now _ _ c.if-not-is_digits.ensures c.kept-kept.ensures c.in_ok-number.ensures c.nanos_of_unit.ensures in
     search rules
 
 pub overflow_cast-result : goal.overflow_cast-result
 overflow_cast-result c =
-    let s : (c.in_ok-number.number * c.pow.result < 1_000_000_000) × (Some (c.in_ok-number.number * c.pow.result) ≡ nanos_of c.args.text.now) = small _ c.kept-kept.result.now _ _ c.if-not-is_digits.ensures c.kept-kept.ensures c.in_ok-number.ensures c.pow.ensures in
+    let s : (c.in_ok-number.number * c.nanos_of_unit.result < 1_000_000_000) × (Some (c.in_ok-number.number * c.nanos_of_unit.result) ≡ nanos_of c.args.text.now) = small _ c.kept-kept.result.now _ _ c.if-not-is_digits.ensures c.kept-kept.ensures c.in_ok-number.ensures c.nanos_of_unit.ensures in
     search rules
 
 pub returns : goal.returns
 returns c =
-    let s : (c.in_ok-number.number * c.pow.result < 1_000_000_000) × (Some (c.in_ok-number.number * c.pow.result) ≡ nanos_of c.args.text.now) = small _ c.kept-kept.result.now _ _ c.if-not-is_digits.ensures c.kept-kept.ensures c.in_ok-number.ensures c.pow.ensures in
+    let s : (c.in_ok-number.number * c.nanos_of_unit.result < 1_000_000_000) × (Some (c.in_ok-number.number * c.nanos_of_unit.result) ≡ nanos_of c.args.text.now) = small _ c.kept-kept.result.now _ _ c.if-not-is_digits.ensures c.kept-kept.ensures c.in_ok-number.ensures c.nanos_of_unit.ensures in
     record { value = s.1; small = s.0 }

@@ -28,7 +28,7 @@ returns-in_err-place-clause-counts g c =
     let p = c.args.payload.now in
     let bins = length c.args.builder.now.counts in
     let at = c.loop-at.at in
-    let same = ap (λ (o : Unfinished). o.counts) (c.in_default.ensures.unchanged ∙ c.put_pair.ensures.unchanged c.if-put_pair.false) in
+    let same = ap (λ (o : Unfinished). o.counts) (c.in_default-put_short.ensures.unchanged ∙ (c.put_pair.ensures.unchanged c.if-put_pair.false ∙ c.in_default.ensures.unchanged)) in
     let d = subst (λ l. IsFilledTo bins g.T.Counter.greatest p l at c.loop-at.place) (sym same) c.loop-at.invariant.filled in
     let z = c.zig_zag_decode.result in
     let fits : SFits w64 z = search rules in
@@ -47,7 +47,7 @@ loop-at-preserved g c =
     let p = c.args.payload.now in
     let bins = length c.args.builder.now.counts in
     let at = c.loop-at.at in
-    let same = ap (λ (o : Unfinished). o.counts) (c.in_default.ensures.unchanged ∙ c.put_pair.ensures.unchanged c.if-put_pair.false) in
+    let same = ap (λ (o : Unfinished). o.counts) (c.in_default-put_short.ensures.unchanged ∙ (c.put_pair.ensures.unchanged c.if-put_pair.false ∙ c.in_default.ensures.unchanged)) in
     let d = subst (λ l. IsFilledTo bins g.T.Counter.greatest p l at c.loop-at.place) (sym same) c.loop-at.invariant.filled in
     let slice = take (length p - at) (drop at p) in
     let z = c.zig_zag_decode.result in
@@ -57,23 +57,21 @@ loop-at-preserved g c =
           (omega (arith, c.in-Some-varint_at.ensures.within, length-take (length p - at) (drop at p))) (ap (take c.in-Some-varint_at.len) (take_rest p at)) c.in-Some-varint_at.ensures.found
           (to_z-of_z w64 z fits ∙ c.zig_zag_decode.ensures) c.in_ok-place.ensures.defect
           (ap (λ (o : Unfinished). o.counts) c.in_ok-place.ensures.put) refl c.in_ok-place.ensures.next;
-      rest = set-again c.args.builder.now c.put_short.new.builder c.apply_number.new.builder _ (set-again c.args.builder.now c.put_pair.new.builder c.put_short.new.builder _ (set-again c.args.builder.now c.loop-at.builder c.put_pair.new.builder _ c.loop-at.invariant.rest c.put_pair.ensures.rest) c.put_short.ensures.rest) c.in_ok-place.ensures.put;
+      rest = set-again c.args.builder.now c.put_short.new.builder c.apply_number.new.builder _ (set-again c.args.builder.now c.put_pair.new.builder c.put_short.new.builder _ (set-again c.args.builder.now c.put_byte.new.builder c.put_pair.new.builder _ (set-again c.args.builder.now c.loop-at.builder c.put_byte.new.builder _ c.loop-at.invariant.rest c.put_byte.ensures.rest) c.put_pair.ensures.rest) c.put_short.ensures.rest) c.in_ok-place.ensures.put;
     }
 
 pub loop-at-smaller-in-Some : goal.loop-at-smaller-in-Some
-loop-at-smaller-in-Some g c = omega (arith, some_byte 8 _ c.in-Some.ensures.put.spells.whole, c.in-Some.ensures.put.within, length-take {A = ℕ}, length-drop {A = ℕ})
+loop-at-smaller-in-Some g c = omega (arith, c.loop-at-test.true)
 
 pub loop-at-preserved-in-Some : goal.loop-at-preserved-in-Some
 loop-at-preserved-in-Some g c =
     let p = c.args.payload.now in
     let bins = length c.args.builder.now.counts in
     let at = c.loop-at.at in
-    let same = ap (λ (o : Unfinished). o.counts) (c.put_pair.ensures.unchanged c.if-put_pair.false) in
-    let d = subst (λ l. IsFilledTo bins g.T.Counter.greatest p l at c.loop-at.place) (sym same) c.loop-at.invariant.filled in
-    let put = subst (λ l. IsNumberPut g.T.Counter.greatest c.loop-at.place l c.put_pair.new.builder.counts c.put_short.new.builder.counts c.in-Some.len c.in-Some.moved) (take_rest p at) c.in-Some.ensures.put in
+    let put = subst (λ l. IsNumberPut g.T.Counter.greatest c.loop-at.place l c.loop-at.builder.counts c.put_byte.new.builder.counts 1 c.in-Some.moved) (take_rest p at) c.in-Some.ensures.put in
     record {
-      filled = fill_short bins g.T.Counter.greatest p c.put_pair.new.builder.counts c.put_short.new.builder.counts at (at + c.in-Some.len) c.loop-at.place (c.loop-at.place + c.in-Some.moved) c.in-Some.len c.in-Some.moved d put refl refl;
-      rest = set-again c.args.builder.now c.put_pair.new.builder c.put_short.new.builder _ (set-again c.args.builder.now c.loop-at.builder c.put_pair.new.builder _ c.loop-at.invariant.rest c.put_pair.ensures.rest) c.put_short.ensures.rest;
+      filled = fill_short bins g.T.Counter.greatest p c.loop-at.builder.counts c.put_byte.new.builder.counts at (at + 1) c.loop-at.place (c.loop-at.place + c.in-Some.moved) 1 c.in-Some.moved c.loop-at.invariant.filled put refl refl;
+      rest = set-again c.args.builder.now c.loop-at.builder c.put_byte.new.builder _ c.loop-at.invariant.rest c.put_byte.ensures.rest;
     }
 
 pub loop-at-preserved-then-put_pair : goal.loop-at-preserved-then-put_pair
@@ -81,10 +79,28 @@ loop-at-preserved-then-put_pair g c =
     let p = c.args.payload.now in
     let bins = length c.args.builder.now.counts in
     let at = c.loop-at.at in
-    let put = subst (λ l. IsPairPut g.T.Counter.greatest c.loop-at.place l c.loop-at.builder.counts c.put_pair.new.builder.counts) (take_rest p at) (c.put_pair.ensures.put c.if-put_pair.true) in
+    let same = ap (λ (o : Unfinished). o.counts) c.in_default.ensures.unchanged in
+    let d = subst (λ l. IsFilledTo bins g.T.Counter.greatest p l at c.loop-at.place) (sym same) c.loop-at.invariant.filled in
+    let put = subst (λ l. IsPairPut g.T.Counter.greatest c.loop-at.place l c.put_byte.new.builder.counts c.put_pair.new.builder.counts) (take_rest p at) (c.put_pair.ensures.put c.if-put_pair.true) in
     record {
-      filled = fill_pair bins g.T.Counter.greatest p c.loop-at.builder.counts c.put_pair.new.builder.counts at (at + 4) c.loop-at.place (c.loop-at.place + 2) c.loop-at.invariant.filled put refl refl;
-      rest = set-again c.args.builder.now c.loop-at.builder c.put_pair.new.builder _ c.loop-at.invariant.rest c.put_pair.ensures.rest;
+      filled = fill_pair bins g.T.Counter.greatest p c.put_byte.new.builder.counts c.put_pair.new.builder.counts at (at + 4) c.loop-at.place (c.loop-at.place + 2) d put refl refl;
+      rest = set-again c.args.builder.now c.put_byte.new.builder c.put_pair.new.builder _ (set-again c.args.builder.now c.loop-at.builder c.put_byte.new.builder _ c.loop-at.invariant.rest c.put_byte.ensures.rest) c.put_pair.ensures.rest;
+    }
+
+pub loop-at-smaller-in-Some-put_short : goal.loop-at-smaller-in-Some-put_short
+loop-at-smaller-in-Some-put_short g c = omega (arith, some_byte 8 _ c.in-Some-put_short.ensures.put.spells.whole, c.in-Some-put_short.ensures.put.within, length-take {A = ℕ}, length-drop {A = ℕ})
+
+pub loop-at-preserved-in-Some-put_short : goal.loop-at-preserved-in-Some-put_short
+loop-at-preserved-in-Some-put_short g c =
+    let p = c.args.payload.now in
+    let bins = length c.args.builder.now.counts in
+    let at = c.loop-at.at in
+    let same = ap (λ (o : Unfinished). o.counts) (c.put_pair.ensures.unchanged c.if-put_pair.false ∙ c.in_default.ensures.unchanged) in
+    let d = subst (λ l. IsFilledTo bins g.T.Counter.greatest p l at c.loop-at.place) (sym same) c.loop-at.invariant.filled in
+    let put = subst (λ l. IsNumberPut g.T.Counter.greatest c.loop-at.place l c.put_pair.new.builder.counts c.put_short.new.builder.counts c.in-Some-put_short.len c.in-Some-put_short.moved) (take_rest p at) c.in-Some-put_short.ensures.put in
+    record {
+      filled = fill_short bins g.T.Counter.greatest p c.put_pair.new.builder.counts c.put_short.new.builder.counts at (at + c.in-Some-put_short.len) c.loop-at.place (c.loop-at.place + c.in-Some-put_short.moved) c.in-Some-put_short.len c.in-Some-put_short.moved d put refl refl;
+      rest = set-again c.args.builder.now c.put_pair.new.builder c.put_short.new.builder _ (set-again c.args.builder.now c.put_byte.new.builder c.put_pair.new.builder _ (set-again c.args.builder.now c.loop-at.builder c.put_byte.new.builder _ c.loop-at.invariant.rest c.put_byte.ensures.rest) c.put_pair.ensures.rest) c.put_short.ensures.rest;
     }
 
 pub returns-clause-counts : goal.returns-clause-counts
