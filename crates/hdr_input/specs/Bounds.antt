@@ -1,5 +1,5 @@
 -- Bounds of numbers, and how many numbers are within them.
-use Rattle.std.specs.Prelude.{◌≡◌, ◌⊎◌, ℕ, ◌+◌, ◌*◌, ◌/◌, ◌%◌, ◌-◌, ◌^◌, ◌<◌, ◌≤◌, ◌==◌, Bool, true, if◌then◌else◌, nat_lt, nat_le, min, List, [], ◌∷◌, ◌++◌, length, map, count_by, Some}
+use Rattle.std.specs.Prelude.{◌≡◌, ◌⊎◌, ℕ, ◌+◌, ◌*◌, ◌/◌, ◌%◌, ◌-◌, ◌^◌, ◌<◌, ◌≤◌, ◌==◌, Bool, true, false, if◌then◌else◌, nat_lt, nat_le, min, List, [], ◌∷◌, ◌++◌, length, map, count_by, Option, MatchOption, Some}
 use Rattle.hdr_input.specs.declared.number.Number.{Number}
 use Rattle.hdr_input.specs.declared.bound.Bound.{Bound}
 use Rattle.hdr_input.specs.declared.bound_counts.BoundCount.{BoundCount}
@@ -14,6 +14,16 @@ is_within b x =
 -- how many of some numbers are within a bound
 abbrev pub count_within : Bound → List Number → ℕ
 count_within b S = count_by (is_within b) S
+
+-- a value in units of 10 ^ -decimals
+abbrev pub of_decimals : ℕ → ℕ → Number
+of_decimals decimals v = record { digits = v; decimals = decimals }
+
+-- the greatest value of 64 bits that is within a bound, or none if no value is
+abbrev pub IsMost : Bound → ℕ → Option ℕ → Type 0
+IsMost b decimals most =
+    MatchOption most ((v : ℕ) → is_within b (of_decimals decimals v) ≡ false)
+    (λ m. (v : ℕ) → v < 2 ^ 64 → is_within b (of_decimals decimals v) ≡ nat_le v m)
 
 -- twice a number in units of 10 ^ -18, rounded down, and one more if it is above that
 unfoldable pub position_of : Number → ℕ

@@ -30,7 +30,7 @@ Takes old new number = IsSome new.decimals × ((decimals : ℕ) → new.decimals
     → (new.histogram ≡ after_number old.histogram number decimals new.interval)
     × ((least : ℕ) × IsLeast (in_units number.digits number.decimals decimals) new.interval least × (new.min ≡ min old.min least))
     × (new.max ≡ max old.max (in_units number.digits number.decimals decimals))
-    × (new.sum ≡ min (old.sum + in_units number.digits number.decimals decimals) (2 ^ 128 - 1)))
+    × (new.sum ≡ (old.sum + in_units number.digits number.decimals decimals) % 2 ^ 128))
 
 -- the unit of a tally stays once it is set
 abbrev pub KeepsUnit : Tally → Tally → Type 0

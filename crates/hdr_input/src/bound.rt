@@ -1,7 +1,7 @@
 //! Bounds of numbers, and the order of numbers of any decimals.
 
 ghost use Rattle.std.specs.Prelude.{◌≡◌, ◌≤◌, ◌<◌, ◌+◌, ◌*◌, ◌/◌, ◌%◌, ◌^◌, min};
-ghost use Rattle.hdr_input.specs.Bounds.{position_of, end_of};
+ghost use Rattle.hdr_input.specs.Bounds.{position_of, end_of, IsMost};
 
 use crate::distribution::MOST_DECIMALS;
 use crate::number::Number;
@@ -45,7 +45,9 @@ impl Bound {
     /// Returns the greatest number of units within the bound, as far as 64 bits hold it, or `None`
     /// if none is. A unit is one of the last of `decimals`.
     #[tactic(auto, using(crate::proofs::Units::positive))]
-    pub fn most(self, decimals: u32) -> Option<u64> {
+    pub fn most(self, decimals: u32) -> Option<u64>
+        ensures { decimals ≤ 18 → self.number.decimals ≤ 18 → IsMost self decimals result }
+    {
         let level = u128::from(self.number.digits) * 10u128.pow(decimals.min(MOST_DECIMALS));
         let within = if self.is_included {
             level

@@ -1,6 +1,6 @@
 //! Numbers, recorded as they come.
 
-ghost use Rattle.std.specs.Prelude.{◌≡◌, ◌+◌, ◌-◌, ◌^◌, ◌<◌, ◌≤◌, ℕ, min, max, true};
+ghost use Rattle.std.specs.Prelude.{◌≡◌, ◌+◌, ◌-◌, ◌%◌, ◌^◌, ◌<◌, ◌≤◌, ℕ, min, max, true};
 ghost use Rattle.std.specs.Prelude.{Some, None, Ok, OnOk, IfOk, IfErr, IsSome, MatchOption};
 ghost use Rattle.hdr_model.specs.CallErrors.{IsCreationError};
 ghost use Rattle.hdr_model.specs.Plain.{empty_plain};
@@ -30,8 +30,8 @@ pub struct Recording {
     pub skips_bad: bool,
 }
 
-/// The numbers recorded so far. The extremes are exact, and so is the sum unless an interval is
-/// expected.
+/// The numbers recorded so far. The extremes are exact, and so is the sum of fewer than 2^64 numbers,
+/// unless an interval is expected.
 #[derive(Drop)]
 pub struct Tally {
     pub histogram: Histogram<u64>,
@@ -186,13 +186,17 @@ impl Tally {
         ensures interval { self.new.interval ≡ self.old.interval }
         ensures min { OnOk result (self.new.min ≡ min self.old.min least) }
         ensures max { OnOk result (self.new.max ≡ max self.old.max value) }
-        ensures sum { OnOk result (self.new.sum ≡ min (self.old.sum + value) (2 ^ 128 - 1)) }
+        ensures sum { OnOk result (self.new.sum ≡ (self.old.sum + value) % 2 ^ 128) }
     {
         match done {
             Ok(()) => {
-                self.min = self.min.min(least);
-                self.max = self.max.max(value);
-                self.sum = self.sum.saturating_add(u128::from(value));
+                if least < self.min {
+                    self.min = least;
+                }
+                if value > self.max {
+                    self.max = value;
+                }
+                self.sum = self.sum.wrapping_add(u128::from(value));
                 Ok(())
             }
             Err(RecordError::OutOfMemory) => Err(Cause::OutOfMemory),

@@ -1,1 +1,3 @@
+pub mod CountsByClass
 pub mod Powers
+pub mod TrueVerdicts

@@ -5,7 +5,7 @@ use Rattle.hdr_base.specs.Fractions.{Ratio}
 use Rattle.hdr_model.specs.Quantiles.{rank}
 use Rattle.hdr_input.specs.declared.number.Number.{Number}
 use Rattle.hdr_input.specs.Bounds.{count_within}
-use Rattle.hdr_summary.specs.Levels.{IsOnSide, bound_of}
+use Rattle.hdr_summary.specs.Levels.{bound_of}
 use Rattle.hdr_summary.specs.declared.levels.Side.{Side}
 use Rattle.hdr_summary.specs.declared.levels.Side.TheVariants.{Below, AtMost, Above, AtLeast}
 use Rattle.hdr_summary.specs.declared.levels.Measure.{Measure}

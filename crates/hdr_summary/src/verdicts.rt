@@ -1,6 +1,6 @@
 //! Whether samples keep a level.
 
-ghost use Rattle.std.specs.Prelude.{◌≡◌, ◌≢◌, ◌≤◌, ◌<◌, ◌^◌, ◌↔◌, IsTrue, List, length, ℕ, MatchBool};
+ghost use Rattle.std.specs.Prelude.{◌≡◌, ◌≢◌, ◌≤◌, ◌<◌, ◌+◌, ◌-◌, ◌^◌, min, ◌↔◌, IsTrue, List, length, ℕ, MatchBool};
 ghost use Rattle.hdr_input.specs.declared.number.Number.{Number};
 ghost use Rattle.hdr_input.specs.Bounds.{HasBound, HasCounted, count_within};
 ghost use Rattle.hdr_model.specs.Quantiles.{rank};
@@ -78,6 +78,23 @@ impl Measure {
 }
 
 impl LevelCounts {
+    /// Returns the counts of these samples and others, at one bound.
+    pub(crate) fn joined(&self, others: &LevelCounts) -> LevelCounts
+        ensures total { result.total ≡ min (self.now.total + others.now.total) (2 ^ 64 - 1) }
+        ensures sure { result.sure ≡ min (self.now.sure + others.now.sure) (2 ^ 64 - 1) }
+        ensures perhaps { result.perhaps
+            ≡ min (self.now.perhaps + others.now.perhaps) (2 ^ 64 - 1) }
+    {
+        LevelCounts {
+            total: self.total.saturating_add(others.total),
+            sure: self.sure.saturating_add(others.sure),
+            perhaps: self.perhaps.saturating_add(others.perhaps),
+            greatest: self.greatest,
+            low: self.low.min(others.low),
+            high: self.high.max(others.high),
+        }
+    }
+
     /// Returns the counts of numbers that a tally counted.
     pub fn of_tally(tally: &BoundTally, level: &Level<'_>) -> LevelCounts
         ensures { (S : List Number) → let bound = bound_of level.now.side level.now.number in
