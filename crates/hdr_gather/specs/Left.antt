@@ -3,8 +3,10 @@ use Rattle.std.specs.Prelude.{◌≡◌, ◌≤◌, ℕ, List, [], ◌∷◌, �
 use Rattle.std.specs.List.{All}
 use Rattle.std.specs.List.Sorted.{IsPermutation}
 use Rattle.std.specs.Option.{option_map}
+use Rattle.hdr_log.specs.Tags.{tag_text}
 use Rattle.hdrhistogram.specs.Chosen.{Filter}
 use Rattle.hdr_logs.specs.Intervals.{LogInterval}
+use Rattle.hdr_logs.specs.FileNames.{in_file}
 use Rattle.hdr_logs.specs.Intervals as logs
 use Rattle.hdr_logs.specs.Reading as reading
 use Rattle.hdr_logs.specs.Stored.{Stored, stored, view_of_stored}
@@ -14,13 +16,20 @@ use Rattle.hdr_gather.specs.Logs.{Writes, WritesLog}
 use Rattle.hdr_gather.specs.declared.sum.Counts.{Counts}
 use Rattle.hdr_gather.specs.declared.peekable.PeekableLog.{PeekableLog}
 
+-- intervals of a log as they are stored, with their tags by its file if that has a name
+abbrev pub stored_in : Option (List ℕ) → List LogInterval → List Stored
+stored_in name intervals = map stored (map (in_file name) intervals)
+
 -- the chosen intervals of a log, as they are stored
-abbrev pub LogHolds : Filter → List ℕ → List Stored → Type 0
-LogHolds filter text all = (intervals : List LogInterval) × (all ≡ map stored intervals) × logs.LogHolds filter text intervals
+abbrev pub LogHolds : Filter → Option (List ℕ) → List ℕ → List Stored → Type 0
+LogHolds filter name text all = (intervals : List LogInterval) × (all ≡ stored_in name intervals) × logs.LogHolds filter text intervals
+
+abbrev pub name_of : {R : Type 0} → PeekableLog R → Option (List ℕ)
+name_of log = option_map tag_text log.file_name
 
 -- the chosen intervals of the lines that are not read yet
 abbrev pub UnreadHold : {R : Type 0} → (R → Option (List ℕ)) → PeekableLog R → List Stored → Type 0
-UnreadHold remaining log all = (intervals : List LogInterval) × (all ≡ map stored intervals) × reading.UnreadHold remaining log.log intervals
+UnreadHold remaining log all = (intervals : List LogInterval) × (all ≡ stored_in (name_of log) intervals) × reading.UnreadHold remaining log.log intervals
 
 abbrev pub next_interval : Option StoredInterval → List Stored
 next_interval None = []

@@ -1,13 +1,15 @@
 //! A log that is read interval by interval.
 
 ghost use Rattle.std.specs.Prelude.{◌≡◌, ◌<◌, ◌++◌, ◌+◌, List, None, IfOk, IfSome, IsSome, IsSomeAnd, OnOk, OnErr};
+ghost use Rattle.std.specs.Option.{option_map};
+ghost use Rattle.hdr_log.specs.Tags.{tag_text};
 ghost use Rattle.hdrhistogram.specs.Chosen.{view_of_interval_choice};
 ghost use Rattle.hdr_logs.specs.Stored.{Stored};
 ghost use Rattle.hdr_gather.specs.Left.{LogHolds, next_interval, next_start, UnreadHold, HasLeft};
 ghost use Rattle.hdr_gather.specs.Left.{IsKnown, IsReady, IsReadyAt, IsFrom};
 
 use hdr_logs::{LineBuffer, LogError, LogLine, LogReader, Note, StoredInterval};
-use hdrhistogram::serialization::interval_log::IntervalChoice;
+use hdrhistogram::serialization::interval_log::{IntervalChoice, Tag};
 use std::alloc::Global;
 use std::io::Read;
 use std::mem;
@@ -17,12 +19,14 @@ use std::mem;
 pub struct PeekableLog<'c, R> {
     log: LogReader<'c, R>,
     buffer: LineBuffer,
+    /// The name of its file, with which tags end, if they are by file.
+    file_name: Option<Tag<'c>>,
     next: Option<StoredInterval>,
 }
 
 impl<'c, R: Read + Drop> PeekableLog<'c, R> {
     /// Returns a reader of the chosen intervals of the file of this index, of which nothing is read
-    /// yet.
+    /// yet. If the file has a name, their tags end with that.
     ///
     /// # Errors
     /// Returns an error if an allocation fails.
@@ -31,14 +35,17 @@ impl<'c, R: Read + Drop> PeekableLog<'c, R> {
         file: usize,
         reader: R,
         choice: IntervalChoice<'c>,
+        file_name: Option<Tag<'c>>,
     ) -> Result<PeekableLog<'c, R>, LogError>
         ensures log { IfOk result (λ log. (all : List Stored) → HasLeft R.remaining log all
-            → IfSome (R.remaining reader) (λ text. LogHolds (view_of_interval_choice choice.entry) text all)) }
+            → IfSome (R.remaining reader) (λ text. LogHolds (view_of_interval_choice choice.entry)
+            (option_map tag_text file_name.entry) text all)) }
         ensures known { IfOk result (λ log. IsSome (R.remaining reader) → IsKnown R.remaining log) }
     {
         Ok(PeekableLog {
             log: LogReader::new(alloc, file, reader, choice)?,
             buffer: LineBuffer::new(alloc),
+            file_name,
             next: None,
         })
     }
@@ -116,7 +123,7 @@ impl<'c, R: Read + Drop> PeekableLog<'c, R> {
         for _ in 0..u64::MAX {
             match self.log.next_line(alloc, &mut self.buffer)? {
                 LogLine::Chosen(interval) => {
-                    let interval = StoredInterval::new(alloc, &interval)?;
+                    let interval = StoredInterval::new(alloc, &interval, self.file_name)?;
                     return Ok(Some(interval));
                 }
                 LogLine::Other => {}

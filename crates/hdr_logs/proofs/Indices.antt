@@ -9,7 +9,7 @@ use Rattle.std.proofs.lemmas.Slice.Eq.{bytes_eq-Decides}
 use Rattle.std.specs.String.{string_bytes}
 use Rattle.hdr_model.specs.Plain.{Plain}
 use Rattle.hdr_model.specs.Merging.{after_add}
-use Rattle.hdr_logs.specs.Sums.{Sum, is_same_tag, empty_sum, with_added, view_of_sum, after_interval, index_of, added_at, IsSumAt, Summing, Adds, AddsAll}
+use Rattle.hdr_logs.specs.Sums.{Sum, is_same_tag, empty_sum, with_added, view_of_sum, after_interval, index_of, added_at, IsSumAt, Summing, Adds, AddsAll, Passes, PassesAll}
 use Rattle.hdr_logs.specs.Intervals.{LogInterval}
 use Rattle.hdr_logs.specs.declared.sums.TagSum.{TagSum}
 
@@ -134,3 +134,15 @@ sum_added old new h tag is = ap (λ t. sum_of t new.histogram) tag ∙ ap (sum_o
 pub adds_more : (all : List LogInterval) (i : LogInterval) (old mid new : Summing) → AddsAll old all mid → Adds mid i new → AddsAll old (all ++ i ∷ []) new
 adds_more [] i old mid new are one = (new, subst (λ s. Adds s i new) are one, refl)
 adds_more (first ∷ all) i old mid new are one = (are.0, are.1, adds_more all i are.0 mid new are.2 one)
+
+-- intervals are added and taken, and then one more
+pub passes_more : {S : Type 0} (takes : S → ℕ → Plain → ℕ → S → Type 0) (all : List LogInterval) (i : LogInterval) (old mid new : Summing) (sink between after : S)
+    → PassesAll takes old all mid sink between → Passes takes mid i new between after → PassesAll takes old (all ++ i ∷ []) new sink after
+passes_more {S} takes [] i old mid new sink between after are one =
+    (new, after, subst (λ s. Passes takes s i new sink after) are.0 (subst (λ s. Passes takes mid i new s after) are.1 one), (refl, refl))
+passes_more takes (first ∷ all) i old mid new sink between after are one =
+    (are.0, are.1, are.2, passes_more takes all i are.0 mid new are.1 between after are.3 one)
+
+-- a text is the same as itself
+pub same_text : (t : List ℕ) → bytes_eq t t ≡ true
+same_text t = (bytes_eq-Decides t t).1 refl

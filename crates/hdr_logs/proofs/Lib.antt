@@ -4,3 +4,6 @@ pub mod NextLine
 pub mod Texts
 pub mod Conversions
 pub mod Storing
+pub mod TagsByFile
+pub mod Earliest
+pub mod Moving

@@ -8,10 +8,12 @@ use Rattle.hdr_logs.specs.Intervals.{LogInterval}
 use Rattle.hdr_logs.specs.Stored.{Stored, stored, decimals_of}
 use Rattle.hdr_logs.specs.declared.stored.StoredInterval.{StoredInterval}
 
--- one more interval is stored
-pub keeps_more : (old mid new : List Stored) (done : List LogInterval) (i : LogInterval) → mid ≡ old ++ map stored done → new ≡ mid ++ map stored (i ∷ []) → new ≡ old ++ map stored (done ++ i ∷ [])
-keeps_more old mid new done i before one =
-    one ∙ ap (λ l. l ++ map stored (i ∷ [])) before ∙ append_assoc old (map stored done) (map stored (i ∷ [])) ∙ ap (λ l. old ++ l) (sym (map-append stored done (i ∷ [])))
+-- one more interval is stored, each as f makes it
+pub keeps_more : (f : LogInterval → LogInterval) (old mid new : List Stored) (done : List LogInterval) (i : LogInterval) → mid ≡ old ++ map stored (map f done) → new ≡ mid ++ map stored (f i ∷ [])
+    → new ≡ old ++ map stored (map f (done ++ i ∷ []))
+keeps_more f old mid new done i before one =
+    let all : map stored (map f (done ++ i ∷ [])) ≡ map stored (map f done) ++ map stored (f i ∷ []) = ap (map stored) (map-append f done (i ∷ [])) ∙ map-append stored (map f done) (f i ∷ []) in
+    one ∙ ap (λ l. l ++ map stored (f i ∷ [])) before ∙ append_assoc old (map stored (map f done)) (map stored (f i ∷ [])) ∙ ap (λ l. old ++ l) (sym all)
 
 -- the value behind one reference or another
 pub behind_either : (one : Option (Bor StoredInterval)) (other : Bor StoredInterval) → (unwrap_or one other).now ≡ unwrap_or (option_copied one) other.now

@@ -3,8 +3,10 @@ pub mod Lines
 pub mod Fields
 pub mod Entries
 pub mod Intervals
+pub mod FileNames
 pub mod Times
 pub mod Stored
+pub mod Aligned
 pub mod Reading
 pub mod Sums
 pub mod Conversion

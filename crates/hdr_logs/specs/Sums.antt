@@ -68,20 +68,41 @@ Adds old i new =
     (h : Plain) × IsHeldIn (2 ^ 64 - 1) i.field h
     × (new ≡ with_sums old (after_interval old.sigfig old.sums (sum_tag old.is_by_tag i.tag) h))
 
+-- the same, and that histogram is left over
+abbrev pub AddsHeld : Summing → LogInterval → Summing → Option Plain → Type 0
+AddsHeld old i new left =
+    (h : Plain) × IsHeldIn (2 ^ 64 - 1) i.field h
+    × (new ≡ with_sums old (after_interval old.sigfig old.sums (sum_tag old.is_by_tag i.tag) h)) × (left ≡ Some h)
+
 -- intervals are added, one after the other
 abbrev pub AddsAll : Summing → List LogInterval → Summing → Type 0
 AddsAll old [] new = new ≡ old
 AddsAll old (i ∷ all) new = (mid : Summing) × Adds old i mid × AddsAll mid all new
 
--- the histogram that a field holds is added to a sum, and it is coarser than the sum or not
-abbrev pub AddsField : List ℕ → Plain → Plain → Bool → Type 0
-AddsField field old new coarser = (held : Plain) × IsHeldIn (2 ^ 64 - 1) field held × (new ≡ after_add (2 ^ 64 - 1) old held)
+-- the histogram that a field holds is added to a sum and left over, and it is coarser than the sum or not
+abbrev pub AddsField : List ℕ → Plain → Plain → Option Plain → Bool → Type 0
+AddsField field old new left coarser =
+    (held : Plain) × IsHeldIn (2 ^ 64 - 1) field held × (new ≡ after_add (2 ^ 64 - 1) old held) × (left ≡ Some held)
     × (IsTrue coarser ↔ (IsFiner (resolution held) (resolution old) → ⊥))
 
 -- the index of the first sum of a tag
 unfoldable pub index_of : Option (List ℕ) → List Sum → Option ℕ
 index_of tag [] = None
 index_of tag (sum ∷ sums) = if is_same_tag sum.tag tag then Some 0 else option_map suc (index_of tag sums)
+
+-- the histogram of an interval is added to the sum of its tag, and is then taken: with the index of the sum and some decimals
+abbrev pub Passes : {S : Type 0} → (S → ℕ → Plain → ℕ → S → Type 0) → Summing → LogInterval → Summing → S → S → Type 0
+Passes takes old i new sink after =
+    (h : Plain) × IsHeldIn (2 ^ 64 - 1) i.field h
+    × (new ≡ with_sums old (after_interval old.sigfig old.sums (sum_tag old.is_by_tag i.tag) h))
+    × (index : ℕ) × (index_of (sum_tag old.is_by_tag i.tag) new.sums ≡ Some index)
+    × (decimals : ℕ) × takes sink index h decimals after
+
+-- the histograms of intervals are added and taken, one after the other
+abbrev pub PassesAll : {S : Type 0} → (S → ℕ → Plain → ℕ → S → Type 0) → Summing → List LogInterval → Summing → S → S → Type 0
+PassesAll takes old [] new sink after = (new ≡ old) × (after ≡ sink)
+PassesAll {S} takes old (i ∷ all) new sink after =
+    (mid : Summing) × (between : S) × Passes takes old i mid sink between × PassesAll takes mid all new between after
 
 -- the sums of tags are found by the indices
 abbrev pub AreIndexed : LogSums → Type 0

@@ -1,18 +1,23 @@
 //! The chosen intervals of logs, whose histograms are not decoded yet.
 
-ghost use Rattle.std.specs.Prelude.{◌≡◌, ◌∷◌, [], List, OnOk, IfSome, unwrap_or};
+ghost use Rattle.std.specs.Prelude.{◌≡◌, ◌∷◌, [], List, OnOk, IfSome, map, take, drop, unwrap_or};
 ghost use Rattle.std.specs.List.{All};
+ghost use Rattle.std.specs.Option.{option_map};
+ghost use Rattle.hdr_log.specs.Tags.{tag_text};
 ghost use Rattle.hdrhistogram.specs.Chosen.{view_of_interval_choice};
 ghost use Rattle.hdr_logs.specs.Intervals.{LogInterval, LogHolds, view_of_log_interval};
-ghost use Rattle.hdr_logs.specs.Stored.{Keeps, HaveSameDecimals, decimals_of};
+ghost use Rattle.hdr_logs.specs.FileNames.{in_file};
+ghost use Rattle.hdr_logs.specs.Stored.{Keeps, HaveSameDecimals, decimals_of, intervals_of};
+ghost use Rattle.hdr_logs.specs.Aligned.{LieOver};
 
+use crate::aligning::{begin_at, first_start};
 use crate::errors::LogError;
 use crate::headers::check_decimals;
 use crate::interval::Interval;
 use crate::note::Note;
 use crate::reader::{LineBuffer, LogLine, LogReader};
 use crate::stored::StoredInterval;
-use hdrhistogram::serialization::interval_log::IntervalChoice;
+use hdrhistogram::serialization::interval_log::{IntervalChoice, Tag};
 use std::alloc::Global;
 use std::io::Read;
 
@@ -34,7 +39,8 @@ impl LogIntervals {
         }
     }
 
-    /// Reads the file of this index to its end, and adds its chosen intervals.
+    /// Reads the file of this index to its end, and adds its chosen intervals. If the file has a
+    /// name, their tags end with that.
     ///
     /// # Errors
     /// Returns an error if the log is not read, or if an interval has other decimals than those
@@ -45,17 +51,18 @@ impl LogIntervals {
         file: usize,
         reader: R,
         choice: IntervalChoice<'_>,
+        file_name: Option<Tag<'_>>,
     ) -> Result<(), LogError>
         ensures intervals { OnOk result ((all : List LogInterval)
             × IfSome (R.remaining reader) (λ text. LogHolds (view_of_interval_choice choice.entry) text all)
-            × Keeps self.old all self.new) }
+            × Keeps self.old (map (in_file (option_map tag_text file_name.entry)) all) self.new) }
         ensures decimals { OnOk result (HaveSameDecimals self.old → HaveSameDecimals self.new) }
     {
         let mut buffer = LineBuffer::new(alloc);
         let mut log = LogReader::new(alloc, file, reader, choice)?;
         for _ in 0..u64::MAX {
             match log.next_line(alloc, &mut buffer)? {
-                LogLine::Chosen(interval) => self.push(alloc, &interval)?,
+                LogLine::Chosen(interval) => self.push(alloc, &interval, file_name)?,
                 LogLine::Other => {}
                 LogLine::End => {
                     self.notes.extend_from_slice(log.notes())?;
@@ -67,16 +74,41 @@ impl LogIntervals {
     }
 
     /// Adds an interval.
-    fn push(&mut self, alloc: Global, interval: &Interval<'_>) -> Result<(), LogError>
-        ensures interval { OnOk result (Keeps self.old (view_of_log_interval interval.now ∷ []) self.new) }
+    fn push(
+        &mut self,
+        alloc: Global,
+        interval: &Interval<'_>,
+        file_name: Option<Tag<'_>>,
+    ) -> Result<(), LogError>
+        ensures interval { OnOk result (Keeps self.old
+            (in_file (option_map tag_text file_name.entry) (view_of_log_interval interval.now) ∷ [])
+            self.new) }
         ensures decimals { OnOk result (HaveSameDecimals self.old → HaveSameDecimals self.new) }
     {
-        let interval = StoredInterval::new(alloc, interval)?;
+        let interval = StoredInterval::new(alloc, interval, file_name)?;
         let first = self.list.first().unwrap_or(&interval);
         let others = first.decimals.unwrap_or(0);
         check_decimals(interval.place, interval.decimals, others)?;
         self.list.push(interval)?;
         Ok(())
+    }
+
+    /// Moves the intervals from this index on by the same time, so that the first of them begins
+    /// with the first of those before. If there are none before, they stay.
+    ///
+    /// # Errors
+    /// Returns `TooLate` if an interval would begin past 64 bits of milliseconds.
+    pub fn align_from(&mut self, index: usize) -> Result<(), LogError>
+        ensures aligned { OnOk result (LieOver (take index (intervals_of self.old))
+            (drop index (intervals_of self.old)) (intervals_of self.new)) }
+        ensures decimals { OnOk result (HaveSameDecimals self.old → HaveSameDecimals self.new) }
+    {
+        let index = index.min(self.list.len());
+        let (before, rest) = self.list.split_at_mut(index);
+        match first_start(before) {
+            Some(start) => begin_at(rest, start),
+            None => Ok(()),
+        }
     }
 
     /// Returns the decimals of the values, if a comment has them.

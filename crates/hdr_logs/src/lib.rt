@@ -6,11 +6,14 @@
 #![tactic(auto)]
 
 mod adding;
+mod aligning;
 mod conversion;
 mod errors;
+mod file_names;
 mod headers;
 mod interval;
 mod intervals;
+pub mod laws;
 mod lines;
 mod note;
 mod parser;
@@ -22,6 +25,7 @@ mod sums;
 
 pub use adding::add;
 pub use errors::LogError;
+pub use file_names::name_in_tags;
 pub use headers::{check_decimals, decimals_comment};
 pub use interval::Interval;
 pub use intervals::LogIntervals;

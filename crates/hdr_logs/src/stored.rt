@@ -7,6 +7,7 @@ ghost use Rattle.std.specs.String.{string_bytes};
 ghost use Rattle.hdr_log.specs.Grammar.{is_tag};
 ghost use Rattle.hdr_log.specs.Tags.{tag_text};
 ghost use Rattle.hdrhistogram.specs.FieldRead.{IsHeldIn};
+ghost use Rattle.hdr_logs.specs.FileNames.{text_in_file};
 ghost use Rattle.hdr_logs.specs.Times.{nearest_millisecond, IsTooLate};
 
 use crate::errors::LogError;
@@ -15,11 +16,14 @@ use crate::place::Place;
 use hdrhistogram::Histogram;
 use hdrhistogram::serialization::Deserializer;
 use hdrhistogram::serialization::interval_log::Tag;
-use std::alloc::Global;
+use std::alloc::{AllocError, Global};
 use std::time::Duration;
 
 /// Nanoseconds in a millisecond.
 const MILLISECOND: u128 = 1_000_000;
+
+/// What is between a tag and the name of the file.
+const BEFORE_FILE_NAME: char = '@';
 
 /// A copy of an interval of a log, which begins at the nearest millisecond.
 #[derive(Drop)]
@@ -40,14 +44,21 @@ pub struct StoredInterval {
 
 impl StoredInterval {
     ghost use Rattle.hdr_logs.specs.Intervals.{tag_or_none, view_of_log_interval};
+    ghost use Rattle.hdr_logs.specs.FileNames.{in_file};
     ghost use Rattle.hdr_logs.specs.Stored.{stored, view_of_stored, length_of, end_of};
 
-    /// Returns a copy of an interval.
+    /// Returns a copy of an interval. If its file has a name, its tag ends with that.
     ///
     /// # Errors
     /// Returns `TooLate` if it begins past 64 bits of milliseconds, or `OutOfMemory`.
-    pub fn new(alloc: Global, interval: &Interval<'_>) -> Result<StoredInterval, LogError>
-        ensures stored { IfOk result (λ copy. view_of_stored copy ≡ stored (view_of_log_interval interval.now)) }
+    pub fn new(
+        alloc: Global,
+        interval: &Interval<'_>,
+        file_name: Option<Tag<'_>>,
+    ) -> Result<StoredInterval, LogError>
+        ensures stored { IfOk result (λ copy. view_of_stored copy
+            ≡ stored (in_file (option_map tag_text file_name.entry)
+            (view_of_log_interval interval.now))) }
         ensures decimals { IfOk result (λ copy. copy.decimals ≡ interval.now.decimals) }
         ensures errors { IfErr result (λ error. (error ≡ LogError.OutOfMemory)
             ⊎ ((error ≡ LogError.TooLate interval.now.place) × IsTooLate interval.now.time)) }
@@ -57,7 +68,7 @@ impl StoredInterval {
         };
         Ok(StoredInterval {
             start,
-            tag: String::from_str(alloc, text_of(interval.tag))?,
+            tag: tag_in_file(alloc, interval.tag, file_name)?,
             duration: interval.duration,
             field: String::from_str(alloc, interval.field)?,
             decimals: interval.decimals,
@@ -121,6 +132,27 @@ fn text_of<'a>(tag: Option<Tag<'a>>) -> &'a str
         Some(tag) => tag.as_str(),
         None => "",
     }
+}
+
+/// Returns the text of the tag of an interval. If its file has a name, the text ends with that.
+fn tag_in_file(
+    alloc: Global,
+    tag: Option<Tag<'_>>,
+    file_name: Option<Tag<'_>>,
+) -> Result<String, AllocError>
+    ensures text { IfOk result (λ text. string_bytes text
+        ≡ text_in_file (option_map tag_text file_name.entry) (option_map tag_text tag.entry)) }
+    ensures allowed { IfOk result (λ text. is_tag (string_bytes text) ≡ true) }
+{
+    let mut text = String::from_str(alloc, text_of(tag))?;
+    let Some(name) = file_name else {
+        return Ok(text);
+    };
+    if tag.is_some() {
+        text.push(BEFORE_FILE_NAME)?;
+    }
+    text.push_str(name.as_str())?;
+    Ok(text)
 }
 
 /// Returns a time in nanoseconds to the nearest millisecond, or `None` if that does not fit 64 bits.

@@ -9,8 +9,8 @@ ghost use Rattle.hdr_model.specs.Plain.{Plain};
 ghost use Rattle.hdr_log.specs.Tags.{tag_text};
 ghost use Rattle.hdrhistogram.specs.FieldRead.{IsHeldIn};
 ghost use Rattle.hdr_logs.specs.Intervals.{LogInterval, LogHolds, view_of_log_interval};
-ghost use Rattle.hdr_logs.specs.Sums.{sums_of, view_of_sums, empty_sum, sum_tag, Adds, AddsAll, AddsField};
-ghost use Rattle.hdr_logs.specs.Sums.{AreIndexed, IsSumAt, KeepsOptions, added_at};
+ghost use Rattle.hdr_logs.specs.Sums.{sums_of, view_of_sums, empty_sum, sum_tag, AddsHeld, AddsAll, AddsField};
+ghost use Rattle.hdr_logs.specs.Sums.{index_of, AreIndexed, IsSumAt, KeepsOptions, added_at};
 
 use crate::adding::add;
 use crate::errors::LogError;
@@ -46,8 +46,8 @@ impl TagSum {
         place: Place,
     ) -> Result<bool, LogError>
         ensures tag { self.new.tag ≡ self.old.tag }
-        ensures added { IfOk result
-            (λ coarser. AddsField field.now self.old.histogram self.new.histogram coarser) }
+        ensures added { IfOk result (λ coarser. AddsField field.now
+            self.old.histogram self.new.histogram spare.new coarser) }
     {
         let source = decoded(deserializer, spare.take(), field, place)?;
         let is_coarser = add(&mut self.histogram, &source)?;
@@ -127,7 +127,9 @@ impl<'a> LogSums<'a> {
         let mut log = LogReader::new(alloc, file, reader, self.choice)?;
         for _ in 0..u64::MAX {
             match log.next_line(alloc, &mut buffer)? {
-                LogLine::Chosen(interval) => self.add(alloc, &interval)?,
+                LogLine::Chosen(interval) => {
+                    self.add(alloc, &interval)?;
+                }
                 LogLine::Other => {}
                 LogLine::End => {
                     self.notes.extend_from_slice(log.notes())?;
@@ -165,6 +167,9 @@ impl<'a> LogSums<'a> {
         ensures index { IfOk result (λ index. AreIndexed self.old → IsSumAt self.old.sigfig
             (sums_of self.old) (sums_of self.new)
             (sum_tag self.old.is_by_tag (option_map tag_text tag.entry)) index) }
+        ensures found { IfOk result (λ index. AreIndexed self.old → index_of
+            (sum_tag self.old.is_by_tag (option_map tag_text tag.entry)) (sums_of self.new)
+            ≡ Some index) }
         ensures indices { OnOk result (AreIndexed self.old → AreIndexed self.new) }
     {
         let tag = if self.is_by_tag { tag } else { None };
@@ -186,6 +191,8 @@ impl<'a> LogSums<'a> {
         ensures options { KeepsOptions self.old self.new }
         ensures index { IfOk result (λ index. AreIndexed self.old → IsSumAt self.old.sigfig
             (sums_of self.old) (sums_of self.new) (Some tag.now) index) }
+        ensures found { IfOk result (λ index. AreIndexed self.old
+            → index_of (Some tag.now) (sums_of self.new) ≡ Some index) }
         ensures indices { OnOk result (AreIndexed self.old → AreIndexed self.new) }
     {
         if let Some(index) = self.indices.get(tag) {
@@ -218,7 +225,7 @@ impl<'a> LogSums<'a> {
         ensures options { KeepsOptions self.old self.new }
         ensures added { OnOk result (index < length self.old.sums.items → (h : Plain)
             × IsHeldIn (2 ^ 64 - 1) (view_of_log_interval interval.now).field h
-            × (sums_of self.new ≡ added_at index (sums_of self.old) h)) }
+            × (sums_of self.new ≡ added_at index (sums_of self.old) h) × (self.new.spare ≡ Some h)) }
         ensures indices { self.new.indices ≡ self.old.indices }
         ensures untagged { self.new.untagged ≡ self.old.untagged }
     {
@@ -236,10 +243,13 @@ impl<'a> LogSums<'a> {
         Ok(())
     }
 
-    /// Adds the histogram of a chosen interval to the sum of its tag.
-    fn add(&mut self, alloc: Global, interval: &Interval<'_>) -> Result<(), LogError>
-        ensures added { OnOk result (AreIndexed self.old → Adds (view_of_sums self.old)
-            (view_of_log_interval interval.now) (view_of_sums self.new)) }
+    /// Adds the histogram of a chosen interval to the sum of its tag, and returns the index of that
+    /// sum.
+    fn add(&mut self, alloc: Global, interval: &Interval<'_>) -> Result<usize, LogError>
+        ensures added { OnOk result (AreIndexed self.old → AddsHeld (view_of_sums self.old)
+            (view_of_log_interval interval.now) (view_of_sums self.new) self.new.spare) }
+        ensures index { IfOk result (λ index. AreIndexed self.old → index_of (sum_tag self.old.is_by_tag
+            (view_of_log_interval interval.now).tag) (sums_of self.new) ≡ Some index) }
         ensures choice { self.new.choice ≡ self.old.choice }
         ensures indices { OnOk result (AreIndexed self.old → AreIndexed self.new) }
     {
@@ -247,6 +257,6 @@ impl<'a> LogSums<'a> {
         let index = self.index_of(alloc, interval.tag)?;
         self.add_at(index, interval)?;
         self.chosen = self.chosen.saturating_add(1);
-        Ok(())
+        Ok(index)
     }
 }

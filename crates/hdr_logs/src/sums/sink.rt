@@ -1,7 +1,11 @@
 //! The histograms of the chosen intervals, while they are summed.
 
+ghost use Rattle.std.specs.Prelude.{◌≡◌, ℕ, List, IfSome, OnOk, Some};
+ghost use Rattle.hdr_model.specs.Plain.{Plain};
+ghost use Rattle.hdr_logs.specs.Intervals.{LogInterval, LogHolds};
+ghost use Rattle.hdr_logs.specs.Sums.{view_of_sums, AreIndexed, PassesAll};
+
 use crate::errors::LogError;
-use crate::interval::Interval;
 use crate::reader::{LineBuffer, LogLine, LogReader};
 use crate::sums::LogSums;
 use hdrhistogram::Histogram;
@@ -10,6 +14,9 @@ use std::io::Read;
 
 /// What takes the histograms of intervals.
 pub trait HistogramSink {
+    /// What taking a histogram does, with the index of a sum and the decimals of its values.
+    ghost takes: { Self → ℕ → Plain → ℕ → Self → Type 0 };
+
     /// Takes the histogram of an interval, which is part of the sum at this index. Its values have
     /// these decimals.
     fn take_histogram(
@@ -17,7 +24,8 @@ pub trait HistogramSink {
         sum: usize,
         histogram: &Histogram<u64>,
         decimals: u32,
-    ) -> Result<(), LogError>;
+    ) -> Result<(), LogError>
+        ensures taken { OnOk result (takes self.old sum histogram.now decimals self.new) };
 }
 
 impl LogSums<'_> {
@@ -31,14 +39,19 @@ impl LogSums<'_> {
         file: usize,
         reader: R,
         sink: &mut S,
-    ) -> Result<(), LogError> {
+    ) -> Result<(), LogError>
+        ensures sums { OnOk result (AreIndexed self.old → (all : List LogInterval)
+            × IfSome (R.remaining reader) (λ text. LogHolds (view_of_sums self.old).filter text all)
+            × PassesAll S.takes (view_of_sums self.old) all (view_of_sums self.new) sink.old sink.new) }
+        ensures indices { OnOk result (AreIndexed self.old → AreIndexed self.new) }
+    {
         let mut buffer = LineBuffer::new(alloc);
         let mut log = LogReader::new(alloc, file, reader, self.choice)?;
         for _ in 0..u64::MAX {
             match log.next_line(alloc, &mut buffer)? {
                 LogLine::Chosen(interval) => {
-                    self.add(alloc, &interval)?;
-                    self.pass(alloc, &interval, sink)?;
+                    let sum = self.add(alloc, &interval)?;
+                    self.pass(sum, sink)?;
                 }
                 LogLine::Other => {}
                 LogLine::End => {
@@ -50,14 +63,12 @@ impl LogSums<'_> {
         Err(LogError::TooManyLines)
     }
 
-    /// Passes the histogram of the interval that was added last to a sink.
-    fn pass<S: HistogramSink>(
-        &mut self,
-        alloc: Global,
-        interval: &Interval<'_>,
-        sink: &mut S,
-    ) -> Result<(), LogError> {
-        let sum = self.index_of(alloc, interval.tag)?;
+    /// Passes the histogram of the interval that was added last to a sink, with the index of its
+    /// sum.
+    fn pass<S: HistogramSink>(&self, sum: usize, sink: &mut S) -> Result<(), LogError>
+        ensures { OnOk result ((h : Plain) → self.now.spare ≡ Some h
+            → (decimals : ℕ) × S.takes sink.old sum h decimals sink.new) }
+    {
         let decimals = self.decimals();
         match &self.spare {
             Some(histogram) => sink.take_histogram(sum, histogram, decimals),

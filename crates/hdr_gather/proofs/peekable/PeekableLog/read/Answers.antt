@@ -1,12 +1,14 @@
 use Rattle.std.proofs.Common.{◌∷◌, ◌++◌, ap, subst, ◌∙◌}
+use Rattle.hdr_logs.specs.FileNames.{in_file}
 use Rattle.hdr_logs.specs.Intervals.{view_of_log_interval}
 use Rattle.hdr_logs.specs.Reading as reading
 use Rattle.hdr_logs.specs.Stored.{stored}
+use Rattle.hdr_gather.specs.Left.{name_of}
 use Rattle.hdr_gather.proofs.peekable.PeekableLog.read.Goals as goal
 
 pub returns-in-Chosen-clause-left : goal.returns-in-Chosen-clause-left
 returns-in-Chosen-clause-left g c = λ rest left.
     let i = view_of_log_interval c.in-Chosen.interval in
-    let all = ap (λ t. t ∷ rest) c.in_ok-interval-in-Chosen.ensures.stored ∙ ap (λ l. stored i ∷ l) left.1 in
+    let all = ap (λ t. t ∷ rest) c.in_ok-interval-in-Chosen.ensures.stored ∙ ap (λ l. stored (in_file (name_of c.loop.self) i) ∷ l) left.1 in
     let here = subst (λ l. reading.UnreadHold g.R.Read.remaining c.loop.self.log (reading.intervals_of_line l ++ left.0)) c.in-Chosen.is (c.in_ok-interval.ensures.intervals left.0 left.2) in
     c.loop.invariant.left _ (i ∷ left.0, all, here)

@@ -1,6 +1,9 @@
 use Rattle.std.proofs.Common.{◌++◌, ◌∷◌, [], List, sym, subst, append_assoc, append-nil}
+use Rattle.std.specs.Option.{option_map}
+use Rattle.hdr_log.specs.Tags.{tag_text}
 use Rattle.hdrhistogram.specs.Chosen.{view_of_interval_choice}
 use Rattle.hdr_logs.specs.Intervals.{LogInterval, LogHolds, view_of_log_interval}
+use Rattle.hdr_logs.specs.FileNames.{in_file}
 use Rattle.hdr_logs.specs.Reading.{UnreadHold, IsEnd, intervals_of_line}
 use Rattle.hdr_logs.specs.Stored.{intervals_of}
 use Rattle.hdr_logs.proofs.Storing.{keeps_more}
@@ -25,7 +28,7 @@ loop-preserved g c =
       | in-Chosen+in_ok-push-in-Chosen w ↦
           let i = view_of_log_interval w.in-Chosen.interval in
           let pushed = w.in_ok-push-in-Chosen.ensures in
-          let more = keeps_more (intervals_of c.args.self.now) (intervals_of c.loop.self) (intervals_of w.push.new.self) before.0 i before.1 pushed.interval in
+          let more = keeps_more (in_file (option_map tag_text c.args.file_name)) (intervals_of c.args.self.now) (intervals_of c.loop.self) (intervals_of w.push.new.self) before.0 i before.1 pushed.interval in
           let left : (rest : List LogInterval) → UnreadHold remaining c.next_line.new.self rest → UnreadHold remaining begun ((before.0 ++ i ∷ []) ++ rest) = λ rest h.
           let here = subst (λ l. UnreadHold remaining c.loop.log (intervals_of_line l ++ rest)) w.in-Chosen.is (line.intervals rest h) in
           subst (UnreadHold remaining begun) (sym (append_assoc before.0 (i ∷ []) rest)) (before.2 (i ∷ rest) here) in

@@ -12,4 +12,4 @@ returns-clause-added c = λ below.
     let item : old ≡ get_or sums c.args.index old = search rules in
     let after : view_of_sum new ≡ with_added (view_of_sum (get_or sums c.args.index old)) held.0 =
     subst (λ s. view_of_sum new ≡ with_added (view_of_sum s) held.0) item (sum_added old new held.0 c.in_ok-is_coarser.ensures.tag held.2) in
-    (held.0, held.1, added_sum sums c.args.index old new held.0 below after)
+    (held.0, held.1, added_sum sums c.args.index old new held.0 below after, held.3)

@@ -37,3 +37,19 @@ returns-in_ok-index-in-None-untagged-clause-indices c = λ indexed.
       λ t. ap (λ m. get_by_text m t) c.push_sum.ensures.indices ∙ indexed.0 t ∙ sym (index_stays sigfig None (Some t) sums refl) ∙ ap (index_of (Some t)) (sym pushed),
       ap Some at ∙ sym (index_new sigfig None None sums refl missing) ∙ ap (index_of None) (sym pushed),
     )
+
+pub returns-in-Some-untagged-clause-found : goal.returns-in-Some-untagged-clause-found
+returns-in-Some-untagged-clause-found c = λ indexed.
+    let sums : List Sum = map view_of_sum c.args.self.now.sums.items in
+    let none : sum_tag c.args.self.now.is_by_tag (option_map tag_text c.args.tag) ≡ None = search rules in
+    ap (λ t. index_of t sums) none ∙ sym indexed.1 ∙ c.in-Some-untagged.is
+
+pub returns-in_ok-index-in-None-untagged-clause-found : goal.returns-in_ok-index-in-None-untagged-clause-found
+returns-in_ok-index-in-None-untagged-clause-found c = λ indexed.
+    let sums : List Sum = map view_of_sum c.args.self.now.sums.items in
+    let sigfig = c.args.self.now.sigfig in
+    let none : sum_tag c.args.self.now.is_by_tag (option_map tag_text c.args.tag) ≡ None = search rules in
+    let missing : index_of None sums ≡ None = sym indexed.1 ∙ c.in-None-untagged.is in
+    let at : c.in_ok-index-in-None-untagged.index ≡ length sums = c.in_ok-index-in-None-untagged.ensures.index ∙ sym (length-map c.args.self.now.sums.items view_of_sum) in
+    ap (λ t. index_of t (map view_of_sum c.push_sum.new.self.sums.items)) none ∙ ap (index_of None) c.in_ok-index-in-None-untagged.ensures.sums
+    ∙ index_new sigfig None None sums refl missing ∙ ap Some (sym at)

@@ -32,7 +32,7 @@ loop-preserved g c =
             known = λ known. line.known (so_far.known known);
             added = λ indexed.
                 let before = so_far.added indexed in
-                let more = adds_more before.0 i (view_of_sums c.args.self.now) (view_of_sums c.loop.self) (view_of_sums w.add.new.self) before.1 (one.added (so_far.indices indexed)) in
+                let more = adds_more before.0 i (view_of_sums c.args.self.now) (view_of_sums c.loop.self) (view_of_sums w.add.new.self) before.1 (let added = one.added (so_far.indices indexed) in (added.0, added.1, added.2)) in
                 let left : (rest : List LogInterval) → UnreadHold remaining c.next_line.new.self rest → UnreadHold remaining begun ((before.0 ++ i ∷ []) ++ rest) = λ rest h.
                 let here = subst (λ l. UnreadHold remaining c.loop.log (intervals_of_line l ++ rest)) w.in-Chosen.is (line.intervals rest h) in
                 subst (UnreadHold remaining begun) (sym (append_assoc before.0 (i ∷ []) rest)) (before.2 (i ∷ rest) here) in
