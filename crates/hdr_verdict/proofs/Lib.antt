@@ -22,3 +22,5 @@ pub mod CountFacts
 pub mod SlowFacts
 pub mod RunValues
 pub mod GroupFacts
+pub mod TagOrder
+pub mod TagParts

@@ -17,3 +17,5 @@ pub mod Episodes
 pub mod Incidents
 pub mod CountsAboveFor
 pub mod Tests
+pub mod Tags
+pub mod Verdicts

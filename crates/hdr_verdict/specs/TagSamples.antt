@@ -2,9 +2,13 @@
 use Rattle.std.specs.Prelude.{◌≡◌, ℕ, List, length, map}
 use Rattle.hdr_verdict.specs.Samples.{Held, AreHeld, width_of, samples_of_cells, CanCount}
 use Rattle.hdr_verdict.specs.Decoders.{intervals_of}
+use Rattle.hdr_logs.specs.declared.stored.StoredInterval.{StoredInterval}
 use Rattle.hdr_verdict.specs.declared.cell.Cell.{Cell}
 use Rattle.hdr_verdict.specs.declared.width.Width.{Width}
 use Rattle.hdr_verdict.specs.declared.samples.TagSamples.{TagSamples}
+
+abbrev pub intervals_of_tag : TagSamples → List StoredInterval
+intervals_of_tag s = intervals_of s.decoder
 
 abbrev pub cells_of : TagSamples → List Cell
 cells_of s = s.cells.items

@@ -30,7 +30,7 @@ pub struct TagSamples<'a> {
 
 impl<'a> TagSamples<'a> {
     ghost use Rattle.hdr_verdict.specs.Samples.{Held, AreHeld, Rounds, CanCount, samples_of_cells, samples_between, rounded, classes_of, width_of};
-    ghost use Rattle.hdr_verdict.specs.TagSamples.{HasSamples, KeepsCells, cells_of, width_of_tag};
+    ghost use Rattle.hdr_verdict.specs.TagSamples.{HasSamples, KeepsCells, cells_of, intervals_of_tag, width_of_tag};
     ghost use Rattle.hdr_verdict.specs.Slow.{samples_in, kept};
 
     /// Returns the samples of the cells of intervals, which are in ascending order of their starts,
@@ -43,6 +43,7 @@ impl<'a> TagSamples<'a> {
         intervals: Vec<&'a StoredInterval>,
         end: u64,
     ) -> Result<TagSamples<'a>, LogError>
+        ensures intervals { IfOk result (λ s. intervals_of_tag s ≡ map (λ i. i.now) intervals.entry.items) }
         ensures cells { IfOk result (λ s. (all : List Held)
             → AreHeld (map (λ i. i.now) intervals.entry.items) all
             → cells_of s ≡ cells_of_intervals (map (λ i. i.now) intervals.entry.items)
