@@ -21,11 +21,15 @@ last_end all = fold (λ last i. max last (end_of i)) 0 all
 abbrev pub span_of : List StoredInterval → ℕ
 span_of all = last_end all - first_start all
 
--- intervals are added to a histogram, one after the other
-abbrev pub AddsIntervals : List StoredInterval → Plain → Plain → Type 0
-AddsIntervals [] old new = new ≡ old
-AddsIntervals (i ∷ all) old new =
-    (h : Plain) × IsHeldIn (2 ^ 64 - 1) (view_of_stored i).field h × AddsIntervals all (after_add (2 ^ 64 - 1) old h) new
+-- histograms are those of intervals
+abbrev pub AreHistogramsOf : List StoredInterval → List Plain → Type 0
+AreHistogramsOf [] all = all ≡ []
+AreHistogramsOf (i ∷ intervals) all =
+    (h : Plain) × (others : List Plain) × (all ≡ h ∷ others) × IsHeldIn (2 ^ 64 - 1) (view_of_stored i).field h × AreHistogramsOf intervals others
+
+-- histograms are added to another, one after the other
+abbrev pub sum_of : Plain → List Plain → Plain
+sum_of old all = fold (λ sum h. after_add (2 ^ 64 - 1) sum h) old all
 
 -- a line was read before another
 abbrev pub IsBefore : Place → Place → Type 0

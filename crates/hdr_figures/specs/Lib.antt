@@ -1,3 +1,4 @@
+pub mod Breaks
 pub mod Figures
 pub mod Intervals
 pub mod Levels

@@ -1,8 +1,9 @@
 //! The figures of tags, and of their points of time.
 
-ghost use Rattle.std.specs.Prelude.{◌≡◌, ◌<◌, take};
-ghost use Rattle.hdr_figures.specs.Figures.{AreFiguresOf, value_at};
+ghost use Rattle.std.specs.Prelude.{◌≡◌, ◌<◌};
+ghost use Rattle.hdr_figures.specs.Figures.{AreFiguresOf, no_peaks, peaks_with, value_at};
 
+use crate::level::LevelValue;
 use crate::sum::Sum;
 use hdr_logs::StoredInterval;
 use hdrhistogram::{Fraction, Histogram, Quantile};
@@ -21,18 +22,27 @@ pub struct Figures {
     pub p99: u64,
     pub p999: u64,
     pub max: u64,
-    /// The value at the quantile of the level, and the highest one of its class, which is as wide as
-    /// that of the coarsest interval.
-    pub at_level: u64,
-    pub highest_at_level: u64,
+}
+
+/// The greatest percentiles of some intervals.
+#[derive(Clone, Copy)]
+pub struct Peaks {
+    pub p50: u64,
+    pub p90: u64,
+    pub p99: u64,
+    pub p999: u64,
+    pub max: u64,
 }
 
 /// The figures of a point of time with samples.
 #[derive(Clone, Copy)]
 pub struct PointFigures {
     pub point: usize,
-    pub figures: Figures,
-    ghost some: { 0 < figures.count },
+    /// The number of its samples.
+    pub count: u64,
+    /// The greatest percentiles of its intervals, so that a short one shows.
+    pub peaks: Peaks,
+    ghost some: { 0 < count },
 }
 
 /// The figures of a tag.
@@ -40,10 +50,10 @@ pub struct PointFigures {
 pub struct TagFigures<'a> {
     pub tag: &'a str,
     pub figures: Figures,
+    /// Its value at each level, in their order.
+    pub at_levels: Vec<LevelValue>,
     /// How long it was seen, in milliseconds.
     pub length: u64,
-    /// Its points with samples, in order.
-    pub points: Vec<PointFigures>,
 }
 
 /// The samples of a class at a point of time: its highest value, and their number.
@@ -54,12 +64,18 @@ pub struct Cell {
     pub count: u64,
 }
 
-/// The samples of a tag that is drawn.
+/// The samples of a tag.
 #[derive(Drop)]
 pub struct TagSamples<'a> {
     pub tag: &'a str,
+    pub figures: Figures,
+    /// All samples.
     pub sum: Sum,
+    /// Its points with samples, in order, and their classes, if it is drawn.
+    pub points: Vec<PointFigures>,
     pub cells: Vec<Cell>,
+    /// When its intervals with samples begin, in order.
+    pub starts: Vec<u64>,
 }
 
 /// The number and the greatest of all samples of a point.
@@ -84,7 +100,7 @@ pub struct LogFigures<'a> {
     pub sum: Sum,
     /// The tags, those with the most samples first.
     pub tags: Vec<TagFigures<'a>>,
-    /// The samples of the first `DRAWN` of them.
+    /// The samples of the tags that are drawn, in the order of these.
     pub drawn: Vec<TagSamples<'a>>,
     /// All tags, at each point of time.
     pub totals: Vec<Total>,
@@ -105,11 +121,9 @@ pub fn value_at(histogram: &Histogram<u64>, num: u64, den: u64) -> u64
 }
 
 impl Figures {
-    /// Returns the figures of a histogram. Those at the level are 0.
+    /// Returns the figures of a histogram.
     pub fn of(histogram: &Histogram<u64>) -> Figures
-        ensures figures { AreFiguresOf histogram.now result }
-        ensures level { result.at_level ≡ 0 }
-        ensures highest { result.highest_at_level ≡ 0 }
+        ensures { AreFiguresOf histogram.now result }
     {
         Figures {
             count: histogram.len(),
@@ -120,17 +134,34 @@ impl Figures {
             p99: value_at(histogram, 99, 100),
             p999: value_at(histogram, 999, 1_000),
             max: value_at(histogram, 1, 1),
-            at_level: 0,
-            highest_at_level: 0,
         }
     }
 }
 
-impl<'a> LogFigures<'a> {
-    /// Returns the tags that are drawn: the first `DRAWN`.
-    pub fn drawn_tags(&self) -> &[TagFigures<'a>]
-        ensures { result.now ≡ take 10 self.now.tags.items }
+impl Peaks {
+    /// Returns the greatest percentiles of no intervals.
+    pub(crate) fn new() -> Peaks
+        ensures { result ≡ no_peaks }
     {
-        self.tags.get(..DRAWN).unwrap_or(self.tags.as_slice())
+        Peaks {
+            p50: 0,
+            p90: 0,
+            p99: 0,
+            p999: 0,
+            max: 0,
+        }
+    }
+
+    /// Returns the greatest percentiles of these intervals and one more, which has this histogram.
+    pub(crate) fn with(self, histogram: &Histogram<u64>) -> Peaks
+        ensures { result ≡ peaks_with self histogram.now }
+    {
+        Peaks {
+            p50: self.p50.max(value_at(histogram, 1, 2)),
+            p90: self.p90.max(value_at(histogram, 9, 10)),
+            p99: self.p99.max(value_at(histogram, 99, 100)),
+            p999: self.p999.max(value_at(histogram, 999, 1_000)),
+            max: self.max.max(value_at(histogram, 1, 1)),
+        }
     }
 }

@@ -1,18 +1,24 @@
 //! The level of a quantile.
 
-ghost use Rattle.std.specs.Prelude.{◌≡◌, ◌<◌, SomeIff};
+ghost use Rattle.std.specs.Prelude.{◌≡◌, ◌*◌, ◌<◌, ◌↔◌, IsTrue};
 ghost use Rattle.hdr_figures.specs.Levels.{IsVerdict};
 
-use crate::figures::Figures;
-use hdrhistogram::Quantile;
-
-/// A quantile of all samples, and of those of a tag at a point of time, with the value in the unit of
-/// the log that it should not exceed.
+/// A quantile of the samples of a tag, with the value in the unit of the log that it should not
+/// exceed.
 #[derive(Clone, Copy)]
 pub struct PageLevel {
     pub num: u64,
     pub den: u64,
     pub value: u64,
+    ghost some: { 0 < den },
+}
+
+/// The value of samples at the quantile of a level, and the highest one of its class, which is as
+/// wide as that of the coarsest interval.
+#[derive(Clone, Copy)]
+pub struct LevelValue {
+    pub value: u64,
+    pub highest: u64,
 }
 
 /// Whether samples keep a level.
@@ -25,20 +31,23 @@ pub enum Verdict {
 }
 
 impl PageLevel {
-    /// Returns the quantile of the level.
-    pub fn quantile(self) -> Option<Quantile>
-        ensures { SomeIff result (0 < self.den) (record { num = self.num; den = self.den }) }
+    /// Whether another level has the same quantile and value.
+    pub fn is(self, other: PageLevel) -> bool
+        ensures { IsTrue result
+            ↔ (self.num * other.den ≡ other.num * self.den) × (self.value ≡ other.value) }
     {
-        Quantile::new(self.num, self.den)
+        let num = u128::from(self.num) * u128::from(other.den);
+        let others = u128::from(other.num) * u128::from(self.den);
+        num == others && self.value == other.value
     }
 
-    /// Returns whether samples of these figures keep the level.
-    pub fn verdict(self, figures: &Figures) -> Verdict
-        ensures { IsVerdict result self.value figures.now.at_level figures.now.highest_at_level }
+    /// Returns whether samples that have this value at its quantile keep the level.
+    pub fn verdict(self, at_level: LevelValue) -> Verdict
+        ensures { IsVerdict result self.value at_level.value at_level.highest }
     {
-        if figures.at_level > self.value {
+        if at_level.value > self.value {
             Verdict::Over
-        } else if figures.highest_at_level > self.value {
+        } else if at_level.highest > self.value {
             Verdict::MayBeOver
         } else {
             Verdict::Within

@@ -1,6 +1,7 @@
 //! The figures of interval logs: of all samples, of each tag and of each point of time.
 #![tactic(auto)]
 
+pub mod breaks;
 pub mod figures;
 pub mod level;
 pub mod sum;

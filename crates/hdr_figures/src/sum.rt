@@ -1,19 +1,20 @@
 //! Sums of intervals.
 
-ghost use Rattle.std.specs.Prelude.{◌≡◌, ◌-◌, ◌^◌, ◌↔◌, true, IfOk, OnOk, IsTrue, MatchOption};
+ghost use Rattle.std.specs.Prelude.{◌≡◌, ◌-◌, ◌^◌, ◌↔◌, true, map, IfOk, OnOk, IsTrue};
+ghost use Rattle.std.specs.List.{All};
 ghost use Rattle.hdr_base.specs.Classes.{IsFiner};
 ghost use Rattle.hdr_model.specs.Plain.{empty_plain, resolution};
 ghost use Rattle.hdr_model.specs.Merging.{after_add};
-ghost use Rattle.hdr_model.specs.Quantiles.{value_at_quantile};
 ghost use Rattle.hdr_model.specs.Recording.{after_reset};
-ghost use Rattle.hdr_figures.specs.Figures.{AreFiguresOf};
+ghost use Rattle.hdr_figures.specs.Figures.{AreFiguresOf, value_at};
 ghost use Rattle.hdr_figures.specs.Widths.{IsHighest, IsJoin, IsWidthOf};
 
-use crate::figures::Figures;
+use crate::figures::{Figures, value_at};
+use crate::level::{LevelValue, PageLevel};
 use hdr_base::Scale;
 use hdr_logs::add;
-use hdrhistogram::{AdditionError, CreationError, Histogram, Quantile};
-use std::alloc::Global;
+use hdrhistogram::{AdditionError, CreationError, Histogram};
+use std::alloc::{AllocError, Global};
 
 /// The significant digits of sums.
 const DIGITS: u8 = 3;
@@ -104,23 +105,39 @@ impl Sum {
         Ok(is_coarser)
     }
 
-    /// Returns the figures of the samples, with those at the quantile of a level if there is one.
-    pub(crate) fn figures(&self, level: Option<Quantile>) -> Figures
-        ensures figures { AreFiguresOf self.now.histogram result }
-        ensures level { MatchOption level (result.at_level ≡ 0)
-            (λ q. result.at_level ≡ value_at_quantile self.now.histogram q) }
-        ensures highest { MatchOption level (result.highest_at_level ≡ 0)
-            (λ q. IsHighest self.now.width (value_at_quantile self.now.histogram q) result.highest_at_level) }
+    /// Returns the figures of the samples.
+    pub(crate) fn figures(&self) -> Figures
+        ensures { AreFiguresOf self.now.histogram result }
     {
-        let figures = Figures::of(&self.histogram);
-        let Some(quantile) = level else {
-            return figures;
-        };
-        let value = self.histogram.value_at_quantile(quantile);
-        Figures {
-            at_level: value,
-            highest_at_level: self.width.highest(value),
-            ..figures
+        Figures::of(&self.histogram)
+    }
+
+    /// Returns the value at the quantile of each level.
+    pub(crate) fn at_levels(
+        &self,
+        alloc: Global,
+        levels: &[PageLevel],
+    ) -> Result<Vec<LevelValue>, AllocError>
+        ensures values { IfOk result (λ all. map (λ at. at.value) all.items
+            ≡ map (λ l. value_at self.now.histogram l.num l.den) levels.now) }
+        ensures highest { IfOk result (λ all. All (λ at. IsHighest self.now.width at.value at.highest) all.items) }
+    {
+        let mut all = Vec::new(alloc);
+        for level in levels {
+            all.push(self.at_level(*level))?;
+        }
+        Ok(all)
+    }
+
+    /// Returns the value at the quantile of a level.
+    fn at_level(&self, level: PageLevel) -> LevelValue
+        ensures value { result.value ≡ value_at self.now.histogram level.num level.den }
+        ensures highest { IsHighest self.now.width result.value result.highest }
+    {
+        let value = value_at(&self.histogram, level.num, level.den);
+        LevelValue {
+            value,
+            highest: self.width.highest(value),
         }
     }
 }

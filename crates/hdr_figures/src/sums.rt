@@ -1,22 +1,28 @@
 //! The sums of intervals: of points of time, of tags, and of all.
 
-ghost use Rattle.std.specs.Prelude.{◌≡◌, ◌↔◌, map, [], ◌∷◌, Some, IfOk, IsTrue, MatchOption, OnOk, slice_set};
+ghost use Rattle.std.specs.Prelude.{◌≡◌, ◌↔◌, ◌-◌, ◌^◌, List, map, Some, IfOk, IsTrue, MatchOption, OnOk, slice_set};
 ghost use Rattle.std.specs.List.{slice_get};
 ghost use Rattle.std.specs.List.Sorted.{IsPermutation};
+ghost use Rattle.hdr_model.specs.Merging.{after_add};
+ghost use Rattle.hdr_model.specs.Plain.{Plain};
 ghost use Rattle.hdr_model.specs.Recording.{after_reset};
-ghost use Rattle.hdr_figures.specs.Figures.{AreFiguresOf, with_figures};
-ghost use Rattle.hdr_figures.specs.Intervals.{AddsIntervals, IsWorse, span_of};
+ghost use Rattle.hdrhistogram.specs.FieldRead.{IsHeldIn};
+ghost use Rattle.hdr_logs.specs.Stored.{view_of_stored};
+ghost use Rattle.hdr_figures.specs.Figures.{AreFiguresOf, ArePeaksOf, peaks_with, value_at, with_samples};
+ghost use Rattle.hdr_figures.specs.Intervals.{AreHistogramsOf, IsWorse, span_of, sum_of};
 
 use crate::figures::{
-    Cell, DRAWN, LogFigures, PointFigures, TagFigures, TagSamples, Total, Worst, value_at,
+    Cell, LogFigures, Peaks, PointFigures, TagFigures, TagSamples, Total, Worst, value_at,
 };
+use crate::level::PageLevel;
 use crate::sum::Sum;
 use crate::timeline::Timeline;
 use hdr_logs::{LogError, StoredInterval};
+use hdrhistogram::Histogram;
 use hdrhistogram::serialization::Deserializer;
-use hdrhistogram::{Histogram, Quantile};
 use std::alloc::{AllocError, Global};
 use std::cmp::Reverse;
+use std::mem;
 
 /// An interval and its point of time.
 #[derive(Clone, Copy)]
@@ -50,60 +56,104 @@ struct Sums<'a> {
     deserializer: Deserializer,
     /// The histogram that was added last: the next one is decoded into its memory.
     spare: Option<Histogram<u64>>,
-    level: Option<Quantile>,
-    /// The sum of a point of a tag.
+    /// The sum of a point of a tag, and the greatest percentiles of its intervals.
     point: Sum,
+    peaks: Peaks,
+    /// When the intervals with samples of a tag begin.
+    starts: Vec<u64>,
     totals: Vec<Total>,
     worst: Option<Worst<'a>>,
     coarser: u64,
 }
 
-/// Returns the figures of intervals. `level` is the quantile of a level.
+/// Returns the figures of intervals, with the values of each tag at levels. `drawn` has the names of
+/// the tags that are drawn.
 pub fn figures_of<'a>(
     alloc: Global,
     intervals: &'a [StoredInterval],
     timeline: &Timeline,
-    level: Option<Quantile>,
+    levels: &[PageLevel],
+    drawn: &[&str],
 ) -> Result<LogFigures<'a>, LogError>
     ensures { IfOk result (λ log. AreFiguresOf log.sum.histogram log.all) }
 {
     let keys = keys_of(alloc, intervals, timeline)?;
-    let mut sums = Sums::new(alloc, timeline.points, level)?;
+    let mut sums = Sums::new(alloc, timeline.points)?;
     let mut sum = Sum::new(alloc)?;
     let mut tags = Vec::new(alloc);
-    let mut drawn = Vec::new(alloc);
+    let mut kept = Vec::new(alloc);
     for keys in keys.chunk_by(|a, b| a.interval.name() == b.interval.name()) {
-        let (tag, samples) = sums.tag_of(alloc, keys)?;
+        let name = keys.first().map_or("", |key| key.interval.name());
+        let is_drawn = position_in(drawn, name) < drawn.len();
+        let (length, samples) = sums.tag_of(alloc, keys, is_drawn)?;
         sum.add(&samples.sum)?;
-        tags.push(tag)?;
-        push_drawn(&mut drawn, samples)?;
+        push_tag(&mut tags, tag_figures(alloc, &samples, length, levels)?)?;
+        push_drawn(&mut kept, samples, is_drawn)?;
     }
     tags.sort_by_key(|tag: &TagFigures<'_>| (Reverse(tag.figures.count), tag.tag))?;
+    kept.sort_by_key(|samples: &TagSamples<'_>| position_in(drawn, samples.tag))?;
     Ok(LogFigures {
-        all: sum.figures(sums.level),
+        all: sum.figures(),
         sum,
         tags,
-        drawn,
+        drawn: kept,
         totals: sums.totals,
         worst: sums.worst,
         coarser: sums.coarser,
     })
 }
 
-/// Appends the samples of a tag, and keeps those of the tags with the most samples.
+/// Returns the figures of a tag of these samples, with their values at levels.
+fn tag_figures<'a>(
+    alloc: Global,
+    samples: &TagSamples<'a>,
+    length: u64,
+    levels: &[PageLevel],
+) -> Result<TagFigures<'a>, AllocError>
+    ensures figures { IfOk result (λ tag. tag.figures ≡ samples.now.figures) }
+    ensures levels { IfOk result (λ tag. map (λ at. at.value) tag.at_levels.items
+        ≡ map (λ l. value_at samples.now.sum.histogram l.num l.den) levels.now) }
+    ensures length { IfOk result (λ tag. tag.length ≡ length) }
+{
+    Ok(TagFigures {
+        tag: samples.tag,
+        figures: samples.figures,
+        at_levels: samples.sum.at_levels(alloc, levels)?,
+        length,
+    })
+}
+
+/// Appends the figures of a tag.
+fn push_tag<'a>(tags: &mut Vec<TagFigures<'a>>, tag: TagFigures<'a>) -> Result<(), AllocError> {
+    match tags.push(tag) {
+        Ok(()) => Ok(()),
+        Err(_) => Err(AllocError),
+    }
+}
+
+/// Appends the samples of a tag if it is drawn.
 fn push_drawn<'a>(
     drawn: &mut Vec<TagSamples<'a>>,
     samples: TagSamples<'a>,
+    is_drawn: bool,
 ) -> Result<(), LogError> {
-    drawn.push(samples)?;
-    drawn.sort_by_key(|samples| (Reverse(samples.sum.histogram.len()), samples.tag))?;
-    drawn.truncate(DRAWN);
+    if is_drawn {
+        drawn.push(samples)?;
+    }
     Ok(())
+}
+
+/// Returns the position of a name, or the number of names if it is none of them.
+fn position_in(names: &[&str], name: &str) -> usize {
+    names
+        .iter()
+        .position(|other| *other == name)
+        .unwrap_or(names.len())
 }
 
 impl<'a> Sums<'a> {
     /// Returns what is known of no intervals at a number of points of time.
-    fn new(alloc: Global, points: usize, level: Option<Quantile>) -> Result<Sums<'a>, LogError> {
+    fn new(alloc: Global, points: usize) -> Result<Sums<'a>, LogError> {
         let none = Total {
             count: 0,
             max: None,
@@ -111,22 +161,24 @@ impl<'a> Sums<'a> {
         Ok(Sums {
             deserializer: Deserializer::new(alloc),
             spare: None,
-            level,
             point: Sum::new(alloc)?,
+            peaks: Peaks::new(),
+            starts: Vec::new(alloc),
             totals: vec![in alloc; none; points]?,
             worst: None,
             coarser: 0,
         })
     }
 
-    /// Adds the intervals of a tag. Returns its figures and its samples.
+    /// Adds the intervals of a tag. Returns how long it was seen, in milliseconds, and its samples.
     fn tag_of(
         &mut self,
         alloc: Global,
         keys: &[Key<'a>],
-    ) -> Result<(TagFigures<'a>, TagSamples<'a>), LogError>
-        ensures figures { IfOk result (λ r. AreFiguresOf r.1.sum.histogram r.0.figures) }
-        ensures length { IfOk result (λ r. r.0.length ≡ span_of (map (λ k. k.interval.now) keys.now)) }
+        is_drawn: bool,
+    ) -> Result<(u64, TagSamples<'a>), LogError>
+        ensures figures { IfOk result (λ r. AreFiguresOf r.1.sum.histogram r.1.figures) }
+        ensures length { IfOk result (λ r. r.0 ≡ span_of (map (λ k. k.interval.now) keys.now)) }
     {
         let tag = keys.first().map_or("", |key| key.interval.name());
         let mut sum = Sum::new(alloc)?;
@@ -137,54 +189,90 @@ impl<'a> Sums<'a> {
             sum.add(&self.point)?;
             if let Some(point) = point {
                 self.add_total(&point);
-                push_cells(&mut cells, point.point, &self.point.histogram)?;
-                points.push(point)?;
+                if is_drawn {
+                    push_cells(&mut cells, point.point, &self.point.histogram)?;
+                    points.push(point)?;
+                }
             }
         }
-        let figures = TagFigures {
+        let figures = sum.figures();
+        let length = length_of(keys);
+        let starts = self.take_starts(alloc)?;
+        let samples = TagSamples {
             tag,
-            figures: sum.figures(self.level),
-            length: length_of(keys),
+            figures,
+            sum,
             points,
+            cells,
+            starts,
         };
-        Ok((figures, TagSamples { tag, sum, cells }))
+        Ok((length, samples))
+    }
+
+    /// Returns when the intervals with samples of a tag begin, in order, and removes them.
+    fn take_starts(&mut self, alloc: Global) -> Result<Vec<u64>, AllocError> {
+        self.starts.sort()?;
+        Ok(mem::replace(&mut self.starts, Vec::new(alloc)))
     }
 
     /// Adds the intervals of a point of a tag. Returns the figures of its samples, or `None` if it
     /// has none.
     fn add_point(&mut self, keys: &[Key<'a>]) -> Result<Option<PointFigures>, LogError>
-        ensures sum { OnOk result (AddsIntervals (map (λ k. k.interval.now) keys.now)
-            (after_reset self.old.point.histogram) self.new.point.histogram) }
-        ensures figures { IfOk result (λ point. MatchOption point
-            (self.new.point.histogram.total ≡ 0)
-            (λ p. AreFiguresOf self.new.point.histogram p.figures)) }
+        ensures { IfOk result (λ point. (all : List Plain)
+            × AreHistogramsOf (map (λ k. k.interval.now) keys.now) all
+            × (self.new.point.histogram ≡ sum_of (after_reset self.old.point.histogram) all)
+            × MatchOption point (self.new.point.histogram.total ≡ 0)
+            (λ p. (p.count ≡ self.new.point.histogram.total) × ArePeaksOf all p.peaks)) }
     {
         self.point.reset();
+        self.peaks = Peaks::new();
         for key in keys {
             self.add_interval(key.interval)?;
         }
-        let figures = self.point.figures(self.level);
-        if figures.count == 0 {
+        let count = self.point.histogram.len();
+        if count == 0 {
             return Ok(None);
         }
         let point = keys.first().map_or(0, |key| key.point);
-        Ok(Some(PointFigures { point, figures }))
+        Ok(Some(PointFigures {
+            point,
+            count,
+            peaks: self.peaks,
+        }))
     }
 
     /// Adds an interval to its point.
     fn add_interval(&mut self, interval: &'a StoredInterval) -> Result<(), LogError>
-        ensures { OnOk result (AddsIntervals (interval.now ∷ [])
-            self.old.point.histogram self.new.point.histogram) }
+        ensures { OnOk result ((h : Plain)
+            × IsHeldIn (2 ^ 64 - 1) (view_of_stored interval.now).field h
+            × (self.new.point.histogram ≡ after_add (2 ^ 64 - 1) self.old.point.histogram h)
+            × (self.new.peaks ≡ peaks_with self.old.peaks h)) }
     {
         let spare = self.spare.take();
         let source = Sum::of(interval.histogram(&mut self.deserializer, spare)?);
         let is_coarser = self.point.add(&source)?;
         self.coarser = self.coarser.saturating_add(u64::from(is_coarser));
-        if !source.histogram.is_empty() {
-            let value = value_at(&source.histogram, 1, 1);
-            self.update_worst(Worst { value, interval });
-        }
+        self.peaks = self.peaks.with(&source.histogram);
+        self.add_start(interval, &source.histogram)?;
         self.spare = Some(source.histogram);
+        Ok(())
+    }
+
+    /// Adds the start of an interval with samples, and compares its greatest value.
+    fn add_start(
+        &mut self,
+        interval: &'a StoredInterval,
+        histogram: &Histogram<u64>,
+    ) -> Result<(), AllocError>
+        ensures point { self.new.point ≡ self.old.point }
+        ensures peaks { self.new.peaks ≡ self.old.peaks }
+    {
+        if histogram.is_empty() {
+            return Ok(());
+        }
+        let value = value_at(histogram, 1, 1);
+        self.update_worst(Worst { value, interval });
+        self.starts.push(interval.start)?;
         Ok(())
     }
 
@@ -194,6 +282,7 @@ impl<'a> Sums<'a> {
             (λ w. (IsWorse other.entry w → self.new.worst ≡ Some other.entry)
             × ((IsWorse other.entry w → ⊥) → self.new.worst ≡ Some w)) }
         ensures point { self.new.point ≡ self.old.point }
+        ensures peaks { self.new.peaks ≡ self.old.peaks }
     {
         match &self.worst {
             Some(worst) if !other.is_worse(worst) => {}
@@ -205,11 +294,13 @@ impl<'a> Sums<'a> {
     fn add_total(&mut self, point: &PointFigures)
         ensures totals { MatchOption (slice_get self.old.totals.items point.now.point)
             (self.new.totals ≡ self.old.totals)
-            (λ t. self.new.totals.items ≡ slice_set self.old.totals.items point.now.point (with_figures t point.now.figures)) }
+            (λ t. self.new.totals.items
+            ≡ slice_set self.old.totals.items point.now.point
+            (with_samples t point.now.count point.now.peaks.max)) }
     {
         if let Some(total) = self.totals.get_mut(point.point) {
-            total.count = total.count.saturating_add(point.figures.count);
-            total.max = Some(total.max.unwrap_or(0).max(point.figures.max));
+            total.count = total.count.saturating_add(point.count);
+            total.max = Some(total.max.unwrap_or(0).max(point.peaks.max));
         }
     }
 }

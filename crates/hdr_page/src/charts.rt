@@ -1,6 +1,8 @@
 //! The drawings of a page: all tags over time, percentiles, and each tag with its heat map.
 
+mod bands;
 pub(crate) mod detail;
+mod emphasis;
 mod ending;
 mod field;
 mod frame;
@@ -8,8 +10,11 @@ pub(crate) mod legend;
 mod over_time;
 pub(crate) mod percentiles;
 mod rates;
+mod readout;
 mod tag_drawing;
+mod time_axis;
 
+use crate::charts::bands::push_pattern;
 use crate::charts::detail::detail_of;
 use crate::charts::over_time::push_over_time;
 use crate::charts::percentiles::{push_percentiles, quantiles};
@@ -27,6 +32,7 @@ pub(crate) fn push_drawings(view: &View<'_>, text: &mut String) -> Result<(), Al
         details.push(detail_of(view.alloc, samples, points, &rows, &quantiles)?)?;
     }
     let has_times = !view.is_instant();
+    push_pattern(text)?;
     text.push_str(if has_times {
         "<div class=\"two\">\n"
     } else {
@@ -38,7 +44,7 @@ pub(crate) fn push_drawings(view: &View<'_>, text: &mut String) -> Result<(), Al
         text.push_str("</div>\n<div class=\"two\">\n")?;
     }
     if has_times {
-        for (index, (tag, detail)) in view.log.drawn_tags().iter().zip(details.iter()).enumerate() {
+        for (index, (tag, detail)) in view.log.drawn.iter().zip(details.iter()).enumerate() {
             push_tag_drawing(view, text, index, tag, detail)?;
         }
     }

@@ -22,7 +22,7 @@ pub fn rows(alloc: Global, intervals: &LogIntervals) -> Result<String, LogError>
         write_field(&mut table, name)?;
     }
     end_row(&mut table)?;
-    let verdict = verdict_of(alloc, &intervals.list, None)?;
+    let verdict = verdict_of(alloc, &intervals.list, &[])?;
     let times = lettered_times(alloc, &verdict)?;
     let mut deserializer = Deserializer::new(alloc);
     let mut spare = None;

@@ -4,14 +4,14 @@ use std::alloc::AllocError;
 
 /// The colours of tags, on white.
 const LIGHT: [&str; 10] = [
-    "#123eb2", "#842b02", "#15a194", "#904e81", "#9f73f7", "#a69239", "#0c82bf", "#5d202f",
-    "#447924", "#5e5656",
+    "#1234af", "#842b02", "#159795", "#904d81", "#9f6bf7", "#a38439", "#0b78bf", "#5d202f",
+    "#437224", "#5f5055",
 ];
 
 /// The colours of tags, on black.
 const DARK: [&str; 10] = [
-    "#4476ee", "#b4481e", "#30fac2", "#dc6da2", "#c4affd", "#9ba003", "#069ce4", "#eba0a4",
-    "#ade74e", "#6b706b",
+    "#4377ef", "#cc491e", "#30fac1", "#dc75a4", "#c4afff", "#9ba103", "#0a9ce8", "#eba0a3",
+    "#ace74e", "#6b796c",
 ];
 
 /// The colours of heat maps, on white, from few samples to many.
@@ -72,7 +72,11 @@ line-height:15px;text-align:left;color:var(--soft)}.d .o{padding-left:21px}
 .e{text-anchor:end}.m{text-anchor:middle}text.b{fill:var(--ink)}
 path{fill:none;vector-effect:non-scaling-stroke;stroke-linejoin:round}
 .g{stroke:var(--thin)}.G{stroke:var(--line)}
-.band,.gap{fill:var(--band)}
+.break{stroke:var(--soft);stroke-width:1.5;stroke-dasharray:2 3}
+.band{fill:var(--band)}.gap{fill:url(#hatch)}
+.x{stroke:var(--ink);stroke-opacity:.12;stroke-width:3;vector-effect:none}
+.rose{stroke:var(--t);stroke-width:2.5}.usual{stroke:var(--t);stroke-width:1;stroke-dasharray:3 2}
+.u{paint-order:stroke;stroke:var(--bg);stroke-width:3px;stroke-linejoin:round}
 .level{stroke:var(--ink);stroke-width:1.5;stroke-dasharray:7 4}
 .h{vector-effect:none;stroke-width:1;shape-rendering:crispEdges}
 .c{stroke:var(--t);stroke-width:2}
@@ -82,8 +86,11 @@ stroke-width:1.5}.top{stroke:var(--ink);stroke-width:1.5}
 fill:var(--soft);fill-opacity:.45}
 .z{stroke-width:1.2}
 .dash{stroke-dasharray:5 2.5}
-.sw{float:right;margin:0 0 0 5px;font-size:13px;color:var(--soft)}input.sw{margin:4px 0 0 14px}
-#yn:checked~.log,#yl:checked~.lin{display:none}
+.sw{float:right;border:0;margin:0;padding:0;font-size:13px;color:var(--soft)}
+.sw legend{position:absolute;width:1px;height:1px;overflow:hidden;clip-path:inset(50%)}
+.sw input{margin:4px 5px 0 14px;vertical-align:top}
+figure:has(#yn:checked) .log,figure:has(#yl:checked) .lin{display:none}
+.r{fill:transparent}
 @media(min-width:1000px){.two{grid-template-columns:repeat(2,minmax(0,1fr))}.one{
 grid-template-columns:minmax(0,1fr);max-width:900px}}
 @media(max-width:700px){
@@ -101,7 +108,8 @@ td:nth-child(2)::after{content:' samples';white-space:pre;color:var(--soft)}
 td:nth-child(3)::before{content:'per s'}td:nth-child(4){display:none}
 td:nth-child(5)::before{content:'p50'}td:nth-child(6)::before{content:'p90'}
 td:nth-child(7)::before{content:'p99'}td:nth-child(8)::before{content:'p99.9'}
-td:nth-child(9)::before{content:'max'}
+td:nth-child(9)::before{content:'max'}td:nth-child(10)::before{content:'slow'}
+td:empty{display:none}
 td i{width:1.8em}
 }
 @media print{body{padding:0;max-width:none;font-size:12px}.say{font-size:16px}figure,tr{

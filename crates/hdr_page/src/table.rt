@@ -2,8 +2,9 @@
 
 use crate::charts::legend::push_mark;
 use hdr_draw::number::{push_grouped, push_rate};
-use hdr_figures::figures::{DRAWN, Figures, TagFigures};
+use hdr_figures::figures::{DRAWN, Figures};
 use hdr_view::amount::Amount;
+use hdr_view::clock::push_length;
 use hdr_view::name::IN_TABLE;
 use hdr_view::view::View;
 use std::alloc::AllocError;
@@ -17,7 +18,7 @@ const COLUMNS: usize = 5;
 const HEAD: &str = "<table><thead><tr><th scope=\"col\">tag</th><th scope=\"col\">samples</th>\
 <th scope=\"col\">samples/s</th><th scope=\"col\">mean</th><th scope=\"col\">p50</th>\
 <th scope=\"col\">p90</th><th scope=\"col\">p99</th><th scope=\"col\">p99.9</th>\
-<th scope=\"col\">max</th></tr></thead><tbody>";
+<th scope=\"col\">max</th><th scope=\"col\">slow</th></tr></thead><tbody>";
 
 /// Returns the values of the columns of quantiles.
 fn columns(figures: &Figures) -> [u64; COLUMNS] {
@@ -62,27 +63,21 @@ pub(crate) fn push_table(view: &View<'_>, text: &mut String) -> Result<(), Alloc
         let length = view.timeline.last.saturating_sub(view.timeline.first);
         text.push_str("<tr class=all><th scope=row>all")?;
         push_row(view, text, &view.log.all, length, &[None; COLUMNS])?;
+        text.push_str("<td>\n")?;
     }
-    let more = view.log.tags.len().saturating_sub(OPEN);
-    for (index, tag) in view.log.tags.iter().enumerate() {
-        if index == OPEN {
+    let more = view.order.len().saturating_sub(OPEN);
+    for (position, index) in view.order.iter().enumerate() {
+        if position == OPEN {
             push_fold(text, more)?;
         }
-        push_tag_row(view, text, index, tag, &bold)?;
+        push_tag_row(view, text, position, *index, &bold)?;
     }
     text.push_str("</tbody></table>")?;
     if more > 0 {
         text.push_str("</details>")?;
     }
     text.push_str("\n")?;
-    if view.log.tags.len() > DRAWN {
-        writeln!(
-            text,
-            "<p class=\"soft\">Drawings show the {DRAWN} tags with the most samples; \
-             \"all\" counts every tag.</p>"
-        )?;
-    }
-    Ok(())
+    push_drawn(view, text)
 }
 
 /// Ends the table, and begins one of more tags that is opened by a click.
@@ -97,23 +92,58 @@ fn push_fold(text: &mut String, more: usize) -> Result<(), AllocError> {
     text.push_str(HEAD)
 }
 
-/// Appends the row of a tag.
+/// Appends which tags are drawn, unless all are.
+fn push_drawn(view: &View<'_>, text: &mut String) -> Result<(), AllocError> {
+    if view.order.len() <= DRAWN {
+        return Ok(());
+    }
+    text.push_str("<p class=\"soft\">Drawings show the ")?;
+    if view.naming.named.is_empty() {
+        write!(text, "{DRAWN} tags with the most samples")?;
+    } else {
+        write!(
+            text,
+            "first {DRAWN} tags: those of the incidents, and then those with the most samples"
+        )?;
+    }
+    text.push_str("; \"all\" counts every tag.</p>\n")
+}
+
+/// Appends the row of the tag of an index.
 fn push_tag_row(
     view: &View<'_>,
     text: &mut String,
+    position: usize,
     index: usize,
-    tag: &TagFigures<'_>,
     bold: &[Option<u64>; COLUMNS],
 ) -> Result<(), AllocError> {
+    let Some(tag) = view.log.tags.get(index) else {
+        return Ok(());
+    };
     text.push_str("<tr><th scope=row>")?;
-    if index < DRAWN && !view.is_single() {
-        push_mark(text, index)?;
+    if position < DRAWN && !view.is_single() {
+        push_mark(text, position)?;
     }
     view.push_isolated(text, tag.tag, IN_TABLE)?;
-    push_row(view, text, &tag.figures, tag.length, bold)
+    push_row(view, text, &tag.figures, tag.length, bold)?;
+    text.push_str("<td>")?;
+    push_slow(view, text, index)?;
+    text.push_str("\n")
 }
 
-/// Appends the cells of a row after its name.
+/// Appends how long the tag of an index was slow, if it was.
+pub(crate) fn push_slow(
+    view: &View<'_>,
+    text: &mut String,
+    index: usize,
+) -> Result<(), AllocError> {
+    match view.slow.get(index) {
+        Some(length @ 1..) => push_length(text, *length),
+        _ => Ok(()),
+    }
+}
+
+/// Appends the cells of a row between its name and the last one.
 fn push_row(
     view: &View<'_>,
     text: &mut String,
@@ -143,7 +173,7 @@ fn push_row(
             amount.is_some() && *bold == Some(*value),
         )?;
     }
-    text.push_str("\n")
+    Ok(())
 }
 
 /// Appends a cell.

@@ -99,14 +99,39 @@ impl Clock {
                 }
             }
         }
-        let hours = in_day / 3_600;
-        let minutes = in_day / 60 % 60;
-        let seconds = in_day % 60;
-        write!(text, "{hours:02}:{minutes:02}")?;
-        if style == TimeStyle::Short && seconds == 0 {
-            return Ok(());
+        if style == TimeStyle::Short && in_day % 60 == 0 {
+            let hours = in_day / 3_600;
+            let minutes = in_day / 60 % 60;
+            return write!(text, "{hours:02}:{minutes:02}");
         }
-        write!(text, ":{seconds:02}")
+        push_time_of_day(text, time)
+    }
+
+    /// Appends from when to when a log is, in UTC, with the day or both days.
+    pub(crate) fn push_range(
+        self,
+        text: &mut String,
+        first: u64,
+        last: u64,
+    ) -> Result<(), AllocError> {
+        push_time_of_day(text, first)?;
+        if self.has_days {
+            push_date(text, first)?;
+            text.push_str(",")?;
+        }
+        text.push_str(" to ")?;
+        push_time_of_day(text, last)?;
+        text.push_str(" UTC")?;
+        push_date(text, last)
+    }
+
+    /// Appends the day of a time, in milliseconds since the epoch, such as `26 Nov`, or the time since
+    /// the start.
+    pub fn push_day_of(self, text: &mut String, time: u64) -> Result<(), AllocError> {
+        match civil(time) {
+            Some(date) if self.has_clock => push_day(text, date),
+            _ => self.push_since_start(text, time),
+        }
     }
 
     /// Appends a time since the start.
@@ -121,18 +146,27 @@ impl Clock {
         let minutes = since / 60;
         write!(text, "{minutes}:{seconds:02}")
     }
+}
 
-    /// Appends the day of a time with its year after a comma, such as `, 25 November 2026`. A year
-    /// past 9999 is left out.
-    pub(crate) fn push_date(self, text: &mut String, time: u64) -> Result<(), AllocError> {
-        let Some(date) = civil(time) else {
-            return Ok(());
-        };
-        let day = date.day();
-        let month = month_name(date);
-        let year = date.year();
-        write!(text, ", {day} {month} {year}")
-    }
+/// Appends the time of day of milliseconds since the epoch, in UTC.
+fn push_time_of_day(text: &mut String, time: u64) -> Result<(), AllocError> {
+    let in_day = time % DAY / 1_000;
+    let hours = in_day / 3_600;
+    let minutes = in_day / 60 % 60;
+    let seconds = in_day % 60;
+    write!(text, "{hours:02}:{minutes:02}:{seconds:02}")
+}
+
+/// Appends the day of a time with its year after a comma, such as `, 25 November 2026`. A year past
+/// 9999 is left out.
+fn push_date(text: &mut String, time: u64) -> Result<(), AllocError> {
+    let Some(date) = civil(time) else {
+        return Ok(());
+    };
+    let day = date.day();
+    let month = month_name(date);
+    let year = date.year();
+    write!(text, ", {day} {month} {year}")
 }
 
 /// Appends a length of time in at most two units, from milliseconds.

@@ -137,15 +137,7 @@ impl View<'_> {
     /// Appends which percentiles rose: the shortest one, and the one that rose most.
     fn push_slowness(&self, text: &mut String, incident: &Incident) -> Result<(), AllocError> {
         let rises = &incident.heaviest.rises;
-        let mut most = 0;
-        for (index, rise) in rises.iter().enumerate() {
-            if rises
-                .get(most)
-                .is_some_and(|other| has_risen_more(rise, other))
-            {
-                most = index;
-            }
-        }
+        let most = most_risen(rises);
         for (index, rise) in rises.iter().enumerate() {
             if index == 0 || index == most {
                 text.push_str(", ")?;
@@ -190,6 +182,20 @@ impl View<'_> {
             PageForm::Plain => " -> ",
         })
     }
+}
+
+/// Returns the index of the first of the values that are the most times their usual ones.
+pub fn most_risen(rises: &[Rise]) -> usize {
+    let mut most = 0;
+    for (index, rise) in rises.iter().enumerate() {
+        if rises
+            .get(most)
+            .is_some_and(|other| has_risen_more(rise, other))
+        {
+            most = index;
+        }
+    }
+    most
 }
 
 /// Whether a value is more times its usual one than another.

@@ -5,10 +5,11 @@
 pub mod amount;
 pub mod clock;
 mod description;
-mod incidents;
+pub mod incidents;
 pub mod name;
 pub mod naming;
 pub mod options;
+mod order;
 mod sentence;
 mod tested;
 pub mod view;

@@ -1,6 +1,6 @@
 //! The incidents that are named by letters.
 
-use hdr_verdict::{EpisodeKind, Incident};
+use hdr_verdict::{Episode, EpisodeKind, Incident};
 use std::alloc::{AllocError, Global};
 
 /// The most letters.
@@ -55,8 +55,16 @@ pub(crate) fn tags_of(alloc: Global, incident: &Incident) -> Result<Vec<usize>, 
     Ok(tags)
 }
 
+/// Returns the episode of a tag in an incident.
+pub fn episode_of(incident: &Incident, tag: usize) -> Option<&Episode> {
+    if incident.heaviest.tag == tag {
+        return Some(&incident.heaviest);
+    }
+    incident.joined.iter().find(|episode| episode.tag == tag)
+}
+
 /// Appends an index.
-fn push(indices: &mut Vec<usize>, index: usize) -> Result<(), AllocError> {
+pub(crate) fn push(indices: &mut Vec<usize>, index: usize) -> Result<(), AllocError> {
     indices.push(index).map_err(|_| AllocError)
 }
 

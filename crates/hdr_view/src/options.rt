@@ -14,11 +14,12 @@ pub struct PageOptions<'a> {
     pub title: &'a str,
     /// The unit of the log's values, if it is known.
     pub unit: Option<Unit>,
-    pub level: Option<PageLevel>,
+    /// The levels that values should not exceed, each once.
+    pub levels: &'a [PageLevel],
 }
 
 /// Appends the percentile of a level, such as `p99.9`.
-pub(crate) fn push_percentile(text: &mut String, level: PageLevel) -> Result<(), AllocError>
+pub fn push_percentile(text: &mut String, level: PageLevel) -> Result<(), AllocError>
     ensures { 0 < level.den → OnOk result ((added : List ℕ)
         × IsDecimalOf (level.num * 100) level.den added
         × (string_bytes text.new ≡ string_bytes text.old ++ (codes "p" ++ added))) }

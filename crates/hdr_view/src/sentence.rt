@@ -1,6 +1,6 @@
 //! The title, the sentence on all samples, and how long the log is.
 
-use crate::clock::{TimeStyle, push_length};
+use crate::clock::push_length;
 use crate::name::{IN_SLOW_TIME, IN_TITLE};
 use crate::naming::{is_slow, tags_of};
 use crate::view::View;
@@ -72,7 +72,7 @@ impl View<'_> {
             self.push_missing(text)?;
             text.push_str(". ")?;
             self.push_greatest(text)?;
-            self.push_level_verdict(text)?;
+            self.push_level_verdicts(text)?;
         }
         self.push_markup(text, "</p>")?;
         text.push_str("\n")
@@ -216,11 +216,8 @@ impl View<'_> {
     /// Appends from when to when the log is, and ends the paragraph.
     fn push_zone(&self, text: &mut String) -> Result<(), AllocError> {
         if self.timeline.has_clock() {
-            self.clock.push(text, self.timeline.first, TimeStyle::Full)?;
-            text.push_str(" to ")?;
-            self.clock.push(text, self.timeline.last, TimeStyle::Full)?;
-            text.push_str(" UTC")?;
-            self.clock.push_date(text, self.timeline.first)?;
+            self.clock
+                .push_range(text, self.timeline.first, self.timeline.last)?;
         } else {
             text.push_str("Times are since the start, as the log has no clock time")?;
         }

@@ -1,4 +1,4 @@
-//! What was tested, by which rule, and the level.
+//! What was tested, by which rule, and the levels.
 
 use crate::clock::{TimeStyle, push_length};
 use crate::incidents::push_tail;
@@ -11,7 +11,7 @@ use hdr_verdict::{FEWEST_BLOCKS, Span, TagFindings, Tail, all_tails, fewest_samp
 use std::alloc::AllocError;
 use std::cmp::Reverse;
 
-/// The most tags over the level that are named, and the most times of each.
+/// The most tags over a level that are named, and the most times of each.
 const MOST_OVER: usize = 5;
 
 const MOST_TIMES: usize = 3;
@@ -94,21 +94,22 @@ impl View<'_> {
         )
     }
 
-    /// Appends which tags keep the level, and when the others did not.
-    pub(crate) fn push_level_verdict(&self, text: &mut String) -> Result<(), AllocError> {
-        let Some(level) = self.options.level else {
-            return Ok(());
-        };
-        let mut others = Vec::new(self.alloc);
-        for (index, tag) in self.log.tags.iter().enumerate() {
-            if level.verdict(&tag.figures) != Verdict::Within {
-                let value = tag.figures.at_level;
-                others
-                    .push((Reverse(value), index))
-                    .map_err(|_| AllocError)?;
-            }
+    /// Appends for each level which tags keep it, and when the others did not.
+    pub(crate) fn push_level_verdicts(&self, text: &mut String) -> Result<(), AllocError> {
+        for (at, level) in self.options.levels.iter().enumerate() {
+            self.push_level_verdict(text, at, *level)?;
         }
-        others.sort()?;
+        Ok(())
+    }
+
+    /// Appends which tags keep the level of an index, and when the others did not.
+    fn push_level_verdict(
+        &self,
+        text: &mut String,
+        at: usize,
+        level: PageLevel,
+    ) -> Result<(), AllocError> {
+        let others = self.tags_over(at, level)?;
         let tags = self.log.tags.len();
         text.push_str(" ")?;
         self.push_markup(text, "<b>")?;
@@ -122,7 +123,7 @@ impl View<'_> {
         self.push_markup(text, "</b>")?;
         for (_, index) in others.iter().take(MOST_OVER) {
             text.push_str("; ")?;
-            self.push_over(text, level, *index)?;
+            self.push_over(text, at, level, *index)?;
         }
         let more = others.len().saturating_sub(MOST_OVER);
         if more > 0 {
@@ -131,30 +132,53 @@ impl View<'_> {
         text.push_str(".")
     }
 
-    /// Appends a tag that is over the level or may be, its value, and when it was over.
+    /// Returns the tags that are over the level of an index or may be, those with the greatest values
+    /// first.
+    fn tags_over(
+        &self,
+        at: usize,
+        level: PageLevel,
+    ) -> Result<Vec<(Reverse<u64>, usize)>, AllocError> {
+        let mut over = Vec::new(self.alloc);
+        for (index, tag) in self.log.tags.iter().enumerate() {
+            match tag.at_levels.get(at) {
+                Some(value) if level.verdict(*value) != Verdict::Within => over
+                    .push((Reverse(value.value), index))
+                    .map_err(|_| AllocError)?,
+                _ => {}
+            }
+        }
+        over.sort()?;
+        Ok(over)
+    }
+
+    /// Appends a tag that is over the level of an index or may be, its value, and when it was over.
     fn push_over(
         &self,
         text: &mut String,
+        at: usize,
         level: PageLevel,
         index: usize,
     ) -> Result<(), AllocError> {
-        let Some(tag) = self.log.tags.get(index) else {
+        let tag = self.log.tags.get(index);
+        let Some(value) = tag.and_then(|tag| tag.at_levels.get(at)) else {
             return Ok(());
         };
         self.push_tag_at(text, index)?;
         text.push_str(" ")?;
-        if level.verdict(&tag.figures) == Verdict::MayBeOver {
+        if level.verdict(*value) == Verdict::MayBeOver {
             text.push_str("may be over: the class of its value ends at ")?;
-            return self.units.push_label(text, tag.figures.highest_at_level);
+            return self.units.push_label(text, value.highest);
         }
-        self.units.push(text, tag.figures.at_level)?;
-        match self.verdict.tags.get(index) {
-            Some(found) if !self.is_instant() => self.push_times_over(text, &found.over),
+        self.units.push(text, value.value)?;
+        let found = self.verdict.tags.get(index);
+        match found.and_then(|found| found.over.get(at)) {
+            Some(over) if !self.is_instant() => self.push_times_over(text, over),
             _ => Ok(()),
         }
     }
 
-    /// Appends when a tag was over the level.
+    /// Appends when a tag was over a level.
     fn push_times_over(&self, text: &mut String, over: &[Span]) -> Result<(), AllocError> {
         for (at, span) in over.iter().take(MOST_TIMES).enumerate() {
             text.push_str(if at == 0 { ", broken from " } else { " and " })?;

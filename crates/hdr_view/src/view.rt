@@ -1,24 +1,25 @@
 //! What a page shows.
 
-ghost use Rattle.std.specs.Prelude.{ℕ, ◌≡◌, ◌≤◌, ◌<◌, ◌↔◌, ◌==◌, IfOk, IfSome, IsSome, IsTrue, length, []};
-ghost use Rattle.std.specs.List.{All};
+ghost use Rattle.std.specs.Prelude.{ℕ, ◌≡◌, ◌≤◌, ◌<◌, ◌↔◌, ◌==◌, IfOk, IsSome, IsTrue, length, []};
+ghost use Rattle.std.specs.List.{All, AllZip};
 ghost use Rattle.hdr_draw.specs.Scales.{IsValueScale};
 ghost use Rattle.hdr_logs.specs.Stored.{HaveSameDecimals, decimals_of};
-ghost use Rattle.hdr_view.specs.Views.{figure_of, name_without_tag};
+ghost use Rattle.hdr_view.specs.Views.{IsLevelOf, figure_of, name_without_tag};
 
 use crate::amount::Units;
 use crate::clock::Clock;
 use crate::name::{push_shown, shortened};
 use crate::naming::Naming;
 use crate::options::PageOptions;
+use crate::order::{named_incidents, order_of, slow_lengths};
 use hdr_draw::path::Joint;
 use hdr_draw::values::ValueScale;
-use hdr_figures::figures::{Figures, LogFigures, TagFigures};
+use hdr_figures::figures::{DRAWN, LogFigures, Peaks, TagSamples};
 use hdr_figures::level::PageLevel;
 use hdr_figures::sums::figures_of;
 use hdr_figures::timeline::Timeline;
 use hdr_logs::{LogError, LogIntervals};
-use hdr_verdict::{Level, LogVerdict, Tail, verdict_of};
+use hdr_verdict::{Incident, Level, LogVerdict, Tail, verdict_of};
 use std::alloc::{AllocError, Global};
 
 /// The form of a page.
@@ -43,6 +44,11 @@ pub struct View<'a> {
     pub log: LogFigures<'a>,
     pub verdict: LogVerdict<'a>,
     pub naming: Naming,
+    /// The indices of the tags in the order of the table: those of incidents that are named, and then
+    /// the ones with the most samples. The first `DRAWN` are drawn.
+    pub order: Vec<usize>,
+    /// How long each tag was slow, in milliseconds.
+    pub slow: Vec<u64>,
 }
 
 impl<'a> View<'a> {
@@ -65,22 +71,26 @@ impl<'a> View<'a> {
             return Err(LogError::UnitOfDecimals(decimals));
         }
         let timeline = Timeline::new(alloc, &intervals.list)?;
-        let level = options.level.and_then(|level| level.quantile());
-        let log = figures_of(alloc, &intervals.list, &timeline, level)?;
-        let level = options.level.and_then(|level| level_of(level));
-        let verdict = verdict_of(alloc, &intervals.list, level)?;
+        let levels = tested_levels(alloc, options.levels)?;
+        let verdict = verdict_of(alloc, &intervals.list, &levels)?;
         let naming = Naming::new(alloc, &verdict.incidents)?;
+        let order = order_of(alloc, verdict.tags.len(), &verdict.incidents, &naming)?;
+        let drawn = drawn_names(alloc, &verdict, &order)?;
+        let log = figures_of(alloc, &intervals.list, &timeline, options.levels, &drawn)?;
+        let slow = slow_lengths(alloc, verdict.tags.len(), &verdict.incidents)?;
         Ok(View {
             alloc,
             form,
             options,
             units: Units::new(options.unit),
-            timeline,
             clock: Clock::new(&timeline),
+            timeline,
             intervals: intervals.list.len(),
             log,
             verdict,
             naming,
+            order,
+            slow,
         })
     }
 
@@ -98,31 +108,50 @@ impl<'a> View<'a> {
         self.timeline.points <= 1
     }
 
-    /// Returns the least value, or the level if that is less.
+    /// Returns the least value, or the least level if that is less.
     fn least(&self) -> u64
         ensures below { result ≤ self.now.log.all.min }
-        ensures level { IfSome self.now.options.level (λ l. result ≤ l.value) }
+        ensures levels { All (λ l. result ≤ l.value) self.now.options.levels.now }
     {
-        let level = self.options.level.map_or(u64::MAX, |level| level.value);
-        self.log.all.min.min(level)
+        let mut least = self.log.all.min;
+        for level in self.options.levels {
+            least = least.min(level.value);
+        }
+        least
     }
 
-    /// Returns the greatest value, or the level if that is greater.
+    /// Returns the greatest value, or the greatest level if that is greater.
     pub fn greatest(&self) -> u64
         ensures some { 1 ≤ result }
         ensures above { self.now.log.all.max ≤ result }
-        ensures level { IfSome self.now.options.level (λ l. l.value ≤ result) }
+        ensures levels { All (λ l. l.value ≤ result) self.now.options.levels.now }
     {
-        let level = self.options.level.map_or(0, |level| level.value);
-        self.log.all.max.max(level).max(1)
+        let mut greatest = self.log.all.max.max(1);
+        for level in self.options.levels {
+            greatest = greatest.max(level.value);
+        }
+        greatest
     }
 
-    /// Returns the scale of all values, and of the level.
+    /// Returns the scale of all values, and of the levels.
     pub fn scale(&self) -> ValueScale
         ensures { (least : ℕ) × (greatest : ℕ) × IsValueScale result least greatest
             × (least ≤ self.now.log.all.min) × (self.now.log.all.max ≤ greatest) }
     {
         ValueScale::new(self.least(), self.greatest())
+    }
+
+    /// Returns the incidents that are named, the heaviest first.
+    pub fn named_incidents(&self) -> Result<Vec<&Incident>, AllocError> {
+        named_incidents(self.alloc, &self.verdict.incidents, &self.naming)
+    }
+
+    /// Returns when a drawn tag has samples again, from a time on.
+    pub fn next_samples(&self, tag: usize, time: u64) -> Option<u64> {
+        let mut drawn = self.order.iter().zip(&self.log.drawn);
+        let (_, samples) = drawn.find(|(index, _)| **index == tag)?;
+        let next = samples.starts.partition_point(|start| *start < time);
+        samples.starts.get(next).copied()
     }
 
     /// Appends the name of a tag, with at most a number of columns.
@@ -175,8 +204,39 @@ impl<'a> View<'a> {
     }
 }
 
+/// Returns levels as those of tails.
+fn tested_levels(alloc: Global, levels: &[PageLevel]) -> Result<Vec<Option<Level>>, AllocError>
+    ensures { IfOk result (λ all. AllZip IsLevelOf levels.now all.items) }
+{
+    let mut all = Vec::new(alloc);
+    for level in levels {
+        all.push(level_of(*level))?;
+    }
+    Ok(all)
+}
+
+/// Returns the names of the tags that are drawn.
+fn drawn_names<'a>(
+    alloc: Global,
+    verdict: &LogVerdict<'a>,
+    order: &[usize],
+) -> Result<Vec<&'a str>, AllocError> {
+    let mut names = Vec::new(alloc);
+    for index in order.iter().take(DRAWN) {
+        if let Some(tag) = verdict.tags.get(*index) {
+            match names.push(tag.tag) {
+                Ok(()) => {}
+                Err(_) => return Err(AllocError),
+            }
+        }
+    }
+    Ok(names)
+}
+
 /// Returns the level of a quantile above 0, as one of the tail that the quantile leaves out.
-fn level_of(level: PageLevel) -> Option<Level> {
+fn level_of(level: PageLevel) -> Option<Level>
+    ensures { IsLevelOf level result }
+{
     if level.num == 0 || level.num > level.den || level.den >= 1 << 63 {
         return None;
     }
@@ -195,10 +255,21 @@ pub enum Series {
     P50,
     P90,
     P99,
+    P999,
     Max,
 }
 
 impl Series {
+    /// Returns the percentile that leaves out a tail.
+    pub fn of_tail(tail: Tail) -> Series {
+        match (tail.num, tail.den) {
+            (1, 2) => Series::P50,
+            (1, 10) => Series::P90,
+            (1, 100) => Series::P99,
+            _ => Series::P999,
+        }
+    }
+
     /// Returns the joint of the levels of the line.
     pub fn joint(self) -> Joint {
         match self {
@@ -208,14 +279,15 @@ impl Series {
     }
 
     /// Returns the figure that the line shows.
-    pub fn of(self, figures: &Figures) -> u64
-        ensures { result ≡ figure_of self figures.now }
+    pub fn of(self, peaks: &Peaks) -> u64
+        ensures { result ≡ figure_of self peaks.now }
     {
         match self {
-            Series::P50 => figures.p50,
-            Series::P90 => figures.p90,
-            Series::P99 => figures.p99,
-            Series::Max => figures.max,
+            Series::P50 => peaks.p50,
+            Series::P90 => peaks.p90,
+            Series::P99 => peaks.p99,
+            Series::P999 => peaks.p999,
+            Series::Max => peaks.max,
         }
     }
 
@@ -223,13 +295,13 @@ impl Series {
     pub fn values(
         self,
         alloc: Global,
-        tag: &TagFigures<'_>,
+        tag: &TagSamples<'_>,
         points: usize,
     ) -> Result<Vec<Option<u64>>, AllocError> {
         let mut values = vec![in alloc; None; points]?;
         for point in &tag.points {
             if let Some(value) = values.get_mut(point.point) {
-                *value = Some(self.of(&point.figures));
+                *value = Some(self.of(&point.peaks));
             }
         }
         Ok(values)

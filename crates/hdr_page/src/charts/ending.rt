@@ -5,6 +5,7 @@ use crate::charts::legend::line_class;
 use hdr_draw::tenths::push_tenths;
 use hdr_draw::values::GAP;
 use hdr_view::name::AT_CURVE;
+use hdr_view::options::push_percentile;
 use hdr_view::view::View;
 use std::alloc::{AllocError, Global};
 
@@ -84,20 +85,23 @@ fn move_apart(endings: &mut Vec<Ending>, height: u32) -> Result<(), AllocError> 
     Ok(())
 }
 
-/// Adds the end of the level's line, if there is a level.
-pub(crate) fn push_level_ending(
+/// Adds the ends of the levels' lines. If there are several, each is named with its percentile.
+pub(crate) fn push_level_endings(
     view: &View<'_>,
     endings: &mut Vec<Ending>,
     field: Field,
     scale: &FieldScale,
 ) -> Result<(), AllocError> {
-    let Some(level) = view.options.level else {
-        return Ok(());
-    };
-    let mut name = String::from_str(view.alloc, "level ")?;
-    view.units.push_label(&mut name, level.value)?;
-    let y = field.y(scale, level.value);
-    endings.push(Ending::new(view.alloc, name.as_str(), y, "level")?)?;
+    for level in view.options.levels {
+        let mut name = String::from_str(view.alloc, "level ")?;
+        if view.options.levels.len() > 1 {
+            push_percentile(&mut name, *level)?;
+            name.push_str(" ")?;
+        }
+        view.units.push_label(&mut name, level.value)?;
+        let y = field.y(scale, level.value);
+        endings.push(Ending::new(view.alloc, name.as_str(), y, "level")?)?;
+    }
     Ok(())
 }
 

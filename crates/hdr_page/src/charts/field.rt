@@ -7,7 +7,7 @@ use hdr_draw::path::{Joint, Path};
 use hdr_draw::steps::step_above;
 use hdr_draw::tenths::push_tenths;
 use hdr_draw::values::{AxisTick, ValueScale};
-use hdr_figures::figures::TagFigures;
+use hdr_figures::figures::TagSamples;
 use hdr_figures::level::PageLevel;
 use hdr_view::amount::Units;
 use hdr_view::view::{Series, View};
@@ -111,7 +111,7 @@ impl Field {
     pub(crate) fn levels_of(
         self,
         view: &View<'_>,
-        tag: &TagFigures<'_>,
+        tag: &TagSamples<'_>,
         series: Series,
         scale: &FieldScale,
     ) -> Result<Vec<Option<u32>>, AllocError> {
@@ -211,20 +211,20 @@ impl Field {
         text.push_str("\"/>")
     }
 
-    /// Appends the line of the level.
-    pub(crate) fn push_level(
+    /// Appends the lines of the levels.
+    pub(crate) fn push_level_lines(
         self,
         text: &mut String,
         scale: &FieldScale,
-        level: Option<PageLevel>,
+        levels: &[PageLevel],
     ) -> Result<(), AllocError> {
-        let Some(level) = level else {
-            return Ok(());
-        };
-        self.push_begin(text)?;
-        text.push_str("<path class=\"level\" d=\"M0 ")?;
-        push_tenths(text, self.y(scale, level.value))?;
-        text.push_str("h1e3\"/></svg>")
+        for level in levels {
+            self.push_begin(text)?;
+            text.push_str("<path class=\"level\" d=\"M0 ")?;
+            push_tenths(text, self.y(scale, level.value))?;
+            text.push_str("h1e3\"/></svg>")?;
+        }
+        Ok(())
     }
 }
 

@@ -1,9 +1,10 @@
 //! The drawing of all tags over time.
 
-use crate::charts::ending::{Ending, last_level, push_level_ending};
+use crate::charts::ending::{Ending, last_level, push_level_endings};
 use crate::charts::field::{Field, FieldScale};
 use crate::charts::frame::{Frame, push_caption, push_names};
 use crate::charts::legend::line_class;
+use crate::charts::readout::push_readouts;
 use hdr_draw::path::Joint;
 use hdr_draw::values::ValueScale;
 use hdr_view::view::{Series, View};
@@ -48,15 +49,19 @@ pub(crate) fn push_over_time(view: &View<'_>, text: &mut String) -> Result<(), A
     let counts = view.log.totals.iter().map(|total| total.count);
     let counts = counts.collect::<Vec<u64>>(view.alloc)?;
     RATES.push_rates(text, &counts, view, "sum")?;
+    push_readouts(view, text, FRAME.all)?;
     text.push_str("</svg></figure>\n")
 }
 
 /// Returns the scale from the least p99 of a point.
 fn p99_scale(view: &View<'_>) -> ValueScale {
-    let mut least = view.options.level.map_or(u64::MAX, |level| level.value);
-    for tag in view.log.drawn_tags() {
+    let mut least = u64::MAX;
+    for level in view.options.levels {
+        least = least.min(level.value);
+    }
+    for tag in &view.log.drawn {
         for point in &tag.points {
-            least = least.min(point.figures.p99);
+            least = least.min(point.peaks.p99);
         }
     }
     ValueScale::new(least.min(view.greatest()), view.greatest())
@@ -69,16 +74,12 @@ fn push_p99_lines(
     scale: &FieldScale,
 ) -> Result<(), AllocError> {
     let mut endings = Vec::new(view.alloc);
-    let thin = if view.log.drawn_tags().len() > 4 {
-        " z"
-    } else {
-        ""
-    };
+    let thin = if view.log.drawn.len() > 4 { " z" } else { "" };
     let maxima = view.log.totals.iter().map(|total| total.max);
     let maxima = maxima.collect::<Vec<Option<u64>>>(view.alloc)?;
     let maxima = VALUES.levels(view.alloc, scale, &maxima)?;
     VALUES.push_begin(text)?;
-    for (index, tag) in view.log.drawn_tags().iter().enumerate().rev() {
+    for (index, tag) in view.log.drawn.iter().enumerate().rev() {
         let levels = VALUES.levels_of(view, tag, Series::P99, scale)?;
         let mut class = line_class(view.alloc, index)?;
         class.push_str(thin)?;
@@ -91,6 +92,6 @@ fn push_p99_lines(
     let y = last_level(&maxima, VALUES);
     endings.push(Ending::new(view.alloc, "max (all)", y, "top")?)?;
     endings.reverse();
-    push_level_ending(view, &mut endings, VALUES, scale)?;
+    push_level_endings(view, &mut endings, VALUES, scale)?;
     VALUES.push_endings(text, &mut endings)
 }

@@ -1,7 +1,7 @@
 //! The drawing of percentiles.
 
 use crate::charts::detail::{CurvePoint, Detail};
-use crate::charts::ending::{Ending, push_level_ending};
+use crate::charts::ending::{Ending, push_level_endings};
 use crate::charts::field::{Field, FieldScale, push_path};
 use crate::charts::frame::{Frame, push_below, push_names};
 use crate::charts::legend::line_class;
@@ -69,19 +69,18 @@ const LINEAR: Kind = Kind {
     id: "lin",
 };
 
-const HEAD: &str = "<figure><label class=\"sw\" for=\"yn\">linear</label>\
-<input class=\"sw\" type=\"radio\" name=\"y\" id=\"yn\"><label class=\"sw\" for=\"yl\">log</label>\
-<input class=\"sw\" type=\"radio\" name=\"y\" id=\"yl\" checked><h2>Percentiles</h2>\
-<figcaption>of all samples; a curve ends at its max</figcaption>";
+const HEAD: &str = "<figure><fieldset class=\"sw\"><legend>Scale of values</legend>\
+<input type=\"radio\" name=\"y\" id=\"yl\" checked><label for=\"yl\">log</label>\
+<input type=\"radio\" name=\"y\" id=\"yn\"><label for=\"yn\">linear</label></fieldset>\
+<h2>Percentiles</h2><figcaption>of all samples; a curve ends at its max</figcaption>";
 
 /// Returns the scale of quantiles.
 pub(crate) fn quantiles(view: &View<'_>) -> QuantileScale {
-    let most = view
-        .log
-        .drawn_tags()
-        .first()
-        .map_or(1, |tag| tag.figures.count);
-    QuantileScale::new(most.max(1))
+    let mut most = 1;
+    for tag in &view.log.drawn {
+        most = tag.figures.count.max(most);
+    }
+    QuantileScale::new(most)
 }
 
 /// Appends the drawing of percentiles, on a logarithmic and on a linear scale.
@@ -109,10 +108,10 @@ fn push_curves(
     push_curves_head(view, text, kind)?;
     push_quantile_axis(view, text, scale)?;
     CURVES.push_grid(view.alloc, text, scale, view.units)?;
-    CURVES.push_level(text, scale, view.options.level)?;
+    CURVES.push_level_lines(text, scale, view.options.levels)?;
     let mut endings = Vec::new(view.alloc);
     CURVES.push_begin(text)?;
-    for (index, (tag, detail)) in view.log.drawn_tags().iter().zip(details).enumerate().rev() {
+    for (index, (tag, detail)) in view.log.drawn.iter().zip(details).enumerate().rev() {
         let class = line_class(view.alloc, index)?;
         let mut path = Path::new(view.alloc, CURVES.tenths());
         path.add_curve(&points(view.alloc, &detail.curve, scale)?)?;
@@ -128,7 +127,7 @@ fn push_curves(
     }
     text.push_str("</svg>")?;
     endings.reverse();
-    push_level_ending(view, &mut endings, CURVES, scale)?;
+    push_level_endings(view, &mut endings, CURVES, scale)?;
     CURVES.push_endings(text, &mut endings)?;
     text.push_str("</svg>")
 }
@@ -141,7 +140,7 @@ fn push_curves_head(view: &View<'_>, text: &mut String, kind: Kind) -> Result<()
     title.push_str(kind.name)?;
     title.push_str(" scale")?;
     let mut description = String::new(view.alloc);
-    for (index, tag) in view.log.drawn_tags().iter().enumerate() {
+    for (index, tag) in view.log.drawn.iter().enumerate() {
         description.push_str(if index > 0 { "; " } else { "" })?;
         view.push_tag(&mut description, tag.tag, AT_CURVE)?;
         let figures = &tag.figures;
@@ -167,7 +166,7 @@ fn push_curves_head(view: &View<'_>, text: &mut String, kind: Kind) -> Result<()
     frame.push_head(view, text, title.as_str(), description.as_str())
 }
 
-/// Appends the x axis, and the line of the level's quantile.
+/// Appends the x axis, and the lines of the levels' quantiles.
 fn push_quantile_axis(
     view: &View<'_>,
     text: &mut String,
@@ -185,7 +184,7 @@ fn push_quantile_axis(
         }
     }
     text.push_str("\"/>")?;
-    if let Some(level) = view.options.level {
+    for level in view.options.levels {
         if level.num < level.den {
             let x = quantiles.place(level.den, level.den - level.num, WIDTH);
             text.push_str("<path class=\"level\" style=\"stroke-dasharray:none\" d=\"M")?;

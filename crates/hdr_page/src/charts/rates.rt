@@ -5,7 +5,7 @@ ghost use Rattle.hdr_draw.specs.Numbers.{IsDecimalOf};
 
 use crate::charts::field::Field;
 use hdr_draw::number::{push_exponent, push_fraction, push_rate, scientific};
-use hdr_figures::figures::TagFigures;
+use hdr_figures::figures::TagSamples;
 use hdr_view::view::View;
 use std::alloc::AllocError;
 
@@ -64,11 +64,11 @@ impl Rate {
 }
 
 /// Returns the least and the greatest rate of a tag at the points of time.
-pub(crate) fn rate_range(view: &View<'_>, tag: &TagFigures<'_>) -> (Rate, Rate) {
+pub(crate) fn rate_range(view: &View<'_>, tag: &TagSamples<'_>) -> (Rate, Rate) {
     let mut slowest = None;
     let mut fastest = Rate::NONE;
     for point in &tag.points {
-        let rate = Rate::at_point(view, point.point, point.figures.count);
+        let rate = Rate::at_point(view, point.point, point.count);
         slowest = Some(match slowest {
             Some(slowest) if !rate.is_below(slowest) => slowest,
             _ => rate,

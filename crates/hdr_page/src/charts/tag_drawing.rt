@@ -6,8 +6,9 @@ use crate::charts::field::{Field, FieldScale};
 use crate::charts::frame::{Frame, push_caption};
 use crate::charts::legend::{push_legend, push_mark};
 use crate::charts::rates::rate_range;
+use crate::charts::readout::push_tag_readouts;
 use hdr_draw::heat::ROWS;
-use hdr_figures::figures::TagFigures;
+use hdr_figures::figures::TagSamples;
 use hdr_view::name::{AT_CURVE, IN_TABLE};
 use hdr_view::view::{Series, View};
 use std::alloc::AllocError;
@@ -47,7 +48,7 @@ pub(crate) fn push_tag_drawing(
     view: &View<'_>,
     text: &mut String,
     index: usize,
-    tag: &TagFigures<'_>,
+    tag: &TagSamples<'_>,
     detail: &Detail,
 ) -> Result<(), AllocError> {
     push_tag_caption(view, text, index, tag, detail)?;
@@ -57,7 +58,7 @@ pub(crate) fn push_tag_drawing(
         id: id.as_str(),
         all: ALL,
         rates: RATES,
-        tag: Some(index),
+        tag: view.order.get(index).copied(),
         has_names: false,
     };
     let mut title = String::new(view.alloc);
@@ -68,14 +69,18 @@ pub(crate) fn push_tag_drawing(
     let scale = FieldScale::Logarithmic(view.scale());
     frame.push_background(view, text, &[VALUES, HEAT], &scale)?;
     push_tag_lines(view, text, tag, &scale)?;
+    if let Some(index) = view.order.get(index) {
+        VALUES.push_emphasis(view, text, tag, *index, &scale)?;
+    }
     push_heat(view, text, detail)?;
     let mut counts = vec![in view.alloc; 0u64; view.timeline.points]?;
     for point in &tag.points {
         if let Some(count) = counts.get_mut(point.point) {
-            *count = point.figures.count;
+            *count = point.count;
         }
     }
     RATES.push_rates(text, &counts, view, "through")?;
+    push_tag_readouts(view, text, tag, ALL)?;
     text.push_str("</svg></figure>\n")
 }
 
@@ -84,7 +89,7 @@ fn push_tag_caption(
     view: &View<'_>,
     text: &mut String,
     index: usize,
-    tag: &TagFigures<'_>,
+    tag: &TagSamples<'_>,
     detail: &Detail,
 ) -> Result<(), AllocError> {
     write!(text, "<figure class=\"t{index}\"><h2>")?;
@@ -99,12 +104,12 @@ fn push_tag_caption(
 }
 
 /// Returns the least and the greatest p99 and rate of a tag, its greatest value, and the slow times.
-fn description_of(view: &View<'_>, tag: &TagFigures<'_>) -> Result<String, AllocError> {
+fn description_of(view: &View<'_>, tag: &TagSamples<'_>) -> Result<String, AllocError> {
     let mut least = u64::MAX;
     let mut greatest = 0;
     for point in &tag.points {
-        least = least.min(point.figures.p99);
-        greatest = greatest.max(point.figures.p99);
+        least = least.min(point.peaks.p99);
+        greatest = greatest.max(point.peaks.p99);
     }
     let (slowest, fastest) = rate_range(view, tag);
     let mut text = String::from_str(view.alloc, "p99 between ")?;
@@ -126,7 +131,7 @@ fn description_of(view: &View<'_>, tag: &TagFigures<'_>) -> Result<String, Alloc
 fn push_tag_lines(
     view: &View<'_>,
     text: &mut String,
-    tag: &TagFigures<'_>,
+    tag: &TagSamples<'_>,
     scale: &FieldScale,
 ) -> Result<(), AllocError> {
     let low = VALUES.levels_of(view, tag, Series::P50, scale)?;
