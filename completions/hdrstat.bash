@@ -59,9 +59,9 @@ _hdrstat() {
     "summary "?*) options='-p --percentiles -f --format --output-unit -d --digits --decimals --expected-interval --unit --skip-bad -q --quiet -h --help -c --column --delimiter --no-header --from --tag --from-time --to-time --by-tag' ;;
     "check "?*) options='-i --input --allow-empty -d --digits --decimals --expected-interval --unit --skip-bad -q --quiet -h --help -c --column --delimiter --no-header --from --tag --from-time --to-time --by-tag' ;;
     "log "?*) options='--tag --time --every -d --digits --decimals --expected-interval --unit --skip-bad -q --quiet -h --help -c --column --delimiter --no-header' ;;
-    "gather "?*) options='--unsorted -q --quiet --tag --from-time --to-time -h --help' ;;
+    "gather "?*) options='--unsorted --tag-by-file -q --quiet --tag --from-time --to-time -h --help' ;;
     "convert "?*) options='--to -q --quiet --tag --from-time --to-time -h --help' ;;
-    "page "?*) options='--unit --title --level --tag --from-time --to-time -o --output --text --intervals -h --help' ;;
+    "page "?*) options='--unit --title --level --tag-by-file --align --tag --from-time --to-time -o --output --text --intervals -h --help' ;;
     "help "?*) values='summary check log gather convert page' ;;
     *) values='summary check log gather convert page help --help --version' ;;
     esac

@@ -2,6 +2,7 @@
 
 pub(crate) mod checks;
 pub(crate) mod logs;
+pub(crate) mod names;
 pub(crate) mod numbers;
 mod progress;
 

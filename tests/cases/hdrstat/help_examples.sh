@@ -14,6 +14,8 @@ seq 1 1000 >latencies.txt
 hdrstat log --tag a latencies.txt >service.log
 cp service.log host1.log
 cp service.log host2.log
+cp service.log before.log
+cp service.log after.log
 hdrstat convert --to compressed service.log >java.log
 # An example of log writes service.log with decimals, for which page has no unit.
 for subcommand in '' summary check log gather convert page; do

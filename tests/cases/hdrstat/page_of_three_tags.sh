@@ -2,4 +2,4 @@
 page=$("$1" page)
 echo "$page" | sed -n 's/<svg.*<\/svg>//; s/^<tr>//p'
 echo "$page" | grep -c '^<figure'
-echo "$page" | grep -c 'http\|src=\|href\|<script\|url(' || :
+echo "$page" | grep -c 'http\|src=\|href\|<script\|url([^#]' || :

@@ -1,3 +1,4 @@
-# Dates along 897 days, each 120 days after the one before.
-printf 't,v\n1700000000,5\n1777500799,5\n' | "$1" log -c v --time t --every 1s | "$1" page |
+# Dates along 897 days with a sample in each half of a day: each text is 120 days after the one before.
+awk 'BEGIN { print "t,v"; for (t = 1700000000; t <= 1777500799; t += 43200) print t ",5"; print "1777500799,5" }' |
+    "$1" log -c v --time t --every 1s | "$1" page |
     sed -n 's/.*<svg class="d tag"//p' | grep -o 'class="m[ n]*">[^<]*'

@@ -168,6 +168,8 @@ impl LogCounts<'_, '_> {
 }
 
 impl HistogramSink for LogCounts<'_, '_> {
+    ghost takes = { λ _ _ _ _ _. Unit {0} };
+
     fn take_histogram(
         &mut self,
         sum: usize,
@@ -206,14 +208,23 @@ fn checks_of_tag(
 ) -> Result<Vec<Check>, StatError> {
     let mut checks = Vec::new(alloc);
     for (level, counts) in levels.iter().zip(&tag.levels) {
-        let counts = match level.measure {
-            Measure::Mean => tag.sum.counts(level, decimals),
-            _ => counts.counts(),
+        let check = match level.measure {
+            Measure::Mean => check_of_mean(&tag.sum, level, decimals),
+            _ => Check {
+                counts: counts.counts(),
+                verdict: level.verdict_by_class(counts),
+            },
         };
-        let verdict = level.verdict(&counts);
-        checks.push(Check { counts, verdict })?;
+        checks.push(check)?;
     }
     Ok(checks)
+}
+
+/// Returns the check of a mean.
+fn check_of_mean(sum: &SampleSum, level: &Level<'_>, decimals: u32) -> Check {
+    let counts = sum.counts(level, decimals);
+    let verdict = level.verdict(&counts);
+    Check { counts, verdict }
 }
 
 /// Compares the samples of the chosen intervals of logs with levels: of all, or of each tag.

@@ -2,6 +2,7 @@
 
 use crate::errors::StatError;
 use crate::files::Files;
+use crate::files::names::FileNames;
 use hdr_input::Distribution;
 use hdr_logs::{LogError, LogIntervals, LogSums, Note, TagSum};
 use hdr_summary::figures::Tagged;
@@ -63,17 +64,26 @@ pub(crate) fn print_coarser(rt: &HostRuntime, sums: &LogSums<'_>, sigfig: u8) {
     }
 }
 
-/// Returns the chosen intervals of logs.
+/// Returns the chosen intervals of logs. If logs are aligned, each is laid over the first.
 pub(crate) fn read_intervals(
     files: Files<'_, '_, '_>,
     choice: IntervalChoice<'_>,
+    file_names: &FileNames,
+    is_aligned: bool,
 ) -> Result<LogIntervals, StatError> {
     let alloc = files.alloc();
     let mut intervals = LogIntervals::new(alloc);
     let read = files.read_each(|index, input| {
+        let before = intervals.list.len();
         intervals
-            .read_log(alloc, index, input, choice)
-            .map_err(|cause| files.log_error(cause))
+            .read_log(alloc, index, input, choice, file_names.name(index))
+            .map_err(|cause| files.log_error(cause))?;
+        if is_aligned {
+            intervals
+                .align_from(before)
+                .map_err(|cause| files.log_error(cause))?;
+        }
+        Ok(())
     });
     files.print_notes(intervals.notes());
     read?;

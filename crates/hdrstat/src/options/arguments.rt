@@ -113,6 +113,12 @@ pub(crate) fn with_choice<'a>(alloc: Global, command: Command<'a>) -> Result<Com
     Ok(command)
 }
 
+/// Returns the option that adds the names of files to tags.
+pub(crate) fn tag_by_file<'a>(alloc: Global) -> Arg<'a> {
+    let help = "Add the file's name to tags, as api@host1.log, after --tag has chosen";
+    flag(alloc, "tag-by-file", help)
+}
+
 /// Returns the options that choose intervals.
 fn choice<'a>(alloc: Global) -> (Arg<'a>, Arg<'a>, Arg<'a>) {
     let tag = "Only intervals of this tag, or of none if it is empty";

@@ -4,6 +4,7 @@ ghost use Rattle.std.specs.Prelude.{◌↔◌, IfSome, IsTrue};
 ghost use Rattle.hdrstat.specs.Delimiters.{IsDelimiter};
 
 use crate::errors::StatError;
+use crate::files::names::FileNames;
 use crate::files::numbers::Table;
 use clap::ArgMatches;
 use hdr_input::{Number, Recording};
@@ -191,6 +192,19 @@ pub(crate) fn choice_of<'a>(
     let from = nanoseconds_of(alloc, matches, "from-time")?.map(Duration::from_nanos);
     let to = nanoseconds_of(alloc, matches, "to-time")?.map(Duration::from_nanos);
     Ok(IntervalChoice { tags, from, to })
+}
+
+/// Returns the names of files in tags, if the arguments ask for them.
+pub(crate) fn file_names_of(
+    alloc: Global,
+    matches: &ArgMatches<'_>,
+    paths: &[&str],
+) -> Result<FileNames, StatError> {
+    if matches.get_flag("tag-by-file") {
+        FileNames::new(alloc, paths)
+    } else {
+        Ok(FileNames::none(alloc))
+    }
 }
 
 /// Returns the tag of the arguments, if there is one.

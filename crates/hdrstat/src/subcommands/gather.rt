@@ -3,8 +3,9 @@
 use crate::errors::StatError;
 use crate::files::Files;
 use crate::files::logs::read_intervals;
-use crate::options::arguments::{flag, logs, quiet, with_choice};
-use crate::options::matches::choice_of;
+use crate::files::names::FileNames;
+use crate::options::arguments::{flag, logs, quiet, tag_by_file, with_choice};
+use crate::options::matches::{choice_of, file_names_of};
 use crate::output::Output;
 use clap::{ArgMatches, Command, Error};
 use hdr_gather::{Counts, PeekableLog, gather_sorted, gather_unsorted};
@@ -18,9 +19,15 @@ They are written in order of time and then of tag. The output can be gathered ag
 Each log has to be in order of time, as logs are written: they are read side by side, in the
 memory of the intervals of one start, which are written once all logs are past it.
 
+--tag-by-file keeps the intervals of each file apart. Their tags end with @ and the name of the
+file, and intervals without a tag have that name as their tag. It is the last part of the path, or
+as many of the last parts as make the names differ, and `stdin` for standard input. `_` stands for
+a comma, a space, an end of line and @.
+
 Examples:
   hdrstat gather host1.log host2.log >all.log
   cat host1.log host2.log | hdrstat gather --unsorted >all.log
+  hdrstat gather --tag-by-file host1.log host2.log >by_host.log
 
 Status: 0; 1 if a log is invalid, or input or output fails; 2 for a usage error.";
 
@@ -31,6 +38,7 @@ pub(crate) fn command<'a>(alloc: Global) -> Result<Command<'a>, Error> {
         .about("Merge the interval logs of many hosts into one")
         .after_help(AFTER)
         .arg(flag(alloc, "unsorted", help))?
+        .arg(tag_by_file(alloc))?
         .arg(quiet(alloc))?
         .arg(logs(alloc))?;
     with_choice(alloc, command)
@@ -44,13 +52,14 @@ pub(crate) fn run(rt: &HostRuntime, matches: &ArgMatches<'_>) -> Result<ExitCode
         names: matches.get_strs("LOG").unwrap_or(&[]),
         is_quiet: matches.get_flag("quiet"),
     };
+    let file_names = file_names_of(rt.alloc(), matches, files.names)?;
     let counts = if matches.get_flag("unsorted") {
-        let intervals = read_intervals(files, choice)?;
+        let intervals = read_intervals(files, choice, &file_names, false)?;
         gather_unsorted(rt.alloc(), &intervals, &mut Output::new(rt)).map_err(
             |cause| files.log_error(cause),
         )?
     } else {
-        gather_side_by_side(files, choice)?
+        gather_side_by_side(files, choice, &file_names)?
     };
     print_finer(rt, counts);
     Ok(ExitCode::SUCCESS)
@@ -60,11 +69,12 @@ pub(crate) fn run(rt: &HostRuntime, matches: &ArgMatches<'_>) -> Result<ExitCode
 fn gather_side_by_side(
     files: Files<'_, '_, '_>,
     choice: IntervalChoice<'_>,
+    file_names: &FileNames,
 ) -> Result<Counts, StatError> {
     let alloc = files.alloc();
     let mut logs = Vec::new(alloc);
     files.read_each(|index, input| {
-        let log = PeekableLog::new(alloc, index, input, choice);
+        let log = PeekableLog::new(alloc, index, input, choice, file_names.name(index));
         logs.push(log.map_err(|cause| files.log_error(cause))?)?;
         Ok(())
     })?;
