@@ -87,7 +87,6 @@ fill:var(--soft);fill-opacity:.45}
 .z{stroke-width:1.2}
 .dash{stroke-dasharray:5 2.5}
 .sw{float:right;border:0;margin:0;padding:0;font-size:13px;color:var(--soft)}
-.sw legend{position:absolute;width:1px;height:1px;overflow:hidden;clip-path:inset(50%)}
 .sw input{margin:4px 5px 0 14px;vertical-align:top}
 figure:has(#yn:checked) .log,figure:has(#yl:checked) .lin{display:none}
 .r{fill:transparent}

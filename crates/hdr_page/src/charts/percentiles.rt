@@ -69,7 +69,7 @@ const LINEAR: Kind = Kind {
     id: "lin",
 };
 
-const HEAD: &str = "<figure><fieldset class=\"sw\"><legend>Scale of values</legend>\
+const HEAD: &str = "<figure><fieldset class=\"sw\" aria-label=\"Scale of values\">\
 <input type=\"radio\" name=\"y\" id=\"yl\" checked><label for=\"yl\">log</label>\
 <input type=\"radio\" name=\"y\" id=\"yn\"><label for=\"yn\">linear</label></fieldset>\
 <h2>Percentiles</h2><figcaption>of all samples; a curve ends at its max</figcaption>";
