@@ -46,11 +46,7 @@ fn apply_number<T: Counter>(
 /// `place`. Returns the number of its bins. Returns `None`, and sets nothing, for any other varint,
 /// for a count out of range, and past the last bin.
 #[inline(always)]
-fn put_byte<T: Counter>(
-    builder: &mut HistogramBuilder<T>,
-    place: u64,
-    bytes: &[u8],
-) -> Option<u64>
+fn put_byte<T: Counter>(builder: &mut HistogramBuilder<T>, place: u64, bytes: &[u8]) -> Option<u64>
     ensures put { IfSome result (λ moved. IsNumberPut T.greatest place bytes.now builder.old.counts
         builder.new.counts 1 moved) }
     ensures below { IfSome result (λ moved. place + moved < 2 ^ 64) }
