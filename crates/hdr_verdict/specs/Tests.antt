@@ -4,7 +4,7 @@ use Rattle.std.specs.List.{flat_map, sum_by}
 use Rattle.std.specs.Option.{option_map}
 use Rattle.hdr_verdict.specs.Usual.{usual_of, threshold_of}
 use Rattle.hdr_verdict.specs.declared.slow.Test.{Test}
-use Rattle.hdr_verdict.specs.declared.level.Level.{Level}
+use Rattle.hdr_verdict.specs.declared.level.TailLevel.{TailLevel}
 use Rattle.hdr_verdict.specs.declared.tail.Tail.{Tail}
 use Rattle.hdr_verdict.specs.declared.usual.Usual.{Usual}
 
@@ -29,5 +29,5 @@ abbrev pub AreUsualTests : List (List ℕ) → List Test → Type 0
 AreUsualTests cells tests = (tails : List Tail) × AreUsualTails tails × (tests ≡ usual_tests tails cells)
 
 -- the test of a level
-abbrev pub level_test : Level → List (List ℕ) → Test
+abbrev pub level_test : TailLevel → List (List ℕ) → Test
 level_test level cells = record { tail = level.tail; usual = option_map (λ u. u.value) (usual_in cells level.tail); threshold = level.value; is_level = true }

@@ -10,7 +10,7 @@ use Rattle.hdr_verdict.specs.Tags.{AreTagsOf, bar_of, last_end, tag_cmp, total_o
 use Rattle.hdr_verdict.specs.TagSamples.{HasSamples, cells_of}
 use Rattle.hdr_verdict.specs.Tests.{AreUsualTests, level_test}
 use Rattle.hdr_verdict.specs.declared.cell.Cell.{Cell}
-use Rattle.hdr_verdict.specs.declared.level.Level.{Level}
+use Rattle.hdr_verdict.specs.declared.level.TailLevel.{TailLevel}
 use Rattle.hdr_verdict.specs.declared.runs.Run.{Run}
 use Rattle.hdr_verdict.specs.declared.slow.SlowTime.{SlowTime}
 use Rattle.hdr_verdict.specs.declared.tags.Tag.{Tag}
@@ -23,12 +23,12 @@ abbrev pub span_of : List Cell → Run → Span
 span_of cells run = record { start = start_of cells run; end = end_of cells run }
 
 -- the times at which cells with these samples are over a level
-abbrev pub times_over : ℕ → List Cell → List (List ℕ) → Option Level → List Span
+abbrev pub times_over : ℕ → List Cell → List (List ℕ) → Option TailLevel → List Span
 times_over bar cells samples None = []
 times_over bar cells samples (Some level) = map (span_of cells) (runs_in (slow_of bar samples (level_test level samples ∷ [])))
 
 -- what is found of a tag: the tests of what is usual for its samples, and the times over levels
-pub record IsFound (bar : ℕ) (levels : List (Option Level)) (tag : Tag) (found : TagFindings) : Type 0 where
+pub record IsFound (bar : ℕ) (levels : List (Option TailLevel)) (tag : Tag) (found : TagFindings) : Type 0 where
   pub name : found.tag.now ≡ tag.name.now
   pub samples : found.samples ≡ total_of tag
   pub cells : found.cells ≡ length (cells_of tag.samples)
@@ -43,7 +43,7 @@ HasEpisodes bar end index tag found episodes = (samples : List (List ℕ)) → H
     × (episodes ≡ episodes_of index (cells_of tag.samples) end slow (missing_of bar (cells_of tag.samples)))
 
 -- what is found of tags, the first of which has this index, and their episodes, one tag after the other
-abbrev pub AreFound : (bar : ℕ) → List (Option Level) → (end index : ℕ) → List Tag → List TagFindings → List EpisodeValue → Type 0
+abbrev pub AreFound : (bar : ℕ) → List (Option TailLevel) → (end index : ℕ) → List Tag → List TagFindings → List EpisodeValue → Type 0
 AreFound bar levels end index [] found episodes = (found ≡ []) × (episodes ≡ [])
 AreFound bar levels end index (tag ∷ tags) found episodes =
     (first : TagFindings) × (others : List TagFindings) × (own : List EpisodeValue) × (more : List EpisodeValue)
@@ -51,7 +51,7 @@ AreFound bar levels end index (tag ∷ tags) found episodes =
     × AreFound bar levels end (index + 1) tags others more
 
 -- the verdict of intervals: what is found of their tags, those with the most samples first, and the incidents of all episodes
-pub record IsVerdictOf (intervals : List StoredInterval) (levels : List (Option Level)) (v : LogVerdict) : Type 0 where
+pub record IsVerdictOf (intervals : List StoredInterval) (levels : List (Option TailLevel)) (v : LogVerdict) : Type 0 where
   pub named : List Tag
   pub are : AreTagsOf intervals named
   pub tags : List Tag

@@ -4,7 +4,7 @@ use crate::tail::Tail;
 
 /// A level: a tail, and the value that it should not exceed.
 #[derive(Clone, Copy)]
-pub struct Level {
+pub struct TailLevel {
     pub tail: Tail,
     pub value: u64,
 }

@@ -37,7 +37,7 @@ pub use bar::bar_of_cells;
 pub use cell::Cell;
 pub use episode::{Episode, EpisodeKind, RateChange, TagCells, episodes_of};
 pub use incident::{Incident, incidents_of};
-pub use level::Level;
+pub use level::TailLevel;
 pub use missing::{MissingTime, missing_of};
 pub use rate::{Rate, usual_rate};
 pub use runs::{Run, RunSearch};

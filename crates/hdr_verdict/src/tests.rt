@@ -5,7 +5,7 @@ ghost use Rattle.hdr_verdict.specs.Slow.{slow_of, views_of};
 ghost use Rattle.hdr_verdict.specs.TagSamples.{HasSamples, KeepsCells};
 ghost use Rattle.hdr_verdict.specs.Tests.{AreUsualTests, level_test, usual_test, usual_tests};
 
-use crate::level::Level;
+use crate::level::TailLevel;
 use crate::samples::TagSamples;
 use crate::search::slow_of;
 use crate::slow::{SlowTime, Test};
@@ -31,7 +31,7 @@ pub struct SlowTimes {
 pub fn slow_times(
     alloc: Global,
     samples: &mut TagSamples<'_>,
-    level: Option<Level>,
+    level: Option<TailLevel>,
     bar: u64,
 ) -> Result<SlowTimes, LogError>
     requires { 0 < bar }
@@ -51,7 +51,7 @@ pub fn slow_times(
 fn tests_of(
     alloc: Global,
     samples: &mut TagSamples<'_>,
-    level: Option<Level>,
+    level: Option<TailLevel>,
 ) -> Result<Vec<Test>, LogError>
     ensures keeps { KeepsCells samples.old samples.new }
     ensures tests { IfOk result (λ tests. (cells : List (List ℕ)) → HasSamples samples.old cells
@@ -112,7 +112,7 @@ fn push_test(tests: &mut Vec<Test>, tail: Tail, usual: Option<Usual>) -> Result<
 fn level_tests(
     alloc: Global,
     samples: &mut TagSamples<'_>,
-    level: Level,
+    level: TailLevel,
 ) -> Result<Vec<Test>, LogError>
     ensures keeps { KeepsCells samples.old samples.new }
     ensures test { IfOk result (λ tests. (cells : List (List ℕ)) → HasSamples samples.old cells

@@ -9,7 +9,7 @@ ghost use Rattle.hdr_verdict.specs.Verdicts.{AreFound, HasEpisodes, IsFound, IsV
 use crate::cell::Cell;
 use crate::episode::{Episode, TagCells, episodes_of, push_episode};
 use crate::incident::{Incident, incidents_of};
-use crate::level::Level;
+use crate::level::TailLevel;
 use crate::missing::missing_of;
 use crate::runs::Run;
 use crate::samples::TagSamples;
@@ -58,7 +58,7 @@ pub struct LogVerdict<'a> {
 pub fn verdict_of<'a>(
     alloc: Global,
     intervals: &'a [StoredInterval],
-    levels: &[Option<Level>],
+    levels: &[Option<TailLevel>],
 ) -> Result<LogVerdict<'a>, LogError>
     ensures { IfOk result (IsVerdictOf intervals.now levels.now) }
 {
@@ -75,7 +75,7 @@ pub fn verdict_of<'a>(
 
 /// What is found of tags, and their episodes.
 #[derive(Drop)]
-struct Found<'a> {
+struct FoundTag<'a> {
     tags: Vec<TagFindings<'a>>,
     episodes: Vec<Episode>,
 }
@@ -85,9 +85,9 @@ fn find_all<'a>(
     alloc: Global,
     tags: Vec<Tag<'a>>,
     log_end: u64,
-    levels: &[Option<Level>],
+    levels: &[Option<TailLevel>],
     bar: u64,
-) -> Result<Found<'a>, LogError>
+) -> Result<FoundTag<'a>, LogError>
     requires { 0 < bar }
     ensures { IfOk result (λ all. AreFound bar levels.now log_end 0 tags.entry.items all.tags.items
         (map view_of_episode all.episodes.items)) }
@@ -100,7 +100,7 @@ fn find_all<'a>(
         push_episodes(&mut episodes, own)?;
         all.push(found)?;
     }
-    Ok(Found {
+    Ok(FoundTag {
         tags: all,
         episodes,
     })
@@ -123,7 +123,7 @@ fn findings_of<'a>(
     tag: Tag<'a>,
     index: usize,
     log_end: u64,
-    levels: &[Option<Level>],
+    levels: &[Option<TailLevel>],
     bar: u64,
 ) -> Result<(TagFindings<'a>, Vec<Episode>), LogError>
     requires { 0 < bar }
@@ -155,7 +155,7 @@ fn findings_of<'a>(
 fn over_levels(
     alloc: Global,
     samples: &mut TagSamples<'_>,
-    levels: &[Option<Level>],
+    levels: &[Option<TailLevel>],
     bar: u64,
 ) -> Result<Vec<Vec<Span>>, LogError>
     requires { 0 < bar }
@@ -175,7 +175,7 @@ fn over_levels(
 fn times_over(
     alloc: Global,
     samples: &mut TagSamples<'_>,
-    level: Option<Level>,
+    level: Option<TailLevel>,
     bar: u64,
 ) -> Result<Vec<Span>, LogError>
     requires { 0 < bar }

@@ -2,7 +2,7 @@
 use Rattle.std.specs.Prelude.{◌≡◌, ◌⊎◌, ℕ, ◌-◌, ◌^◌, ◌≤◌, ◌<◌, ◌==◌, if◌then◌else◌, List, Option, None, Some, codes}
 use Rattle.hdr_figures.specs.declared.figures.Peaks.{Peaks}
 use Rattle.hdr_figures.specs.declared.level.PageLevel.{PageLevel}
-use Rattle.hdr_verdict.specs.declared.level.Level.{Level}
+use Rattle.hdr_verdict.specs.declared.level.TailLevel.{TailLevel}
 use Rattle.hdr_view.specs.declared.view.Series.{Series}
 use Rattle.hdr_view.specs.declared.view.Series.TheVariants.{P50, P90, P99, P999, Max}
 
@@ -19,6 +19,6 @@ abbrev pub name_without_tag : ℕ → List ℕ
 name_without_tag tags = if tags == 1 then codes "all samples" else codes "(no tag)"
 
 -- the level of a quantile above 0, as one of the tail that the quantile leaves out; there is none of another quantile
-abbrev pub IsLevelOf : PageLevel → Option Level → Type 0
+abbrev pub IsLevelOf : PageLevel → Option TailLevel → Type 0
 IsLevelOf l None = (l.num ≡ 0) ⊎ ((l.den < l.num) ⊎ (2 ^ 63 ≤ l.den))
 IsLevelOf l (Some level) = (level.tail.num ≡ l.den - l.num) × (level.tail.den ≡ l.den) × (level.value ≡ l.value)

@@ -19,7 +19,7 @@ use hdr_figures::level::PageLevel;
 use hdr_figures::sums::figures_of;
 use hdr_figures::timeline::Timeline;
 use hdr_logs::{LogError, LogIntervals};
-use hdr_verdict::{Incident, Level, LogVerdict, Tail, verdict_of};
+use hdr_verdict::{Incident, LogVerdict, Tail, TailLevel, verdict_of};
 use std::alloc::{AllocError, Global};
 
 /// The form of a page.
@@ -205,7 +205,7 @@ impl<'a> View<'a> {
 }
 
 /// Returns levels as those of tails.
-fn tested_levels(alloc: Global, levels: &[PageLevel]) -> Result<Vec<Option<Level>>, AllocError>
+fn tested_levels(alloc: Global, levels: &[PageLevel]) -> Result<Vec<Option<TailLevel>>, AllocError>
     ensures { IfOk result (λ all. AllZip IsLevelOf levels.now all.items) }
 {
     let mut all = Vec::new(alloc);
@@ -234,13 +234,13 @@ fn drawn_names<'a>(
 }
 
 /// Returns the level of a quantile above 0, as one of the tail that the quantile leaves out.
-fn level_of(level: PageLevel) -> Option<Level>
+fn level_of(level: PageLevel) -> Option<TailLevel>
     ensures { IsLevelOf level result }
 {
     if level.num == 0 || level.num > level.den || level.den >= 1 << 63 {
         return None;
     }
-    Some(Level {
+    Some(TailLevel {
         tail: Tail {
             num: level.den - level.num,
             den: level.den,

@@ -3,7 +3,7 @@ use Rattle.std.proofs.lemmas.List.{map_push, take_more}
 use Rattle.hdr_verdict.specs.TagSamples.{cells_of}
 use Rattle.hdr_verdict.specs.Verdicts.{times_over}
 use Rattle.hdr_verdict.specs.declared.cell.Cell.{Cell}
-use Rattle.hdr_verdict.specs.declared.level.Level.{Level}
+use Rattle.hdr_verdict.specs.declared.level.TailLevel.{TailLevel}
 use Rattle.hdr_verdict.specs.declared.verdict.Span.{Span}
 use Rattle.hdr_verdict.proofs.Keeping.{keeps-both, keeps-samples}
 use Rattle.hdr_verdict.proofs.verdict.over_levels.Goals as goal
@@ -19,7 +19,7 @@ loop-level-preserved c =
       keeps = keeps-both old c.loop-level.samples c.times_over.new.samples before.keeps c.times_over.ensures.keeps;
       over = λ cells s.
           let here = keeps-samples old c.loop-level.samples cells before.keeps s in
-          let f : Option Level → List Span = times_over c.args.bar (cells_of old) cells in
+          let f : Option TailLevel → List Span = times_over c.args.bar (cells_of old) cells in
           let i = c.loop-level.level-index in
           let levels = c.args.levels.now in
           let level = c.level-item.result in
@@ -32,5 +32,5 @@ loop-level-preserved c =
 
 pub returns-clause-over : goal.returns-clause-over
 returns-clause-over c = λ cells s.
-    let f : Option Level → List Span = times_over c.args.bar (cells_of c.args.samples.now) cells in
+    let f : Option TailLevel → List Span = times_over c.args.bar (cells_of c.args.samples.now) cells in
     c.loop-level.invariant.over cells s ∙ ap (map f) (take_all c.loop-level.level-index c.args.levels.now c.loop-level-test.false)
