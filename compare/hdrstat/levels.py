@@ -101,9 +101,10 @@ def checked_line(level, samples, tally, mean):
     if level.name == "mean":
         low, high = (sum(end(it) * it.count for it in tally.in_units(samples)) / count for end in (lambda it: it.low, lambda it: it.high))
         verdict = verdict_between(level, low, high)
+        ends = hundredths(low, decimals), hundredths(high, decimals)
         if verdict == "undecided":
-            return verdict, f"{hundredths(low, decimals)}..{hundredths(high, decimals)}"
-        return verdict, hundredths(low if low == high or mean is None else mean / scale, decimals)
+            return verdict, "..".join(ends)
+        return verdict, ends[0] if ends[0] == ends[1] or mean is None else hundredths(mean / scale, decimals)
     rank = rank_of(level, count)
     low, high = at_rank(samples, rank, lambda it: it.low), at_rank(samples, rank, lambda it: it.high)
     verdict = verdict_between(level, low, high)
