@@ -1,7 +1,9 @@
 #!/usr/bin/env python3
 """Compares hdrstat with the model on random inputs.
 
-usage: compare/hdrstat/cases.py PROGRAM SEED COUNT [numbers | tables | check | logs | log_check | gather | convert | page | verdict]
+usage: compare/hdrstat/cases.py PROGRAM SEED COUNT [KIND..]
+
+KIND is numbers, tables, check, logs, log_check, gather, convert, page, verdict, groups, json, matches, times or mixed.
 
 Each case has a seed of its own, SEED:NUMBER, from which it is made. A case that differs is printed with its arguments, and its input
 is left in a file of /tmp. Status 1 if any differs.
@@ -13,13 +15,16 @@ import sys
 import tempfile
 
 sys.dont_write_bytecode = True
+from form_inputs import group_case, json_case, match_case, mixed_case
 from inputs import check_case, number_case, table_case
 from log_inputs import convert_case, gather_case, log_case, log_check_case, page_case
+from time_inputs import time_case
 from verdict_inputs import verdict_case
 
 KINDS = {
     "numbers": number_case, "tables": table_case, "check": check_case, "logs": log_case, "log_check": log_check_case, "gather": gather_case,
     "convert": convert_case, "page": page_case, "verdict": verdict_case,
+    "groups": group_case, "json": json_case, "matches": match_case, "times": time_case, "mixed": mixed_case,
 }
 
 

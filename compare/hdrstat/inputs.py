@@ -2,17 +2,18 @@
 import dataclasses
 import json
 
-from levels import UNITS, Known, checked, fraction, status_of
-from model import Failure, Options, Tally, decimal_text, rounded
+from levels import Known, checked, fraction, status_of
+from model import UNITS, Failure, Options, Tally, decimal_text, surveyed
 
 REASONS = {
     "no number": "is not a number; --skip-bad ignores such lines",
     "table": "is not a number; --column reads a column of a table, --from log an interval log",
     "negative": "is negative, and a histogram counts numbers from 0; --skip-bad ignores such lines",
-    "many decimals": "has more than 18 decimals; --decimals rounds it",
-    "decimals": "has more decimals than the numbers before it; set them by --decimals",
+    "dash": "is not a number but a mark for none; --skip-bad ignores such lines",
+    "infinite": "is infinite, and a histogram counts finite numbers; --skip-bad ignores such lines",
+    "comma": "is not a number; --skip-bad ignores such lines. With a comma it is 1234, 1.234 or a row: write it without, or read --column",
+    "duration": "is not a number; --skip-bad ignores such lines. --unit, as --unit ms, reads numbers with units of time",
     "large": "is too large: in units of its last decimal (--decimals) it has to be below 2^64",
-    "no field": "is a row without that column; --skip-bad ignores such rows",
 }
 
 
@@ -24,20 +25,62 @@ class Case:
     wanted: tuple
 
 
+def is_invisible(character):
+    """Whether a character controls a terminal, has no width or changes the direction of text."""
+    code = ord(character)
+    ranges = ((0, 0x1F), (0x7F, 0x9F), (0x200B, 0x200F), (0x202A, 0x202E), (0x2066, 0x2069), (0xFEFF, 0xFEFF))
+    return any(first <= code <= last for first, last in ranges)
+
+
 def shown(text):
     """The start of a text, as an error shows it."""
-    return bytes(ord("?") if byte < 32 or byte == 127 else byte for byte in text[:40]).decode("utf-8", "replace")
+    return "".join("?" if is_invisible(it) else it for it in text[:40].decode("utf-8", "replace"))
+
+
+def names_text(row):
+    """The first fields of a row."""
+    names = ""
+    for it in row[:20]:
+        names += (", " if names else "") + shown(it)
+    return names + (", ..." if len(row) > 20 else "")
+
+
+BETWEEN = {b",": "commas", b"\t": "tabs", b";": "semicolons", b" ": "spaces"}
 
 
 def error_text(failure):
-    name, line, text, why = failure.text
+    name, line, text, why, start = failure.text
     if why == "no column":
-        names = ""
-        for it in text[:20]:
-            names += (", " if names else "") + shown(it)
-        names += ", ..." if len(text) > 20 else ""
-        return f"{name}: no column `{line.decode()}`: give one of {names}, or a number from 1"
+        return f"{name}: no column `{line.decode()}`: give one of {names_text(text)}, or a number from 1"
+    if why == "double name":
+        first, second = text
+        return f"{name}: columns {first} and {second} have the name `{line.decode()}`: give the number of one"
+    if why == "open quote":
+        return f"{name}: {line}: a quote opens a field and is never closed"
+    if why == "no field":
+        has = f"row 1 has, between {BETWEEN[start[0]]}, {names_text(start[1])}"
+        return f"{name}: {line}: `{shown(text)}` is a row without that column; {has}; --delimiter sets another, --skip-bad ignores such rows"
     return f"{name}: {line}: `{shown(text)}` {REASONS[why]}"
+
+
+def dropped_text(dropped):
+    """The notes of first rows that were taken as names."""
+    return "".join(f"hdrstat: {name}: row 1 is taken as names: {names_text(row)}; --no-header reads it as numbers\n" for name, row in dropped)
+
+
+def notes(tally):
+    """What is written on standard error of rows of names, lines skipped and numbers rounded."""
+    text = dropped_text(tally.dropped)
+    text += f"hdrstat: bad lines skipped: {tally.skipped}\n" if tally.skipped else ""
+    if tally.rounded and tally.options.decimals is None:
+        text += f"hdrstat: {tally.rounded} numbers have more than {tally.decimals} decimals, and were rounded\n"
+    return text.encode()
+
+
+def is_rounded(number, decimals):
+    """Whether a number changes if it is rounded."""
+    digits, places = number
+    return places > decimals and digits % 10 ** (places - decimals) > 0
 
 
 # Numbers
@@ -56,17 +99,25 @@ def odd_number(random):
         lambda: f"{digits(random)}e{random.randint(-30, 30)}", lambda: f"{digits(random)}.{digits(random)}E+{random.randint(0, 12)}",
         lambda: f"{digits(random, 3)}e-{random.randint(0, 9)}", lambda: f"0e{digits(random, 30)}", lambda: f"{digits(random)}e-{digits(random, 30)}",
         lambda: f"{digits(random)}e", lambda: f"{digits(random)}e+", lambda: f"{digits(random)}e1.5", lambda: "1_000", lambda: "1 2", lambda: "0x1f",
-        lambda: "nan", lambda: "inf", lambda: f"{digits(random)},{digits(random)}", lambda: f"{digits(random)}\t{digits(random)}", lambda: "1;2",
+        lambda: "nan", lambda: "inf", lambda: "-Infinity", lambda: duration(random), lambda: duration(random), lambda: f"{digits(random)}e-3s", lambda: f"{digits(random)},{digits(random)}", lambda: f"{digits(random)}\t{digits(random)}", lambda: "1;2",
         lambda: "-0", lambda: "-abc", lambda: "12ms", lambda: "\N{ARABIC-INDIC DIGIT ONE}", lambda: "1\0", lambda: "\0", lambda: f"\N{MINUS SIGN}1",
         lambda: str(2**64 - 1), lambda: str(2**64), lambda: f"{2**64 - 1}.0", lambda: f"{2**64 - 1}.5", lambda: "1\r2", lambda: "#7", lambda: " # a",
         lambda: f"{2**64 // 10}.{random.randint(0, 9)}", lambda: "99999999999999999999x", lambda: "1e-39", lambda: "0.0e-50", lambda: "\v1", lambda: "1\f",
     ])().encode()
 
 
+def duration(random):
+    """A duration as programs print it, or a text much like one."""
+    names = ["h", "m", "s", "ms", "us", "\N{MICRO SIGN}s", "\N{GREEK SMALL LETTER MU}s", "ns"]
+    parts = random.choice([["ms"], ["s"], ["h", "m", "s"], ["m", "s"], random.choices(names, k=random.randint(1, 7)), ["us"], ["\N{MICRO SIGN}s"], ["sec"]])
+    return random.choice(["", "", "", "+", "-"]) + "".join(digits(random, 2) + random.choice(["", "", ".", "." + digits(random, 3)]) + name for name in parts)
+
+
 def number_line(random, decimals):
     text = digits(random, random.choice([3, 6, 9, 12]))
     if decimals and random.random() < 0.9:
-        text += "." + "".join(random.choice("0123456789") for _ in range(decimals))
+        places = decimals if random.random() < 0.9 else random.randint(1, 17)
+        text += "." + "".join(random.choice("0123456789") for _ in range(places))
     return text.encode()
 
 
@@ -163,7 +214,9 @@ def figures(tally, wanted, shift=0):
     mean = None
     if count:
         total = samples.mean_of_classes() if tally.interval else samples.total
-        mean = shifted((200 * total + count) // (2 * count), decimals + 2, shift)
+        places = max(0, decimals + shift) + 2
+        total *= 10 ** (places - decimals - shift)
+        mean = decimal_text((2 * total + count) // (2 * count), places)
     found = [("count", str(count)), ("min", value(samples.least)), ("mean", mean)]
     found += [(f"p{text}", value(samples.at(num, den))) for text, num, den in wanted]
     return [*found, ("max", value(samples.greatest))]
@@ -203,7 +256,7 @@ def summary_case(random, arguments, chosen, data, take):
     if random.random() < 0.2:
         unit, to = random.choice(list(UNITS)), random.choice(list(UNITS))
         arguments += ["--unit", unit, "--output-unit", to]
-        shift = UNITS[unit] - UNITS[to]
+        chosen.unit, shift = unit, UNITS[unit] - UNITS[to]
     files, stdin = {}, data
     if random.random() < 0.2:
         files, stdin = {"one": data}, b""
@@ -211,17 +264,40 @@ def summary_case(random, arguments, chosen, data, take):
         if random.random() < 0.5:
             files["two"] = data[: len(data) // 2]
             arguments.append("two")
-    if chosen.decimals is not None and chosen.interval[0] and not rounded(*chosen.interval, chosen.decimals):
+    if chosen.decimals is not None and is_rounded(chosen.interval, chosen.decimals):
         return Case(arguments, stdin, files, (b"", None, 2))
-    tally, skipped = Tally(chosen), b""
     try:
-        for file, content in (files or {"standard input": stdin}).items():
-            take(tally, file, content)
+        tally = tally_of(chosen, files or {"standard input": stdin}, bool(files), take)
     except Failure as failure:
-        return Case(arguments, stdin, files, (b"", f"hdrstat: {error_text(failure)}\n".encode(), 1))
-    if tally.skipped:
-        skipped = f"hdrstat: bad lines skipped: {tally.skipped}\n".encode()
-    return Case(arguments, stdin, files, (FORMATS[name](figures(tally, wanted, shift)).encode(), skipped, 0))
+        return Case(arguments, stdin, files, (b"", f"{dropped_text(failure.dropped)}hdrstat: {error_text(failure)}\n".encode(), 1))
+    if tally.skipped > tally.lines_read:
+        return Case(arguments, stdin, files, (b"", notes(tally) + b"hdrstat: more lines were skipped than read\n", 1))
+    return Case(arguments, stdin, files, (FORMATS[name](figures(tally, wanted, shift)).encode(), notes(tally), 0))
+
+
+def tally_of(chosen, inputs, are_files, take):
+    """The numbers of inputs, by the decimals of those that begin in their first 64 KiB, or of all if files have more."""
+    tally = Tally(chosen)
+    tally.survey([(name, surveyed(data)) for name, data in inputs.items()], take)
+    take_all(tally, inputs, take)
+    if are_files and tally.rounded:
+        finer = Tally(chosen)
+        finer.survey(inputs.items(), take)
+        if finer.decimals > tally.decimals:
+            take_all(finer, inputs, take)
+            finer.dropped = tally.dropped
+            return finer
+    return tally
+
+
+def take_all(tally, inputs, take):
+    """Reads inputs. An error knows which first rows were taken as names before it."""
+    try:
+        for name, data in inputs.items():
+            take(tally, name, data)
+    except Failure as failure:
+        failure.dropped = tally.dropped
+        raise
 
 
 def number_case(random):
@@ -232,7 +308,15 @@ def number_case(random):
         text, chosen.interval = amount(random, decimals)
         arguments += ["--expected-interval", text]
         data = b"\n".join(decimal_text(random.randint(0, 300_000), decimals).encode() for _ in range(random.randint(0, 30)))
+    elif random.random() < 0.1:
+        data = after_long_start(random, data)
     return summary_case(random, arguments, chosen, data, Tally.lines)
+
+
+def after_long_start(random, data):
+    """A line that ends near the end of what is surveyed, and other lines after it."""
+    start = b"7\n" * random.randint(30_000, 32_000)
+    return start + b"0" * (random.randint(65_530, 65_540) - len(start)) + b"8\n" + data
 
 
 # Tables
@@ -313,12 +397,14 @@ def check_case(random):
         text, chosen.interval = amount(random, decimals)
         arguments += ["--expected-interval", text]
         data = b"\n".join(decimal_text(random.randint(0, 300_000), decimals).encode() for _ in range(random.randint(0, 30)))
-        if chosen.decimals is not None and not rounded(*chosen.interval, chosen.decimals):
+        if chosen.decimals is not None and is_rounded(chosen.interval, chosen.decimals):
             return Case(["check", *arguments, "count>=0"], data, {}, (b"", None, 2))
     unit = random.choice([None, None, *UNITS])
     arguments += ["--unit", unit] if unit else []
+    chosen.unit = unit
     tally, failure = Tally(chosen), None
     try:
+        tally.survey([("standard input", surveyed(data))], Tally.lines)
         tally.lines("standard input", data)
     except Failure as it:
         failure = it
@@ -330,7 +416,7 @@ def check_case(random):
     if failure:
         return Case(arguments, data, {}, (b"", f"hdrstat: {error_text(failure)}\n".encode(), 1))
     is_mostly_skipped = tally.skipped > tally.lines_read
-    told = f"hdrstat: bad lines skipped: {tally.skipped}\n".encode() if tally.skipped else b""
+    told = notes(tally)
     told += b"hdrstat: more lines were skipped than read\n" if is_mostly_skipped else b""
     if not samples and not is_empty_allowed:
         return Case(arguments, data, {}, (b"", told + b"hdrstat: no numbers; --allow-empty accepts an empty input\n", 3))

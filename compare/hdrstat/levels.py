@@ -2,9 +2,8 @@
 import dataclasses
 from fractions import Fraction
 
-from model import LIMIT, class_of, decimal_text
+from model import LIMIT, UNITS, class_of, decimal_text
 
-UNITS = {"ns": 9, "us": 6, "ms": 3, "s": 0}
 SIGNS = {"<": lambda a, b: a < b, "<=": lambda a, b: a <= b, ">": lambda a, b: a > b, ">=": lambda a, b: a >= b}
 # The least number that is told from 0
 TINY = Fraction(1, 10**1000)

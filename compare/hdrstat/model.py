@@ -9,6 +9,11 @@ MARK = b"\xef\xbb\xbf"
 EXACT = decimal.Context(prec=10_000, Emax=decimal.MAX_EMAX, Emin=decimal.MIN_EMIN)
 LIMIT = 1 << 64
 MOST_DECIMALS = 18
+# A unit has so many digits with the greatest number of those that begin in so many bytes
+MOST_DIGITS, SURVEYED = 15, 65536
+# The names of units of time, and how many of each are a second, as a power of ten, or how many seconds it is
+UNITS = {"ns": 9, "us": 6, "ms": 3, "s": 0}
+PART = re.compile("([0-9]+)(?:[.]([0-9]*))?(ns|us|\N{MICRO SIGN}s|\N{GREEK SMALL LETTER MU}s|ms|s|m|h)")
 
 
 class Bad(Exception):
@@ -20,14 +25,14 @@ class Failure(Exception):
 
     def __init__(self, text, status=1):
         super().__init__(text)
-        self.text, self.status = text, status
+        self.text, self.status, self.dropped = text, status, []
 
 
 def parse_number(text):
     """Returns the digits and the decimals of a number: 12.50 is 1250 by 2."""
     found = NUMBER.fullmatch(text.removeprefix(b"-"))
     if not found or text.startswith(b"-+"):
-        raise Bad("no number")
+        raise Bad(cause_of(text))
     if text.startswith(b"-") and found[1].strip(b"0."):
         raise Bad("negative")
     exponent = int(found[2] or 0)
@@ -41,12 +46,62 @@ def parse_number(text):
     return (digits * 10**scale, 0) if scale >= 0 else (digits, -scale)
 
 
-def beyond_wide(digits):
-    """The number of last digits beyond 128 bits, which are not looked at for the cause of an error."""
-    count = 0
-    while digits >= 1 << 128:
-        digits, count = digits // 10, count + 1
-    return count
+def parse_duration(text):
+    """Returns a duration without sign in seconds, as digits and decimals, or None."""
+    try:
+        left, parts = text.decode(), []
+    except UnicodeDecodeError:
+        return None
+    while found := PART.match(left):
+        whole, fraction, name = found[1], found[2] or "", found[3]
+        if len(whole + fraction) > 18:
+            return None
+        power = UNITS.get(name.replace("\N{MICRO SIGN}", "u").replace("\N{GREEK SMALL LETTER MU}", "u"), 0)
+        parts.append((int(whole + fraction) * {"h": 3600, "m": 60}.get(name, 1), len(fraction) + power))
+        left = left[found.end() :]
+    if left or not 0 < len(parts) <= 6:
+        return None
+    most = max(decimals for _, decimals in parts)
+    return sum(digits * 10 ** (most - decimals) for digits, decimals in parts), most
+
+
+def parse(text, unit):
+    """Returns the digits and the decimals of a number, or of a duration in a unit."""
+    is_negative = text.startswith(b"-")
+    seconds = parse_duration(text[1:] if text[:1] in (b"-", b"+") else text)
+    if seconds is None:
+        return parse_number(text)
+    if unit is None:
+        raise Bad("duration")
+    digits, decimals = seconds
+    if is_negative and digits:
+        raise Bad("negative")
+    fewer = min(UNITS[unit], decimals)
+    return digits * 10 ** (UNITS[unit] - fewer), decimals - fewer
+
+
+def cause_of(text):
+    """Why a text is no number."""
+    if text == b"-":
+        return "dash"
+    if re.fullmatch(rb"[+-]?(inf|infinity)", text, re.IGNORECASE):
+        return "infinite"
+    if b"," in text and re.fullmatch(rb"\d([\d,.]*\d)?", text):
+        return "comma"
+    return "no number"
+
+
+def decimals_of(numbers):
+    """The decimals of a unit for numbers: the most, or as many as the greatest has in 15 digits."""
+    most = max((decimals for _, decimals in numbers), default=0)
+    whole = max((digits // 10**decimals if decimals <= len(str(digits)) else 0 for digits, decimals in numbers), default=0)
+    return min(most, max(0, MOST_DIGITS - (len(str(whole)) if whole else 0)))
+
+
+def surveyed(data):
+    """The lines that begin in the first 64 KiB."""
+    end = data.find(b"\n", SURVEYED - 1)
+    return data if end < 0 else data[: end + 1]
 
 
 def rounded(digits, decimals, to):
@@ -127,6 +182,7 @@ class Options:
     delimiter: bytes = None
     has_header: bool = True
     skips_bad: bool = False
+    unit: str = None
 
 
 class Tally:
@@ -135,30 +191,28 @@ class Tally:
     def __init__(self, options):
         self.options, self.samples, self.skipped = options, Samples(options.sigfig), 0
         # The numbers as they were read: their digits and decimals, and their values in units; with the missing samples
-        self.exact, self.lines_read = [], 0
-        self.decimals, self.interval = options.decimals, 0
-        if self.decimals is not None:
-            self.interval = min(rounded(*options.interval, self.decimals), LIMIT - 1)
+        self.exact, self.lines_read, self.rounded = [], 0, 0
+        self.dropped = []  # the files whose first row was taken as names, and these, if no column has a name
+        self.set_decimals(options.decimals or 0)
+
+    def set_decimals(self, decimals):
+        self.decimals = decimals
+        self.interval = min(rounded(*self.options.interval, decimals), LIMIT - 1)
+
+    def survey(self, inputs, take):
+        """Sets the decimals of a unit by inputs, each a name and bytes, unless they are an option."""
+        if self.options.decimals is None:
+            survey = Survey(self.options)
+            for name, data in inputs:
+                take(survey, name, data)
+            self.set_decimals(min(max(decimals_of(survey.numbers), self.options.interval[1]), MOST_DECIMALS))
 
     def record(self, digits, decimals):
-        if self.options.decimals is None and decimals - beyond_wide(digits) > MOST_DECIMALS:
-            if digits:
-                raise Bad("many decimals")
-            decimals = MOST_DECIMALS
-        if self.options.decimals is None and digits >= LIMIT:
-            raise Bad("large")
-        if self.decimals is None:
-            to = min(max(decimals, self.options.interval[1]), MOST_DECIMALS)
-            if decimals > to:
-                raise Bad("decimals")
-            if rounded(digits, decimals, to) >= LIMIT:
-                raise Bad("large")
-            self.decimals, self.interval = to, min(rounded(*self.options.interval, to), LIMIT - 1)
-        if decimals > self.decimals and self.options.decimals is None:
-            raise Bad("decimals")
         value = rounded(digits, decimals, self.decimals)
         if value >= LIMIT:
             raise Bad("large")
+        if decimals > self.decimals and digits and (decimals - self.decimals > len(str(digits)) or digits % 10 ** (decimals - self.decimals)):
+            self.rounded += 1
         self.samples.add(value)
         self.exact.append((digits, decimals, value))
         self.lines_read += 1
@@ -170,15 +224,21 @@ class Tally:
 
     def take(self, name, row, text):
         try:
-            self.record(*parse_number(text))
+            self.record(*parse(text, self.options.unit))
         except Bad as bad:
             self.refuse(name, row, text, str(bad), "row")
 
     def refuse(self, name, number, text, why, place="line"):
-        if self.options.skips_bad and why not in ("decimals", "many decimals"):
+        if self.options.skips_bad:
             self.skipped += 1
             return
-        raise Failure((name, f"{place} {number}", text[:40], why))
+        raise Failure((name, f"{place} {number}", text[:40], why, self.table_start))
+
+    def refuse_open(self, name, number):
+        """A quote that opens in this row is not closed, which no option ignores."""
+        raise Failure((name, f"row {number}", b"", "open quote", None))
+
+    table_start = None  # the delimiter and the first row of the table that is read
 
     def lines(self, name, data):
         """Takes a number a line."""
@@ -187,7 +247,7 @@ class Tally:
             if not text or text.startswith(b"#"):
                 continue
             try:
-                self.record(*parse_number(text))
+                self.record(*parse(text, self.options.unit))
             except Bad as bad:
                 is_table = str(bad) == "no number" and any(it in text for it in b",\t;")
                 self.refuse(name, number, text, "table" if is_table else str(bad))
@@ -196,9 +256,14 @@ class Tally:
         """Takes a column of a table."""
         options = self.options
         data = data.removeprefix(MARK)
-        found = rows(data, options.delimiter or guess_delimiter(data))
+        delimiter = options.delimiter or guess_delimiter(data)
+        found, is_open = split_rows(data, delimiter)
         if not found:
             return
+        if is_open and len(found) == 1:
+            self.refuse_open(name, 1)
+            return
+        self.table_start = delimiter, found[0]
         names = [it.strip(SPACE) for it in found[0]]
         is_number = re.fullmatch(rb"\+?\d+", options.column) and 0 < int(options.column) < LIMIT
         is_named = options.has_header and options.column in names and not (is_number and int(options.column) <= len(names))
@@ -207,22 +272,48 @@ class Tally:
         elif is_number:
             index = int(options.column) - 1
         else:
-            raise Failure((name, options.column, found[0], "no column"))
+            raise Failure((name, options.column, found[0], "no column", None))
+        if is_named and names.count(options.column) > 1:
+            raise Failure((name, options.column, (index + 1, names.index(options.column, index + 1) + 1), "double name", None))
+        drops_names = is_named or options.has_header and not has_number(found[0], index)
         for number, fields in enumerate(found, 1):
-            if number == 1 and (is_named or options.has_header and not has_number(fields, index)):
+            if is_open and number == len(found):
+                self.refuse_open(name, number)
+                return
+            if number == 1 and drops_names:
                 continue
             if index >= len(fields):
                 self.refuse(name, number, b"".join(fields), "no field", "row")
             else:
                 self.take(name, number, fields[index].strip(SPACE))
+        if drops_names and not is_named:
+            self.dropped.append((name, found[0]))
+
+
+class Survey(Tally):
+    """The numbers that determine the decimals of a unit: those below 2^64."""
+
+    def __init__(self, options):
+        super().__init__(options)
+        self.numbers = []
+
+    def record(self, digits, decimals):
+        if rounded(digits, decimals, 0) < LIMIT:
+            self.numbers.append((digits, decimals))
+
+    def refuse(self, name, number, text, why, place="line"):
+        pass
+
+    def refuse_open(self, name, number):
+        pass
 
 
 def has_number(fields, index):
     """Whether the field of a row is a number, at least one that is negative or too large."""
     try:
-        return index < len(fields) and bool(parse_number(fields[index].strip(SPACE)))
+        return index < len(fields) and bool(parse(fields[index].strip(SPACE), None))
     except Bad as bad:
-        return str(bad) != "no number"
+        return str(bad) not in ("no number", "dash", "infinite", "comma")
 
 
 def guess_delimiter(data):
@@ -233,7 +324,12 @@ def guess_delimiter(data):
 
 
 def rows(data, delimiter):
-    """The rows of a table: fields may be quoted, a doubled quote is one, and a quote that does not begin a field, or that ends one too
+    """The rows of a table."""
+    return split_rows(data, delimiter)[0]
+
+
+def split_rows(data, delimiter):
+    """The rows of a table, and whether a quote of the last one is not closed: fields may be quoted, a doubled quote is one, and a quote that does not begin a field, or that ends one too
     early, is text. Rows end with LF, CR or CR LF, and empty lines are none."""
     found, fields, field, state, at = [], [], bytearray(), "start", 0
     while at < len(data):
@@ -261,7 +357,7 @@ def rows(data, delimiter):
             state = "text"
     if fields or field or state != "start":
         found.append([*fields, bytes(field)])
-    return found
+    return found, state == "quoted"
 
 
 def decimal_text(units, decimals):

@@ -10,7 +10,8 @@ ghost use Rattle.hdr_gather.specs.Logs.{WritesLog};
 use crate::peekable::PeekableLog;
 use crate::sum::{Counts, Summing};
 use crate::writing::{write_intervals, write_start};
-use hdr_logs::{LogError, LogIntervals, StoredInterval, check_decimals};
+use hdr_input::Unit;
+use hdr_logs::{LogError, LogIntervals, StoredInterval, check_decimals, check_unit};
 use hdrhistogram::serialization::V2Serializer;
 use hdrhistogram::serialization::interval_log::IntervalLogWriter;
 use std::alloc::Global;
@@ -18,11 +19,12 @@ use std::io::{Read, Write};
 
 /// Merges logs, and writes the result as one log, with one interval for each tag and time. Returns
 /// how many intervals were read. The logs are read side by side, and each has to be in order of time: at most the intervals of one start
-/// are kept in memory. If a comment has the decimals of the values, the log begins with it.
+/// are kept in memory. If comments have the decimals and the unit of the values, the log begins with
+/// these.
 ///
 /// # Errors
 /// Returns `NotSorted` if an interval of a log begins before the one above it, and `OtherDecimals`
-/// if its values have other decimals than others. Otherwise returns the first error of reading,
+/// or `OtherUnit` if its values have other decimals or another unit than others. Otherwise returns the first error of reading,
 /// adding or writing an interval. What precedes an error may have been written.
 pub fn gather_sorted<R: Read + Drop, W: Write>(
     alloc: Global,
@@ -34,11 +36,13 @@ pub fn gather_sorted<R: Read + Drop, W: Write>(
 {
     begin_logs(alloc, logs)?;
     let decimals = logs.iter().filter_map(|log| log.next_decimals()).max();
-    write_start(alloc, decimals, output)?;
+    let unit = logs.iter().find_map(|log| log.next_unit());
+    write_start(alloc, decimals, unit, output)?;
     let mut serializer = V2Serializer::new(alloc);
     let mut log = IntervalLogWriter::new(alloc, output, &mut serializer, 1);
     let mut sums = Summing::new(alloc);
-    write_in_order(alloc, logs, decimals.unwrap_or(0), &mut log, &mut sums)?;
+    let decimals = decimals.unwrap_or(0);
+    write_in_order(alloc, logs, decimals, unit, &mut log, &mut sums)?;
     drop(log);
     Ok(sums.counts)
 }
@@ -56,7 +60,7 @@ pub fn gather_unsorted<W: Write>(
     ensures { IfOk result (λ counts. WritesLog (intervals_of intervals.now) counts
         (W.contents output.old) (W.contents output.new)) }
 {
-    write_start(alloc, intervals.decimals(), output)?;
+    write_start(alloc, intervals.decimals(), intervals.unit(), output)?;
     let mut serializer = V2Serializer::new(alloc);
     let mut log = IntervalLogWriter::new(alloc, output, &mut serializer, 1);
     let mut sums = Summing::new(alloc);
@@ -86,6 +90,7 @@ fn write_in_order<R: Read + Drop, W: Write>(
     alloc: Global,
     logs: &mut [PeekableLog<'_, R>],
     decimals: u32,
+    unit: Option<Unit>,
     log: &mut IntervalLogWriter<'_, '_, W, V2Serializer>,
     sums: &mut Summing,
 ) -> Result<(), LogError>
@@ -99,7 +104,7 @@ fn write_in_order<R: Read + Drop, W: Write>(
             return Ok(());
         };
         let intervals = take_at(alloc, logs, start)?;
-        check_all(&intervals, decimals)?;
+        check_values(&intervals, decimals, unit)?;
         write_intervals(alloc, &intervals, log, sums)?;
     }
     Err(LogError::TooManyLines)
@@ -172,12 +177,35 @@ fn take_from<R: Read + Drop>(
     Err(LogError::TooManyLines)
 }
 
+/// Returns an error unless the values of all intervals have these decimals and this unit.
+fn check_values(
+    intervals: &[StoredInterval],
+    decimals: u32,
+    unit: Option<Unit>,
+) -> Result<(), LogError>
+    ensures decimals { OnOk result (All (λ i. decimals_of i ≡ decimals) intervals.now) }
+    ensures unit { OnOk result (All (λ i. i.unit ≡ unit) intervals.now) }
+{
+    check_all(intervals, decimals)?;
+    check_units(intervals, unit)
+}
+
 /// Returns an error unless the values of all intervals have these decimals.
 fn check_all(intervals: &[StoredInterval], decimals: u32) -> Result<(), LogError>
     ensures { OnOk result (All (λ i. decimals_of i ≡ decimals) intervals.now) }
 {
     for interval in intervals {
         check_decimals(interval.place, interval.decimals, decimals)?;
+    }
+    Ok(())
+}
+
+/// Returns an error unless the values of all intervals have this unit.
+fn check_units(intervals: &[StoredInterval], unit: Option<Unit>) -> Result<(), LogError>
+    ensures { OnOk result (All (λ i. i.unit ≡ unit) intervals.now) }
+{
+    for interval in intervals {
+        check_unit(interval.place, interval.unit, unit)?;
     }
     Ok(())
 }

@@ -8,6 +8,7 @@ ghost use Rattle.hdr_logs.specs.Stored.{Stored};
 ghost use Rattle.hdr_gather.specs.Left.{LogHolds, next_interval, next_start, UnreadHold, HasLeft};
 ghost use Rattle.hdr_gather.specs.Left.{IsKnown, IsReady, IsReadyAt, IsFrom};
 
+use hdr_input::Unit;
 use hdr_logs::{LineBuffer, LogError, LogLine, LogReader, Note, StoredInterval};
 use hdrhistogram::serialization::interval_log::{IntervalChoice, Tag};
 use std::alloc::Global;
@@ -60,6 +61,11 @@ impl<'c, R: Read + Drop> PeekableLog<'c, R> {
     /// Returns the decimals of the next interval's values, if a comment has them.
     pub(crate) fn next_decimals(&self) -> Option<u32> {
         self.next.as_ref().and_then(|next| next.decimals)
+    }
+
+    /// Returns the unit of the next interval's values, if a comment has one.
+    pub(crate) fn next_unit(&self) -> Option<Unit> {
+        self.next.as_ref().and_then(|next| next.unit)
     }
 
     /// Reads up to the first interval, unless one is held.

@@ -1,6 +1,6 @@
 //! Logs that are written of intervals.
 
-ghost use Rattle.std.specs.Prelude.{◌≡◌, ◌+◌, ℕ, OnOk, length, map};
+ghost use Rattle.std.specs.Prelude.{◌≡◌, ◌+◌, ◌++◌, ℕ, List, OnOk, length, map};
 ghost use Rattle.hdrhistogram.specs.LogWriters.{sink, divisor_of, IsSameLog};
 ghost use Rattle.hdr_logs.specs.Stored.{view_of_stored};
 ghost use Rattle.hdr_gather.specs.Counts.{CountsMore};
@@ -9,28 +9,64 @@ ghost use Rattle.hdr_gather.specs.Logs.{WritesStart, WritesLine, Writes, WritesA
 
 use crate::order::{same_key, sort};
 use crate::sum::{Summing, longest};
-use hdr_logs::{LogError, StoredInterval, decimals_comment};
+use hdr_input::Unit;
+use hdr_logs::{LogError, StoredInterval, decimals_comment, unit_comment};
 use hdrhistogram::serialization::interval_log::{IntervalLogWriter, IntervalLogWriterBuilder};
 use hdrhistogram::serialization::{CountNotSerializable, V2Serializer};
 use std::alloc::Global;
 use std::io::Write;
 use std::time::Duration;
 
-/// Writes the start of a log: the decimals of its values in a comment, if there are any.
+/// Writes the start of a log: the decimals and the unit of its values in comments, if it has them.
 pub(crate) fn write_start<W: Write>(
     alloc: Global,
     decimals: Option<u32>,
+    unit: Option<Unit>,
     output: &mut W,
 ) -> Result<(), LogError>
     ensures { OnOk result (WritesStart (W.contents output.old) (W.contents output.new)) }
 {
     let mut start = IntervalLogWriterBuilder::new(alloc);
-    if let Some(decimals) = decimals {
-        let comment = decimals_comment(alloc, decimals)?;
-        start.add_comment(comment.as_str())?;
-    }
+    add_decimals(alloc, decimals, &mut start)?;
+    add_unit(alloc, unit, &mut start)?;
     start.write_headers::<W, CountNotSerializable>(output)?;
     Ok(())
+}
+
+/// Adds the comment that has the decimals of a log's values, if it has them.
+fn add_decimals(
+    alloc: Global,
+    decimals: Option<u32>,
+    start: &mut IntervalLogWriterBuilder,
+) -> Result<(), LogError>
+    ensures { OnOk result ((added : List (List ℕ))
+        × (start.new ≡ record start.old { comments = start.old.comments ++ added })) }
+{
+    match decimals {
+        Some(decimals) => {
+            let comment = decimals_comment(alloc, decimals)?;
+            Ok(start.add_comment(comment.as_str())?)
+        }
+        None => Ok(()),
+    }
+}
+
+/// Adds the comment that has the unit of a log's values, if it has one.
+fn add_unit(
+    alloc: Global,
+    unit: Option<Unit>,
+    start: &mut IntervalLogWriterBuilder,
+) -> Result<(), LogError>
+    ensures { OnOk result ((added : List (List ℕ))
+        × (start.new ≡ record start.old { comments = start.old.comments ++ added })) }
+{
+    match unit {
+        Some(unit) => {
+            let comment = unit_comment(alloc, unit)?;
+            Ok(start.add_comment(comment.as_str())?)
+        }
+        None => Ok(()),
+    }
 }
 
 /// Writes the intervals that others become, one for each time and tag, in order of time and tag.

@@ -5,7 +5,7 @@ use Rattle.std.proofs.lemmas.Bool.{cases_lt}
 use Rattle.std.proofs.Math.Nat.{le-div_iff_mul-le}
 use Rattle.hdr_input.specs.declared.bound.Bound.{Bound}
 use Rattle.hdr_input.specs.Bounds.{is_within, of_decimals}
-use Rattle.hdr_input.proofs.Units.{positive}
+use Rattle.hdr_input.proofs.InUnits.{positive}
 
 -- a value is at most a quotient if and only if its product is at most the dividend
 pub most-at : (v w p : ℕ) → 0 < p → v < 2 ^ 64 → leb (v * p) w ≡ leb v (min (w / p) (2 ^ 64 - 1))

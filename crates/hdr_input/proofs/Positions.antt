@@ -6,7 +6,7 @@ use Rattle.std.proofs.lemmas.Bool.{cases_lt}
 use Rattle.std.proofs.lemmas.Bool.Decides.{nat_tests}
 use Rattle.std.specs.Prelude.{if◌then◌else◌}
 use Rattle.std.proofs.Math.Nat.{div-eq_of_lt, mod-eq_of_lt, mul_comm, mul_assoc, mul-lt-mul_of_pos_right, mul-le-mul_right, div-lt_iff_lt-mul}
-use Rattle.hdr_input.proofs.Units.{positive}
+use Rattle.hdr_input.proofs.InUnits.{positive}
 use Rattle.hdr_input.specs.declared.number.Number.{Number}
 use Rattle.hdr_input.specs.declared.bound.Bound.{Bound}
 use Rattle.hdr_input.specs.Bounds.{position_of, is_within, end_of}

@@ -1,5 +1,5 @@
 -- Bounds of numbers, and how many numbers are within them.
-use Rattle.std.specs.Prelude.{◌≡◌, ◌⊎◌, ℕ, ◌+◌, ◌*◌, ◌/◌, ◌%◌, ◌-◌, ◌^◌, ◌<◌, ◌≤◌, ◌==◌, Bool, true, false, if◌then◌else◌, nat_lt, nat_le, min, List, [], ◌∷◌, ◌++◌, length, map, count_by, Option, MatchOption, Some}
+use Rattle.std.specs.Prelude.{◌≡◌, ◌⊎◌, ℕ, ◌+◌, ◌*◌, ◌/◌, ◌%◌, ◌-◌, ◌^◌, ◌<◌, ◌≤◌, ◌==◌, Bool, true, false, if◌then◌else◌, nat_lt, nat_le, min, List, [], ◌∷◌, ◌++◌, length, map, count_by, Option, MatchOption}
 use Rattle.hdr_input.specs.declared.number.Number.{Number}
 use Rattle.hdr_input.specs.declared.bound.Bound.{Bound}
 use Rattle.hdr_input.specs.declared.bound_counts.BoundCount.{BoundCount}
@@ -76,7 +76,7 @@ pub record HasCounted (t : BoundTally) (S : List Number) : Type 0 where
   pub counted : IsCounted t.counts.items t.total S
   pub some : (end : ℕ) → Has end (ends_of t.counts.items) → 0 < end
   pub units : t.is_in_units ≡ true
-      → (decimals : ℕ) × (t.tally.decimals ≡ Some decimals) × (decimals ≤ 18) × AreInUnits decimals t.counts.items
+      → (decimals : ℕ) × (t.tally.decimals ≡ decimals) × (decimals ≤ 18) × AreInUnits decimals t.counts.items
 
 -- numbers of units, of 10 ^ -decimals each
 abbrev pub of_units : ℕ → List ℕ → List Number

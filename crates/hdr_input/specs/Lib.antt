@@ -1,6 +1,13 @@
 pub mod Numbers
+pub mod Rounding
+pub mod Surveys
 pub mod Recorded
+pub mod Units
+pub mod Durations
 pub mod Lines
 pub mod Counted
+pub mod Groups
+pub mod Times
 pub mod Bounds
 pub mod BoundLaws
+pub mod Visible

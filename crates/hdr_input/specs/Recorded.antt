@@ -1,12 +1,13 @@
 -- Histograms after numbers.
-use Rattle.std.specs.Prelude.{◌≡◌, ℕ, ◌+◌, ◌-◌, ◌*◌, ◌%◌, ◌^◌, ◌<◌, ◌≤◌, ◌⊎◌, min, max, true, Some, IsSome, Result, Ok, Err}
+use Rattle.std.specs.Prelude.{◌≡◌, ℕ, ◌+◌, ◌-◌, ◌*◌, ◌%◌, ◌^◌, ◌<◌, ◌≤◌, ◌⊎◌, min, max, Bool, true, if◌then◌else◌, Result, Ok, Err}
 use Rattle.hdr_model.specs.Plain.{Plain, reach}
 use Rattle.hdr_model.specs.Correction.{after_correct}
 use Rattle.hdr_input.specs.Numbers.{in_units}
+use Rattle.hdr_input.specs.Rounding.{is_rounded}
 use Rattle.hdr_model.specs.declared.errors.RecordError.{RecordError}
 use Rattle.hdr_model.specs.declared.errors.RecordError.TheVariants as record_error
 use Rattle.hdr_input.specs.declared.cause.Cause.{Cause}
-use Rattle.hdr_input.specs.declared.cause.Cause.TheVariants.{MoreDecimals, TooLarge, OutOfMemory}
+use Rattle.hdr_input.specs.declared.cause.Cause.TheVariants.{TooLarge, OutOfMemory}
 use Rattle.hdr_input.specs.declared.number.Number.{Number}
 use Rattle.hdr_input.specs.declared.tally.Tally.{Tally}
 
@@ -24,25 +25,32 @@ IsLeast value interval least =
     (0 < interval → 2 * interval ≤ value → least ≡ interval + value % interval)
     × (value < 2 * interval → least ≡ value) × (interval ≡ 0 → least ≡ value)
 
--- a tally has taken a number: its histogram, its extremes and its sum are those after it, in units of the decimals that it now has
+-- how many numbers were rounded after one more, which was or was not
+abbrev pub with_rounding : ℕ → Bool → ℕ
+with_rounding n is_rounded = if is_rounded then (n + 1) % 2 ^ 64 else n
+
+-- a tally has taken a number: its histogram, its extremes, its sum and how many numbers were rounded are those after it
 abbrev pub Takes : Tally → Tally → Number → Type 0
-Takes old new number = IsSome new.decimals × ((decimals : ℕ) → new.decimals ≡ Some decimals
-    → (new.histogram ≡ after_number old.histogram number decimals new.interval)
-    × ((least : ℕ) × IsLeast (in_units number.digits number.decimals decimals) new.interval least × (new.min ≡ min old.min least))
-    × (new.max ≡ max old.max (in_units number.digits number.decimals decimals))
-    × (new.sum ≡ (old.sum + in_units number.digits number.decimals decimals) % 2 ^ 128))
+Takes old new number =
+    (new.histogram ≡ after_number old.histogram number old.decimals old.interval)
+    × ((least : ℕ) × IsLeast (in_units number.digits number.decimals old.decimals) old.interval least × (new.min ≡ min old.min least))
+    × (new.max ≡ max old.max (in_units number.digits number.decimals old.decimals))
+    × (new.sum ≡ (old.sum + in_units number.digits number.decimals old.decimals) % 2 ^ 128)
+    × (new.rounded ≡ with_rounding old.rounded (is_rounded number old.decimals))
 
--- the unit of a tally stays once it is set
+-- the unit of a tally stays
 abbrev pub KeepsUnit : Tally → Tally → Type 0
-KeepsUnit old new = (decimals : ℕ) → old.decimals ≡ Some decimals → (new.decimals ≡ Some decimals) × (new.interval ≡ old.interval)
+KeepsUnit old new = (new.decimals ≡ old.decimals) × (new.interval ≡ old.interval)
 
--- a number is not recorded, for this cause: it has more decimals than the unit, or is too large in it, or memory runs out for more bins
+-- a tally after a number that was recorded, and rounded or not
+abbrev pub after_rounding : Tally → Bool → Tally
+after_rounding t is_rounded = record t { rounded = with_rounding t.rounded is_rounded }
+
+-- a number is not recorded, for this cause: it is too large in the unit of the tally, or memory runs out for more bins
 abbrev pub IsTallyError : Tally → Number → Cause → Type 0
-IsTallyError tally number MoreDecimals = (decimals : ℕ) → tally.decimals ≡ Some decimals → decimals < number.decimals
-IsTallyError tally number TooLarge = (decimals : ℕ) → tally.decimals ≡ Some decimals → decimals ≤ 18 → number.decimals ≤ 18
-    → tally.histogram.auto_resize ≡ true → 2 ^ 64 ≤ in_units number.digits number.decimals decimals
-IsTallyError tally number OutOfMemory = (decimals : ℕ) → tally.decimals ≡ Some decimals
-    → reach tally.histogram < in_units number.digits number.decimals decimals
+IsTallyError tally number TooLarge = tally.decimals ≤ 18 → number.decimals ≤ 18
+    → tally.histogram.auto_resize ≡ true → 2 ^ 64 ≤ in_units number.digits number.decimals tally.decimals
+IsTallyError tally number OutOfMemory = reach tally.histogram < in_units number.digits number.decimals tally.decimals
 IsTallyError tally number _ = ⊥
 
 -- a value was not recorded, for this cause

@@ -44,7 +44,7 @@ impl Number {
 impl Bound {
     /// Returns the greatest number of units within the bound, as far as 64 bits hold it, or `None`
     /// if none is. A unit is one of the last of `decimals`.
-    #[tactic(auto, using(crate::proofs::Units::positive))]
+    #[tactic(auto, using(crate::proofs::InUnits::positive))]
     pub fn most(self, decimals: u32) -> Option<u64>
         ensures { decimals ≤ 18 → self.number.decimals ≤ 18 → IsMost self decimals result }
     {

@@ -72,7 +72,7 @@ impl BoundCount {
     }
 
     /// Sets the decimals of a unit, at most `MOST_DECIMALS`.
-    #[tactic(auto, using(crate::proofs::Units::positive))]
+    #[tactic(auto, using(crate::proofs::InUnits::positive))]
     fn in_units(self, decimals: u32) -> BoundCount
         requires few { decimals ≤ 18 }
         ensures { result ≡ in_units_of decimals self }

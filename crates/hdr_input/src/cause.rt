@@ -7,16 +7,24 @@ use thiserror::Error;
 pub enum Cause {
     #[error("is not a number; --skip-bad ignores such lines")]
     NotANumber,
+    /// It is not a number, but a mark for none.
+    #[error("is not a number but a mark for none; --skip-bad ignores such lines")]
+    Dash,
+    #[error("is infinite, and a histogram counts finite numbers; --skip-bad ignores such lines")]
+    Infinite,
+    /// It has digits with commas.
+    #[error("is not a number; --skip-bad ignores such lines. With a comma it is 1234, 1.234 or a row: write it without, or read --column")]
+    Comma,
+    /// It is a duration, and the unit of the numbers is not known.
+    #[error("is not a number; --skip-bad ignores such lines. --unit, as --unit ms, reads numbers with units of time")]
+    Duration,
     /// It is not a number, and looks like the line of a table.
     #[error("is not a number; --column reads a column of a table, --from log an interval log")]
     Table,
     #[error("is negative, and a histogram counts numbers from 0; --skip-bad ignores such lines")]
     Negative,
-    /// It has more decimals than a unit, and is not to be rounded.
-    #[error("has more decimals than the numbers before it; set them by --decimals")]
-    MoreDecimals,
     /// It has more decimals than a unit can have, and is not to be rounded.
-    #[error("has more than 18 decimals; --decimals rounds it")]
+    #[error("has more than 18 decimals")]
     TooManyDecimals,
     #[error("is too large: in units of its last decimal (--decimals) it has to be below 2^64")]
     TooLarge,
@@ -24,24 +32,30 @@ pub enum Cause {
     #[error("is a time before 0; --skip-bad ignores such rows")]
     NegativeTime,
     /// It is a time, and too large.
-    #[error("is too large for a time in seconds")]
+    #[error("is too large for a time")]
     TimeTooLarge,
+    /// It is to be a time, and is none.
+    #[error("is not a time, such as 1764054000 or 2026-11-28T06:00:00Z; --skip-bad ignores such rows")]
+    NotATime,
     /// Its line has at least this number of bytes, which is the limit of the input.
     #[error("begins a line of {0} bytes or more")]
     TooLong(usize),
     /// Its row ends before the column.
     #[error("is a row without that column; --skip-bad ignores such rows")]
     NoField,
+    /// Its line is not JSON.
+    #[error("is not JSON; --skip-bad ignores such lines")]
+    NotJson,
+    /// Its line has no text at the path.
+    #[error("has no number at that path; --skip-bad ignores such lines")]
+    NoPath,
     #[error("does not fit: out of memory")]
     OutOfMemory,
 }
 
 impl Cause {
-    /// Whether `--skip-bad` ignores a line for this cause. Decimals are not rounded silently.
+    /// Whether `--skip-bad` ignores a line for this cause.
     pub fn may_be_skipped(self) -> bool {
-        !matches!(
-            self,
-            Cause::MoreDecimals | Cause::TooManyDecimals | Cause::TooLong(_) | Cause::OutOfMemory
-        )
+        !matches!(self, Cause::TooLong(_) | Cause::OutOfMemory)
     }
 }

@@ -1,12 +1,10 @@
 //! Numbers from a column of a table.
 
-use crate::bound_tally::BoundTally;
 use crate::cause::Cause;
 use crate::errors::{InputError, InputPlace, excerpt};
-use crate::lines::{record_text, skip_or_err, split_line};
-use crate::number::Number;
-use crate::sink::NumberSink;
-use crate::tally::Tally;
+use crate::lines::split_line;
+use crate::rows::{RowSink, RowTexts};
+use crate::text::is_number;
 use csv::{ByteRecord, ErrorKind, ReaderBuilder};
 use std::alloc::{AllocError, Global};
 use std::io::Read;
@@ -20,18 +18,21 @@ pub struct TableLayout {
     pub has_header: bool,
 }
 
-/// The columns that are read: that of the numbers, and that of their times.
+/// The columns that are read: that of the numbers, that of their times, those of the texts that
+/// have groups, and those that have to have a text.
 #[derive(Clone, Copy)]
-pub struct Columns<'a> {
-    pub value: &'a str,
-    pub time: Option<&'a str>,
+pub struct Columns<'l, 'n> {
+    pub value: &'n str,
+    pub time: Option<&'n str>,
+    pub groups: &'l [&'n str],
+    pub conditions: &'l [Condition<'n>],
 }
 
-/// The indices of these columns.
+/// A text that a column has to have.
 #[derive(Clone, Copy)]
-pub struct Indices {
-    pub value: usize,
-    pub time: Option<usize>,
+pub struct Condition<'a> {
+    pub column: &'a str,
+    pub text: &'a str,
 }
 
 /// A column that was found.
@@ -42,16 +43,17 @@ struct FoundColumn {
     is_named: bool,
 }
 
-/// What takes the rows of a table.
-pub trait RowSink {
-    /// Takes the row of this number, counted from 1. A row of names is a row, and is not taken.
-    fn take_row(
-        &mut self,
-        alloc: Global,
-        row: &ByteRecord,
-        indices: Indices,
-        number: u64,
-    ) -> Result<(), InputError>;
+/// The columns that were found.
+#[derive(Drop)]
+struct FoundColumns<'a> {
+    value: usize,
+    time: Option<usize>,
+    groups: Vec<usize>,
+    conditions: Vec<(usize, &'a [u8])>,
+    /// Whether the first row is a row of names.
+    is_header: bool,
+    /// Whether a column was found by its name.
+    is_named: bool,
 }
 
 /// Converts an error of the table's reader.
@@ -63,10 +65,34 @@ fn reading_error(error: csv::Error) -> InputError {
 }
 
 /// Returns the index of the column of this name in the first row.
-fn index_of_name(names: &ByteRecord, wanted: &str) -> Option<usize> {
-    names
-        .into_iter()
-        .position(|name| name.trim_ascii() == wanted.as_bytes())
+///
+/// # Errors
+/// Returns an error if two columns have this name.
+fn index_of_name(
+    alloc: Global,
+    names: &ByteRecord,
+    wanted: &str,
+) -> Result<Option<usize>, InputError> {
+    let mut first = None;
+    for (index, name) in names.into_iter().enumerate() {
+        if name.trim_ascii() != wanted.as_bytes() {
+            continue;
+        }
+        if let Some(first) = first {
+            return Err(InputError::DoubleName {
+                name: String::from_str(alloc, wanted)?,
+                first: number_of(first),
+                second: number_of(index),
+            });
+        }
+        first = Some(index);
+    }
+    Ok(first)
+}
+
+/// Returns the number of a column, from 1, by its index.
+fn number_of(index: usize) -> u64 {
+    (index as u64).saturating_add(1)
 }
 
 /// Parses the number of a column, counted from 1, to its index.
@@ -94,7 +120,7 @@ fn names_of(alloc: Global, names: &ByteRecord) -> Result<String, AllocError> {
 
 /// Whether the field of a row is a number.
 fn has_number(row: &ByteRecord, index: usize) -> bool {
-    field(row, index).is_some_and(|field| Number::parse(field, None) != Err(Cause::NotANumber))
+    field(row, index).is_some_and(|field| is_number(field))
 }
 
 /// Finds a column. A number of a column of the first row, from 1, comes before a name.
@@ -106,7 +132,7 @@ fn find_column(
 ) -> Result<FoundColumn, InputError> {
     let number = index_of_number(wanted);
     let named = if layout.has_header && !number.is_some_and(|index| index < names.len()) {
-        index_of_name(names, wanted)
+        index_of_name(alloc, names, wanted)?
     } else {
         None
     };
@@ -122,108 +148,220 @@ fn find_column(
     }
 }
 
-/// Returns the indices of columns, and whether the first row is a row of names: if a column is
-/// found by its name, or if the field of the numbers' column is not a number.
-fn find_columns(
+/// Finds columns. The first row is a row of names if a column is found by its name, or if the field
+/// of the numbers' column is not a number.
+fn find_columns<'a>(
     alloc: Global,
     names: &ByteRecord,
-    columns: Columns<'_>,
+    columns: Columns<'_, 'a>,
     layout: TableLayout,
-) -> Result<(Indices, bool), InputError> {
+) -> Result<FoundColumns<'a>, InputError> {
     let value = find_column(alloc, names, columns.value, layout)?;
-    let time = match columns.time {
-        Some(wanted) => Some(find_column(alloc, names, wanted, layout)?),
-        None => None,
-    };
-    let is_named = value.is_named || time.is_some_and(|time| time.is_named);
-    let is_header = layout.has_header && (is_named || !has_number(names, value.index));
-    let indices = Indices {
+    let mut found = FoundColumns {
         value: value.index,
-        time: time.map(|time| time.index),
+        time: None,
+        groups: Vec::new(alloc),
+        conditions: Vec::new(alloc),
+        is_header: false,
+        is_named: value.is_named,
     };
-    Ok((indices, is_header))
+    if let Some(wanted) = columns.time {
+        let column = find_column(alloc, names, wanted, layout)?;
+        found.time = Some(column.index);
+        found.is_named = found.is_named || column.is_named;
+    }
+    for wanted in columns.groups {
+        let column = find_column(alloc, names, *wanted, layout)?;
+        found.groups.push(column.index)?;
+        found.is_named = found.is_named || column.is_named;
+    }
+    for condition in columns.conditions {
+        let column = find_column(alloc, names, condition.column, layout)?;
+        found
+            .conditions
+            .push((column.index, condition.text.as_bytes()))?;
+        found.is_named = found.is_named || column.is_named;
+    }
+    found.is_header = layout.has_header && (found.is_named || !has_number(names, value.index));
+    Ok(found)
 }
 
-/// Reads a table to its end. A column has a number from 1, or a name in the first row. An
-/// interrupted read is an error: `RetryReader` retries it.
+impl FoundColumns<'_> {
+    /// Whether a row has the text of each condition.
+    fn chooses(&self, row: &ByteRecord) -> bool {
+        self.conditions
+            .iter()
+            .all(|condition| field(row, condition.0) == Some(condition.1))
+    }
+
+    /// Returns the texts of a row. Those of several columns that have a group are joined by a space.
+    #[inline(always)]
+    fn texts<'a>(
+        &self,
+        row: &'a ByteRecord,
+        number: u64,
+        joined: &'a mut Vec<u8>,
+    ) -> Result<RowTexts<'a>, AllocError> {
+        let group = match self.groups.as_slice() {
+            [] => None,
+            [index] => field(row, *index),
+            indices => join(row, indices, joined)?,
+        };
+        Ok(RowTexts {
+            place: InputPlace::Row(number),
+            row: row.as_slice(),
+            value: field(row, self.value).ok_or(Cause::NoField),
+            time: self.time.and_then(|index| field(row, index)),
+            group,
+        })
+    }
+}
+
+/// Returns the fields of a row, joined by spaces, or `None` if the row does not have one of them.
+fn join<'a>(
+    row: &ByteRecord,
+    indices: &[usize],
+    joined: &'a mut Vec<u8>,
+) -> Result<Option<&'a [u8]>, AllocError> {
+    joined.clear();
+    for (position, index) in indices.iter().enumerate() {
+        let Some(field) = field(row, *index) else {
+            return Ok(None);
+        };
+        if position > 0 {
+            joined.push(b' ')?;
+        }
+        joined.extend_from_slice(field)?;
+    }
+    Ok(Some(joined.as_slice()))
+}
+
+/// Returns the field of a row, without whitespace around it.
+fn field(row: &ByteRecord, index: usize) -> Option<&[u8]> {
+    row.get(index).map(|field| field.trim_ascii())
+}
+
+/// What follows a table that is read: a row of bytes that no text has. If a quote is open, the last
+/// row of the table ends with it.
+const END: &[u8] = b"\xff\xfe\xfd\xfc\xfb\xfa\xf9\xf8";
+
+/// Reads a table to its end. A column has a number from 1, or a name in the first row. Returns the
+/// first row, if it is taken as names and no column was found by its name. An interrupted read is
+/// an error: `RetryReader` retries it.
 pub fn read_rows<R: Read + Drop, S: RowSink>(
     alloc: Global,
     reader: R,
-    columns: Columns<'_>,
+    columns: Columns<'_, '_>,
     layout: TableLayout,
     sink: &mut S,
-) -> Result<(), InputError> {
+) -> Result<Option<String>, InputError> {
+    let end = b"\n".as_slice().chain(END);
     let mut rows = ReaderBuilder::new()
         .has_headers(false)
         .flexible(true)
         .delimiter(layout.delimiter)
-        .from_reader(alloc, reader);
+        .from_reader(alloc, reader.chain(end));
     let mut row = ByteRecord::new(alloc);
-    if !rows.read_byte_record(&mut row).map_err(reading_error)? {
-        return Ok(());
+    rows.read_byte_record(&mut row).map_err(reading_error)?;
+    if is_end(&row, 1)? {
+        return Ok(None);
     }
-    let (indices, is_header) = find_columns(alloc, &row, columns, layout)?;
-    if !is_header {
-        sink.take_row(alloc, &row, indices, 1)?;
-    }
-    for before in 1..u64::MAX {
-        if !rows.read_byte_record(&mut row).map_err(reading_error)? {
+    let found = find_columns(alloc, &row, columns, layout)?;
+    let names = names_of(alloc, &row)?;
+    let mut joined = Vec::new(alloc);
+    for number in 1..u64::MAX {
+        if is_end(&row, number)? {
             break;
         }
-        sink.take_row(alloc, &row, indices, before + 1)?;
+        if number > 1 || !found.is_header {
+            if let Err(error) = take_chosen(alloc, sink, &row, number, &found, &mut joined) {
+                return Err(with_columns(alloc, error, &row, number, layout, names));
+            }
+        }
+        rows.read_byte_record(&mut row).map_err(reading_error)?;
     }
-    Ok(())
+    Ok(if found.is_header && !found.is_named {
+        Some(names)
+    } else {
+        None
+    })
 }
 
-/// Returns the field of a row, without whitespace around it.
-pub(crate) fn field(row: &ByteRecord, index: usize) -> Option<&[u8]> {
-    row.get(index).map(|field| field.trim_ascii())
-}
-
-/// Records the number of the row of this number.
+/// Takes a row, if it has the text of each condition.
 #[inline(always)]
-fn record_row<S: NumberSink>(
+fn take_chosen<S: RowSink>(
     alloc: Global,
     sink: &mut S,
     row: &ByteRecord,
-    index: usize,
     number: u64,
-) -> Result<(), InputError>
-    ensures { S.takes sink.old sink.new }
-{
-    let place = InputPlace::Row(number);
-    let Some(text) = field(row, index) else {
-        return skip_or_err(alloc, sink, place, row.as_slice(), Cause::NoField);
-    };
-    match record_text(sink, text) {
-        Ok(()) => Ok(()),
-        Err(cause) => skip_or_err(alloc, sink, place, text, cause),
+    found: &FoundColumns<'_>,
+    joined: &mut Vec<u8>,
+) -> Result<(), InputError> {
+    if !found.chooses(row) {
+        return Ok(());
+    }
+    let texts = found.texts(row, number, joined)?;
+    sink.take_row(alloc, texts)
+}
+
+/// Whether a row is the one after the last of the table.
+///
+/// # Errors
+/// Returns `OpenQuote` if the end of the table is in the row.
+#[inline(always)]
+fn is_end(row: &ByteRecord, number: u64) -> Result<bool, InputError> {
+    let bytes = row.as_slice();
+    if bytes.last() != END.last() || !bytes.ends_with(END) {
+        return Ok(false);
+    }
+    if bytes.len() > END.len() {
+        return Err(InputError::OpenQuote(number));
+    }
+    Ok(true)
+}
+
+/// Adds the columns of the first row to the error of a row that does not have a column.
+#[cold]
+#[inline(never)]
+fn with_columns(
+    alloc: Global,
+    error: InputError,
+    row: &ByteRecord,
+    number: u64,
+    layout: TableLayout,
+    names: String,
+) -> InputError {
+    if !is_short(&error) {
+        return error;
+    }
+    let delimiter = String::from_str(alloc, delimiter_name(layout.delimiter));
+    match (excerpt(alloc, row.as_slice()), delimiter) {
+        (Ok(text), Ok(delimiter)) => InputError::NoField {
+            place: InputPlace::Row(number),
+            text,
+            delimiter,
+            names,
+        },
+        _ => InputError::OutOfMemory,
     }
 }
 
-impl RowSink for Tally {
-    #[inline(always)]
-    fn take_row(
-        &mut self,
-        alloc: Global,
-        row: &ByteRecord,
-        indices: Indices,
-        number: u64,
-    ) -> Result<(), InputError> {
-        record_row(alloc, self, row, indices.value, number)
+/// Whether an error is that of a row that does not have a column.
+fn is_short(error: &InputError) -> bool {
+    match error {
+        InputError::BadNumber { cause, .. } => *cause == Cause::NoField,
+        _ => false,
     }
 }
 
-impl RowSink for BoundTally {
-    #[inline(always)]
-    fn take_row(
-        &mut self,
-        alloc: Global,
-        row: &ByteRecord,
-        indices: Indices,
-        number: u64,
-    ) -> Result<(), InputError> {
-        record_row(alloc, self, row, indices.value, number)
+/// Returns the name of a delimiter.
+fn delimiter_name(delimiter: u8) -> &'static str {
+    match delimiter {
+        b',' => "commas",
+        b'\t' => "tabs",
+        b';' => "semicolons",
+        b' ' => "spaces",
+        _ => "the delimiter",
     }
 }
 

@@ -1,7 +1,8 @@
 //! Why an input is not read.
 
 use crate::cause::Cause;
-use std::alloc::{AllocError, Global};
+use crate::group_texts::GroupError;
+use std::alloc::{AllocError, AllocFailed, Global};
 use std::io;
 use thiserror::Error;
 
@@ -28,6 +29,28 @@ pub enum InputError {
         wanted: String,
         names: String,
     },
+    #[error("columns {first} and {second} have the name `{name}`: give the number of one")]
+    DoubleName {
+        name: String,
+        first: u64,
+        second: u64,
+    },
+    /// A row ends before a column. The names are those of the first row.
+    #[error("{place}: `{text}` is a row without that column; row 1 has, between {delimiter}, {names}; --delimiter sets another, --skip-bad ignores such rows")]
+    NoField {
+        place: InputPlace,
+        text: String,
+        delimiter: String,
+        names: String,
+    },
+    /// A quote that begins a field of this row is not closed.
+    #[error("row {0}: a quote opens a field and is never closed")]
+    OpenQuote(u64),
+    #[error("column `{0}` has more than 1000 different texts; choose one with fewer")]
+    TooManyGroups(String),
+    /// The input is compressed.
+    #[error("is compressed by gzip; `gzip -dc FILE | hdrstat ..` reads it")]
+    Gzip,
     #[error("cannot read: {0}")]
     Io(io::Error),
     #[error("out of memory")]
@@ -45,6 +68,12 @@ impl From<AllocError> for InputError {
     }
 }
 
+impl<T: Drop> From<AllocFailed<T>> for InputError {
+    fn from(_error: AllocFailed<T>) -> InputError {
+        InputError::OutOfMemory
+    }
+}
+
 impl InputError {
     /// Returns the error of a reader.
     pub fn of_reading(error: io::Error) -> InputError {
@@ -53,6 +82,28 @@ impl InputError {
             _ => InputError::Io(error),
         }
     }
+}
+
+impl InputError {
+    /// Returns the error of a group that is not added, with the columns of its text.
+    pub(crate) fn of_groups(alloc: Global, columns: &[&str], error: GroupError) -> InputError {
+        match (error, joined(alloc, columns)) {
+            (GroupError::TooMany, Ok(columns)) => InputError::TooManyGroups(columns),
+            _ => InputError::OutOfMemory,
+        }
+    }
+}
+
+/// Returns texts with commas between them.
+fn joined(alloc: Global, texts: &[&str]) -> Result<String, AllocError> {
+    let mut all = String::new(alloc);
+    for text in texts {
+        if !all.is_empty() {
+            all.push(',')?;
+        }
+        all.push_str(*text)?;
+    }
+    Ok(all)
 }
 
 /// The most bytes of a line or a name that an error shows.

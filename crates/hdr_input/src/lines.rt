@@ -9,7 +9,9 @@ use crate::errors::{InputError, InputPlace, bad_number};
 use crate::number::{plain_line, plain_number};
 use crate::pieces::LineSink;
 use crate::sink::NumberSink;
+use crate::survey::Survey;
 use crate::tally::Tally;
+use crate::text::duration;
 use crate::wide::parse_unsigned;
 use std::alloc::Global;
 
@@ -44,6 +46,17 @@ pub(crate) fn record_text<S: NumberSink>(sink: &mut S, text: &[u8]) -> Result<()
 {
     match plain_number(text) {
         Some(number) => sink.record(number),
+        None => record_other(sink, text),
+    }
+}
+
+/// Parses a number that is not plain or a duration, and passes it to a sink.
+#[inline(never)]
+fn record_other<S: NumberSink>(sink: &mut S, text: &[u8]) -> Result<(), Cause>
+    ensures { S.takes sink.old sink.new }
+{
+    match duration(text, sink.unit()) {
+        Some(number) => sink.record(number?),
         None => sink.record_wide(parse_unsigned(text)?),
     }
 }
@@ -132,6 +145,21 @@ impl LineSink for Tally {
     ghost takes_none = { λ _ _. tt };
 
     ghost takes_more = { λ _ _ _ _ _ _ _ _ _ _ _. tt };
+
+    fn take_lines(&mut self, alloc: Global, lines: &[u8], first: u64) -> Result<u64, InputError> {
+        record_lines(alloc, self, lines, first)
+    }
+}
+
+impl LineSink for Survey {
+    ghost use Rattle.hdr_input.specs.Rounding.{Surveys};
+    ghost use Rattle.hdr_input.specs.Surveys.{surveys_nothing, surveys_after};
+
+    ghost takes = { λ _ _ _ old new. Surveys old new };
+
+    ghost takes_none = { λ _ sink. surveys_nothing sink };
+
+    ghost takes_more = { λ _ _ _ _ _ a b c _ first more. surveys_after a b c first more };
 
     fn take_lines(&mut self, alloc: Global, lines: &[u8], first: u64) -> Result<u64, InputError> {
         record_lines(alloc, self, lines, first)

@@ -2,6 +2,7 @@
 
 ghost use Rattle.std.specs.Prelude.{◌≡◌, ◌+◌, ◌-◌, ◌*◌, ◌^◌, ◌<◌, ◌≤◌, ℕ, List, [], min, max, true, length, IfNone, IfSome, SomeIff};
 ghost use Rattle.std.specs.Char.{is_ascii_digit, digit_value};
+ghost use Rattle.hdr_input.specs.Rounding.{whole_of, is_rounded};
 ghost use Rattle.hdr_input.specs.Numbers.{in_units, BeginsWithDigits, BeginsWithNumber, EndsLine};
 
 use crate::cause::Cause;
@@ -106,7 +107,7 @@ pub(crate) fn plain_number(text: &[u8]) -> Option<Number>
 /// Parses the digits that a text begins with, with at most a point after the first or a later one.
 /// Returns the number with the rest. Returns `None` if it has more than `MOST_DIGITS`.
 #[inline(always)]
-fn plain_start(text: &[u8]) -> Option<(Number, &[u8])>
+pub(crate) fn plain_start(text: &[u8]) -> Option<(Number, &[u8])>
     ensures length { IfSome result (λ p. length p.1.now < length text.now) }
     ensures value { IfSome result (λ p. BeginsWithNumber text.now p.0.digits p.0.decimals p.1.now) }
 {
@@ -136,10 +137,32 @@ impl Number {
     /// that is `None`.
     ///
     /// # Errors
-    /// Returns `NotANumber` for another text, and `Negative` for a number below 0. Returns
-    /// `TooManyDecimals` if an exact number has more than 18, and `TooLarge` on overflow.
+    /// Returns `NotANumber` or another cause for another text, and `Negative` for a number below 0.
+    /// Returns `TooManyDecimals` if an exact number has more than 18, and `TooLarge` on overflow.
     pub fn parse(text: &[u8], decimals: Option<u32>) -> Result<Number, Cause> {
         parse_unsigned(text)?.narrowed(decimals)
+    }
+
+    /// Returns the number rounded down to an integer.
+    #[tactic(auto, using(crate::proofs::InUnits::positive))]
+    pub fn whole(self) -> u64
+        ensures { result ≡ whole_of self }
+    {
+        match 10u64.checked_pow(self.decimals) {
+            Some(divisor) => self.digits / divisor,
+            None => 0,
+        }
+    }
+
+    /// Whether the number changes if it is rounded to `decimals`.
+    #[tactic(auto, using(crate::proofs::InUnits::positive))]
+    pub fn is_rounded(self, decimals: u32) -> bool
+        ensures { result ≡ is_rounded self decimals }
+    {
+        match 10u64.checked_pow(self.decimals.saturating_sub(decimals)) {
+            Some(divisor) => self.digits % divisor > 0,
+            None => self.digits > 0,
+        }
     }
 
     /// Divides the number by 10 to the power of `times`. Returns `None` on overflow.
@@ -172,7 +195,7 @@ impl Number {
 
     /// Returns the number in units of the last of `decimals`, halves rounded up, or `None` on
     /// overflow.
-    #[tactic(auto, using(crate::proofs::Units::positive))]
+    #[tactic(auto, using(crate::proofs::InUnits::positive))]
     pub fn rounded(self, decimals: u32) -> Option<u64>
         ensures units { IfSome result (λ units. units ≡ in_units self.digits self.decimals decimals) }
         ensures overflow { self.decimals ≤ 18 → decimals ≤ 18

@@ -2,6 +2,7 @@
 
 use crate::cause::Cause;
 use crate::number::Number;
+use crate::units::Unit;
 use crate::wide::Wide;
 
 /// What takes numbers.
@@ -26,6 +27,9 @@ pub(crate) trait NumberSink {
     /// Counts a line that is bad for this cause, if such lines are skipped, and returns whether.
     fn count_if_skipped(&mut self, cause: Cause) -> bool
         ensures taken { takes self.old self.new };
+
+    /// Returns the unit of numbers that have none, if numbers may have units.
+    fn unit(&self) -> Option<Unit>;
 
     /// Without a number nothing changes.
     ghost takes_none: { (sink : Self) → takes sink sink };

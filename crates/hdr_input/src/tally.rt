@@ -1,17 +1,18 @@
 //! Numbers, recorded as they come.
 
-ghost use Rattle.std.specs.Prelude.{◌≡◌, ◌+◌, ◌-◌, ◌%◌, ◌^◌, ◌<◌, ◌≤◌, ℕ, min, max, true};
-ghost use Rattle.std.specs.Prelude.{Some, None, Ok, OnOk, IfOk, IfErr, IsSome, MatchOption};
+ghost use Rattle.std.specs.Prelude.{◌≡◌, ◌+◌, ◌-◌, ◌%◌, ◌^◌, ◌<◌, ◌≤◌, min, max, true};
+ghost use Rattle.std.specs.Prelude.{Some, None, Ok, OnOk, IfOk, IfErr};
 ghost use Rattle.hdr_model.specs.CallErrors.{IsCreationError};
 ghost use Rattle.hdr_model.specs.Plain.{empty_plain};
 ghost use Rattle.hdr_input.specs.Numbers.{in_units};
 ghost use Rattle.hdr_input.specs.Recorded.{IsInterval, IsLeast, Takes, KeepsUnit};
-ghost use Rattle.hdr_input.specs.Recorded.{IsTallyError, IsCauseOf};
+ghost use Rattle.hdr_input.specs.Recorded.{IsTallyError, IsCauseOf, after_rounding};
 
 use crate::cause::Cause;
 use crate::distribution::{Distribution, MOST_DECIMALS};
 use crate::number::Number;
 use crate::sink::NumberSink;
+use crate::units::Unit;
 use crate::wide::Wide;
 use hdrhistogram::{CreationError, Histogram, RecordError};
 use std::alloc::Global;
@@ -21,9 +22,12 @@ use std::alloc::Global;
 pub struct Recording {
     /// The significant digits of the histogram, at most 5.
     pub sigfig: u8,
-    /// The decimals of a unit, to which all numbers are rounded. If `None`, they are those of the
-    /// first number, and a number with more of them is an error.
-    pub decimals: Option<u32>,
+    /// The decimals of a unit, to which all numbers are rounded.
+    pub decimals: u32,
+    /// Whether these decimals were chosen by the user, and not by a survey.
+    pub has_chosen_decimals: bool,
+    /// The unit of numbers that have none, if numbers may have units.
+    pub unit: Option<Unit>,
     /// The expected interval between two samples, 0 for none.
     pub interval: Number,
     /// Whether bad lines are skipped.
@@ -35,14 +39,19 @@ pub struct Recording {
 #[derive(Drop)]
 pub struct Tally {
     pub histogram: Histogram<u64>,
-    recording: Recording,
-    /// The decimals of a unit: those of the recording, or of the first number.
-    pub decimals: Option<u32>,
+    /// The decimals of a unit.
+    pub decimals: u32,
     /// The expected interval in units, 0 for none.
     pub interval: u64,
+    unit: Option<Unit>,
+    skips_bad: bool,
     pub min: u64,
     pub max: u64,
     pub sum: u128,
+    /// How many numbers have more decimals than a unit, and were rounded.
+    pub rounded: u64,
+    /// How many missing samples were recorded.
+    pub missing: u64,
     /// The number of lines skipped.
     pub skipped: u64,
 }
@@ -51,27 +60,28 @@ impl Tally {
     /// Returns an empty tally.
     pub fn new(alloc: Global, recording: Recording) -> Result<Tally, CreationError>
         ensures decimals { IfOk result (λ tally. tally.decimals ≡ recording.decimals) }
-        ensures interval { IfOk result (λ tally. MatchOption recording.decimals
-            (tally.interval ≡ 0) (λ decimals. IsInterval recording.interval decimals tally.interval)) }
+        ensures interval { IfOk result
+            (λ tally. IsInterval recording.interval recording.decimals tally.interval) }
         ensures histogram { IfOk result
             (λ tally. tally.histogram ≡ empty_plain 1 2 recording.sigfig true) }
         ensures extremes { IfOk result (λ tally. (tally.min ≡ 2 ^ 64 - 1) × (tally.max ≡ 0)) }
         ensures sum { IfOk result (λ tally. tally.sum ≡ 0) }
-        ensures skipped { IfOk result (λ tally. tally.skipped ≡ 0) }
+        ensures counts { IfOk result
+            (λ tally. (tally.rounded ≡ 0) × (tally.missing ≡ 0) × (tally.skipped ≡ 0)) }
         ensures errors { IfErr result (IsCreationError 1 2 recording.sigfig) }
     {
-        let interval = match recording.decimals {
-            Some(decimals) => recording.interval.rounded(decimals).unwrap_or(u64::MAX),
-            None => 0,
-        };
+        let decimals = recording.decimals;
         Ok(Tally {
             histogram: Histogram::new(alloc, recording.sigfig)?,
-            recording,
-            decimals: recording.decimals,
-            interval,
+            decimals,
+            interval: recording.interval.rounded(decimals).unwrap_or(u64::MAX),
+            unit: recording.unit,
+            skips_bad: recording.skips_bad,
             min: u64::MAX,
             max: 0,
             sum: 0,
+            rounded: 0,
+            missing: 0,
             skipped: 0,
         })
     }
@@ -80,23 +90,21 @@ impl Tally {
     pub(crate) fn count_skipped(&mut self, cause: Cause) -> bool
         ensures { self.new.decimals ≡ self.old.decimals }
     {
-        let is_skipped = self.recording.skips_bad && cause.may_be_skipped();
+        let is_skipped = self.skips_bad && cause.may_be_skipped();
         if is_skipped {
             self.skipped = self.skipped.saturating_add(1);
         }
         is_skipped
     }
 
-    /// Returns the decimals of a unit.
-    pub fn decimals(&self) -> u32
-        ensures { (decimals : ℕ) → self.now.decimals ≡ Some decimals → result ≡ decimals }
-    {
-        self.decimals.unwrap_or(0)
+    /// Returns the unit of numbers that have none, if numbers may have units.
+    pub(crate) fn unit(&self) -> Option<Unit> {
+        self.unit
     }
 
-    /// Returns the decimals that numbers are rounded to, if the recording has them.
-    pub(crate) fn fixed_decimals(&self) -> Option<u32> {
-        self.recording.decimals
+    /// Returns how many numbers were recorded, without missing samples.
+    pub fn numbers(&self) -> u64 {
+        self.histogram.len().saturating_sub(self.missing)
     }
 
     /// Returns the distribution of the numbers.
@@ -106,8 +114,7 @@ impl Tally {
         ensures max { result.max ≡ self.max }
         ensures sum { self.interval ≡ 0 → result.sum ≡ Some self.sum }
         ensures unknown { 0 < self.interval → result.sum ≡ None }
-        ensures decimals { (decimals : ℕ) → self.decimals ≡ Some decimals
-            → decimals ≤ MOST_DECIMALS → result.decimals ≡ decimals }
+        ensures decimals { self.decimals ≤ MOST_DECIMALS → result.decimals ≡ self.decimals }
     {
         let sum = if self.interval > 0 {
             None
@@ -119,23 +126,21 @@ impl Tally {
             min: self.min,
             max: self.max,
             sum,
-            decimals: self.decimals.unwrap_or(0).min(MOST_DECIMALS),
+            decimals: self.decimals.min(MOST_DECIMALS),
         }
     }
 
-    /// Records a number.
+    /// Records a number, rounded to the unit.
     ///
     /// # Errors
-    /// Returns `MoreDecimals` if the number has more decimals than those before it, unless they are
-    /// fixed. Returns `TooLarge` if it overflows in units, or `OutOfMemory`.
+    /// Returns `TooLarge` if the number overflows in units, or `OutOfMemory`.
     #[inline(always)]
     pub fn record(&mut self, number: Number) -> Result<(), Cause>
         ensures number { OnOk result (Takes self.old self.new number) }
         ensures unit { KeepsUnit self.old self.new }
-        ensures set { IsSome self.new.decimals }
-        ensures errors { IfErr result (IsTallyError self.new number) }
+        ensures errors { IfErr result (IsTallyError self.old number) }
     {
-        if self.decimals == Some(number.decimals) && self.interval == 0 {
+        if self.decimals == number.decimals && self.interval == 0 {
             return self.record_alone(number);
         }
         self.record_other(number)
@@ -143,14 +148,13 @@ impl Tally {
 
     /// Records a number that is in units, if no interval is expected.
     #[inline(always)]
-    #[tactic(auto, using(crate::proofs::Units::units_same, crate::proofs::Units::after_alone))]
+    #[tactic(auto, using(crate::proofs::InUnits::units_same, crate::proofs::InUnits::after_alone, crate::proofs::InUnits::exact_same))]
     pub(crate) fn record_alone(&mut self, number: Number) -> Result<(), Cause>
-        ensures number { OnOk result (self.old.decimals ≡ Some number.decimals
+        ensures number { OnOk result (self.old.decimals ≡ number.decimals
             → self.old.interval ≡ 0 → Takes self.old self.new number) }
-        ensures decimals { self.new.decimals ≡ self.old.decimals }
-        ensures interval { self.new.interval ≡ self.old.interval }
-        ensures errors { IfErr result (λ cause. self.old.decimals ≡ Some number.decimals
-            → IsTallyError self.new number cause) }
+        ensures unit { KeepsUnit self.old self.new }
+        ensures errors { IfErr result (λ cause. self.old.decimals ≡ number.decimals
+            → IsTallyError self.old number cause) }
     {
         let done = self.histogram.record(number.digits);
         self.update_extremes(done, number.digits, number.digits)
@@ -162,12 +166,16 @@ impl Tally {
     fn record_other(&mut self, number: Number) -> Result<(), Cause>
         ensures number { OnOk result (Takes self.old self.new number) }
         ensures unit { KeepsUnit self.old self.new }
-        ensures set { IsSome self.new.decimals }
-        ensures errors { IfErr result (IsTallyError self.new number) }
+        ensures errors { IfErr result (IsTallyError self.old number) }
     {
         let units = self.units_of(number)?;
         let done = self.histogram.record_correct(units, self.interval);
-        self.update_extremes(done, least_of(units, self.interval), units)
+        self.update_extremes(done, least_of(units, self.interval), units)?;
+        self.count_rounded(number.is_rounded(self.decimals));
+        self.missing = self
+            .missing
+            .wrapping_add(missing_before(units, self.interval));
+        Ok(())
     }
 
     /// Widens the extremes by a value that was recorded, and by the least of the samples recorded
@@ -182,11 +190,11 @@ impl Tally {
         ensures done { OnOk result (done ≡ Ok tt) }
         ensures errors { IfErr result (IsCauseOf done) }
         ensures histogram { self.new.histogram ≡ self.old.histogram }
-        ensures decimals { self.new.decimals ≡ self.old.decimals }
-        ensures interval { self.new.interval ≡ self.old.interval }
+        ensures unit { KeepsUnit self.old self.new }
         ensures min { OnOk result (self.new.min ≡ min self.old.min least) }
         ensures max { OnOk result (self.new.max ≡ max self.old.max value) }
         ensures sum { OnOk result (self.new.sum ≡ (self.old.sum + value) % 2 ^ 128) }
+        ensures rounded { self.new.rounded ≡ self.old.rounded }
     {
         match done {
             Ok(()) => {
@@ -204,50 +212,22 @@ impl Tally {
         }
     }
 
-    /// Returns a number in units. The first number determines the unit, unless the recording does.
-    pub(crate) fn units_of(&mut self, number: Number) -> Result<u64, Cause>
-        ensures units { IfOk result (λ units. (decimals : ℕ) → self.new.decimals ≡ Some decimals
-            → units ≡ in_units number.digits number.decimals decimals) }
-        ensures set { IsSome self.new.decimals }
-        ensures errors { IfErr result (IsTallyError self.new number) }
-        ensures unit { (decimals : ℕ) → self.old.decimals ≡ Some decimals → self.new ≡ self.old }
-        ensures exact { OnOk result (self.old.recording.decimals ≡ None → (decimals : ℕ)
-            → self.new.decimals ≡ Some decimals → number.decimals ≤ decimals) }
-        ensures histogram { self.new.histogram ≡ self.old.histogram }
-        ensures min { self.new.min ≡ self.old.min }
-        ensures max { self.new.max ≡ self.old.max }
-        ensures sum { self.new.sum ≡ self.old.sum }
+    /// Returns a number in units.
+    pub(crate) fn units_of(&self, number: Number) -> Result<u64, Cause>
+        ensures units { IfOk result
+            (λ units. units ≡ in_units number.digits number.decimals self.now.decimals) }
+        ensures errors { IfErr result (IsTallyError self.now number) }
     {
-        let decimals = match self.decimals {
-            Some(decimals) => decimals,
-            None => self.set_decimals(number.decimals),
-        };
-        if number.decimals > decimals && self.recording.decimals.is_none() {
-            return Err(Cause::MoreDecimals);
-        }
-        number.rounded(decimals).ok_or(Cause::TooLarge)
+        number.rounded(self.decimals).ok_or(Cause::TooLarge)
     }
 
-    /// Sets the decimals of a unit: those of a number, or of the expected interval if these are
-    /// more, but at most 18.
-    fn set_decimals(&mut self, decimals: u32) -> u32
-        ensures decimals { self.new.decimals ≡ Some result }
-        ensures recording { self.new.recording ≡ self.old.recording }
-        ensures histogram { self.new.histogram ≡ self.old.histogram }
-        ensures min { self.new.min ≡ self.old.min }
-        ensures max { self.new.max ≡ self.old.max }
-        ensures sum { self.new.sum ≡ self.old.sum }
+    /// Counts a number that was recorded, if it was rounded.
+    pub(crate) fn count_rounded(&mut self, is_rounded: bool)
+        ensures { self.new ≡ after_rounding self.old is_rounded }
     {
-        let decimals = decimals
-            .max(self.recording.interval.decimals)
-            .min(MOST_DECIMALS);
-        self.decimals = Some(decimals);
-        self.interval = self
-            .recording
-            .interval
-            .rounded(decimals)
-            .unwrap_or(u64::MAX);
-        decimals
+        if is_rounded {
+            self.rounded = self.rounded.wrapping_add(1);
+        }
     }
 }
 
@@ -264,12 +244,24 @@ impl NumberSink for Tally {
     }
 
     fn record_wide(&mut self, number: Wide) -> Result<(), Cause> {
-        self.record(number.narrowed(self.fixed_decimals())?)
+        let decimals = self.decimals;
+        self.record(number.rounded(decimals)?)?;
+        self.count_rounded(number.is_rounded(decimals));
+        Ok(())
     }
 
     fn count_if_skipped(&mut self, cause: Cause) -> bool {
         self.count_skipped(cause)
     }
+
+    fn unit(&self) -> Option<Unit> {
+        self.unit
+    }
+}
+
+/// Returns how many missing samples a value has at an expected interval, 0 for none.
+fn missing_before(value: u64, interval: u64) -> u64 {
+    value.checked_div(interval).unwrap_or(0).saturating_sub(1)
 }
 
 /// Returns the least of a value and of its missing samples at an expected interval, 0 for none.

@@ -3,6 +3,7 @@
 use crate::cause::Cause;
 use crate::distribution::MOST_DECIMALS;
 use crate::number::Number;
+use crate::text::cause_of;
 
 /// The number digits * 10^exponent. If digits were cut, the number is greater by less than
 /// 10^exponent.
@@ -82,7 +83,7 @@ fn mantissa(text: &[u8]) -> Option<Wide> {
 }
 
 /// Splits a text after its sign, if it has one. Returns whether that is `-`, and the rest.
-fn split_sign(text: &[u8]) -> (bool, &[u8]) {
+pub(crate) fn split_sign(text: &[u8]) -> (bool, &[u8]) {
     match text {
         [b'-', rest @ ..] => (true, rest),
         [b'+', rest @ ..] => (false, rest),
@@ -120,10 +121,10 @@ fn parse_wide(text: &[u8]) -> Option<Wide> {
 /// Parses a number such as `12`, `+0.50` or `1.5e-05`.
 ///
 /// # Errors
-/// Returns `NotANumber` for another text, and `Negative` for a number below 0.
+/// Returns `Negative` for a number below 0, and `cause_of` another text.
 pub(crate) fn parse_unsigned(text: &[u8]) -> Result<Wide, Cause> {
     let (is_negative, digits) = split_sign(text);
-    let number = parse_wide(digits).ok_or(Cause::NotANumber)?;
+    let number = parse_wide(digits).ok_or_else(|| cause_of(text))?;
     if is_negative && !number.is_zero() {
         return Err(Cause::Negative);
     }
@@ -180,8 +181,35 @@ impl Wide {
         }
     }
 
+    /// Returns how many decimals the number has.
+    pub(crate) fn decimals(self) -> u32 {
+        let decimals = 0i64.saturating_sub(self.exponent).max(0);
+        u32::try_from(decimals).unwrap_or(u32::MAX)
+    }
+
+    /// Returns how many digits the number has before its point, 0 if it is below 1.
+    pub(crate) fn digits_before_point(self) -> u32 {
+        let Some(power) = self.digits.checked_ilog10() else {
+            return 0;
+        };
+        let digits = self.exponent.saturating_add(i64::from(power) + 1);
+        u32::try_from(digits.max(0)).unwrap_or(u32::MAX)
+    }
+
+    /// Whether the number changes if it is rounded to `decimals`.
+    pub(crate) fn is_rounded(self, decimals: u32) -> bool {
+        let power = self.exponent.saturating_add(i64::from(decimals));
+        if power >= 0 {
+            return self.is_cut;
+        }
+        match power_of_ten(0i64.saturating_sub(power)) {
+            Some(divisor) => self.is_cut || self.digits.checked_rem(divisor).unwrap_or(0) > 0,
+            None => !self.is_zero(),
+        }
+    }
+
     /// Returns the number rounded to `decimals`, halves up.
-    fn rounded(self, decimals: u32) -> Result<Number, Cause> {
+    pub(crate) fn rounded(self, decimals: u32) -> Result<Number, Cause> {
         let power = self.exponent.saturating_add(i64::from(decimals));
         let units = if power < 0 {
             Some(self.divided(0i64.saturating_sub(power)))

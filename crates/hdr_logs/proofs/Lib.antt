@@ -7,3 +7,4 @@ pub mod Storing
 pub mod TagsByFile
 pub mod Earliest
 pub mod Moving
+pub mod UnitLines

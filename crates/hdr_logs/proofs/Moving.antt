@@ -4,7 +4,7 @@ use Rattle.std.proofs.Math.ListN.{set}
 use Rattle.std.proofs.lemmas.List.{map-set, get_or-map, set-get_or}
 use Rattle.std.specs.List.{All}
 use Rattle.std.proofs.lemmas.List.Elements.{All-nil, All-cons, All-head, All-tail}
-use Rattle.hdr_logs.specs.Stored.{Stored, decimals_of}
+use Rattle.hdr_logs.specs.Stored.{Stored}
 use Rattle.hdr_logs.specs.Aligned.{IsFirstStart, BeginAt, LieOver, moved}
 use Rattle.hdr_logs.specs.declared.stored.StoredInterval.{StoredInterval}
 
@@ -49,21 +49,21 @@ pub laid_as : (front back all before old new : List Stored) (start : ℕ) → be
 laid_as front back all before old new start e f g first begins =
     subst (λ l. LieOver front back l) g (subst (λ l. LieOver front l (before ++ new)) f (subst (λ l. LieOver l old (before ++ new)) e (laid before old new start first begins)))
 
--- intervals with the same decimals as others
-with_decimals : (d : ℕ) (new rest : List StoredInterval) → map decimals_of new ≡ map decimals_of rest → All (λ s. decimals_of s ≡ d) rest → All (λ s. decimals_of s ≡ d) new
-with_decimals d [] rest e h = All-nil (λ s. decimals_of s ≡ d)
-with_decimals d (x ∷ new) [] e h = cc
-with_decimals d (x ∷ new) (y ∷ rest) e h =
-    let first : decimals_of x ≡ decimals_of y = cc in
-    let others : map decimals_of new ≡ map decimals_of rest = cc in
-    All-cons (λ s. decimals_of s ≡ d) x new (first ∙ All-head (λ s. decimals_of s ≡ d) y rest h) (with_decimals d new rest others (All-tail (λ s. decimals_of s ≡ d) y rest h))
+-- intervals with the same value as others, as their decimals
+with_same : {X : Type 0} (f : StoredInterval → X) (d : X) (new rest : List StoredInterval) → map f new ≡ map f rest → All (λ s. f s ≡ d) rest → All (λ s. f s ≡ d) new
+with_same f d [] rest e h = All-nil (λ s. f s ≡ d)
+with_same f d (x ∷ new) [] e h = cc
+with_same f d (x ∷ new) (y ∷ rest) e h =
+    let first : f x ≡ f y = cc in
+    let others : map f new ≡ map f rest = cc in
+    All-cons (λ s. f s ≡ d) x new (first ∙ All-head (λ s. f s ≡ d) y rest h) (with_same f d new rest others (All-tail (λ s. f s ≡ d) y rest h))
 
 -- the same behind others
-pub same_decimals : (d : ℕ) (before rest new : List StoredInterval) → map decimals_of new ≡ map decimals_of rest → All (λ s. decimals_of s ≡ d) (before ++ rest) → All (λ s. decimals_of s ≡ d) (before ++ new)
-same_decimals d [] rest new same h = with_decimals d new rest same h
-same_decimals d (b ∷ before) rest new same h =
-    All-cons (λ s. decimals_of s ≡ d) b (before ++ new) (All-head (λ s. decimals_of s ≡ d) b (before ++ rest) h)
-    (same_decimals d before rest new same (All-tail (λ s. decimals_of s ≡ d) b (before ++ rest) h))
+pub same_behind : {X : Type 0} (f : StoredInterval → X) (d : X) (before rest new : List StoredInterval) → map f new ≡ map f rest → All (λ s. f s ≡ d) (before ++ rest) → All (λ s. f s ≡ d) (before ++ new)
+same_behind f d [] rest new same h = with_same f d new rest same h
+same_behind f d (b ∷ before) rest new same h =
+    All-cons (λ s. f s ≡ d) b (before ++ new) (All-head (λ s. f s ≡ d) b (before ++ rest) h)
+    (same_behind f d before rest new same (All-tail (λ s. f s ≡ d) b (before ++ rest) h))
 
 -- what follows from what holds of a successful result
 pub on_ok : {A E P Q : Type 0} (r : Result A E) → (P → Q) → OnOk r P → OnOk r Q

@@ -1,11 +1,12 @@
 -- Intervals that are stored.
-use Rattle.std.proofs.Common.{◌≡◌, ◌++◌, ◌∷◌, [], ℕ, List, Option, Some, None, Bor, map, unwrap_or, slice_get, refl, sym, ap, ◌∙◌, append_assoc}
+use Rattle.std.proofs.Common.{◌≡◌, ◌++◌, ◌∷◌, [], ℕ, List, Option, Some, None, Bor, map, unwrap_or, option_and_then, slice_get, refl, sym, ap, subst, ◌∙◌, append_assoc}
 use Rattle.std.specs.List.{All}
 use Rattle.std.specs.Option.{option_copied}
 use Rattle.std.proofs.lemmas.List.Elements.{All-nil, All-cons, All-head, All-append}
 use Rattle.std.proofs.lemmas.List.{map-append}
 use Rattle.hdr_logs.specs.Intervals.{LogInterval}
-use Rattle.hdr_logs.specs.Stored.{Stored, stored, decimals_of}
+use Rattle.hdr_input.specs.declared.unit.Unit.{Unit}
+use Rattle.hdr_logs.specs.Stored.{Stored, stored}
 use Rattle.hdr_logs.specs.declared.stored.StoredInterval.{StoredInterval}
 
 -- one more interval is stored, each as f makes it
@@ -20,10 +21,17 @@ pub behind_either : (one : Option (Bor StoredInterval)) (other : Bor StoredInter
 behind_either None other = refl
 behind_either (Some one) other = refl
 
--- one more interval has the decimals of the first
-pub same_more : (old : List StoredInterval) (s first : StoredInterval) → first ≡ unwrap_or (slice_get old 0) s → decimals_of s ≡ decimals_of first
-    → (d : ℕ) × All (λ i. decimals_of i ≡ d) old → (d : ℕ) × All (λ i. decimals_of i ≡ d) (old ++ s ∷ [])
-same_more [] s first is same have = (decimals_of s, All-cons (λ i. decimals_of i ≡ decimals_of s) s [] refl (All-nil (λ i. decimals_of i ≡ decimals_of s)))
-same_more (x ∷ old) s first is same have =
-    let here : decimals_of s ≡ have.0 = same ∙ ap decimals_of is ∙ All-head (λ i. decimals_of i ≡ have.0) x old have.1 in
-    (have.0, All-append (λ i. decimals_of i ≡ have.0) (x ∷ old) (s ∷ []) have.1 (All-cons (λ i. decimals_of i ≡ have.0) s [] here (All-nil (λ i. decimals_of i ≡ have.0))))
+-- one more interval has a value of the first, as its decimals
+pub same_more : {X : Type 0} (f : StoredInterval → X) (old : List StoredInterval) (s first : StoredInterval) → first ≡ unwrap_or (slice_get old 0) s → f s ≡ f first
+    → (d : X) × All (λ i. f i ≡ d) old → (d : X) × All (λ i. f i ≡ d) (old ++ s ∷ [])
+same_more f [] s first is same have = (f s, All-cons (λ i. f i ≡ f s) s [] refl (All-nil (λ i. f i ≡ f s)))
+same_more f (x ∷ old) s first is same have =
+    let here : f s ≡ have.0 = same ∙ ap f is ∙ All-head (λ i. f i ≡ have.0) x old have.1 in
+    (have.0, All-append (λ i. f i ≡ have.0) (x ∷ old) (s ∷ []) have.1 (All-cons (λ i. f i ≡ have.0) s [] here (All-nil (λ i. f i ≡ have.0))))
+
+-- where all intervals have the same unit, they have that of the first
+pub unit_of_first : (all : List StoredInterval) (unit : Option Unit) → unit ≡ option_and_then (λ i. i.unit) (slice_get all 0) → (d : Option Unit) × All (λ i. i.unit ≡ d) all → All (λ i. i.unit ≡ unit) all
+unit_of_first [] unit is have = All-nil (λ i. i.unit ≡ unit)
+unit_of_first (x ∷ all) unit is have =
+    let same : unit ≡ have.0 = is ∙ All-head (λ i. i.unit ≡ have.0) x all have.1 in
+    subst (λ d. All (λ i. i.unit ≡ d) (x ∷ all)) (sym same) have.1

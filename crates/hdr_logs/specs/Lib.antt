@@ -10,3 +10,5 @@ pub mod Aligned
 pub mod Reading
 pub mod Sums
 pub mod Conversion
+pub mod Headers
+pub mod Comments

@@ -1,8 +1,9 @@
 -- Intervals of logs that are stored.
-use Rattle.std.specs.Prelude.{◌≡◌, ℕ, ◌+◌, ◌-◌, ◌^◌, List, [], ◌++◌, map, min, unwrap_or}
+use Rattle.std.specs.Prelude.{◌≡◌, ℕ, ◌+◌, ◌-◌, ◌^◌, List, [], ◌++◌, map, min, Option, unwrap_or}
 use Rattle.std.specs.List.{All}
 use Rattle.std.specs.Duration.{as_nanos}
 use Rattle.std.specs.String.{string_bytes}
+use Rattle.hdr_input.specs.declared.unit.Unit.{Unit}
 use Rattle.hdr_logs.specs.Times.{nearest_millisecond}
 use Rattle.hdr_logs.specs.Intervals.{LogInterval}
 use Rattle.hdr_logs.specs.declared.stored.StoredInterval.{StoredInterval}
@@ -45,3 +46,7 @@ Keeps old all new = intervals_of new ≡ intervals_of old ++ map stored all
 -- the values of all intervals have the same decimals
 abbrev pub HaveSameDecimals : LogIntervals → Type 0
 HaveSameDecimals intervals = (decimals : ℕ) × All (λ s. decimals_of s ≡ decimals) intervals.list.items
+
+-- the values of all intervals have the same unit, or none has one
+abbrev pub HaveSameUnit : LogIntervals → Type 0
+HaveSameUnit intervals = (unit : Option Unit) × All (λ s. s.unit ≡ unit) intervals.list.items

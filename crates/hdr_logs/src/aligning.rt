@@ -38,6 +38,7 @@ pub(crate) fn begin_at(intervals: &mut [StoredInterval], start: u64) -> Result<(
     ensures begin { OnOk result (BeginAt start (map view_of_stored intervals.old)
         (map view_of_stored intervals.new)) }
     ensures decimals { OnOk result (map decimals_of intervals.new ≡ map decimals_of intervals.old) }
+    ensures unit { OnOk result (map (λ i. i.unit) intervals.new ≡ map (λ i. i.unit) intervals.old) }
 {
     let Some(first) = first_start(intervals) else {
         return Ok(());

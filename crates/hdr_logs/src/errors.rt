@@ -1,5 +1,6 @@
 //! Why a log is not read.
 
+use crate::headers::UnitName;
 use crate::lines::LONGEST;
 use crate::place::Place;
 use hdr_convert::ConvertError;
@@ -32,6 +33,13 @@ pub enum LogError {
         decimals: u32,
         others: u32,
     },
+    /// The values have another unit than those of other intervals.
+    #[error("{place}: the values are in {unit}, and others in {others}; write the logs by the same --unit")]
+    OtherUnit {
+        place: Place,
+        unit: UnitName,
+        others: UnitName,
+    },
     /// The histogram of the interval is not decoded.
     #[error("{place}: {cause}")]
     Field {
@@ -52,9 +60,9 @@ pub enum LogError {
     NotSorted(Place),
     #[error("{0}: the interval is neither finer nor coarser than others of its time and tag")]
     NotNested(Place),
-    /// A unit is set, and the values have these decimals of it.
-    #[error("the values have {0} decimals; without --unit they are shown in units of the last one")]
-    UnitOfDecimals(u32),
+    /// A level has a unit, and the values have none.
+    #[error("the values have no unit, and a level has one; set theirs by --unit")]
+    NoUnit,
     /// A log is not written.
     #[error("{0}")]
     Write(IntervalLogWriterError<CountNotSerializable>),
@@ -147,6 +155,7 @@ impl LogError {
             LogError::NotALine { place, .. }
             | LogError::TooLong { place, .. }
             | LogError::OtherDecimals { place, .. }
+            | LogError::OtherUnit { place, .. }
             | LogError::Field { place, .. }
             | LogError::Conversion { place, .. }
             | LogError::TooLate(place)

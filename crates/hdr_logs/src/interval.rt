@@ -8,6 +8,7 @@ ghost use Rattle.hdrhistogram.specs.Chosen.{view_of_interval_choice};
 ghost use Rattle.hdr_logs.specs.Intervals.{tag_or_none, is_chosen_interval};
 
 use crate::place::Place;
+use hdr_input::Unit;
 use hdr_log::TimedInterval;
 use hdrhistogram::serialization::interval_log::{IntervalChoice, IntervalLogHistogram, Tag};
 use std::time::Duration;
@@ -24,6 +25,8 @@ pub struct Interval<'a> {
     pub field: &'a str,
     /// The decimals of its values, if a comment before it has them. Otherwise they are integers.
     pub decimals: Option<u32>,
+    /// The unit of its values, if a comment before it has one.
+    pub unit: Option<Unit>,
     pub place: Place,
 }
 

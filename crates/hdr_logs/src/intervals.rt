@@ -7,16 +7,17 @@ ghost use Rattle.hdr_log.specs.Tags.{tag_text};
 ghost use Rattle.hdrhistogram.specs.Chosen.{view_of_interval_choice};
 ghost use Rattle.hdr_logs.specs.Intervals.{LogInterval, LogHolds, view_of_log_interval};
 ghost use Rattle.hdr_logs.specs.FileNames.{in_file};
-ghost use Rattle.hdr_logs.specs.Stored.{Keeps, HaveSameDecimals, decimals_of, intervals_of};
+ghost use Rattle.hdr_logs.specs.Stored.{Keeps, HaveSameDecimals, HaveSameUnit, decimals_of, intervals_of};
 ghost use Rattle.hdr_logs.specs.Aligned.{LieOver};
 
 use crate::aligning::{begin_at, first_start};
 use crate::errors::LogError;
-use crate::headers::check_decimals;
+use crate::headers::{check_decimals, check_unit};
 use crate::interval::Interval;
 use crate::note::Note;
 use crate::reader::{LineBuffer, LogLine, LogReader};
 use crate::stored::StoredInterval;
+use hdr_input::Unit;
 use hdrhistogram::serialization::interval_log::{IntervalChoice, Tag};
 use std::alloc::Global;
 use std::io::Read;
@@ -43,8 +44,8 @@ impl LogIntervals {
     /// name, their tags end with that.
     ///
     /// # Errors
-    /// Returns an error if the log is not read, or if an interval has other decimals than those
-    /// before it, or begins past 64 bits of milliseconds.
+    /// Returns an error if the log is not read, or if an interval has other decimals or another unit
+    /// than those before it, or begins past 64 bits of milliseconds.
     pub fn read_log<R: Read + Drop>(
         &mut self,
         alloc: Global,
@@ -57,6 +58,7 @@ impl LogIntervals {
             × IfSome (R.remaining reader) (λ text. LogHolds (view_of_interval_choice choice.entry) text all)
             × Keeps self.old (map (in_file (option_map tag_text file_name.entry)) all) self.new) }
         ensures decimals { OnOk result (HaveSameDecimals self.old → HaveSameDecimals self.new) }
+        ensures unit { OnOk result (HaveSameUnit self.old → HaveSameUnit self.new) }
     {
         let mut buffer = LineBuffer::new(alloc);
         let mut log = LogReader::new(alloc, file, reader, choice)?;
@@ -84,11 +86,14 @@ impl LogIntervals {
             (in_file (option_map tag_text file_name.entry) (view_of_log_interval interval.now) ∷ [])
             self.new) }
         ensures decimals { OnOk result (HaveSameDecimals self.old → HaveSameDecimals self.new) }
+        ensures unit { OnOk result (HaveSameUnit self.old → HaveSameUnit self.new) }
     {
         let interval = StoredInterval::new(alloc, interval, file_name)?;
         let first = self.list.first().unwrap_or(&interval);
         let others = first.decimals.unwrap_or(0);
+        let unit = first.unit;
         check_decimals(interval.place, interval.decimals, others)?;
+        check_unit(interval.place, interval.unit, unit)?;
         self.list.push(interval)?;
         Ok(())
     }
@@ -102,6 +107,7 @@ impl LogIntervals {
         ensures aligned { OnOk result (LieOver (take index (intervals_of self.old))
             (drop index (intervals_of self.old)) (intervals_of self.new)) }
         ensures decimals { OnOk result (HaveSameDecimals self.old → HaveSameDecimals self.new) }
+        ensures unit { OnOk result (HaveSameUnit self.old → HaveSameUnit self.new) }
     {
         let index = index.min(self.list.len());
         let (before, rest) = self.list.split_at_mut(index);
@@ -117,6 +123,16 @@ impl LogIntervals {
             → All (λ s. decimals_of s ≡ unwrap_or result 0) self.now.list.items }
     {
         self.list.iter().find_map(|interval| interval.decimals)
+    }
+
+    /// Returns the unit of the values, if a comment has one.
+    pub fn unit(&self) -> Option<Unit>
+        ensures { HaveSameUnit self.now → All (λ s. s.unit ≡ result) self.now.list.items }
+    {
+        match self.list.first() {
+            Some(interval) => interval.unit,
+            None => None,
+        }
     }
 
     /// The lines of the logs that were not read, at most 100 of each log.

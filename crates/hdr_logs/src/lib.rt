@@ -26,7 +26,7 @@ mod sums;
 pub use adding::add;
 pub use errors::LogError;
 pub use file_names::name_in_tags;
-pub use headers::{check_decimals, decimals_comment};
+pub use headers::{check_decimals, check_unit, decimals_comment, unit_comment};
 pub use interval::Interval;
 pub use intervals::LogIntervals;
 pub use note::{Note, NoteKind};

@@ -18,6 +18,9 @@ pub enum NoteKind {
     /// A comment begins as the one that has the decimals of values.
     #[error("the number of decimals is invalid and is ignored")]
     Decimals,
+    /// A comment begins as the one that has the unit of values.
+    #[error("the unit is not ns, us, ms or s and is ignored")]
+    Unit,
 }
 
 /// A line that is not read, without an error.

@@ -7,14 +7,16 @@ ghost use Rattle.std.specs.Char.{is_ascii_whitespace};
 ghost use Rattle.hdr_log.specs.Grammar.{Entry, Span, entry_of};
 ghost use Rattle.hdr_log.specs.Reading.{view_of_entry, view_of_interval, view_of_timed};
 ghost use Rattle.hdr_input.specs.Lines.{without_mark};
+ghost use Rattle.hdr_logs.specs.Comments.{decimals_in, unit_in};
 ghost use Rattle.hdr_logs.specs.Entries.{IsEntry, IsUnended, HoldsHistogram, is_ended, is_left_out, base_then, interval_then};
 
 use crate::errors::LogError;
-use crate::headers::{decimals_of, invalid_header};
+use crate::headers::{Header, header_of, invalid_header};
 use crate::note::{Note, NoteKind};
 use crate::place::Place;
 use crate::plain::plain_field;
 use hdr_convert::ConvertError;
+use hdr_input::Unit;
 use hdr_input::errors::excerpt;
 use hdr_input::lines::without_mark;
 use hdr_log::line::entry;
@@ -35,6 +37,8 @@ pub struct LogParser {
     base: LastBaseTime,
     /// The decimals of the last comment so far that has them.
     pub decimals: Option<u32>,
+    /// The unit of the last comment so far that has one.
+    pub unit: Option<Unit>,
     /// The last line.
     pub place: Place,
     /// The lines so far that are not read, at most `MOST_NOTES` of them.
@@ -62,12 +66,13 @@ pub(crate) fn is_left_out(line: &[u8]) -> bool
     !is_ended(line) && !is_blank(line)
 }
 
-/// Returns why a line without an interval is not read, if it is not. A comment may have decimals.
-fn note_of(line: &[u8], decimals: Option<u32>) -> Option<NoteKind> {
+/// Returns why a line without an interval is not read, if it is not. A comment may have what is said
+/// of values.
+fn note_of(line: &[u8], header: Option<Header>) -> Option<NoteKind> {
     if is_left_out(line) {
         return Some(NoteKind::NoEnd);
     }
-    match decimals {
+    match header {
         Some(_) => None,
         None => invalid_header(line),
     }
@@ -142,6 +147,7 @@ impl LogParser {
         LogParser {
             base: LastBaseTime::new(),
             decimals: None,
+            unit: None,
             place: Place { file, line: 0 },
             notes: Vec::new(alloc),
         }
@@ -168,9 +174,9 @@ impl LogParser {
         match entry_of(alloc, line, self.place)? {
             Some(entry) => Ok(self.base.timed(entry)),
             None => {
-                let decimals = decimals_of(line);
-                self.take_decimals(decimals);
-                if let Some(kind) = note_of(line, decimals) {
+                let header = header_of(line);
+                self.take_header(header);
+                if let Some(kind) = note_of(line, header) {
                     self.push_note(kind)?;
                 }
                 Ok(None)
@@ -178,13 +184,18 @@ impl LogParser {
         }
     }
 
-    /// Takes the decimals of a comment, if it has them.
-    fn take_decimals(&mut self, decimals: Option<u32>)
+    /// Takes the decimals or the unit of a comment, if it has them.
+    fn take_header(&mut self, header: Option<Header>)
         ensures base { self.new.base ≡ self.old.base }
         ensures place { self.new.place ≡ self.old.place }
-        ensures decimals { self.new.decimals ≡ option_or decimals self.old.decimals }
+        ensures decimals { self.new.decimals ≡ option_or (decimals_in header) self.old.decimals }
+        ensures unit { self.new.unit ≡ option_or (unit_in header) self.old.unit }
     {
-        self.decimals = decimals.or(self.decimals);
+        match header {
+            Some(Header::Decimals(decimals)) => self.decimals = Some(decimals),
+            Some(Header::Unit(unit)) => self.unit = Some(unit),
+            None => {}
+        }
     }
 
     /// Adds a note on the last line, unless there are `MOST_NOTES`.

@@ -122,6 +122,7 @@ impl<'c, R: Read + Drop> LogReader<'c, R> {
                 duration: timed.interval.duration(),
                 field,
                 decimals: self.parser.decimals,
+                unit: self.parser.unit,
                 place: next,
             })),
             Err(cause) => Err(LogError::of_conversion(next, cause)),

@@ -13,6 +13,7 @@ ghost use Rattle.hdr_logs.specs.Times.{nearest_millisecond, IsTooLate};
 use crate::errors::LogError;
 use crate::interval::Interval;
 use crate::place::Place;
+use hdr_input::Unit;
 use hdrhistogram::Histogram;
 use hdrhistogram::serialization::Deserializer;
 use hdrhistogram::serialization::interval_log::Tag;
@@ -39,6 +40,8 @@ pub struct StoredInterval {
     pub field: String,
     /// The decimals of its values, if a comment before it has them. Otherwise they are integers.
     pub decimals: Option<u32>,
+    /// The unit of its values, if a comment before it has one.
+    pub unit: Option<Unit>,
     pub place: Place,
 }
 
@@ -60,6 +63,7 @@ impl StoredInterval {
             ≡ stored (in_file (option_map tag_text file_name.entry)
             (view_of_log_interval interval.now))) }
         ensures decimals { IfOk result (λ copy. copy.decimals ≡ interval.now.decimals) }
+        ensures unit { IfOk result (λ copy. copy.unit ≡ interval.now.unit) }
         ensures errors { IfErr result (λ error. (error ≡ LogError.OutOfMemory)
             ⊎ ((error ≡ LogError.TooLate interval.now.place) × IsTooLate interval.now.time)) }
     {
@@ -72,6 +76,7 @@ impl StoredInterval {
             duration: interval.duration,
             field: String::from_str(alloc, interval.field)?,
             decimals: interval.decimals,
+            unit: interval.unit,
             place: interval.place,
         })
     }

@@ -14,12 +14,13 @@ ghost use Rattle.hdr_logs.specs.Sums.{index_of, AreIndexed, IsSumAt, KeepsOption
 
 use crate::adding::add;
 use crate::errors::LogError;
-use crate::headers::check_decimals;
+use crate::headers::{check_decimals, check_unit};
 use crate::interval::Interval;
 use crate::note::Note;
 use crate::place::Place;
 use crate::reader::{LineBuffer, LogLine, LogReader};
 use crate::stored::decoded;
+use hdr_input::Unit;
 use hdrhistogram::Histogram;
 use hdrhistogram::serialization::Deserializer;
 use hdrhistogram::serialization::interval_log::{IntervalChoice, Tag};
@@ -77,6 +78,8 @@ pub struct LogSums<'a> {
     spare: Option<Histogram<u64>>,
     /// The decimals of all values so far.
     decimals: Option<u32>,
+    /// The unit of all values so far.
+    unit: Option<Unit>,
     notes: Vec<Note>,
 }
 
@@ -103,6 +106,7 @@ impl<'a> LogSums<'a> {
             deserializer: Deserializer::new(alloc),
             spare: None,
             decimals: None,
+            unit: None,
             notes: Vec::new(alloc),
         }
     }
@@ -111,7 +115,7 @@ impl<'a> LogSums<'a> {
     ///
     /// # Errors
     /// Returns an error if the log is not read, if a histogram is invalid, or if an interval has
-    /// other decimals than those before it.
+    /// other decimals or another unit than those before it.
     pub fn read_log<R: Read + Drop>(
         &mut self,
         alloc: Global,
@@ -150,15 +154,25 @@ impl<'a> LogSums<'a> {
         self.decimals.unwrap_or(0)
     }
 
-    /// Returns an error if the values of an interval have other decimals than those before.
-    fn check_decimals(&mut self, interval: &Interval<'_>) -> Result<(), LogError>
+    /// Returns the unit of the values, if a comment has one.
+    pub fn unit(&self) -> Option<Unit> {
+        self.unit
+    }
+
+    /// Returns an error if the values of an interval have other decimals or another unit than those
+    /// before.
+    fn check_scale(&mut self, interval: &Interval<'_>) -> Result<(), LogError>
         ensures options { KeepsOptions self.old self.new }
         ensures sums { self.new.sums ≡ self.old.sums }
         ensures indices { AreIndexed self.old → AreIndexed self.new }
     {
         let decimals = interval.decimals.unwrap_or(0);
+        if self.decimals.is_none() {
+            self.unit = interval.unit;
+        }
         let others = *self.decimals.get_or_insert(decimals);
-        check_decimals(interval.place, interval.decimals, others)
+        check_decimals(interval.place, interval.decimals, others)?;
+        check_unit(interval.place, interval.unit, self.unit)
     }
 
     /// Returns the index of the sum of a tag, which is added if it is new.
@@ -253,7 +267,7 @@ impl<'a> LogSums<'a> {
         ensures choice { self.new.choice ≡ self.old.choice }
         ensures indices { OnOk result (AreIndexed self.old → AreIndexed self.new) }
     {
-        self.check_decimals(interval)?;
+        self.check_scale(interval)?;
         let index = self.index_of(alloc, interval.tag)?;
         self.add_at(index, interval)?;
         self.chosen = self.chosen.saturating_add(1);

@@ -1,9 +1,5 @@
 //! The page of a log.
 
-ghost use Rattle.std.specs.Prelude.{◌≡◌, IfOk, IsSome};
-ghost use Rattle.std.specs.List.{All};
-ghost use Rattle.hdr_logs.specs.Stored.{HaveSameDecimals, decimals_of};
-
 use crate::charts::push_drawings;
 use crate::style::push_style;
 use crate::table::push_table;
@@ -22,10 +18,7 @@ pub fn page(
     alloc: Global,
     intervals: &LogIntervals,
     options: PageOptions<'_>,
-) -> Result<String, LogError>
-    ensures { IfOk result (λ _. IsSome options.entry.unit → HaveSameDecimals intervals.now
-        → All (λ i. decimals_of i ≡ 0) intervals.now.list.items) }
-{
+) -> Result<String, LogError> {
     let view = View::new(alloc, intervals, options, PageForm::Html)?;
     let mut text = String::from_str(alloc, HEAD)?;
     view.push_shown(&mut text, options.title, IN_TITLE)?;

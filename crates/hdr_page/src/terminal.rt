@@ -3,10 +3,6 @@
 
 mod rows;
 
-ghost use Rattle.std.specs.Prelude.{◌≡◌, IfOk, IsSome};
-ghost use Rattle.std.specs.List.{All};
-ghost use Rattle.hdr_logs.specs.Stored.{HaveSameDecimals, decimals_of};
-
 use crate::charts::detail::curve_of;
 use crate::charts::percentiles::LINES;
 use hdr_draw::quantiles::QuantileScale;
@@ -33,10 +29,7 @@ pub fn page_text(
     alloc: Global,
     intervals: &LogIntervals,
     options: PageOptions<'_>,
-) -> Result<String, LogError>
-    ensures { IfOk result (λ _. IsSome options.entry.unit → HaveSameDecimals intervals.now
-        → All (λ i. decimals_of i ≡ 0) intervals.now.list.items) }
-{
+) -> Result<String, LogError> {
     let view = View::new(alloc, intervals, options, PageForm::Plain)?;
     let mut summary = String::new(alloc);
     view.push_summary(&mut summary)?;

@@ -1,3 +1,4 @@
 pub mod CountsByClass
-pub mod Powers
+pub mod Fractions
+pub mod SampleSums
 pub mod TrueVerdicts

@@ -1,11 +1,11 @@
 //! Levels that were compared with samples, and their lines.
 
-use crate::decimals::{decimal, in_parts};
-use crate::figures::{mean_in_parts, push_tag};
+use crate::decimals::{Conversion, in_parts};
+use crate::figures::mean_in_parts;
 use crate::levels::{Level, Measure};
 use crate::means::SampleSum;
 use crate::verdicts::{LevelCounts, Verdict};
-use hdr_input::Distribution;
+use hdr_input::{Distribution, push_visible};
 use std::alloc::{AllocError, Global};
 
 /// What was counted for a level, and whether the samples keep it.
@@ -15,12 +15,14 @@ pub struct Check {
     pub verdict: Verdict,
 }
 
-/// The samples of checks: their distribution, their sum if a level has a mean, and their tag.
+/// The samples of checks: their distribution, their sum if a level has a mean, their tag, and how
+/// their values are converted to be printed.
 #[derive(Clone, Copy)]
 pub struct CheckedSamples<'a> {
     pub distribution: &'a Distribution,
     pub sum: SampleSum,
     pub tag: Option<&'a str>,
+    pub conversion: Conversion,
 }
 
 impl Check {
@@ -65,7 +67,7 @@ impl Check {
         }
         if let Some(tag) = samples.tag {
             text.push(' ')?;
-            push_tag(text, tag)?;
+            push_visible(text, tag)?;
         }
         text.push('\n')
     }
@@ -78,7 +80,7 @@ impl Check {
         measure: &Measure,
         samples: CheckedSamples<'_>,
     ) -> Result<(), AllocError> {
-        let decimals = samples.distribution.decimals;
+        let scale = (samples.conversion, samples.distribution.decimals);
         match measure {
             Measure::Count => {
                 let total = self.counts.total;
@@ -87,13 +89,13 @@ impl Check {
             _ if self.counts.total == 0 => text.push('-'),
             Measure::Mean => self.push_mean(alloc, text, samples),
             _ if self.verdict == Verdict::Undecided => {
-                push_decimal(alloc, text, u128::from(self.counts.low), decimals)?;
+                push_decimal(alloc, text, u128::from(self.counts.low), scale)?;
                 text.push_str("..")?;
-                push_decimal(alloc, text, u128::from(self.counts.high), decimals)
+                push_decimal(alloc, text, u128::from(self.counts.high), scale)
             }
             _ => {
                 let value = self.value(measure, samples.distribution);
-                push_decimal(alloc, text, u128::from(value), decimals)
+                push_decimal(alloc, text, u128::from(value), scale)
             }
         }
     }
@@ -105,30 +107,31 @@ impl Check {
         text: &mut String,
         samples: CheckedSamples<'_>,
     ) -> Result<(), AllocError> {
-        let decimals = samples.distribution.decimals + 2;
+        let scale = (samples.conversion, samples.distribution.decimals + 2);
         let SampleSum { total, low, high } = samples.sum;
         let low = in_parts(low, u128::from(total), 100).unwrap_or(u128::MAX);
         let high = in_parts(high, u128::from(total), 100).unwrap_or(u128::MAX);
         if self.verdict == Verdict::Undecided {
-            push_decimal(alloc, text, low, decimals)?;
+            push_decimal(alloc, text, low, scale)?;
             text.push_str("..")?;
-            return push_decimal(alloc, text, high, decimals);
+            return push_decimal(alloc, text, high, scale);
         }
         let mean = if low == high {
             low
         } else {
             mean_in_parts(samples.distribution, 100).unwrap_or(high)
         };
-        push_decimal(alloc, text, mean, decimals)
+        push_decimal(alloc, text, mean, scale)
     }
 }
 
-/// Appends an integer of units as a decimal.
+/// Appends an integer of units, which have these decimals, as a converted decimal.
 fn push_decimal(
     alloc: Global,
     text: &mut String,
     units: u128,
-    decimals: u32,
+    scale: (Conversion, u32),
 ) -> Result<(), AllocError> {
-    text.push_str(decimal(alloc, units, decimals)?.as_str())
+    let (conversion, decimals) = scale;
+    text.push_str(conversion.decimal(alloc, units, decimals)?.as_str())
 }

@@ -1,10 +1,10 @@
 //! Integers and fractions as decimal texts.
 
-ghost use Rattle.std.specs.Prelude.{◌≡◌, ◌<◌, ◌≤◌, ◌+◌, ◌*◌, ◌/◌, ◌^◌, IfNone, IfSome};
+ghost use Rattle.std.specs.Prelude.{◌≡◌, ◌<◌, ◌≤◌, ◌+◌, ◌-◌, ◌*◌, ◌/◌, ◌^◌, min, IfNone, IfSome};
 ghost use Rattle.hdr_summary.specs.Decimals.{nearest};
 ghost use Rattle.hdr_summary.specs.Units.{Converts};
 
-use crate::units::Unit;
+use hdr_input::units::Unit;
 use std::alloc::{AllocError, Global};
 
 /// Returns an integer of units as a decimal. A unit is one of the last of `decimals`.
@@ -70,16 +70,29 @@ impl Conversion {
         }
     }
 
+    /// Returns the decimals of a value that has these, after it is converted.
+    pub fn decimals(self, decimals: u32) -> u32
+        ensures { result ≡ min (decimals - self.times + self.divided) (2 ^ 32 - 1) }
+    {
+        decimals
+            .saturating_sub(self.times)
+            .saturating_add(self.divided)
+    }
+
+    /// Returns what units are multiplied by, so that they are units of the converted decimals, or
+    /// `None` on overflow.
+    pub fn factor(self, decimals: u32) -> Option<u128>
+        ensures factor { IfSome result (λ factor. factor ≡ 10 ^ (self.times - decimals)) }
+        ensures overflow { IfNone result (2 ^ 128 ≤ 10 ^ (self.times - decimals)) }
+    {
+        10u128.checked_pow(self.times.saturating_sub(decimals))
+    }
+
     /// Returns a converted value as a decimal. On overflow it is `-`.
     pub fn decimal(self, alloc: Global, units: u128, decimals: u32) -> Result<String, AllocError> {
-        let fewer = self.times.min(decimals);
-        let factor = 10u128.checked_pow(self.times - fewer);
+        let factor = self.factor(decimals);
         match factor.and_then(|factor| units.checked_mul(factor)) {
-            Some(units) => decimal(
-                alloc,
-                units,
-                (decimals - fewer).saturating_add(self.divided),
-            ),
+            Some(units) => decimal(alloc, units, self.decimals(decimals)),
             None => String::from_str(alloc, "-"),
         }
     }

@@ -1,6 +1,9 @@
 //! The figures of a distribution.
 
-use crate::decimals::{Conversion, in_parts};
+ghost use Rattle.std.specs.Prelude.{◌≡◌, ◌-◌, ◌*◌, ◌^◌, ℕ, Some, IfSome};
+ghost use Rattle.hdr_summary.specs.Decimals.{nearest};
+
+use crate::decimals::{Conversion, decimal, in_parts};
 use crate::percentile::Percentile;
 use hdr_input::Distribution;
 use std::alloc::{AllocError, Global};
@@ -19,18 +22,12 @@ pub struct Tagged {
     pub distribution: Distribution,
 }
 
-/// Appends a tag as it is shown on a terminal: control characters are shown as `?`.
-pub fn push_tag(text: &mut String, tag: &str) -> Result<(), AllocError> {
-    for character in tag.chars() {
-        let is_control = character.is_control();
-        text.push(if is_control { '?' } else { character })?;
-    }
-    Ok(())
-}
-
 /// Returns the mean in parts of a unit, halves rounded up, or `None` without numbers or on
 /// overflow. It is that of the numbers, or that of their classes if only these are known.
-pub fn mean_in_parts(distribution: &Distribution, parts: u128) -> Option<u128> {
+pub fn mean_in_parts(distribution: &Distribution, parts: u128) -> Option<u128>
+    ensures { (sum : ℕ) → distribution.now.sum ≡ Some sum → IfSome result
+        (λ n. n ≡ nearest sum distribution.now.histogram.total parts) }
+{
     if distribution.histogram.is_empty() {
         return None;
     }
@@ -43,16 +40,27 @@ pub fn mean_in_parts(distribution: &Distribution, parts: u128) -> Option<u128> {
     }
 }
 
+/// Returns the mean in hundredths of a unit of converted values, halves rounded up, or `None`
+/// without numbers or on overflow.
+pub fn converted_mean(distribution: &Distribution, conversion: Conversion) -> Option<u128>
+    ensures { (sum : ℕ) → distribution.now.sum ≡ Some sum → IfSome result (λ n. n
+        ≡ nearest sum distribution.now.histogram.total
+        (10 ^ (conversion.times - distribution.now.decimals) * 100)) }
+{
+    let parts = conversion.factor(distribution.decimals)?.checked_mul(100)?;
+    mean_in_parts(distribution, parts)
+}
+
 /// Returns the mean, with two digits more than the values have.
 fn mean(
     alloc: Global,
     distribution: &Distribution,
     conversion: Conversion,
 ) -> Result<Option<String>, AllocError> {
-    match mean_in_parts(distribution, 100) {
+    match converted_mean(distribution, conversion) {
         Some(units) => {
-            let decimals = distribution.decimals + 2;
-            Ok(Some(conversion.decimal(alloc, units, decimals)?))
+            let decimals = conversion.decimals(distribution.decimals).saturating_add(2);
+            Ok(Some(decimal(alloc, units, decimals)?))
         }
         None => Ok(None),
     }

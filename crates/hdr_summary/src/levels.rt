@@ -1,10 +1,10 @@
 //! Levels that figures have to keep, such as `p99<=200ms`.
 
-ghost use Rattle.std.specs.Prelude.{◌≡◌, ◌≤◌, ◌↔◌, IsTrue};
+ghost use Rattle.std.specs.Prelude.{◌≡◌, ◌≤◌, ◌*◌, ◌%◌, ◌^◌, ◌↔◌, IsTrue};
 ghost use Rattle.hdr_summary.specs.Levels.{IsOnSide, is_upper, bound_of};
 
 use crate::percentile::parse_percentile;
-use crate::units::{Unit, parse_amount};
+use crate::units::{Unit, parse_amount, parse_amount_in};
 use hdr_input::{Bound, Number};
 use hdrhistogram::Quantile;
 
@@ -69,13 +69,17 @@ fn split_side(text: &str) -> Option<(&str, Side, &str)> {
 /// Parses a level such as `p99<=200ms`. A unit of time is only valid if the input has one. A count
 /// has none.
 pub fn parse_level(text: &str, unit: Option<Unit>) -> Option<Level<'_>> {
+    parse_level_in(text, unit, unit)
+}
+
+/// As `parse_level`. A level without a unit is in `usual`, if there is one.
+pub fn parse_level_in(text: &str, usual: Option<Unit>, unit: Option<Unit>) -> Option<Level<'_>> {
     let (name, side, amount) = split_side(text)?;
     let measure = parse_measure(name)?;
-    let unit = match measure {
-        Measure::Count => None,
-        _ => unit,
+    let number = match measure {
+        Measure::Count => parse_amount(amount, None)?,
+        _ => parse_amount_in(amount, usual, unit)?,
     };
-    let number = parse_amount(amount, unit)?;
     Some(Level {
         text,
         measure,
@@ -109,7 +113,7 @@ impl Side {
     }
 }
 
-impl Level<'_> {
+impl<'a> Level<'a> {
     /// Returns the bound of the numbers that are below the level, or at it if it is `<=` or `>`. The
     /// others are on the other side.
     pub fn bound(&self) -> Bound
@@ -119,6 +123,23 @@ impl Level<'_> {
         Bound {
             number: self.number,
             is_included: matches!(self.side, Side::AtMost | Side::Above),
+        }
+    }
+
+    /// Whether the number of the level is an integer of units, of which 10^decimals are 1.
+    pub fn is_whole(&self, decimals: u32) -> bool
+        requires { decimals ≤ 18 }
+        ensures { IsTrue result ↔ ((self.now.number.digits * 10 ^ decimals) % 10 ^ self.now.number.decimals ≡ 0) }
+    {
+        let units = u128::from(self.number.digits) * 10u128.pow(decimals);
+        units % 10u128.pow(self.number.decimals) == 0
+    }
+
+    /// Returns the amount of the level, as it is written after its sign.
+    pub fn amount(&self) -> &'a str {
+        match split_side(self.text) {
+            Some((_, _, amount)) => amount,
+            None => self.text,
         }
     }
 }

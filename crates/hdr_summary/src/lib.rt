@@ -9,5 +9,6 @@ pub mod formats;
 pub mod levels;
 pub mod means;
 pub mod percentile;
-pub mod units;
 pub mod verdicts;
+
+pub use hdr_input::units;

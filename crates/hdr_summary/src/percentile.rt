@@ -26,7 +26,7 @@ impl Percentile<'_> {
 
 /// Returns the quantile of the percentile `whole.part`, or `None` if one of them is not digits, if
 /// it is above 100, or if its fraction overflows 64 bits.
-#[tactic(auto, using(hdr_input::proofs::Units::positive, crate::proofs::Powers::great_power), unfolding(hdr_log::specs::Parts::number_of))]
+#[tactic(auto, using(hdr_input::proofs::InUnits::positive, hdr_input::proofs::Powers::great_power), unfolding(hdr_log::specs::Parts::number_of))]
 pub fn quantile(whole: &[u8], part: &[u8]) -> Option<Quantile>
     ensures value { IfSome result (λ q. q ≡ percent whole.now part.now) }
     ensures within { IfSome result (λ q. q.num ≤ q.den) }

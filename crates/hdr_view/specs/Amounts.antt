@@ -1,5 +1,5 @@
 -- Values with their units. A unit of time is 1,000 times as long as the one before: ns, µs, ms, s.
-use Rattle.std.specs.Prelude.{◌≡◌, ℕ, zero, suc, ◌+◌, ◌*◌, ◌^◌, ◌<◌, ◌≤◌, List, [], ◌∷◌, ◌++◌, Option, None, Some, IfSome, codes}
+use Rattle.std.specs.Prelude.{◌≡◌, ℕ, zero, suc, ◌+◌, ◌-◌, ◌*◌, ◌^◌, ◌<◌, ◌≤◌, List, [], ◌∷◌, ◌++◌, Option, None, Some, IfSome, codes}
 use Rattle.hdr_draw.specs.Numbers.{IsDecimalOf, exponent, grouped}
 
 -- the name of a unit
@@ -18,6 +18,10 @@ unit_text (Some unit) = 194 ∷ 160 ∷ unit_name unit
 abbrev pub box_text : Option ℕ → List ℕ
 box_text None = []
 box_text (Some unit) = codes "<i>" ++ unit_name unit ++ codes "</i>"
+
+-- if a second is a power of ten, 1 is this number of the unit of an index, from nanoseconds
+abbrev pub IsScale : ℕ → (ℕ × ℕ) → Type 0
+IsScale power scale = (scale.1 * 10 ^ power ≡ 10 ^ (9 - 3 * scale.0)) × (scale.0 ≤ 3) × (scale.1 ≤ 100)
 
 -- the unit that is 1,000 times as long, some times over
 abbrev pub longer_by : ℕ → Option ℕ → Option ℕ

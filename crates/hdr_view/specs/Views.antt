@@ -1,8 +1,13 @@
 -- What lines and names show.
-use Rattle.std.specs.Prelude.{◌≡◌, ◌⊎◌, ℕ, ◌-◌, ◌^◌, ◌≤◌, ◌<◌, ◌==◌, if◌then◌else◌, List, Option, None, Some, codes}
+use Rattle.std.specs.Prelude.{◌≡◌, ◌⊎◌, ℕ, ◌+◌, ◌-◌, ◌^◌, ◌≤◌, ◌<◌, ◌==◌, if◌then◌else◌, List, Option, None, Some, IfSome, codes}
+use Rattle.hdr_input.specs.Units.{exponent}
+use Rattle.hdr_logs.specs.Stored.{decimals_of}
+use Rattle.hdr_logs.specs.declared.stored.StoredInterval.{StoredInterval}
 use Rattle.hdr_figures.specs.declared.figures.Peaks.{Peaks}
 use Rattle.hdr_figures.specs.declared.level.PageLevel.{PageLevel}
 use Rattle.hdr_verdict.specs.declared.level.TailLevel.{TailLevel}
+use Rattle.hdr_view.specs.Amounts.{IsScale}
+use Rattle.hdr_view.specs.declared.amount.Units.{Units}
 use Rattle.hdr_view.specs.declared.view.Series.{Series}
 use Rattle.hdr_view.specs.declared.view.Series.TheVariants.{P50, P90, P99, P999, Max}
 
@@ -22,3 +27,7 @@ name_without_tag tags = if tags == 1 then codes "all samples" else codes "(no ta
 abbrev pub IsLevelOf : PageLevel → Option TailLevel → Type 0
 IsLevelOf l None = (l.num ≡ 0) ⊎ ((l.den < l.num) ⊎ (2 ^ 63 ≤ l.den))
 IsLevelOf l (Some level) = (level.tail.num ≡ l.den - l.num) × (level.tail.den ≡ l.den) × (level.value ≡ l.value)
+
+-- if a unit is shown and an interval has one, the number of that unit which a value of 1 is shown as is that of the interval's unit and decimals
+abbrev pub IsShownIn : Units → StoredInterval → Type 0
+IsShownIn units i = IfSome units.unit (λ index. IfSome i.unit (λ unit. IsScale (decimals_of i + exponent unit) (index, units.times)))

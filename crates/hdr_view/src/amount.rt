@@ -1,8 +1,10 @@
 //! Values with their units.
 
 ghost use Rattle.std.specs.Prelude.{ℕ, List, Option, None, Some, ◌≡◌, ◌<◌, ◌≤◌, ◌+◌, ◌*◌, ◌^◌, ◌++◌, IfSome, IfNone, IsSome, OnOk, string_bytes};
+ghost use Rattle.std.specs.Option.{ForNone};
+ghost use Rattle.hdr_input.specs.Units.{exponent};
 ghost use Rattle.hdr_draw.specs.Numbers.{IsDecimalOf};
-ghost use Rattle.hdr_view.specs.Amounts.{IsExact, IsInUnit, IsLabel, IsValueText, box_text, longer_by, unit_name, unit_text};
+ghost use Rattle.hdr_view.specs.Amounts.{IsExact, IsInUnit, IsLabel, IsScale, IsValueText, box_text, longer_by, unit_name, unit_text};
 
 use hdr_draw::labels::split_powers;
 use hdr_draw::number::{Decimal, push_exponent, push_grouped, scientific};
@@ -24,11 +26,15 @@ const LONG_AT_AXIS: u64 = 100_000;
 /// The most zeros at the end of an integer of 64 bits.
 const MOST_ZEROS: u32 = 19;
 
-/// The unit of a log's values, if it is known.
+/// The unit in which a log's values are shown, if it is known.
 #[derive(Clone, Copy)]
 pub struct Units {
     /// The index of the unit, from nanoseconds.
     pub unit: Option<usize>,
+    /// How many of the unit a value of 1 is.
+    times: u64,
+    ghost few: { times ≤ 100 },
+    ghost unknown: { ForNone unit (times ≡ 1) },
 }
 
 /// A fraction of some unit.
@@ -55,11 +61,30 @@ fn name_of(unit: usize) -> &'static str
 }
 
 impl Units {
-    /// Returns the unit of values.
-    pub(crate) fn new(unit: Option<Unit>) -> Units {
-        Units {
-            unit: unit.map(|unit| LONGEST.saturating_sub(unit.decimals() as usize / 3)),
+    /// Returns the longest unit of which values are integers that are in units of the last of
+    /// these decimals of `unit`. It is unknown without `unit`, or if values are smaller than a
+    /// nanosecond.
+    pub fn new(unit: Option<Unit>, decimals: u32) -> Units
+        ensures { IfSome result.unit (λ index. IfSome unit (λ unit.
+            IsScale (decimals + exponent unit) (index, result.times))) }
+    {
+        match scale_in(unit, decimals) {
+            Some((index, times)) => Units {
+                unit: Some(index),
+                times,
+            },
+            None => Units {
+                unit: None,
+                times: 1,
+            },
         }
+    }
+
+    /// Returns a value in the unit.
+    pub fn in_unit(self, value: u64) -> u128
+        ensures { result ≡ value * self.times }
+    {
+        u128::from(value) * u128::from(self.times)
     }
 
     /// Returns an amount in the longest unit of which it is one or more, after rounding.
@@ -83,23 +108,54 @@ impl Units {
 
     /// Appends a value with its unit.
     pub fn push(self, text: &mut String, value: u64) -> Result<(), AllocError>
-        ensures { OnOk result ((added : List ℕ) × IsValueText self.unit value added
+        ensures { OnOk result ((added : List ℕ) × IsValueText self.unit (value * self.times) added
             × (string_bytes text.new ≡ string_bytes text.old ++ added)) }
     {
-        let amount = self.amount(u128::from(value), 1);
+        let amount = self.amount(self.in_unit(value), 1);
         amount.push_number(text)?;
         push_unit(text, amount.unit)
     }
 
-    /// Appends a value exactly, as the label of an axis.
+    /// Appends a value exactly, as the label of an axis, if it is below 2^64 in the unit.
     pub fn push_label(self, text: &mut String, value: u64) -> Result<(), AllocError>
-        ensures { OnOk result ((added : List ℕ) × IsLabel self.unit value added
+        ensures { value * self.times < 2 ^ 64 → OnOk result ((added : List ℕ)
+            × IsLabel self.unit (value * self.times) added
             × (string_bytes text.new ≡ string_bytes text.old ++ added)) }
     {
         match self.unit {
-            Some(unit) => push_label_in(text, value, unit),
+            Some(unit) => push_label_in(text, value.saturating_mul(self.times), unit),
             None => push_exact(text, value),
         }
+    }
+}
+
+/// As `scale_of`, if values are in units of the last of these decimals of `unit`.
+fn scale_in(unit: Option<Unit>, decimals: u32) -> Option<(usize, u64)>
+    ensures scale { IfSome result (λ scale. IfSome unit (λ unit.
+        IsScale (decimals + exponent unit) scale)) }
+    ensures few { IfSome result (λ scale. scale.1 ≤ 100) }
+{
+    scale_of(unit?.decimals().checked_add(decimals)?)
+}
+
+/// Returns the index of the longest unit of which values are integers, and how many of it a value
+/// of 1 is. Values are in units of the last of these decimals of a second.
+fn scale_of(decimals: u32) -> Option<(usize, u64)>
+    ensures scale { IfSome result (IsScale decimals) }
+    ensures small { IfNone result (9 < decimals) }
+{
+    match decimals {
+        0 => Some((3, 1)),
+        1 => Some((2, 100)),
+        2 => Some((2, 10)),
+        3 => Some((2, 1)),
+        4 => Some((1, 100)),
+        5 => Some((1, 10)),
+        6 => Some((1, 1)),
+        7 => Some((0, 100)),
+        8 => Some((0, 10)),
+        9 => Some((0, 1)),
+        _ => None,
     }
 }
 
@@ -193,14 +249,15 @@ fn integer(num: u128, den: u128) -> Option<u64>
 }
 
 impl Amount {
-    /// Returns the amount of a mean, or `None` if its sum is 2^128 / 1,000 or more.
+    /// Returns the amount of a mean, or `None` if its sum in the unit is 2^128 / 1,000 or more.
     pub fn of_mean(units: Units, mean: Fraction) -> Option<Amount>
         ensures is { IfSome result
-            (λ a. IsInUnit units.unit mean.num mean.den a.unit a.num a.den) }
-        ensures fits { IfNone result (2 ^ 128 ≤ mean.num * 1000) }
+            (λ a. IsInUnit units.unit (mean.num * units.times) mean.den a.unit a.num a.den) }
+        ensures fits { IfNone result (2 ^ 128 ≤ mean.num * units.times * 1000) }
     {
-        mean.num.checked_mul(1_000)?;
-        Some(units.amount(mean.num, mean.den))
+        let num = mean.num.checked_mul(u128::from(units.times))?;
+        num.checked_mul(1_000)?;
+        Some(units.amount(num, mean.den))
     }
 
     /// Appends the amount as the content of a table's cell, with its unit in a box.

@@ -12,10 +12,12 @@ use std::alloc::AllocError;
 #[derive(Clone, Copy)]
 pub struct PageOptions<'a> {
     pub title: &'a str,
-    /// The unit of the log's values, if it is known.
+    /// The unit of the values of a log that has none itself, if it is known.
     pub unit: Option<Unit>,
     /// The levels that values should not exceed, each once.
     pub levels: &'a [PageLevel],
+    /// For each level its amount as it is written, unless that is an integer of the log's values.
+    pub amounts: &'a [Option<String>],
 }
 
 /// Appends the percentile of a level, such as `p99.9`.

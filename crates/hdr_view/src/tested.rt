@@ -119,7 +119,7 @@ impl View<'_> {
         text.push_str(" within ")?;
         push_percentile(text, level)?;
         text.push_str(" ")?;
-        self.units.push_label(text, level.value)?;
+        self.push_level(text, at, level)?;
         self.push_markup(text, "</b>")?;
         for (_, index) in others.iter().take(MOST_OVER) {
             text.push_str("; ")?;
@@ -130,6 +130,20 @@ impl View<'_> {
             write!(text, "; and {more} more")?;
         }
         text.push_str(".")
+    }
+
+    /// Appends the amount of the level of an index: as it is written, unless it is an integer of the
+    /// log's values.
+    pub fn push_level(
+        &self,
+        text: &mut String,
+        at: usize,
+        level: PageLevel,
+    ) -> Result<(), AllocError> {
+        match self.options.amounts.get(at) {
+            Some(Some(amount)) => text.push_str(amount.as_str()),
+            _ => self.units.push_label(text, level.value),
+        }
     }
 
     /// Returns the tags that are over the level of an index or may be, those with the greatest values

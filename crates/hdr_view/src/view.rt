@@ -1,10 +1,10 @@
 //! What a page shows.
 
-ghost use Rattle.std.specs.Prelude.{ℕ, ◌≡◌, ◌≤◌, ◌<◌, ◌↔◌, ◌==◌, IfOk, IsSome, IsTrue, length, []};
+ghost use Rattle.std.specs.Prelude.{ℕ, ◌≡◌, ◌≤◌, ◌<◌, ◌↔◌, ◌==◌, IfOk, IsTrue, length, []};
 ghost use Rattle.std.specs.List.{All, AllZip};
 ghost use Rattle.hdr_draw.specs.Scales.{IsValueScale};
-ghost use Rattle.hdr_logs.specs.Stored.{HaveSameDecimals, decimals_of};
-ghost use Rattle.hdr_view.specs.Views.{IsLevelOf, figure_of, name_without_tag};
+ghost use Rattle.hdr_logs.specs.Stored.{HaveSameDecimals, HaveSameUnit};
+ghost use Rattle.hdr_view.specs.Views.{IsLevelOf, IsShownIn, figure_of, name_without_tag};
 
 use crate::amount::Units;
 use crate::clock::Clock;
@@ -55,21 +55,18 @@ impl<'a> View<'a> {
     /// Returns what a page of intervals shows.
     ///
     /// # Errors
-    /// Returns an error if a unit is set and the values have decimals of it, if a histogram is
-    /// invalid, or if an allocation fails.
+    /// Returns an error if a histogram is invalid, or if an allocation fails.
     pub fn new(
         alloc: Global,
         intervals: &'a LogIntervals,
         options: PageOptions<'a>,
         form: PageForm,
     ) -> Result<View<'a>, LogError>
-        ensures { IfOk result (λ _. IsSome options.entry.unit → HaveSameDecimals intervals.now
-            → All (λ i. decimals_of i ≡ 0) intervals.now.list.items) }
+        ensures { IfOk result (λ view. HaveSameDecimals intervals.now → HaveSameUnit intervals.now
+            → All (IsShownIn view.units) intervals.now.list.items) }
     {
+        let unit = intervals.unit().or(options.unit);
         let decimals = intervals.decimals().unwrap_or(0);
-        if options.unit.is_some() && decimals > 0 {
-            return Err(LogError::UnitOfDecimals(decimals));
-        }
         let timeline = Timeline::new(alloc, &intervals.list)?;
         let levels = tested_levels(alloc, options.levels)?;
         let verdict = verdict_of(alloc, &intervals.list, &levels)?;
@@ -82,7 +79,7 @@ impl<'a> View<'a> {
             alloc,
             form,
             options,
-            units: Units::new(options.unit),
+            units: Units::new(unit, decimals),
             clock: Clock::new(&timeline),
             timeline,
             intervals: intervals.list.len(),

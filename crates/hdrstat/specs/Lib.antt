@@ -1,2 +1,3 @@
 pub mod Delimiters
+pub mod LogCounts
 pub mod Statuses

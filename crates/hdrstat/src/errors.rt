@@ -21,6 +21,9 @@ pub(crate) enum StatError {
     /// Numbers are not read.
     #[error("{file}: {cause}")]
     Numbers { file: String, cause: InputError },
+    /// Most lines of numbers are bad, and were skipped.
+    #[error("more lines were skipped than read")]
+    MostlySkipped,
     /// Logs are not read, or nothing is made of them.
     #[error("{file}: {cause}")]
     Logs { file: String, cause: LogError },

@@ -1,15 +1,20 @@
 //! The files of the arguments, read one after another.
 
+mod begun;
 pub(crate) mod checks;
+pub(crate) mod log_counts;
 pub(crate) mod logs;
 pub(crate) mod names;
 pub(crate) mod numbers;
 mod progress;
+pub(crate) mod surveyed;
+pub(crate) mod timed;
 
 use crate::errors::StatError;
+use hdr_input::InputError;
 use progress::Progress;
 use std::alloc::Global;
-use std::fs::File;
+use std::fs::{self, File};
 use std::io::{self, Read, Stdin};
 
 /// The files of an argument. A file `-` is standard input, which is also read without any.
@@ -41,9 +46,29 @@ impl<'r, 'l, 'n> Files<'r, 'l, 'n> {
             return Ok(Input::Standard(self.rt.stdin()));
         }
         match File::open(self.rt, name) {
-            Ok(file) => Ok(Input::File(file, Progress::new(self.rt, self.is_quiet))),
+            Ok(file) => {
+                let progress = Progress::new(self.rt, self.is_quiet, length_of(&file));
+                Ok(Input::File(file, progress))
+            }
             Err(cause) => Err(StatError::file(self.alloc(), name, cause)),
         }
+    }
+
+    /// Whether a file can be read more than once.
+    fn can_repeat(self, name: &str) -> bool {
+        name != "-" && fs::metadata(self.rt, name).is_ok_and(|metadata| metadata.is_file())
+    }
+
+    /// Whether all files can be read more than once.
+    fn can_repeat_all(self) -> bool {
+        or_standard_input(self.names)
+            .iter()
+            .all(|name| self.can_repeat(*name))
+    }
+
+    /// Returns the error of numbers that are not read.
+    fn numbers_error(self, index: usize, cause: InputError) -> StatError {
+        StatError::numbers(self.alloc(), self.name(index), cause)
     }
 
     /// Returns the name of the file at an index, as it is shown.
@@ -57,6 +82,12 @@ impl<'r, 'l, 'n> Files<'r, 'l, 'n> {
     pub(crate) fn alloc(self) -> Global {
         self.rt.alloc()
     }
+}
+
+/// Returns the length of a regular file, and none of a pipe or a device.
+fn length_of(file: &File) -> Option<u64> {
+    let metadata = file.metadata().ok()?;
+    metadata.is_file().then_some(metadata.len())
 }
 
 /// Returns names, or that of standard input if there are none.

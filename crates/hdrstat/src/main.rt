@@ -9,6 +9,8 @@ mod subcommands;
 
 use clap::error::ErrorKind as UsageErrorKind;
 use errors::StatError;
+use output::print_error_line;
+use std::alloc::AllocError;
 use std::env;
 use std::io::{self, ErrorKind};
 use std::process::ExitCode;
@@ -65,14 +67,21 @@ fn print_of_clap(rt: &HostRuntime, error: &clap::Error) -> ExitCode {
 fn fail(rt: &HostRuntime, subcommand: &str, error: &StatError) -> ExitCode {
     match error {
         StatError::Usage(text) => {
-            let _ = eprintln!(rt;
-                "error: {text}\n\nFor more information, try 'hdrstat {subcommand} --help'."
-            );
+            print_or_fail(rt, format!(in rt.alloc(); "error: {text}"));
+            let _ = eprintln!(rt; "\nFor more information, try 'hdrstat {subcommand} --help'.");
         }
         StatError::Output(cause) if cause.kind() == ErrorKind::BrokenPipe => {}
-        error => {
-            let _ = eprintln!(rt; "hdrstat: {error}");
-        }
+        error => print_or_fail(rt, format!(in rt.alloc(); "hdrstat: {error}")),
     }
     ExitCode::from(error.status())
+}
+
+/// Prints a line on standard error, or an error if its allocation failed.
+fn print_or_fail(rt: &HostRuntime, line: Result<String, AllocError>) {
+    match line {
+        Ok(line) => print_error_line(rt, line.as_str()),
+        Err(_) => {
+            let _ = eprintln!(rt; "hdrstat: out of memory");
+        }
+    }
 }

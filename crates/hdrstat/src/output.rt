@@ -3,6 +3,7 @@
 mod replace;
 
 use crate::errors::StatError;
+use hdr_input::visible::visible;
 pub(crate) use replace::{check_output, write_output};
 use std::io::{self, Stdout, Write};
 
@@ -37,4 +38,12 @@ pub(crate) fn print(rt: &HostRuntime, bytes: &[u8]) -> Result<(), StatError> {
     let mut output = rt.stdout();
     output.write_all(bytes).map_err(StatError::Output)?;
     output.flush().map_err(StatError::Output)
+}
+
+/// Prints a line on standard error, with `?` for characters that are invisible on a terminal.
+pub(crate) fn print_error_line(rt: &HostRuntime, line: &str) {
+    let _ = match visible(rt.alloc(), line) {
+        Ok(line) => eprintln!(rt; "{line}"),
+        Err(_) => eprintln!(rt; "hdrstat: out of memory"),
+    };
 }

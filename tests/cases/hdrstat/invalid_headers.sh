@@ -1,4 +1,4 @@
-# A header that has no valid time or number of decimals is a note, and nothing else.
+# A header that has no valid time, number of decimals or unit is a note, and nothing else.
 room=$(mktemp -d)
 trap 'rm -rf "$room"' EXIT
 cd "$room"
@@ -6,6 +6,7 @@ cd "$room"
     echo '#[BaseTime: -5.000 (s)]'
     echo '#[StartTime: soon (s)]'
     echo '#[Values have 19 decimals]'
+    echo '#[Values are in min]'
     echo '# A comment'
     echo '#[MaxValueDivisor: 1000.000]'
     echo 0.000,1.000,2.000,HISTEwAAAAMAAAAAAAAAAwAAAAAAAAABAAAAAAAAAAI/8AAAAAAAAAACCA==

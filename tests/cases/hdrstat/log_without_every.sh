@@ -1,7 +1,1 @@
-room=$(mktemp -d)
-trap 'rm -rf "$room"' EXIT
-cd "$room"
-"$1" log -c v --time t </dev/null 2>err
-status=$?
-head -n 2 err
-exit $status
+printf "t,v\n1.5,5\n2.25,6\n" | "$1" log -c v --time t | grep -v "^#" | cut -d, -f1-3

@@ -1,4 +1,4 @@
-# Values are in units of the last decimal without a unit. Logs of other decimals are an error, and so is a unit.
+# Values are in units of the last decimal without a unit, and with one in it. Logs of other decimals are an error.
 room=$(mktemp -d)
 trap 'rm -rf "$room"' EXIT
 cd "$room"
@@ -6,6 +6,6 @@ printf '0.50\n1.25\n' | "$1" log >one
 echo 7 | "$1" log >integers
 "$1" page one | sed -n '/class="say"/s/<[^>]*>//gp'
 "$1" page --unit s integers | sed -n '/class="say"/s/<[^>]*>//gp'
-"$1" page --text --unit s one
+"$1" page --unit s one | sed -n '/class="say"/s/<[^>]*>//gp'
 "$1" page --intervals integers one
 "$1" page one integers

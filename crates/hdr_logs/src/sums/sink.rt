@@ -8,6 +8,7 @@ ghost use Rattle.hdr_logs.specs.Sums.{view_of_sums, AreIndexed, PassesAll};
 use crate::errors::LogError;
 use crate::reader::{LineBuffer, LogLine, LogReader};
 use crate::sums::LogSums;
+use hdr_input::Unit;
 use hdrhistogram::Histogram;
 use std::alloc::Global;
 use std::io::Read;
@@ -18,12 +19,13 @@ pub trait HistogramSink {
     ghost takes: { Self → ℕ → Plain → ℕ → Self → Type 0 };
 
     /// Takes the histogram of an interval, which is part of the sum at this index. Its values have
-    /// these decimals.
+    /// these decimals, and this unit if one is known.
     fn take_histogram(
         &mut self,
         sum: usize,
         histogram: &Histogram<u64>,
         decimals: u32,
+        unit: Option<Unit>,
     ) -> Result<(), LogError>
         ensures taken { OnOk result (takes self.old sum histogram.now decimals self.new) };
 }
@@ -71,7 +73,7 @@ impl LogSums<'_> {
     {
         let decimals = self.decimals();
         match &self.spare {
-            Some(histogram) => sink.take_histogram(sum, histogram, decimals),
+            Some(histogram) => sink.take_histogram(sum, histogram, decimals, self.unit),
             None => Ok(()),
         }
     }

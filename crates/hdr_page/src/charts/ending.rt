@@ -92,13 +92,13 @@ pub(crate) fn push_level_endings(
     field: Field,
     scale: &FieldScale,
 ) -> Result<(), AllocError> {
-    for level in view.options.levels {
+    for (at, level) in view.options.levels.iter().enumerate() {
         let mut name = String::from_str(view.alloc, "level ")?;
         if view.options.levels.len() > 1 {
             push_percentile(&mut name, *level)?;
             name.push_str(" ")?;
         }
-        view.units.push_label(&mut name, level.value)?;
+        view.push_level(&mut name, at, *level)?;
         let y = field.y(scale, level.value);
         endings.push(Ending::new(view.alloc, name.as_str(), y, "level")?)?;
     }

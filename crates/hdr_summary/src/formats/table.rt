@@ -1,11 +1,43 @@
 //! Aligned tables.
 
-use crate::figures::push_tag;
+use crate::figures::Figure;
 use crate::formats::{Row, or_none};
+use hdr_input::push_visible;
 use std::alloc::{AllocError, Global};
 
 /// What a table shows in place of a tag that an interval does not have.
 const NO_TAG: &str = "(no tag)";
+
+/// The most characters of a tag in a table.
+const MOST_CHARACTERS: usize = 60;
+
+/// Returns a tag as a table shows it. One of more than `MOST_CHARACTERS` ends with an ellipsis.
+fn fitted(alloc: Global, name: &str) -> Result<String, AllocError> {
+    let mut text = String::new(alloc);
+    if name.chars().nth(MOST_CHARACTERS).is_none() {
+        push_visible(&mut text, name)?;
+        return Ok(text);
+    }
+    let start: String = name.chars().take(MOST_CHARACTERS - 1).collect(alloc)?;
+    push_visible(&mut text, start.as_str())?;
+    text.push('…')?;
+    Ok(text)
+}
+
+/// Returns the tags of rows as a table shows them.
+fn fitted_tags(alloc: Global, rows: &[Row<'_>]) -> Result<Vec<String>, AllocError> {
+    let mut tags = Vec::new(alloc);
+    for row in rows {
+        tags.push(fitted(alloc, tag_of(row))?)?;
+    }
+    Ok(tags)
+}
+
+/// Returns the number of characters of the longest of texts.
+fn longest(texts: &[String]) -> usize {
+    let lengths = texts.iter().map(|text| char_count(text.as_str()));
+    lengths.max().unwrap_or(0)
+}
 
 /// Appends the figures of distributions without tags: a line for each, with the points of the
 /// values aligned.
@@ -20,8 +52,7 @@ pub(crate) fn push_figures(text: &mut String, rows: &[Row<'_>]) -> Result<(), Al
         let wholes = wholes.max().unwrap_or(0);
         for figure in &row.figures {
             let value = or_none(figure, "-");
-            text.push_str(figure.name.as_str())?;
-            push_spaces(text, names.saturating_sub(figure.name.len()))?;
+            push_left(text, figure.name.as_str(), names)?;
             text.push_str("  ")?;
             push_spaces(text, wholes.saturating_sub(whole_len(value)))?;
             text.push_str(value)?;
@@ -45,19 +76,16 @@ pub(crate) fn push_tagged(
     let Some(first) = rows.first() else {
         return Ok(());
     };
-    let widths = widths(alloc, rows, first.figures.len())?;
-    let tags = rows.iter().map(|row| char_count(tag_of(row)));
-    let tags = tags.max().unwrap_or(0).max("tag".len());
-    text.push_str("tag")?;
-    push_spaces(text, tags.saturating_sub("tag".len()))?;
+    let widths = widths(alloc, rows, &first.figures)?;
+    let tags = fitted_tags(alloc, rows)?;
+    let width = longest(&tags).max("tag".len());
+    push_left(text, "tag", width)?;
     for (figure, width) in first.figures.iter().zip(&widths) {
         push_cell(text, figure.name.as_str(), *width)?;
     }
     text.push('\n')?;
-    for row in rows {
-        let tag = tag_of(row);
-        push_tag(text, tag)?;
-        push_spaces(text, tags.saturating_sub(char_count(tag)))?;
+    for (row, tag) in rows.iter().zip(&tags) {
+        push_left(text, tag.as_str(), width)?;
         for (figure, width) in row.figures.iter().zip(&widths) {
             push_cell(text, or_none(figure, "-"), *width)?;
         }
@@ -76,22 +104,33 @@ fn char_count(text: &str) -> usize {
     text.chars().count()
 }
 
-/// Returns the widths of the columns.
-fn widths(alloc: Global, rows: &[Row<'_>], columns: usize) -> Result<Vec<usize>, AllocError> {
-    (0..columns).map(|index| width(rows, index)).collect(alloc)
+/// Returns the widths of the columns of these figures: those of their names, or of longer values.
+fn widths(alloc: Global, rows: &[Row<'_>], figures: &[Figure]) -> Result<Vec<usize>, AllocError> {
+    let mut widths = Vec::new(alloc);
+    for (index, figure) in figures.iter().enumerate() {
+        let width = width(rows, index);
+        widths.push(width.max(figure.name.len()))?;
+    }
+    Ok(widths)
 }
 
-/// Returns the width of the column at an index: that of its name, or of its longest value.
+/// Returns the length of the longest value of the column at an index.
 fn width(rows: &[Row<'_>], index: usize) -> usize {
     let figures = rows.iter().filter_map(|row| row.figures.get(index));
-    let widths = figures.map(|figure| figure.name.len().max(or_none(figure, "-").len()));
+    let widths = figures.map(|figure| or_none(figure, "-").len());
     widths.max().unwrap_or(0)
+}
+
+/// Appends a text to the left of its column.
+fn push_left(text: &mut String, cell: &str, width: usize) -> Result<(), AllocError> {
+    text.push_str(cell)?;
+    push_spaces(text, width.saturating_sub(char_count(cell)))
 }
 
 /// Appends a text to the right of its column.
 fn push_cell(text: &mut String, cell: &str, width: usize) -> Result<(), AllocError> {
     text.push_str("  ")?;
-    push_spaces(text, width.saturating_sub(cell.len()))?;
+    push_spaces(text, width.saturating_sub(char_count(cell)))?;
     text.push_str(cell)
 }
 

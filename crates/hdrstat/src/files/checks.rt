@@ -4,16 +4,20 @@ ghost use Rattle.std.specs.Prelude.{◌≡◌, ◌↔◌, IsTrue};
 ghost use Rattle.std.specs.List.{All};
 
 use crate::errors::StatError;
-use crate::files::Files;
+use crate::files::{Files, or_standard_input};
+use crate::files::log_counts::{LogCounts, LogLevels, TagCounts};
 use crate::files::logs::{parts_of, print_coarser};
-use crate::files::numbers::{Table, print_skipped, read_numbers_into};
-use hdr_input::{BoundTally, Distribution, Recording, Tally};
-use hdr_logs::{HistogramSink, LogError, LogSums};
+use crate::files::numbers::{Form, read_groups, tag_of_group};
+use crate::files::surveyed::NumberFiles;
+use hdr_input::groups::{BoundRecording, GroupMaker, GroupParts};
+use hdr_input::{BoundTally, Distribution, Recording};
+use hdr_logs::LogSums;
 use hdr_summary::checks::{Check, CheckedSamples};
-use hdr_summary::classes::ClassCounts;
+use hdr_summary::decimals::Conversion;
 use hdr_summary::figures::Tagged;
-use hdr_summary::levels::{Level, Measure};
+use hdr_summary::levels::{Level, Measure, parse_level_in};
 use hdr_summary::means::SampleSum;
+use hdr_summary::units::Unit;
 use hdr_summary::verdicts::{LevelCounts, Verdict};
 use hdrhistogram::Histogram;
 use hdrhistogram::serialization::interval_log::IntervalChoice;
@@ -32,6 +36,8 @@ struct CheckedPart {
 #[derive(Drop)]
 pub(crate) struct Checked {
     parts: Vec<CheckedPart>,
+    /// The unit that logs have of their values.
+    unit: Option<Unit>,
     /// Whether more lines were skipped than read.
     pub is_mostly_skipped: bool,
 }
@@ -47,8 +53,18 @@ impl Checked {
             .all(|part| part.distribution.histogram.is_empty())
     }
 
-    /// Returns a line for each level of each tag.
-    pub(crate) fn text(&self, alloc: Global, levels: &[Level<'_>]) -> Result<String, StatError> {
+    /// Returns a line for each level of each tag. A unit that the arguments ask for is that of the
+    /// printed values.
+    pub(crate) fn text(
+        &self,
+        alloc: Global,
+        levels: &[Level<'_>],
+        asked: Option<Unit>,
+    ) -> Result<String, StatError> {
+        let conversion = match (self.unit, asked) {
+            (Some(from), Some(to)) => Conversion::new(from, to),
+            _ => Conversion::NONE,
+        };
         let mut text = String::new(alloc);
         for part in &self.parts {
             let samples = CheckedSamples {
@@ -58,6 +74,7 @@ impl Checked {
                     Some(tag) => Some(tag.as_str()),
                     None => None,
                 },
+                conversion,
             };
             for (check, level) in part.checks.iter().zip(levels) {
                 check.push_line(alloc, &mut text, level, samples)?;
@@ -85,7 +102,7 @@ fn checks_of_tally(
     sum: SampleSum,
     levels: &[Level<'_>],
 ) -> Result<Vec<Check>, StatError> {
-    let decimals = tally.tally.decimals();
+    let decimals = tally.tally.decimals;
     let mut checks = Vec::new(alloc);
     for level in levels {
         let counts = match level.measure {
@@ -98,12 +115,40 @@ fn checks_of_tally(
     Ok(checks)
 }
 
-/// Compares the numbers of files with levels. The number of lines skipped is printed on standard
-/// error.
+/// Returns the numbers of files as they are recorded now, counted within bounds.
+fn bound_tally_of(
+    alloc: Global,
+    numbers: &mut NumberFiles<'_, '_, '_, '_, '_>,
+    maker: BoundRecording<'_>,
+) -> Result<BoundTally, StatError> {
+    let maker = maker.with_recording(numbers.recording);
+    let mut tally = maker.make(alloc).map_err(|_| StatError::OutOfMemory)?;
+    numbers.read_into(&mut tally)?;
+    Ok(tally)
+}
+
+/// Returns the numbers of files, counted within bounds. How many lines were skipped and how many
+/// numbers were rounded is printed on standard error.
+fn read_bound_tally(
+    files: Files<'_, '_, '_>,
+    maker: BoundRecording<'_>,
+    form: Form<'_, '_>,
+) -> Result<BoundTally, StatError> {
+    let mut numbers = NumberFiles::new(files, maker.recording, form)?;
+    let mut tally = bound_tally_of(files.alloc(), &mut numbers, maker)?;
+    if numbers.becomes_finer(tally.tally.rounded)? {
+        tally = bound_tally_of(files.alloc(), &mut numbers, maker)?;
+    }
+    numbers.print_notes(tally.tally.skipped, tally.tally.rounded);
+    Ok(tally)
+}
+
+/// Compares the numbers of files with levels: all, or those of each group. How many lines were
+/// skipped and how many numbers were rounded is printed on standard error.
 pub(crate) fn check_numbers(
     files: Files<'_, '_, '_>,
     recording: Recording,
-    table: Option<Table<'_>>,
+    form: Form<'_, '_>,
     levels: &[Level<'_>],
 ) -> Result<Checked, StatError> {
     let alloc = files.alloc();
@@ -111,92 +156,56 @@ pub(crate) fn check_numbers(
     for level in levels {
         bounds.push(level.bound())?;
     }
-    let mut tally = BoundTally::new(alloc, Tally::new(alloc, recording)?, &bounds)?;
-    read_numbers_into(files, table, &mut tally)?;
-    print_skipped(files.rt, &tally.tally);
-    let is_mostly_skipped = tally.numbers() < tally.tally.skipped;
+    let bounds = &bounds;
+    let maker = BoundRecording { recording, bounds };
+    let mut parts = Vec::new(alloc);
+    let mut numbers = 0u64;
+    let skipped;
+    if let Some(columns) = form.groups() {
+        let groups = read_groups(files, maker, form, columns)?;
+        skipped = groups.skipped;
+        let GroupParts { texts, sinks, .. } = groups;
+        for (text, tally) in texts.as_slice().iter().zip(sinks) {
+            numbers = numbers.saturating_add(tally.numbers());
+            let tag = tag_of_group(alloc, text)?;
+            parts.push(part_of_tally(alloc, tag, tally, levels)?)?;
+        }
+    } else {
+        let tally = read_bound_tally(files, maker, form)?;
+        skipped = tally.tally.skipped;
+        numbers = tally.numbers();
+        parts.push(part_of_tally(alloc, None, tally, levels)?)?;
+    }
+    let is_mostly_skipped = numbers < skipped;
     if is_mostly_skipped {
         let _ = eprintln!(files.rt; "hdrstat: more lines were skipped than read");
     }
+    Ok(Checked {
+        parts,
+        unit: None,
+        is_mostly_skipped,
+    })
+}
+
+/// Returns the checks of the numbers of a tag.
+fn part_of_tally(
+    alloc: Global,
+    tag: Option<String>,
+    tally: BoundTally,
+    levels: &[Level<'_>],
+) -> Result<CheckedPart, StatError> {
     let sum = SampleSum {
         total: tally.total(),
         low: tally.sum(),
         high: tally.sum(),
     };
     let checks = checks_of_tally(alloc, &tally, sum, levels)?;
-    let mut parts = Vec::new(alloc);
-    parts.push(CheckedPart {
-        tag: None,
+    Ok(CheckedPart {
+        tag,
         distribution: tally.tally.into_distribution(),
         sum,
         checks,
-    })?;
-    Ok(Checked {
-        parts,
-        is_mostly_skipped,
     })
-}
-
-/// What is counted of the samples of a tag: those within the bound of each level, and their sum.
-#[derive(Drop)]
-struct TagCounts {
-    levels: Vec<ClassCounts>,
-    sum: SampleSum,
-}
-
-/// What is counted of the samples of each tag of logs.
-#[derive(Drop)]
-struct LogCounts<'a, 'n> {
-    alloc: Global,
-    levels: &'a [Level<'n>],
-    tags: Vec<TagCounts>,
-}
-
-impl LogCounts<'_, '_> {
-    /// Adds a tag without samples, whose values have these decimals.
-    fn push_tag(&mut self, decimals: u32) -> Result<(), LogError> {
-        let mut levels = Vec::new(self.alloc);
-        for level in self.levels {
-            levels.push(ClassCounts::new(level, decimals))?;
-        }
-        self.tags.push(TagCounts {
-            levels,
-            sum: SampleSum::EMPTY,
-        })?;
-        Ok(())
-    }
-}
-
-impl HistogramSink for LogCounts<'_, '_> {
-    ghost takes = { λ _ _ _ _ _. Unit {0} };
-
-    fn take_histogram(
-        &mut self,
-        sum: usize,
-        histogram: &Histogram<u64>,
-        decimals: u32,
-    ) -> Result<(), LogError> {
-        for _ in self.tags.len()..=sum {
-            self.push_tag(decimals)?;
-        }
-        let Some(tag) = self.tags.get_mut(sum) else {
-            return Ok(());
-        };
-        for at in 0..tag.levels.len() {
-            tag.levels[at].add(histogram);
-        }
-        if has_mean(self.levels) {
-            tag.sum.add(histogram);
-        }
-        Ok(())
-    }
-}
-
-/// Whether one of levels is of a mean.
-fn has_mean(levels: &[Level<'_>]) -> bool {
-    levels
-        .iter()
-        .any(|level| matches!(level.measure, Measure::Mean))
 }
 
 /// Returns the checks of the samples of a tag.
@@ -227,39 +236,49 @@ fn check_of_mean(sum: &SampleSum, level: &Level<'_>, decimals: u32) -> Check {
     Check { counts, verdict }
 }
 
+/// Reads logs into sums, and counts their samples.
+fn read_logs(
+    files: Files<'_, '_, '_>,
+    sums: &mut LogSums<'_>,
+    counts: &mut LogCounts<'_, '_>,
+) -> Result<(), StatError> {
+    for (index, name) in or_standard_input(files.names).iter().enumerate() {
+        let input = files.open(*name)?;
+        sums.read_log_into(files.alloc(), index, input, counts)
+            .map_err(|cause| files.log_error(cause))?;
+    }
+    Ok(())
+}
+
 /// Compares the samples of the chosen intervals of logs with levels: of all, or of each tag.
 pub(crate) fn check_logs(
     files: Files<'_, '_, '_>,
     sigfig: u8,
     choice: IntervalChoice<'_>,
     is_by_tag: bool,
-    levels: &[Level<'_>],
+    written: LogLevels<'_, '_>,
 ) -> Result<Checked, StatError> {
     let alloc = files.alloc();
     let mut sums = LogSums::new(alloc, choice, sigfig, is_by_tag);
-    let mut counts = LogCounts {
-        alloc,
-        levels,
-        tags: Vec::new(alloc),
-    };
-    let read = files.read_each(|index, input| {
-        sums.read_log_into(alloc, index, input, &mut counts)
-            .map_err(|cause| files.log_error(cause))
-    });
+    let mut counts = LogCounts::new(alloc, written);
+    let read = read_logs(files, &mut sums, &mut counts);
     files.print_notes(sums.notes());
     read?;
     print_coarser(files.rt, &sums, sigfig);
+    let unit = sums.unit();
+    let usual = unit.or(written.asked).or(Some(Unit::Seconds));
+    counts
+        .parse_levels(usual)
+        .map_err(|cause| files.log_error(cause))?;
     let parts = parts_of(alloc, sums, sigfig, is_by_tag)?;
-    for _ in counts.tags.len()..parts.len() {
-        counts.push_tag(0).map_err(|cause| files.log_error(cause))?;
-    }
+    counts.push_tags(parts.len(), 0)?;
     let mut checked = Vec::new(alloc);
     for (index, part) in parts.into_iter().enumerate() {
         let Tagged { tag, distribution } = part;
-        let Some(tag_counts) = counts.tags.get(index) else {
+        let Some(tag_counts) = counts.tag(index) else {
             continue;
         };
-        let checks = checks_of_tag(alloc, tag_counts, distribution.decimals, levels)?;
+        let checks = checks_of_tag(alloc, tag_counts, distribution.decimals, counts.levels())?;
         checked.push(CheckedPart {
             tag,
             distribution,
@@ -269,6 +288,7 @@ pub(crate) fn check_logs(
     }
     Ok(Checked {
         parts: checked,
+        unit: unit.or(written.asked),
         is_mostly_skipped: false,
     })
 }

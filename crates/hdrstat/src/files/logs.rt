@@ -3,12 +3,20 @@
 use crate::errors::StatError;
 use crate::files::Files;
 use crate::files::names::FileNames;
-use hdr_input::Distribution;
+use crate::output::print_error_line;
+use hdr_input::{Distribution, Unit};
 use hdr_logs::{LogError, LogIntervals, LogSums, Note, TagSum};
 use hdr_summary::figures::Tagged;
 use hdrhistogram::Histogram;
 use hdrhistogram::serialization::interval_log::IntervalChoice;
 use std::alloc::Global;
+
+/// Distributions, and the unit that logs have of their values.
+#[derive(Drop)]
+pub(crate) struct Parts {
+    pub list: Vec<Tagged>,
+    pub unit: Option<Unit>,
+}
 
 /// Returns the sums of the chosen intervals of logs: one, or one for each tag. If intervals are
 /// coarser than their sum, their number is printed on standard error.
@@ -17,7 +25,7 @@ pub(crate) fn read_sums(
     sigfig: u8,
     choice: IntervalChoice<'_>,
     is_by_tag: bool,
-) -> Result<Vec<Tagged>, StatError> {
+) -> Result<Parts, StatError> {
     let alloc = files.alloc();
     let mut sums = LogSums::new(alloc, choice, sigfig, is_by_tag);
     let read = files.read_each(|index, input| {
@@ -27,7 +35,9 @@ pub(crate) fn read_sums(
     files.print_notes(sums.notes());
     read?;
     print_coarser(files.rt, &sums, sigfig);
-    parts_of(alloc, sums, sigfig, is_by_tag)
+    let unit = sums.unit();
+    let list = parts_of(alloc, sums, sigfig, is_by_tag)?;
+    Ok(Parts { list, unit })
 }
 
 /// Returns the distributions of sums: one, or one for each tag.
@@ -104,7 +114,9 @@ impl Files<'_, '_, '_> {
     pub(crate) fn print_notes(self, notes: &[Note]) {
         for note in notes {
             let file = self.name(note.place.file);
-            let _ = eprintln!(self.rt; "hdrstat: {file}: {note}");
+            if let Ok(line) = format!(in self.alloc(); "hdrstat: {file}: {note}") {
+                print_error_line(self.rt, line.as_str());
+            }
         }
     }
 }

@@ -2,78 +2,178 @@
 
 use crate::errors::StatError;
 use crate::files::Files;
-use hdr_input::columns::{Columns, RowSink, TableLayout, guess_delimiter, read_rows};
-use hdr_input::intervals::Intervals;
+use crate::files::surveyed::NumberFiles;
+use hdr_input::blanks::BlankReader;
+use hdr_input::columns::{Columns, TableLayout, guess_delimiter, read_rows};
+use hdr_input::groups::{GroupMaker, GroupParts, Groups};
+use hdr_input::json_lines::read_json;
+use hdr_input::match_lines::read_matches;
 use hdr_input::pieces::{LineSink, read_lines};
 use hdr_input::retry::RetryReader;
+use hdr_input::rows::RowSink;
 use hdr_input::{InputError, Recording, Tally};
-use std::alloc::Global;
+use regex::bytes::Regex;
+use std::alloc::{AllocError, Global};
 use std::io::Read;
 
 /// How many bytes of a longer first line determine the delimiter of a table.
 const START: usize = 8_192;
 
-/// The column of a table.
+/// The form of the input.
 #[derive(Clone, Copy)]
-pub(crate) struct Table<'a> {
-    pub column: &'a str,
+pub(crate) enum Form<'l, 'n> {
+    /// A number on each line.
+    Lines,
+    Table(Table<'l, 'n>),
+    /// A value of JSON on each line, of which the columns are paths.
+    Json(Columns<'l, 'n>),
+    /// The group of a regular expression in the lines that match.
+    Match(&'n str),
+}
+
+/// The columns of a table.
+#[derive(Clone, Copy)]
+pub(crate) struct Table<'l, 'n> {
+    pub columns: Columns<'l, 'n>,
     /// The byte between columns, or `None` if the first line determines it.
     pub delimiter: Option<u8>,
     pub has_header: bool,
 }
 
-/// Returns the numbers of files. The number of lines skipped is printed on standard error.
+impl<'l, 'n> Form<'l, 'n> {
+    /// Returns the columns of the texts that have groups, if numbers are counted by groups.
+    pub(crate) fn groups(self) -> Option<&'l [&'n str]> {
+        let columns = self.columns()?;
+        if columns.groups.is_empty() {
+            return None;
+        }
+        Some(columns.groups)
+    }
+
+    /// Returns the columns of a table or of JSON.
+    fn columns(self) -> Option<Columns<'l, 'n>> {
+        match self {
+            Form::Lines | Form::Match(_) => None,
+            Form::Table(table) => Some(table.columns),
+            Form::Json(columns) => Some(columns),
+        }
+    }
+}
+
+/// Returns the numbers of files. How many lines were skipped and how many numbers were rounded is
+/// printed on standard error.
+///
+/// # Errors
+/// Returns `MostlySkipped` if more lines were skipped than numbers read.
 pub(crate) fn read_numbers(
     files: Files<'_, '_, '_>,
     recording: Recording,
-    table: Option<Table<'_>>,
+    form: Form<'_, '_>,
 ) -> Result<Tally, StatError> {
-    let mut tally = Tally::new(files.alloc(), recording)?;
-    read_numbers_into(files, table, &mut tally)?;
-    print_skipped(files.rt, &tally);
+    let mut numbers = NumberFiles::new(files, recording, form)?;
+    let mut tally = tally_of(files.alloc(), &mut numbers)?;
+    if numbers.becomes_finer(tally.rounded)? {
+        tally = tally_of(files.alloc(), &mut numbers)?;
+    }
+    numbers.print_notes(tally.skipped, tally.rounded);
+    require_most_lines(tally.numbers(), tally.skipped)?;
     Ok(tally)
 }
 
-/// Reads the numbers of files into `sink`.
-pub(crate) fn read_numbers_into<S: LineSink + RowSink>(
+/// Returns the numbers of files as they are recorded now.
+fn tally_of(
+    alloc: Global,
+    numbers: &mut NumberFiles<'_, '_, '_, '_, '_>,
+) -> Result<Tally, StatError> {
+    let mut tally = Tally::new(alloc, numbers.recording)?;
+    numbers.read_into(&mut tally)?;
+    Ok(tally)
+}
+
+/// Returns an error if more lines were skipped than numbers read.
+pub(crate) fn require_most_lines(numbers: u64, skipped: u64) -> Result<(), StatError> {
+    if numbers < skipped {
+        return Err(StatError::MostlySkipped);
+    }
+    Ok(())
+}
+
+/// Returns the groups of the numbers of files. How many lines were skipped and how many numbers were
+/// rounded is printed on standard error.
+pub(crate) fn read_groups<M: GroupMaker + Copy + Drop>(
     files: Files<'_, '_, '_>,
-    table: Option<Table<'_>>,
+    maker: M,
+    form: Form<'_, '_>,
+    columns: &[&str],
+) -> Result<GroupParts<M::Sink>, StatError> {
+    let mut numbers = NumberFiles::new(files, maker.recording(), form)?;
+    let mut parts = groups_of(files, maker, columns, &mut numbers)?;
+    if numbers.becomes_finer(parts.rounded)? {
+        parts = groups_of(files, maker, columns, &mut numbers)?;
+    }
+    numbers.print_notes(parts.skipped, parts.rounded);
+    Ok(parts)
+}
+
+/// Returns the groups of the numbers of files as these are recorded now.
+fn groups_of<M: GroupMaker + Copy + Drop>(
+    files: Files<'_, '_, '_>,
+    maker: M,
+    columns: &[&str],
+    numbers: &mut NumberFiles<'_, '_, '_, '_, '_>,
+) -> Result<GroupParts<M::Sink>, StatError> {
+    let maker = maker.with_recording(numbers.recording);
+    let groups = Groups::new(files.alloc(), maker, columns);
+    let mut groups = groups.map_err(|cause| files.numbers_error(0, cause))?;
+    numbers.read_rows_into(&mut groups)?;
+    Ok(groups.into_parts())
+}
+
+/// Returns the text of a group as a tag, or `None` if it is empty.
+pub(crate) fn tag_of_group(alloc: Global, text: &[u8]) -> Result<Option<String>, AllocError> {
+    if text.is_empty() {
+        return Ok(None);
+    }
+    Ok(Some(String::from_utf8_lossy(alloc, text)?))
+}
+
+/// Reads the numbers of an input into `sink`. Returns the first row if it is taken as names, and no
+/// column was found by its name.
+pub(crate) fn read_input<R: Read + Drop, S: LineSink + RowSink>(
+    alloc: Global,
+    reader: R,
+    form: Form<'_, '_>,
     sink: &mut S,
-) -> Result<(), StatError> {
-    let alloc = files.alloc();
-    files.read_each(|index, input| {
-        let read = match table {
-            Some(table) => read_table(alloc, input, table, None, sink),
-            None => read_lines(alloc, input, sink),
-        };
-        read.map_err(|cause| StatError::numbers(alloc, files.name(index), cause))
-    })
+) -> Result<Option<String>, InputError> {
+    match form {
+        Form::Lines => {
+            read_lines(alloc, reader, sink)?;
+            Ok(None)
+        }
+        form => read_rows_of(alloc, reader, form, sink),
+    }
 }
 
-/// Returns the numbers of a column of files, cut into intervals of this length in nanoseconds.
-pub(crate) fn read_timed_numbers(
-    files: Files<'_, '_, '_>,
-    recording: Recording,
-    table: Table<'_>,
-    time: &str,
-    length: u64,
-) -> Result<Intervals, StatError> {
-    let alloc = files.alloc();
-    let mut intervals = Intervals::new(alloc, recording, length)?;
-    files.read_each(|index, input| {
-        read_table(alloc, input, table, Some(time), &mut intervals).map_err(
-            |cause| StatError::numbers(alloc, files.name(index), cause),
-        )
-    })?;
-    print_skipped(files.rt, &intervals.tally);
-    Ok(intervals)
-}
-
-/// Prints the number of lines skipped on standard error, if there are any.
-pub(crate) fn print_skipped(rt: &HostRuntime, tally: &Tally) {
-    let skipped = tally.skipped;
-    if skipped > 0 {
-        let _ = eprintln!(rt; "hdrstat: bad lines skipped: {skipped}");
+/// Reads the rows of an input into `sink`. Returns the first row if it is taken as names, and no
+/// column was found by its name.
+pub(crate) fn read_rows_of<R: Read + Drop, S: RowSink>(
+    alloc: Global,
+    input: R,
+    form: Form<'_, '_>,
+    sink: &mut S,
+) -> Result<Option<String>, InputError> {
+    match form {
+        Form::Lines => Ok(None),
+        Form::Table(table) => read_table(alloc, input, table, sink),
+        Form::Json(columns) => {
+            read_json(alloc, input, columns, sink)?;
+            Ok(None)
+        }
+        Form::Match(text) => {
+            let regex = Regex::new(alloc, text).map_err(|_| InputError::OutOfMemory)?;
+            read_matches(alloc, input, &regex, sink)?;
+            Ok(None)
+        }
     }
 }
 
@@ -81,24 +181,23 @@ pub(crate) fn print_skipped(rt: &HostRuntime, tally: &Tally) {
 fn read_table<R: Read + Drop, S: RowSink>(
     alloc: Global,
     reader: R,
-    table: Table<'_>,
-    time: Option<&str>,
+    table: Table<'_, '_>,
     sink: &mut S,
-) -> Result<(), InputError> {
+) -> Result<Option<String>, InputError> {
     let mut reader = RetryReader { reader };
     let start = match table.delimiter {
         Some(_) => Vec::new(alloc),
         None => read_start(alloc, &mut reader)?,
     };
-    let columns = Columns {
-        value: table.column,
-        time,
-    };
     let layout = TableLayout {
         delimiter: table.delimiter.unwrap_or_else(|| guess_delimiter(&start)),
         has_header: table.has_header,
     };
-    read_rows(alloc, start.as_slice().chain(reader), columns, layout, sink)
+    let reader = start.as_slice().chain(reader);
+    if layout.delimiter == b' ' {
+        return read_rows(alloc, BlankReader::new(reader), table.columns, layout, sink);
+    }
+    read_rows(alloc, reader, table.columns, layout, sink)
 }
 
 /// Returns the first bytes of a table: its first line at least, or `START` bytes or more of that.

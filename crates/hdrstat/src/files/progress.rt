@@ -1,5 +1,7 @@
 //! A line on a terminal that shows how much of a file is read.
 
+ghost use Rattle.std.specs.Prelude.{◌≡◌, ◌<◌, ◌≤◌, ◌-◌, ◌*◌, ◌/◌};
+
 use std::io::IsTerminal;
 use std::time::Instant;
 
@@ -12,12 +14,18 @@ pub(crate) struct Progress<'a> {
     /// The seconds from the start to when it was shown last, 0 if it never was.
     shown: u64,
     bytes: u64,
+    /// The bytes of the file, if it is a regular one.
+    length: Option<u64>,
 }
 
 impl<'a> Progress<'a> {
     /// Returns the progress of a file of which nothing is read. There is none if standard error is
     /// no terminal, or if `is_quiet`.
-    pub(crate) fn new(rt: &'a HostRuntime, is_quiet: bool) -> Option<Progress<'a>> {
+    pub(crate) fn new(
+        rt: &'a HostRuntime,
+        is_quiet: bool,
+        length: Option<u64>,
+    ) -> Option<Progress<'a>> {
         if is_quiet || !rt.stderr().is_terminal() {
             return None;
         }
@@ -26,6 +34,7 @@ impl<'a> Progress<'a> {
             start: Instant::now(rt).ok()?,
             shown: 0,
             bytes: 0,
+            length,
         })
     }
 
@@ -38,11 +47,45 @@ impl<'a> Progress<'a> {
         let seconds = elapsed.as_secs();
         if seconds > self.shown {
             self.shown = seconds;
-            let read = self.bytes / MEGABYTE;
-            let rate = read / seconds;
-            let _ = eprint!(self.rt; "\r\x1b[Khdrstat: {read} MB read, {rate} MB/s");
+            self.show(seconds);
         }
     }
+
+    /// Shows how much was read in this time: of a regular file with the percentage and the time left.
+    fn show(&self, seconds: u64) {
+        let read = self.bytes / MEGABYTE;
+        let _ = match self.length {
+            Some(length) if 0 < self.bytes && self.bytes <= length => {
+                let all = length / MEGABYTE;
+                let percent = percent_of(self.bytes, length);
+                let left = seconds_left(self.bytes, length, seconds);
+                eprint!(self.rt;
+                    "\r\x1b[Khdrstat: {read} of {all} MB read, {percent} %, {left} s left"
+                )
+            }
+            _ => {
+                let rate = read.checked_div(seconds).unwrap_or(read);
+                eprint!(self.rt; "\r\x1b[Khdrstat: {read} MB read, {rate} MB/s")
+            }
+        };
+    }
+}
+
+/// Returns the percentage of a part.
+fn percent_of(part: u64, all: u64) -> u128
+    requires { 0 < all }
+    ensures { result ≡ part * 100 / all }
+{
+    u128::from(part) * 100 / u128::from(all)
+}
+
+/// Returns how many seconds are left, at the rate of those of a part.
+fn seconds_left(part: u64, all: u64, seconds: u64) -> u128
+    requires some { 0 < part }
+    requires within { part ≤ all }
+    ensures { result ≡ (all - part) * seconds / part }
+{
+    u128::from(all - part) * u128::from(seconds) / u128::from(part)
 }
 
 impl Drop for Progress<'_> {
@@ -56,6 +99,7 @@ impl Drop for Progress<'_> {
             start: _,
             shown: _,
             bytes: _,
+            length: _,
         } = self;
     }
 }

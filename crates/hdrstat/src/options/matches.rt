@@ -1,12 +1,11 @@
 //! What arguments mean.
 
-ghost use Rattle.std.specs.Prelude.{◌↔◌, IfSome, IsTrue};
-ghost use Rattle.hdrstat.specs.Delimiters.{IsDelimiter};
-
 use crate::errors::StatError;
 use crate::files::names::FileNames;
-use crate::files::numbers::Table;
+use crate::files::numbers::Form;
+use crate::options::forms::{check_rows, form_of};
 use clap::ArgMatches;
+use hdr_input::columns::Condition;
 use hdr_input::{Number, Recording};
 use hdr_summary::units::{Unit, in_unit, parse_amount};
 use hdrhistogram::serialization::interval_log::{IntervalChoice, Tag, TagChoice};
@@ -15,25 +14,28 @@ use std::time::Duration;
 
 /// What the input is, and how it is read.
 #[derive(Clone, Copy)]
-pub(crate) enum Reading<'a> {
+pub(crate) enum Reading<'l, 'n> {
     /// A number on each line, or a table.
     Numbers {
         recording: Recording,
-        table: Option<Table<'a>>,
+        form: Form<'l, 'n>,
     },
     /// Interval logs.
     Logs {
-        choice: IntervalChoice<'a>,
+        choice: IntervalChoice<'n>,
         sigfig: u8,
         is_by_tag: bool,
     },
 }
 
 /// Returns how the input is read.
-pub(crate) fn reading_of<'a>(
+pub(crate) fn reading_of<'l, 'n>(
     alloc: Global,
-    matches: &ArgMatches<'a>,
-) -> Result<Reading<'a>, StatError> {
+    matches: &ArgMatches<'n>,
+    groups: &'l [&'n str],
+    conditions: &'l [Condition<'n>],
+) -> Result<Reading<'l, 'n>, StatError> {
+    check_rows(alloc, matches)?;
     let is_log = matches.get_str("from") == Some("log");
     if let Some(option) = misplaced_option(matches, is_log) {
         let why = if is_log {
@@ -52,14 +54,16 @@ pub(crate) fn reading_of<'a>(
     } else {
         Ok(Reading::Numbers {
             recording: recording_of(alloc, matches)?,
-            table: table_of(alloc, matches)?,
+            form: form_of(alloc, matches, groups, conditions)?,
         })
     }
 }
 
 /// Options of numbers, and options of logs, which have a value.
-const OF_NUMBERS: [&str; 4] = [
+const OF_NUMBERS: [&str; 6] = [
     "--column",
+    "--json",
+    "--match",
     "--delimiter",
     "--decimals",
     "--expected-interval",
@@ -91,9 +95,12 @@ pub(crate) fn recording_of(
     alloc: Global,
     matches: &ArgMatches<'_>,
 ) -> Result<Recording, StatError> {
+    let decimals = matches.get_one::<u32>("decimals");
     Ok(Recording {
         sigfig: digits_of(matches),
-        decimals: matches.get_one::<u32>("decimals"),
+        decimals: decimals.unwrap_or(0),
+        has_chosen_decimals: decimals.is_some(),
+        unit: unit_of(matches),
         interval: interval_of(alloc, matches)?,
         skips_bad: matches.get_flag("skip-bad"),
     })
@@ -114,69 +121,17 @@ fn interval_of(alloc: Global, matches: &ArgMatches<'_>) -> Result<Number, StatEr
         let why = "is not an interval above 0, such as 10, 0.01 or, with --unit, 10ms";
         return Err(StatError::usage(alloc, text, why));
     }
-    if is_rounded_to_zero(interval, matches.get_one::<u32>("decimals")) {
-        let why = "is an interval of 0, if it is rounded to --decimals";
+    let decimals = matches.get_one::<u32>("decimals");
+    if decimals.is_some_and(|decimals| interval.is_rounded(decimals)) {
+        let why = "is an interval with more decimals than --decimals";
         return Err(StatError::usage(alloc, text, why));
     }
     Ok(interval)
 }
 
-/// Whether a number is 0 if it is rounded to `decimals`.
-fn is_rounded_to_zero(number: Number, decimals: Option<u32>) -> bool {
-    decimals.is_some_and(|decimals| number.rounded(decimals) == Some(0))
-}
-
 /// Returns the unit of the numbers, if there is one.
 pub(crate) fn unit_of(matches: &ArgMatches<'_>) -> Option<Unit> {
     Unit::from_name(matches.get_str("unit")?)
-}
-
-/// Returns the table of the arguments, if they name a column.
-pub(crate) fn table_of<'a>(
-    alloc: Global,
-    matches: &ArgMatches<'a>,
-) -> Result<Option<Table<'a>>, StatError> {
-    let Some(column) = matches.get_str("column") else {
-        return Ok(None);
-    };
-    Ok(Some(Table {
-        column,
-        delimiter: delimiter_of(alloc, matches)?,
-        has_header: !matches.get_flag("no-header"),
-    }))
-}
-
-/// Returns the delimiter of tables, if there is one.
-fn delimiter_of(alloc: Global, matches: &ArgMatches<'_>) -> Result<Option<u8>, StatError> {
-    let Some(text) = matches.get_str("delimiter") else {
-        return Ok(None);
-    };
-    let why = "is not a delimiter: comma, tab, semicolon, space, or one ASCII character";
-    let delimiter = parse_delimiter(text).ok_or_else(|| StatError::usage(alloc, text, why))?;
-    Ok(Some(delimiter))
-}
-
-/// Parses a delimiter: a name, or a character of ASCII.
-fn parse_delimiter(name: &str) -> Option<u8>
-    ensures { IfSome result IsDelimiter }
-{
-    match name {
-        "comma" => Some(b','),
-        "tab" => Some(b'\t'),
-        "semicolon" => Some(b';'),
-        "space" => Some(b' '),
-        _ => match name.as_bytes() {
-            [byte] if is_delimiter(*byte) => Some(*byte),
-            _ => None,
-        },
-    }
-}
-
-/// Whether a byte may be a delimiter. Quotes and ends of lines may not.
-fn is_delimiter(byte: u8) -> bool
-    ensures { IsTrue result ↔ IsDelimiter byte }
-{
-    byte.is_ascii() && byte != b'"' && byte != b'\n' && byte != b'\r'
 }
 
 /// Returns the choice of intervals.

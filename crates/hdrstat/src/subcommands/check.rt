@@ -6,15 +6,18 @@ ghost use Rattle.hdrstat.specs.Statuses.{is_broken, is_kept, status_of_verdicts}
 
 use crate::errors::StatError;
 use crate::files::Files;
-use crate::files::checks::{check_logs, check_numbers};
-use crate::options::arguments::{flag, option, with_reading};
+use crate::files::checks::{Checked, check_logs, check_numbers};
+use crate::files::log_counts::LogLevels;
+use crate::options::arguments::{self, INPUT, OUTPUT, flag, option, quiet, with_reading};
+use crate::options::forms::{conditions_of, groups_by};
 use crate::options::matches::{Reading, reading_of, unit_of};
 use crate::output::print;
 use clap::{Arg, ArgAction, ArgMatches, Command, Error};
-use hdr_summary::levels::{Level, parse_level};
+use hdr_summary::levels::{Level, parse_level_in};
 use hdr_summary::units::Unit;
 use hdr_summary::verdicts::Verdict;
 use std::alloc::Global;
+use std::fs;
 use std::process::ExitCode;
 
 const AFTER: &str = "\
@@ -44,15 +47,20 @@ pub(crate) fn command<'a>(alloc: Global) -> Result<Command<'a>, Error> {
     let help = "File to read, in place of standard input; may be repeated";
     let input = option(alloc, "input", "FILE", help)
         .short('i')
-        .action(ArgAction::Append);
+        .action(ArgAction::Append)
+        .help_heading(INPUT);
     let help = "Accept an input without numbers";
     let command = Command::new(alloc, "check")
         .about("Compare figures with levels, and fail if one is broken")
         .after_help(AFTER)
+        .disable_help_flag(true)
         .arg(levels)?
         .arg(input)?
-        .arg(flag(alloc, "allow-empty", help))?;
-    with_reading(alloc, command)
+        .arg(flag(alloc, "allow-empty", help).help_heading(INPUT))?;
+    let command = with_reading(alloc, command)?
+        .arg(quiet(alloc).help_heading(OUTPUT))?
+        .arg(arguments::help(alloc))?;
+    Ok(command)
 }
 
 /// The status if a level is broken, or if the input is empty.
@@ -64,29 +72,45 @@ const UNDECIDED: u8 = 4;
 /// Compares the figures of the numbers of files with levels.
 pub(crate) fn run(rt: &HostRuntime, matches: &ArgMatches<'_>) -> Result<ExitCode, StatError> {
     let alloc = rt.alloc();
-    let reading = reading_of(alloc, matches)?;
-    let arguments = matches.get_strs("LEVEL").unwrap_or(&[]);
-    let levels = levels_of(alloc, arguments, unit_of(matches))?;
+    let groups = groups_by(alloc, matches)?;
+    let conditions = conditions_of(alloc, matches)?;
+    let reading = reading_of(alloc, matches, &groups, &conditions)?;
+    let texts = matches.get_strs("LEVEL").unwrap_or(&[]);
+    let asked = unit_of(matches);
+    let levels = match reading {
+        Reading::Numbers { .. } => levels_of(rt, texts, asked, asked)?,
+        Reading::Logs { .. } => levels_of_logs(rt, texts, asked)?,
+    };
     let files = Files {
         rt,
         names: matches.get_strs("input").unwrap_or(&[]),
         is_quiet: matches.get_flag("quiet"),
     };
-    let checked = match reading {
-        Reading::Numbers { recording, table } => check_numbers(files, recording, table, &levels)?,
-        Reading::Logs {
-            choice,
-            sigfig,
-            is_by_tag,
-        } => check_logs(files, sigfig, choice, is_by_tag, &levels)?,
-    };
+    let checked = check_reading(files, reading, &levels, LogLevels { texts, asked })?;
     if checked.is_empty() && !matches.get_flag("allow-empty") {
         let _ = eprintln!(rt; "hdrstat: no numbers; --allow-empty accepts an empty input");
         return Ok(ExitCode::from(BROKEN));
     }
-    let text = checked.text(alloc, &levels)?;
+    let text = checked.text(alloc, &levels, asked)?;
     print(rt, text.as_bytes())?;
     Ok(ExitCode::from(status_of(&checked.verdicts(alloc)?, checked.is_mostly_skipped)))
+}
+
+/// Compares what the arguments ask to read with levels.
+fn check_reading(
+    files: Files<'_, '_, '_>,
+    reading: Reading<'_, '_>,
+    levels: &[Level<'_>],
+    written: LogLevels<'_, '_>,
+) -> Result<Checked, StatError> {
+    match reading {
+        Reading::Numbers { recording, form } => check_numbers(files, recording, form, levels),
+        Reading::Logs {
+            choice,
+            sigfig,
+            is_by_tag,
+        } => check_logs(files, sigfig, choice, is_by_tag, written),
+    }
 }
 
 /// Whether a verdict is that of a level that is broken.
@@ -133,21 +157,45 @@ fn status_of(verdicts: &[Verdict], is_mostly_skipped: bool) -> u8
     }
 }
 
-/// Parses levels.
+/// Parses levels for values in `unit`. A level without a unit is in `usual`.
 fn levels_of<'a>(
-    alloc: Global,
-    arguments: &[&'a str],
+    rt: &HostRuntime,
+    texts: &[&'a str],
+    usual: Option<Unit>,
     unit: Option<Unit>,
 ) -> Result<Vec<Level<'a>>, StatError> {
-    let mut levels = Vec::new(alloc);
-    for argument in arguments {
-        let Some(level) = parse_level(*argument, unit) else {
-            let why = "is not a level, such as p99<200, max<=1.5 or, with --unit, p99<200ms";
-            return Err(StatError::usage(alloc, *argument, why));
+    let mut levels = Vec::new(rt.alloc());
+    for text in texts {
+        let Some(level) = parse_level_in(*text, usual, unit) else {
+            return Err(bad_level(rt, *text));
         };
         if levels.push(level).is_err() {
             return Err(StatError::OutOfMemory);
         }
     }
     Ok(levels)
+}
+
+/// Parses levels for values of logs, whose unit is not known yet: they have to be levels whatever
+/// it is.
+fn levels_of_logs<'a>(
+    rt: &HostRuntime,
+    texts: &[&'a str],
+    asked: Option<Unit>,
+) -> Result<Vec<Level<'a>>, StatError> {
+    for name in Unit::NAMES {
+        let unit = Unit::from_name(name);
+        let _ = levels_of(rt, texts, asked.or(unit), unit)?;
+    }
+    levels_of(rt, texts, None, asked.or(Some(Unit::Seconds)))
+}
+
+/// Returns the error of an argument that is not a level.
+fn bad_level(rt: &HostRuntime, argument: &str) -> StatError {
+    let why = if fs::metadata(rt, argument).is_ok() {
+        "is a file, and not a level: -i reads it"
+    } else {
+        "is not a level, such as p99<200, max<=1.5 or, with --unit, p99<200ms"
+    };
+    StatError::usage(rt.alloc(), argument, why)
 }

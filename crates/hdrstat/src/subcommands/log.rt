@@ -1,27 +1,23 @@
 //! `hdrstat log`.
 
-ghost use Rattle.std.specs.Prelude.{◌≡◌, ◌<◌, ◌%◌, IfOk, IfSome};
-
 use crate::errors::StatError;
 use crate::files::Files;
-use crate::files::numbers::{read_numbers, read_timed_numbers};
-use crate::options::arguments::{files, option, with_recording, with_tables};
-use crate::options::matches::{nanoseconds_of, recording_of, table_of, tag_of};
+use crate::files::numbers::read_numbers;
+use crate::files::timed::{log_of_intervals, log_of_numbers, read_intervals_of};
+use crate::options::arguments::{
+    files, option, quiet, skip_bad, unit, with_forms, with_groups, with_recording, with_times,
+};
+use crate::options::forms::{conditions_of, cut_of, form_of, groups_by};
+use crate::options::matches::{recording_of, tag_of, unit_of};
 use crate::output::print;
-use clap::builder::ValueParser;
 use clap::{ArgMatches, Command, Error};
-use hdr_input::Distribution;
-use hdr_input::intervals::TimeSlice;
-use hdr_logs::decimals_comment;
-use hdrhistogram::serialization::interval_log::{IntervalLogWriter, IntervalLogWriterBuilder, Tag};
-use hdrhistogram::serialization::{CountNotSerializable, V2Serializer};
 use std::alloc::Global;
 use std::process::ExitCode;
-use std::time::Duration;
 
 const AFTER: &str = "\
 The log has one interval, or with --time an interval for each --every that has numbers, in
 order of time. Its values are in units of the last decimal: 0.0289 is 289, with 4 decimals.
+The decimals and --unit are comments of the log, which the other subcommands read.
 
 Examples:
   hdrstat log --tag checkout --unit s --decimals 6 <latencies.txt >service.log
@@ -31,93 +27,43 @@ Status: 0; 1 if the input is invalid, or input or output fails; 2 for a usage er
 
 /// Returns the command line of `hdrstat log`.
 pub(crate) fn command<'a>(alloc: Global) -> Result<Command<'a>, Error> {
-    let tag = option(alloc, "tag", "TAG", "Tag of the intervals");
-    let help = "Column of times in seconds, which cut the log";
-    let time = option(alloc, "time", "COLUMN", help)
-        .requires_arg("column")?
-        .requires_arg("every")?
-        .value_parser(ValueParser::NonEmptyString);
-    let help = "Length of an interval, such as 1s or 500ms";
-    let every = option(alloc, "every", "TIME", help).requires_arg("time")?;
+    let tag = option(alloc, "tag", "TAG", "Tag of the intervals").conflicts_with("by")?;
     let command = Command::new(alloc, "log")
         .about("Write numbers as an interval log, which hdr and hdrstat read")
         .after_help(AFTER)
         .arg(files(alloc))?
         .arg(tag)?
-        .arg(time)?
-        .arg(every)?;
-    let command = with_recording(alloc, command)?;
-    with_tables(alloc, command)
+        .arg(quiet(alloc))?;
+    let command = with_forms(alloc, command)?
+        .arg(unit(alloc))?
+        .arg(skip_bad(alloc))?;
+    let command = with_times(alloc, command)?;
+    let command = with_groups(alloc, command)?;
+    with_recording(alloc, command)
 }
 
 /// Prints the numbers of files as an interval log.
 pub(crate) fn run(rt: &HostRuntime, matches: &ArgMatches<'_>) -> Result<ExitCode, StatError> {
     let alloc = rt.alloc();
     let recording = recording_of(alloc, matches)?;
-    let table = table_of(alloc, matches)?;
+    let groups = groups_by(alloc, matches)?;
+    let conditions = conditions_of(alloc, matches)?;
+    let form = form_of(alloc, matches, &groups, &conditions)?;
     let tag = tag_of(alloc, matches)?.filter(|tag| !tag.as_str().is_empty());
-    let length = length_of(alloc, matches)?;
+    let cut = cut_of(alloc, matches, &groups)?;
+    let unit = unit_of(matches);
     let files = Files {
         rt,
         names: matches.get_strs("FILE").unwrap_or(&[]),
         is_quiet: matches.get_flag("quiet"),
     };
-    let log = match (table, matches.get_str("time"), length) {
-        (Some(table), Some(time), Some(length)) => {
-            let mut read = read_timed_numbers(files, recording, table, time, length)?;
-            read.intervals.sort_by_key(|slice| slice.number)?;
-            log_of(alloc, read.tally.decimals(), &read.intervals, length, tag)?
-        }
-        _ => {
-            let numbers = read_numbers(files, recording, table)?.into_distribution();
-            let Distribution {
-                histogram,
-                decimals,
-                ..
-            } = numbers;
-            let number = 0;
-            log_of(alloc, decimals, &[TimeSlice { number, histogram }], 0, tag)?
-        }
+    let log = if cut.length.is_none() && cut.groups.is_empty() {
+        let numbers = read_numbers(files, recording, form)?.into_distribution();
+        log_of_numbers(alloc, numbers, unit, tag)?
+    } else {
+        let mut read = read_intervals_of(files, recording, form, cut)?;
+        log_of_intervals(alloc, &mut read, cut, unit, tag)?
     };
     print(rt, &log)?;
     Ok(ExitCode::SUCCESS)
-}
-
-/// A log has times in milliseconds.
-const NANOS_OF_A_MILLISECOND: u64 = 1_000_000;
-
-/// Returns the length of an interval in nanoseconds, if there is one.
-fn length_of(alloc: Global, matches: &ArgMatches<'_>) -> Result<Option<u64>, StatError>
-    ensures { IfOk result (λ length. IfSome length (λ nanos. (0 < nanos) × (nanos % 1000000 ≡ 0))) }
-{
-    match nanoseconds_of(alloc, matches, "every")? {
-        Some(nanos) if nanos == 0 || nanos % NANOS_OF_A_MILLISECOND != 0 => {
-            let text = matches.get_str("every").unwrap_or("0");
-            let why = "is not a number of milliseconds above 0";
-            Err(StatError::usage(alloc, text, why))
-        }
-        length => Ok(length),
-    }
-}
-
-/// Returns a log of intervals, each of this length in nanoseconds.
-fn log_of(
-    alloc: Global,
-    decimals: u32,
-    slices: &[TimeSlice],
-    length: u64,
-    tag: Option<Tag<'_>>,
-) -> Result<Vec<u8>, StatError> {
-    let mut text = Vec::new(alloc);
-    let mut builder = IntervalLogWriterBuilder::new(alloc);
-    builder.add_comment(decimals_comment(alloc, decimals)?.as_str())?;
-    builder.write_headers::<_, CountNotSerializable>(&mut text)?;
-    let mut serializer = V2Serializer::new(alloc);
-    let mut log = IntervalLogWriter::new(alloc, &mut text, &mut serializer, 1);
-    for slice in slices {
-        let start = Duration::from_nanos(slice.number.saturating_mul(length));
-        log.push_v2(&slice.histogram, start, Duration::from_nanos(length), tag)?;
-    }
-    drop(log);
-    Ok(text)
 }

@@ -5,13 +5,20 @@ ghost use Rattle.std.specs.Prelude.{◌<◌, ◌≤◌, IfSome};
 use crate::errors::StatError;
 use crate::files::Files;
 use crate::files::logs::read_intervals;
-use crate::options::arguments::{flag, logs, option, tag_by_file, with_choice};
+use crate::files::numbers::Form;
+use crate::files::timed::{log_of_intervals, read_intervals_of};
+use crate::options::arguments::{
+    flag, option, skip_bad, tag_by_file, with_choice, with_forms, with_groups, with_times,
+};
+use crate::options::forms::{conditions_of, cut_of, form_of, groups_by};
 use crate::options::matches::{choice_of, file_names_of, unit_of};
 use crate::output::{check_output, write_output};
-use clap::{ArgAction, ArgMatches, Command, Error};
+use clap::{Arg, ArgAction, ArgMatches, Command, Error};
+use hdr_input::distribution::MOST_DECIMALS;
+use hdr_input::{Number, Recording};
 use hdr_logs::{LogError, LogIntervals};
 use hdr_page::{PageLevel, PageOptions, page, page_text, rows};
-use hdr_summary::levels::{Level, Measure, parse_level};
+use hdr_summary::levels::{Level, Measure, parse_level_in};
 use hdr_summary::units::Unit;
 use std::alloc::{AllocError, Global};
 use std::process::ExitCode;
@@ -29,8 +36,8 @@ have too few samples to be tested. With --level the sentence also says which tag
 --tag-by-file keeps the intervals of each file apart, as `hdrstat gather` does. With --align, two
 runs are shown over one another.
 
-Values are in units of the last decimal, where a comment of the log has decimals as `hdrstat log`
-writes it. --unit is then an error.
+Values are in the unit and the decimals that comments of a log have, as `hdrstat log` writes them,
+and otherwise integers of --unit. Each is shown in the longest unit in which it is one or more.
 
 CSV is that of RFC 4180. An apostrophe stands before a tag that a spreadsheet may take for a
 formula, which is one that begins with =, +, -, @, a tab or a CR.
@@ -50,10 +57,12 @@ pub(crate) fn command<'a>(alloc: Global) -> Result<Command<'a>, Error> {
     let text = flag(alloc, "text", help).conflicts_with("intervals")?;
     let help = "Print CSV with a row for each interval, and no page";
     let intervals = flag(alloc, "intervals", help);
+    let help = "Interval logs to read, or tables; standard input if there are none, or for -";
+    let inputs = Arg::new(alloc, "LOG").num_args(0..).help(help);
     let command = Command::new(alloc, "page")
-        .about("Make an HTML page of interval logs")
+        .about("Make an HTML page of interval logs, or of tables with times")
         .after_help(AFTER)
-        .arg(logs(alloc))?;
+        .arg(inputs)?;
     let command = with_content(alloc, command)?
         .arg(output)?
         .arg(text)?
@@ -63,7 +72,7 @@ pub(crate) fn command<'a>(alloc: Global) -> Result<Command<'a>, Error> {
 
 /// Adds the options of what is shown.
 fn with_content<'a>(alloc: Global, command: Command<'a>) -> Result<Command<'a>, Error> {
-    let help = "Unit of the values of the logs, which are then shown with units";
+    let help = "Unit of levels, and of values that have none; they are then shown with units";
     let unit = option(alloc, "unit", "UNIT", help).value_parser(Unit::NAMES.as_slice());
     let help = "Title of the page [default: Interval log]";
     let title = option(alloc, "title", "TEXT", help);
@@ -74,15 +83,17 @@ fn with_content<'a>(alloc: Global, command: Command<'a>) -> Result<Command<'a>, 
     let align = flag(alloc, "align", help);
     let command = command.arg(unit)?.arg(title)?.arg(level)?;
     let command = command.arg(tag_by_file(alloc))?.arg(align)?;
-    with_choice(alloc, command)
+    let command = with_choice(alloc, command)?;
+    let command = with_forms(alloc, command)?.arg(skip_bad(alloc))?;
+    let command = with_times(alloc, command)?;
+    with_groups(alloc, command)
 }
 
 /// Writes a page of logs, or a row for each of their intervals.
 pub(crate) fn run(rt: &HostRuntime, matches: &ArgMatches<'_>) -> Result<ExitCode, StatError> {
     let alloc = rt.alloc();
-    let unit = unit_of(matches);
-    let levels = levels_of(alloc, matches, unit)?;
-    let choice = choice_of(alloc, matches)?;
+    let asked = unit_of(matches);
+    check_levels(alloc, matches, asked)?;
     let files = Files {
         rt,
         names: matches.get_strs("LOG").unwrap_or(&[]),
@@ -90,13 +101,15 @@ pub(crate) fn run(rt: &HostRuntime, matches: &ArgMatches<'_>) -> Result<ExitCode
     };
     let output = matches.get_str("output").unwrap_or("-");
     check_output(rt, output, files.names)?;
-    let file_names = file_names_of(alloc, matches, files.names)?;
-    let intervals = read_intervals(files, choice, &file_names, matches.get_flag("align"))?;
-    let levels = page_levels(alloc, &levels, intervals.decimals().unwrap_or(0))?;
+    let intervals = intervals_of(files, matches)?;
+    let levels = levels_of(alloc, matches, intervals.unit(), asked)?;
+    let decimals = intervals.decimals().unwrap_or(0).min(MOST_DECIMALS);
+    let (levels, amounts) = page_levels(alloc, &levels, decimals)?;
     let options = PageOptions {
         title: matches.get_str("title").unwrap_or("Interval log"),
-        unit,
+        unit: asked,
         levels: &levels,
+        amounts: &amounts,
     };
     let text = text_of(alloc, matches, &intervals, options).map_err(|cause| files.log_error(
         cause,
@@ -105,15 +118,111 @@ pub(crate) fn run(rt: &HostRuntime, matches: &ArgMatches<'_>) -> Result<ExitCode
     Ok(ExitCode::SUCCESS)
 }
 
-/// Returns the levels of the arguments. Each is of a percentile that values are not to exceed.
+/// Returns the intervals of logs or of rows.
+fn intervals_of(
+    files: Files<'_, '_, '_>,
+    matches: &ArgMatches<'_>,
+) -> Result<LogIntervals, StatError> {
+    let alloc = files.alloc();
+    let groups = groups_by(alloc, matches)?;
+    let conditions = conditions_of(alloc, matches)?;
+    let form = form_of(alloc, matches, &groups, &conditions)?;
+    intervals_of_form(files, matches, form, &groups)
+}
+
+/// Returns the intervals of input of a form.
+fn intervals_of_form(
+    files: Files<'_, '_, '_>,
+    matches: &ArgMatches<'_>,
+    form: Form<'_, '_>,
+    groups: &[&str],
+) -> Result<LogIntervals, StatError> {
+    match form {
+        Form::Lines => intervals_of_logs(files, matches),
+        form => intervals_of_rows(files, matches, form, groups),
+    }
+}
+
+/// Returns the intervals of logs.
+fn intervals_of_logs(
+    files: Files<'_, '_, '_>,
+    matches: &ArgMatches<'_>,
+) -> Result<LogIntervals, StatError> {
+    let choice = choice_of(files.alloc(), matches)?;
+    let names = file_names_of(files.alloc(), matches, files.names)?;
+    read_intervals(files, choice, &names, matches.get_flag("align"))
+}
+
+/// Returns the intervals of rows, which are those of the log that `hdrstat log` makes of them.
+fn intervals_of_rows(
+    files: Files<'_, '_, '_>,
+    matches: &ArgMatches<'_>,
+    form: Form<'_, '_>,
+    groups: &[&str],
+) -> Result<LogIntervals, StatError> {
+    let alloc = files.alloc();
+    check_rows_of_page(alloc, matches)?;
+    let recording = Recording {
+        sigfig: SIGFIG,
+        decimals: 0,
+        has_chosen_decimals: false,
+        unit: unit_of(matches),
+        interval: Number::ZERO,
+        skips_bad: matches.get_flag("skip-bad"),
+    };
+    let cut = cut_of(alloc, matches, groups)?;
+    let mut read = read_intervals_of(files, recording, form, cut)?;
+    let log = log_of_intervals(alloc, &mut read, cut, unit_of(matches), None)?;
+    let mut intervals = LogIntervals::new(alloc);
+    intervals
+        .read_log(alloc, 0, log.as_slice(), choice_of(alloc, matches)?, None)
+        .map_err(|cause| files.log_error(cause))?;
+    Ok(intervals)
+}
+
+/// The significant digits of a page.
+const SIGFIG: u8 = 3;
+
+/// Checks that rows of a page have times, and no options of several logs.
+fn check_rows_of_page(alloc: Global, matches: &ArgMatches<'_>) -> Result<(), StatError> {
+    if matches.get_str("time").is_none() {
+        let why = "is needed for a page of rows: the column of their times";
+        return Err(StatError::usage(alloc, "--time", why));
+    }
+    for option in ["tag-by-file", "align"] {
+        if matches.get_flag(option) {
+            return Err(StatError::usage(alloc, option, "is an option of logs alone"));
+        }
+    }
+    Ok(())
+}
+
+/// Returns an error if an argument is not a level of a percentile that values are not to exceed,
+/// whatever the unit of the logs.
+fn check_levels(
+    alloc: Global,
+    matches: &ArgMatches<'_>,
+    asked: Option<Unit>,
+) -> Result<(), StatError> {
+    for name in Unit::NAMES {
+        let _ = levels_of(alloc, matches, Unit::from_name(name), asked)?;
+    }
+    Ok(())
+}
+
+/// Returns the levels of the arguments for values in the unit of logs, or else in the one that the
+/// arguments ask for. A level without a unit is in the latter.
 fn levels_of<'a>(
     alloc: Global,
     matches: &ArgMatches<'a>,
-    unit: Option<Unit>,
+    of_logs: Option<Unit>,
+    asked: Option<Unit>,
 ) -> Result<Vec<Level<'a>>, StatError> {
+    let usual = asked.or(of_logs);
+    let unit = of_logs.or(asked);
     let mut levels = Vec::new(alloc);
     for text in matches.get_strs("level").unwrap_or(&[]) {
-        let Some(level) = parse_level(*text, unit) else {
+        let Some(level) = parse_level_in(*text, usual, unit) else {
             return Err(bad_level(alloc, *text));
         };
         if page_level(&level, 0).is_none() {
@@ -132,25 +241,33 @@ fn bad_level(alloc: Global, text: &str) -> StatError {
     StatError::usage(alloc, text, why)
 }
 
-/// Returns the levels of a page of values of these decimals, in order. Equal ones come once.
+/// Returns the levels of a page of values of these decimals, in order, and the amount of each as it
+/// is written, unless it is an integer of the values. Equal levels come once.
 fn page_levels(
     alloc: Global,
     levels: &[Level<'_>],
     decimals: u32,
-) -> Result<Vec<PageLevel>, AllocError> {
+) -> Result<(Vec<PageLevel>, Vec<Option<String>>), AllocError>
+    requires { decimals ≤ 18 }
+{
     let mut all = Vec::new(alloc);
-    for level in levels {
-        let Some(level) = page_level(level, decimals) else {
+    let mut amounts = Vec::new(alloc);
+    for written in levels {
+        let Some(level) = page_level(written, decimals) else {
             continue;
         };
         if all.iter().any(|other: &PageLevel| other.is(level)) {
             continue;
         }
-        if all.push(level).is_err() {
-            return Err(AllocError);
-        }
+        let amount = if written.is_whole(decimals) {
+            None
+        } else {
+            Some(String::from_str(alloc, written.amount())?)
+        };
+        amounts.push(amount).map_err(|_| AllocError)?;
+        all.push(level).map_err(|_| AllocError)?;
     }
-    Ok(all)
+    Ok((all, amounts))
 }
 
 /// Returns the level of a page of values of these decimals: the greatest value that the level

@@ -2,8 +2,10 @@
 
 use crate::errors::StatError;
 use crate::files::Files;
-use crate::options::arguments::{files, option, with_reading};
-use crate::options::matches::{reading_of, unit_of};
+use crate::files::logs::Parts;
+use crate::options::arguments::{FIGURES, OUTPUT, files, help, option, quiet, with_reading};
+use crate::options::forms::{conditions_of, groups_by};
+use crate::options::matches::{Reading, reading_of, unit_of};
 use crate::output::print;
 use crate::subcommands::read_parts;
 use clap::builder::ValueParser;
@@ -13,40 +15,27 @@ use hdr_summary::formats::{Format, Layout, text};
 use hdr_summary::percentile::{Percentile, parse_percentile};
 use hdr_summary::units::Unit;
 use std::alloc::Global;
+use std::collections::HashSet;
 use std::process::ExitCode;
 
 const AFTER: &str = "\
-Input: a number on each line, such as 12, 0.5 or 1e-3; empty lines and lines that begin
-with # are skipped. With --column it is a table, and with --from log an interval log.
-
-A percentile is the top of its class: with 3 digits it is at most 0.1 % above the number
-of its rank. Count, min and max of numbers are exact, and so is the mean, unless
---expected-interval is given; those of logs are by class.
-The values of a log are integers, in the unit that its writer chose, or have the decimals
-that `hdrstat log` wrote in a comment.
-
-A load generator that waits for a response before it sends the next request measures one
-long latency, and omits those of the requests that were due meanwhile.
---expected-interval 10ms adds these: 50ms, if one was due each 10ms, adds 40, 30, 20, 10.
-
 Examples:
-  hdrstat summary latencies.txt
   hdrstat summary -p 50,99.9 --format json <latencies.txt
-  hey -o csv http://localhost/ | hdrstat summary -c response-time
-  ab -n 1000 -g ab.tsv http://localhost/ && hdrstat summary -c ttime ab.tsv
-  hdrstat summary --unit ms --expected-interval 10ms latencies.txt
+  hey -o csv http://localhost/ | hdrstat summary -c response-time --by status-code
   hdrstat summary --from log --by-tag service.log
 
-Status: 0; 1 if the input is invalid, or input or output fails; 2 for a usage error.";
+Status: 0; 1 if the input is invalid, or input or output fails; 2 for a usage error.
+`man hdrstat` has what each figure is, and what the options do.";
 
 /// Returns the command line of `hdrstat summary`.
 pub(crate) fn command<'a>(alloc: Global) -> Result<Command<'a>, Error> {
     let command = Command::new(alloc, "summary")
         .about("Print count, min, mean, percentiles and max of numbers")
         .after_help(AFTER)
+        .disable_help_flag(true)
         .arg(files(alloc))?;
-    let command = with_output(alloc, command)?;
-    with_reading(alloc, command)
+    let command = with_reading(alloc, command)?;
+    with_output(alloc, command)
 }
 
 /// Adds the options of the output.
@@ -56,44 +45,54 @@ fn with_output<'a>(alloc: Global, command: Command<'a>) -> Result<Command<'a>, E
         .action(ArgAction::Append)
         .value_delimiter(',')
         .value_parser(ValueParser::NonEmptyString)
-        .default_value("50,90,99,99.9");
+        .default_value("50,90,99,99.9")
+        .help_heading(FIGURES);
     let format = option(alloc, "format", "FORMAT", "Format of the output")
         .short('f')
         .value_parser(["table", "csv", "tsv", "json", "hgrm", "openmetrics"].as_slice())
-        .default_value("table");
+        .default_value("table")
+        .help_heading(OUTPUT);
     let unit = option(alloc, "output-unit", "UNIT", "Unit of the output")
-        .requires_arg("unit")?
-        .value_parser(Unit::NAMES.as_slice());
+        .value_parser(Unit::NAMES.as_slice())
+        .help_heading(OUTPUT);
     let command = command.arg(percentiles)?.arg(format)?.arg(unit)?;
+    let command = command
+        .arg(quiet(alloc).help_heading(OUTPUT))?
+        .arg(help(alloc))?;
     Ok(command)
 }
 
 /// Prints the figures of the numbers of files.
 pub(crate) fn run(rt: &HostRuntime, matches: &ArgMatches<'_>) -> Result<ExitCode, StatError> {
     let alloc = rt.alloc();
-    let reading = reading_of(alloc, matches)?;
+    let groups = groups_by(alloc, matches)?;
+    let conditions = conditions_of(alloc, matches)?;
+    let reading = reading_of(alloc, matches, &groups, &conditions)?;
     let arguments = matches.get_strs("percentiles").unwrap_or(&[]);
     let percentiles = percentiles_of(alloc, arguments)?;
     let format = matches.get_str("format").and_then(Format::from_name);
     let format = format.unwrap_or(Format::Table);
-    let has_tags = matches.get_flag("by-tag");
+    let has_tags = matches.get_flag("by-tag") || matches.get_str("by").is_some();
     if has_tags && format == Format::Hgrm {
-        let why = "has one distribution: choose a tag by --tag, and leave --by-tag out";
+        let why = "has one distribution: choose one by --tag or --where, without --by-tag and --by";
         return Err(StatError::usage(alloc, "hgrm", why));
     }
-    let layout = Layout {
-        format,
-        percentiles: &percentiles,
-        conversion: conversion_of(alloc, matches)?,
-        has_tags,
-    };
+    if let Reading::Numbers { .. } = reading {
+        let _ = conversion_of(alloc, matches, None)?;
+    }
     let files = Files {
         rt,
         names: matches.get_strs("FILE").unwrap_or(&[]),
         is_quiet: matches.get_flag("quiet"),
     };
-    let parts = read_parts(files, reading)?;
-    let text = text(alloc, &parts, &layout)?;
+    let Parts { list, unit } = read_parts(files, reading)?;
+    let layout = Layout {
+        format,
+        percentiles: &percentiles,
+        conversion: conversion_of(alloc, matches, unit)?,
+        has_tags,
+    };
+    let text = text(alloc, &list, &layout)?;
     print(rt, text.as_bytes())?;
     Ok(ExitCode::SUCCESS)
 }
@@ -104,12 +103,13 @@ fn percentiles_of<'a>(
     arguments: &[&'a str],
 ) -> Result<Vec<Percentile<'a>>, StatError> {
     let mut percentiles = Vec::new(alloc);
+    let mut texts = HashSet::new(alloc);
     for argument in arguments {
         let Some(percentile) = parse_percentile(*argument) else {
             let why = "is not a percentile from 0 to 100, such as 50, p99.9 or 99%";
             return Err(StatError::usage(alloc, *argument, why));
         };
-        if have_text(&percentiles, percentile.digits) {
+        if !texts.insert(percentile.digits)? {
             continue;
         }
         if percentiles.push(percentile).is_err() {
@@ -119,23 +119,24 @@ fn percentiles_of<'a>(
     Ok(percentiles)
 }
 
-/// Whether percentiles have one of this text.
-fn have_text(percentiles: &[Percentile<'_>], digits: &str) -> bool {
-    percentiles
-        .iter()
-        .any(|percentile| percentile.digits == digits)
-}
-
-/// Returns the conversion from the unit of the numbers to that of the output.
-fn conversion_of(alloc: Global, matches: &ArgMatches<'_>) -> Result<Conversion, StatError> {
-    let Some(name) = matches.get_str("output-unit") else {
-        return Ok(Conversion::NONE);
-    };
-    match (unit_of(matches), Unit::from_name(name)) {
+/// Returns the conversion of values to the unit of the output: that of --output-unit, or otherwise
+/// of --unit. They are in the unit that logs have, or otherwise in that of --unit.
+fn conversion_of(
+    alloc: Global,
+    matches: &ArgMatches<'_>,
+    of_logs: Option<Unit>,
+) -> Result<Conversion, StatError> {
+    let asked = unit_of(matches);
+    let output = matches.get_str("output-unit");
+    match (
+        of_logs.or(asked),
+        output.and_then(Unit::from_name).or(asked),
+    ) {
         (Some(from), Some(to)) => Ok(Conversion::new(from, to)),
-        _ => {
+        (None, Some(_)) => {
             let why = "is a unit of the output, which needs that of the numbers by --unit";
-            Err(StatError::usage(alloc, name, why))
+            Err(StatError::usage(alloc, output.unwrap_or("--output-unit"), why))
         }
+        _ => Ok(Conversion::NONE),
     }
 }

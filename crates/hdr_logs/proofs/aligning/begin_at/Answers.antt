@@ -19,6 +19,7 @@ loop-interval-preserved c =
     record {
       moved = values_next view_of_stored (moved c.in-Some.first c.args.start) old new i item _ l k is (rw start refl) so_far.moved (length-map old view_of_stored);
       decimals = values_same decimals_of new i item _ k is refl ∙ so_far.decimals;
+      unit = values_same (λ s. s.unit) new i item _ k is refl ∙ so_far.unit;
     }
 
 pub returns-clause-begin : goal.returns-clause-begin

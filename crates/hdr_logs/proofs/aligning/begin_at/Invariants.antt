@@ -9,4 +9,5 @@ invariant-loop-interval l = record {
   moved : map view_of_stored l.intervals
       ≡ map (moved l.first l.start) (take l.interval-index (map view_of_stored l.initial.intervals)) ++ drop l.interval-index (map view_of_stored l.initial.intervals);
   decimals : map decimals_of l.intervals ≡ map decimals_of l.initial.intervals;
+  unit : map (λ s. s.unit) l.intervals ≡ map (λ s. s.unit) l.initial.intervals;
 }

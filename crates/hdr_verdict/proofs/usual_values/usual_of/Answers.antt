@@ -1,4 +1,4 @@
-use Rattle.std.proofs.Common.{◌≡◌, ◌∙◌, ◌+◌, ◌-◌, ◌<◌, ◌^◌, ℕ, List, [], Option, length, map, drop, get_or, min, ap, sym, subst, arith}
+use Rattle.std.proofs.Common.{◌≡◌, ◌∙◌, ◌+◌, ◌-◌, ◌<◌, ◌^◌, ℕ, List, [], Option, length, map, drop, get_or, min, refl, ap, sym, subst, arith}
 use Rattle.std.specs.List.{AllZip, sum_by}
 use Rattle.std.proofs.lemmas.Result.{IfOk-weaker}
 use Rattle.hdr_verdict.specs.declared.tail.Tail.{Tail}
@@ -43,3 +43,9 @@ returns-clause-usual c =
     (λ tail blocks u r t. usual-for (width_of_tag old) cells total c.loop-index.index tail blocks u at r t) (c.loop-index.invariant.blocks cells s) is in
     zip-equal (λ (tail : Tail). usual_of tail.num tail.den total cells) c.args.tails.now usual.items values ∙ ap (λ n. map (λ (tail : Tail). usual_of tail.num tail.den n cells) c.args.tails.now) (total-is old cells s))
     c.usual_of_all.ensures
+
+pub loop-index-init : goal.loop-index-init
+loop-index-init c = record {
+  keeps = record { intervals = refl; cells = refl; width = refl };
+  blocks = λ cells s. c.in_ok-all.ensures cells;
+}

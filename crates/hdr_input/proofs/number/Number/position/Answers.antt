@@ -1,6 +1,6 @@
 use Rattle.std.proofs.Common.{◌≡◌, ℕ, ◌*◌, ◌^◌, ◌<◌, min, ap, sym, ◌∙◌, arith, inl, inr}
 use Rattle.std.proofs.lemmas.Bool.{cases_lt}
-use Rattle.hdr_input.proofs.Units.{positive}
+use Rattle.hdr_input.proofs.InUnits.{positive}
 use Rattle.hdr_input.proofs.Positions.{none_past}
 use Rattle.hdr_input.specs.Bounds.{position_of}
 use Rattle.hdr_input.proofs.number.Number.position.Goals as goal

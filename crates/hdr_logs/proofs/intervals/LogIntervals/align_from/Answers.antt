@@ -2,7 +2,7 @@ use Rattle.std.proofs.Common.{◌≡◌, ◌++◌, length, map, min, take, drop,
 use Rattle.std.specs.List.{All}
 use Rattle.std.proofs.lemmas.List.{take_min, drop_min, take-map, drop-map, map-append, with_items_is}
 use Rattle.hdr_logs.specs.Stored.{view_of_stored, decimals_of}
-use Rattle.hdr_logs.proofs.Moving.{laid_as, same_decimals, on_ok}
+use Rattle.hdr_logs.proofs.Moving.{laid_as, same_behind, on_ok}
 use Rattle.hdr_logs.proofs.intervals.LogIntervals.align_from.Goals as goal
 
 pub returns-in-Some-clause-aligned : goal.returns-in-Some-clause-aligned
@@ -35,6 +35,21 @@ returns-in-Some-clause-decimals c =
     let all = sym (with_items_is c.args.self.now.list both long) in
     on_ok c.begin_at.result (λ same have. (
       have.0,
-      subst (All (λ s. decimals_of s ≡ have.0)) all (same_decimals have.0 parts.result.0.now parts.result.1.now new same
+      subst (All (λ s. decimals_of s ≡ have.0)) all (same_behind decimals_of have.0 parts.result.0.now parts.result.1.now new same
           (subst (All (λ s. decimals_of s ≡ have.0)) (sym whole) have.1)),
     )) c.begin_at.ensures.decimals
+
+pub returns-in-Some-clause-unit : goal.returns-in-Some-clause-unit
+returns-in-Some-clause-unit c =
+    let parts = c.split_at_mut-before in
+    let whole : parts.result.0.now ++ parts.result.1.now ≡ c.args.self.now.list.items = sym parts.ensures.value ∙ c.deref_mut.ensures.value in
+    let new = c.begin_at.new.intervals in
+    let both = parts.result.0.now ++ new in
+    let long : length both ≡ c.args.self.now.list.len =
+    omega (arith, length-append parts.result.0.now new, c.begin_at.auto.intervals, parts.ensures.front_len, parts.ensures.back_len, c.deref_mut.ensures.len) in
+    let all = sym (with_items_is c.args.self.now.list both long) in
+    on_ok c.begin_at.result (λ same have. (
+      have.0,
+      subst (All (λ s. s.unit ≡ have.0)) all (same_behind (λ s. s.unit) have.0 parts.result.0.now parts.result.1.now new same
+          (subst (All (λ s. s.unit ≡ have.0)) (sym whole) have.1)),
+    )) c.begin_at.ensures.unit

@@ -15,6 +15,7 @@ pub loop-init : goal.loop-init
 loop-init g c = record {
   known = λ known. known;
   decimals = λ same. same;
+  unit = λ same. same;
   kept = ([], sym (append-nil (intervals_of c.args.self.now)), λ rest left. left);
 }
 
@@ -35,12 +36,14 @@ loop-preserved g c =
           rw w.self-is (record {
             known = λ known. line.known (c.loop.invariant.known known);
             decimals = λ same. pushed.decimals (c.loop.invariant.decimals same);
+            unit = λ same. pushed.unit (c.loop.invariant.unit same);
             kept = (before.0 ++ i ∷ [], more, left);
           })
       | in-Other w ↦
           rw w.self-is (record {
             known = λ known. line.known (c.loop.invariant.known known);
             decimals = c.loop.invariant.decimals;
+            unit = c.loop.invariant.unit;
             kept = (before.0, before.1, λ rest h. before.2 rest (subst (λ l. UnreadHold remaining c.loop.log (intervals_of_line l ++ rest)) w.in-Other.is (line.intervals rest h)));
           })
     ]

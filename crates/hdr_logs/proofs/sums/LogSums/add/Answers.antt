@@ -9,7 +9,7 @@ use Rattle.hdr_logs.proofs.sums.LogSums.add.Goals as goal
 
 pub returns-clause-indices : goal.returns-clause-indices
 returns-clause-indices c = λ indexed.
-    let checked = c.in_ok-check_decimals.ensures.indices indexed in
+    let checked = c.in_ok-check_scale.ensures.indices indexed in
     let mid = c.index_of.new.self in
     let sums : List Sum = map view_of_sum mid.sums.items in
     let index = c.in_ok-index.index in
@@ -23,7 +23,7 @@ returns-clause-indices c = λ indexed.
 
 pub returns-clause-index : goal.returns-clause-index
 returns-clause-index c = λ indexed.
-    let checked = c.in_ok-check_decimals.ensures.indices indexed in
+    let checked = c.in_ok-check_scale.ensures.indices indexed in
     let mid = c.index_of.new.self in
     let sums : List Sum = map view_of_sum mid.sums.items in
     let index = c.in_ok-index.index in
@@ -31,7 +31,7 @@ returns-clause-index c = λ indexed.
     let below : index < length mid.sums.items = subst (λ n. index < n) (length-map mid.sums.items view_of_sum) at.0 in
     let added = c.in_ok-add_at.ensures.added below in
     let tag = option_map tag_text c.args.interval.now.tag in
-    let same = c.in_ok-check_decimals.ensures.options.2 in
-    let t = sum_tag c.check_decimals.new.self.is_by_tag tag in
+    let same = c.in_ok-check_scale.ensures.options.2 in
+    let t = sum_tag c.check_scale.new.self.is_by_tag tag in
     ap (λ b. index_of (sum_tag b tag) (map view_of_sum c.add_at.new.self.sums.items)) (sym same) ∙ ap (index_of t) added.2 ∙ index_added index sums added.0 t
     ∙ c.in_ok-index.ensures.found checked

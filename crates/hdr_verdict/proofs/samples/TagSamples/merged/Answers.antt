@@ -1,6 +1,7 @@
-use Rattle.std.proofs.Common.{◌≡◌, ◌∙◌, ◌+◌, ◌<◌, ◌≤◌, ◌^◌, ◌++◌, ℕ, List, length, get_or, sym, subst, arith}
+use Rattle.std.proofs.Common.{◌≡◌, ◌∙◌, ◌+◌, ◌<◌, ◌≤◌, ◌^◌, ◌++◌, ℕ, List, length, get_or, ap, sym, subst, arith}
 use Rattle.hdr_model.specs.Plain.{resolution}
 use Rattle.hdr_verdict.specs.Samples.{AreHeld, Rounds, classes_of, rounded, nothing_held, samples_between}
+use Rattle.hdr_verdict.specs.Cells.{AreWithin}
 use Rattle.hdr_verdict.specs.Decoders.{intervals_of}
 use Rattle.hdr_verdict.proofs.Holding.{as-many}
 use Rattle.hdr_verdict.proofs.CellSamples.{held-rounds, rounded-more, few-more, exact_of}
@@ -30,3 +31,15 @@ loop-index-preserved c =
           let both = add S T before.classes (before.samples all held are few) one (omega (arith, enough, few)) in
           subst (λ l. Rounds w c.add.new.sum l) (rounded-more w all c.args.first c.loop-index.index from inside) both;
     }
+
+pub invariant_of-self-in-Break-branch-3 : goal.invariant_of-self-in-Break-branch-3
+invariant_of-self-in-Break-branch-3 c = record {
+  within = subst (λ n. AreWithin n c.loop-index.self.cells.items) (ap length (sym c.decode.ensures.intervals)) c.loop-index.self.within;
+  scale = c.loop-index.self.scale;
+}
+
+pub invariant_of-self-in-loop-index : goal.invariant_of-self-in-loop-index
+invariant_of-self-in-loop-index c = record {
+  within = subst (λ n. AreWithin n c.loop-index.self.cells.items) (ap length (sym (c.keep.ensures ∙ c.decode.ensures.intervals))) c.loop-index.self.within;
+  scale = c.loop-index.self.scale;
+}

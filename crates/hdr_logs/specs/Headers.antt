@@ -1,0 +1,12 @@
+-- The comments of a log that say of what its values are.
+use Rattle.std.specs.Prelude.{ℕ, List, ◌∷◌, ◌++◌, codes}
+use Rattle.hdr_input.specs.Units.{unit_name}
+use Rattle.hdr_input.specs.declared.unit.Unit.{Unit}
+
+-- the comment that has the unit of a log's values
+abbrev pub unit_comment : Unit → List ℕ
+unit_comment unit = codes "[Values are in " ++ unit_name unit ++ codes "]"
+
+-- its line, without the whitespace at the end
+abbrev pub unit_line : Unit → List ℕ
+unit_line unit = 35 ∷ unit_comment unit
