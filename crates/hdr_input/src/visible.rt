@@ -26,7 +26,11 @@ fn is_invisible(character: char) -> bool
 fn shown(character: char) -> char
     ensures { result ≡ shown character }
 {
-    if is_invisible(character) { '?' } else { character }
+    if is_invisible(character) {
+        '?'
+    } else {
+        character
+    }
 }
 
 /// Appends a text, with `?` for each character that controls a terminal, has no width, or changes

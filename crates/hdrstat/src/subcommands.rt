@@ -10,9 +10,7 @@ mod summary;
 use crate::errors::StatError;
 use crate::files::Files;
 use crate::files::logs::{Parts, read_sums};
-use crate::files::numbers::{
-    Form, read_groups, read_numbers, require_most_lines, tag_of_group,
-};
+use crate::files::numbers::{Form, read_groups, read_numbers, require_most_lines, tag_of_group};
 use crate::options::matches::Reading;
 use clap::{ArgMatches, Command, Error};
 use hdr_input::Recording;

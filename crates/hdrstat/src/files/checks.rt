@@ -4,11 +4,11 @@ ghost use Rattle.std.specs.Prelude.{◌≡◌, ◌↔◌, IsTrue};
 ghost use Rattle.std.specs.List.{All};
 
 use crate::errors::StatError;
-use crate::files::{Files, or_standard_input};
 use crate::files::log_counts::{LogCounts, LogLevels, TagCounts};
 use crate::files::logs::{parts_of, print_coarser};
 use crate::files::numbers::{Form, read_groups, tag_of_group};
 use crate::files::surveyed::NumberFiles;
+use crate::files::{Files, or_standard_input};
 use hdr_input::groups::{BoundRecording, GroupMaker, GroupParts};
 use hdr_input::{BoundTally, Distribution, Recording};
 use hdr_logs::LogSums;
