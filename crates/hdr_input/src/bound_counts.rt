@@ -2,7 +2,7 @@
 
 ghost use Rattle.std.specs.Prelude.{◌≡◌, ◌≤◌, ◌<◌, ◌^◌, ◌+◌, ◌-◌, ◌*◌, ◌/◌, ◌%◌, nat_le, nat_lt, if◌then◌else◌, map, position};
 ghost use Rattle.hdr_input.specs.Bounds.{counted_to, missing_to};
-ghost use Rattle.hdr_input.specs.Counted.{without_numbers, with_number, with_missing, in_units_of, counted, steps_to};
+ghost use Rattle.hdr_input.specs.Counted.{without_numbers, with_numbers, with_missing, in_units_of, counted, steps_to};
 
 use crate::distribution::MOST_DECIMALS;
 
@@ -35,12 +35,12 @@ impl BoundCount {
         }
     }
 
-    /// Counts a number.
+    /// Counts some numbers, of as many units each.
     #[inline(always)]
-    fn add_number(&mut self, units: u64)
-        ensures { self.new ≡ with_number units self.old }
+    fn add_numbers(&mut self, times: u64, units: u64)
+        ensures { self.new ≡ with_numbers times units self.old }
     {
-        self.count = self.count.wrapping_add(1);
+        self.count = self.count.wrapping_add(times);
         if units > self.greatest {
             self.greatest = units;
         }
@@ -116,20 +116,20 @@ fn first_before(counts: &[BoundCount], place: u128) -> Option<usize>
 #[inline(always)]
 #[tactic(auto, using(crate::proofs::Counting::counted_found, crate::proofs::Counting::counted_unfound))]
 pub(crate) fn count_units(counts: &mut [BoundCount], units: u64)
-    ensures { counts.new ≡ counted (λ c. nat_le units c.most) units counts.old }
+    ensures { counts.new ≡ counted (λ c. nat_le units c.most) 1 units counts.old }
 {
     if let Some(at) = first_within(counts, units) {
-        counts[at].add_number(units);
+        counts[at].add_numbers(1, units);
     }
 }
 
-/// Counts a number at this position, as `count_units`.
+/// Counts some numbers at this position, as `count_units`.
 #[tactic(auto, using(crate::proofs::Counting::counted_found, crate::proofs::Counting::counted_unfound))]
-pub(crate) fn count_position(counts: &mut [BoundCount], place: u128, units: u64)
-    ensures { counts.new ≡ counted (λ c. nat_lt place c.end) units counts.old }
+pub(crate) fn count_position(counts: &mut [BoundCount], place: u128, times: u64, units: u64)
+    ensures { counts.new ≡ counted (λ c. nat_lt place c.end) times units counts.old }
 {
     if let Some(at) = first_before(counts, place) {
-        counts[at].add_number(units);
+        counts[at].add_numbers(times, units);
     }
 }
 

@@ -40,6 +40,9 @@ pub enum Cause {
     /// Its line has at least this number of bytes, which is the limit of the input.
     #[error("begins a line of {0} bytes or more")]
     TooLong(usize),
+    /// It is to be how often a number counts, and is not.
+    #[error("is not how often a number counts: an integer from 0 on; --skip-bad ignores such rows")]
+    NotACount,
     /// Its row ends before the column.
     #[error("is a row without that column; --skip-bad ignores such rows")]
     NoField,

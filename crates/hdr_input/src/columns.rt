@@ -18,11 +18,12 @@ pub struct TableLayout {
     pub has_header: bool,
 }
 
-/// The columns that are read: that of the numbers, that of their times, those of the texts that
-/// have groups, and those that have to have a text.
+/// The columns that are read: that of the numbers, that of how often they count, that of their
+/// times, those of the texts that have groups, and those that have to have a text.
 #[derive(Clone, Copy)]
 pub struct Columns<'l, 'n> {
     pub value: &'n str,
+    pub count: Option<&'n str>,
     pub time: Option<&'n str>,
     pub groups: &'l [&'n str],
     pub conditions: &'l [Condition<'n>],
@@ -47,6 +48,7 @@ struct FoundColumn {
 #[derive(Drop)]
 struct FoundColumns<'a> {
     value: usize,
+    count: Option<usize>,
     time: Option<usize>,
     groups: Vec<usize>,
     conditions: Vec<(usize, &'a [u8])>,
@@ -148,6 +150,24 @@ fn find_column(
     }
 }
 
+/// Finds a column that may be absent, as `find_column`.
+fn find_optional(
+    alloc: Global,
+    names: &ByteRecord,
+    wanted: Option<&str>,
+    layout: TableLayout,
+) -> Result<Option<FoundColumn>, InputError> {
+    match wanted {
+        Some(wanted) => Ok(Some(find_column(alloc, names, wanted, layout)?)),
+        None => Ok(None),
+    }
+}
+
+/// Whether a column was found by its name.
+fn is_named(column: Option<FoundColumn>) -> bool {
+    column.is_some_and(|column| column.is_named)
+}
+
 /// Finds columns. The first row is a row of names if a column is found by its name, or if the field
 /// of the numbers' column is not a number.
 fn find_columns<'a>(
@@ -157,19 +177,17 @@ fn find_columns<'a>(
     layout: TableLayout,
 ) -> Result<FoundColumns<'a>, InputError> {
     let value = find_column(alloc, names, columns.value, layout)?;
+    let count = find_optional(alloc, names, columns.count, layout)?;
+    let time = find_optional(alloc, names, columns.time, layout)?;
     let mut found = FoundColumns {
         value: value.index,
-        time: None,
+        count: count.map(|column| column.index),
+        time: time.map(|column| column.index),
         groups: Vec::new(alloc),
         conditions: Vec::new(alloc),
         is_header: false,
-        is_named: value.is_named,
+        is_named: value.is_named || is_named(count) || is_named(time),
     };
-    if let Some(wanted) = columns.time {
-        let column = find_column(alloc, names, wanted, layout)?;
-        found.time = Some(column.index);
-        found.is_named = found.is_named || column.is_named;
-    }
     for wanted in columns.groups {
         let column = find_column(alloc, names, *wanted, layout)?;
         found.groups.push(column.index)?;
@@ -207,10 +225,14 @@ impl FoundColumns<'_> {
             [index] => field(row, *index),
             indices => join(row, indices, joined)?,
         };
+        let count = self.count.and_then(|index| field(row, index));
+        let has_count = count.is_some() || self.count.is_none();
+        let value = field(row, self.value).filter(|_| has_count);
         Ok(RowTexts {
             place: InputPlace::Row(number),
             row: row.as_slice(),
-            value: field(row, self.value).ok_or(Cause::NoField),
+            value: value.ok_or(Cause::NoField),
+            count,
             time: self.time.and_then(|index| field(row, index)),
             group,
         })

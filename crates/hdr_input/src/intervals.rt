@@ -3,7 +3,7 @@
 use crate::cause::Cause;
 use crate::errors::InputError;
 use crate::group_texts::GroupTexts;
-use crate::lines::{record_text, skip_or_err};
+use crate::lines::{record_field, skip_or_err};
 use crate::number::Number;
 use crate::rows::{RowSink, RowTexts};
 use crate::sink::NumberSink;
@@ -38,8 +38,9 @@ pub struct Intervals<'l, 'n> {
     sigfig: u8,
     cut: Cut<'l, 'n>,
     times: Times,
-    /// The number read last, in units, and whether it was rounded.
+    /// The number read last, in units, how often it counts, and whether it was rounded.
     units: u64,
+    count: u64,
     is_rounded: bool,
     /// The index of the interval used last.
     last: usize,
@@ -75,6 +76,7 @@ impl<'l, 'n> Intervals<'l, 'n> {
             cut,
             times: Times::new(cut.time_unit),
             units: 0,
+            count: 0,
             is_rounded: false,
             last: 0,
             indices: HashMap::new(alloc),
@@ -121,11 +123,11 @@ impl<'l, 'n> Intervals<'l, 'n> {
         if let Some(slice) = self.intervals.get_mut(self.last) {
             slice
                 .histogram
-                .record_correct(self.units, missing)
+                .record_n_correct(self.units, self.count, missing)
                 .map_err(|_| InputError::OutOfMemory)?;
         }
         self.tally.count_rounded(self.is_rounded);
-        self.numbers = self.numbers.wrapping_add(1);
+        self.numbers = self.numbers.wrapping_add(self.count);
         Ok(())
     }
 
@@ -156,13 +158,19 @@ impl NumberSink for Intervals<'_, '_> {
 
     fn record(&mut self, number: Number) -> Result<(), Cause> {
         self.units = self.tally.units_of(number)?;
+        self.count = 1;
         self.is_rounded = number.is_rounded(self.tally.decimals);
         Ok(())
     }
 
     fn record_wide(&mut self, number: Wide) -> Result<(), Cause> {
+        self.record_times(number, 1)
+    }
+
+    fn record_times(&mut self, number: Wide, times: u64) -> Result<(), Cause> {
         let decimals = self.tally.decimals;
         self.units = self.tally.units_of(number.rounded(decimals)?)?;
+        self.count = times;
         self.is_rounded = number.is_rounded(decimals);
         Ok(())
     }
@@ -192,9 +200,10 @@ impl RowSink for Intervals<'_, '_> {
                 cause,
             ),
         };
-        match record_text(self, text) {
-            Ok(()) => self.record_in(time, group),
-            Err(cause) => skip_or_err(alloc, self, row.place, text, cause),
+        match record_field(self, text, row.count) {
+            Ok(true) => self.record_in(time, group),
+            Ok(false) => Ok(()),
+            Err(cause) => skip_or_err(alloc, self, row.place, row.failing(text, cause), cause),
         }
     }
 

@@ -89,11 +89,15 @@ fn row_of<'a>(
     joined: &'a mut Vec<u8>,
 ) -> Result<RowTexts<'a>, AllocError> {
     let group = join(columns.groups, root, joined)?;
+    let count = optional_text(root, columns.count);
+    let has_count = count.is_some() || columns.count.is_none();
+    let value = text_at(root, columns.value).filter(|_| has_count);
     Ok(RowTexts {
         place,
         row: line,
-        value: text_at(root, columns.value).ok_or(Cause::NoPath),
-        time: time_of(columns, root),
+        value: value.ok_or(Cause::NoPath),
+        count,
+        time: optional_text(root, columns.time),
         group,
     })
 }
@@ -104,6 +108,7 @@ fn without_value(place: InputPlace, line: &[u8]) -> RowTexts<'_> {
         place,
         row: line,
         value: Err(Cause::NotJson),
+        count: None,
         time: None,
         group: None,
     }
@@ -155,9 +160,9 @@ fn text_at<'a>(root: &Element<'_, 'a>, path: &str) -> Option<&'a [u8]> {
     })
 }
 
-/// Returns the text of the time, if there is one.
-fn time_of<'a>(columns: Columns<'_, '_>, root: &Element<'_, 'a>) -> Option<&'a [u8]> {
-    text_at(root, columns.time?)
+/// Returns the text at a path that may be absent.
+fn optional_text<'a>(root: &Element<'_, 'a>, path: Option<&str>) -> Option<&'a [u8]> {
+    text_at(root, path?)
 }
 
 /// Returns the value at a path of names, and of indices of arrays. A path may begin with a point.

@@ -12,7 +12,7 @@ use crate::sink::NumberSink;
 use crate::survey::Survey;
 use crate::tally::Tally;
 use crate::text::duration;
-use crate::wide::parse_unsigned;
+use crate::wide::{Wide, parse_unsigned};
 use std::alloc::Global;
 
 /// Splits a text after its first line. The line is returned without its LF.
@@ -41,7 +41,7 @@ fn has_delimiter(text: &[u8]) -> bool {
 }
 
 /// Parses a number, and passes it to a sink.
-pub(crate) fn record_text<S: NumberSink>(sink: &mut S, text: &[u8]) -> Result<(), Cause>
+fn record_text<S: NumberSink>(sink: &mut S, text: &[u8]) -> Result<(), Cause>
     ensures { S.takes sink.old sink.new }
 {
     match plain_number(text) {
@@ -59,6 +59,51 @@ fn record_other<S: NumberSink>(sink: &mut S, text: &[u8]) -> Result<(), Cause>
         Some(number) => sink.record(number?),
         None => sink.record_wide(parse_unsigned(text)?),
     }
+}
+
+/// Parses the number of a row, and how often it counts, if not once. Passes both to a sink, unless
+/// it counts 0 times. Returns whether it counts.
+#[inline(always)]
+pub(crate) fn record_field<S: NumberSink>(
+    sink: &mut S,
+    text: &[u8],
+    count: Option<&[u8]>,
+) -> Result<bool, Cause>
+    ensures { S.takes sink.old sink.new }
+{
+    match count {
+        Some(count) => record_counted(sink, text, count),
+        None => {
+            record_text(sink, text)?;
+            Ok(true)
+        }
+    }
+}
+
+/// Parses a number and how often it counts, as `record_field`.
+#[inline(never)]
+fn record_counted<S: NumberSink>(sink: &mut S, text: &[u8], count: &[u8]) -> Result<bool, Cause>
+    ensures { S.takes sink.old sink.new }
+{
+    let number = match duration(text, sink.unit()) {
+        Some(number) => Wide::of(number?),
+        None => parse_unsigned(text)?,
+    };
+    match parse_count(count)? {
+        0 => Ok(false),
+        count => {
+            sink.record_times(number, count)?;
+            Ok(true)
+        }
+    }
+}
+
+/// Parses how often a number counts.
+fn parse_count(text: &[u8]) -> Result<u64, Cause> {
+    let count = str::from_utf8(text)
+        .ok()
+        .and_then(|text| text.parse::<u64>().ok());
+    count.ok_or(Cause::NotACount)
 }
 
 /// Counts a bad line if the sink skips it, and otherwise returns its error.

@@ -72,6 +72,7 @@ impl<S: RowSink> MatchLines<'_, '_, S> {
             place: InputPlace::Line(number),
             row: line,
             value: Ok(text.trim_ascii()),
+            count: None,
             time: None,
             group: None,
         };

@@ -3,7 +3,7 @@
 use crate::bound_tally::BoundTally;
 use crate::cause::Cause;
 use crate::errors::{InputError, InputPlace};
-use crate::lines::{record_text, skip_or_err};
+use crate::lines::{record_field, skip_or_err};
 use crate::sink::NumberSink;
 use crate::survey::Survey;
 use crate::tally::Tally;
@@ -17,10 +17,22 @@ pub struct RowTexts<'a> {
     pub row: &'a [u8],
     /// The number, or why the row has none.
     pub value: Result<&'a [u8], Cause>,
+    /// How often the number counts, if not once.
+    pub count: Option<&'a [u8]>,
     /// The time of the number, if the row has one.
     pub time: Option<&'a [u8]>,
     /// The text that has a group, if the row has one.
     pub group: Option<&'a [u8]>,
+}
+
+impl<'a> RowTexts<'a> {
+    /// Returns the text that has an error of this cause: `text` is that of the number.
+    pub(crate) fn failing(&self, text: &'a [u8], cause: Cause) -> &'a [u8] {
+        match self.count {
+            Some(count) if cause == Cause::NotACount => count,
+            _ => text,
+        }
+    }
 }
 
 /// What takes rows.
@@ -45,9 +57,9 @@ fn record_row<S: NumberSink>(
         Ok(text) => text,
         Err(cause) => return skip_or_err(alloc, sink, row.place, row.row, cause),
     };
-    match record_text(sink, text) {
-        Ok(()) => Ok(()),
-        Err(cause) => skip_or_err(alloc, sink, row.place, text, cause),
+    match record_field(sink, text, row.count) {
+        Ok(_) => Ok(()),
+        Err(cause) => skip_or_err(alloc, sink, row.place, row.failing(text, cause), cause),
     }
 }
 

@@ -24,6 +24,13 @@ pub(crate) trait NumberSink {
     fn record_wide(&mut self, number: Wide) -> Result<(), Cause>
         ensures taken { takes self.old self.new };
 
+    /// Takes a number that may be rounded, as often as `times`, which is above 0.
+    ///
+    /// # Errors
+    /// As `record`.
+    fn record_times(&mut self, number: Wide, times: u64) -> Result<(), Cause>
+        ensures taken { takes self.old self.new };
+
     /// Counts a line that is bad for this cause, if such lines are skipped, and returns whether.
     fn count_if_skipped(&mut self, cause: Cause) -> bool
         ensures taken { takes self.old self.new };
@@ -36,4 +43,18 @@ pub(crate) trait NumberSink {
 
     /// What follows is taken after.
     ghost takes_more: { (a b c : Self) → takes a b → takes b c → takes a c };
+}
+
+/// Passes a number to a sink as often as `times`.
+pub(crate) fn record_each<S: NumberSink>(
+    sink: &mut S,
+    number: Wide,
+    times: u64,
+) -> Result<(), Cause>
+    ensures { S.takes sink.old sink.new }
+{
+    for _ in 0..times {
+        sink.record_wide(number)?;
+    }
+    Ok(())
 }

@@ -93,6 +93,10 @@ impl NumberSink for Survey {
         Ok(())
     }
 
+    fn record_times(&mut self, number: Wide, _times: u64) -> Result<(), Cause> {
+        self.record_wide(number)
+    }
+
     fn count_if_skipped(&mut self, _cause: Cause) -> bool {
         true
     }

@@ -212,6 +212,26 @@ impl Tally {
         }
     }
 
+    /// Records a number as often as `times`, which is above 0, rounded to the unit.
+    ///
+    /// # Errors
+    /// As `record`.
+    pub(crate) fn record_times(&mut self, number: Wide, times: u64) -> Result<(), Cause>
+        ensures unit { KeepsUnit self.old self.new }
+    {
+        let units = self.units_of(number.rounded(self.decimals)?)?;
+        let done = self.histogram.record_n_correct(units, times, self.interval);
+        self.update_extremes(done, least_of(units, self.interval), units)?;
+        let more = u128::from(units) * u128::from(times.saturating_sub(1));
+        self.sum = self.sum.wrapping_add(more);
+        if number.is_rounded(self.decimals) {
+            self.rounded = self.rounded.wrapping_add(times);
+        }
+        let missing = missing_before(units, self.interval).wrapping_mul(times);
+        self.missing = self.missing.wrapping_add(missing);
+        Ok(())
+    }
+
     /// Returns a number in units.
     pub(crate) fn units_of(&self, number: Number) -> Result<u64, Cause>
         ensures units { IfOk result
@@ -248,6 +268,10 @@ impl NumberSink for Tally {
         self.record(number.rounded(decimals)?)?;
         self.count_rounded(number.is_rounded(decimals));
         Ok(())
+    }
+
+    fn record_times(&mut self, number: Wide, times: u64) -> Result<(), Cause> {
+        self.record_times(number, times)
     }
 
     fn count_if_skipped(&mut self, cause: Cause) -> bool {

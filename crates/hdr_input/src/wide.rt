@@ -132,6 +132,16 @@ pub(crate) fn parse_unsigned(text: &[u8]) -> Result<Wide, Cause> {
 }
 
 impl Wide {
+    /// Returns a number with as many digits as it has.
+    pub(crate) fn of(number: Number) -> Wide {
+        Wide {
+            digits: u128::from(number.digits),
+            exponent: -i64::from(number.decimals),
+            is_full: false,
+            is_cut: false,
+        }
+    }
+
     /// Whether the number is 0.
     fn is_zero(self) -> bool {
         self.digits == 0

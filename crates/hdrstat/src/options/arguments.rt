@@ -124,6 +124,10 @@ pub(crate) fn with_forms<'a>(alloc: Global, command: Command<'a>) -> Result<Comm
         .conflicts_with("column")?
         .conflicts_with("json")?
         .help_heading(INPUT);
+    let help = "Column of how often a number counts, as of uniq -c [default: once]";
+    let count = option(alloc, "count", "COLUMN", help)
+        .value_parser(ValueParser::NonEmptyString)
+        .help_heading(INPUT);
     let help = "Character between columns, or comma, tab, semicolon, space [default: guessed]";
     let delimiter = option(alloc, "delimiter", "CHAR", help)
         .requires_arg("column")?
@@ -133,7 +137,7 @@ pub(crate) fn with_forms<'a>(alloc: Global, command: Command<'a>) -> Result<Comm
         .requires_arg("column")?
         .help_heading(INPUT);
     let command = command.arg(column)?.arg(json)?.arg(regex)?;
-    let command = command.arg(delimiter)?.arg(no_header)?;
+    let command = command.arg(count)?.arg(delimiter)?.arg(no_header)?;
     Ok(command)
 }
 

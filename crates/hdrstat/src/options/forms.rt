@@ -22,7 +22,7 @@ pub(crate) fn check_rows(alloc: Global, matches: &ArgMatches<'_>) -> Result<(), 
         let why = "needs --column or --json; interval logs have --by-tag";
         return Err(StatError::usage(alloc, "--by", why));
     }
-    for option in ["--where", "--time"] {
+    for option in ["--where", "--count", "--time"] {
         if matches.get_str(option.trim_start_matches('-')).is_some() {
             return Err(StatError::usage(alloc, option, "needs --column or --json"));
         }
@@ -42,12 +42,14 @@ pub(crate) fn form_of<'l, 'n>(
         check_regex(alloc, regex)?;
         return Ok(Form::Match(regex));
     }
+    check_count(alloc, matches)?;
     let is_json = matches.get_str("json").is_some();
     let Some(value) = matches.get_str("json").or(matches.get_str("column")) else {
         return Ok(Form::Lines);
     };
     let columns = Columns {
         value,
+        count: matches.get_str("count"),
         time: matches.get_str("time"),
         groups,
         conditions,
@@ -60,6 +62,15 @@ pub(crate) fn form_of<'l, 'n>(
         delimiter: delimiter_of(alloc, matches)?,
         has_header: !matches.get_flag("no-header"),
     }))
+}
+
+/// Checks that no interval is expected between samples that are counted together.
+fn check_count(alloc: Global, matches: &ArgMatches<'_>) -> Result<(), StatError> {
+    if matches.get_str("count").is_some() && matches.get_str("expected-interval").is_some() {
+        let why = "does not go with --expected-interval, which is between single numbers";
+        return Err(StatError::usage(alloc, "--count", why));
+    }
+    Ok(())
 }
 
 /// Checks that a regular expression is valid and has one group.
