@@ -1,5 +1,5 @@
 -- Histograms after numbers.
-use Rattle.std.specs.Prelude.{◌≡◌, ℕ, ◌+◌, ◌-◌, ◌*◌, ◌%◌, ◌^◌, ◌<◌, ◌≤◌, ◌⊎◌, min, max, Bool, true, if◌then◌else◌, Result, Ok, Err}
+use Rattle.std.specs.Prelude.{◌≡◌, ℕ, ◌+◌, ◌-◌, ◌*◌, ◌%◌, ◌^◌, ◌<◌, ◌≤◌, min, max, Bool, true, if◌then◌else◌, Result, Ok, Err}
 use Rattle.hdr_model.specs.Plain.{Plain, reach}
 use Rattle.hdr_model.specs.Correction.{after_correct}
 use Rattle.hdr_input.specs.Numbers.{in_units}
@@ -17,7 +17,7 @@ after_number h number decimals interval = after_correct (2 ^ 64 - 1) h (in_units
 
 -- the expected interval in units of these decimals, or the greatest value if that is less
 abbrev pub IsInterval : Number → ℕ → ℕ → Type 0
-IsInterval interval decimals units = (units ≡ in_units interval.digits interval.decimals decimals) ⊎ (units ≡ 2 ^ 64 - 1)
+IsInterval interval decimals units = interval.decimals ≤ 18 → decimals ≤ 18 → units ≡ min (in_units interval.digits interval.decimals decimals) (2 ^ 64 - 1)
 
 -- the least of a value and of the missing samples before it at an expected interval, 0 for none
 abbrev pub IsLeast : ℕ → ℕ → ℕ → Type 0

@@ -10,7 +10,7 @@ is_between low high n = nat_le low n && nat_le n high
 -- a character that controls a terminal, has no width, or changes the direction of the text around it
 unfoldable pub is_invisible : ℕ → Bool
 is_invisible c =
-    is_between 0 31 c || is_between 127 159 c || is_between 0x200b 0x200f c || is_between 0x202a 0x202e c || is_between 0x2066 0x2069 c || c == 0xfeff
+    is_between 0 31 c || is_between 127 159 c || c == 0x61c || is_between 0x200b 0x200f c || is_between 0x2028 0x202e c || is_between 0x2060 0x206f c || c == 0xfeff
 
 -- a character, or a question mark instead of an invisible one
 abbrev pub shown : ℕ → ℕ

@@ -47,11 +47,14 @@ pub enum Cause {
     #[error("is a row without that column; --skip-bad ignores such rows")]
     NoField,
     /// Its line is not JSON.
-    #[error("is not JSON; --skip-bad ignores such lines")]
+    #[error("is not a line of JSON, such as `jq -c` writes; --skip-bad ignores such lines")]
     NotJson,
     /// Its line has no text at the path.
     #[error("has no number at that path; --skip-bad ignores such lines")]
     NoPath,
+    /// Its line has no time at the path.
+    #[error("has no time at that path; --skip-bad ignores such lines")]
+    NoTime,
     #[error("does not fit: out of memory")]
     OutOfMemory,
 }

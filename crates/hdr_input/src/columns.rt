@@ -357,7 +357,7 @@ fn with_columns(
         return error;
     }
     let delimiter = String::from_str(alloc, delimiter_name(layout.delimiter));
-    match (excerpt(alloc, row.as_slice()), delimiter) {
+    match (text_of(alloc, row, layout.delimiter), delimiter) {
         (Ok(text), Ok(delimiter)) => InputError::NoField {
             place: InputPlace::Row(number),
             text,
@@ -366,6 +366,18 @@ fn with_columns(
         },
         _ => InputError::OutOfMemory,
     }
+}
+
+/// Returns the start of the text of a row for an error.
+fn text_of(alloc: Global, row: &ByteRecord, delimiter: u8) -> Result<String, AllocError> {
+    let mut text = Vec::new(alloc);
+    for (index, field) in row.into_iter().enumerate() {
+        if index > 0 {
+            text.push(delimiter)?;
+        }
+        text.extend_from_slice(field)?;
+    }
+    excerpt(alloc, &text)
 }
 
 /// Whether an error is that of a row that does not have a column.

@@ -1,5 +1,7 @@
 //! Why an input is not read.
 
+ghost use Rattle.std.specs.Prelude.{◌≤◌, length};
+
 use crate::cause::Cause;
 use crate::group_texts::GroupError;
 use std::alloc::{AllocError, AllocFailed, Global};
@@ -109,9 +111,21 @@ fn joined(alloc: Global, texts: &[&str]) -> Result<String, AllocError> {
 /// The most bytes of a line or a name that an error shows.
 const SHOWN: usize = 40;
 
+/// Returns how many bytes of a text an error shows: at most `SHOWN`, and no part of a character.
+fn shown_len(text: &[u8]) -> usize
+    ensures { result ≤ length text.now }
+{
+    for len in SHOWN - 3..=SHOWN {
+        if text.get(len).is_some_and(|byte| byte & 0xc0 != 0x80) {
+            return len;
+        }
+    }
+    text.len().min(SHOWN)
+}
+
 /// Returns the start of a text for an error. Control characters are shown as `?`.
 pub fn excerpt(alloc: Global, text: &[u8]) -> Result<String, AllocError> {
-    let mut bytes = text[..text.len().min(SHOWN)].to_vec(alloc)?;
+    let mut bytes = text[..shown_len(text)].to_vec(alloc)?;
     for byte in bytes.iter_mut() {
         if byte.is_ascii_control() {
             *byte = b'?';

@@ -1,6 +1,6 @@
 //! The texts of groups.
 
-ghost use Rattle.std.specs.Prelude.{◌≡◌, ◌++◌, [], Some, IfOk, OnOk, OnErr, map, position, slice_get, string_bytes};
+ghost use Rattle.std.specs.Prelude.{◌≡◌, ◌++◌, [], Some, ◌≤◌, IfOk, IfErr, OnOk, OnErr, length, map, max, position, slice_get, string_bytes};
 ghost use Rattle.std.specs.Str.{bytes_eq};
 ghost use Rattle.hdr_input.specs.Groups.{with_text, tag_text, in_tag};
 
@@ -64,6 +64,9 @@ impl GroupTexts {
         ensures index { IfOk result
             (λ at. slice_get (map (λ t. t.items) self.new.texts.keys) at ≡ Some text.now) }
         ensures same { OnErr result (self.new.texts.keys ≡ self.old.texts.keys) }
+        ensures many { IfErr result (λ e. e ≡ GroupError.TooMany → MOST_GROUPS ≤ length self.old.texts.keys) }
+        ensures most { OnOk result
+            (length self.new.texts.keys ≤ max MOST_GROUPS (length self.old.texts.keys)) }
     {
         if let Some((index, _)) = self.texts.get_full(text) {
             return Ok(index);

@@ -1,7 +1,7 @@
 //! Numbers with times, cut into intervals of one length.
 
 use crate::cause::Cause;
-use crate::errors::InputError;
+use crate::errors::{InputError, InputPlace};
 use crate::group_texts::GroupTexts;
 use crate::lines::{record_field, skip_or_err};
 use crate::number::Number;
@@ -141,10 +141,18 @@ impl<'l, 'n> Intervals<'l, 'n> {
         };
         let time = match (row.time, self.cut.length) {
             (Some(time), Some(_)) => self.times.parse(time).map_err(|cause| (cause, time))?,
-            (None, Some(_)) => return Err((Cause::NoField, row.row)),
+            (None, Some(_)) => return Err((without_time(row.place), row.row)),
             (_, None) => 0,
         };
         Ok((time, group))
+    }
+}
+
+/// Returns why a row of this place has no time.
+fn without_time(place: InputPlace) -> Cause {
+    match place {
+        InputPlace::Line(_) => Cause::NoTime,
+        InputPlace::Row(_) => Cause::NoField,
     }
 }
 

@@ -1,7 +1,7 @@
 //! Numbers from the matches of a regular expression in lines.
 
 use crate::errors::{InputError, InputPlace};
-use crate::lines::split_line;
+use crate::lines::{split_line, without_mark};
 use crate::pieces::{LineSink, read_lines};
 use crate::rows::{RowSink, RowTexts};
 use regex::bytes::{CaptureLocations, Matcher, Regex};
@@ -44,7 +44,7 @@ impl<S: RowSink> LineSink for MatchLines<'_, '_, S> {
         let mut number = first;
         while !rest.is_empty() {
             let (line, after) = split_line(rest);
-            self.take_line(alloc, without_cr(line), number)?;
+            self.take_line(alloc, without_cr(without_mark(line, number)), number)?;
             rest = after;
             number = number.saturating_add(1);
         }

@@ -1,6 +1,6 @@
 //! The times of numbers.
 
-ghost use Rattle.std.specs.Prelude.{◌≡◌, ◌+◌, IfSome};
+ghost use Rattle.std.specs.Prelude.{◌≡◌, ◌≤◌, ◌+◌, ◌^◌, IfNone, IfSome};
 ghost use Rattle.hdr_input.specs.Numbers.{in_units};
 ghost use Rattle.hdr_input.specs.Times.{unit_of_size, decimals_of};
 
@@ -58,8 +58,10 @@ impl TimeUnit {
 
     /// Returns a time of this unit in nanoseconds, to the nearest, or `None` on overflow.
     pub fn nanoseconds(self, time: Number) -> Option<u64>
-        ensures { IfSome result
+        ensures time { IfSome result
             (λ n. n ≡ in_units time.digits (time.decimals + decimals_of self) 9) }
+        ensures overflow { time.decimals + decimals_of self ≤ 18
+            → IfNone result (2 ^ 64 ≤ in_units time.digits (time.decimals + decimals_of self) 9) }
     {
         time.divided_by_ten(self.decimals())?.rounded(9)
     }

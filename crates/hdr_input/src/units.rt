@@ -4,6 +4,7 @@ ghost use Rattle.std.specs.Prelude.{◌≡◌, ◌≤◌, IfNone, IfSome};
 ghost use Rattle.hdr_input.specs.Units.{IsSameTime, IsTooGreat};
 
 use crate::distribution::MOST_DECIMALS;
+use crate::durations::parse_duration;
 use crate::number::Number;
 pub use crate::unit::Unit;
 
@@ -31,8 +32,20 @@ pub fn in_unit(number: Number, from: Unit, to: Unit) -> Option<Number>
     }
 }
 
-/// Parses an amount such as `200` or `200ms`, in the unit of the input. One with a unit is invalid
-/// if the input has none.
+/// Parses a number that one unit may follow, in the unit of the input. One without a unit is in
+/// `usual`, if there is one.
+fn single_amount(text: &str, usual: Option<Unit>, unit: Option<Unit>) -> Option<Number> {
+    let (start, written) = split_unit(text);
+    let number = Number::parse(start.as_bytes(), None).ok()?;
+    match (written.or(usual), unit) {
+        (None, _) => Some(number),
+        (Some(_), None) => None,
+        (Some(from), Some(unit)) => in_unit(number, from, unit),
+    }
+}
+
+/// Parses an amount such as `200`, `200ms` or `1m30s`, in the unit of the input. One with a unit is
+/// invalid if the input has none.
 pub fn parse_amount(text: &str, unit: Option<Unit>) -> Option<Number>
     ensures few { IfSome result (λ n. n.decimals ≤ 18) }
 {
@@ -43,12 +56,9 @@ pub fn parse_amount(text: &str, unit: Option<Unit>) -> Option<Number>
 pub fn parse_amount_in(text: &str, usual: Option<Unit>, unit: Option<Unit>) -> Option<Number>
     ensures few { IfSome result (λ n. n.decimals ≤ 18) }
 {
-    let (start, written) = split_unit(text);
-    let number = Number::parse(start.as_bytes(), None).ok()?;
-    let number = match (written.or(usual), unit) {
-        (None, _) => number,
-        (Some(_), None) => return None,
-        (Some(from), Some(unit)) => in_unit(number, from, unit)?,
+    let number = match single_amount(text, usual, unit) {
+        Some(number) => number,
+        None => parse_duration(text.as_bytes(), unit?)?,
     };
     if number.decimals > MOST_DECIMALS {
         return None;

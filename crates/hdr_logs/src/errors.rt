@@ -5,7 +5,7 @@ use crate::lines::LONGEST;
 use crate::place::Place;
 use hdr_convert::ConvertError;
 use hdrhistogram::serialization::interval_log::{CommentError, IntervalLogWriterError};
-use hdrhistogram::serialization::{CountNotSerializable, FieldDecodeError};
+use hdrhistogram::serialization::{CountNotSerializable, DeserializeError, FieldDecodeError};
 use hdrhistogram::{AdditionError, CreationError};
 use std::alloc::{AllocError, AllocFailed};
 use std::io;
@@ -20,6 +20,9 @@ pub enum LogError {
         place: Place,
         text: String,
     },
+    /// The line begins as a file that is compressed.
+    #[error("{0}: the log is compressed by gzip; `gzip -dc FILE | hdrstat ..` reads it")]
+    Gzip(Place),
     /// The line has at least `LONGEST` bytes.
     #[error("{place}: `{text}` begins a line of {LONGEST} bytes or more")]
     TooLong {
@@ -158,6 +161,7 @@ impl LogError {
             | LogError::OtherUnit { place, .. }
             | LogError::Field { place, .. }
             | LogError::Conversion { place, .. }
+            | LogError::Gzip(place)
             | LogError::TooLate(place)
             | LogError::NotSorted(place)
             | LogError::NotNested(place) => Some(place.file),
@@ -178,6 +182,10 @@ impl LogError {
     pub fn of_field(place: Place, cause: FieldDecodeError) -> LogError {
         match cause {
             FieldDecodeError::OutOfMemory => LogError::OutOfMemory,
+            FieldDecodeError::Decode(DeserializeError::IoError(_)) => LogError::Conversion {
+                place,
+                cause: ConvertError::Incomplete,
+            },
             cause => LogError::Field { place, cause },
         }
     }

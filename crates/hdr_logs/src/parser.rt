@@ -114,6 +114,9 @@ fn unended_interval(
     }
 }
 
+/// The bytes that a file compressed by gzip begins with, and no line of a log.
+const GZIP: [u8; 2] = [0x1f, 0x8b];
+
 /// Returns the entry of a line without a byte order mark. Comments, other headers and blank lines
 /// have none.
 #[tactic(auto, unfolding(crate::specs::Entries::entry_of_line))]
@@ -122,6 +125,9 @@ fn entry_of(alloc: Global, line: &[u8], place: Place) -> Result<Option<LogEntry<
 {
     if is_blank(line) {
         return Ok(None);
+    }
+    if line.starts_with(&GZIP) {
+        return Err(LogError::Gzip(place));
     }
     if !is_ended(line) {
         let interval = unended_interval(alloc, line)?;
