@@ -3,8 +3,9 @@ use Rattle.std.specs.Prelude.{ℕ, ◌<◌, ◌≤◌}
 use Rattle.hdr_figures.specs.declared.level.Verdict.{Verdict}
 use Rattle.hdr_figures.specs.declared.level.Verdict.TheVariants.{Within, MayBeOver, Over}
 
--- whether a value, of which the highest value of its class is known too, keeps a level
-abbrev pub IsVerdict : Verdict → (level value highest : ℕ) → Type 0
-IsVerdict Within level value highest = (value ≤ level) × (highest ≤ level)
-IsVerdict MayBeOver level value highest = (value ≤ level) × (level < highest)
-IsVerdict Over level value highest = level < value
+-- whether a sample, of which the lowest and the highest value of its class are known, keeps a level: every value of the class
+-- does, some do, or none does
+abbrev pub IsVerdict : Verdict → (level lowest highest : ℕ) → Type 0
+IsVerdict Within level lowest highest = highest ≤ level
+IsVerdict MayBeOver level lowest highest = (lowest ≤ level) × (level < highest)
+IsVerdict Over level lowest highest = (level < lowest) × (level < highest)

@@ -13,11 +13,12 @@ pub struct PageLevel {
     ghost some: { 0 < den },
 }
 
-/// The value of samples at the quantile of a level, and the highest one of its class, which is as
-/// wide as that of the coarsest interval.
+/// The value of samples at the quantile of a level, and the lowest and the highest one of its class,
+/// which is as wide as that of the coarsest interval. The sample is one of that class.
 #[derive(Clone, Copy)]
 pub struct LevelValue {
     pub value: u64,
+    pub lowest: u64,
     pub highest: u64,
 }
 
@@ -25,8 +26,9 @@ pub struct LevelValue {
 #[derive(Clone, Copy, PartialEq, Eq)]
 pub enum Verdict {
     Within,
-    /// The class of the value at the quantile ends above the level.
+    /// The class of the sample at the quantile has values on both sides of the level.
     MayBeOver,
+    /// All values of that class are above the level.
     Over,
 }
 
@@ -43,14 +45,14 @@ impl PageLevel {
 
     /// Returns whether samples that have this value at its quantile keep the level.
     pub fn verdict(self, at_level: LevelValue) -> Verdict
-        ensures { IsVerdict result self.value at_level.value at_level.highest }
+        ensures { IsVerdict result self.value at_level.lowest at_level.highest }
     {
-        if at_level.value > self.value {
-            Verdict::Over
-        } else if at_level.highest > self.value {
+        if at_level.highest <= self.value {
+            Verdict::Within
+        } else if at_level.lowest <= self.value {
             Verdict::MayBeOver
         } else {
-            Verdict::Within
+            Verdict::Over
         }
     }
 }

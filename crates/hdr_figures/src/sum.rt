@@ -7,7 +7,7 @@ ghost use Rattle.hdr_model.specs.Plain.{empty_plain, resolution};
 ghost use Rattle.hdr_model.specs.Merging.{after_add};
 ghost use Rattle.hdr_model.specs.Recording.{after_reset};
 ghost use Rattle.hdr_figures.specs.Figures.{AreFiguresOf, value_at};
-ghost use Rattle.hdr_figures.specs.Widths.{IsHighest, IsJoin, IsWidthOf};
+ghost use Rattle.hdr_figures.specs.Widths.{IsHighest, IsJoin, IsLowest, IsWidthOf, IsWithClass};
 
 use crate::figures::{Figures, value_at};
 use crate::level::{LevelValue, PageLevel};
@@ -44,6 +44,16 @@ impl Width {
         Width {
             low: self.low.max(other.low),
             sigfig: self.sigfig.min(other.sigfig),
+        }
+    }
+
+    /// Returns the lowest value of the class of a value.
+    fn lowest(self, value: u64) -> u64
+        ensures { IsLowest self value result }
+    {
+        match Scale::new(self.low, self.sigfig) {
+            Some(scale) => scale.lowest(value),
+            None => 0,
         }
     }
 
@@ -120,7 +130,7 @@ impl Sum {
     ) -> Result<Vec<LevelValue>, AllocError>
         ensures values { IfOk result (λ all. map (λ at. at.value) all.items
             ≡ map (λ l. value_at self.now.histogram l.num l.den) levels.now) }
-        ensures highest { IfOk result (λ all. All (λ at. IsHighest self.now.width at.value at.highest) all.items) }
+        ensures class { IfOk result (λ all. All (IsWithClass self.now.width) all.items) }
     {
         let mut all = Vec::new(alloc);
         for level in levels {
@@ -132,11 +142,12 @@ impl Sum {
     /// Returns the value at the quantile of a level.
     fn at_level(&self, level: PageLevel) -> LevelValue
         ensures value { result.value ≡ value_at self.now.histogram level.num level.den }
-        ensures highest { IsHighest self.now.width result.value result.highest }
+        ensures class { IsWithClass self.now.width result }
     {
         let value = value_at(&self.histogram, level.num, level.den);
         LevelValue {
             value,
+            lowest: self.width.lowest(value),
             highest: self.width.highest(value),
         }
     }

@@ -3,6 +3,7 @@
 use csv::{Writer, WriterBuilder};
 use hdr_figures::figures::Figures;
 use hdr_logs::{LogError, LogIntervals, StoredInterval};
+use hdr_summary::decimals::decimal;
 use hdr_summary::formats::{write_field, write_text};
 use hdr_verdict::{Episode, LogVerdict, verdict_of};
 use hdr_view::naming::Naming;
@@ -14,7 +15,7 @@ const NAMES: [&str; 10] = [
 ];
 
 /// Returns a row for each interval in order, after a line that names the fields. Times are in
-/// seconds. The last field is the letter of the incident of which it is a part. A tag that a
+/// seconds, and values in the unit of the log, with its decimals. The last field is the letter of the incident of which it is a part. A tag that a
 /// spreadsheet may take for a formula follows an apostrophe.
 pub fn rows(alloc: Global, intervals: &LogIntervals) -> Result<String, LogError> {
     let mut table = WriterBuilder::new().from_writer(Vec::new(alloc));
@@ -24,11 +25,18 @@ pub fn rows(alloc: Global, intervals: &LogIntervals) -> Result<String, LogError>
     end_row(&mut table)?;
     let verdict = verdict_of(alloc, &intervals.list, &[])?;
     let times = lettered_times(alloc, &verdict)?;
+    let decimals = intervals.decimals().unwrap_or(0);
     let mut deserializer = Deserializer::new(alloc);
     let mut spare = None;
     for interval in &intervals.list {
         let histogram = interval.histogram(&mut deserializer, spare.take())?;
-        write_row(alloc, &mut table, interval, &Figures::of(&histogram))?;
+        write_row(
+            alloc,
+            &mut table,
+            interval,
+            &Figures::of(&histogram),
+            decimals,
+        )?;
         write_field(&mut table, letter_of(&times, interval))?;
         end_row(&mut table)?;
         spare = Some(histogram);
@@ -40,6 +48,17 @@ pub fn rows(alloc: Global, intervals: &LogIntervals) -> Result<String, LogError>
 /// Writes a number.
 fn write_number(alloc: Global, table: &mut Writer<Vec<u8>>, number: u64) -> Result<(), AllocError> {
     let text = format!(in alloc; "{number}")?;
+    write_field(table, text.as_str())
+}
+
+/// Writes a value that is in units of the last of some decimals.
+fn write_value(
+    alloc: Global,
+    table: &mut Writer<Vec<u8>>,
+    value: u64,
+    decimals: u32,
+) -> Result<(), AllocError> {
+    let text = decimal(alloc, u128::from(value), decimals)?;
     write_field(table, text.as_str())
 }
 
@@ -66,16 +85,22 @@ fn write_row(
     table: &mut Writer<Vec<u8>>,
     interval: &StoredInterval,
     figures: &Figures,
+    decimals: u32,
 ) -> Result<(), AllocError> {
     write_time(alloc, table, interval.start)?;
     write_text(alloc, table, interval.name())?;
     write_time(alloc, table, interval.length())?;
     write_number(alloc, table, figures.count)?;
-    write_number(alloc, table, figures.p50)?;
-    write_number(alloc, table, figures.p90)?;
-    write_number(alloc, table, figures.p99)?;
-    write_number(alloc, table, figures.p999)?;
-    write_number(alloc, table, figures.max)
+    for value in [
+        figures.p50,
+        figures.p90,
+        figures.p99,
+        figures.p999,
+        figures.max,
+    ] {
+        write_value(alloc, table, value, decimals)?;
+    }
+    Ok(())
 }
 
 /// A time of a tag that is a part of an incident with a letter.

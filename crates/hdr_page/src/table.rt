@@ -162,7 +162,7 @@ fn push_row(
     push_cell(view, text, mean, false)?;
     for (value, bold) in columns(figures).iter().zip(bold) {
         let amount = if figures.count > 0 {
-            Some(view.units.amount(view.units.in_unit(*value), 1))
+            Some(view.units.amount_of(*value))
         } else {
             None
         };

@@ -67,21 +67,20 @@ of_plain num den p d n =
     of_trimmed num den p d p d n (omega arith) s
 
 -- a value and its unit
-pub value_text : {T E : Type 0} (r : Result T E) (unit longer : Option ℕ) (value num den : ℕ) (number old mid new : List ℕ)
-    → IsInUnit unit value 1 longer num den → IsDecimalOf num den number → mid ≡ old ++ number → OnOk r (new ≡ mid ++ unit_text longer)
-    → OnOk r ((x : List ℕ) × IsValueText unit value x × (new ≡ old ++ x))
-value_text (Ok v) unit longer value num den number old mid new i n a b =
-    let d : den ≡ 1000 ^ i.power = omega (arith, i.parts) in
-    let t : IsValueText unit value (number ++ unit_text longer) = record {
+pub value_text : {T E : Type 0} (r : Result T E) (unit longer : Option ℕ) (value parts num den : ℕ) (number old mid new : List ℕ)
+    → IsInUnit unit value parts longer num den → IsDecimalOf num den number → mid ≡ old ++ number → OnOk r (new ≡ mid ++ unit_text longer)
+    → OnOk r ((x : List ℕ) × IsValueText unit value parts x × (new ≡ old ++ x))
+value_text (Ok v) unit longer value parts num den number old mid new i n a b =
+    let t : IsValueText unit value parts (number ++ unit_text longer) = record {
       power = i.power;
       number = number;
-      nearest = rw (i.same, d) at n;
+      nearest = rw (i.same, i.parts) at n;
       known = i.known;
       no_longer = i.no_longer;
       is = ap (λ u. number ++ unit_text u) i.is_longer;
     } in
     (number ++ unit_text longer, t, twice old mid new _ _ a b)
-value_text (Err v) unit longer value num den number old mid new i n a b = tt
+value_text (Err v) unit longer value parts num den number old mid new i n a b = tt
 
 -- an integer exactly
 pub exact_text : {T E : Type 0} (r : Result T E) (value number power : ℕ) (old mid new : List ℕ) → number * 10 ^ power ≡ value

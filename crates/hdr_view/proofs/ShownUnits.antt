@@ -1,5 +1,5 @@
 -- The unit in which values are shown.
-use Rattle.std.proofs.Common.{◌≡◌, ◌+◌, ◌*◌, ℕ, Option, None, Some, IfSome, List, [], ◌∷◌, min, arith, ap, sym, ◌∙◌}
+use Rattle.std.proofs.Common.{◌≡◌, ◌≤◌, ◌+◌, ◌*◌, ℕ, Option, None, Some, IfSome, List, [], ◌∷◌, min, arith, ap, sym, ◌∙◌}
 use Rattle.std.specs.List.{All}
 use Rattle.std.specs.Option.{option_or, ForNone}
 use Rattle.std.proofs.lemmas.List.Elements.{All-nil, All-cons, All-head, All-tail}
@@ -11,16 +11,19 @@ use Rattle.hdr_view.specs.Amounts.{IsScale}
 use Rattle.hdr_view.specs.Views.{IsShownIn}
 use Rattle.hdr_view.specs.declared.amount.Units.{Units}
 
--- the scale of a unit is that of the unit of an interval
-scale_of_one : (index : Option ℕ) (of unit other : Option Unit) (d n times : ℕ) → IfSome index (λ i. IfSome (option_or unit other) (λ u. IsScale (d + exponent u) (i, times)))
-    → n ≡ d → of ≡ unit → IfSome index (λ i. IfSome of (λ u. IsScale (n + exponent u) (i, times)))
-scale_of_one None of unit other d n times scale e f = tt
-scale_of_one (Some i) of None other d n times scale e f = rw f tt
-scale_of_one (Some i) of (Some u) other d n times scale e f = rw (f, e) scale
+-- a value of 1 is shown as what it is by these decimals of a unit
+abbrev pub ShownAs : Units → ℕ → Unit → Type 0
+ShownAs units d u = (index : ℕ) × (units.unit ≡ Some index) × IsScale (d + exponent u) index units.times units.decimals
 
-pub shown : (units : Units) (unit other : Option Unit) (d : ℕ) (all : List StoredInterval) → IfSome units.unit (λ i. IfSome (option_or unit other) (λ u. IsScale (d + exponent u) (i, units.times)))
+-- the scale of a unit is that of the unit of an interval
+scale_of_one : (units : Units) (of unit other : Option Unit) (d n : ℕ) → (d ≤ 18 → IfSome (option_or unit other) (ShownAs units d))
+    → n ≡ d → of ≡ unit → n ≤ 18 → IfSome of (ShownAs units n)
+scale_of_one units of None other d n scale e f few = rw f tt
+scale_of_one units of (Some u) other d n scale e f few = rw (f, e) (scale (rw e at few))
+
+pub shown : (units : Units) (unit other : Option Unit) (d : ℕ) (all : List StoredInterval) → (d ≤ 18 → IfSome (option_or unit other) (ShownAs units d))
     → All (λ s. decimals_of s ≡ d) all → All (λ s. s.unit ≡ unit) all → All (IsShownIn units) all
 shown units unit other d [] scale ds us = All-nil (IsShownIn units)
 shown units unit other d (s ∷ all) scale ds us =
-    let one : IsShownIn units s = scale_of_one units.unit s.unit unit other d (decimals_of s) units.times scale (All-head (λ s. decimals_of s ≡ d) s all ds) (All-head (λ s. s.unit ≡ unit) s all us) in
+    let one : IsShownIn units s = scale_of_one units s.unit unit other d (decimals_of s) scale (All-head (λ s. decimals_of s ≡ d) s all ds) (All-head (λ s. s.unit ≡ unit) s all us) in
     All-cons (IsShownIn units) s all one (shown units unit other d all scale (All-tail (λ s. decimals_of s ≡ d) s all ds) (All-tail (λ s. s.unit ≡ unit) s all us))

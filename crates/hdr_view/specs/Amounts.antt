@@ -19,9 +19,9 @@ abbrev pub box_text : Option ℕ → List ℕ
 box_text None = []
 box_text (Some unit) = codes "<i>" ++ unit_name unit ++ codes "</i>"
 
--- if a second is a power of ten, 1 is this number of the unit of an index, from nanoseconds
-abbrev pub IsScale : ℕ → (ℕ × ℕ) → Type 0
-IsScale power scale = (scale.1 * 10 ^ power ≡ 10 ^ (9 - 3 * scale.0)) × (scale.0 ≤ 3) × (scale.1 ≤ 100)
+-- if a second is a power of ten, 1 is times / 10 ^ decimals of the unit of an index, from nanoseconds
+abbrev pub IsScale : (power index times decimals : ℕ) → Type 0
+IsScale power index times decimals = (times * 10 ^ power ≡ 10 ^ (9 + decimals - 3 * index)) × (index ≤ 3) × (times ≤ 100)
 
 -- the unit that is 1,000 times as long, some times over
 abbrev pub longer_by : ℕ → Option ℕ → Option ℕ
@@ -38,11 +38,11 @@ pub record IsInUnit (unit : Option ℕ) (num den : ℕ) (longer : Option ℕ) (l
   pub no_longer : 0 < power → IfSome unit (λ u. u + power ≤ 3)
   pub at_least : 0 < power → longer_den * 9995 ≤ longer_num * 10000
 
--- a text is a value with its unit: its nearest decimal, in the unit of the log or a longer one, at most a second
-pub record IsValueText (unit : Option ℕ) (value : ℕ) (text : List ℕ) : Type 0 where
+-- a text is a fraction of a unit: its nearest decimal, in that unit or a longer one, at most a second
+pub record IsValueText (unit : Option ℕ) (num den : ℕ) (text : List ℕ) : Type 0 where
   pub power : ℕ
   pub number : List ℕ
-  pub nearest : IsDecimalOf value (1000 ^ power) number
+  pub nearest : IsDecimalOf num (den * 1000 ^ power) number
   pub known : unit ≡ None → power ≡ 0
   pub no_longer : 0 < power → IfSome unit (λ u. u + power ≤ 3)
   pub is : text ≡ number ++ unit_text (longer_by power unit)

@@ -28,6 +28,8 @@ abbrev pub IsLevelOf : PageLevel → Option TailLevel → Type 0
 IsLevelOf l None = (l.num ≡ 0) ⊎ ((l.den < l.num) ⊎ (2 ^ 63 ≤ l.den))
 IsLevelOf l (Some level) = (level.tail.num ≡ l.den - l.num) × (level.tail.den ≡ l.den) × (level.value ≡ l.value)
 
--- if a unit is shown and an interval has one, the number of that unit which a value of 1 is shown as is that of the interval's unit and decimals
+-- if an interval has a unit, some unit is shown, and a value of 1 is shown as what it is by the unit and the decimals of the interval
 abbrev pub IsShownIn : Units → StoredInterval → Type 0
-IsShownIn units i = IfSome units.unit (λ index. IfSome i.unit (λ unit. IsScale (decimals_of i + exponent unit) (index, units.times)))
+IsShownIn units i =
+    decimals_of i ≤ 18 → IfSome i.unit (λ unit. (index : ℕ) × (units.unit ≡ Some index)
+    × IsScale (decimals_of i + exponent unit) index units.times units.decimals)

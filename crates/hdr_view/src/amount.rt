@@ -1,6 +1,6 @@
 //! Values with their units.
 
-ghost use Rattle.std.specs.Prelude.{ℕ, List, Option, None, Some, ◌≡◌, ◌<◌, ◌≤◌, ◌+◌, ◌*◌, ◌^◌, ◌++◌, IfSome, IfNone, IsSome, OnOk, string_bytes};
+ghost use Rattle.std.specs.Prelude.{ℕ, List, Option, None, Some, ◌≡◌, ◌⊎◌, ◌<◌, ◌≤◌, ◌+◌, ◌*◌, ◌^◌, ◌++◌, IfSome, IfNone, IsSome, OnOk, string_bytes};
 ghost use Rattle.std.specs.Option.{ForNone};
 ghost use Rattle.hdr_input.specs.Units.{exponent};
 ghost use Rattle.hdr_draw.specs.Numbers.{IsDecimalOf};
@@ -8,6 +8,7 @@ ghost use Rattle.hdr_view.specs.Amounts.{IsExact, IsInUnit, IsLabel, IsScale, Is
 
 use hdr_draw::labels::split_powers;
 use hdr_draw::number::{Decimal, push_exponent, push_grouped, scientific};
+use hdr_input::distribution::MOST_DECIMALS;
 use hdr_summary::units::Unit;
 use hdrhistogram::Fraction;
 use std::alloc::AllocError;
@@ -31,9 +32,11 @@ const MOST_ZEROS: u32 = 19;
 pub struct Units {
     /// The index of the unit, from nanoseconds.
     pub unit: Option<usize>,
-    /// How many of the unit a value of 1 is.
+    /// A value of 1 is `times / 10^decimals` of the unit.
     times: u64,
+    decimals: u32,
     ghost few: { times ≤ 100 },
+    ghost few_decimals: { decimals ≤ 18 },
     ghost unknown: { ForNone unit (times ≡ 1) },
 }
 
@@ -61,30 +64,51 @@ fn name_of(unit: usize) -> &'static str
 }
 
 impl Units {
-    /// Returns the longest unit of which values are integers that are in units of the last of
-    /// these decimals of `unit`. It is unknown without `unit`, or if values are smaller than a
-    /// nanosecond.
+    /// Returns how values are shown that are in units of the last of these decimals, 18 at most, of
+    /// `unit`: in the longest unit of which they are integers, or in nanoseconds. Without `unit` it
+    /// is unknown.
     pub fn new(unit: Option<Unit>, decimals: u32) -> Units
-        ensures { IfSome result.unit (λ index. IfSome unit (λ unit.
-            IsScale (decimals + exponent unit) (index, result.times))) }
+        ensures known { decimals ≤ 18 → IfSome unit (λ unit. (index : ℕ) × (result.unit ≡ Some index)
+            × IsScale (decimals + exponent unit) index result.times result.decimals) }
+        ensures unknown { decimals ≤ 18 → unit ≡ None
+            → (result.unit ≡ None) × (result.times ≡ 1) × (result.decimals ≡ decimals) }
     {
-        match scale_in(unit, decimals) {
-            Some((index, times)) => Units {
-                unit: Some(index),
-                times,
-            },
-            None => Units {
+        let decimals = decimals.min(MOST_DECIMALS);
+        let Some(unit) = unit else {
+            return Units {
                 unit: None,
                 times: 1,
-            },
+                decimals,
+            };
+        };
+        let (index, times, decimals) = scale_of(decimals + unit.decimals());
+        Units {
+            unit: Some(index),
+            times,
+            decimals,
         }
     }
 
-    /// Returns a value in the unit.
-    pub fn in_unit(self, value: u64) -> u128
+    /// Returns a value in parts of the unit.
+    fn in_parts(self, value: u64) -> u128
         ensures { result ≡ value * self.times }
     {
         u128::from(value) * u128::from(self.times)
+    }
+
+    /// Returns how many parts the unit has.
+    fn parts(self) -> u128
+        ensures { result ≡ 10 ^ self.decimals }
+    {
+        10u128.pow(self.decimals)
+    }
+
+    /// Returns a value in the longest unit of which it is one or more, after rounding.
+    pub fn amount_of(self, value: u64) -> Amount
+        ensures { IsInUnit self.unit (value * self.times) (10 ^ self.decimals)
+            result.unit result.num result.den }
+    {
+        self.amount(self.in_parts(value), self.parts())
     }
 
     /// Returns an amount in the longest unit of which it is one or more, after rounding.
@@ -108,16 +132,37 @@ impl Units {
 
     /// Appends a value with its unit.
     pub fn push(self, text: &mut String, value: u64) -> Result<(), AllocError>
-        ensures { OnOk result ((added : List ℕ) × IsValueText self.unit (value * self.times) added
+        ensures { OnOk result ((added : List ℕ)
+            × IsValueText self.unit (value * self.times) (10 ^ self.decimals) added
             × (string_bytes text.new ≡ string_bytes text.old ++ added)) }
     {
-        let amount = self.amount(self.in_unit(value), 1);
+        let amount = self.amount_of(value);
         amount.push_number(text)?;
         push_unit(text, amount.unit)
     }
 
     /// Appends a value exactly, as the label of an axis, if it is below 2^64 in the unit.
     pub fn push_label(self, text: &mut String, value: u64) -> Result<(), AllocError>
+        ensures { self.decimals ≡ 0 → value * self.times < 2 ^ 64 → OnOk result ((added : List ℕ)
+            × IsLabel self.unit (value * self.times) added
+            × (string_bytes text.new ≡ string_bytes text.old ++ added)) }
+    {
+        if self.decimals == 0 {
+            return self.push_whole(text, value);
+        }
+        let parts = self.in_parts(value);
+        match integer(parts, self.parts()) {
+            Some(whole) => push_label_of(text, whole, self.unit),
+            None => {
+                let decimals = self.decimals;
+                Decimal { parts, decimals }.trimmed().push(text)?;
+                push_unit(text, self.unit)
+            }
+        }
+    }
+
+    /// Appends a value exactly that is an integer of the unit, as `push_label`.
+    fn push_whole(self, text: &mut String, value: u64) -> Result<(), AllocError>
         ensures { value * self.times < 2 ^ 64 → OnOk result ((added : List ℕ)
             × IsLabel self.unit (value * self.times) added
             × (string_bytes text.new ≡ string_bytes text.old ++ added)) }
@@ -129,33 +174,25 @@ impl Units {
     }
 }
 
-/// As `scale_of`, if values are in units of the last of these decimals of `unit`.
-fn scale_in(unit: Option<Unit>, decimals: u32) -> Option<(usize, u64)>
-    ensures scale { IfSome result (λ scale. IfSome unit (λ unit.
-        IsScale (decimals + exponent unit) scale)) }
-    ensures few { IfSome result (λ scale. scale.1 ≤ 100) }
+/// Returns the index of the longest unit of which values are integers, or otherwise that of
+/// nanoseconds, and what a value of 1 is: a number of the unit, with decimals. Values are in units of
+/// the last of some decimals of a second.
+fn scale_of(power: u32) -> (usize, u64, u32)
+    requires { power ≤ 27 }
+    ensures scale { IsScale power result.0 result.1 result.2 }
+    ensures few { result.2 ≤ 18 }
 {
-    scale_of(unit?.decimals().checked_add(decimals)?)
-}
-
-/// Returns the index of the longest unit of which values are integers, and how many of it a value
-/// of 1 is. Values are in units of the last of these decimals of a second.
-fn scale_of(decimals: u32) -> Option<(usize, u64)>
-    ensures scale { IfSome result (IsScale decimals) }
-    ensures small { IfNone result (9 < decimals) }
-{
-    match decimals {
-        0 => Some((3, 1)),
-        1 => Some((2, 100)),
-        2 => Some((2, 10)),
-        3 => Some((2, 1)),
-        4 => Some((1, 100)),
-        5 => Some((1, 10)),
-        6 => Some((1, 1)),
-        7 => Some((0, 100)),
-        8 => Some((0, 10)),
-        9 => Some((0, 1)),
-        _ => None,
+    match power {
+        0 => (3, 1, 0),
+        1 => (2, 100, 0),
+        2 => (2, 10, 0),
+        3 => (2, 1, 0),
+        4 => (1, 100, 0),
+        5 => (1, 10, 0),
+        6 => (1, 1, 0),
+        7 => (0, 100, 0),
+        8 => (0, 10, 0),
+        _ => (0, 1, power - 9),
     }
 }
 
@@ -206,6 +243,14 @@ fn push_box(text: &mut String, unit: Option<usize>) -> Result<(), AllocError>
     text.push_str("</i>")
 }
 
+/// Appends a value exactly, as the label of an axis, in a unit or a longer one, if it is known.
+fn push_label_of(text: &mut String, value: u64, unit: Option<usize>) -> Result<(), AllocError> {
+    match unit {
+        Some(unit) => push_label_in(text, value, unit),
+        None => push_exact(text, value),
+    }
+}
+
 /// Appends a value exactly, as the label of an axis, in a unit or a longer one.
 fn push_label_in(text: &mut String, value: u64, unit: usize) -> Result<(), AllocError>
     ensures { OnOk result ((added : List ℕ) × IsLabel (Some unit) value added
@@ -249,15 +294,18 @@ fn integer(num: u128, den: u128) -> Option<u64>
 }
 
 impl Amount {
-    /// Returns the amount of a mean, or `None` if its sum in the unit is 2^128 / 1,000 or more.
+    /// Returns the amount of a mean, or `None` if its sum in parts of the unit is 2^128 / 1,000 or
+    /// more, or if the samples have 2^128 parts or more.
     pub fn of_mean(units: Units, mean: Fraction) -> Option<Amount>
-        ensures is { IfSome result
-            (λ a. IsInUnit units.unit (mean.num * units.times) mean.den a.unit a.num a.den) }
-        ensures fits { IfNone result (2 ^ 128 ≤ mean.num * units.times * 1000) }
+        ensures is { IfSome result (λ a. IsInUnit units.unit (mean.num * units.times)
+            (mean.den * 10 ^ units.decimals) a.unit a.num a.den) }
+        ensures fits { IfNone result ((2 ^ 128 ≤ mean.num * units.times * 1000)
+            ⊎ (2 ^ 128 ≤ mean.den * 10 ^ units.decimals)) }
     {
         let num = mean.num.checked_mul(u128::from(units.times))?;
         num.checked_mul(1_000)?;
-        Some(units.amount(num, mean.den))
+        let den = mean.den.checked_mul(units.parts())?;
+        Some(units.amount(num, den))
     }
 
     /// Appends the amount as the content of a table's cell, with its unit in a box.

@@ -22,7 +22,7 @@ pub(crate) enum StatError {
     #[error("{file}: {cause}")]
     Numbers { file: String, cause: InputError },
     /// Most lines of numbers are bad, and were skipped.
-    #[error("more lines were skipped than read")]
+    #[error("more lines were skipped than counted")]
     MostlySkipped,
     /// Logs are not read, or nothing is made of them.
     #[error("{file}: {cause}")]

@@ -57,8 +57,12 @@ fn print_of_clap(rt: &HostRuntime, error: &clap::Error) -> ExitCode {
     if error.kind() == UsageErrorKind::OutOfMemory {
         return fail(rt, "", &StatError::OutOfMemory);
     }
+    if error.use_stderr() {
+        print_or_fail(rt, format!(in rt.alloc(); "{error}"));
+        return ExitCode::from(USAGE);
+    }
     match error.print(rt) {
-        Ok(()) => ExitCode::from(if error.use_stderr() { USAGE } else { 0 }),
+        Ok(()) => ExitCode::SUCCESS,
         Err(error) => fail(rt, "", &StatError::Output(error)),
     }
 }
@@ -76,10 +80,14 @@ fn fail(rt: &HostRuntime, subcommand: &str, error: &StatError) -> ExitCode {
     ExitCode::from(error.status())
 }
 
-/// Prints a line on standard error, or an error if its allocation failed.
-fn print_or_fail(rt: &HostRuntime, line: Result<String, AllocError>) {
-    match line {
-        Ok(line) => print_error_line(rt, line.as_str()),
+/// Prints lines on standard error, or an error if their allocation failed.
+fn print_or_fail(rt: &HostRuntime, lines: Result<String, AllocError>) {
+    match lines {
+        Ok(lines) => {
+            for line in lines.lines() {
+                print_error_line(rt, line);
+            }
+        }
         Err(_) => {
             let _ = eprintln!(rt; "hdrstat: out of memory");
         }

@@ -102,15 +102,16 @@ fn checks_of_tally(
     sum: SampleSum,
     levels: &[Level<'_>],
 ) -> Result<Vec<Check>, StatError> {
-    let decimals = tally.tally.decimals;
     let mut checks = Vec::new(alloc);
     for level in levels {
-        let counts = match level.measure {
-            Measure::Mean => sum.counts(level, decimals),
-            _ => LevelCounts::of_tally(tally, level),
+        let check = match level.measure {
+            Measure::Mean => check_of_mean(&sum, level, tally.tally.decimals),
+            _ => Check {
+                counts: LevelCounts::of_tally(tally, level),
+                verdict: level.verdict_of_tally(tally),
+            },
         };
-        let verdict = level.verdict(&counts);
-        checks.push(Check { counts, verdict })?;
+        checks.push(check)?;
     }
     Ok(checks)
 }
@@ -158,33 +159,51 @@ pub(crate) fn check_numbers(
     }
     let bounds = &bounds;
     let maker = BoundRecording { recording, bounds };
-    let mut parts = Vec::new(alloc);
-    let mut numbers = 0u64;
-    let skipped;
-    if let Some(columns) = form.groups() {
-        let groups = read_groups(files, maker, form, columns)?;
-        skipped = groups.skipped;
-        let GroupParts { texts, sinks, .. } = groups;
-        for (text, tally) in texts.as_slice().iter().zip(sinks) {
-            numbers = numbers.saturating_add(tally.numbers());
-            let tag = tag_of_group(alloc, text)?;
-            parts.push(part_of_tally(alloc, tag, tally, levels)?)?;
+    let (parts, is_mostly_skipped) = match form.groups() {
+        Some(columns) => parts_of_groups(files, maker, form, columns, levels)?,
+        None => {
+            let tally = read_bound_tally(files, maker, form)?;
+            let is_mostly_skipped = tally.numbers() < tally.tally.skipped;
+            let mut parts = Vec::new(alloc);
+            parts.push(part_of_tally(alloc, None, tally, levels)?)?;
+            (parts, is_mostly_skipped)
         }
-    } else {
-        let tally = read_bound_tally(files, maker, form)?;
-        skipped = tally.tally.skipped;
-        numbers = tally.numbers();
-        parts.push(part_of_tally(alloc, None, tally, levels)?)?;
-    }
-    let is_mostly_skipped = numbers < skipped;
+    };
     if is_mostly_skipped {
-        let _ = eprintln!(files.rt; "hdrstat: more lines were skipped than read");
+        let _ = eprintln!(files.rt; "hdrstat: more lines were skipped than counted");
     }
     Ok(Checked {
         parts,
         unit: None,
         is_mostly_skipped,
     })
+}
+
+/// Returns the checks of the numbers of each group, or of no numbers if there is none, and whether
+/// more lines were skipped than counted.
+fn parts_of_groups(
+    files: Files<'_, '_, '_>,
+    maker: BoundRecording<'_>,
+    form: Form<'_, '_>,
+    columns: &[&str],
+    levels: &[Level<'_>],
+) -> Result<(Vec<CheckedPart>, bool), StatError> {
+    let alloc = files.alloc();
+    let groups = read_groups(files, maker, form, columns)?;
+    let skipped = groups.skipped;
+    let GroupParts { texts, sinks, .. } = groups;
+    let mut parts = Vec::new(alloc);
+    let mut numbers = 0u64;
+    for (text, tally) in texts.as_slice().iter().zip(sinks) {
+        numbers = numbers.saturating_add(tally.numbers());
+        let tag = tag_of_group(alloc, text)?;
+        parts.push(part_of_tally(alloc, tag, tally, levels)?)?;
+    }
+    if parts.is_empty() {
+        let none = maker.make(alloc).map_err(|_| StatError::OutOfMemory)?;
+        parts.push(part_of_tally(alloc, None, none, levels)?)?;
+    }
+    Ok((parts, numbers < skipped))
 }
 
 /// Returns the checks of the numbers of a tag.
@@ -194,11 +213,9 @@ fn part_of_tally(
     tally: BoundTally,
     levels: &[Level<'_>],
 ) -> Result<CheckedPart, StatError> {
-    let sum = SampleSum {
-        total: tally.total(),
-        low: tally.sum(),
-        high: tally.sum(),
-    };
+    let (low, high) = tally.sums();
+    let total = tally.total();
+    let sum = SampleSum { total, low, high };
     let checks = checks_of_tally(alloc, &tally, sum, levels)?;
     Ok(CheckedPart {
         tag,
@@ -270,6 +287,8 @@ pub(crate) fn check_logs(
     counts
         .parse_levels(usual)
         .map_err(|cause| files.log_error(cause))?;
+    // Without an interval the levels are compared with no samples.
+    let is_by_tag = is_by_tag && !sums.sums.is_empty();
     let parts = parts_of(alloc, sums, sigfig, is_by_tag)?;
     counts.push_tags(parts.len(), 0)?;
     let mut checked = Vec::new(alloc);

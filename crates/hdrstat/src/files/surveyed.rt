@@ -4,6 +4,7 @@ use crate::errors::StatError;
 use crate::files::begun::BegunInput;
 use crate::files::numbers::{Form, read_input, read_rows_of};
 use crate::files::{Files, or_standard_input};
+use crate::output::print_error_line;
 use hdr_input::distribution::MOST_DECIMALS;
 use hdr_input::pieces::LineSink;
 use hdr_input::rows::RowSink;
@@ -150,9 +151,10 @@ impl<'r, 'l, 'n, 'a, 'b> NumberFiles<'r, 'l, 'n, 'a, 'b> {
         match read {
             Ok(Some(names)) if !self.was_read => {
                 let file = self.files.name(index);
-                let _ = eprintln!(self.files.rt;
+                let line = format!(in self.files.alloc();
                     "hdrstat: {file}: row 1 is taken as names: {names}; --no-header reads it as numbers"
-                );
+                )?;
+                print_error_line(self.files.rt, line.as_str());
                 Ok(())
             }
             Ok(_) => Ok(()),
@@ -167,12 +169,17 @@ impl<'r, 'l, 'n, 'a, 'b> NumberFiles<'r, 'l, 'n, 'a, 'b> {
         if skipped > 0 {
             let _ = eprintln!(rt; "hdrstat: bad lines skipped: {skipped}");
         }
-        if rounded > 0 && !self.recording.has_chosen_decimals {
-            let decimals = self.recording.decimals;
-            let _ = eprintln!(rt;
-                "hdrstat: {rounded} numbers have more than {decimals} decimals, and were rounded"
-            );
+        if rounded == 0 || self.recording.has_chosen_decimals {
+            return;
         }
+        let decimals = self.recording.decimals;
+        let _ = if rounded == 1 {
+            eprintln!(rt; "hdrstat: 1 number has more than {decimals} decimals, and was rounded")
+        } else {
+            eprintln!(rt;
+                "hdrstat: {rounded} numbers have more than {decimals} decimals, and were rounded"
+            )
+        };
     }
 
     /// Surveys all numbers, if some were rounded and the files can be read again. Returns whether

@@ -7,6 +7,9 @@ use std::alloc::Global;
 
 pub(crate) const INPUT: &str = "Input";
 
+/// The help of `--by` where each text has a tag.
+pub(crate) const TAGS_BY: &str = "Tags by the text of a column, or of COLUMN,COLUMN";
+
 const CHOICE: &str = "Choice";
 
 pub(crate) const FIGURES: &str = "Figures";
@@ -62,7 +65,8 @@ pub(crate) fn with_reading<'a>(alloc: Global, command: Command<'a>) -> Result<Co
         .arg(unit(alloc))?
         .arg(skip_bad(alloc))?
         .arg(from)?;
-    let command = with_groups(alloc, command)?;
+    let by_help = "Figures by the text of a column, or of COLUMN,COLUMN";
+    let command = with_groups(alloc, command, by_help)?;
     let (tag, from_time, to_time) = choice(alloc);
     let help = "Figures of each tag of a log";
     let command = command
@@ -109,6 +113,23 @@ pub(crate) fn skip_bad<'a>(alloc: Global) -> Arg<'a> {
 
 /// Adds the options of what the input is: a table, lines of JSON, or lines that match.
 pub(crate) fn with_forms<'a>(alloc: Global, command: Command<'a>) -> Result<Command<'a>, Error> {
+    let help = "Read the group of lines that match, such as 'time=([0-9.]+)'";
+    let regex = option(alloc, "match", "REGEX", help)
+        .conflicts_with("column")?
+        .conflicts_with("json")?
+        .help_heading(INPUT);
+    let command = with_columns(alloc, command)?.arg(regex)?;
+    with_layout(alloc, command)
+}
+
+/// Adds the options of rows: of a table, or of lines of JSON.
+pub(crate) fn with_rows<'a>(alloc: Global, command: Command<'a>) -> Result<Command<'a>, Error> {
+    let command = with_columns(alloc, command)?;
+    with_layout(alloc, command)
+}
+
+/// Adds the options of the column of numbers.
+fn with_columns<'a>(alloc: Global, command: Command<'a>) -> Result<Command<'a>, Error> {
     let help = "Read a column of a table: its name, or its number from 1";
     let column = option(alloc, "column", "COLUMN", help)
         .short('c')
@@ -119,11 +140,12 @@ pub(crate) fn with_forms<'a>(alloc: Global, command: Command<'a>) -> Result<Comm
         .conflicts_with("column")?
         .value_parser(ValueParser::NonEmptyString)
         .help_heading(INPUT);
-    let help = "Read the group of lines that match, such as 'time=([0-9.]+)'";
-    let regex = option(alloc, "match", "REGEX", help)
-        .conflicts_with("column")?
-        .conflicts_with("json")?
-        .help_heading(INPUT);
+    let command = command.arg(column)?.arg(json)?;
+    Ok(command)
+}
+
+/// Adds the options of how rows are laid out.
+fn with_layout<'a>(alloc: Global, command: Command<'a>) -> Result<Command<'a>, Error> {
     let help = "Column of how often a number counts, as of uniq -c [default: once]";
     let count = option(alloc, "count", "COLUMN", help)
         .value_parser(ValueParser::NonEmptyString)
@@ -136,19 +158,21 @@ pub(crate) fn with_forms<'a>(alloc: Global, command: Command<'a>) -> Result<Comm
     let no_header = flag(alloc, "no-header", help)
         .requires_arg("column")?
         .help_heading(INPUT);
-    let command = command.arg(column)?.arg(json)?.arg(regex)?;
     let command = command.arg(count)?.arg(delimiter)?.arg(no_header)?;
     Ok(command)
 }
 
 /// Adds the options of the rows that are read, and of their groups.
-pub(crate) fn with_groups<'a>(alloc: Global, command: Command<'a>) -> Result<Command<'a>, Error> {
+pub(crate) fn with_groups<'a>(
+    alloc: Global,
+    command: Command<'a>,
+    by_help: &'a str,
+) -> Result<Command<'a>, Error> {
     let help = "Only rows that have a text, as COLUMN=TEXT; may be repeated";
     let conditions = option(alloc, "where", "CONDITION", help)
         .action(ArgAction::Append)
         .help_heading(CHOICE);
-    let help = "Figures by the text of a column, or of COLUMN,COLUMN";
-    let by = option(alloc, "by", "COLUMNS", help)
+    let by = option(alloc, "by", "COLUMNS", by_help)
         .action(ArgAction::Append)
         .value_delimiter(',')
         .value_parser(ValueParser::NonEmptyString)

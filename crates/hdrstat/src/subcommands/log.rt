@@ -5,7 +5,8 @@ use crate::files::Files;
 use crate::files::numbers::read_numbers;
 use crate::files::timed::{log_of_intervals, log_of_numbers, read_intervals_of};
 use crate::options::arguments::{
-    files, option, quiet, skip_bad, unit, with_forms, with_groups, with_recording, with_times,
+    TAGS_BY, files, option, quiet, skip_bad, unit, with_forms, with_groups, with_recording,
+    with_times,
 };
 use crate::options::forms::{conditions_of, cut_of, form_of, groups_by};
 use crate::options::matches::{recording_of, tag_of, unit_of};
@@ -38,7 +39,7 @@ pub(crate) fn command<'a>(alloc: Global) -> Result<Command<'a>, Error> {
         .arg(unit(alloc))?
         .arg(skip_bad(alloc))?;
     let command = with_times(alloc, command)?;
-    let command = with_groups(alloc, command)?;
+    let command = with_groups(alloc, command, TAGS_BY)?;
     with_recording(alloc, command)
 }
 

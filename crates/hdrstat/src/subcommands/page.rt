@@ -8,7 +8,7 @@ use crate::files::logs::read_intervals;
 use crate::files::numbers::Form;
 use crate::files::timed::{log_of_intervals, read_intervals_of};
 use crate::options::arguments::{
-    flag, option, skip_bad, tag_by_file, with_choice, with_forms, with_groups, with_times,
+    TAGS_BY, flag, option, skip_bad, tag_by_file, with_choice, with_groups, with_rows, with_times,
 };
 use crate::options::forms::{conditions_of, cut_of, form_of, groups_by};
 use crate::options::matches::{choice_of, file_names_of, unit_of};
@@ -18,7 +18,7 @@ use hdr_input::distribution::MOST_DECIMALS;
 use hdr_input::{Number, Recording};
 use hdr_logs::{LogError, LogIntervals};
 use hdr_page::{PageLevel, PageOptions, page, page_text, rows};
-use hdr_summary::levels::{Level, Measure, parse_level_in};
+use hdr_summary::levels::{Level, Measure, Side, parse_level_in};
 use hdr_summary::units::Unit;
 use std::alloc::{AllocError, Global};
 use std::process::ExitCode;
@@ -26,8 +26,8 @@ use std::process::ExitCode;
 const AFTER: &str = "\
 The page begins with a sentence on all samples, and with what was slow or missing: when, for how
 long, of which tags, and how bad. A table has a row for each tag. Drawings show the percentiles
-over time, all percentiles, and a heat map of each of the ten tags with the most samples. The page
-has no script, and needs no other file.
+over time, all percentiles, and a heat map of each of ten tags: those of slow times first, then
+those with the most samples. The page has no script, and needs no other file.
 
 A time is slow if p50, p90, p99 or p99.9 of a tag is far above its usual value, and samples are
 missing below half of the usual rate. The page says what far is, and which tags and percentiles
@@ -84,9 +84,9 @@ fn with_content<'a>(alloc: Global, command: Command<'a>) -> Result<Command<'a>, 
     let command = command.arg(unit)?.arg(title)?.arg(level)?;
     let command = command.arg(tag_by_file(alloc))?.arg(align)?;
     let command = with_choice(alloc, command)?;
-    let command = with_forms(alloc, command)?.arg(skip_bad(alloc))?;
+    let command = with_rows(alloc, command)?.arg(skip_bad(alloc))?;
     let command = with_times(alloc, command)?;
-    with_groups(alloc, command)
+    with_groups(alloc, command, TAGS_BY)
 }
 
 /// Writes a page of logs, or a row for each of their intervals.
@@ -104,7 +104,7 @@ pub(crate) fn run(rt: &HostRuntime, matches: &ArgMatches<'_>) -> Result<ExitCode
     let intervals = intervals_of(files, matches)?;
     let levels = levels_of(alloc, matches, intervals.unit(), asked)?;
     let decimals = intervals.decimals().unwrap_or(0).min(MOST_DECIMALS);
-    let (levels, amounts) = page_levels(alloc, &levels, decimals)?;
+    let (levels, amounts) = page_levels(alloc, &levels, decimals, asked.or(intervals.unit()))?;
     let options = PageOptions {
         title: matches.get_str("title").unwrap_or("Interval log"),
         unit: asked,
@@ -148,6 +148,10 @@ fn intervals_of_logs(
     files: Files<'_, '_, '_>,
     matches: &ArgMatches<'_>,
 ) -> Result<LogIntervals, StatError> {
+    if matches.get_flag("skip-bad") {
+        let why = "needs --column or --json";
+        return Err(StatError::usage(files.alloc(), "--skip-bad", why));
+    }
     let choice = choice_of(files.alloc(), matches)?;
     let names = file_names_of(files.alloc(), matches, files.names)?;
     read_intervals(files, choice, &names, matches.get_flag("align"))
@@ -189,8 +193,8 @@ fn check_rows_of_page(alloc: Global, matches: &ArgMatches<'_>) -> Result<(), Sta
         let why = "is needed for a page of rows: the column of their times";
         return Err(StatError::usage(alloc, "--time", why));
     }
-    for option in ["tag-by-file", "align"] {
-        if matches.get_flag(option) {
+    for option in ["--tag-by-file", "--align"] {
+        if matches.get_flag(option.trim_start_matches('-')) {
             return Err(StatError::usage(alloc, option, "is an option of logs alone"));
         }
     }
@@ -242,11 +246,13 @@ fn bad_level(alloc: Global, text: &str) -> StatError {
 }
 
 /// Returns the levels of a page of values of these decimals, in order, and the amount of each as it
-/// is written, unless it is an integer of the values. Equal levels come once.
+/// is written, unless values may be up to it and it is an integer of the values. An amount without a
+/// unit is in `usual`. Equal levels come once.
 fn page_levels(
     alloc: Global,
     levels: &[Level<'_>],
     decimals: u32,
+    usual: Option<Unit>,
 ) -> Result<(Vec<PageLevel>, Vec<Option<String>>), AllocError>
     requires { decimals ≤ 18 }
 {
@@ -259,15 +265,33 @@ fn page_levels(
         if all.iter().any(|other: &PageLevel| other.is(level)) {
             continue;
         }
-        let amount = if written.is_whole(decimals) {
+        let is_at_most = matches!(written.side, Side::AtMost);
+        let amount = if is_at_most && written.is_whole(decimals) {
             None
         } else {
-            Some(String::from_str(alloc, written.amount())?)
+            Some(amount_of(alloc, written, usual)?)
         };
         amounts.push(amount).map_err(|_| AllocError)?;
         all.push(level).map_err(|_| AllocError)?;
     }
     Ok((all, amounts))
+}
+
+/// Returns the amount of a level as it is written, and `usual` if it has no unit. Values have to be
+/// below it if the sign of the level is `<`.
+fn amount_of(alloc: Global, level: &Level<'_>, usual: Option<Unit>) -> Result<String, AllocError> {
+    let mut text = String::new(alloc);
+    if matches!(level.side, Side::Below) {
+        text.push_str("below ")?;
+    }
+    text.push_str(level.amount())?;
+    let last = level.amount().as_bytes().last();
+    let has_unit = last.is_some_and(|byte| byte.is_ascii_alphabetic());
+    if let (false, Some(unit)) = (has_unit, usual) {
+        text.push(' ')?;
+        text.push_str(unit.name())?;
+    }
+    Ok(text)
 }
 
 /// Returns the level of a page of values of these decimals: the greatest value that the level

@@ -3,7 +3,7 @@ use Rattle.std.specs.List.{All}
 use Rattle.std.proofs.lemmas.List.{map_push, take_more}
 use Rattle.std.proofs.lemmas.List.Elements.{All-push}
 use Rattle.hdr_figures.specs.Figures.{value_at}
-use Rattle.hdr_figures.specs.Widths.{IsHighest}
+use Rattle.hdr_figures.specs.Widths.{IsWithClass}
 use Rattle.hdr_figures.specs.declared.level.LevelValue.{LevelValue}
 use Rattle.hdr_figures.specs.declared.level.PageLevel.{PageLevel}
 use Rattle.hdr_figures.proofs.sum.Sum.at_levels.Goals as goal
@@ -15,7 +15,7 @@ pub loop-level-preserved : goal.loop-level-preserved
 loop-level-preserved c =
     let h = c.args.self.now.histogram in
     let f : PageLevel → ℕ = λ level. value_at h level.num level.den in
-    let fits : LevelValue → Type 0 = λ at. IsHighest c.args.self.now.width at.value at.highest in
+    let fits : LevelValue → Type 0 = IsWithClass c.args.self.now.width in
     let before = c.loop-level.invariant in
     let i = c.loop-level.level-index in
     let levels = c.args.levels.now in
@@ -26,5 +26,5 @@ loop-level-preserved c =
     record {
       values = ap (map value_of) c.in_ok-push.ensures.items ∙ map_push value_of old at ∙ ap (λ l. l ++ value_of at ∷ []) before.values
           ∙ ap (λ v. map f (take i levels) ++ v ∷ []) c.at_level.ensures.value ∙ sym (map_push f (take i levels) level) ∙ ap (map f) (sym front);
-      highest = subst (All fits) (sym c.in_ok-push.ensures.items) (All-push fits old at before.highest c.at_level.ensures.highest);
+      class = subst (All fits) (sym c.in_ok-push.ensures.items) (All-push fits old at before.class c.at_level.ensures.class);
     }

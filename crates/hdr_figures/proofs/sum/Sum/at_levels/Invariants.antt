@@ -1,7 +1,7 @@
 use Rattle.std.proofs.Common.{◌≡◌, map, take}
 use Rattle.std.specs.List.{All}
 use Rattle.hdr_figures.specs.Figures.{value_at}
-use Rattle.hdr_figures.specs.Widths.{IsHighest}
+use Rattle.hdr_figures.specs.Widths.{IsWithClass}
 use Rattle.hdr_figures.specs.declared.level.LevelValue.{LevelValue}
 use Rattle.hdr_figures.specs.declared.level.PageLevel.{PageLevel}
 use Rattle.hdr_figures.proofs.sum.Sum.at_levels.Given as goal
@@ -9,5 +9,5 @@ use Rattle.hdr_figures.proofs.sum.Sum.at_levels.Given as goal
 abbrev pub invariant-loop-level : goal.invariant-loop-level
 invariant-loop-level l = record {
   values : map (λ (at : LevelValue). at.value) l.all.items ≡ map (λ (level : PageLevel). value_at l.self.histogram level.num level.den) (take l.level-index l.levels);
-  highest : All (λ (at : LevelValue). IsHighest l.self.width at.value at.highest) l.all.items;
+  class : All (IsWithClass l.self.width) l.all.items;
 }

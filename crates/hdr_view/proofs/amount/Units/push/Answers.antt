@@ -1,16 +1,17 @@
 use Rattle.std.proofs.Common.{◌+◌, ◌*◌, ◌^◌, ◌<◌, ◌≤◌, string_bytes, arith}
-use Rattle.std.proofs.Math.Nat.{one-le-pow, mul-le-mul_left}
+use Rattle.std.proofs.Math.Nat.{one-le-pow, mul-le-mul_left, mul-pos}
 use Rattle.hdr_view.proofs.Amounts.{value_text}
 use Rattle.hdr_view.proofs.amount.Units.push.Goals as goal
 
 pub returns : goal.returns
 returns c =
-    let i = rw c.in_unit.ensures at c.amount-amount.ensures in
-    let a = c.amount-amount.result in
+    let i = c.amount_of-amount.ensures in
+    let a = c.amount_of-amount.result in
     let p : 1 ≤ 1000 ^ i.power = one-le-pow i.power 1000 (omega arith) in
-    let d : 0 < a.den = omega (arith, i.parts, p) in
+    let q : 1 ≤ 10 ^ c.args.self.decimals = one-le-pow c.args.self.decimals 10 (omega arith) in
+    let d : 0 < a.den = omega (arith, i.parts, mul-pos (omega (arith, q)) (omega (arith, p))) in
     let most = mul-le-mul_left c.args.value c.args.self.few in
     let f : a.num * 10 ^ 9 + 1 < 2 ^ 128 = omega (arith, i.same, c.ranges.value.fits, most) in
     let n = c.in_ok-push_number.ensures d f in
-    value_text c.push_unit.result c.args.self.unit a.unit (c.args.value * c.args.self.times) a.num a.den n.0
+    value_text c.push_unit.result c.args.self.unit a.unit (c.args.value * c.args.self.times) (10 ^ c.args.self.decimals) a.num a.den n.0
     (string_bytes c.args.text.now) (string_bytes c.push_number.new.text) (string_bytes c.push_unit.new.text) i n.1 n.2 c.push_unit.ensures

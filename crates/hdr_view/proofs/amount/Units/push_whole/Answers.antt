@@ -1,7 +1,7 @@
 use Rattle.std.proofs.Common.{◌≡◌, ◌*◌, ◌++◌, ℕ, List, None, OnOk, string_bytes, sym, subst, ap, ◌∙◌, arith}
 use Rattle.hdr_view.specs.Amounts.{IsLabel}
 use Rattle.hdr_view.proofs.Amounts.{plain_label}
-use Rattle.hdr_view.proofs.amount.Units.push_label.Goals as goal
+use Rattle.hdr_view.proofs.amount.Units.push_whole.Goals as goal
 
 pub returns-in-None : goal.returns-in-None
 returns-in-None c = λ fits.
