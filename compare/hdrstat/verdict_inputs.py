@@ -44,12 +44,12 @@ def figures_of(name, histograms, level):
         num, den, _ = level
         sigfig, low = width_of([*histograms, Samples(SIGFIG)])
         figures.at_level = total.at(den - num, den)
-        figures.highest_at_level = class_of(figures.at_level, sigfig, low)[1]
+        figures.lowest_at_level, figures.highest_at_level = class_of(figures.at_level, sigfig, low)
     return figures
 
 
-def page_of(logs, unit=None, level=None):
-    """The page of logs, by their names; a level is a tail and the greatest value that it allows."""
+def page_of(logs, unit=None, level=None, amount=None):
+    """The page of logs, by their names; a level is a tail and the greatest value that it allows, and may have an amount as it is written."""
     tags, coarser, read = {}, 0, read_first(logs, {}, {})
     for name, it in read:
         samples = it.samples(name)
@@ -63,7 +63,7 @@ def page_of(logs, unit=None, level=None):
         intervals.append([interval_of(it, samples, *width) for it, samples in tags[tag.name]])
     first, last = min(it.start for own in intervals for it in own), max(it.end for own in intervals for it in own)
     unit = None if unit is None else UNIT_NAMES.index(unit)
-    return Page(figures, verdict_of(intervals, level), Clock(min(first, last), last), unit, level, coarser, len(read))
+    return Page(figures, verdict_of(intervals, level), Clock(min(first, last), last), unit, level, amount, coarser, len(read))
 
 
 class Begins:
@@ -190,6 +190,13 @@ def page_level(text, unit):
     return share.numerator, share.denominator, LogTally(None, 0).greatest_within(level)
 
 
+def amount_of(text, unit):
+    """The amount of a level as it is written, if values have to be below it."""
+    sign, amount = re.search("(<=?)(.*)", text).groups()
+    has_unit = not amount[-1].isdigit()
+    return None if sign == "<=" else f"below {amount}" + (f" {unit}" if unit and not has_unit else "")
+
+
 def level_text(random, unit, usual):
     name, times = random.choice(["p50", "p90", "p99", "p99.9", "p75", "p100"]), random.choice([100, random.randint(95, 300)])
     value = random.choice([2, 1000, 1_000_000, *[max(2, usual * times // 100)] * 6])
@@ -201,9 +208,9 @@ def verdict_case(random):
     """A case of page --text: the lines of what was slow or missing."""
     log, usual = random_log(random)
     logs, unit = {"standard input": log}, random.choice([None, None, *UNITS])
-    arguments, level = ["page", "--text", *(["--unit", unit] if unit else [])], None
+    arguments, level, amount = ["page", "--text", *(["--unit", unit] if unit else [])], None, None
     if random.random() < 0.4:
         text = level_text(random, unit, usual)
-        level = page_level(text, unit)
+        level, amount = page_level(text, unit), amount_of(text, unit)
         arguments += ["--level", text]
-    return case_of(arguments, logs, (Begins(page_of(logs, unit, level).text().encode()), b"", 0))
+    return case_of(arguments, logs, (Begins(page_of(logs, unit, level, amount).text().encode()), b"", 0))

@@ -166,7 +166,7 @@ def alike_ones(incidents):
 
 
 def named_lines(incidents):
-    """The lines of incidents in order of time, how many have none, and whether these are lighter than those with one."""
+    """The lines of incidents in order of time, how many incidents have none, and whether these are lighter than those with one."""
     groups = [Line(alike[0], sorted(alike, key=lambda at: start_of(incidents[at]))) for alike in alike_ones(incidents)]
     grouped = {at for it in groups for at in it.all}
     lines = groups + [Line(at, [at]) for at in range(len(incidents)) if at not in grouped]
@@ -178,7 +178,7 @@ def named_lines(incidents):
     lines.sort(key=order)
     named, others = lines[:NAMED], lines[NAMED:]
     are_lighter = all(it.heaviest > max(one.heaviest for one in named) for it in others)
-    return sorted(named, key=lambda it: start_of(incidents[it.heaviest])), len(others), are_lighter
+    return sorted(named, key=lambda it: start_of(incidents[it.heaviest])), sum(len(it.all) for it in others), are_lighter
 
 
 # The lines of a page
@@ -192,6 +192,7 @@ class TagFigures:
     samples: int
     greatest: int
     at_level: int = 0
+    lowest_at_level: int = 0
     highest_at_level: int = 0
 
 
@@ -204,6 +205,7 @@ class Page:
     clock: Clock
     unit: int
     level: tuple = None
+    amount: str = None
     coarser: int = 0
     intervals: int = 0
 
@@ -238,8 +240,8 @@ class Page:
         text = "slow" + times_text(len(slow))
         if len(slow) > 1:
             text += self.where("stalled in", self.indices(lambda it: it.has_stall())) or self.where("heaviest", slow)
-        lasting = [self.verdict.incidents[at] for at in slow if self.verdict.incidents[at].lasts()]
-        return text + (f", still at the end: {self.tag_names(lasting[0].tags())}" if lasting else "")
+        lasting = [tag for at in slow if self.verdict.incidents[at].lasts() for tag in self.verdict.incidents[at].tags()]
+        return text + (f", still at the end: {self.tag_names(list(dict.fromkeys(lasting)))}" if lasting else "")
 
     def missing_text(self):
         missing, gaps = self.indices(lambda it: not it.heaviest.is_slow()), self.indices(lambda it: it.heaviest.kind == "gap")
@@ -255,20 +257,22 @@ class Page:
     def over_text(self, at):
         """A tag over the level, or one that may be, and when it was."""
         tag = self.tags[at]
-        if tag.at_level <= self.level[2]:
+        if tag.lowest_at_level <= self.level[2]:
             return f"; {self.tag(at)} may be over: the class of its value ends at {label(tag.highest_at_level, self.unit)}"
-        spans = self.verdict.tags[at].over[:MOST_TIMES]
-        times = " and ".join(f"{self.clock.text(start)} for {length_text(end - start)}" for start, end in spans)
+        spans = self.verdict.tags[at].over
+        times = " and ".join(f"{self.clock.text(start)} for {length_text(end - start)}" for start, end in spans[:MOST_TIMES])
+        more = len(spans) - MOST_TIMES
+        times += f" and {counted(more, 'more time')}" if more > 0 else ""
         return f"; {self.tag(at)} {self.value(tag.at_level)}" + (f", broken from {times}" if times else "")
 
     def level_text(self):
         if not self.level:
             return ""
         num, den, value = self.level
-        others = [at for at, it in enumerate(self.tags) if it.highest_at_level > value or it.at_level > value]
+        others = [at for at, it in enumerate(self.tags) if it.highest_at_level > value]
         others.sort(key=lambda at: (-self.tags[at].at_level, at))
         percent = decimal_text(round(Fraction(den - num, den) * 10**10), 8).rstrip("0").rstrip(".")
-        text = f" {len(self.tags) - len(others):,} of {counted(len(self.tags), 'tag')} within p{percent} {label(value, self.unit)}"
+        text = f" {len(self.tags) - len(others):,} of {counted(len(self.tags), 'tag')} within p{percent} {self.amount or label(value, self.unit)}"
         more = len(others) - MOST_OVER
         return text + "".join(map(self.over_text, others[:MOST_OVER])) + (f"; and {more} more" if more > 0 else "") + "."
 

@@ -179,7 +179,10 @@ impl Naming {
     pub fn new(alloc: Global, incidents: &[Incident]) -> Result<Naming, AllocError> {
         let mut named = lines_of(alloc, incidents)?;
         named.sort_by_key(|line: &NamedIncidents| (!comes_first(incidents, line), line.heaviest))?;
-        let others = named.len().saturating_sub(NAMED);
+        let mut others = 0usize;
+        for line in named.iter().skip(NAMED) {
+            others = others.saturating_add(line.all.len());
+        }
         let lightest = named.iter().take(NAMED).map(|line| line.heaviest).max();
         let are_lighter = named
             .iter()

@@ -2,7 +2,7 @@
 
 use crate::clock::push_length;
 use crate::name::{IN_SLOW_TIME, IN_TITLE};
-use crate::naming::{is_slow, tags_of};
+use crate::naming::{is_slow, push, tags_of};
 use crate::view::View;
 use hdr_draw::number::push_grouped;
 use hdr_verdict::{EpisodeKind, Incident};
@@ -92,14 +92,27 @@ impl View<'_> {
                 None => self.push_heaviest(text, Sort::Slow)?,
             }
         }
+        let lasting = self.lasting_tags()?;
+        if lasting.is_empty() {
+            return Ok(());
+        }
+        text.push_str(", still at the end: ")?;
+        self.push_tags(text, &lasting)
+    }
+
+    /// Returns the tags of the incidents that were slow up to the end, those of the heaviest first.
+    fn lasting_tags(&self) -> Result<Vec<usize>, AllocError> {
+        let mut tags = Vec::new(self.alloc);
         for incident in &self.verdict.incidents {
             if is_slow(incident) && incident.has_lasting() {
-                text.push_str(", still at the end: ")?;
-                let tags = tags_of(self.alloc, incident)?;
-                return self.push_tags(text, &tags);
+                for tag in tags_of(self.alloc, incident)? {
+                    if !tags.contains(&tag) {
+                        push(&mut tags, tag)?;
+                    }
+                }
             }
         }
-        Ok(())
+        Ok(tags)
     }
 
     /// Appends how often samples were missing, and when most.

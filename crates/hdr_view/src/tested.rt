@@ -200,7 +200,11 @@ impl View<'_> {
             text.push_str(" for ")?;
             push_length(text, span.end.saturating_sub(span.start))?;
         }
-        Ok(())
+        match over.len().saturating_sub(MOST_TIMES) {
+            0 => Ok(()),
+            1 => text.push_str(" and 1 more time"),
+            more => write!(text, " and {more} more times"),
+        }
     }
 }
 
