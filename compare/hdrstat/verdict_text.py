@@ -87,7 +87,8 @@ def counted(count, what):
 
 
 def rate_text(rate):
-    return f"{rate.samples * 1000 // rate.time:,}"
+    exact = Fraction(rate.samples * 1000, rate.time)
+    return decimal(exact, True) if exact < 10 else f"{int(exact):,}"
 
 
 def civil(time):

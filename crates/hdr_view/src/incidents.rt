@@ -3,7 +3,7 @@
 use crate::clock::{TimeStyle, push_length};
 use crate::naming::{LETTERS, NamedIncidents, tags_of};
 use crate::view::{PageForm, View};
-use hdr_draw::number::push_grouped;
+use hdr_draw::number::{Decimal, push_grouped};
 use hdr_verdict::{Episode, EpisodeKind, Incident, Rate, RateChange, Rise, Tail};
 use std::alloc::AllocError;
 
@@ -224,9 +224,15 @@ fn push_ratio(text: &mut String, value: u64, usual: u64) -> Result<(), AllocErro
     text.push_str(" times)")
 }
 
-/// Appends a rate in samples a second, rounded down.
+/// Appends a rate in samples a second: three significant digits below 10, and from there on rounded
+/// down.
 fn push_rate(text: &mut String, rate: Rate) -> Result<(), AllocError> {
-    let samples = u128::from(rate.samples).saturating_mul(1_000) / u128::from(rate.time.max(1));
+    let samples = u128::from(rate.samples).saturating_mul(1_000);
+    let time = u128::from(rate.time.max(1));
+    if samples < 10 * time {
+        return Decimal::of_fraction(samples, time).trimmed().push(text);
+    }
+    let samples = samples / time;
     push_grouped(text, u64::try_from(samples).unwrap_or(u64::MAX))
 }
 
