@@ -14,6 +14,7 @@ _hdrstat() {
     "summary -c" | "summary --column") values=' ' ;;
     "summary --json") values=' ' ;;
     "summary --match") values=' ' ;;
+    "summary --count") values=' ' ;;
     "summary --delimiter") values=' ' ;;
     "summary --unit") values='ns us ms s' ;;
     "summary --from") values='numbers log' ;;
@@ -31,6 +32,7 @@ _hdrstat() {
     "check -c" | "check --column") values=' ' ;;
     "check --json") values=' ' ;;
     "check --match") values=' ' ;;
+    "check --count") values=' ' ;;
     "check --delimiter") values=' ' ;;
     "check --unit") values='ns us ms s' ;;
     "check --from") values='numbers log' ;;
@@ -46,6 +48,7 @@ _hdrstat() {
     "log -c" | "log --column") values=' ' ;;
     "log --json") values=' ' ;;
     "log --match") values=' ' ;;
+    "log --count") values=' ' ;;
     "log --delimiter") values=' ' ;;
     "log --unit") values='ns us ms s' ;;
     "log --time") values=' ' ;;
@@ -71,19 +74,19 @@ _hdrstat() {
     "page --to-time") values=' ' ;;
     "page -c" | "page --column") values=' ' ;;
     "page --json") values=' ' ;;
-    "page --match") values=' ' ;;
+    "page --count") values=' ' ;;
     "page --delimiter") values=' ' ;;
     "page --time") values=' ' ;;
     "page --time-unit") values='ns us ms s' ;;
     "page --every") values=' ' ;;
     "page --where") values=' ' ;;
     "page --by") values=' ' ;;
-    "summary "?*) options='-c --column --json --match --delimiter --no-header --unit --skip-bad --from --where --by --by-tag --tag --from-time --to-time -d --digits --decimals --expected-interval -p --percentiles -f --format --output-unit -q --quiet -h --help' ;;
-    "check "?*) options='-i --input --allow-empty -c --column --json --match --delimiter --no-header --unit --skip-bad --from --where --by --by-tag --tag --from-time --to-time -d --digits --decimals --expected-interval -q --quiet -h --help' ;;
-    "log "?*) options='--tag -q --quiet -h --help -c --column --json --match --delimiter --no-header --unit --skip-bad --time --time-unit --every --where --by -d --digits --decimals --expected-interval' ;;
+    "summary "?*) options='-c --column --json --match --count --delimiter --no-header --unit --skip-bad --from --where --by --by-tag --tag --from-time --to-time -d --digits --decimals --expected-interval -p --percentiles -f --format --output-unit -q --quiet -h --help' ;;
+    "check "?*) options='-i --input --allow-empty -c --column --json --match --count --delimiter --no-header --unit --skip-bad --from --where --by --by-tag --tag --from-time --to-time -d --digits --decimals --expected-interval -q --quiet -h --help' ;;
+    "log "?*) options='--tag -q --quiet -h --help -c --column --json --match --count --delimiter --no-header --unit --skip-bad --time --time-unit --every --where --by -d --digits --decimals --expected-interval' ;;
     "gather "?*) options='--unsorted --tag-by-file -q --quiet --tag --from-time --to-time -h --help' ;;
     "convert "?*) options='--to -q --quiet --tag --from-time --to-time -h --help' ;;
-    "page "?*) options='--unit --title --level --tag-by-file --align --tag --from-time --to-time -o --output --text --intervals -h --help -c --column --json --match --delimiter --no-header --skip-bad --time --time-unit --every --where --by' ;;
+    "page "?*) options='--unit --title --level --tag-by-file --align --tag --from-time --to-time -o --output --text --intervals -h --help -c --column --json --count --delimiter --no-header --skip-bad --time --time-unit --every --where --by' ;;
     "help "?*) values='summary check log gather convert page' ;;
     *) values='summary check log gather convert page help --help --version' ;;
     esac

@@ -1,4 +1,4 @@
-# Values are in units of the last decimal without a unit, and with one in it. Logs of other decimals are an error.
+# Values are shown with their decimals, with a unit or without one. Logs of other decimals are an error.
 room=$(mktemp -d)
 trap 'rm -rf "$room"' EXIT
 cd "$room"
