@@ -343,7 +343,7 @@ class Page:
         text = ", ".join(whole) + (f" of all {tags} tags" if whole and tags > 1 else "")
         text = "; ".join([*([text] if text else []), *part]) or "nothing"
         if all(it.cells < FEWEST_BLOCKS for it in self.verdict.tags):
-            return f"Tested: {text}; nothing can be usual in below {FEWEST_BLOCKS} intervals. "
+            return f"Tested: {text}; nothing can be usual in fewer than {FEWEST_BLOCKS} intervals. "
         return f"Tested: {text}" + (f". Too few samples for {', '.join(none)}" if none else "") + ". "
 
     def rule_text(self):

@@ -19,12 +19,22 @@ pub enum GroupError {
 }
 
 impl From<AllocError> for GroupError {
+    ghost use Rattle.std.specs.Prelude.{◌≡◌};
+    ghost use Rattle.hdr_input.specs.declared.group_texts.GroupError.TheVariants.{OutOfMemory};
+
+    ghost from_gives = { λ _ error. error ≡ OutOfMemory };
+
     fn from(_error: AllocError) -> GroupError {
         GroupError::OutOfMemory
     }
 }
 
 impl<T: Drop> From<AllocFailed<T>> for GroupError {
+    ghost use Rattle.std.specs.Prelude.{◌≡◌};
+    ghost use Rattle.hdr_input.specs.declared.group_texts.GroupError.TheVariants.{OutOfMemory};
+
+    ghost from_gives = { λ _ error. error ≡ OutOfMemory };
+
     fn from(_error: AllocFailed<T>) -> GroupError {
         GroupError::OutOfMemory
     }

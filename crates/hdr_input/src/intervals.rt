@@ -148,7 +148,7 @@ impl<'l, 'n> Intervals<'l, 'n> {
     }
 }
 
-/// Returns why a row of this place has no time.
+/// Returns why a row has no time: a line of JSON, or a row of a table.
 fn without_time(place: InputPlace) -> Cause {
     match place {
         InputPlace::Line(_) => Cause::NoTime,

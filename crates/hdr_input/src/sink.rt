@@ -44,17 +44,3 @@ pub(crate) trait NumberSink {
     /// What follows is taken after.
     ghost takes_more: { (a b c : Self) → takes a b → takes b c → takes a c };
 }
-
-/// Passes a number to a sink as often as `times`.
-pub(crate) fn record_each<S: NumberSink>(
-    sink: &mut S,
-    number: Wide,
-    times: u64,
-) -> Result<(), Cause>
-    ensures { S.takes sink.old sink.new }
-{
-    for _ in 0..times {
-        sink.record_wide(number)?;
-    }
-    Ok(())
-}

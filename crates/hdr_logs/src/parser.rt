@@ -130,16 +130,32 @@ fn entry_of(alloc: Global, line: &[u8], place: Place) -> Result<Option<LogEntry<
         return Err(LogError::Gzip(place));
     }
     if !is_ended(line) {
+        if !may_begin_line(line) {
+            return Err(not_a_line(alloc, line, place));
+        }
         let interval = unended_interval(alloc, line)?;
         return Ok(interval.map(LogEntry::Interval));
     }
     match IntervalLogIterator::new(line).next() {
         None => Ok(None),
         Some(Ok(entry)) => Ok(Some(entry)),
-        Some(Err(_)) => {
-            let text = excerpt(alloc, line.trim_ascii())?;
-            Err(LogError::NotALine { place, text })
-        }
+        Some(Err(_)) => Err(not_a_line(alloc, line, place)),
+    }
+}
+
+/// Whether a line of a log may begin so: with a digit, a tag, a comment or the names of its fields.
+fn may_begin_line(line: &[u8]) -> bool {
+    matches!(
+        line.trim_ascii_start(),
+        [b'0'..=b'9' | b'.' | b'T' | b'#' | b'"', ..]
+    )
+}
+
+/// Returns the error of a line that is not one of a log.
+fn not_a_line(alloc: Global, line: &[u8], place: Place) -> LogError {
+    match excerpt(alloc, line.trim_ascii()) {
+        Ok(text) => LogError::NotALine { place, text },
+        Err(_) => LogError::OutOfMemory,
     }
 }
 

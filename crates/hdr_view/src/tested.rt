@@ -67,7 +67,7 @@ impl View<'_> {
         if self.verdict.tags.iter().all(is_short) {
             write!(
                 text,
-                "; nothing can be usual in below {FEWEST_BLOCKS} intervals"
+                "; nothing can be usual in fewer than {FEWEST_BLOCKS} intervals"
             )?;
         } else if !untested.is_empty() {
             text.push_str(". Too few samples for ")?;

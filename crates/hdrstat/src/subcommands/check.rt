@@ -24,7 +24,8 @@ const AFTER: &str = "\
 A level is a figure (count, min, max, mean, or a percentile such as p99), a sign (<, <=, > or
 >=) and a number. Each is printed on a line, with the value of its figure:
   kept, broken  the sample of the percentile's rank is on the side of the level, or is not
-  undecided     a log only has the class of that sample, which has values on both sides
+  undecided     a log only has the class of that sample, which has values on both sides, or
+                numbers were rounded, and their mean is on either side
   few           too few samples, all of them on the side where so few are likely to be
 
 Numbers are compared as they were read, and with levels as they are written.
@@ -35,7 +36,7 @@ Examples:
   hdrstat check 'p99.9<=5000' --from log --by-tag -i service.log
 
 Status: 0 if each level is kept; 3 if one is broken, or if there are no numbers; 4 if none is
-broken, but one is undecided or few, or more lines were skipped than read; 1 if the input is
+broken, but one is undecided or few, or more lines were skipped than counted; 1 if the input is
 invalid, or input or output fails; 2 for a usage error.";
 
 /// Returns the command line of `hdrstat check`.

@@ -26,7 +26,7 @@ use std::process::ExitCode;
 const AFTER: &str = "\
 The page begins with a sentence on all samples, and with what was slow or missing: when, for how
 long, of which tags, and how bad. A table has a row for each tag. Drawings show the percentiles
-over time, all percentiles, and a heat map of each of ten tags: those of slow times first, then
+over time, all percentiles, and a heat map of each of ten tags: those of incidents first, then
 those with the most samples. The page has no script, and needs no other file.
 
 A time is slow if p50, p90, p99 or p99.9 of a tag is far above its usual value, and samples are
