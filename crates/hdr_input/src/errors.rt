@@ -108,6 +108,9 @@ fn joined(alloc: Global, texts: &[&str]) -> Result<String, AllocError> {
     Ok(all)
 }
 
+/// The most bytes of a character.
+const LONGEST_CHARACTER: usize = 4;
+
 /// The most bytes of a line or a name that an error shows.
 const SHOWN: usize = 40;
 
@@ -115,12 +118,15 @@ const SHOWN: usize = 40;
 fn shown_len(text: &[u8]) -> usize
     ensures { result ≤ length text.now }
 {
-    for len in SHOWN - 3..=SHOWN {
-        if text.get(len).is_some_and(|byte| byte & 0xc0 != 0x80) {
+    let most = text.len().min(SHOWN);
+    let mut len = most;
+    for _ in 0..LONGEST_CHARACTER {
+        if text.get(len).is_none_or(|byte| byte & 0xc0 != 0x80) {
             return len;
         }
+        len = len.saturating_sub(1);
     }
-    text.len().min(SHOWN)
+    most
 }
 
 /// Returns the start of a text for an error. Control characters are shown as `?`.

@@ -58,7 +58,7 @@ fn print_of_clap(rt: &HostRuntime, error: &clap::Error) -> ExitCode {
         return fail(rt, "", &StatError::OutOfMemory);
     }
     if error.use_stderr() {
-        print_or_fail(rt, format!(in rt.alloc(); "{error}"));
+        print_lines(rt, format!(in rt.alloc(); "{error}"));
         return ExitCode::from(USAGE);
     }
     match error.print(rt) {
@@ -81,13 +81,21 @@ fn fail(rt: &HostRuntime, subcommand: &str, error: &StatError) -> ExitCode {
 }
 
 /// Prints lines on standard error, or an error if their allocation failed.
-fn print_or_fail(rt: &HostRuntime, lines: Result<String, AllocError>) {
+fn print_lines(rt: &HostRuntime, lines: Result<String, AllocError>) {
     match lines {
         Ok(lines) => {
             for line in lines.lines() {
                 print_error_line(rt, line);
             }
         }
+        Err(error) => print_or_fail(rt, Err(error)),
+    }
+}
+
+/// Prints a line on standard error, or an error if its allocation failed.
+fn print_or_fail(rt: &HostRuntime, line: Result<String, AllocError>) {
+    match line {
+        Ok(line) => print_error_line(rt, line.as_str()),
         Err(_) => {
             let _ = eprintln!(rt; "hdrstat: out of memory");
         }
