@@ -7,7 +7,7 @@ use std::alloc::Global;
 
 pub(crate) const INPUT: &str = "Input";
 
-/// The help of `--by` where each text has a tag.
+/// The help of `--by` for logs and pages: the texts are their tags.
 pub(crate) const TAGS_BY: &str = "Tags by the text of a column, or of COLUMN,COLUMN";
 
 const CHOICE: &str = "Choice";
