@@ -38,10 +38,17 @@ class Group:
         exact = Fraction(number[0], 10 ** number[1])
         self.exact.append(Known(exact, exact, count))
 
-    def in_units(self, _):
-        """The numbers as they are rounded, which a mean is of."""
-        values = [(Fraction(self.units_of(it), 10**self.decimals), it.count) for it in self.exact]
-        return [Known(it, it, count) for it, count in values]
+    def mean_ends(self, _):
+        """The least and the greatest that the mean may be: a number that was rounded is off by half a unit at most."""
+        scale = 10**self.decimals
+        total, count = (sum(it) for it in zip(*((self.units_of(known) * known.count, known.count) for known in self.exact)))
+        off = -(-sum(it.count for it in self.exact if self.units_of(it) != it.low * scale) // 2)
+        return Fraction(max(total - off, 0), count * scale), Fraction(total + off, count * scale)
+
+    def mean(self):
+        """The mean of the numbers as they are rounded, in units."""
+        count = sum(it.count for it in self.exact)
+        return Fraction(sum(self.units_of(it) * it.count for it in self.exact), count) if count else None
 
     def units_of(self, known):
         return (known.low * 10**self.decimals + Fraction(1, 2)).__floor__()
@@ -209,7 +216,7 @@ class Paged:
         self.rows = []
         for (start, _), group in read.groups.items():
             times = [seconds(start).decode(), shown_tag(group.name), seconds(length).decode()]
-            tails = tails_of(group.samples, self.TAILS)
+            tails = (decimal_text(int(it), group.decimals) for it in tails_of(group.samples, self.TAILS))
             self.rows.append([*times, str(group.samples.len()), *tails])
         self.rows.sort()
 

@@ -1,6 +1,7 @@
 """Random inputs for hdrstat, with the output of the model for each."""
 import dataclasses
 import json
+from fractions import Fraction
 
 from levels import Known, checked, fraction, status_of
 from model import UNITS, Failure, Options, Tally, decimal_text, surveyed
@@ -28,13 +29,15 @@ class Case:
 def is_invisible(character):
     """Whether a character controls a terminal, has no width or changes the direction of text."""
     code = ord(character)
-    ranges = ((0, 0x1F), (0x7F, 0x9F), (0x200B, 0x200F), (0x202A, 0x202E), (0x2066, 0x2069), (0xFEFF, 0xFEFF))
+    ranges = ((0, 0x1F), (0x7F, 0x9F), (0x61C, 0x61C), (0x200B, 0x200F), (0x2028, 0x202E), (0x2060, 0x206F), (0xFEFF, 0xFEFF))
     return any(first <= code <= last for first, last in ranges)
 
 
 def shown(text):
-    """The start of a text, as an error shows it."""
-    return "".join("?" if is_invisible(it) else it for it in text[:40].decode("utf-8", "replace"))
+    """The start of a text, as an error shows it: at most 40 bytes, and no part of a character."""
+    most = min(40, len(text))
+    ends = [end for end in range(most, max(most - 4, -1), -1) if end == len(text) or text[end] & 0xC0 != 0x80]
+    return "".join("?" if is_invisible(it) else it for it in text[: ends[0] if ends else most].decode("utf-8", "replace"))
 
 
 def names_text(row):
@@ -73,7 +76,9 @@ def notes(tally):
     text = dropped_text(tally.dropped)
     text += f"hdrstat: bad lines skipped: {tally.skipped}\n" if tally.skipped else ""
     if tally.rounded and tally.options.decimals is None:
-        text += f"hdrstat: {tally.rounded} numbers have more than {tally.decimals} decimals, and were rounded\n"
+        have = "number has" if tally.rounded == 1 else "numbers have"
+        were = "was" if tally.rounded == 1 else "were"
+        text += f"hdrstat: {tally.rounded} {have} more than {tally.decimals} decimals, and {were} rounded\n"
     return text.encode()
 
 
@@ -271,7 +276,7 @@ def summary_case(random, arguments, chosen, data, take):
     except Failure as failure:
         return Case(arguments, stdin, files, (b"", f"{dropped_text(failure.dropped)}hdrstat: {error_text(failure)}\n".encode(), 1))
     if tally.skipped > tally.lines_read:
-        return Case(arguments, stdin, files, (b"", notes(tally) + b"hdrstat: more lines were skipped than read\n", 1))
+        return Case(arguments, stdin, files, (b"", notes(tally) + b"hdrstat: more lines were skipped than counted\n", 1))
     return Case(arguments, stdin, files, (FORMATS[name](figures(tally, wanted, shift)).encode(), notes(tally), 0))
 
 
@@ -375,15 +380,24 @@ class NumberTally:
 
     def __init__(self, tally):
         self.decimals, self.samples, self.exact = tally.decimals, tally.samples, tally.exact
+        self.rounded, self.missing, self.interval = tally.rounded, len(tally.exact) - tally.lines_read, tally.interval
 
     def known(self):
         numbers = [fraction(digits, decimals) for digits, decimals, _ in self.exact]
         return [Known(it, it, 1) for it in numbers]
 
-    def in_units(self, _):
-        """The numbers as they are rounded, which a mean is of."""
-        values = [fraction(value, self.decimals or 0) for _, _, value in self.exact]
-        return [Known(it, it, 1) for it in values]
+    def mean_ends(self, samples):
+        """The least and the greatest that the mean may be: a number that was rounded is off by half a unit at most, and a missing sample as much."""
+        off = -(-(self.rounded + self.missing) // 2) if self.rounded else 0
+        total, scale = sum(value for _, _, value in self.exact), len(self.exact) * 10 ** (self.decimals or 0)
+        return Fraction(max(total - off, 0), scale), Fraction(total + off, scale)
+
+    def mean(self):
+        """The mean of the numbers as they are rounded, in units, or that of their classes."""
+        if not self.exact:
+            return None
+        total = self.samples.mean_of_classes() if self.interval else sum(value for _, _, value in self.exact)
+        return Fraction(total, len(self.exact))
 
     def greatest_within(self, level):
         return max(value for digits, decimals, value in self.exact if level.is_within(fraction(digits, decimals)))
@@ -410,14 +424,14 @@ def check_case(random):
         failure = it
     seen = NumberTally(tally)
     samples = seen.known()
-    texts, lines = checked(random, samples, seen, unit)
+    texts, lines = checked(random, samples, seen, unit, seen.mean())
     is_empty_allowed = random.random() < 0.2
     arguments = ["check", *arguments, *(["--allow-empty"] if is_empty_allowed else []), *texts]
     if failure:
         return Case(arguments, data, {}, (b"", f"hdrstat: {error_text(failure)}\n".encode(), 1))
     is_mostly_skipped = tally.skipped > tally.lines_read
     told = notes(tally)
-    told += b"hdrstat: more lines were skipped than read\n" if is_mostly_skipped else b""
+    told += b"hdrstat: more lines were skipped than counted\n" if is_mostly_skipped else b""
     if not samples and not is_empty_allowed:
         return Case(arguments, data, {}, (b"", told + b"hdrstat: no numbers; --allow-empty accepts an empty input\n", 3))
     out = "".join(f"{verdict} {text} {rest}\n" for text, (verdict, rest) in zip(texts, lines))

@@ -98,7 +98,7 @@ def checked_line(level, samples, tally, mean):
     if not count:
         return "kept", "-"
     if level.name == "mean":
-        low, high = (sum(end(it) * it.count for it in tally.in_units(samples)) / count for end in (lambda it: it.low, lambda it: it.high))
+        low, high = tally.mean_ends(samples)
         verdict = verdict_between(level, low, high)
         ends = hundredths(low, decimals), hundredths(high, decimals)
         if verdict == "undecided":
@@ -146,7 +146,7 @@ def random_level(random, samples, tally, unit):
         exact = random.choice([near.low, near.high]) * 10**decimals
         value, places = int(exact), decimals
         if name == "mean" and samples and random.random() < 0.8:
-            value = int(sum(it.low * it.count for it in tally.in_units(samples)) * 10**decimals / sum(it.count for it in samples))
+            value = int(tally.mean_ends(samples)[0] * 10**decimals)
     digits, shift = max(0, value + random.choice([-1, 0, 0, 0, 1, random.randint(-1000, 1000)])), places
     more = random.choice([0, 0, 0, 1, 2, 5])
     digits, shift = digits * 10**more + (random.choice([0, 1, random.randint(0, 10**more - 1)]) if more else 0), places + more
@@ -181,8 +181,10 @@ class LogTally:
     def __init__(self, total, decimals):
         self.samples, self.decimals = total, decimals
 
-    def in_units(self, samples):
-        return samples
+    def mean_ends(self, samples):
+        """The least and the greatest that the mean may be."""
+        count = sum(it.count for it in samples)
+        return tuple(sum(end(it) * it.count for it in samples) / count for end in (lambda it: it.low, lambda it: it.high))
 
     def greatest_within(self, level):
         """The greatest value within a level."""

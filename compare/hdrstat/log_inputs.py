@@ -10,7 +10,7 @@ from fractions import Fraction
 from inputs import FORMATS, USUAL, Case, digits, figures, percentiles, shown
 from levels import UNITS, Level, LogTally, classes_of, checked_line, random_level, status_of
 from logs import CAUSES, NOTES, RATIO, Undecodable, bin_of, closed, decode, decoded, encode, inflated, read_first, side_by_side, sums, sums_by_key, with_form
-from model import LIMIT, Failure, Samples, Tally, class_of, Options
+from model import LIMIT, Failure, Samples, Tally, class_of, decimal_text, Options
 
 TAGS = [None, b"a", b"b", b"GET", b"caf\xc3\xa9", b"=1+1", b"-2", b'say"', b"a;b", b""]
 
@@ -383,7 +383,7 @@ def row_of(it, samples):
     """The row of an interval: its times in seconds, its tag, and its figures."""
     start, length = ("%d.%03d" % divmod(time, 1000) for time in (it.key()[0], it.length()))
     values = [samples.at(num, den) for num, den in ((1, 2), (9, 10), (99, 100), (999, 1000), (1, 1))]
-    return [start, shown_tag(it.tag), length, samples.len(), *values]
+    return [start, shown_tag(it.tag), length, samples.len(), *(decimal_text(value, it.decimals) for value in values)]
 
 
 class Gathered:

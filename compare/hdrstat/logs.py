@@ -18,7 +18,7 @@ CAUSES = {
     "feature": "The histogram uses features that this implementation doesn't support",
     "parameters": "The serialized parameters were invalid(e.g. lowest value, highest value, etc)",
     "long": "The encoded array is longer than it should be for the histogram's value range",
-    "end": "An i/o operation failed: unexpected end of file",
+    "end": "the histogram is incomplete",
     "no histogram": "not a histogram",
     "version 0": "a histogram of version 0 with counters of an unknown width",
     "version 1": "a histogram of version 1 with counters of an unknown width",
@@ -302,6 +302,8 @@ def intervals(name, data, notes):
         if not line.strip(SPACE):
             continue
         if line[-1:] != b"\n":
+            if line.lstrip(SPACE)[:1] not in b"0123456789.T#\"":
+                raise Failure((name, f"line {number}", line.strip(SPACE), "log"))
             it = unended(number, decimals, base, line)
             if it is None:
                 note(number, "end")

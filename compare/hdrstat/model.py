@@ -283,7 +283,7 @@ class Tally:
             if number == 1 and drops_names:
                 continue
             if index >= len(fields):
-                self.refuse(name, number, b"".join(fields), "no field", "row")
+                self.refuse(name, number, delimiter.join(fields), "no field", "row")
             else:
                 self.take(name, number, fields[index].strip(SPACE))
         if drops_names and not is_named:
