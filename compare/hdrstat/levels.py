@@ -1,5 +1,6 @@
 """A model of levels: what samples say of them, by exact fractions and sorted samples."""
 import dataclasses
+import re
 from fractions import Fraction
 
 from model import LIMIT, UNITS, class_of, decimal_text
@@ -157,6 +158,17 @@ def random_level(random, samples, tally, unit):
         scale, text = UNITS[unit] - UNITS[suffix], text + suffix
     too_large = digits * 10 ** max(scale - shift, 0) >= LIMIT or max(shift, shift - scale) > 18 or digits >= LIMIT
     return None if too_large else Level(f"{name}{sign}{text}", name, sign, Fraction(digits, 10**shift) * Fraction(10) ** scale)
+
+
+def is_level_in_each_unit(level, unit):
+    """Whether the number of a level fits in each unit that a log may have."""
+    number, suffix = re.fullmatch(r"[a-z0-9.]+[<>]=?([0-9.]+)([a-z]*)", level.text).groups()
+    whole, _, part = number.partition(".")
+    digits, shift, of = int(whole + part), len(part), suffix or unit
+    if level.name == "count" or not of:
+        return True
+    scales = [UNITS[it] - UNITS[of] for it in UNITS]
+    return not any(digits * 10 ** max(it - shift, 0) >= LIMIT or max(shift, shift - it) > 18 for it in scales)
 
 
 def checked(random, samples, tally, unit, mean=None):

@@ -8,7 +8,7 @@ import zlib
 from fractions import Fraction
 
 from inputs import FORMATS, USUAL, Case, digits, figures, percentiles, shown
-from levels import UNITS, Level, LogTally, classes_of, checked_line, random_level, status_of
+from levels import UNITS, Level, LogTally, classes_of, checked_line, is_level_in_each_unit, random_level, status_of
 from logs import CAUSES, NOTES, RATIO, Undecodable, bin_of, closed, decode, decoded, encode, inflated, read_first, side_by_side, sums, sums_by_key, with_form
 from model import LIMIT, Failure, Samples, Tally, class_of, decimal_text, Options
 
@@ -274,6 +274,8 @@ def log_check_case(random):
     levels = levels or [Level("count>=0", "count", ">=", Fraction(0))]
     is_empty_allowed = random.random() < 0.5
     arguments += [*(["--allow-empty"] if is_empty_allowed else []), *(it.text for it in levels)]
+    if not all(is_level_in_each_unit(it, unit) for it in levels):
+        return case_of(arguments, logs, (b"", None, 2), ["-i"])
     told = notes_text(notes, logs) + coarser_text(coarser, chosen, sigfig)
     if not any(samples for _, _, samples in parts) and not is_empty_allowed:
         return case_of(arguments, logs, (b"", told + b"hdrstat: no numbers; --allow-empty accepts an empty input\n", 3), ["-i"])
