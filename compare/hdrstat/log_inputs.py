@@ -267,7 +267,7 @@ def log_check_case(random):
         found, coarser, decimals, chosen = sums(logs, sigfig, by_tag, notes, choice, classes)
     except Failure as failure:
         return failed(failure, notes, before(failure, logs), [*arguments, "count>=0"], logs, ["-i"])
-    if not found and not by_tag:
+    if not found:
         found = {None: Samples(sigfig)}
     parts = [(tag, LogTally(total, decimals), [it for one in classes.get(tag, []) for it in classes_of(one, decimals)]) for tag, total in found.items()]
     levels = [it for it in (random_level(random, samples, tally, unit) for _ in range(random.randint(1, 3)) for _, tally, samples in parts[:2]) if it]
