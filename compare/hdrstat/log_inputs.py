@@ -170,7 +170,8 @@ def choice_of(random):
         choice["since"] = since * 1_000_000
         arguments += ["--from-time", "%d.%03d" % divmod(since, 1000)]
     if random.random() < 0.2:
-        until = random.randint(0, 9000)
+        least = choice.get("since", -1_000_000) // 1_000_000 + 1
+        until = random.randint(least, max(least, 9000))
         choice["until"] = until * 1_000_000
         arguments += ["--to-time", "%d.%03d" % divmod(until, 1000)]
     return arguments, choice

@@ -11,3 +11,5 @@ pub mod Times
 pub mod Bounds
 pub mod BoundLaws
 pub mod Visible
+pub mod Blanks
+pub mod BlankReaders

@@ -1,52 +1,64 @@
 //! Tables whose columns have runs of blanks between them.
 
-ghost use Rattle.std.specs.Prelude.{◌≤◌, length};
+ghost use Rattle.std.specs.Prelude.{◌≡◌, ℕ, List};
 
+mod before;
+mod buffer;
+
+use crate::blanks::buffer::BlankBuffer;
 use std::io::{self, Read};
 
-/// A reader that makes one space of each run of spaces and tabs, and none at the start of a line.
+/// A reader that makes one space of each run of spaces and tabs, and none at the start and at the
+/// end of a line.
 #[derive(Drop)]
 pub struct BlankReader<R> {
     reader: R,
-    /// Whether the last byte was a blank, or the end of a line.
-    is_after_blank: bool,
+    buffer: BlankBuffer,
 }
 
 impl<R: Read> BlankReader<R> {
+    ghost use Rattle.std.specs.Prelude.{[], false, IfOk, IfErr};
+    ghost use Rattle.std.specs.Option.{option_map};
+    ghost use Rattle.std.specs.Io.KnownBytes.{IsAtEnd, Keeps};
+    ghost use Rattle.hdr_input.specs.BlankReaders.{squeezed_bytes};
+    ghost use Rattle.hdr_input.specs.Blanks.{squeezed_text, unread};
+
     /// Returns a reader at the start of a line.
-    pub fn new(reader: R) -> BlankReader<R> {
+    pub fn new(reader: R) -> BlankReader<R>
+        ensures { squeezed_bytes R.remaining result ≡ option_map squeezed_text (R.remaining reader) }
+    {
         BlankReader {
             reader,
-            is_after_blank: true,
+            buffer: BlankBuffer::new(),
         }
     }
 
-    /// Moves the bytes that are kept to the start of a buffer, and returns how many they are.
-    fn squeeze(&mut self, bytes: &mut [u8]) -> usize
-        ensures { result ≤ length bytes.new }
+    /// Reads the bytes that follow, if all before them were passed on. Returns whether there are
+    /// some.
+    #[tactic(auto, using(crate::proofs::Unread::squeeze_none))]
+    fn refill(&mut self) -> io::Result<bool>
+        ensures ok { unread self.old.buffer ≡ [] → IfOk result (λ _. Keeps (squeezed_bytes R.remaining self.old) (squeezed_bytes R.remaining self.new)) }
+        ensures end { IfOk result (λ some. some ≡ false → IsAtEnd (squeezed_bytes R.remaining self.new)) }
+        ensures err { unread self.old.buffer ≡ [] → IfErr result (λ _. Keeps (squeezed_bytes R.remaining self.old) (squeezed_bytes R.remaining self.new)) }
     {
-        let mut kept = 0usize;
-        for at in 0..bytes.len() {
-            let byte = bytes[at];
-            let is_blank = byte == b' ' || byte == b'\t';
-            if is_blank && self.is_after_blank {
-                continue;
-            }
-            bytes[kept] = if is_blank { b' ' } else { byte };
-            kept += 1;
-            self.is_after_blank = is_blank || byte == b'\n';
-        }
-        kept
+        let len = self.buffer.fill(&mut self.reader)?;
+        Ok(len > 0)
     }
 }
 
 impl<R: Read> Read for BlankReader<R> {
+    ghost use Rattle.hdr_input.specs.BlankReaders.{squeezed_bytes};
+
+    ghost remaining = { squeezed_bytes R.remaining };
+
     fn read(&mut self, buf: &mut [u8]) -> io::Result<usize> {
         for _ in 0..u64::MAX {
-            let len = self.reader.read(buf)?;
-            let kept = self.squeeze(&mut buf[..len]);
-            if kept > 0 || len == 0 {
-                return Ok(kept);
+            let len = self.buffer.pass_on(buf);
+            if len > 0 || buf.is_empty() {
+                return Ok(len);
+            }
+            if !self.refill()? {
+                return Ok(0);
             }
         }
         Err(io::Error::from(io::ErrorKind::Interrupted))

@@ -144,9 +144,19 @@ pub(crate) fn choice_of<'a>(
         Some(tag) => TagChoice::Tagged(tag),
         None => TagChoice::Every,
     };
-    let from = nanoseconds_of(alloc, matches, "from-time")?.map(Duration::from_nanos);
-    let to = nanoseconds_of(alloc, matches, "to-time")?.map(Duration::from_nanos);
-    Ok(IntervalChoice { tags, from, to })
+    let from = nanoseconds_of(alloc, matches, "from-time")?;
+    let to = nanoseconds_of(alloc, matches, "to-time")?;
+    if let (Some(from), Some(to)) = (from, to) {
+        if to <= from {
+            let text = matches.get_str("to-time").unwrap_or("--to-time");
+            return Err(StatError::usage(alloc, text, "is not after --from-time"));
+        }
+    }
+    Ok(IntervalChoice {
+        tags,
+        from: from.map(Duration::from_nanos),
+        to: to.map(Duration::from_nanos),
+    })
 }
 
 /// Returns the names of files in tags, if the arguments ask for them.

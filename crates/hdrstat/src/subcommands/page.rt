@@ -56,7 +56,9 @@ pub(crate) fn command<'a>(alloc: Global) -> Result<Command<'a>, Error> {
     let help = "Print text for a terminal, and no page";
     let text = flag(alloc, "text", help).conflicts_with("intervals")?;
     let help = "Print CSV with a row for each interval, and no page";
-    let intervals = flag(alloc, "intervals", help);
+    let intervals = flag(alloc, "intervals", help)
+        .conflicts_with("title")?
+        .conflicts_with("level")?;
     let help = "Interval logs to read, or tables; standard input if there are none, or for -";
     let inputs = Arg::new(alloc, "LOG").num_args(0..).help(help);
     let command = Command::new(alloc, "page")
@@ -192,6 +194,10 @@ fn check_rows_of_page(alloc: Global, matches: &ArgMatches<'_>) -> Result<(), Sta
     if matches.get_str("time").is_none() {
         let why = "is needed for a page of rows: the column of their times";
         return Err(StatError::usage(alloc, "--time", why));
+    }
+    if matches.get_str("tag").is_some() && matches.get_str("by").is_none() {
+        let why = "needs --by for rows, which otherwise have no tags";
+        return Err(StatError::usage(alloc, "--tag", why));
     }
     for option in ["--tag-by-file", "--align"] {
         if matches.get_flag(option.trim_start_matches('-')) {
