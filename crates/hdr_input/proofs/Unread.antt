@@ -36,23 +36,27 @@ skips before bytes next end rest below within blank =
     search (rules, unread_next bytes next end below within, squeeze_blank before (slice_index bytes next) (drop (next + 1) (take end bytes) ++ rest) blank)
 
 -- a space is passed on for the blanks before another byte
-pub spaces : (bytes : List ℕ) (next end : ℕ) (rest : List ℕ) → next < end → end ≤ length bytes → is_blank (slice_index bytes next) ≡ false → ends_line (slice_index bytes next) ≡ false
+pub spaces : (bytes : List ℕ) (next end : ℕ) (rest : List ℕ) → next < end → end ≤ length bytes
+    → is_blank (slice_index bytes next) ≡ false → ends_line (slice_index bytes next) ≡ false
     → squeezed Blank (drop next (take end bytes) ++ rest) ≡ 32 ∷ squeezed Text (drop next (take end bytes) ++ rest)
 spaces bytes next end rest below within blank end_of =
     search (rules, unread_next bytes next end below within, squeeze_space (slice_index bytes next) (drop (next + 1) (take end bytes) ++ rest) blank end_of)
 
 -- another byte is passed on
-pub passes_end : (before : Before) (bytes : List ℕ) (next end : ℕ) (rest : List ℕ) → next < end → end ≤ length bytes → is_blank (slice_index bytes next) ≡ false → ends_line (slice_index bytes next) ≡ true
+pub passes_end : (before : Before) (bytes : List ℕ) (next end : ℕ) (rest : List ℕ) → next < end → end ≤ length bytes
+    → is_blank (slice_index bytes next) ≡ false → ends_line (slice_index bytes next) ≡ true
     → squeezed before (drop next (take end bytes) ++ rest) ≡ slice_index bytes next ∷ squeezed (after (slice_index bytes next)) (drop (next + 1) (take end bytes) ++ rest)
 passes_end before bytes next end rest below within blank end_of =
     search (rules, unread_next bytes next end below within, squeeze_end before (slice_index bytes next) (drop (next + 1) (take end bytes) ++ rest) blank end_of)
 
-pub passes_text : (bytes : List ℕ) (next end : ℕ) (rest : List ℕ) → next < end → end ≤ length bytes → is_blank (slice_index bytes next) ≡ false → ends_line (slice_index bytes next) ≡ false
+pub passes_text : (bytes : List ℕ) (next end : ℕ) (rest : List ℕ) → next < end → end ≤ length bytes
+    → is_blank (slice_index bytes next) ≡ false → ends_line (slice_index bytes next) ≡ false
     → squeezed Text (drop next (take end bytes) ++ rest) ≡ slice_index bytes next ∷ squeezed (after (slice_index bytes next)) (drop (next + 1) (take end bytes) ++ rest)
 passes_text bytes next end rest below within blank end_of =
     search (rules, unread_next bytes next end below within, squeeze_text (slice_index bytes next) (drop (next + 1) (take end bytes) ++ rest) blank end_of)
 
-pub passes_start : (bytes : List ℕ) (next end : ℕ) (rest : List ℕ) → next < end → end ≤ length bytes → is_blank (slice_index bytes next) ≡ false → ends_line (slice_index bytes next) ≡ false
+pub passes_start : (bytes : List ℕ) (next end : ℕ) (rest : List ℕ) → next < end → end ≤ length bytes
+    → is_blank (slice_index bytes next) ≡ false → ends_line (slice_index bytes next) ≡ false
     → squeezed Start (drop next (take end bytes) ++ rest) ≡ slice_index bytes next ∷ squeezed (after (slice_index bytes next)) (drop (next + 1) (take end bytes) ++ rest)
 passes_start bytes next end rest below within blank end_of =
     search (rules, unread_next bytes next end below within, squeeze_start (slice_index bytes next) (drop (next + 1) (take end bytes) ++ rest) blank end_of)

@@ -1,5 +1,5 @@
 -- Tables whose columns have runs of blanks between them.
-use Rattle.std.specs.Prelude.{◌≡◌, ℕ, ◌==◌, ◌||◌, Bool, Option, List, [], ◌∷◌, ◌++◌, take, drop, if◌then◌else◌}
+use Rattle.std.specs.Prelude.{◌≡◌, ℕ, ◌==◌, ◌||◌, Bool, List, [], ◌∷◌, ◌++◌, take, drop, if◌then◌else◌}
 use Rattle.hdr_input.specs.declared.blanks.before.Before.{Before}
 use Rattle.hdr_input.specs.declared.blanks.before.Before.TheVariants.{Start, Text, Blank}
 use Rattle.hdr_input.specs.declared.blanks.buffer.BlankBuffer.{BlankBuffer}

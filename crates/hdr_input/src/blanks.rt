@@ -37,9 +37,12 @@ impl<R: Read> BlankReader<R> {
     /// some.
     #[tactic(auto, using(crate::proofs::Unread::squeeze_none))]
     fn refill(&mut self) -> io::Result<bool>
-        ensures ok { unread self.old.buffer ≡ [] → IfOk result (λ _. Keeps (squeezed_bytes R.remaining self.old) (squeezed_bytes R.remaining self.new)) }
-        ensures end { IfOk result (λ some. some ≡ false → IsAtEnd (squeezed_bytes R.remaining self.new)) }
-        ensures err { unread self.old.buffer ≡ [] → IfErr result (λ _. Keeps (squeezed_bytes R.remaining self.old) (squeezed_bytes R.remaining self.new)) }
+        ensures ok { unread self.old.buffer ≡ [] → IfOk result (λ _.
+            Keeps (squeezed_bytes R.remaining self.old) (squeezed_bytes R.remaining self.new)) }
+        ensures end { IfOk result (λ some. some ≡ false
+            → IsAtEnd (squeezed_bytes R.remaining self.new)) }
+        ensures err { unread self.old.buffer ≡ [] → IfErr result (λ _.
+            Keeps (squeezed_bytes R.remaining self.old) (squeezed_bytes R.remaining self.new)) }
     {
         let len = self.buffer.fill(&mut self.reader)?;
         Ok(len > 0)

@@ -39,9 +39,12 @@ impl BlankBuffer {
 
     /// Reads the bytes that follow. All before them have to be passed on.
     pub(crate) fn fill<R: Read>(&mut self, reader: &mut R) -> io::Result<usize>
-        ensures read { IfOk result (λ _. Consumes (R.remaining reader.old) (R.remaining reader.new) (unread self.new)) }
-        ensures end { IfOk result (λ len. len ≡ 0 → (unread self.new ≡ []) × IsAtEnd (R.remaining reader.new)) }
-        ensures err { IfErr result (λ _. (unread self.new ≡ []) × Keeps (R.remaining reader.old) (R.remaining reader.new)) }
+        ensures read { IfOk result (λ _. Consumes (R.remaining reader.old) (R.remaining reader.new)
+            (unread self.new)) }
+        ensures end { IfOk result (λ len. len ≡ 0
+            → (unread self.new ≡ []) × IsAtEnd (R.remaining reader.new)) }
+        ensures err { IfErr result (λ _. (unread self.new ≡ [])
+            × Keeps (R.remaining reader.old) (R.remaining reader.new)) }
         ensures before { self.new.before ≡ self.old.before }
     {
         self.next = 0;
@@ -54,7 +57,8 @@ impl BlankBuffer {
     pub(crate) fn pass_on(&mut self, buf: &mut [u8]) -> usize
         ensures within { result ≤ length buf.new }
         ensures len { length buf.new ≡ length buf.old }
-        ensures bytes { (rest : List ℕ) → passed_on self.old rest ≡ take result buf.new ++ passed_on self.new rest }
+        ensures bytes { (rest : List ℕ) → passed_on self.old rest
+            ≡ take result buf.new ++ passed_on self.new rest }
         ensures all { result < length buf.new → unread self.new ≡ [] }
     {
         for at in 0..buf.len() {
@@ -89,7 +93,8 @@ impl BlankBuffer {
     #[tactic(auto, using(crate::proofs::Unread::skips))]
     fn skip_blanks(&mut self)
         ensures same { (rest : List ℕ) → passed_on self.new rest ≡ passed_on self.old rest }
-        ensures other { self.new.next < self.new.end → is_blank (slice_index self.new.bytes self.new.next) ≡ false }
+        ensures other { self.new.next < self.new.end
+            → is_blank (slice_index self.new.bytes self.new.next) ≡ false }
     {
         while self.next < self.end && is_blank(self.bytes[self.next]) {
             self.next += 1;
