@@ -1,6 +1,9 @@
 -- Bounds of products.
-use Rattle.std.proofs.Common.{ℕ, ◌+◌, ◌-◌, ◌*◌, ◌^◌, ◌<◌, ◌≤◌, arith}
-use Rattle.std.proofs.Math.Nat.{mul-le-mul, mul-le-mul_right}
+use Rattle.std.proofs.Common.{◌≡◌, ℕ, ◌+◌, ◌-◌, ◌*◌, ◌/◌, ◌^◌, ◌<◌, ◌≤◌, arith, rules}
+use Rattle.std.proofs.Math.Nat.{mul-le-mul, mul-le-mul_right, div-le_of_le-mul}
+use Rattle.std.proofs.lemmas.Nat.{pow-add, pow_pos}
+use Rattle.std.specs.Int.{div_ceil}
+use Rattle.hdr_model.proofs.QuantilesValues.{ceil-le}
 
 -- the square of a factor times a difference of values fits
 pub square-fits : (factor d : ℕ) → factor ≤ 10000000 → d < 2 ^ 40 → factor * d * (factor * d) < 2 ^ 127
@@ -31,3 +34,17 @@ reach-fits z near whole small one most =
     let three : z * z * near ≤ 4418 * 4418 * (3 * 1000000 * 2 ^ 30) = mul-le-mul normal first in
     let all : z * z * near * (whole - near) ≤ 4418 * 4418 * (3 * 1000000 * 2 ^ 30) * (3 * 1000000 * 2 ^ 30) = mul-le-mul three second in
     omega (arith, all)
+
+-- samples over a power of two
+power_of_sum : (s : ℕ) → 2 ^ (30 + s) ≡ 2 ^ s * 2 ^ 30
+power_of_sum s = search (rules, pow-add 2 30 s)
+
+pub few_of_shift : (n s : ℕ) → n ≤ 2 ^ (30 + s) → n / 2 ^ s ≤ 2 ^ 30
+few_of_shift n s few =
+    let within : n ≤ 2 ^ s * 2 ^ 30 = search (rules, few, power_of_sum s) in
+    div-le_of_le-mul (2 ^ s) within
+
+pub few_above_shift : (n s : ℕ) → n ≤ 2 ^ (30 + s) → div_ceil n (2 ^ s) ≤ 2 ^ 30
+few_above_shift n s few =
+    let within : n ≤ 2 ^ 30 * 2 ^ s = search (rules, few, power_of_sum s) in
+    ceil-le n (2 ^ s) (2 ^ 30) (pow_pos s) within

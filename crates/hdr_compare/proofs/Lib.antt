@@ -1,1 +1,4 @@
 pub mod Bounds
+pub mod Batches
+pub mod SameBatches
+pub mod Intervals

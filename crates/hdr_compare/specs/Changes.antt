@@ -1,5 +1,5 @@
 -- Whether a percentile changed. (Zou and Donner 2008: the interval of a difference from those of its parts.)
-use Rattle.std.specs.Prelude.{⊤, ◌≡◌, ℕ, ◌+◌, ◌-◌, ◌*◌, ◌^◌, ◌<◌, ◌⊎◌, Option, Some, None}
+use Rattle.std.specs.Prelude.{⊤, ◌≡◌, ◌≤◌, ℕ, ◌+◌, ◌-◌, ◌*◌, ◌^◌, ◌<◌, ◌⊎◌, Option, Some, None}
 use Rattle.hdr_compare.specs.declared.changes.Measured.{Measured}
 
 abbrev pub square : ℕ → ℕ
@@ -32,3 +32,15 @@ IsSmall (Some end) = end < 2 ^ 40
 -- the numbers of a percentile are below 2^40, so that squares of their products fit
 abbrev pub IsComparable : Measured → Type 0
 IsComparable m = (m.value < 2 ^ 40) × IsSmall m.low × IsSmall m.high
+
+-- the least ratio in thousandths that y does not exceed, to x: y exceeds the one before it, and not it, unless that is the greatest
+pub record IsLeastRatio (x y : Measured) (ratio : ℕ) : Type 0 where
+  pub within : ratio ≤ 10000000
+  pub exceeded : 0 < ratio → ExceedsBy (ratio - 1) 1000 x y
+  pub not_exceeded : ratio < 10000000 → ExceedsBy ratio 1000 x y → ⊥
+
+-- the greatest ratio in thousandths that y does not fall below, to x
+pub record IsGreatestRatio (x y : Measured) (ratio : ℕ) : Type 0 where
+  pub within : ratio < 10000000
+  pub below : FallsBelowBy (ratio + 1) 1000 x y
+  pub not_below : 0 < ratio → FallsBelowBy ratio 1000 x y → ⊥

@@ -1,3 +1,9 @@
 pub mod Changes
 pub mod Ranks
 pub mod Tiers
+pub mod Effective
+pub mod Counted
+pub mod Ends
+pub mod Intervals
+pub mod EndsOf
+pub mod Runs

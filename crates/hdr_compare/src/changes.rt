@@ -1,7 +1,7 @@
 //! Whether a percentile changed.
 
-ghost use Rattle.std.specs.Prelude.{◌≡◌, ◌↔◌, ◌-◌, ◌*◌, ◌^◌, ◌<◌, ◌≤◌, IsTrue, MatchOption};
-ghost use Rattle.hdr_compare.specs.Changes.{Exceeds, ExceedsBy, FallsBelow, FallsBelowBy, IsComparable, IsOpen, square};
+ghost use Rattle.std.specs.Prelude.{◌≡◌, ◌↔◌, ◌-◌, ◌*◌, ◌^◌, ◌<◌, ◌≤◌, IfSome, IsTrue, MatchOption};
+ghost use Rattle.hdr_compare.specs.Changes.{Exceeds, ExceedsBy, FallsBelow, FallsBelowBy, IsComparable, IsGreatestRatio, IsLeastRatio, IsOpen, square};
 
 /// A percentile of a run: its value, and the ends of its interval, as far as the samples reach them.
 #[derive(Clone, Copy)]
@@ -103,4 +103,53 @@ pub fn falls_below(num: u64, den: u64, before: &Measured, after: &Measured) -> O
         (Some(low), Some(high)) => Some(is_short(num, den, before.value, low, after.value, high)),
         _ => None,
     }
+}
+
+/// The ratios of changes are in thousandths.
+const THOUSAND: u64 = 1_000;
+
+/// The greatest ratio that is told from others.
+const MOST_RATIO: u64 = 10_000_000;
+
+/// Returns the least ratio of `after` to `before`, in thousandths, that chance does not rule out, or
+/// 10,000,000 if it rules out all below that. Returns `None` if the samples are too few for an end.
+pub fn least_ratio(before: &Measured, after: &Measured) -> Option<u64>
+    requires before { IsComparable before.now }
+    requires after { IsComparable after.now }
+    ensures { MatchOption result (IsOpen before.now.high after.now.low)
+        (IsLeastRatio before.now after.now) }
+{
+    let _ = exceeds(0, THOUSAND, before, after)?;
+    let mut low = 0;
+    let mut high = MOST_RATIO;
+    while low < high {
+        let middle = (low + high) / 2;
+        match exceeds(middle, THOUSAND, before, after) {
+            Some(true) => low = middle + 1,
+            _ => high = middle,
+        }
+    }
+    Some(low)
+}
+
+/// Returns the greatest ratio of `after` to `before`, in thousandths, that chance does not rule out,
+/// as `least_ratio`, or `None` too if it does not rule out 10,000,000.
+pub fn greatest_ratio(before: &Measured, after: &Measured) -> Option<u64>
+    requires before { IsComparable before.now }
+    requires after { IsComparable after.now }
+    ensures { IfSome result (IsGreatestRatio before.now after.now) }
+{
+    if falls_below(MOST_RATIO, THOUSAND, before, after) != Some(true) {
+        return None;
+    }
+    let mut low = 0;
+    let mut high = MOST_RATIO - 1;
+    while low < high {
+        let middle = (low + high + 1) / 2;
+        match falls_below(middle, THOUSAND, before, after) {
+            Some(true) => high = middle - 1,
+            _ => low = middle,
+        }
+    }
+    Some(low)
 }

@@ -2,10 +2,20 @@
 //! than chance. All of it is decided by integers.
 #![tactic(auto)]
 
+mod batch;
 mod changes;
+mod counting;
+mod effective;
+mod ends;
+mod interval;
 mod ranks;
+mod run;
+#[cfg(test)]
+mod tests;
 mod tiers;
 
 pub use changes::{Measured, exceeds, falls_below};
+pub use interval::{End, Interval};
 pub use ranks::{is_far, is_far_above, is_far_below};
+pub use run::{BatchError, Run};
 pub use tiers::Tier;

@@ -1,9 +1,27 @@
 //! The confidence of the intervals of a report.
 
 ghost use Rattle.std.specs.Prelude.{◌≡◌, ◌<◌, ◌≤◌};
-ghost use Rattle.hdr_compare.specs.Tiers.{edge_of, needed, normal_of, tier_of};
+ghost use Rattle.hdr_compare.specs.Tiers.{edge_of, index_of, needed, normal_of, student_of, tier_of};
 
 use hdrhistogram::Quantile;
+
+/// By what the square of the normal quantile grows, in thousandths, if the variance is that over 4, 5
+/// .. 16 batches, for each tier.
+const STUDENTS: [[u64; 5]; 13] = [
+    [2_637, 5_142, 15_427, 51_796, 186_956],
+    [2_007, 3_195, 6_848, 15_963, 39_529],
+    [1_721, 2_451, 4_358, 8_255, 16_416],
+    [1_559, 2_072, 3_280, 5_450, 9_418],
+    [1_456, 1_846, 2_701, 4_108, 6_447],
+    [1_385, 1_697, 2_348, 3_350, 4_905],
+    [1_333, 1_592, 2_112, 2_873, 3_994],
+    [1_293, 1_514, 1_944, 2_549, 3_405],
+    [1_262, 1_454, 1_819, 2_317, 2_998],
+    [1_236, 1_407, 1_722, 2_143, 2_702],
+    [1_215, 1_368, 1_646, 2_008, 2_479],
+    [1_198, 1_336, 1_584, 1_901, 2_306],
+    [1_183, 1_309, 1_532, 1_814, 2_167],
+];
 
 /// How often an interval may err, at most.
 #[derive(Clone, Copy, PartialEq, Eq)]
@@ -56,6 +74,31 @@ impl Tier {
             Tier::OneInThousand => 761,
             Tier::OneInTenThousand => 991,
             Tier::OneInHundredThousand => 1_221,
+        }
+    }
+
+    /// Returns by what the square of the normal quantile grows, in thousandths, if the variance is that
+    /// over some batches: four or more.
+    #[tactic(auto, unfolding(crate::specs::Tiers::student_of))]
+    pub(crate) fn student(self, batches: usize) -> u64
+        requires { 4 ≤ batches }
+        ensures value { result ≡ student_of self batches }
+        ensures some { 0 < result }
+    {
+        STUDENTS[batches.min(16) - 4][self.index()]
+    }
+
+    /// Returns the number of the tier, from 0.
+    fn index(self) -> usize
+        ensures value { result ≡ index_of self }
+        ensures within { result < 5 }
+    {
+        match self {
+            Tier::FivePercent => 0,
+            Tier::OnePercent => 1,
+            Tier::OneInThousand => 2,
+            Tier::OneInTenThousand => 3,
+            Tier::OneInHundredThousand => 4,
         }
     }
 

@@ -1,0 +1,11 @@
+use Rattle.std.proofs.Common.{◌-◌, ◌<◌, ◌≤◌}
+use Rattle.hdr_compare.specs.Changes.{ExceedsBy}
+use Rattle.hdr_compare.proofs.changes.least_ratio.Given as goal
+
+abbrev pub invariant-loop-low : goal.invariant-loop-low
+invariant-loop-low l = (l.low ≤ l.high) × (l.high ≤ 10000000)
+    × (0 < l.low → ExceedsBy (l.low - 1) 1000 l.fn.before l.fn.after)
+    × (l.high < 10000000 → ExceedsBy l.high 1000 l.fn.before l.fn.after → ⊥)
+
+abbrev pub decreases-loop-low : goal.decreases-loop-low
+decreases-loop-low l = l.high - l.low

@@ -1,0 +1,5 @@
+use Rattle.std.proofs.Common.{◌≤◌}
+use Rattle.hdr_compare.proofs.run.Run.high_end.Given as goal
+
+abbrev pub invariant-loop : goal.invariant-loop
+invariant-loop l = l.independent ≤ l.fn.independent

@@ -1,0 +1,169 @@
+//! The interval of a quantile: from a sample to another, by the classes of samples.
+
+ghost use Rattle.std.specs.Prelude.{◌≡◌, min};
+
+use crate::counting::counted_upto;
+use crate::ends::Basis;
+use crate::run::Run;
+use crate::tiers::Tier;
+use hdrhistogram::Quantile;
+use std::alloc::{AllocError, Global};
+
+/// An end of an interval. There is none if the samples are too few.
+#[derive(Clone, Copy)]
+pub struct End {
+    pub value: Option<u64>,
+    /// As how many independent samples all of them count.
+    pub independent: u64,
+}
+
+/// The interval of a quantile: chance leaves the quantile of all that could be sampled between its
+/// ends.
+#[derive(Clone, Copy)]
+pub struct Interval {
+    /// The greatest value of the class of the sample at the quantile.
+    pub value: u64,
+    /// The least value of the class of a sample, and the greatest one of that of another.
+    pub low: End,
+    pub high: End,
+}
+
+impl Interval {
+    /// Returns as how many independent samples those of the run count.
+    pub fn independent(&self) -> u64
+        ensures { result ≡ min self.now.low.independent self.now.high.independent }
+    {
+        self.low.independent.min(self.high.independent)
+    }
+}
+
+impl End {
+    ghost use Rattle.std.specs.Prelude.{◌≡◌, None, Some};
+
+    /// Returns an end, if the samples count as some independent ones.
+    fn at(value: u64, independent: u64) -> End
+        ensures value { result.value ≡ Some value }
+        ensures independent { result.independent ≡ independent }
+    {
+        End {
+            value: Some(value),
+            independent,
+        }
+    }
+
+    /// Returns that there is no end.
+    fn open(independent: u64) -> End
+        ensures value { result.value ≡ None }
+        ensures independent { result.independent ≡ independent }
+    {
+        End {
+            value: None,
+            independent,
+        }
+    }
+}
+
+impl Run {
+    ghost use Rattle.std.specs.Prelude.{◌≤◌, IfOk, IfSome};
+    ghost use Rattle.hdr_compare.specs.Intervals.{AreEnds, IsHighEnd, IsLowEnd};
+    ghost use Rattle.hdr_compare.specs.Runs.{batches_of};
+
+    /// Returns the interval of a quantile, or `None` if there are no samples. The denominator of the
+    /// quantile is at most 1,000,000.
+    pub fn interval(
+        &self,
+        alloc: Global,
+        quantile: Quantile,
+        tier: Tier,
+    ) -> Result<Option<Interval>, AllocError>
+        requires den { quantile.den ≤ 1000000 }
+        requires proper { quantile.num ≤ quantile.den }
+        ensures { IfOk result (λ found. IfSome found (AreEnds (batches_of self.now) quantile tier)) }
+    {
+        if self.samples == 0 {
+            return Ok(None);
+        }
+        let value = self.all.value_at_quantile(quantile);
+        let below = self.all.lowest_equivalent(value).checked_sub(1);
+        let under = counted_upto(alloc, &self.batches, below, tier)?;
+        let upto = counted_upto(alloc, &self.batches, Some(value), tier)?;
+        let independent = under.independent.min(upto.independent);
+        Ok(Some(Interval {
+            value,
+            low: self.low_end(alloc, quantile, tier, value, independent)?,
+            high: self.high_end(alloc, quantile, tier, value, independent)?,
+        }))
+    }
+
+    /// Returns the lower end of the interval of a quantile, from the class of a value downwards.
+    pub(crate) fn low_end(
+        &self,
+        alloc: Global,
+        quantile: Quantile,
+        tier: Tier,
+        value: u64,
+        independent: u64,
+    ) -> Result<End, AllocError>
+        requires den { quantile.den ≤ 1000000 }
+        requires proper { quantile.num ≤ quantile.den }
+        ensures low { IfOk result (λ end. IfSome end.value
+            (IsLowEnd (batches_of self.now) quantile tier end.independent)) }
+        ensures independent { IfOk result (λ end. end.independent ≤ independent) }
+    {
+        let mut independent = independent;
+        let mut low = self.all.lowest_equivalent(value);
+        for _ in 0..u64::MAX {
+            let under = counted_upto(alloc, &self.batches, low.checked_sub(1), tier)?;
+            independent = independent.min(under.independent);
+            let basis = Basis {
+                samples: self.samples,
+                independent,
+                quantile,
+                tier,
+            };
+            match basis.is_low_end(under.count) {
+                Some(true) => return Ok(End::at(low, independent)),
+                Some(false) => return Ok(End::open(independent)),
+                None => {}
+            }
+            low = self.all.lowest_equivalent(self.value_at_rank(under.count));
+        }
+        Ok(End::open(independent))
+    }
+
+    /// Returns the upper end of the interval of a quantile, from the class of a value upwards.
+    pub(crate) fn high_end(
+        &self,
+        alloc: Global,
+        quantile: Quantile,
+        tier: Tier,
+        value: u64,
+        independent: u64,
+    ) -> Result<End, AllocError>
+        requires den { quantile.den ≤ 1000000 }
+        requires proper { quantile.num ≤ quantile.den }
+        ensures high { IfOk result (λ end. IfSome end.value
+            (IsHighEnd (batches_of self.now) quantile tier end.independent)) }
+        ensures independent { IfOk result (λ end. end.independent ≤ independent) }
+    {
+        let mut independent = independent;
+        let mut high = self.all.highest_equivalent(value);
+        for _ in 0..u64::MAX {
+            let upto = counted_upto(alloc, &self.batches, Some(high), tier)?;
+            independent = independent.min(upto.independent);
+            let basis = Basis {
+                samples: self.samples,
+                independent,
+                quantile,
+                tier,
+            };
+            match basis.is_high_end(upto.count) {
+                Some(true) => return Ok(End::at(high, independent)),
+                Some(false) => return Ok(End::open(independent)),
+                None => {}
+            }
+            high = self.value_at_rank(upto.count.saturating_add(1));
+        }
+        Ok(End::open(independent))
+    }
+}
