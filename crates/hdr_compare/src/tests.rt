@@ -51,95 +51,59 @@ fn compare(alloc: Global, rt: &impl Abort, run: &Run, wanted: Wanted) -> Result<
     Ok(())
 }
 
+/// Returns what the interval of the median of the numbers has to be.
+fn median(tier: Tier, low: Option<u64>, high: Option<u64>, independent: u64) -> Wanted {
+    Wanted {
+        num: 1,
+        den: 2,
+        tier,
+        value: 500,
+        low,
+        high,
+        independent,
+    }
+}
+
+/// Returns what the interval of the percentile of 99 has to be.
+fn tail(tier: Tier, low: Option<u64>, high: Option<u64>, independent: u64) -> Wanted {
+    Wanted {
+        num: 99,
+        den: 100,
+        tier,
+        value: 990,
+        low,
+        high,
+        independent,
+    }
+}
+
 #[test]
 fn ends_of_samples_in_no_order(rt: HostRuntime) -> Result<(), Fail> {
-    let run = run_of(rt.alloc(), 7_919)?;
-    let wanted = Wanted {
-        num: 1,
-        den: 2,
-        tier: Tier::FivePercent,
-        value: 500,
-        low: Some(469),
-        high: Some(532),
-        independent: 1000,
-    };
-    compare(rt.alloc(), &rt, &run, wanted)?;
-    let wanted = Wanted {
-        num: 99,
-        den: 100,
-        tier: Tier::FivePercent,
-        value: 990,
-        low: Some(981),
-        high: Some(998),
-        independent: 618,
-    };
-    compare(rt.alloc(), &rt, &run, wanted)?;
-    let wanted = Wanted {
-        num: 1,
-        den: 2,
-        tier: Tier::OnePercent,
-        value: 500,
-        low: Some(459),
-        high: Some(542),
-        independent: 1000,
-    };
-    compare(rt.alloc(), &rt, &run, wanted)?;
-    let wanted = Wanted {
-        num: 99,
-        den: 100,
-        tier: Tier::OnePercent,
-        value: 990,
-        low: Some(977),
-        high: None,
-        independent: 518,
-    };
-    compare(rt.alloc(), &rt, &run, wanted)?;
-    let wanted = Wanted {
-        num: 99,
-        den: 100,
-        tier: Tier::OneInThousand,
-        value: 990,
-        low: Some(969),
-        high: None,
-        independent: 390,
-    };
-    compare(rt.alloc(), &rt, &run, wanted)?;
+    let alloc = rt.alloc();
+    let run = run_of(alloc, 7_919)?;
+    let wanted = median(Tier::FivePercent, Some(469), Some(532), 1_000);
+    compare(alloc, &rt, &run, wanted)?;
+    let wanted = tail(Tier::FivePercent, Some(981), Some(998), 618);
+    compare(alloc, &rt, &run, wanted)?;
+    let wanted = median(Tier::OnePercent, Some(459), Some(542), 1_000);
+    compare(alloc, &rt, &run, wanted)?;
+    let wanted = tail(Tier::OnePercent, Some(977), None, 518);
+    compare(alloc, &rt, &run, wanted)?;
+    let wanted = tail(Tier::OneInThousand, Some(969), None, 390);
+    compare(alloc, &rt, &run, wanted)?;
     Ok(())
 }
 
 #[test]
 fn ends_of_ascending_samples(rt: HostRuntime) -> Result<(), Fail> {
-    let run = run_of(rt.alloc(), 1)?;
-    let wanted = Wanted {
-        num: 1,
-        den: 2,
-        tier: Tier::FivePercent,
-        value: 500,
-        low: Some(113),
-        high: Some(888),
-        independent: 6,
-    };
-    compare(rt.alloc(), &rt, &run, wanted)?;
-    let wanted = Wanted {
-        num: 1,
-        den: 2,
-        tier: Tier::OnePercent,
-        value: 500,
-        low: None,
-        high: None,
-        independent: 5,
-    };
-    compare(rt.alloc(), &rt, &run, wanted)?;
-    let wanted = Wanted {
-        num: 99,
-        den: 100,
-        tier: Tier::OnePercent,
-        value: 990,
-        low: Some(583),
-        high: None,
-        independent: 5,
-    };
-    compare(rt.alloc(), &rt, &run, wanted)?;
+    let alloc = rt.alloc();
+    let run = run_of(alloc, 1)?;
+    let wanted = median(Tier::FivePercent, Some(113), Some(888), 6);
+    compare(alloc, &rt, &run, wanted)?;
+    let wanted = median(Tier::OnePercent, None, None, 5);
+    compare(alloc, &rt, &run, wanted)?;
+    let wanted = tail(Tier::OnePercent, Some(583), None, 5);
+    compare(alloc, &rt, &run, wanted)?;
     Ok(())
 }
 
