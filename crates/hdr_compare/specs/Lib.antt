@@ -7,3 +7,5 @@ pub mod Ends
 pub mod Intervals
 pub mod EndsOf
 pub mod Runs
+pub mod Verdicts
+pub mod Shifts

@@ -10,12 +10,16 @@ mod ends;
 mod interval;
 mod ranks;
 mod run;
+mod shifts;
 #[cfg(test)]
 mod tests;
 mod tiers;
+mod verdicts;
 
-pub use changes::{Measured, exceeds, falls_below};
+pub use changes::{Measured, exceeds, falls_below, greatest_ratio, least_ratio};
 pub use interval::{End, Interval};
 pub use ranks::{is_far, is_far_above, is_far_below};
 pub use run::{BatchError, Run};
+pub use shifts::comparable;
 pub use tiers::Tier;
+pub use verdicts::{Verdict, nearest_ratio, verdict_of};
