@@ -2,3 +2,4 @@ pub mod Bounds
 pub mod Batches
 pub mod SameBatches
 pub mod Intervals
+pub mod Parts

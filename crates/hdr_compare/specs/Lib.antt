@@ -9,3 +9,5 @@ pub mod EndsOf
 pub mod Runs
 pub mod Verdicts
 pub mod Shifts
+pub mod Parts
+pub mod Batchings

@@ -3,11 +3,13 @@
 #![tactic(auto)]
 
 mod batch;
+mod batching;
 mod changes;
 mod counting;
 mod effective;
 mod ends;
 mod interval;
+mod merging;
 mod ranks;
 mod run;
 mod shifts;
@@ -16,6 +18,7 @@ mod tests;
 mod tiers;
 mod verdicts;
 
+pub use batching::Batching;
 pub use changes::{Measured, exceeds, falls_below, greatest_ratio, least_ratio};
 pub use interval::{End, Interval};
 pub use ranks::{is_far, is_far_above, is_far_below};

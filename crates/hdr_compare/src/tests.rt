@@ -120,3 +120,41 @@ fn a_run_without_samples_has_no_interval(rt: HostRuntime) -> Result<(), Fail> {
     }
     Ok(())
 }
+
+/// Returns the numbers of samples of the batches of some numbers that are recorded, each once.
+fn sizes_of(alloc: Global, numbers: u64) -> Result<Vec<u64>, Fail> {
+    let mut batching = Batching::new(alloc, 3)?;
+    for number in 0..numbers {
+        batching.record(number, 0)?;
+    }
+    let mut sizes = Vec::new(alloc);
+    for batch in &batching.into_batches()? {
+        sizes.push(batch.len())?;
+    }
+    Ok(sizes)
+}
+
+#[test]
+fn batches_have_one_size_but_the_last(rt: HostRuntime) -> Result<(), Fail> {
+    let alloc = rt.alloc();
+    assert!(rt; sizes_of(alloc, 3)?.as_slice() == [1, 1, 1].as_slice());
+    assert!(rt; sizes_of(alloc, 16)?.as_slice() == [1; 16].as_slice());
+    assert!(rt; sizes_of(alloc, 17)?.as_slice() == [2, 2, 2, 2, 2, 2, 2, 2, 1].as_slice());
+    assert!(rt; sizes_of(alloc, 32)?.as_slice() == [2; 16].as_slice());
+    let hundred = [8, 8, 8, 8, 8, 8, 8, 8, 8, 8, 8, 8, 4];
+    assert!(rt; sizes_of(alloc, 100)?.as_slice() == hundred.as_slice());
+    Ok(())
+}
+
+#[test]
+fn missing_samples_are_of_the_batch_of_their_number(rt: HostRuntime) -> Result<(), Fail> {
+    let mut batching = Batching::new(rt.alloc(), 3)?;
+    batching.record(50, 10)?;
+    batching.record(5, 10)?;
+    let mut sizes = Vec::new(rt.alloc());
+    for batch in &batching.into_batches()? {
+        sizes.push(batch.len())?;
+    }
+    assert!(rt; sizes.as_slice() == [5, 1].as_slice());
+    Ok(())
+}
