@@ -11,6 +11,10 @@ use Rattle.hdr_compare.specs.declared.batching.Batching.{Batching}
 abbrev pub batches_of : Batching → List Plain
 batches_of b = b.full.items ++ b.last ∷ []
 
+-- the significant digits of their classes
+abbrev pub digits_of : Batching → ℕ
+digits_of b = b.sigfig
+
 -- a number, and the samples that are missing before it
 abbrev pub recorded : (value interval : ℕ) → List ℕ
 recorded value interval = samples_of (each_times 1 (value ∷ missing value interval))

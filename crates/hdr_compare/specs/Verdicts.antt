@@ -1,5 +1,5 @@
 -- What is said of a change.
-use Rattle.std.specs.Prelude.{◌≡◌, ℕ, ◌+◌, ◌*◌, ◌/◌, ◌<◌, ◌⊎◌}
+use Rattle.std.specs.Prelude.{◌≡◌, ℕ, ◌+◌, ◌*◌, ◌/◌, ◌^◌, ◌<◌, ◌≤◌, ◌⊎◌}
 use Rattle.hdr_compare.specs.Changes.{ExceedsBy, FallsBelowBy, IsOpen}
 use Rattle.hdr_compare.specs.declared.changes.Measured.{Measured}
 use Rattle.hdr_compare.specs.declared.verdicts.Verdict.{Verdict}
@@ -13,10 +13,14 @@ pub record IsWithinChance (x y : Measured) : Type 0 where
 abbrev pub IsVerdict : Measured → Measured → Verdict → Type 0
 IsVerdict x y Slower = ExceedsBy 1 1 x y
 IsVerdict x y Faster = FallsBelowBy 1 1 x y
-IsVerdict x y Same = IsWithinChance x y
+IsVerdict x y Same = IsWithinChance x y × (IsOpen x.high y.low → ⊥) × (IsOpen x.low y.high → ⊥)
 IsVerdict x y TooFew = IsWithinChance x y × (IsOpen x.high y.low ⊎ IsOpen x.low y.high)
 
 -- the nearest ratio of two values, in thousandths
 pub record IsNearestRatio (before after ratio : ℕ) : Type 0 where
   pub some : 0 < before
   pub nearest : ratio ≡ (2000 * after + before) / (2 * before)
+
+-- there is no ratio to 0, and none that does not fit 64 bits
+abbrev pub HasNoRatio : (before after : ℕ) → Type 0
+HasNoRatio before after = (before ≡ 0) ⊎ (2 ^ 64 ≤ (2000 * after + before) / (2 * before))

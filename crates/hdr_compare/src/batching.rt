@@ -30,12 +30,13 @@ pub struct Batching {
 
 impl Batching {
     ghost use Rattle.std.specs.Prelude.{ℕ, List, ◌++◌, ◌<◌, ◌^◌, length, OnOk};
-    ghost use Rattle.hdr_compare.specs.Batchings.{HasRecorded, batches_of, recorded};
+    ghost use Rattle.hdr_compare.specs.Batchings.{HasRecorded, batches_of, digits_of, recorded};
 
     /// Returns no samples. Their classes have these significant digits, up to 5.
     pub fn new(alloc: Global, sigfig: u8) -> Result<Batching, BatchError>
         requires { sigfig ≤ 5 }
-        ensures { IfOk result (HasRecorded []) }
+        ensures none { IfOk result (HasRecorded []) }
+        ensures digits { IfOk result (λ b. digits_of b ≡ sigfig) }
     {
         Ok(Batching {
             alloc,
@@ -50,7 +51,8 @@ impl Batching {
     /// Records a number, and the samples that are missing before it if one was due each `interval`
     /// (0: none is). After an error the samples are lost.
     pub fn record(&mut self, value: u64, interval: u64) -> Result<(), BatchError>
-        ensures { OnOk result ((S : List ℕ) → length (S ++ recorded value interval) < 2 ^ 64
+        ensures digits { digits_of self.new ≡ digits_of self.old }
+        ensures samples { OnOk result ((S : List ℕ) → length (S ++ recorded value interval) < 2 ^ 64
             → HasRecorded S self.old → HasRecorded (S ++ recorded value interval) self.new) }
     {
         if self.filled >= self.size {
@@ -63,7 +65,8 @@ impl Batching {
 
     /// Records a number in the last batch.
     fn add(&mut self, value: u64, interval: u64) -> Result<(), BatchError>
-        ensures { OnOk result ((S : List ℕ) → length (S ++ recorded value interval) < 2 ^ 64
+        ensures digits { digits_of self.new ≡ digits_of self.old }
+        ensures samples { OnOk result ((S : List ℕ) → length (S ++ recorded value interval) < 2 ^ 64
             → HasRecorded S self.old → HasRecorded (S ++ recorded value interval) self.new) }
     {
         match self.last.record_correct(value, interval) {
@@ -74,7 +77,8 @@ impl Batching {
 
     /// Begins a new batch, after the full ones.
     fn begin(&mut self) -> Result<(), BatchError>
-        ensures { OnOk result ((S : List ℕ) → length S < 2 ^ 64 → HasRecorded S self.old → HasRecorded S self.new) }
+        ensures digits { digits_of self.new ≡ digits_of self.old }
+        ensures samples { OnOk result ((S : List ℕ) → length S < 2 ^ 64 → HasRecorded S self.old → HasRecorded S self.new) }
     {
         let last = mem::replace(&mut self.last, empty(self.alloc, self.sigfig)?);
         push(&mut self.full, last)?;

@@ -1,6 +1,6 @@
 //! Whether a percentile changed.
 
-ghost use Rattle.std.specs.Prelude.{◌≡◌, ◌↔◌, ◌-◌, ◌*◌, ◌^◌, ◌<◌, ◌≤◌, IfSome, IsTrue, MatchOption};
+ghost use Rattle.std.specs.Prelude.{◌≡◌, ◌↔◌, ◌-◌, ◌*◌, ◌^◌, ◌<◌, ◌≤◌, IsTrue, MatchOption};
 ghost use Rattle.hdr_compare.specs.Changes.{Exceeds, ExceedsBy, FallsBelow, FallsBelowBy, IsComparable, IsGreatestRatio, IsLeastRatio, IsOpen, square};
 
 /// A percentile of a run: its value, and the ends of its interval, as far as the samples reach them.
@@ -82,7 +82,8 @@ pub fn exceeds(num: u64, den: u64, before: &Measured, after: &Measured) -> Optio
     requires before { IsComparable before.now }
     requires after { IsComparable after.now }
     ensures { MatchOption result (IsOpen before.now.high after.now.low)
-        (λ b. IsTrue b ↔ ExceedsBy num den before.now after.now) }
+        (λ b. (IsOpen before.now.high after.now.low → ⊥)
+        × (IsTrue b ↔ ExceedsBy num den before.now after.now)) }
 {
     match (before.high, after.low) {
         (Some(high), Some(low)) => Some(is_beyond(num, den, before.value, high, after.value, low)),
@@ -97,7 +98,8 @@ pub fn falls_below(num: u64, den: u64, before: &Measured, after: &Measured) -> O
     requires before { IsComparable before.now }
     requires after { IsComparable after.now }
     ensures { MatchOption result (IsOpen before.now.low after.now.high)
-        (λ b. IsTrue b ↔ FallsBelowBy num den before.now after.now) }
+        (λ b. (IsOpen before.now.low after.now.high → ⊥)
+        × (IsTrue b ↔ FallsBelowBy num den before.now after.now)) }
 {
     match (before.low, after.high) {
         (Some(low), Some(high)) => Some(is_short(num, den, before.value, low, after.value, high)),
@@ -117,7 +119,8 @@ pub fn least_ratio(before: &Measured, after: &Measured) -> Option<u64>
     requires before { IsComparable before.now }
     requires after { IsComparable after.now }
     ensures { MatchOption result (IsOpen before.now.high after.now.low)
-        (IsLeastRatio before.now after.now) }
+        (λ ratio. (IsOpen before.now.high after.now.low → ⊥)
+        × IsLeastRatio before.now after.now ratio) }
 {
     let _ = exceeds(0, THOUSAND, before, after)?;
     let mut low = 0;
@@ -137,7 +140,8 @@ pub fn least_ratio(before: &Measured, after: &Measured) -> Option<u64>
 pub fn greatest_ratio(before: &Measured, after: &Measured) -> Option<u64>
     requires before { IsComparable before.now }
     requires after { IsComparable after.now }
-    ensures { IfSome result (IsGreatestRatio before.now after.now) }
+    ensures { MatchOption result (FallsBelowBy 10000000 1000 before.now after.now → ⊥)
+        (IsGreatestRatio before.now after.now) }
 {
     if falls_below(MOST_RATIO, THOUSAND, before, after) != Some(true) {
         return None;

@@ -64,8 +64,8 @@ impl End {
 }
 
 impl Run {
-    ghost use Rattle.std.specs.Prelude.{◌≤◌, IfOk, IfSome};
-    ghost use Rattle.hdr_compare.specs.Intervals.{AreEnds, IsHighEnd, IsLowEnd};
+    ghost use Rattle.std.specs.Prelude.{◌≤◌, IfOk, IfSome, MatchOption};
+    ghost use Rattle.hdr_compare.specs.Intervals.{AreEnds, IsHighEnd, IsLowEnd, samples_of};
     ghost use Rattle.hdr_compare.specs.Runs.{batches_of};
 
     /// Returns the interval of a quantile, or `None` if there are no samples. The denominator of the
@@ -78,7 +78,8 @@ impl Run {
     ) -> Result<Option<Interval>, AllocError>
         requires den { quantile.den ≤ 1000000 }
         requires proper { quantile.num ≤ quantile.den }
-        ensures { IfOk result (λ found. IfSome found (AreEnds (batches_of self.now) quantile tier)) }
+        ensures { IfOk result (λ found. MatchOption found (samples_of (batches_of self.now) ≡ 0)
+            (AreEnds (batches_of self.now) quantile tier)) }
     {
         if self.samples == 0 {
             return Ok(None);

@@ -1,8 +1,8 @@
 //! Whether a run is slower or faster than another.
 
-ghost use Rattle.std.specs.Prelude.{IfSome};
+ghost use Rattle.std.specs.Prelude.{MatchOption};
 ghost use Rattle.hdr_compare.specs.Changes.{IsComparable};
-ghost use Rattle.hdr_compare.specs.Verdicts.{IsNearestRatio, IsVerdict};
+ghost use Rattle.hdr_compare.specs.Verdicts.{HasNoRatio, IsNearestRatio, IsVerdict};
 
 use crate::changes::{Measured, exceeds, falls_below};
 
@@ -38,7 +38,7 @@ pub fn verdict_of(before: &Measured, after: &Measured) -> Verdict
 /// Returns the nearest ratio of `after` to `before` in thousandths, halves up, or `None` if `before`
 /// is 0 or the ratio does not fit 64 bits.
 pub fn nearest_ratio(before: u64, after: u64) -> Option<u64>
-    ensures { IfSome result (IsNearestRatio before after) }
+    ensures { MatchOption result (HasNoRatio before after) (IsNearestRatio before after) }
 {
     let twice = (2_000 * u128::from(after) + u128::from(before)).checked_div(
         2 * u128::from(before),

@@ -6,8 +6,8 @@ use Rattle.hdr_compare.specs.Batchings.{recorded}
 use Rattle.hdr_compare.proofs.Parts.{last-classes, last-gains}
 use Rattle.hdr_compare.proofs.batching.Batching.add.Goals as goal
 
-pub returns-in-Ok : goal.returns-in-Ok
-returns-in-Ok c S few has =
+pub returns-in-Ok-clause-samples : goal.returns-in-Ok-clause-samples
+returns-in-Ok-clause-samples c S few has =
     let old = c.args.self.now in
     let front = old.full.items in
     let more = c.record_correct.new.self in

@@ -7,8 +7,8 @@ use Rattle.hdr_compare.specs.Parts.{AreParts, HaveClasses}
 use Rattle.hdr_compare.proofs.Parts.{classes-end, parts-end}
 use Rattle.hdr_compare.proofs.batching.Batching.begin.Goals as goal
 
-pub returns-else-len-ge-MOST : goal.returns-else-len-ge-MOST
-returns-else-len-ge-MOST c S few has =
+pub returns-else-len-ge-MOST-clause-samples : goal.returns-else-len-ge-MOST-clause-samples
+returns-else-len-ge-MOST-clause-samples c S few has =
     let old = c.args.self.now in
     let g = resolution_of 1 old.sigfig in
     let all = c.push.new.batches.items in
@@ -21,8 +21,8 @@ returns-else-len-ge-MOST c S few has =
       classes = classes-end g all more classes (subst (HaveClasses g) (sym same) has.classes);
     }
 
-pub returns-in_ok-self : goal.returns-in_ok-self
-returns-in_ok-self c S few has =
+pub returns-in_ok-self-clause-samples : goal.returns-in_ok-self-clause-samples
+returns-in_ok-self-clause-samples c S few has =
     let old = c.args.self.now in
     let g = resolution_of 1 old.sigfig in
     let all = c.replace-full.result.items in
