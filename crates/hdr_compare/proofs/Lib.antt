@@ -3,3 +3,4 @@ pub mod Batches
 pub mod SameBatches
 pub mod Intervals
 pub mod Parts
+pub mod Widths

@@ -28,7 +28,7 @@ keeps-behind [] a b keeps = keeps
 keeps-behind (h ∷ front) a b keeps = keeps-after h (front ++ a) (front ++ b) (keeps-behind front a b keeps)
 
 -- samples that can be counted can be so in each class
-fits-of : (g : Resolution) (S : List ℕ) → length S < 2 ^ 64 → Fits (2 ^ 64 - 1) g S
+pub fits-of : (g : Resolution) (S : List ℕ) → length S < 2 ^ 64 → Fits (2 ^ 64 - 1) g S
 fits-of g S few = record {
   in_all = few;
   in_classes = λ i. omega (arith, few, count_by-le-length (λ s. eqb (bin_of g s) i) S);

@@ -11,3 +11,4 @@ pub mod Verdicts
 pub mod Shifts
 pub mod Parts
 pub mod Batchings
+pub mod Sums

@@ -64,9 +64,11 @@ impl End {
 }
 
 impl Run {
-    ghost use Rattle.std.specs.Prelude.{◌≤◌, IfOk, IfSome, MatchOption};
+    ghost use Rattle.std.specs.Prelude.{ℕ, List, ◌<◌, ◌≤◌, length, IfOk, IfSome, MatchOption};
     ghost use Rattle.hdr_compare.specs.Intervals.{AreEnds, IsHighEnd, IsLowEnd, samples_of};
-    ghost use Rattle.hdr_compare.specs.Runs.{batches_of};
+    ghost use Rattle.hdr_model.specs.Quantiles.{IsTopNear, ranked_sample};
+    ghost use Rattle.hdr_model.specs.Samples.{StandsFor};
+    ghost use Rattle.hdr_compare.specs.Runs.{all_of, batches_of};
 
     /// Returns the interval of a quantile, or `None` if there are no samples. The denominator of the
     /// quantile is at most 1,000,000.
@@ -78,7 +80,9 @@ impl Run {
     ) -> Result<Option<Interval>, AllocError>
         requires den { quantile.den ≤ 1000000 }
         requires proper { quantile.num ≤ quantile.den }
-        ensures { IfOk result (λ found. MatchOption found (samples_of (batches_of self.now) ≡ 0)
+        ensures value { IfOk result (λ found. IfSome found (λ i. (S : List ℕ) → StandsFor (all_of self.now) S
+            → 0 < length S → 0 < quantile.num → IsTopNear (all_of self.now) (ranked_sample quantile S) i.value)) }
+        ensures ends { IfOk result (λ found. MatchOption found (samples_of (batches_of self.now) ≡ 0)
             (AreEnds (batches_of self.now) quantile tier)) }
     {
         if self.samples == 0 {

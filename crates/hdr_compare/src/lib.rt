@@ -13,6 +13,7 @@ mod merging;
 mod ranks;
 mod run;
 mod shifts;
+mod sums;
 #[cfg(test)]
 mod tests;
 mod tiers;

@@ -1,8 +1,9 @@
 //! The samples of a run.
 
-ghost use Rattle.std.specs.Prelude.{◌≡◌, ◌-◌, ◌<◌, ◌≤◌, ◌^◌, length, min, IfErr};
+ghost use Rattle.std.specs.Prelude.{◌≡◌, ◌-◌, ◌<◌, ◌≤◌, ◌^◌, length, min};
 ghost use Rattle.std.specs.List.{sum_by};
 
+use crate::sums::sum_of;
 use hdrhistogram::{Histogram, Quantile};
 use std::alloc::Global;
 use thiserror::Error;
@@ -38,8 +39,9 @@ pub struct Run {
 }
 
 impl Run {
-    ghost use Rattle.std.specs.Prelude.{◌⊎◌, IfOk};
-    ghost use Rattle.hdr_compare.specs.Runs.{batches_of};
+    ghost use Rattle.std.specs.Prelude.{◌⊎◌, IfErr, IfOk};
+    ghost use Rattle.hdr_compare.specs.Runs.{all_of, batches_of};
+    ghost use Rattle.hdr_compare.specs.Sums.{IsSumOf};
 
     /// Returns the samples of a run: batches of one after the other.
     ///
@@ -48,6 +50,7 @@ impl Run {
     /// `OutOfMemory` if an allocation fails.
     pub fn new(alloc: Global, batches: Vec<Histogram<u64>>) -> Result<Run, BatchError>
         ensures batches { IfOk result (λ run. batches_of run ≡ batches.items) }
+        ensures all { IfOk result (λ run. IsSumOf batches.items (all_of run)) }
         ensures errors { IfErr result (λ e. (e ≡ BatchError.OutOfMemory)
             ⊎ (2 ^ 40 ≤ sum_by (λ h. h.total) batches.items)
             ⊎ (2 ^ 20 < length batches.items)) }
@@ -81,33 +84,4 @@ fn total_of(batches: &[Histogram<u64>]) -> u64
         total = total.saturating_add(batch.len());
     }
     total
-}
-
-/// Returns the sum of batches, in classes that have those of all of them in them.
-fn sum_of(alloc: Global, batches: &[Histogram<u64>]) -> Result<Histogram<u64>, BatchError>
-    ensures { IfErr result (λ e. e ≡ BatchError.OutOfMemory) }
-{
-    let mut low = 1u64;
-    let mut sigfig = 5u8;
-    for batch in batches {
-        low = low.max(batch.low());
-        sigfig = sigfig.min(batch.sigfig());
-    }
-    match Histogram::new_with_bounds(alloc, low, low.saturating_mul(2), sigfig) {
-        Ok(sum) => added(sum, batches),
-        Err(_) => Err(BatchError::OutOfMemory),
-    }
-}
-
-/// Returns a sum to which batches are added. It grows.
-fn added(mut sum: Histogram<u64>, batches: &[Histogram<u64>]) -> Result<Histogram<u64>, BatchError>
-    ensures { IfErr result (λ e. e ≡ BatchError.OutOfMemory) }
-{
-    sum.auto(true);
-    for batch in batches {
-        if sum.add(batch).is_err() {
-            return Err(BatchError::OutOfMemory);
-        }
-    }
-    Ok(sum)
 }

@@ -1,0 +1,7 @@
+use Rattle.std.proofs.Common.{ℕ, ◌<◌, get_or}
+use Rattle.hdr_model.specs.Plain.{Plain}
+use Rattle.hdr_compare.specs.Sums.{IsWithin}
+use Rattle.hdr_compare.proofs.sums.width_of.Given as goal
+
+abbrev pub invariant-loop-batch : goal.invariant-loop-batch
+invariant-loop-batch l = (k : ℕ) (d : Plain) → k < l.batch-index → IsWithin l.width (get_or l.fn.batches k d)
