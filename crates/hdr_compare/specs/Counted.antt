@@ -8,7 +8,7 @@ use Rattle.hdr_compare.specs.declared.batch.Batch.{Batch}
 use Rattle.hdr_compare.specs.declared.counting.Counted.{Counted}
 use Rattle.hdr_compare.specs.declared.tiers.Tier.{Tier}
 
--- how many samples of a histogram are in the class of a value, or below it; if there is no value, none is
+-- how many samples of a histogram are in the class of a value, or below it; none is without a value
 abbrev pub upto : Option ℕ → Plain → ℕ
 upto None h = 0
 upto (Some v) h = if h.total == 0 then 0 else (quantile_below h v).num

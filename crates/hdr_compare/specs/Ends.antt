@@ -16,10 +16,10 @@ pub record IsFarHigh (n e : ℕ) (q : Ratio) (upto z : ℕ) : Type 0 where
   pub shift : ℕ
   pub far : IsFarAbove shift n e q (upto - 1) z
 
--- so many independent samples are expected below the quantile that the first sample is the end of the interval
+-- enough independent samples are expected below the quantile for the first sample to be the end of the interval
 abbrev pub ReachesFirst : (e : ℕ) → Ratio → (edge : ℕ) → Type 0
 ReachesFirst e q edge = edge * q.den ≤ 100 * (e * q.num)
 
--- so many are expected above it that the last sample is the end
+-- enough are expected above it for the last sample to be the end
 abbrev pub ReachesLast : (e : ℕ) → Ratio → (edge : ℕ) → Type 0
 ReachesLast e q edge = edge * q.den ≤ 100 * (e * (q.den - q.num))

@@ -5,7 +5,7 @@ use Rattle.hdr_base.specs.Classes.{Resolution}
 use Rattle.hdr_model.specs.Plain.{Plain, resolution}
 use Rattle.hdr_model.specs.Samples.{StandsFor}
 
--- samples are cut in two: a histogram stands for the first part
+-- samples in two parts: a histogram stands for the first one
 pub record IsFirstPart (S : List ℕ) (h : Plain) (others : List ℕ) : Type 0 where
   pub first : List ℕ
   pub whole : S ≡ first ++ others

@@ -21,6 +21,6 @@ pub record IsNearestRatio (before after ratio : ℕ) : Type 0 where
   pub some : 0 < before
   pub nearest : ratio ≡ (2000 * after + before) / (2 * before)
 
--- there is no ratio to 0, and none that does not fit 64 bits
+-- a ratio to 0, and one that does not fit 64 bits, are left out
 abbrev pub HasNoRatio : (before after : ℕ) → Type 0
 HasNoRatio before after = (before ≡ 0) ⊎ (2 ^ 64 ≤ (2000 * after + before) / (2 * before))

@@ -110,7 +110,7 @@ pub fn falls_below(num: u64, den: u64, before: &Measured, after: &Measured) -> O
 /// The ratios of changes are in thousandths.
 const THOUSAND: u64 = 1_000;
 
-/// The greatest ratio that is told from others.
+/// The greatest ratio that is distinguished from others.
 const MOST_RATIO: u64 = 10_000_000;
 
 /// Returns the least ratio of `after` to `before`, in thousandths, that chance does not rule out, or

@@ -120,7 +120,7 @@ impl Basis {
         u128::from(self.quantile.num()) * u128::from(self.samples) < own
     }
 
-    /// Whether the interval begins with the first sample: so many are expected below the quantile.
+    /// Whether the interval begins with the first sample: enough are expected below the quantile.
     pub(crate) fn reaches_first(&self) -> bool
         requires den { self.now.quantile.den ≤ 1000000 }
         requires proper { self.now.quantile.num ≤ self.now.quantile.den }
@@ -130,7 +130,7 @@ impl Basis {
         u128::from(self.tier.edge()) * u128::from(self.quantile.den()) <= 100 * expected
     }
 
-    /// Whether the interval ends with the last sample: so many are expected above the quantile.
+    /// Whether the interval ends with the last sample: enough are expected above the quantile.
     pub(crate) fn reaches_last(&self) -> bool
         requires den { self.now.quantile.den ≤ 1000000 }
         requires proper { self.now.quantile.num ≤ self.now.quantile.den }

@@ -51,7 +51,7 @@ impl End {
         }
     }
 
-    /// Returns that there is no end.
+    /// Returns an end that the samples do not reach.
     fn open(independent: u64) -> End
         ensures value { result.value ≡ None }
         ensures independent { result.independent ≡ independent }
@@ -70,7 +70,7 @@ impl Run {
     ghost use Rattle.hdr_model.specs.Samples.{StandsFor};
     ghost use Rattle.hdr_compare.specs.Runs.{all_of, batches_of};
 
-    /// Returns the interval of a quantile, or `None` if there are no samples. The denominator of the
+    /// Returns the interval of a quantile, or `None` without samples. The denominator of the
     /// quantile is at most 1,000,000.
     pub fn interval(
         &self,
