@@ -1,4 +1,4 @@
-//! The interval of a quantile: from a sample to another, by the classes of samples.
+//! The confidence interval of a quantile: from a sample to another, by the classes of samples.
 
 ghost use Rattle.std.specs.Prelude.{◌≡◌, min};
 
@@ -13,12 +13,11 @@ use std::alloc::{AllocError, Global};
 #[derive(Clone, Copy)]
 pub struct End {
     pub value: Option<u64>,
-    /// As how many independent samples all of them count.
+    /// The effective number of independent samples.
     pub independent: u64,
 }
 
-/// The interval of a quantile: chance leaves the quantile of all that could be sampled between its
-/// ends.
+/// The confidence interval of a quantile.
 #[derive(Clone, Copy)]
 pub struct Interval {
     /// The greatest value of the class of the sample at the quantile.
@@ -29,7 +28,7 @@ pub struct Interval {
 }
 
 impl Interval {
-    /// Returns as how many independent samples those of the run count.
+    /// Returns the effective number of independent samples of the run.
     pub fn independent(&self) -> u64
         ensures { result ≡ min self.now.low.independent self.now.high.independent }
     {

@@ -1,5 +1,5 @@
-//! Two runs compared: the interval in which chance leaves a percentile, and changes that are greater
-//! than chance. All of it is decided by integers.
+//! Two runs compared: confidence intervals of percentiles, and changes beyond chance. All of it is
+//! decided by integers.
 #![tactic(auto)]
 
 mod batch;

@@ -10,8 +10,8 @@ use crate::changes::Measured;
 /// By how many bits values are shifted at most, so that they are below 2^40.
 const MOST_SHIFT: u32 = 25;
 
-/// Returns percentiles in units so great that they can be compared: both values are rounded down, and
-/// the ends of both intervals outwards.
+/// Returns percentiles in the smallest power of two as a unit in which both can be compared. Values
+/// are rounded down, and the ends of intervals outwards.
 pub fn comparable(before: &Measured, after: &Measured) -> (Measured, Measured)
     ensures before { IsComparable result.0 }
     ensures after { IsComparable result.1 }
