@@ -76,6 +76,11 @@ pub last-classes : (g : Resolution) (front : List Plain) (h more : Plain) → re
 last-classes g [] h more same classes = (same ∙ classes.0, classes.1)
 last-classes g (f ∷ front) h more same classes = (classes.0, last-classes g front h more same classes.1)
 
+-- the classes of the last histogram
+pub end-class : (g : Resolution) (front : List Plain) (h : Plain) → HaveClasses g (front ++ h ∷ []) → resolution h ≡ g
+end-class g [] h classes = classes.0
+end-class g (f ∷ front) h classes = end-class g front h classes.1
+
 -- one more stands for no samples
 pub parts-end : (hs : List Plain) (h : Plain) (S : List ℕ) → StandsFor h [] → AreParts S hs → AreParts S (hs ++ h ∷ [])
 parts-end [] h S stands none = ([], record { first = []; whole = none; stands = stands }, refl)

@@ -30,6 +30,7 @@ pub struct Batching {
 
 impl Batching {
     ghost use Rattle.std.specs.Prelude.{ℕ, List, ◌++◌, ◌<◌, ◌^◌, length, OnOk};
+    ghost use Rattle.hdr_base.specs.Classes.{IsFiner};
     ghost use Rattle.hdr_compare.specs.Batchings.{HasRecorded, batches_of, digits_of, recorded};
 
     /// Returns no samples. Their classes have these significant digits, up to 5.
@@ -58,13 +59,42 @@ impl Batching {
         if self.filled >= self.size {
             self.begin()?;
         }
-        self.add(value, interval)?;
+        self.record_in_last(value, interval)?;
         self.filled = self.filled.saturating_add(1);
         Ok(())
     }
 
+    /// Records all samples of a histogram, as those of an interval of time: batches then have the
+    /// same number of intervals. After an error the samples are lost.
+    pub fn add(&mut self, histogram: &Histogram<u64>) -> Result<(), BatchError>
+        ensures digits { digits_of self.new ≡ digits_of self.old }
+        ensures samples { OnOk result ((S T : List ℕ) → StandsFor histogram.now T
+            → IsFiner (resolution histogram.now) (resolution_of 1 (digits_of self.old))
+            → length (S ++ T) < 2 ^ 64 → HasRecorded S self.old → HasRecorded (S ++ T) self.new) }
+    {
+        if self.filled >= self.size {
+            self.begin()?;
+        }
+        self.add_to_last(histogram)?;
+        self.filled = self.filled.saturating_add(1);
+        Ok(())
+    }
+
+    /// Adds a histogram to the last batch.
+    fn add_to_last(&mut self, histogram: &Histogram<u64>) -> Result<(), BatchError>
+        ensures digits { digits_of self.new ≡ digits_of self.old }
+        ensures samples { OnOk result ((S T : List ℕ) → StandsFor histogram.now T
+            → IsFiner (resolution histogram.now) (resolution_of 1 (digits_of self.old))
+            → length (S ++ T) < 2 ^ 64 → HasRecorded S self.old → HasRecorded (S ++ T) self.new) }
+    {
+        match self.last.add(histogram) {
+            Ok(()) => Ok(()),
+            Err(_) => Err(BatchError::OutOfMemory),
+        }
+    }
+
     /// Records a number in the last batch.
-    fn add(&mut self, value: u64, interval: u64) -> Result<(), BatchError>
+    fn record_in_last(&mut self, value: u64, interval: u64) -> Result<(), BatchError>
         ensures digits { digits_of self.new ≡ digits_of self.old }
         ensures samples { OnOk result ((S : List ℕ) → length (S ++ recorded value interval) < 2 ^ 64
             → HasRecorded S self.old → HasRecorded (S ++ recorded value interval) self.new) }

@@ -5,13 +5,14 @@ use crate::bound_tally::BoundTally;
 use crate::cause::Cause;
 use crate::errors::InputError;
 use crate::group_texts::GroupTexts;
+use crate::pieces::LineSink;
 use crate::rows::{RowSink, RowTexts};
 use crate::tally::{Recording, Tally};
 use std::alloc::Global;
 use std::mem;
 
 /// What the numbers of a group are recorded in.
-pub trait GroupSink: RowSink {
+pub trait GroupSink: RowSink + LineSink {
     /// Whether no number was recorded.
     fn is_empty(&self) -> bool;
 
@@ -186,6 +187,13 @@ impl<M: GroupMaker + Drop> RowSink for Groups<'_, '_, M> {
             Some(index) if index < self.sinks.len() => self.sinks[index].take_row(alloc, row),
             _ => self.take_first(alloc, row, text),
         }
+    }
+
+    fn begin_file(&mut self) {
+        for sink in self.sinks.iter_mut() {
+            sink.begin_file();
+        }
+        self.next.begin_file();
     }
 }
 

@@ -148,7 +148,7 @@ fn record_line<S: NumberSink>(
 
 /// Records the numbers of lines, and returns the number of the line after them. The first line has
 /// the number `first`.
-fn record_lines<S: NumberSink>(
+pub fn record_lines<S: NumberSink>(
     alloc: Global,
     sink: &mut S,
     text: &[u8],

@@ -44,9 +44,9 @@ pub trait RowSink: Drop {
     fn begin_file(&mut self) {}
 }
 
-/// Records the number of a row.
+/// Records the number of a row, as often as it counts.
 #[inline(always)]
-fn record_row<S: NumberSink>(
+pub fn record_row<S: NumberSink>(
     alloc: Global,
     sink: &mut S,
     row: RowTexts<'_>,

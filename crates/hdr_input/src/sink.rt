@@ -6,7 +6,7 @@ use crate::units::Unit;
 use crate::wide::Wide;
 
 /// What takes numbers.
-pub(crate) trait NumberSink {
+pub trait NumberSink {
     /// What taking numbers does.
     ghost takes: { Self → Self → Type 0 };
 

@@ -87,7 +87,7 @@ impl Tally {
     }
 
     /// As `NumberSink::count_if_skipped`.
-    pub(crate) fn count_skipped(&mut self, cause: Cause) -> bool
+    pub fn count_skipped(&mut self, cause: Cause) -> bool
         ensures { self.new.decimals ≡ self.old.decimals }
     {
         let is_skipped = self.skips_bad && cause.may_be_skipped();
@@ -98,7 +98,7 @@ impl Tally {
     }
 
     /// Returns the unit of numbers that have none, if numbers may have units.
-    pub(crate) fn unit(&self) -> Option<Unit> {
+    pub fn unit(&self) -> Option<Unit> {
         self.unit
     }
 
@@ -147,9 +147,12 @@ impl Tally {
     }
 
     /// Records a number that is in units, if no interval is expected.
+    ///
+    /// # Errors
+    /// As `record`.
     #[inline(always)]
     #[tactic(auto, using(crate::proofs::InUnits::units_same, crate::proofs::InUnits::after_alone, crate::proofs::InUnits::exact_same))]
-    pub(crate) fn record_alone(&mut self, number: Number) -> Result<(), Cause>
+    pub fn record_alone(&mut self, number: Number) -> Result<(), Cause>
         ensures number { OnOk result (self.old.decimals ≡ number.decimals
             → self.old.interval ≡ 0 → Takes self.old self.new number) }
         ensures unit { KeepsUnit self.old self.new }
@@ -216,7 +219,7 @@ impl Tally {
     ///
     /// # Errors
     /// As `record`.
-    pub(crate) fn record_times(&mut self, number: Wide, times: u64) -> Result<(), Cause>
+    pub fn record_times(&mut self, number: Wide, times: u64) -> Result<(), Cause>
         ensures unit { KeepsUnit self.old self.new }
     {
         let units = self.units_of(number.rounded(self.decimals)?)?;
@@ -233,7 +236,7 @@ impl Tally {
     }
 
     /// Returns a number in units.
-    pub(crate) fn units_of(&self, number: Number) -> Result<u64, Cause>
+    pub fn units_of(&self, number: Number) -> Result<u64, Cause>
         ensures units { IfOk result
             (λ units. units ≡ in_units number.digits number.decimals self.now.decimals) }
         ensures errors { IfErr result (IsTallyError self.now number) }
@@ -242,7 +245,7 @@ impl Tally {
     }
 
     /// Counts a number that was recorded, if it was rounded.
-    pub(crate) fn count_rounded(&mut self, is_rounded: bool)
+    pub fn count_rounded(&mut self, is_rounded: bool)
         ensures { self.new ≡ after_rounding self.old is_rounded }
     {
         if is_rounded {

@@ -8,7 +8,7 @@ use crate::text::cause_of;
 /// The number digits * 10^exponent. If digits were cut, the number is greater by less than
 /// 10^exponent.
 #[derive(Clone, Copy)]
-pub(crate) struct Wide {
+pub struct Wide {
     digits: u128,
     exponent: i64,
     /// Whether no more digits fit, and whether one that did not fit is not 0.
@@ -207,7 +207,7 @@ impl Wide {
     }
 
     /// Whether the number changes if it is rounded to `decimals`.
-    pub(crate) fn is_rounded(self, decimals: u32) -> bool {
+    pub fn is_rounded(self, decimals: u32) -> bool {
         let power = self.exponent.saturating_add(i64::from(decimals));
         if power >= 0 {
             return self.is_cut;
@@ -219,7 +219,7 @@ impl Wide {
     }
 
     /// Returns the number rounded to `decimals`, halves up.
-    pub(crate) fn rounded(self, decimals: u32) -> Result<Number, Cause> {
+    pub fn rounded(self, decimals: u32) -> Result<Number, Cause> {
         let power = self.exponent.saturating_add(i64::from(decimals));
         let units = if power < 0 {
             Some(self.divided(0i64.saturating_sub(power)))

@@ -13,6 +13,22 @@ use std::alloc::{AllocError, Global};
 pub struct Figure {
     pub name: String,
     pub value: Option<String>,
+    /// The ends of its confidence interval, if it has one.
+    pub ends: Option<EndTexts>,
+}
+
+/// The ends of a confidence interval, as far as the samples reach them.
+#[derive(Clone, Copy)]
+pub struct Ends {
+    pub low: Option<u64>,
+    pub high: Option<u64>,
+}
+
+/// The ends of a confidence interval, as they are printed.
+#[derive(Drop)]
+pub struct EndTexts {
+    pub low: Option<String>,
+    pub high: Option<String>,
 }
 
 /// A distribution, and the tag of its intervals.
@@ -20,6 +36,8 @@ pub struct Figure {
 pub struct Tagged {
     pub tag: Option<String>,
     pub distribution: Distribution,
+    /// The ends of the confidence interval of each percentile, or none if intervals are not printed.
+    pub ends: Vec<Ends>,
 }
 
 /// Returns the mean in parts of a unit, halves rounded up, or `None` without numbers or on
@@ -88,24 +106,60 @@ fn push(
     value: Option<String>,
 ) -> Result<(), AllocError> {
     let name = String::from_str(alloc, name)?;
-    figures.push(Figure { name, value })?;
+    figures.push(Figure {
+        name,
+        value,
+        ends: None,
+    })?;
     Ok(())
+}
+
+/// Returns an end of a confidence interval as a decimal, if the samples reach it.
+fn end_text(
+    alloc: Global,
+    end: Option<u64>,
+    decimals: u32,
+    conversion: Conversion,
+) -> Result<Option<String>, AllocError> {
+    match end {
+        Some(units) => Ok(Some(conversion.decimal(alloc, u128::from(units), decimals)?)),
+        None => Ok(None),
+    }
+}
+
+/// Returns the ends of the confidence interval at an index as texts, if there is one.
+fn end_texts(
+    alloc: Global,
+    part: &Tagged,
+    index: usize,
+    conversion: Conversion,
+) -> Result<Option<EndTexts>, AllocError> {
+    let Some(ends) = part.ends.get(index) else {
+        return Ok(None);
+    };
+    let decimals = part.distribution.decimals;
+    Ok(Some(EndTexts {
+        low: end_text(alloc, ends.low, decimals, conversion)?,
+        high: end_text(alloc, ends.high, decimals, conversion)?,
+    }))
 }
 
 /// Appends a figure for each percentile.
 fn push_percentiles(
     alloc: Global,
     figures: &mut Vec<Figure>,
-    distribution: &Distribution,
+    part: &Tagged,
     percentiles: &[Percentile<'_>],
     conversion: Conversion,
 ) -> Result<(), AllocError> {
-    for percentile in percentiles {
+    let distribution = &part.distribution;
+    for (index, percentile) in percentiles.iter().enumerate() {
         let digits = percentile.digits;
         let name = format!(in alloc; "p{digits}")?;
         let units = distribution.value_at_quantile(percentile.quantile);
         let value = value(alloc, distribution, units, conversion)?;
-        figures.push(Figure { name, value })?;
+        let ends = end_texts(alloc, part, index, conversion)?;
+        figures.push(Figure { name, value, ends })?;
     }
     Ok(())
 }
@@ -114,10 +168,11 @@ fn push_percentiles(
 /// max.
 pub fn figures(
     alloc: Global,
-    distribution: &Distribution,
+    part: &Tagged,
     percentiles: &[Percentile<'_>],
     conversion: Conversion,
 ) -> Result<Vec<Figure>, AllocError> {
+    let distribution = &part.distribution;
     let mut figures = Vec::new(alloc);
     let count = distribution.histogram.len();
     let count = format!(in alloc; "{count}")?;
@@ -126,7 +181,7 @@ pub fn figures(
     push(alloc, &mut figures, "min", min)?;
     let mean = mean(alloc, distribution, conversion)?;
     push(alloc, &mut figures, "mean", mean)?;
-    push_percentiles(alloc, &mut figures, distribution, percentiles, conversion)?;
+    push_percentiles(alloc, &mut figures, part, percentiles, conversion)?;
     let max = value(alloc, distribution, distribution.max, conversion)?;
     push(alloc, &mut figures, "max", max)?;
     Ok(figures)

@@ -1,6 +1,7 @@
 //! The texts of distributions: a table for people, CSV and JSON for programs, and the formats of
 //! other tools.
 
+mod ends;
 mod hgrm;
 mod json;
 mod openmetrics;
@@ -10,8 +11,10 @@ mod table;
 use crate::decimals::Conversion;
 use crate::figures::{Figure, Tagged, figures};
 use crate::percentile::Percentile;
+pub use json::push_string;
 pub use separated::{write_field, write_text};
 use std::alloc::{AllocError, Global};
+pub use table::{NO_TAG, fitted, push_left, push_right};
 
 /// A format of the output.
 #[derive(Clone, Copy, PartialEq, Eq)]
@@ -50,6 +53,14 @@ pub struct Layout<'a> {
     pub has_tags: bool,
 }
 
+impl Layout<'_> {
+    /// Whether the figures are columns, or members of an object: those of a table without tags are
+    /// lines.
+    fn has_columns(&self) -> bool {
+        self.has_tags || self.format != Format::Table
+    }
+}
+
 /// The figures of a distribution, and its tag if tags are printed.
 #[derive(Drop)]
 pub(crate) struct Row<'a> {
@@ -69,12 +80,12 @@ fn rows<'a>(
             Some(tag) => Some(tag.as_str()),
             None => None,
         };
-        let figures = figures(
-            alloc,
-            &part.distribution,
-            layout.percentiles,
-            layout.conversion,
-        )?;
+        let figures = figures(alloc, part, layout.percentiles, layout.conversion)?;
+        let figures = if layout.has_columns() {
+            ends::in_columns(alloc, figures)?
+        } else {
+            figures
+        };
         rows.push(Row { tag, figures })?;
     }
     Ok(rows)
@@ -118,6 +129,6 @@ fn push_rows(
         Format::Tsv => separated::push_separated(alloc, text, rows, layout.has_tags, b'\t'),
         Format::Json => json::push_json(alloc, text, rows, layout.has_tags),
         _ if layout.has_tags => table::push_tagged(alloc, text, rows),
-        _ => table::push_figures(text, rows),
+        _ => table::push_figures(alloc, text, rows),
     }
 }

@@ -1,3 +1,4 @@
+pub mod Comparisons
 pub mod Delimiters
 pub mod LogCounts
 pub mod Statuses

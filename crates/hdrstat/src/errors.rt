@@ -3,8 +3,10 @@
 ghost use Rattle.std.specs.Prelude.{◌≡◌};
 ghost use Rattle.hdrstat.specs.Statuses.{status_of};
 
+use hdr_compare::BatchError;
 use hdr_input::InputError;
 use hdr_logs::LogError;
+use hdr_runs::ReportError;
 use hdrhistogram::CreationError;
 use hdrhistogram::serialization::CountNotSerializable;
 use hdrhistogram::serialization::interval_log::{CommentError, IntervalLogWriterError};
@@ -30,6 +32,12 @@ pub(crate) enum StatError {
     /// A file is not opened, or not written.
     #[error("{file}: {cause}")]
     File { file: String, cause: io::Error },
+    /// Logs that are compared have other units or decimals.
+    #[error("the logs have values of different units or decimals")]
+    OtherScale,
+    /// Runs are not compared, or have too many samples.
+    #[error("{0}")]
+    Runs(&'static str),
     #[error("cannot make the log: {0}")]
     Making(IntervalLogWriterError<CountNotSerializable>),
     #[error("cannot write the output: {0}")]
@@ -94,6 +102,31 @@ impl From<AllocError> for StatError {
 impl<T: Drop> From<AllocFailed<T>> for StatError {
     fn from(_error: AllocFailed<T>) -> StatError {
         StatError::OutOfMemory
+    }
+}
+
+impl From<BatchError> for StatError {
+    fn from(error: BatchError) -> StatError {
+        match error {
+            BatchError::TooMany => StatError::Runs("a run has 2^40 samples or more"),
+            BatchError::OutOfMemory => StatError::OutOfMemory,
+        }
+    }
+}
+
+impl From<ReportError> for StatError {
+    fn from(error: ReportError) -> StatError {
+        match error {
+            ReportError::TooManyComparisons => StatError::Runs(
+                "more than 5000 comparisons; choose fewer percentiles or a column with fewer values",
+            ),
+            ReportError::TooLarge => {
+                StatError::Runs(
+                    "a value is too large in units of the last decimal of the finer run",
+                )
+            }
+            ReportError::OutOfMemory => StatError::OutOfMemory,
+        }
     }
 }
 

@@ -2,11 +2,13 @@
 
 mod begun;
 pub(crate) mod checks;
+pub(crate) mod ends;
 pub(crate) mod log_counts;
 pub(crate) mod logs;
 pub(crate) mod names;
 pub(crate) mod numbers;
 mod progress;
+pub(crate) mod runs;
 pub(crate) mod surveyed;
 pub(crate) mod timed;
 

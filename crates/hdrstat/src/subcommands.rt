@@ -1,6 +1,7 @@
 //! The subcommands: the command line of each, and what it does.
 
 mod check;
+mod compare;
 mod convert;
 mod gather;
 mod log;
@@ -39,6 +40,7 @@ pub(crate) fn command<'a>(alloc: Global) -> Result<Command<'a>, Error> {
         .arg_required_else_help(true)
         .subcommand(summary::command(alloc)?)?
         .subcommand(check::command(alloc)?)?
+        .subcommand(compare::command(alloc)?)?
         .subcommand(log::command(alloc)?)?
         .subcommand(gather::command(alloc)?)?
         .subcommand(convert::command(alloc)?)?
@@ -54,6 +56,7 @@ pub(crate) fn run(
 ) -> Result<ExitCode, StatError> {
     match name {
         "check" => check::run(rt, matches),
+        "compare" => compare::run(rt, matches),
         "convert" => convert::run(rt, matches),
         "gather" => gather::run(rt, matches),
         "log" => log::run(rt, matches),
@@ -88,6 +91,7 @@ fn read_one_part(
     list.push(Tagged {
         tag: None,
         distribution,
+        ends: Vec::new(files.alloc()),
     })?;
     Ok(Parts { list, unit: None })
 }
@@ -112,6 +116,7 @@ fn read_group_parts(
         list.push(Tagged {
             tag: tag_of_group(files.alloc(), text)?,
             distribution: tally.into_distribution(),
+            ends: Vec::new(files.alloc()),
         })?;
     }
     require_most_lines(numbers, skipped)?;

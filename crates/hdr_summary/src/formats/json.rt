@@ -6,7 +6,7 @@ use serde_json::Value;
 use std::alloc::{AllocError, Global};
 
 /// Appends a string of JSON.
-fn push_string(alloc: Global, text: &mut String, string: &str) -> Result<(), AllocError> {
+pub fn push_string(alloc: Global, text: &mut String, string: &str) -> Result<(), AllocError> {
     let value = Value::String(String::from_str(alloc, string)?);
     let quoted = value.to_string(alloc)?;
     text.push_str(quoted.as_str())

@@ -1,18 +1,19 @@
 //! Aligned tables.
 
 use crate::figures::Figure;
+use crate::formats::ends::range_text;
 use crate::formats::{Row, or_none};
 use hdr_input::push_visible;
 use std::alloc::{AllocError, Global};
 
 /// What a table shows in place of a tag that an interval does not have.
-const NO_TAG: &str = "(no tag)";
+pub const NO_TAG: &str = "(no tag)";
 
 /// The most characters of a tag in a table.
 const MOST_CHARACTERS: usize = 60;
 
 /// Returns a tag as a table shows it. One of more than `MOST_CHARACTERS` ends with an ellipsis.
-fn fitted(alloc: Global, name: &str) -> Result<String, AllocError> {
+pub fn fitted(alloc: Global, name: &str) -> Result<String, AllocError> {
     let mut text = String::new(alloc);
     if name.chars().nth(MOST_CHARACTERS).is_none() {
         push_visible(&mut text, name)?;
@@ -40,31 +41,48 @@ fn longest(texts: &[String]) -> usize {
 }
 
 /// Appends the figures of distributions without tags: a line for each, with the points of the
-/// values aligned.
-pub(crate) fn push_figures(text: &mut String, rows: &[Row<'_>]) -> Result<(), AllocError> {
+/// values aligned, and the intervals after the longest of them.
+pub(crate) fn push_figures(
+    alloc: Global,
+    text: &mut String,
+    rows: &[Row<'_>],
+) -> Result<(), AllocError> {
     for row in rows {
         let names = row.figures.iter().map(|figure| figure.name.len());
         let names = names.max().unwrap_or(0);
-        let wholes = row
-            .figures
-            .iter()
-            .map(|figure| whole_len(or_none(figure, "-")));
+        let wholes = row.figures.iter().map(|figure| whole_len(value_of(figure)));
         let wholes = wholes.max().unwrap_or(0);
+        let parts = row.figures.iter().map(|figure| part_len(value_of(figure)));
+        let parts = parts.max().unwrap_or(0);
         for figure in &row.figures {
-            let value = or_none(figure, "-");
+            let value = value_of(figure);
             push_left(text, figure.name.as_str(), names)?;
             text.push_str("  ")?;
             push_spaces(text, wholes.saturating_sub(whole_len(value)))?;
             text.push_str(value)?;
+            if let Some(ends) = &figure.ends {
+                push_spaces(text, parts.saturating_sub(part_len(value)) + 2)?;
+                text.push_str(range_text(alloc, ends)?.as_str())?;
+            }
             text.push('\n')?;
         }
     }
     Ok(())
 }
 
+/// Returns the value of a figure as a table shows it.
+fn value_of<'a>(figure: &'a Figure) -> &'a str {
+    or_none(figure, "-")
+}
+
 /// Returns the length of a number before its point.
 fn whole_len(value: &str) -> usize {
     value.find('.').unwrap_or(value.len())
+}
+
+/// Returns the length of a number from its point on.
+fn part_len(value: &str) -> usize {
+    value.len().saturating_sub(whole_len(value))
 }
 
 /// Appends a line of names, and a line for each tag.
@@ -81,13 +99,13 @@ pub(crate) fn push_tagged(
     let width = longest(&tags).max("tag".len());
     push_left(text, "tag", width)?;
     for (figure, width) in first.figures.iter().zip(&widths) {
-        push_cell(text, figure.name.as_str(), *width)?;
+        push_right(text, figure.name.as_str(), *width)?;
     }
     text.push('\n')?;
     for (row, tag) in rows.iter().zip(&tags) {
         push_left(text, tag.as_str(), width)?;
         for (figure, width) in row.figures.iter().zip(&widths) {
-            push_cell(text, or_none(figure, "-"), *width)?;
+            push_right(text, or_none(figure, "-"), *width)?;
         }
         text.push('\n')?;
     }
@@ -121,14 +139,14 @@ fn width(rows: &[Row<'_>], index: usize) -> usize {
     widths.max().unwrap_or(0)
 }
 
-/// Appends a text to the left of its column.
-fn push_left(text: &mut String, cell: &str, width: usize) -> Result<(), AllocError> {
+/// Appends a text to the left of its column, which has a width in characters.
+pub fn push_left(text: &mut String, cell: &str, width: usize) -> Result<(), AllocError> {
     text.push_str(cell)?;
     push_spaces(text, width.saturating_sub(char_count(cell)))
 }
 
-/// Appends a text to the right of its column.
-fn push_cell(text: &mut String, cell: &str, width: usize) -> Result<(), AllocError> {
+/// Appends two spaces, and a text to the right of its column, which has a width in characters.
+pub fn push_right(text: &mut String, cell: &str, width: usize) -> Result<(), AllocError> {
     text.push_str("  ")?;
     push_spaces(text, width.saturating_sub(char_count(cell)))?;
     text.push_str(cell)

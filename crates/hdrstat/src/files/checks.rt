@@ -6,8 +6,7 @@ ghost use Rattle.std.specs.List.{All};
 use crate::errors::StatError;
 use crate::files::log_counts::{LogCounts, LogLevels, TagCounts};
 use crate::files::logs::{parts_of, print_coarser};
-use crate::files::numbers::{Form, read_groups, tag_of_group};
-use crate::files::surveyed::NumberFiles;
+use crate::files::numbers::{Form, read_groups, read_sink, tag_of_group};
 use crate::files::{Files, or_standard_input};
 use hdr_input::groups::{BoundRecording, GroupMaker, GroupParts};
 use hdr_input::{BoundTally, Distribution, Recording};
@@ -116,34 +115,6 @@ fn checks_of_tally(
     Ok(checks)
 }
 
-/// Returns the numbers of files as they are recorded now, counted within bounds.
-fn bound_tally_of(
-    alloc: Global,
-    numbers: &mut NumberFiles<'_, '_, '_, '_, '_>,
-    maker: BoundRecording<'_>,
-) -> Result<BoundTally, StatError> {
-    let maker = maker.with_recording(numbers.recording);
-    let mut tally = maker.make(alloc).map_err(|_| StatError::OutOfMemory)?;
-    numbers.read_into(&mut tally)?;
-    Ok(tally)
-}
-
-/// Returns the numbers of files, counted within bounds. How many lines were skipped and how many
-/// numbers were rounded is printed on standard error.
-fn read_bound_tally(
-    files: Files<'_, '_, '_>,
-    maker: BoundRecording<'_>,
-    form: Form<'_, '_>,
-) -> Result<BoundTally, StatError> {
-    let mut numbers = NumberFiles::new(files, maker.recording, form)?;
-    let mut tally = bound_tally_of(files.alloc(), &mut numbers, maker)?;
-    if numbers.becomes_finer(tally.tally.rounded)? {
-        tally = bound_tally_of(files.alloc(), &mut numbers, maker)?;
-    }
-    numbers.print_notes(tally.tally.skipped, tally.tally.rounded);
-    Ok(tally)
-}
-
 /// Compares the numbers of files with levels: all, or those of each group. How many lines were
 /// skipped and how many numbers were rounded is printed on standard error.
 pub(crate) fn check_numbers(
@@ -162,7 +133,7 @@ pub(crate) fn check_numbers(
     let (parts, is_mostly_skipped) = match form.groups() {
         Some(columns) => parts_of_groups(files, maker, form, columns, levels)?,
         None => {
-            let tally = read_bound_tally(files, maker, form)?;
+            let tally = read_sink(files, maker, form)?;
             let is_mostly_skipped = tally.numbers() < tally.tally.skipped;
             let mut parts = Vec::new(alloc);
             parts.push(part_of_tally(alloc, None, tally, levels)?)?;
@@ -293,7 +264,11 @@ pub(crate) fn check_logs(
     counts.push_tags(parts.len(), 0)?;
     let mut checked = Vec::new(alloc);
     for (index, part) in parts.into_iter().enumerate() {
-        let Tagged { tag, distribution } = part;
+        let Tagged {
+            tag,
+            distribution,
+            ..
+        } = part;
         let Some(tag_counts) = counts.tag(index) else {
             continue;
         };

@@ -51,13 +51,19 @@ pub(crate) fn parts_of(
     let mut parts = Vec::new(alloc);
     for TagSum { tag, histogram } in sums.sums {
         let distribution = Distribution::of_histogram(histogram, decimals);
-        parts.push(Tagged { tag, distribution })?;
+        let ends = Vec::new(alloc);
+        parts.push(Tagged {
+            tag,
+            distribution,
+            ends,
+        })?;
     }
     if parts.is_empty() && !is_by_tag {
         let empty = Histogram::new(alloc, sigfig)?;
         parts.push(Tagged {
             tag: None,
             distribution: Distribution::of_histogram(empty, decimals),
+            ends: Vec::new(alloc),
         })?;
     }
     Ok(parts)

@@ -70,24 +70,38 @@ pub(crate) fn read_numbers(
     recording: Recording,
     form: Form<'_, '_>,
 ) -> Result<Tally, StatError> {
-    let mut numbers = NumberFiles::new(files, recording, form)?;
-    let mut tally = tally_of(files.alloc(), &mut numbers)?;
-    if numbers.becomes_finer(tally.rounded)? {
-        tally = tally_of(files.alloc(), &mut numbers)?;
-    }
-    numbers.print_notes(tally.skipped, tally.rounded);
+    let tally = read_sink(files, recording, form)?;
     require_most_lines(tally.numbers(), tally.skipped)?;
     Ok(tally)
 }
 
-/// Returns the numbers of files as they are recorded now.
-fn tally_of(
+/// Returns a sink of the numbers of files. How many lines were skipped and how many numbers were
+/// rounded is printed on standard error.
+pub(crate) fn read_sink<M: GroupMaker + Copy + Drop>(
+    files: Files<'_, '_, '_>,
+    maker: M,
+    form: Form<'_, '_>,
+) -> Result<M::Sink, StatError> {
+    let mut numbers = NumberFiles::new(files, maker.recording(), form)?;
+    let mut sink = sink_of(files.alloc(), maker, &mut numbers)?;
+    if numbers.becomes_finer(sink.tally().rounded)? {
+        sink = sink_of(files.alloc(), maker, &mut numbers)?;
+    }
+    let tally = sink.tally();
+    numbers.print_notes(tally.skipped, tally.rounded);
+    Ok(sink)
+}
+
+/// Returns a sink of the numbers of files as they are recorded now.
+fn sink_of<M: GroupMaker + Copy + Drop>(
     alloc: Global,
+    maker: M,
     numbers: &mut NumberFiles<'_, '_, '_, '_, '_>,
-) -> Result<Tally, StatError> {
-    let mut tally = Tally::new(alloc, numbers.recording)?;
-    numbers.read_into(&mut tally)?;
-    Ok(tally)
+) -> Result<M::Sink, StatError> {
+    let maker = maker.with_recording(numbers.recording);
+    let mut sink = maker.make(alloc).map_err(|_| StatError::OutOfMemory)?;
+    numbers.read_into(&mut sink)?;
+    Ok(sink)
 }
 
 /// Returns an error if more lines were skipped than numbers read.

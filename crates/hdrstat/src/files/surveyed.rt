@@ -120,25 +120,50 @@ impl<'r, 'l, 'n, 'a, 'b> NumberFiles<'r, 'l, 'n, 'a, 'b> {
         sink: &mut S,
     ) -> Result<(), StatError> {
         for (index, name) in or_standard_input(self.files.names).iter().enumerate() {
-            let input = self.input(index, *name)?;
-            sink.begin_file();
-            let read = read_input(self.files.alloc(), input, self.form, sink);
-            self.finish_file(index, read)?;
+            self.read_file_into(index, *name, sink)?;
         }
         self.was_read = true;
         Ok(())
     }
 
+    /// Reads the numbers of the file at an index into `sink`.
+    pub(crate) fn read_file_into<S: LineSink + RowSink>(
+        &mut self,
+        index: usize,
+        name: &str,
+        sink: &mut S,
+    ) -> Result<(), StatError> {
+        let input = self.input(index, name)?;
+        sink.begin_file();
+        let read = read_input(self.files.alloc(), input, self.form, sink);
+        self.finish_file(index, read)
+    }
+
     /// Reads the rows of all files into `sink`.
     pub(crate) fn read_rows_into<S: RowSink>(&mut self, sink: &mut S) -> Result<(), StatError> {
         for (index, name) in or_standard_input(self.files.names).iter().enumerate() {
-            let input = self.input(index, *name)?;
-            sink.begin_file();
-            let read = read_rows_of(self.files.alloc(), input, self.form, sink);
-            self.finish_file(index, read)?;
+            self.read_file_rows_into(index, *name, sink)?;
         }
         self.was_read = true;
         Ok(())
+    }
+
+    /// Reads the rows of the file at an index into `sink`.
+    pub(crate) fn read_file_rows_into<S: RowSink>(
+        &mut self,
+        index: usize,
+        name: &str,
+        sink: &mut S,
+    ) -> Result<(), StatError> {
+        let input = self.input(index, name)?;
+        sink.begin_file();
+        let read = read_rows_of(self.files.alloc(), input, self.form, sink);
+        self.finish_file(index, read)
+    }
+
+    /// Marks all files as read once.
+    pub(crate) fn finish_pass(&mut self) {
+        self.was_read = true;
     }
 
     /// Returns the error of a file that was read. If its first row was taken as names, and no column

@@ -2,14 +2,15 @@
 
 use crate::errors::StatError;
 use crate::files::Files;
+use crate::files::ends::read_parts_with_ends;
 use crate::files::logs::Parts;
-use crate::options::arguments::{FIGURES, OUTPUT, files, help, option, quiet, with_reading};
+use crate::options::arguments::{FIGURES, OUTPUT, files, flag, help, option, quiet, with_reading};
 use crate::options::forms::{conditions_of, groups_by};
 use crate::options::matches::{Reading, reading_of, unit_of};
 use crate::output::print;
 use crate::subcommands::read_parts;
 use clap::builder::ValueParser;
-use clap::{ArgAction, ArgMatches, Command, Error};
+use clap::{Arg, ArgAction, ArgMatches, Command, Error};
 use hdr_summary::decimals::Conversion;
 use hdr_summary::formats::{Format, Layout, text};
 use hdr_summary::percentile::{Percentile, parse_percentile};
@@ -40,13 +41,8 @@ pub(crate) fn command<'a>(alloc: Global) -> Result<Command<'a>, Error> {
 
 /// Adds the options of the output.
 fn with_output<'a>(alloc: Global, command: Command<'a>) -> Result<Command<'a>, Error> {
-    let percentiles = option(alloc, "percentiles", "LIST", "Percentiles to print")
-        .short('p')
-        .action(ArgAction::Append)
-        .value_delimiter(',')
-        .value_parser(ValueParser::NonEmptyString)
-        .default_value("50,90,99,99.9")
-        .help_heading(FIGURES);
+    let help_of_intervals = "Intervals of 95 % beside percentiles, by how samples hang together";
+    let intervals = flag(alloc, "ci", help_of_intervals).help_heading(FIGURES);
     let format = option(alloc, "format", "FORMAT", "Format of the output")
         .short('f')
         .value_parser(["table", "csv", "tsv", "json", "hgrm", "openmetrics"].as_slice())
@@ -55,11 +51,26 @@ fn with_output<'a>(alloc: Global, command: Command<'a>) -> Result<Command<'a>, E
     let unit = option(alloc, "output-unit", "UNIT", "Unit of the output")
         .value_parser(Unit::NAMES.as_slice())
         .help_heading(OUTPUT);
-    let command = command.arg(percentiles)?.arg(format)?.arg(unit)?;
+    let command = command
+        .arg(percentiles_option(alloc))?
+        .arg(intervals)?
+        .arg(format)?
+        .arg(unit)?;
     let command = command
         .arg(quiet(alloc).help_heading(OUTPUT))?
         .arg(help(alloc))?;
     Ok(command)
+}
+
+/// Returns the option of the percentiles.
+pub(crate) fn percentiles_option<'a>(alloc: Global) -> Arg<'a> {
+    option(alloc, "percentiles", "LIST", "Percentiles to print")
+        .short('p')
+        .action(ArgAction::Append)
+        .value_delimiter(',')
+        .value_parser(ValueParser::NonEmptyString)
+        .default_value("50,90,99,99.9")
+        .help_heading(FIGURES)
 }
 
 /// Prints the figures of the numbers of files.
@@ -77,6 +88,7 @@ pub(crate) fn run(rt: &HostRuntime, matches: &ArgMatches<'_>) -> Result<ExitCode
         let why = "has one distribution: choose one by --tag or --where, without --by-tag and --by";
         return Err(StatError::usage(alloc, "hgrm", why));
     }
+    check_intervals(alloc, matches, format, &percentiles)?;
     if let Reading::Numbers { .. } = reading {
         let _ = conversion_of(alloc, matches, None)?;
     }
@@ -85,7 +97,12 @@ pub(crate) fn run(rt: &HostRuntime, matches: &ArgMatches<'_>) -> Result<ExitCode
         names: matches.get_strs("FILE").unwrap_or(&[]),
         is_quiet: matches.get_flag("quiet"),
     };
-    let Parts { list, unit } = read_parts(files, reading)?;
+    let has_intervals = matches.get_flag("ci");
+    let Parts { list, unit } = if has_intervals {
+        read_parts_with_ends(files, reading, &percentiles)?
+    } else {
+        read_parts(files, reading)?
+    };
     let layout = Layout {
         format,
         percentiles: &percentiles,
@@ -97,8 +114,43 @@ pub(crate) fn run(rt: &HostRuntime, matches: &ArgMatches<'_>) -> Result<ExitCode
     Ok(ExitCode::SUCCESS)
 }
 
+/// Returns an error if intervals are asked for that the format or a percentile does not have.
+fn check_intervals(
+    alloc: Global,
+    matches: &ArgMatches<'_>,
+    format: Format,
+    percentiles: &[Percentile<'_>],
+) -> Result<(), StatError> {
+    if !matches.get_flag("ci") {
+        return Ok(());
+    }
+    if matches!(format, Format::Hgrm | Format::OpenMetrics) {
+        let why = "has no intervals: table, csv, tsv and json have";
+        let name = matches.get_str("format").unwrap_or("hgrm");
+        return Err(StatError::usage(alloc, name, why));
+    }
+    require_intervals(alloc, percentiles)
+}
+
+/// The greatest denominator of the quantile of a percentile that has an interval.
+const MOST_DENOMINATOR: u64 = 1_000_000;
+
+/// Returns an error if a percentile has more than 4 decimals, for which there are no intervals.
+pub(crate) fn require_intervals(
+    alloc: Global,
+    percentiles: &[Percentile<'_>],
+) -> Result<(), StatError> {
+    for percentile in percentiles {
+        if percentile.quantile.den() > MOST_DENOMINATOR {
+            let why = "has more than 4 decimals, and so no interval";
+            return Err(StatError::usage(alloc, percentile.digits, why));
+        }
+    }
+    Ok(())
+}
+
 /// Parses percentiles. One that is written as another before it is left out.
-fn percentiles_of<'a>(
+pub(crate) fn percentiles_of<'a>(
     alloc: Global,
     arguments: &[&'a str],
 ) -> Result<Vec<Percentile<'a>>, StatError> {

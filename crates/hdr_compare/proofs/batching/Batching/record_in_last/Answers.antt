@@ -4,7 +4,7 @@ use Rattle.hdr_model.specs.Plain.{resolution}
 use Rattle.hdr_model.proofs.CorrectionByClass.{resolution-corrected}
 use Rattle.hdr_compare.specs.Batchings.{recorded}
 use Rattle.hdr_compare.proofs.Parts.{last-classes, last-gains}
-use Rattle.hdr_compare.proofs.batching.Batching.add.Goals as goal
+use Rattle.hdr_compare.proofs.batching.Batching.record_in_last.Goals as goal
 
 pub returns-in-Ok-clause-samples : goal.returns-in-Ok-clause-samples
 returns-in-Ok-clause-samples c S few has =

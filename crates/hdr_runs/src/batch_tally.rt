@@ -1,0 +1,212 @@
+//! Numbers that are recorded, and in batches of those that follow one another.
+
+use crate::order::Order;
+use crate::side::Samples;
+use crate::steps::Steps;
+use hdr_compare::{BatchError, Batching};
+use hdr_input::cause::Cause;
+use hdr_input::groups::{GroupMaker, GroupSink};
+use hdr_input::lines::record_lines;
+use hdr_input::pieces::LineSink;
+use hdr_input::rows::{RowSink, RowTexts, record_row};
+use hdr_input::units::Unit;
+use hdr_input::wide::Wide;
+use hdr_input::{Distribution, InputError, Number, NumberSink, Recording, Tally};
+use hdrhistogram::Histogram;
+use std::alloc::Global;
+
+/// A tally that also records its numbers in batches of those that follow one another.
+#[derive(Drop)]
+pub struct BatchTally {
+    pub tally: Tally,
+    batching: Batching,
+    steps: Steps,
+    /// Whether a number was recorded more than once, so that its place among others is not known.
+    is_counted: bool,
+}
+
+/// How numbers are recorded in batches.
+#[derive(Clone, Copy)]
+pub struct BatchRecording {
+    pub recording: Recording,
+}
+
+impl GroupMaker for BatchRecording {
+    type Sink = BatchTally;
+
+    fn recording(&self) -> Recording {
+        self.recording
+    }
+
+    fn with_recording(self, recording: Recording) -> Self {
+        BatchRecording { recording }
+    }
+
+    fn make(&self, alloc: Global) -> Result<BatchTally, InputError> {
+        let tally = self.recording.make(alloc)?;
+        match Batching::new(alloc, self.recording.sigfig.min(5)) {
+            Ok(batching) => Ok(BatchTally {
+                tally,
+                batching,
+                steps: Steps::NONE,
+                is_counted: false,
+            }),
+            Err(_) => Err(InputError::OutOfMemory),
+        }
+    }
+}
+
+impl BatchTally {
+    /// Records a number in a batch, which is in units.
+    fn add(&mut self, units: u64) -> Result<(), Cause> {
+        self.steps.add(units);
+        let interval = self.tally.interval;
+        match self.batching.record(units, interval) {
+            Ok(()) => Ok(()),
+            Err(_) => Err(Cause::OutOfMemory),
+        }
+    }
+
+    /// Returns in which order the numbers are known.
+    pub fn order(&self) -> Order {
+        if self.is_counted {
+            Order::Counted
+        } else if self.steps.is_sorted() {
+            Order::Sorted
+        } else {
+            Order::OfTime
+        }
+    }
+
+    /// Returns the samples in batches: in one if their order is not that of time.
+    pub fn into_samples(self, alloc: Global) -> Result<Samples, BatchError> {
+        let order = self.order();
+        let BatchTally {
+            tally,
+            batching,
+            ..
+        } = self;
+        let (min, max, decimals) = (tally.min, tally.max, tally.decimals);
+        let batches = match order {
+            Order::OfTime => batching.into_batches()?,
+            _ => one_batch(alloc, tally.histogram)?,
+        };
+        Ok(Samples {
+            batches,
+            min,
+            max,
+            decimals,
+            order,
+        })
+    }
+}
+
+impl BatchTally {
+    /// Returns the distribution of the numbers, and their samples in batches.
+    pub fn into_parts(self, alloc: Global) -> Result<(Distribution, Samples), BatchError> {
+        let order = self.order();
+        let BatchTally {
+            tally,
+            batching,
+            ..
+        } = self;
+        let batches = match order {
+            Order::OfTime => batching.into_batches()?,
+            _ => one_batch(alloc, copy_of(&tally.histogram)?)?,
+        };
+        let samples = Samples {
+            batches,
+            min: tally.min,
+            max: tally.max,
+            decimals: tally.decimals,
+            order,
+        };
+        Ok((tally.into_distribution(), samples))
+    }
+}
+
+/// Returns a copy of a histogram.
+fn copy_of(histogram: &Histogram<u64>) -> Result<Histogram<u64>, BatchError> {
+    histogram.clone().map_err(|_| BatchError::OutOfMemory)
+}
+
+/// Returns a histogram as a list.
+fn one_batch(alloc: Global, histogram: Histogram<u64>) -> Result<Vec<Histogram<u64>>, BatchError> {
+    let mut batches = Vec::new(alloc);
+    match batches.push(histogram) {
+        Ok(()) => Ok(batches),
+        Err(_) => Err(BatchError::OutOfMemory),
+    }
+}
+
+impl GroupSink for BatchTally {
+    fn is_empty(&self) -> bool {
+        self.tally.histogram.is_empty()
+    }
+
+    fn tally(&mut self) -> &mut Tally {
+        &mut self.tally
+    }
+}
+
+impl NumberSink for BatchTally {
+    ghost takes = { λ _ _. Unit {0} };
+
+    ghost takes_none = { λ _. tt };
+
+    ghost takes_more = { λ _ _ _ _ _. tt };
+
+    #[inline(always)]
+    fn record(&mut self, number: Number) -> Result<(), Cause> {
+        self.tally.record(number)?;
+        if number.decimals == self.tally.decimals {
+            return self.add(number.digits);
+        }
+        let units = self.tally.units_of(number)?;
+        self.add(units)
+    }
+
+    fn record_wide(&mut self, number: Wide) -> Result<(), Cause> {
+        let decimals = self.tally.decimals;
+        let narrow = number.rounded(decimals)?;
+        self.tally.record(narrow)?;
+        self.tally.count_rounded(number.is_rounded(decimals));
+        self.add(narrow.digits)
+    }
+
+    fn record_times(&mut self, number: Wide, times: u64) -> Result<(), Cause> {
+        self.is_counted = true;
+        self.tally.record_times(number, times)
+    }
+
+    fn count_if_skipped(&mut self, cause: Cause) -> bool {
+        self.tally.count_skipped(cause)
+    }
+
+    fn unit(&self) -> Option<Unit> {
+        self.tally.unit()
+    }
+}
+
+impl LineSink for BatchTally {
+    ghost takes = { λ _ _ _ _ _. Unit {0} };
+
+    ghost takes_none = { λ _ _. tt };
+
+    ghost takes_more = { λ _ _ _ _ _ _ _ _ _ _ _. tt };
+
+    fn take_lines(&mut self, alloc: Global, lines: &[u8], first: u64) -> Result<u64, InputError> {
+        record_lines(alloc, self, lines, first)
+    }
+}
+
+impl RowSink for BatchTally {
+    #[inline(always)]
+    fn take_row(&mut self, alloc: Global, row: RowTexts<'_>) -> Result<(), InputError> {
+        record_row(alloc, self, row)
+    }
+
+    fn begin_file(&mut self) {
+        self.steps.begin_file();
+    }
+}

@@ -1,0 +1,26 @@
+//! Runs that are compared: their samples in batches, the confidence intervals of their percentiles, what changed between them, and
+//! the texts of that.
+#![tactic(auto)]
+
+mod batch_tally;
+mod change;
+mod ends;
+mod limit;
+mod log_batches;
+mod order;
+mod point;
+mod report;
+mod side;
+mod steps;
+mod texts;
+
+pub use batch_tally::{BatchRecording, BatchTally};
+pub use change::{Change, change_of};
+pub use ends::ends_of;
+pub use limit::{Limit, LimitVerdict, parse_limit};
+pub use log_batches::LogBatches;
+pub use order::Order;
+pub use point::Point;
+pub use report::{Compared, NamedRun, Pair, Report, ReportError};
+pub use side::{Samples, Side};
+pub use texts::{LimitLine, ReportFormat, ReportLayout};

@@ -1,0 +1,97 @@
+//! Limits of changes, such as `p99>+5%`.
+
+use crate::point::Point;
+use hdr_compare::{comparable, exceeds, falls_below};
+use hdr_input::Number;
+use hdr_summary::percentile::{Percentile, parse_percentile};
+
+/// The most decimals of the percentage of a limit.
+const MOST_DECIMALS: u32 = 3;
+
+/// The greatest ratio of a limit, in parts of its denominator.
+const MOST_RATIO: u64 = 10_000_000;
+
+/// A limit of the change of a percentile: it must not grow by more.
+#[derive(Clone, Copy)]
+pub struct Limit<'a> {
+    pub text: &'a str,
+    pub percentile: Percentile<'a>,
+    /// The greatest ratio of after to before.
+    num: u64,
+    den: u64,
+    ghost small: { num ≤ 10000000 },
+    ghost fine: { den ≤ 10000000 },
+}
+
+/// Whether a percentile grew by more than a limit.
+#[derive(Debug, Clone, Copy, PartialEq, Eq)]
+pub enum LimitVerdict {
+    /// It grew by less, beyond chance.
+    Kept,
+    /// It grew by more, beyond chance.
+    Broken,
+    /// Chance can make it less or more.
+    Undecided,
+    /// There are too few samples to say it.
+    Few,
+}
+
+impl LimitVerdict {
+    /// Returns the name that is printed.
+    pub fn name(self) -> &'static str {
+        match self {
+            LimitVerdict::Kept => "kept",
+            LimitVerdict::Broken => "broken",
+            LimitVerdict::Undecided => "undecided",
+            LimitVerdict::Few => "few",
+        }
+    }
+}
+
+/// Parses a limit of a change, such as `p99>+5%`. The percentage has 3 decimals at most.
+pub fn parse_limit(text: &str) -> Option<Limit<'_>> {
+    let (percentile, amount) = text.split_once(">+")?;
+    let percentile = parse_percentile(percentile)?;
+    let amount = amount.strip_suffix('%')?;
+    if !amount.as_bytes().first()?.is_ascii_digit() {
+        return None;
+    }
+    let amount = Number::parse(amount.as_bytes(), None).ok()?;
+    if amount.decimals > MOST_DECIMALS {
+        return None;
+    }
+    let den = 10u64.checked_pow(amount.decimals)?.checked_mul(100)?;
+    let num = den.checked_add(amount.digits)?;
+    if num > MOST_RATIO || den > MOST_RATIO {
+        return None;
+    }
+    Some(Limit {
+        text,
+        percentile,
+        num,
+        den,
+    })
+}
+
+impl Limit<'_> {
+    /// Whether a limit is of a percentile: both are the same fraction.
+    pub fn is_of(&self, percentile: &Percentile<'_>) -> bool {
+        let (one, other) = (self.percentile.quantile, percentile.quantile);
+        u128::from(one.num()) * u128::from(other.den())
+            == u128::from(other.num()) * u128::from(one.den())
+    }
+
+    /// Returns whether a percentile grew by more.
+    pub fn verdict(&self, before: &Point, after: &Point) -> LimitVerdict {
+        let (before, after) = comparable(&before.measured, &after.measured);
+        match (
+            exceeds(self.num, self.den, &before, &after),
+            falls_below(self.num, self.den, &before, &after),
+        ) {
+            (Some(true), _) => LimitVerdict::Broken,
+            (_, Some(true)) => LimitVerdict::Kept,
+            (None, _) => LimitVerdict::Few,
+            _ => LimitVerdict::Undecided,
+        }
+    }
+}

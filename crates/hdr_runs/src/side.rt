@@ -1,0 +1,126 @@
+//! The samples of a run, or of one of its tags.
+
+use crate::order::Order;
+use crate::point::Point;
+use hdr_compare::{BatchError, Measured, Run, Tier};
+use hdrhistogram::{Histogram, Quantile};
+use std::alloc::{AllocError, Global};
+
+/// Samples in batches, in units of their last decimal.
+#[derive(Drop)]
+pub struct Samples {
+    pub batches: Vec<Histogram<u64>>,
+    /// The least and the greatest sample.
+    pub min: u64,
+    pub max: u64,
+    /// The decimals of a unit.
+    pub decimals: u32,
+    pub order: Order,
+}
+
+impl Samples {
+    /// Adds a run, whose samples become one batch more.
+    pub fn add_run(
+        &mut self,
+        histogram: Histogram<u64>,
+        min: u64,
+        max: u64,
+    ) -> Result<(), BatchError> {
+        self.min = self.min.min(min);
+        self.max = self.max.max(max);
+        match self.batches.push(histogram) {
+            Ok(()) => Ok(()),
+            Err(_) => Err(BatchError::OutOfMemory),
+        }
+    }
+}
+
+/// The samples of a run, or of one of its tags.
+#[derive(Drop)]
+pub struct Side {
+    pub tag: Option<String>,
+    pub order: Order,
+    run: Run,
+    /// How many samples there are.
+    samples: u64,
+    min: u64,
+    max: u64,
+    decimals: u32,
+}
+
+impl Side {
+    /// Returns samples and their tag.
+    ///
+    /// # Errors
+    /// Returns `TooMany` if there are 2^40 samples or more, or more than 2^20 batches.
+    pub fn new(alloc: Global, tag: Option<String>, samples: Samples) -> Result<Side, BatchError> {
+        let Samples {
+            batches,
+            min,
+            max,
+            decimals,
+            order,
+        } = samples;
+        let mut count = 0u64;
+        for batch in &batches {
+            count = count.saturating_add(batch.len());
+        }
+        Ok(Side {
+            tag,
+            order,
+            run: Run::new(alloc, batches)?,
+            samples: count,
+            min,
+            max,
+            decimals,
+        })
+    }
+
+    /// Returns how many samples there are.
+    pub fn samples(&self) -> u64 {
+        self.samples
+    }
+
+    /// Returns the decimals of a unit.
+    pub fn decimals(&self) -> u32 {
+        self.decimals
+    }
+
+    /// Returns a percentile and its interval, or `None` without samples. The denominator of the
+    /// quantile is at most 1,000,000.
+    pub fn point(
+        &self,
+        alloc: Global,
+        quantile: Quantile,
+        tier: Tier,
+    ) -> Result<Option<Point>, AllocError>
+        requires den { quantile.den ≤ 1000000 }
+        requires proper { quantile.num ≤ quantile.den }
+    {
+        let Some(interval) = self.run.interval(alloc, quantile, tier)? else {
+            return Ok(None);
+        };
+        let measured = Measured {
+            value: self.within(interval.value),
+            low: self.end_within(interval.low.value),
+            high: self.end_within(interval.high.value),
+        };
+        Ok(Some(Point {
+            measured,
+            independent: interval.independent(),
+        }))
+    }
+
+    /// Returns a value within the least and the greatest sample.
+    fn within(&self, value: u64) -> u64 {
+        value.min(self.max).max(self.min)
+    }
+
+    /// Returns an end within the least and the greatest sample, if there is one.
+    fn end_within(&self, end: Option<u64>) -> Option<u64> {
+        match end {
+            Some(value) => Some(self.within(value)),
+            None => None,
+        }
+    }
+}

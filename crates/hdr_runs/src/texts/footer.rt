@@ -1,0 +1,199 @@
+//! What is said below a report: its confidence, and what it cannot see.
+
+use crate::point::Point;
+use crate::report::{NamedRun, Pair, Report};
+use crate::side::Side;
+use crate::texts::ReportLayout;
+use hdr_compare::Tier;
+use hdr_input::push_visible;
+use std::alloc::{AllocError, Global};
+
+/// What is said of runs of which there is one each.
+const SINGLE_RUNS: &str = "\
+What changes from run to run by itself is not seen in one run of each: --with compares 4 or more of each.\n";
+
+/// Returns the confidence of intervals, in percent.
+pub(crate) fn confidence_of(tier: Tier) -> &'static str {
+    match tier {
+        Tier::FivePercent => "95",
+        Tier::OnePercent => "99",
+        Tier::OneInThousand => "99.9",
+        Tier::OneInTenThousand => "99.99",
+        Tier::OneInHundredThousand => "99.999",
+    }
+}
+
+/// A percentile whose samples count as few independent ones.
+#[derive(Clone, Copy)]
+struct Share<'a> {
+    independent: u64,
+    samples: u64,
+    /// The percentile, the name of the run, and the tag.
+    digits: &'a str,
+    run: &'a str,
+    tag: Option<&'a str>,
+}
+
+impl Share<'_> {
+    /// Whether a share of independent samples is less than another.
+    fn is_below(&self, other: &Share<'_>) -> bool {
+        u128::from(self.independent) * u128::from(other.samples)
+            < u128::from(other.independent) * u128::from(self.samples)
+    }
+
+    /// Whether the samples count as fewer than half as many independent ones.
+    fn is_below_half(&self) -> bool {
+        2 * u128::from(self.independent) < u128::from(self.samples)
+    }
+}
+
+impl Report<'_> {
+    /// Returns what is said below a report: its confidence, the percentile whose samples count as
+    /// the fewest independent ones, and which samples have no order of time. If `has_several` runs
+    /// are on each side, what changes from run to run is in the intervals.
+    pub fn footer(
+        &self,
+        alloc: Global,
+        before: &[Side],
+        runs: &[NamedRun<'_>],
+        layout: &ReportLayout<'_>,
+        has_several: bool,
+    ) -> Result<String, AllocError> {
+        let mut text = String::new(alloc);
+        let confidence = confidence_of(self.tier);
+        write!(
+            text,
+            "Intervals of {confidence} %: of 20 such reports on equal runs, at most 1 has a false verdict.\n"
+        )?;
+        if !has_several {
+            text.push_str(SINGLE_RUNS)?;
+        }
+        if let Some(share) = self.least_share(layout) {
+            if share.is_below_half() {
+                push_share(&mut text, share, layout)?;
+            }
+        }
+        push_orders(&mut text, "before", before, layout)?;
+        for run in runs {
+            push_orders(&mut text, run.name, &run.sides, layout)?;
+        }
+        Ok(text)
+    }
+
+    /// Returns the percentile whose samples count as the least share of independent ones, the first
+    /// of equal ones.
+    fn least_share<'a>(&'a self, layout: &ReportLayout<'a>) -> Option<Share<'a>> {
+        let mut least = None;
+        for pair in &self.pairs {
+            least = least_of_pair(least, pair, layout);
+        }
+        least
+    }
+}
+
+/// Returns the least share of those so far and of two runs.
+fn least_of_pair<'a>(
+    least: Option<Share<'a>>,
+    pair: &'a Pair<'_>,
+    layout: &ReportLayout<'a>,
+) -> Option<Share<'a>> {
+    let mut least = least;
+    for (compared, percentile) in pair.percentiles.iter().zip(layout.percentiles) {
+        let (Some(before), Some(after)) = (&compared.before, &compared.after) else {
+            continue;
+        };
+        let digits = percentile.digits;
+        least = lesser(
+            least,
+            share_of("before", before, pair.before, pair.tag, digits),
+        );
+        least = lesser(
+            least,
+            share_of(pair.run, after, pair.after, pair.tag, digits),
+        );
+    }
+    least
+}
+
+/// Returns the share of independent samples of a percentile.
+fn share_of<'a>(
+    run: &'a str,
+    point: &Point,
+    side: Option<&Side>,
+    tag: Option<&'a str>,
+    digits: &'a str,
+) -> Share<'a> {
+    Share {
+        independent: point.independent,
+        samples: match side {
+            Some(side) => side.samples(),
+            None => point.independent,
+        },
+        digits,
+        run,
+        tag,
+    }
+}
+
+/// Returns the lesser of two shares, the first one if they are equal.
+fn lesser<'a>(first: Option<Share<'a>>, other: Share<'a>) -> Option<Share<'a>> {
+    match first {
+        Some(first) if !other.is_below(&first) => Some(first),
+        _ => Some(other),
+    }
+}
+
+/// Appends as how many independent samples those of a percentile count.
+fn push_share(
+    text: &mut String,
+    share: Share<'_>,
+    layout: &ReportLayout<'_>,
+) -> Result<(), AllocError> {
+    let digits = share.digits;
+    write!(text, "p{digits} of ")?;
+    push_name(text, share.run, share.tag, layout)?;
+    let (samples, independent) = (share.samples, share.independent);
+    write!(
+        text,
+        ": its {samples} samples count as {independent} independent ones.\n"
+    )
+}
+
+/// Appends which samples of a run have no order of time.
+fn push_orders(
+    text: &mut String,
+    run: &str,
+    sides: &[Side],
+    layout: &ReportLayout<'_>,
+) -> Result<(), AllocError> {
+    for side in sides {
+        if let Some(note) = side.order.note() {
+            let tag = match &side.tag {
+                Some(tag) => Some(tag.as_str()),
+                None => None,
+            };
+            push_name(text, run, tag, layout)?;
+            text.push(' ')?;
+            text.push_str(note)?;
+            text.push('\n')?;
+        }
+    }
+    Ok(())
+}
+
+/// Appends the name of a run, and its tag if tags are printed.
+fn push_name(
+    text: &mut String,
+    run: &str,
+    tag: Option<&str>,
+    layout: &ReportLayout<'_>,
+) -> Result<(), AllocError> {
+    push_visible(text, run)?;
+    if let Some(tag) = tag {
+        if layout.has_tags {
+            text.push(' ')?;
+            push_visible(text, tag)?;
+        }
+    }
+    Ok(())
+}
