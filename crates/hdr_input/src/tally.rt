@@ -88,7 +88,8 @@ impl Tally {
 
     /// As `NumberSink::count_if_skipped`.
     pub fn count_skipped(&mut self, cause: Cause) -> bool
-        ensures { self.new.decimals ≡ self.old.decimals }
+        ensures unit { KeepsUnit self.old self.new }
+        ensures histogram { self.new.histogram ≡ self.old.histogram }
     {
         let is_skipped = self.skips_bad && cause.may_be_skipped();
         if is_skipped {

@@ -1,1 +1,6 @@
+pub mod Batched
+pub mod BatchLaws
+pub mod ReportChanges
+pub mod Limits
+pub mod Points
 pub mod Sorted

@@ -12,6 +12,7 @@ use hdr_input::rows::{RowSink, RowTexts, record_row};
 use hdr_input::units::Unit;
 use hdr_input::wide::Wide;
 use hdr_input::{Distribution, InputError, Number, NumberSink, Recording, Tally};
+use hdr_model::laws::recording_stands;
 use hdrhistogram::Histogram;
 use std::alloc::Global;
 
@@ -21,8 +22,8 @@ pub struct BatchTally {
     pub tally: Tally,
     batching: Batching,
     steps: Steps,
-    /// Whether a number was recorded more than once, so that its place among others is not known.
-    is_counted: bool,
+    /// Whether the batches have all numbers: not those that are counted, whose order is not known.
+    has_batches: bool,
 }
 
 /// How numbers are recorded in batches.
@@ -49,7 +50,7 @@ impl GroupMaker for BatchRecording {
                 tally,
                 batching,
                 steps: Steps::NONE,
-                is_counted: false,
+                has_batches: true,
             }),
             Err(_) => Err(InputError::OutOfMemory),
         }
@@ -57,19 +58,36 @@ impl GroupMaker for BatchRecording {
 }
 
 impl BatchTally {
-    /// Records a number in a batch, which is in units.
-    fn add(&mut self, units: u64) -> Result<(), Cause> {
+    ghost use Rattle.std.specs.Prelude.{◌≡◌};
+    ghost use Rattle.hdr_input.specs.Numbers.{in_units};
+    ghost use Rattle.hdr_input.specs.Recorded.{KeepsUnit};
+    ghost use Rattle.hdr_runs.specs.Batched.{TakesSame};
+
+    /// Records a number, which is so many units. After an error the batches do not have all numbers.
+    fn take(&mut self, number: Number, units: u64) -> Result<(), Cause>
+        requires { units ≡ in_units number.digits number.decimals self.old.tally.decimals }
+        ensures same { TakesSame self.old self.new }
+        ensures unit { KeepsUnit self.old.tally self.new.tally }
+    {
+        recording_stands();
+        if let Err(cause) = self.tally.record(number) {
+            self.has_batches = false;
+            return Err(cause);
+        }
         self.steps.add(units);
         let interval = self.tally.interval;
         match self.batching.record(units, interval) {
             Ok(()) => Ok(()),
-            Err(_) => Err(Cause::OutOfMemory),
+            Err(_) => {
+                self.has_batches = false;
+                Err(Cause::OutOfMemory)
+            }
         }
     }
 
     /// Returns in which order the numbers are known.
     pub fn order(&self) -> Order {
-        if self.is_counted {
+        if !self.has_batches {
             Order::Counted
         } else if self.steps.is_sorted() {
             Order::Sorted
@@ -150,32 +168,34 @@ impl GroupSink for BatchTally {
 }
 
 impl NumberSink for BatchTally {
-    ghost takes = { λ _ _. Unit {0} };
+    ghost use Rattle.hdr_runs.specs.BatchLaws.{takes_nothing, takes_after};
+    ghost use Rattle.hdr_runs.specs.Batched.{TakesSame};
 
-    ghost takes_none = { λ _. tt };
+    ghost takes = { TakesSame };
 
-    ghost takes_more = { λ _ _ _ _ _. tt };
+    ghost takes_none = { takes_nothing };
+
+    ghost takes_more = { takes_after };
 
     #[inline(always)]
     fn record(&mut self, number: Number) -> Result<(), Cause> {
-        self.tally.record(number)?;
         if number.decimals == self.tally.decimals {
-            return self.add(number.digits);
+            return self.take(number, number.digits);
         }
         let units = self.tally.units_of(number)?;
-        self.add(units)
+        self.take(number, units)
     }
 
     fn record_wide(&mut self, number: Wide) -> Result<(), Cause> {
         let decimals = self.tally.decimals;
         let narrow = number.rounded(decimals)?;
-        self.tally.record(narrow)?;
+        self.record(narrow)?;
         self.tally.count_rounded(number.is_rounded(decimals));
-        self.add(narrow.digits)
+        Ok(())
     }
 
     fn record_times(&mut self, number: Wide, times: u64) -> Result<(), Cause> {
-        self.is_counted = true;
+        self.has_batches = false;
         self.tally.record_times(number, times)
     }
 
@@ -189,11 +209,14 @@ impl NumberSink for BatchTally {
 }
 
 impl LineSink for BatchTally {
-    ghost takes = { λ _ _ _ _ _. Unit {0} };
+    ghost use Rattle.hdr_runs.specs.BatchLaws.{takes_nothing, takes_after};
+    ghost use Rattle.hdr_runs.specs.Batched.{TakesSame};
 
-    ghost takes_none = { λ _ _. tt };
+    ghost takes = { λ _ _ _ old new. TakesSame old new };
 
-    ghost takes_more = { λ _ _ _ _ _ _ _ _ _ _ _. tt };
+    ghost takes_none = { λ _ sink. takes_nothing sink };
+
+    ghost takes_more = { λ _ _ _ _ _ a b c _ first more. takes_after a b c first more };
 
     fn take_lines(&mut self, alloc: Global, lines: &[u8], first: u64) -> Result<u64, InputError> {
         record_lines(alloc, self, lines, first)

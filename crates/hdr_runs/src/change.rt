@@ -1,5 +1,7 @@
 //! What changed between two runs.
 
+ghost use Rattle.hdr_runs.specs.ReportChanges.{IsChange};
+
 use hdr_compare::{
     Measured, Verdict, comparable, greatest_ratio, least_ratio, nearest_ratio, verdict_of,
 };
@@ -15,7 +17,9 @@ pub struct Change {
 }
 
 /// Returns the change of a percentile. If it is 0 before, there are no ratios.
-pub fn change_of(before: &Measured, after: &Measured) -> Change {
+pub fn change_of(before: &Measured, after: &Measured) -> Change
+    ensures { IsChange before.now after.now result }
+{
     let (before, after) = comparable(before, after);
     let verdict = verdict_of(&before, &after);
     if before.value == 0 {

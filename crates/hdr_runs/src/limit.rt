@@ -1,5 +1,8 @@
 //! Limits of changes, such as `p99>+5%`.
 
+ghost use Rattle.std.specs.Prelude.{◌≡◌, ◌≤◌};
+ghost use Rattle.hdr_runs.specs.Limits.{IsLimitVerdict, grown, parts_of};
+
 use crate::point::Point;
 use hdr_compare::{comparable, exceeds, falls_below};
 use hdr_input::Number;
@@ -16,11 +19,10 @@ const MOST_RATIO: u64 = 10_000_000;
 pub struct Limit<'a> {
     pub text: &'a str,
     pub percentile: Percentile<'a>,
-    /// The greatest ratio of after to before.
-    num: u64,
-    den: u64,
-    ghost small: { num ≤ 10000000 },
-    ghost fine: { den ≤ 10000000 },
+    /// By how many percent it may grow.
+    pub amount: Number,
+    ghost few: { amount.decimals ≤ 3 },
+    ghost small: { 100 * 10 ^ amount.decimals + amount.digits ≤ 10000000 },
 }
 
 /// Whether a percentile grew by more than a limit.
@@ -60,17 +62,28 @@ pub fn parse_limit(text: &str) -> Option<Limit<'_>> {
     if amount.decimals > MOST_DECIMALS {
         return None;
     }
-    let den = 10u64.checked_pow(amount.decimals)?.checked_mul(100)?;
-    let num = den.checked_add(amount.digits)?;
-    if num > MOST_RATIO || den > MOST_RATIO {
+    if amount.digits > MOST_RATIO - parts_of(amount.decimals) {
         return None;
     }
     Some(Limit {
         text,
         percentile,
-        num,
-        den,
+        amount,
     })
+}
+
+/// Returns how many parts a hundred percent have, if one percent has these decimals.
+fn parts_of(decimals: u32) -> u64
+    requires { decimals ≤ 3 }
+    ensures parts { result ≡ parts_of decimals }
+    ensures within { result ≤ 100000 }
+{
+    match decimals {
+        0 => 100,
+        1 => 1_000,
+        2 => 10_000,
+        _ => 100_000,
+    }
 }
 
 impl Limit<'_> {
@@ -82,11 +95,15 @@ impl Limit<'_> {
     }
 
     /// Returns whether a percentile grew by more.
-    pub fn verdict(&self, before: &Point, after: &Point) -> LimitVerdict {
+    pub fn verdict(&self, before: &Point, after: &Point) -> LimitVerdict
+        ensures { IsLimitVerdict self.now.amount before.now.measured after.now.measured result }
+    {
         let (before, after) = comparable(&before.measured, &after.measured);
+        let den = parts_of(self.amount.decimals);
+        let num = den + self.amount.digits;
         match (
-            exceeds(self.num, self.den, &before, &after),
-            falls_below(self.num, self.den, &before, &after),
+            exceeds(num, den, &before, &after),
+            falls_below(num, den, &before, &after),
         ) {
             (Some(true), _) => LimitVerdict::Broken,
             (_, Some(true)) => LimitVerdict::Kept,

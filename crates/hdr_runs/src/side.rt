@@ -49,11 +49,19 @@ pub struct Side {
 }
 
 impl Side {
+    ghost use Rattle.std.specs.Prelude.{◌≡◌, ◌≤◌, IfOk, MatchOption};
+    ghost use Rattle.std.specs.Option.{option_map};
+    ghost use Rattle.hdr_compare.specs.Intervals.{samples_of};
+    ghost use Rattle.hdr_runs.specs.Points.{IsPointOf, batches_of_side, greatest_of, least_of, within};
+
     /// Returns samples and their tag.
     ///
     /// # Errors
     /// Returns `TooMany` if there are 2^40 samples or more, or more than 2^20 batches.
-    pub fn new(alloc: Global, tag: Option<String>, samples: Samples) -> Result<Side, BatchError> {
+    pub fn new(alloc: Global, tag: Option<String>, samples: Samples) -> Result<Side, BatchError>
+        ensures batches { IfOk result (λ side. batches_of_side side ≡ samples.batches.items) }
+        ensures extremes { IfOk result (λ side. (least_of side ≡ samples.min) × (greatest_of side ≡ samples.max)) }
+    {
         let Samples {
             batches,
             min,
@@ -96,6 +104,8 @@ impl Side {
     ) -> Result<Option<Point>, AllocError>
         requires den { quantile.den ≤ 1000000 }
         requires proper { quantile.num ≤ quantile.den }
+        ensures { IfOk result (λ found. MatchOption found
+            (samples_of (batches_of_side self.now) ≡ 0) (IsPointOf self.now quantile tier)) }
     {
         let Some(interval) = self.run.interval(alloc, quantile, tier)? else {
             return Ok(None);
@@ -112,12 +122,16 @@ impl Side {
     }
 
     /// Returns a value within the least and the greatest sample.
-    fn within(&self, value: u64) -> u64 {
+    fn within(&self, value: u64) -> u64
+        ensures { result ≡ within self.now value }
+    {
         value.min(self.max).max(self.min)
     }
 
     /// Returns an end within the least and the greatest sample, if there is one.
-    fn end_within(&self, end: Option<u64>) -> Option<u64> {
+    fn end_within(&self, end: Option<u64>) -> Option<u64>
+        ensures { result ≡ option_map (within self.now) end }
+    {
         match end {
             Some(value) => Some(self.within(value)),
             None => None,

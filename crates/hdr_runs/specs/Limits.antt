@@ -1,0 +1,29 @@
+-- Limits of changes: by how many percent a percentile may grow.
+use Rattle.std.specs.Prelude.{ℕ, ◌+◌, ◌*◌, ◌^◌, ⊥}
+use Rattle.hdr_compare.specs.Changes.{ExceedsBy, FallsBelowBy, IsOpen}
+use Rattle.hdr_compare.specs.Shifts.{AreShifted}
+use Rattle.hdr_compare.specs.declared.changes.Measured.{Measured}
+use Rattle.hdr_input.specs.declared.number.Number.{Number}
+use Rattle.hdr_runs.specs.declared.limit.LimitVerdict.{LimitVerdict}
+use Rattle.hdr_runs.specs.declared.limit.LimitVerdict.TheVariants.{Kept, Broken, Undecided, Few}
+
+-- growth by p percent is that to num / den, where num = den + p parts of a hundred
+abbrev pub parts_of : ℕ → ℕ
+parts_of decimals = 100 * 10 ^ decimals
+
+abbrev pub grown : Number → ℕ
+grown percent = parts_of percent.decimals + percent.digits
+
+-- whether y is above num / den times x: beyond chance it is, or it is below; chance can make both; or x or y has no end
+abbrev pub IsVerdictAt : (num den : ℕ) → Measured → Measured → LimitVerdict → Type 0
+IsVerdictAt num den x y Broken = ExceedsBy num den x y
+IsVerdictAt num den x y Kept = FallsBelowBy num den x y
+IsVerdictAt num den x y Undecided = (ExceedsBy num den x y → ⊥) × (FallsBelowBy num den x y → ⊥) × (IsOpen x.high y.low → ⊥)
+IsVerdictAt num den x y Few = (FallsBelowBy num den x y → ⊥) × IsOpen x.high y.low
+
+-- whether y grew from x by more than a percentage, in the smallest units in which both can be compared
+pub record IsLimitVerdict (percent : Number) (x y : Measured) (verdict : LimitVerdict) : Type 0 where
+  pub before : Measured
+  pub after : Measured
+  pub are_shifted : AreShifted x y before after
+  pub is_verdict : IsVerdictAt (grown percent) (parts_of percent.decimals) before after verdict
