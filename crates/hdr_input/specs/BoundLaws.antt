@@ -1,5 +1,5 @@
 -- Laws of what tallies with bounds count.
-use Rattle.std.specs.Prelude.{List, [], ◌++◌, refl}
+use Rattle.std.specs.Prelude.{ℕ, ◌≤◌, List, [], ◌∷◌, ◌++◌, length, refl}
 use Rattle.std.proofs.Common.{sym, ◌∙◌, subst, append_assoc}
 use Rattle.std.proofs.lemmas.List.{append-nil}
 use Rattle.hdr_input.specs.declared.number.Number.{Number}
@@ -9,6 +9,14 @@ use Rattle.hdr_input.specs.Bounds.{Counts, HasCounted}
 -- some numbers are counted
 abbrev pub CountsSome : BoundTally → BoundTally → Type 0
 CountsSome old new = (numbers : List Number) × Counts old numbers new
+
+-- a number is counted, with the missing samples before it
+abbrev pub CountsOne : BoundTally → BoundTally → Type 0
+CountsOne old new = (x : Number) × (missing : List Number) × Counts old (x ∷ missing) new
+
+-- at least this many numbers are counted
+abbrev pub CountsMany : ℕ → BoundTally → BoundTally → Type 0
+CountsMany count old new = (numbers : List Number) × (count ≤ length numbers) × Counts old numbers new
 
 -- nothing is counted where nothing changes
 pub counts_nothing : (t : BoundTally) → CountsSome t t

@@ -87,6 +87,14 @@ pub record Counts (old : BoundTally) (numbers : List Number) (new : BoundTally) 
   pub ends : ends_of new.counts.items ≡ ends_of old.counts.items
   pub all : (S : List Number) → HasCounted old S → HasCounted new (S ++ numbers)
 
+-- the sum of the numbers of a tally in units, with the missing samples, as far as 128 bits hold it
+abbrev pub sum_of : BoundTally → ℕ
+sum_of t = min (t.tally.sum + t.missing_sum) (2 ^ 128 - 1)
+
+-- how far the sum may be off, if a number was rounded: half a unit for each of these and for each missing sample
+abbrev pub sum_error : BoundTally → ℕ
+sum_error t = if nat_lt 0 t.tally.rounded then (t.tally.rounded + t.missing + 1) / 2 else 0
+
 -- a bound is one of those of a tally, or nothing is within it
 abbrev pub HasBound : BoundTally → Bound → Type 0
 HasBound t b = 0 < end_of b → Has (end_of b) (ends_of t.counts.items)

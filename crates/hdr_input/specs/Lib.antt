@@ -7,6 +7,7 @@ pub mod Durations
 pub mod Lines
 pub mod Counted
 pub mod Groups
+pub mod Joining
 pub mod Times
 pub mod Bounds
 pub mod BoundLaws

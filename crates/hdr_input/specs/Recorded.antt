@@ -38,6 +38,15 @@ Takes old new number =
     × (new.sum ≡ (old.sum + in_units number.digits number.decimals old.decimals) % 2 ^ 128)
     × (new.rounded ≡ with_rounding old.rounded (is_rounded number old.decimals))
 
+-- a tally has taken a number some times, which was rounded before or not: its histogram, its extremes, its sum and how many numbers were rounded are those after it
+abbrev pub TakesTimes : Tally → Tally → Number → ℕ → Bool → Type 0
+TakesTimes old new number times is_rounded =
+    (new.histogram ≡ after_correct (2 ^ 64 - 1) old.histogram (in_units number.digits number.decimals old.decimals) times old.interval)
+    × ((least : ℕ) × IsLeast (in_units number.digits number.decimals old.decimals) old.interval least × (new.min ≡ min old.min least))
+    × (new.max ≡ max old.max (in_units number.digits number.decimals old.decimals))
+    × (new.sum ≡ (old.sum + in_units number.digits number.decimals old.decimals * times) % 2 ^ 128)
+    × (new.rounded ≡ (if is_rounded then (old.rounded + times) % 2 ^ 64 else old.rounded))
+
 -- the unit of a tally stays
 abbrev pub KeepsUnit : Tally → Tally → Type 0
 KeepsUnit old new = (new.decimals ≡ old.decimals) × (new.interval ≡ old.interval)
@@ -45,6 +54,10 @@ KeepsUnit old new = (new.decimals ≡ old.decimals) × (new.interval ≡ old.int
 -- a tally after a number that was recorded, and rounded or not
 abbrev pub after_rounding : Tally → Bool → Tally
 after_rounding t is_rounded = record t { rounded = with_rounding t.rounded is_rounded }
+
+-- a tally whose sum has as many units more as `times` numbers have
+abbrev pub after_copies : Tally → ℕ → ℕ → Tally
+after_copies t units times = record t { sum = (t.sum + units * times) % 2 ^ 128 }
 
 -- a number is not recorded, for this cause: it is too large in the unit of the tally, or memory runs out for more bins
 abbrev pub IsTallyError : Tally → Number → Cause → Type 0

@@ -2,6 +2,7 @@
 
 use crate::cause::Cause;
 use crate::errors::{InputError, InputPlace, excerpt};
+use crate::joining::push_part;
 use crate::lines::split_line;
 use crate::rows::{RowSink, RowTexts};
 use crate::text::is_number;
@@ -239,7 +240,8 @@ impl FoundColumns<'_> {
     }
 }
 
-/// Returns the fields of a row, joined by spaces, or `None` if the row does not have one of them.
+/// Returns the fields of a row as `push_part` joins them, with a space between two, or `None` if the
+/// row does not have one of them.
 fn join<'a>(
     row: &ByteRecord,
     indices: &[usize],
@@ -253,7 +255,7 @@ fn join<'a>(
         if position > 0 {
             joined.push(b' ')?;
         }
-        joined.extend_from_slice(field)?;
+        push_part(joined, field)?;
     }
     Ok(Some(joined.as_slice()))
 }

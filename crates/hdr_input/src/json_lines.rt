@@ -3,6 +3,7 @@
 use crate::cause::Cause;
 use crate::columns::Columns;
 use crate::errors::{InputError, InputPlace};
+use crate::joining::push_part;
 use crate::lines::{split_line, without_mark};
 use crate::pieces::{LineSink, read_lines};
 use crate::rows::{RowSink, RowTexts};
@@ -124,24 +125,35 @@ fn chooses(columns: Columns<'_, '_>, root: &Element<'_, '_>) -> bool {
     true
 }
 
-/// Returns the texts at paths, joined by spaces, or `None` without paths. The text of a path that
-/// leads nowhere is empty.
+/// Returns the text at a path, or those at several as `push_part` joins them, with a space between
+/// two. Returns `None` without paths. The text of a path that leads nowhere is empty.
 fn join<'j>(
     paths: &[&str],
     root: &Element<'_, '_>,
     joined: &'j mut Vec<u8>,
 ) -> Result<Option<&'j [u8]>, AllocError> {
-    if paths.is_empty() {
-        return Ok(None);
-    }
     joined.clear();
+    match paths {
+        [] => return Ok(None),
+        [path] => joined.extend_from_slice(text_at(root, *path).unwrap_or(b""))?,
+        _ => push_texts(paths, root, joined)?,
+    }
+    Ok(Some(joined.as_slice()))
+}
+
+/// Appends the texts at several paths, with a space between two.
+fn push_texts(
+    paths: &[&str],
+    root: &Element<'_, '_>,
+    joined: &mut Vec<u8>,
+) -> Result<(), AllocError> {
     for (index, path) in paths.iter().enumerate() {
         if index > 0 {
             joined.push(b' ')?;
         }
-        joined.extend_from_slice(text_at(root, *path).unwrap_or(b""))?;
+        push_part(joined, text_at(root, *path).unwrap_or(b""))?;
     }
-    Ok(Some(joined.as_slice()))
+    Ok(())
 }
 
 /// Returns the text at a path: that of a number as it is written, of a string, or of a boolean.

@@ -13,6 +13,7 @@ pub mod errors;
 pub mod group_texts;
 pub mod groups;
 pub mod intervals;
+mod joining;
 pub mod json_lines;
 pub mod laws;
 pub mod lines;

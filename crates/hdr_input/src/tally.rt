@@ -1,12 +1,13 @@
 //! Numbers, recorded as they come.
 
-ghost use Rattle.std.specs.Prelude.{◌≡◌, ◌+◌, ◌-◌, ◌%◌, ◌^◌, ◌<◌, ◌≤◌, min, max, true};
+ghost use Rattle.std.specs.Prelude.{◌≡◌, ◌+◌, ◌-◌, ◌%◌, ◌^◌, ◌<◌, ◌≤◌, min, max, Bool, true};
 ghost use Rattle.std.specs.Prelude.{Some, None, Ok, OnOk, IfOk, IfErr};
 ghost use Rattle.hdr_model.specs.CallErrors.{IsCreationError};
 ghost use Rattle.hdr_model.specs.Plain.{empty_plain};
 ghost use Rattle.hdr_input.specs.Numbers.{in_units};
-ghost use Rattle.hdr_input.specs.Recorded.{IsInterval, IsLeast, Takes, KeepsUnit};
-ghost use Rattle.hdr_input.specs.Recorded.{IsTallyError, IsCauseOf, after_rounding};
+ghost use Rattle.hdr_input.specs.Recorded.{IsInterval, IsLeast, Takes, TakesTimes, KeepsUnit};
+ghost use Rattle.hdr_input.specs.Recorded.{IsTallyError, IsCauseOf, after_rounding, after_copies};
+ghost use Rattle.hdr_input.specs.declared.number.Number.{Number};
 
 use crate::cause::Cause;
 use crate::distribution::{Distribution, MOST_DECIMALS};
@@ -221,19 +222,41 @@ impl Tally {
     /// # Errors
     /// As `record`.
     pub fn record_times(&mut self, number: Wide, times: u64) -> Result<(), Cause>
+        ensures taken { OnOk result (0 < times → (x : Number) × (is_rounded : Bool)
+            × TakesTimes self.old self.new x times is_rounded) }
         ensures unit { KeepsUnit self.old self.new }
     {
-        let units = self.units_of(number.rounded(self.decimals)?)?;
+        let is_rounded = number.is_rounded(self.decimals);
+        let number = number.rounded(self.decimals)?;
+        self.record_copies(number, times, is_rounded)
+    }
+
+    /// Records a number as often as `times`, which is above 0. `is_rounded` is whether it was rounded
+    /// to the unit.
+    #[tactic(auto, using(crate::proofs::Copies::sum_times))]
+    fn record_copies(&mut self, number: Number, times: u64, is_rounded: bool) -> Result<(), Cause>
+        ensures taken { OnOk result (0 < times → TakesTimes self.old self.new number times is_rounded) }
+        ensures unit { KeepsUnit self.old self.new }
+        ensures errors { IfErr result (IsTallyError self.old number) }
+    {
+        let units = self.units_of(number)?;
         let done = self.histogram.record_n_correct(units, times, self.interval);
         self.update_extremes(done, least_of(units, self.interval), units)?;
-        let more = u128::from(units) * u128::from(times.saturating_sub(1));
-        self.sum = self.sum.wrapping_add(more);
-        if number.is_rounded(self.decimals) {
+        self.add_copies(units, times.saturating_sub(1));
+        if is_rounded {
             self.rounded = self.rounded.wrapping_add(times);
         }
         let missing = missing_before(units, self.interval).wrapping_mul(times);
         self.missing = self.missing.wrapping_add(missing);
         Ok(())
+    }
+
+    /// Adds a number of units to the sum, as often as `times`.
+    fn add_copies(&mut self, units: u64, times: u64)
+        ensures { self.new ≡ after_copies self.old units times }
+    {
+        let more = u128::from(units) * u128::from(times);
+        self.sum = self.sum.wrapping_add(more);
     }
 
     /// Returns a number in units.

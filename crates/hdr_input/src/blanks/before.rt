@@ -25,7 +25,7 @@ pub(crate) fn ends_line(byte: u8) -> bool
     byte == b'\n' || byte == b'\r'
 }
 
-/// Returns what is before the byte after another, which is no blank.
+/// Returns what is before the byte that follows `byte`, which isn't a blank.
 pub(crate) fn after(byte: u8) -> Before
     ensures { result ≡ after byte }
 {

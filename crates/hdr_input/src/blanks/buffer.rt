@@ -53,7 +53,7 @@ impl BlankBuffer {
         Ok(self.end)
     }
 
-    /// Passes bytes on, as far as a buffer has room. Returns how many.
+    /// Passes on as many bytes as fit in the buffer. Returns how many.
     pub(crate) fn pass_on(&mut self, buf: &mut [u8]) -> usize
         ensures within { result ≤ length buf.new }
         ensures len { length buf.new ≡ length buf.old }

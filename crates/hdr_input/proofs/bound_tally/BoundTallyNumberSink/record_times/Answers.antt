@@ -1,0 +1,17 @@
+use Rattle.std.proofs.Common.{[], replicate}
+use Rattle.hdr_input.proofs.CountingSteps.{either}
+use Rattle.hdr_input.proofs.bound_tally.BoundTallyNumberSink.record_times.Goals as goal
+
+pub returns-then-self-eq0 : goal.returns-then-self-eq0
+returns-then-self-eq0 c = record {
+  taken = either c.record_copies.result c.record_copies.ensures.counted c.record_copies.ensures.err
+      (λ copies. (replicate c.args.times copies.0, copies.1))
+      (λ nothing. ([], nothing));
+}
+
+pub returns-else-self-eq0 : goal.returns-else-self-eq0
+returns-else-self-eq0 c = record {
+  taken = either c.record_each.result c.record_each.ensures.counted c.record_each.ensures.err
+      (λ each. (each.0, each.2))
+      (λ some. some);
+}
