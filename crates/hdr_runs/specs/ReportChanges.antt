@@ -6,7 +6,7 @@ use Rattle.hdr_compare.specs.Verdicts.{HasNoRatio, IsNearestRatio, IsVerdict}
 use Rattle.hdr_compare.specs.declared.changes.Measured.{Measured}
 use Rattle.hdr_runs.specs.declared.change.Change.{Change}
 
--- the verdict and the ratios of both, in the smallest units in which they can be compared; there are no ratios to 0
+-- the verdict and the ratios of both, in the smallest units in which they can be compared; a change from 0 has none
 pub record IsChange (x y : Measured) (c : Change) : Type 0 where
   pub before : Measured
   pub after : Measured

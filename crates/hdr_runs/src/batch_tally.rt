@@ -63,7 +63,7 @@ impl BatchTally {
     ghost use Rattle.hdr_input.specs.Recorded.{KeepsUnit};
     ghost use Rattle.hdr_runs.specs.Batched.{TakesSame};
 
-    /// Records a number, which is so many units. After an error the batches do not have all numbers.
+    /// Records a number, which has these units. After an error the batches do not have all numbers.
     fn take(&mut self, number: Number, units: u64) -> Result<(), Cause>
         requires { units ≡ in_units number.digits number.decimals self.old.tally.decimals }
         ensures same { TakesSame self.old self.new }

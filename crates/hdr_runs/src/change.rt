@@ -16,7 +16,7 @@ pub struct Change {
     pub verdict: Verdict,
 }
 
-/// Returns the change of a percentile. If it is 0 before, there are no ratios.
+/// Returns the change of a percentile. One from 0 has no ratio.
 pub fn change_of(before: &Measured, after: &Measured) -> Change
     ensures { IsChange before.now after.now result }
 {

@@ -25,7 +25,7 @@ pub(crate) fn confidence_of(tier: Tier) -> &'static str {
 
 /// A percentile whose samples count as few independent ones.
 #[derive(Clone, Copy)]
-struct Share<'a> {
+struct Fraction<'a> {
     independent: u64,
     samples: u64,
     /// The percentile, the name of the run, and the tag.
@@ -34,9 +34,9 @@ struct Share<'a> {
     tag: Option<&'a str>,
 }
 
-impl Share<'_> {
-    /// Whether a share of independent samples is less than another.
-    fn is_below(&self, other: &Share<'_>) -> bool {
+impl Fraction<'_> {
+    /// Whether fewer of the samples count than of another one.
+    fn is_below(&self, other: &Fraction<'_>) -> bool {
         u128::from(self.independent) * u128::from(other.samples)
             < u128::from(other.independent) * u128::from(self.samples)
     }
@@ -68,9 +68,9 @@ impl Report<'_> {
         if !has_several {
             text.push_str(SINGLE_RUNS)?;
         }
-        if let Some(share) = self.least_share(layout) {
-            if share.is_below_half() {
-                push_share(&mut text, share, layout)?;
+        if let Some(fraction) = self.least_fraction(layout) {
+            if fraction.is_below_half() {
+                push_fraction(&mut text, fraction, layout)?;
             }
         }
         push_orders(&mut text, "before", before, layout)?;
@@ -80,9 +80,9 @@ impl Report<'_> {
         Ok(text)
     }
 
-    /// Returns the percentile whose samples count as the least share of independent ones, the first
-    /// of equal ones.
-    fn least_share<'a>(&'a self, layout: &ReportLayout<'a>) -> Option<Share<'a>> {
+    /// Returns the percentile whose samples count as the smallest fraction of independent ones, the
+    /// first of equal ones.
+    fn least_fraction<'a>(&'a self, layout: &ReportLayout<'a>) -> Option<Fraction<'a>> {
         let mut least = None;
         for pair in &self.pairs {
             least = least_of_pair(least, pair, layout);
@@ -91,12 +91,12 @@ impl Report<'_> {
     }
 }
 
-/// Returns the least share of those so far and of two runs.
+/// Returns the smallest fraction of those so far and of two runs.
 fn least_of_pair<'a>(
-    least: Option<Share<'a>>,
+    least: Option<Fraction<'a>>,
     pair: &'a Pair<'_>,
     layout: &ReportLayout<'a>,
-) -> Option<Share<'a>> {
+) -> Option<Fraction<'a>> {
     let mut least = least;
     for (compared, percentile) in pair.percentiles.iter().zip(layout.percentiles) {
         let (Some(before), Some(after)) = (&compared.before, &compared.after) else {
@@ -105,25 +105,25 @@ fn least_of_pair<'a>(
         let digits = percentile.digits;
         least = lesser(
             least,
-            share_of("before", before, pair.before, pair.tag, digits),
+            fraction_of("before", before, pair.before, pair.tag, digits),
         );
         least = lesser(
             least,
-            share_of(pair.run, after, pair.after, pair.tag, digits),
+            fraction_of(pair.run, after, pair.after, pair.tag, digits),
         );
     }
     least
 }
 
-/// Returns the share of independent samples of a percentile.
-fn share_of<'a>(
+/// Returns how many samples of a percentile count as independent ones.
+fn fraction_of<'a>(
     run: &'a str,
     point: &Point,
     side: Option<&Side>,
     tag: Option<&'a str>,
     digits: &'a str,
-) -> Share<'a> {
-    Share {
+) -> Fraction<'a> {
+    Fraction {
         independent: point.independent,
         samples: match side {
             Some(side) => side.samples(),
@@ -135,8 +135,8 @@ fn share_of<'a>(
     }
 }
 
-/// Returns the lesser of two shares, the first one if they are equal.
-fn lesser<'a>(first: Option<Share<'a>>, other: Share<'a>) -> Option<Share<'a>> {
+/// Returns the smaller of two fractions, the first one if they are equal.
+fn lesser<'a>(first: Option<Fraction<'a>>, other: Fraction<'a>) -> Option<Fraction<'a>> {
     match first {
         Some(first) if !other.is_below(&first) => Some(first),
         _ => Some(other),
@@ -144,15 +144,15 @@ fn lesser<'a>(first: Option<Share<'a>>, other: Share<'a>) -> Option<Share<'a>> {
 }
 
 /// Appends as how many independent samples those of a percentile count.
-fn push_share(
+fn push_fraction(
     text: &mut String,
-    share: Share<'_>,
+    fraction: Fraction<'_>,
     layout: &ReportLayout<'_>,
 ) -> Result<(), AllocError> {
-    let digits = share.digits;
+    let digits = fraction.digits;
     write!(text, "p{digits} of ")?;
-    push_name(text, share.run, share.tag, layout)?;
-    let (samples, independent) = (share.samples, share.independent);
+    push_name(text, fraction.run, fraction.tag, layout)?;
+    let (samples, independent) = (fraction.samples, fraction.independent);
     write!(
         text,
         ": its {samples} samples count as {independent} independent ones.\n"

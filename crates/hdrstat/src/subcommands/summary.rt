@@ -135,7 +135,7 @@ fn check_intervals(
 /// The greatest denominator of the quantile of a percentile that has an interval.
 const MOST_DENOMINATOR: u64 = 1_000_000;
 
-/// Returns an error if a percentile has more than 4 decimals, for which there are no intervals.
+/// Returns an error if a percentile has more than 4 decimals, and so no interval.
 pub(crate) fn require_intervals(
     alloc: Global,
     percentiles: &[Percentile<'_>],
