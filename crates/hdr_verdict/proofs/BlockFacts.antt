@@ -24,13 +24,13 @@ drop-one : (cells : List (List ℕ)) (n : ℕ) → n < length cells → drop n c
 drop-one cells n inside = drop-cons cells n [] inside ∙ ap (λ k. get_or cells n [] ∷ drop k cells) (sym (add-one n))
 
 -- the blocks of one more cell
-blocks-short : (least : ℕ) (since cell : List ℕ) (cells : List (List ℕ)) → length (since ++ cell) < least → blocks_from least since (cell ∷ cells) ≡ blocks_from least (since ++ cell) cells
+pub blocks-short : (least : ℕ) (since cell : List ℕ) (cells : List (List ℕ)) → length (since ++ cell) < least → blocks_from least since (cell ∷ cells) ≡ blocks_from least (since ++ cell) cells
 blocks-short least since cell cells few =
     let T = since ++ cell in
     let not-enough : leb least (length T) ≡ false = grind (arith, nat_tests) in
     ap {B = List (List ℕ)} (λ (b : Bool). if b then T ∷ blocks_from least [] cells else blocks_from least T cells) not-enough
 
-blocks-full : (least : ℕ) (since cell : List ℕ) (cells : List (List ℕ)) → least ≤ length (since ++ cell) → blocks_from least since (cell ∷ cells) ≡ (since ++ cell) ∷ blocks_from least [] cells
+pub blocks-full : (least : ℕ) (since cell : List ℕ) (cells : List (List ℕ)) → least ≤ length (since ++ cell) → blocks_from least since (cell ∷ cells) ≡ (since ++ cell) ∷ blocks_from least [] cells
 blocks-full least since cell cells many =
     let T = since ++ cell in
     let enough : leb least (length T) ≡ true = grind (arith, nat_tests) in

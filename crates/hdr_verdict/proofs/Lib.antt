@@ -8,6 +8,7 @@ pub mod CellSamples
 pub mod Keeping
 pub mod Quartiles
 pub mod BlockFacts
+pub mod FewBlocks
 pub mod Each
 pub mod Windows
 pub mod SortedLists

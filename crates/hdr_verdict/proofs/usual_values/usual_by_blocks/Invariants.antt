@@ -3,7 +3,7 @@ use Rattle.std.specs.List.{AllZip, sum_by}
 use Rattle.hdr_verdict.specs.declared.cell.Cell.{Cell}
 use Rattle.hdr_verdict.specs.Blocks.{AreBlocksFor}
 use Rattle.hdr_verdict.specs.TagSamples.{HasSamples, KeepsCells, width_of_tag, cells_of}
-use Rattle.hdr_verdict.proofs.usual_values.usual_of.Given as goal
+use Rattle.hdr_verdict.proofs.usual_values.usual_by_blocks.Given as goal
 
 abbrev pub invariant-loop-index : goal.invariant-loop-index
 invariant-loop-index l = record {
