@@ -1,6 +1,6 @@
 -- The blocks of a tag's cells.
 use Rattle.std.specs.Prelude.{◌≡◌, ℕ, ◌+◌, ◌*◌, ◌<◌, ◌≤◌, ◌++◌, [], ◌∷◌, List, length, map, take, drop, slice_index_or, Option}
-use Rattle.std.specs.List.{All, AllZip, flat_map, sum_by}
+use Rattle.std.specs.List.{All, flat_map, sum_by}
 use Rattle.hdr_model.specs.Plain.{Plain, resolution}
 use Rattle.hdr_verdict.specs.Samples.{Rounds, CanCount, classes_of}
 use Rattle.hdr_verdict.specs.Tails.{tail_value}

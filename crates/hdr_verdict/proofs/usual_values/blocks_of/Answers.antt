@@ -1,9 +1,8 @@
-use Rattle.std.proofs.Common.{◌≡◌, ◌∙◌, ◌+◌, ◌++◌, ◌∷◌, [], ℕ, List, map, take, take_all, append_assoc, append-nil, ap, sym, subst, arith}
+use Rattle.std.proofs.Common.{◌≡◌, ◌∙◌, ◌++◌, ◌∷◌, [], List, map, take, take_all, append_assoc, append-nil, ap, sym, subst, arith}
 use Rattle.std.specs.List.{All}
 use Rattle.std.proofs.lemmas.Bool.Decides.{nat_tests}
 use Rattle.std.proofs.lemmas.List.{take_more}
 use Rattle.std.proofs.lemmas.List.Elements.{All-nil, All-push}
-use Rattle.hdr_verdict.specs.declared.tail.Tail.{Tail}
 use Rattle.hdr_verdict.specs.declared.usual.Blocks.{Blocks}
 use Rattle.hdr_verdict.specs.declared.usual.TailValues.{TailValues}
 use Rattle.hdr_verdict.specs.Blocks.{AreNoBlocks, AreNoBlocksFor, tails_of, values_of}

@@ -1,8 +1,7 @@
-use Rattle.std.proofs.Common.{◌∙◌, ◌++◌, ◌∷◌, [], map, ap, sym, subst}
+use Rattle.std.proofs.Common.{◌∙◌, [], map, ap, sym, subst}
 use Rattle.std.specs.List.{All}
 use Rattle.std.proofs.lemmas.List.{map_push}
 use Rattle.std.proofs.lemmas.List.Elements.{All-push}
-use Rattle.hdr_verdict.specs.declared.tail.Tail.{Tail}
 use Rattle.hdr_verdict.specs.declared.usual.TailValues.{TailValues}
 use Rattle.hdr_verdict.specs.Blocks.{AreValuesOf}
 use Rattle.hdr_verdict.proofs.usual.Blocks.add_tail.Goals as goal
