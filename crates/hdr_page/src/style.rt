@@ -74,7 +74,7 @@ path{fill:none;vector-effect:non-scaling-stroke;stroke-linejoin:round}
 .g{stroke:var(--thin)}.G{stroke:var(--line)}
 .break{stroke:var(--soft);stroke-width:1.5;stroke-dasharray:2 3}
 .band{fill:var(--band)}.gap{fill:url(#hatch)}
-.x{stroke:var(--ink);stroke-opacity:.08;stroke-width:3;vector-effect:none}
+.x{stroke:var(--ink);stroke-opacity:.08;stroke-width:3;vector-effect:none}.y{fill:var(--bg)}
 .rose{stroke:var(--t);stroke-width:2.5}.usual{stroke:var(--t);stroke-width:1;stroke-dasharray:3 2}
 .u{paint-order:stroke;stroke:var(--bg);stroke-width:3px;stroke-linejoin:round}
 .level{stroke:var(--ink);stroke-width:1.5;stroke-dasharray:7 4}

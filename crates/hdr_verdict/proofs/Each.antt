@@ -1,7 +1,8 @@
 -- A list in which one element after the other is changed.
 use Rattle.std.proofs.Common.{◌≡◌, ℕ, zero, suc, ◌+◌, ◌<◌, ◌≤◌, List, [], ◌∷◌, ◌++◌, length, map, take, take_all, get_or, set, append-nil, append_assoc, refl, ap, sym, subst, ◌∙◌, arith, inl, inr}
-use Rattle.std.specs.List.{AllZip, flat_map}
+use Rattle.std.specs.List.{All, AllZip, flat_map}
 use Rattle.std.proofs.lemmas.List.{take-append-le, get_or-set_same, get_or-set_other, get_or_default}
+use Rattle.std.proofs.lemmas.List.Elements.{All-nil, All-cons, All-head, All-tail}
 use Rattle.std.proofs.lemmas.Slice.Zip.{AllZip-map}
 use Rattle.std.proofs.lemmas.Bool.{cases_lt}
 
@@ -74,3 +75,14 @@ zip-at R (x ∷ xs) (y ∷ ys) (suc i) d e all inside = zip-at R xs ys i d e all
 pub flat-push : {X A : Type 0} (f : X → List A) (xs : List X) (x : X) → flat_map f (xs ++ x ∷ []) ≡ flat_map f xs ++ f x
 flat-push f [] x = append-nil (f x)
 flat-push f (y ∷ xs) x = ap (λ l. f y ++ l) (flat-push f xs x) ∙ sym (append_assoc (f y) (flat_map f xs) (f x))
+
+-- what holds of each element with what each becomes
+pub all-zip : {X Y : Type 0} (P : X → Type 0) (R : X → Y → Type 0) (Q : Y → Type 0) → ((x : X) (y : Y) → P x → R x y → Q y) → (xs : List X) (ys : List Y) → All P xs → AllZip R xs ys → All Q ys
+all-zip P R Q f [] [] p r = All-nil Q
+all-zip P R Q f [] (y ∷ ys) p r = absurd r
+all-zip P R Q f (x ∷ xs) [] p r = absurd r
+all-zip P R Q f (x ∷ xs) (y ∷ ys) p r = All-cons Q y ys (f x y (All-head P x xs p) r.0) (all-zip P R Q f xs ys (All-tail P x xs p) r.1)
+
+pub all-weaker : {X : Type 0} (P Q : X → Type 0) → ((x : X) → P x → Q x) → (xs : List X) → All P xs → All Q xs
+all-weaker P Q f [] p = All-nil Q
+all-weaker P Q f (x ∷ xs) p = All-cons Q x xs (f x (All-head P x xs p)) (all-weaker P Q f xs (All-tail P x xs p))

@@ -7,8 +7,9 @@ pub mod Holding
 pub mod CellSamples
 pub mod Keeping
 pub mod Quartiles
-pub mod BlockFacts
 pub mod Each
+pub mod BlockFacts
+pub mod FewBlocks
 pub mod Windows
 pub mod SortedLists
 pub mod Gaps

@@ -88,6 +88,8 @@ impl<'a> Decoder<'a> {
             samples.push(histogram.len())?;
             self.keep(histogram);
         }
+        // A tag waits for its turn without a histogram.
+        self.spare = None;
         Ok(Counts { samples, width })
     }
 }

@@ -1,9 +1,10 @@
 //! What is usual for a tail of a tag.
 
-ghost use Rattle.std.specs.Prelude.{◌≡◌, ◌+◌, ◌-◌, ◌*◌, ◌^◌, ◌<◌, ℕ, List, [], length, slice_index_or, IfOk, OnOk, min};
+ghost use Rattle.std.specs.Prelude.{◌≡◌, ◌-◌, ◌*◌, ◌^◌, ◌==◌, ◌++◌, ◌∷◌, ℕ, [], IfOk, OnOk, min};
+ghost use Rattle.std.specs.List.{AllZip};
 ghost use Rattle.hdr_verdict.specs.Usual.{least_block};
 ghost use Rattle.hdr_model.specs.Plain.{resolution};
-ghost use Rattle.hdr_verdict.specs.Tails.{quantile_without};
+ghost use Rattle.hdr_verdict.specs.Blocks.{AppendsBlock};
 
 use crate::quartile::{least_block, lower_quartile};
 use crate::tail::Tail;
@@ -43,69 +44,24 @@ pub fn fewest_samples(tail: Tail) -> u64
     u64::try_from(samples).unwrap_or(u64::MAX)
 }
 
-/// The blocks of a tag for one of its tails.
+/// The values of a tail and of half of the tail, of each block.
 #[derive(Drop)]
-pub(crate) struct Blocks {
+pub(crate) struct TailValues {
     tail: Tail,
-    width: Width,
-    /// The least number of samples of a block.
-    least: u128,
-    /// The samples since the last block.
-    part: Histogram<u64>,
-    /// The values of the tail and of half of the tail, of each block.
     values: Vec<u64>,
     halves: Vec<u64>,
 }
 
-impl Blocks {
-    ghost use Rattle.hdr_verdict.specs.Usual.{least_block, usual_of};
-    ghost use Rattle.hdr_verdict.specs.Blocks.{AreBlocksOf, IsFinished, IsFor, IsUsualOf, Pushes};
-    ghost use Rattle.hdr_verdict.specs.Samples.{Rounds, CanCount, classes_of};
+impl TailValues {
+    ghost use Rattle.hdr_verdict.specs.Blocks.{IsUsualOf};
 
-    /// Returns no blocks. A tag has `total` samples.
-    pub(crate) fn new(
-        alloc: Global,
-        tail: Tail,
-        total: u64,
-        width: Width,
-    ) -> Result<Blocks, CreationError>
-        ensures tail { IfOk result (IsFor tail (least_block tail.num tail.den total)) }
-        ensures none { IfOk result (λ blocks. (cells : List (List ℕ)) → AreBlocksOf width cells 0 blocks) }
+    /// Appends the values of a block.
+    fn push(&mut self, width: Width, block: &Histogram<u64>) -> Result<(), LogError>
+        ensures { OnOk result (AppendsBlock width block.now self.old self.new) }
     {
-        Ok(Blocks {
-            tail,
-            width,
-            least: least_block(tail, total),
-            part: width.histogram(alloc)?,
-            values: Vec::new(alloc),
-            halves: Vec::new(alloc),
-        })
-    }
-
-    /// Adds a cell.
-    pub(crate) fn push(&mut self, cell: &Histogram<u64>) -> Result<(), LogError>
-        ensures { OnOk result (Pushes cell.now self.old self.new) }
-    {
-        self.width.add(&mut self.part, cell)?;
-        if u128::from(self.part.len()) < self.least {
-            return Ok(());
-        }
-        self.finish()?;
-        Ok(())
-    }
-
-    /// Begins a new block.
-    fn finish(&mut self) -> Result<(), LogError>
-        ensures tail { OnOk result (IsFor self.old.tail self.old.least self.new) }
-        ensures width { OnOk result (self.new.width ≡ self.old.width) }
-        ensures block { OnOk result ((S : List ℕ) → resolution self.old.part ≡ classes_of self.old.width
-            → Rounds self.old.width self.old.part S → IsFinished self.old S self.new) }
-    {
-        self.values
-            .push(self.width.value(&self.part, self.tail.quantile()))?;
+        self.values.push(width.value(block, self.tail.quantile()))?;
         self.halves
-            .push(self.width.value(&self.part, self.tail.half_quantile()))?;
-        self.width.reset(&mut self.part);
+            .push(width.value(block, self.tail.half_quantile()))?;
         Ok(())
     }
 
@@ -123,5 +79,94 @@ impl Blocks {
             value: lower_quartile(self.values)?,
             half: lower_quartile(self.halves)?,
         }))
+    }
+}
+
+/// Appends the values of a block, for each of some tails.
+fn push_block(all: &mut [TailValues], width: Width, block: &Histogram<u64>) -> Result<(), LogError>
+    ensures { OnOk result (AllZip (AppendsBlock width block.now) all.old all.new) }
+{
+    for own in all.iter_mut() {
+        own.push(width, block)?;
+    }
+    Ok(())
+}
+
+/// The blocks of a tag for tails that want as many samples in a block.
+#[derive(Drop)]
+pub(crate) struct Blocks {
+    width: Width,
+    /// The least number of samples of a block.
+    least: u128,
+    /// The samples since the last block.
+    part: Histogram<u64>,
+    pub(crate) tails: Vec<TailValues>,
+}
+
+impl Blocks {
+    ghost use Rattle.hdr_verdict.specs.Blocks.{AreNoBlocks, Pushes, tails_of};
+    ghost use Rattle.hdr_verdict.specs.Samples.{Rounds, classes_of};
+
+    /// Returns no blocks, for no tails.
+    pub(crate) fn new(alloc: Global, least: u128, width: Width) -> Result<Blocks, CreationError>
+        ensures least { IfOk result (λ blocks. blocks.least ≡ least) }
+        ensures tails { IfOk result (λ blocks. blocks.tails.items ≡ []) }
+        ensures none { IfOk result (λ blocks. (total : ℕ) → AreNoBlocks width total blocks) }
+    {
+        Ok(Blocks {
+            width,
+            least,
+            part: width.histogram(alloc)?,
+            tails: Vec::new(alloc),
+        })
+    }
+
+    /// Whether this is the least number of samples of a block.
+    pub(crate) fn has_least(&self, least: u128) -> bool
+        ensures { result ≡ (self.now.least == least) }
+    {
+        self.least == least
+    }
+
+    /// Adds a tail that wants as many samples in a block, before the first cell.
+    pub(crate) fn add_tail(&mut self, alloc: Global, tail: Tail) -> Result<(), LogError>
+        ensures tails { OnOk result (tails_of self.new ≡ tails_of self.old ++ tail ∷ []) }
+        ensures none { OnOk result ((width : Width) (total : ℕ)
+            → self.old.least ≡ least_block tail.num tail.den total
+            → AreNoBlocks width total self.old → AreNoBlocks width total self.new) }
+    {
+        self.tails.push(TailValues {
+            tail,
+            values: Vec::new(alloc),
+            halves: Vec::new(alloc),
+        })?;
+        Ok(())
+    }
+
+    /// Adds a cell.
+    pub(crate) fn push(&mut self, cell: &Histogram<u64>) -> Result<(), LogError>
+        ensures { OnOk result (Pushes cell.now self.old self.new) }
+    {
+        self.width.add(&mut self.part, cell)?;
+        if u128::from(self.part.len()) < self.least {
+            return Ok(());
+        }
+        self.finish()?;
+        Ok(())
+    }
+
+    /// Begins a new block.
+    fn finish(&mut self) -> Result<(), LogError>
+        ensures least { OnOk result (self.new.least ≡ self.old.least) }
+        ensures width { OnOk result (self.new.width ≡ self.old.width) }
+        ensures classes { OnOk result (resolution self.new.part ≡ resolution self.old.part) }
+        ensures part { OnOk result (resolution self.old.part ≡ classes_of self.old.width
+            → Rounds self.old.width self.new.part []) }
+        ensures values { OnOk result (AllZip (AppendsBlock self.old.width self.old.part)
+            self.old.tails.items self.new.tails.items) }
+    {
+        push_block(&mut self.tails, self.width, &self.part)?;
+        self.width.reset(&mut self.part);
+        Ok(())
     }
 }

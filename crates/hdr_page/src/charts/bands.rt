@@ -17,10 +17,11 @@ const NARROWEST: u32 = 102;
 /// The least distance of two letters, of `WIDTH`: 12 pixels where a field has the least width.
 const APART: u32 = 410;
 
-/// The pattern of the times without samples.
+/// The pattern of the times without samples. It covers a band that is below it.
 const HATCH: &str = "<svg width=\"0\" height=\"0\" style=\"position:absolute\" \
 aria-hidden=\"true\"><pattern id=\"hatch\" width=\"6\" height=\"6\" patternUnits=\"userSpaceOnUse\" \
-patternTransform=\"rotate(45)\"><path class=\"x\" d=\"M3 0v6\"/></pattern></svg>\n";
+patternTransform=\"rotate(45)\"><path class=\"y\" d=\"M0 0h6v6H0z\"/><path class=\"x\" \
+d=\"M3 0v6\"/></pattern></svg>\n";
 
 /// Where a band begins and ends, of `WIDTH`.
 #[derive(Clone, Copy)]

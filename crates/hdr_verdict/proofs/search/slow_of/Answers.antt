@@ -1,10 +1,11 @@
-use Rattle.std.proofs.Common.{◌≡◌, ◌∙◌, ◌<◌, [], length, map, take, take_all, get_or, ap, sym, subst, arith}
+use Rattle.std.proofs.Common.{◌≡◌, ◌∙◌, ◌<◌, ◌==◌, true, ℕ, List, [], ◌∷◌, length, map, take, take_all, get_or, refl, ap, sym, subst, arith}
 use Rattle.std.specs.List.{AllZip, fold}
+use Rattle.std.proofs.lemmas.Bool.Decides.{nat_tests}
 use Rattle.std.proofs.lemmas.List.{get_or-map, length-map}
 use Rattle.std.proofs.lemmas.List.Sums.{fold_more}
 use Rattle.hdr_verdict.specs.declared.slow.Test.{Test}
 use Rattle.hdr_verdict.specs.CountsAboveFor.{AreCountsOf}
-use Rattle.hdr_verdict.specs.Slow.{after_test, slow_of}
+use Rattle.hdr_verdict.specs.Slow.{after_test, slow_of, views_of}
 use Rattle.hdr_verdict.specs.Tails.{count_above}
 use Rattle.hdr_verdict.proofs.Keeping.{keeps-samples, keeps-both}
 use Rattle.hdr_verdict.proofs.search.slow_of.Goals as goal
@@ -35,3 +36,13 @@ pub returns-clause-slow : goal.returns-clause-slow
 unfolding slow_of
 returns-clause-slow c = λ cells s.
     c.loop-index.invariant.found cells s ∙ ap (fold (after_test c.args.bar cells) []) (take_all c.loop-index.index c.args.tests.now c.loop-index-test.false)
+
+-- nothing is slow by no tests
+slow-of-none : (bar : ℕ) (cells : List (List ℕ)) (tests : List Test) → (length tests == 0) ≡ true → slow_of bar cells tests ≡ []
+unfolding slow_of
+slow-of-none bar cells [] none = refl
+slow-of-none bar cells (test ∷ tests) none = absurd (grind (arith, nat_tests))
+
+pub returns-then-is_empty-clause-slow : goal.returns-then-is_empty-clause-slow
+returns-then-is_empty-clause-slow c = λ cells s.
+    ap views_of c.new.ensures.items ∙ sym (slow-of-none c.args.bar cells c.args.tests.now (sym c.is_empty.ensures ∙ c.if-is_empty.true))
