@@ -61,7 +61,9 @@ pub(crate) fn push_figures(
             push_spaces(text, wholes.saturating_sub(whole_len(value)))?;
             text.push_str(value)?;
             if let Some(ends) = &figure.ends {
-                push_spaces(text, parts.saturating_sub(part_len(value)) + 2)?;
+                let width = parts.saturating_sub(part_len(value));
+                text.push_str("  ")?;
+                push_spaces(text, width)?;
                 text.push_str(range_text(alloc, ends)?.as_str())?;
             }
             text.push('\n')?;
