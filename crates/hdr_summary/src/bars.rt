@@ -34,7 +34,7 @@ fn end_of(histogram: &Histogram<u64>, lowest: u64, sixteenths: u64) -> u64
     let length = u128::from(lowest).saturating_mul(u128::from(sixteenths)) / 16;
     let length = u64::try_from(length).unwrap_or(u64::MAX);
     let last = lowest.saturating_add(length.saturating_sub(1));
-    histogram.highest_equivalent(last).max(lowest)
+    histogram.highest_equivalent(last)
 }
 
 /// Returns whether steps of a length lead from a value to another.
