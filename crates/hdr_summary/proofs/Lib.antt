@@ -2,3 +2,4 @@ pub mod CountsByClass
 pub mod Fractions
 pub mod SampleSums
 pub mod TrueVerdicts
+pub mod StepsLead

@@ -1,3 +1,4 @@
+pub mod Bars
 pub mod Classes
 pub mod Decimals
 pub mod Levels

@@ -122,7 +122,8 @@ fn counts_at(histogram: &Histogram<u64>, most: u64) -> LevelCounts
 }
 
 /// Returns how many samples of a histogram are in classes that begin at `value` or below it.
-fn count_begun(histogram: &Histogram<u64>, value: u64) -> u64
+pub(crate) fn count_begun(histogram: &Histogram<u64>, value: u64) -> u64
+    ensures at_most { result ≤ histogram.now.total }
     ensures samples { (S : List ℕ) → StandsFor histogram.now S
         → result ≡ count_by (λ s. nat_le (lowest_of (resolution histogram.now) s) value) S }
     ensures plain { IsPlain (2 ^ 64 - 1) histogram.now }

@@ -14,6 +14,7 @@ use crate::percentile::Percentile;
 pub use json::push_string;
 pub use separated::{write_field, write_text};
 use std::alloc::{AllocError, Global};
+pub(crate) use table::push_spaces;
 pub use table::{NO_TAG, fitted, push_left, push_right};
 
 /// A format of the output.

@@ -1,6 +1,7 @@
 //! The figures of distributions, their texts, and levels that they have to keep.
 #![tactic(auto)]
 
+pub mod bars;
 pub mod checks;
 pub mod classes;
 pub mod decimals;

@@ -61,9 +61,8 @@ pub(crate) fn push_figures(
             push_spaces(text, wholes.saturating_sub(whole_len(value)))?;
             text.push_str(value)?;
             if let Some(ends) = &figure.ends {
-                let width = parts.saturating_sub(part_len(value));
-                text.push_str("  ")?;
-                push_spaces(text, width)?;
+                let gap = parts.saturating_sub(part_len(value)).saturating_add(2);
+                push_spaces(text, gap)?;
                 text.push_str(range_text(alloc, ends)?.as_str())?;
             }
             text.push('\n')?;
@@ -155,7 +154,7 @@ pub fn push_right(text: &mut String, cell: &str, width: usize) -> Result<(), All
 }
 
 /// Appends spaces.
-fn push_spaces(text: &mut String, count: usize) -> Result<(), AllocError> {
+pub(crate) fn push_spaces(text: &mut String, count: usize) -> Result<(), AllocError> {
     for _ in 0..count {
         text.push(' ')?;
     }

@@ -5,7 +5,7 @@ use crate::files::Files;
 use crate::files::surveyed::NumberFiles;
 use hdr_input::blanks::BlankReader;
 use hdr_input::columns::{Columns, TableLayout, guess_delimiter, read_rows};
-use hdr_input::groups::{GroupMaker, GroupParts, Groups};
+use hdr_input::groups::{GroupMaker, GroupParts, GroupSink, Groups};
 use hdr_input::json_lines::read_json;
 use hdr_input::match_lines::read_matches;
 use hdr_input::pieces::{LineSink, read_lines};

@@ -137,6 +137,7 @@ fn print_report(
 }
 
 /// Reads runs, whose logs have one unit of their values.
+#[derive(Drop)]
 struct RunReader<'r, 'l, 'n> {
     rt: &'r HostRuntime,
     reading: Reading<'l, 'n>,

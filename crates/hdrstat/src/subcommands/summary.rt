@@ -11,11 +11,13 @@ use crate::output::print;
 use crate::subcommands::read_parts;
 use clap::builder::ValueParser;
 use clap::{Arg, ArgAction, ArgMatches, Command, Error};
+use hdr_summary::bars::push_bars;
 use hdr_summary::decimals::Conversion;
+use hdr_summary::figures::Tagged;
 use hdr_summary::formats::{Format, Layout, text};
 use hdr_summary::percentile::{Percentile, parse_percentile};
 use hdr_summary::units::Unit;
-use std::alloc::Global;
+use std::alloc::{AllocError, Global};
 use std::collections::HashSet;
 use std::process::ExitCode;
 
@@ -24,9 +26,7 @@ Examples:
   hdrstat summary -p 50,99.9 --format json <latencies.txt
   hey -o csv http://localhost/ | hdrstat summary -c response-time --by status-code
   hdrstat summary --from log --by-tag service.log
-
-Status: 0; 1 if the input is invalid, or input or output fails; 2 for a usage error.
-`man hdrstat` has what each figure is, and what the options do.";
+Status: 0; 1 if the input is invalid, or input or output fails; 2 for a usage error. `man hdrstat` says more.";
 
 /// Returns the command line of `hdrstat summary`.
 pub(crate) fn command<'a>(alloc: Global) -> Result<Command<'a>, Error> {
@@ -43,6 +43,8 @@ pub(crate) fn command<'a>(alloc: Global) -> Result<Command<'a>, Error> {
 fn with_output<'a>(alloc: Global, command: Command<'a>) -> Result<Command<'a>, Error> {
     let help_of_intervals = "Intervals of 95 % beside percentiles, by how samples hang together";
     let intervals = flag(alloc, "ci", help_of_intervals).help_heading(FIGURES);
+    let help_of_bars = "Draw how many numbers are in ranges of values, below the table";
+    let bars = flag(alloc, "bars", help_of_bars).help_heading(FIGURES);
     let format = option(alloc, "format", "FORMAT", "Format of the output")
         .short('f')
         .value_parser(["table", "csv", "tsv", "json", "hgrm", "openmetrics"].as_slice())
@@ -54,6 +56,7 @@ fn with_output<'a>(alloc: Global, command: Command<'a>) -> Result<Command<'a>, E
     let command = command
         .arg(percentiles_option(alloc))?
         .arg(intervals)?
+        .arg(bars)?
         .arg(format)?
         .arg(unit)?;
     let command = command
@@ -81,14 +84,8 @@ pub(crate) fn run(rt: &HostRuntime, matches: &ArgMatches<'_>) -> Result<ExitCode
     let reading = reading_of(alloc, matches, &groups, &conditions)?;
     let arguments = matches.get_strs("percentiles").unwrap_or(&[]);
     let percentiles = percentiles_of(alloc, arguments)?;
-    let format = matches.get_str("format").and_then(Format::from_name);
-    let format = format.unwrap_or(Format::Table);
     let has_tags = matches.get_flag("by-tag") || matches.get_str("by").is_some();
-    if has_tags && format == Format::Hgrm {
-        let why = "has one distribution: choose one by --tag or --where, without --by-tag and --by";
-        return Err(StatError::usage(alloc, "hgrm", why));
-    }
-    check_intervals(alloc, matches, format, &percentiles)?;
+    let format = format_of(alloc, matches, &percentiles, has_tags)?;
     if let Reading::Numbers { .. } = reading {
         let _ = conversion_of(alloc, matches, None)?;
     }
@@ -109,9 +106,43 @@ pub(crate) fn run(rt: &HostRuntime, matches: &ArgMatches<'_>) -> Result<ExitCode
         conversion: conversion_of(alloc, matches, unit)?,
         has_tags,
     };
-    let text = text(alloc, &list, &layout)?;
+    let text = text_of(alloc, matches, &list, &layout)?;
     print(rt, text.as_bytes())?;
     Ok(ExitCode::SUCCESS)
+}
+
+/// Returns the format of the output, or an error if it does not have what is asked for.
+fn format_of(
+    alloc: Global,
+    matches: &ArgMatches<'_>,
+    percentiles: &[Percentile<'_>],
+    has_tags: bool,
+) -> Result<Format, StatError> {
+    let format = matches.get_str("format").and_then(Format::from_name);
+    let format = format.unwrap_or(Format::Table);
+    if has_tags && format == Format::Hgrm {
+        let why = "has one distribution: choose one by --tag or --where, without --by-tag and --by";
+        return Err(StatError::usage(alloc, "hgrm", why));
+    }
+    check_intervals(alloc, matches, format, percentiles)?;
+    check_bars(alloc, matches, format, has_tags)?;
+    Ok(format)
+}
+
+/// Returns the text of distributions, with their bars if these are asked for.
+fn text_of(
+    alloc: Global,
+    matches: &ArgMatches<'_>,
+    parts: &[Tagged],
+    layout: &Layout<'_>,
+) -> Result<String, AllocError> {
+    let mut text = text(alloc, parts, layout)?;
+    if matches.get_flag("bars") {
+        for part in parts {
+            push_bars(alloc, &mut text, &part.distribution, layout.conversion)?;
+        }
+    }
+    Ok(text)
 }
 
 /// Returns an error if intervals are asked for that the format or a percentile does not have.
@@ -130,6 +161,28 @@ fn check_intervals(
         return Err(StatError::usage(alloc, name, why));
     }
     require_intervals(alloc, percentiles)
+}
+
+/// Returns an error if bars are asked for that the format does not have, or of several tags.
+fn check_bars(
+    alloc: Global,
+    matches: &ArgMatches<'_>,
+    format: Format,
+    has_tags: bool,
+) -> Result<(), StatError> {
+    if !matches.get_flag("bars") {
+        return Ok(());
+    }
+    if format != Format::Table {
+        let name = matches.get_str("format").unwrap_or("table");
+        return Err(StatError::usage(alloc, name, "has no bars: table has"));
+    }
+    if has_tags {
+        let why =
+            "draws one distribution: choose one by --tag or --where, without --by-tag and --by";
+        return Err(StatError::usage(alloc, "--bars", why));
+    }
+    Ok(())
 }
 
 /// The greatest denominator of the quantile of a percentile that has an interval.
