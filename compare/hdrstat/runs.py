@@ -83,7 +83,9 @@ class Samples:
         first = min(self.effective(self.upto[at], tier), self.effective(self.upto[at + 1], tier))
         low, lower = self.end(range(at, -1, -1), first, quantile, tier, True)
         high, upper = self.end(range(at, len(self.classes)), first, quantile, tier, False)
-        within = [None if it is None else max(self.least, min(self.greatest, it)) for it in (self.classes[at][1], low, high)]
+        # The quantile 0 is the least value of the first class, as in summary
+        value = self.classes[at][1 if num else 0]
+        within = [None if it is None else max(self.least, min(self.greatest, it)) for it in (value, low, high)]
         return Point(*within, min(lower, upper))
 
     def end(self, places, independent, quantile, tier, is_low):
