@@ -72,8 +72,13 @@ class Read:
 
 
 def joined(groups):
-    """The text of a row's group: its fields, joined by spaces, or None without one of them."""
-    return None if None in groups else b" ".join(groups)
+    """The text of a row's group: its fields, joined by spaces, or None without one of them. Of several, those with a space or a quotation
+    mark are in quotation marks."""
+    if None in groups:
+        return None
+    if len(groups) > 1:
+        groups = [b'"' + it.replace(b'"', b'""') + b'"' if b" " in it or b'"' in it else it for it in groups]
+    return b" ".join(groups)
 
 
 def number_of(record):

@@ -81,6 +81,10 @@ def opened(name):
 
 
 def joined(texts):
+    """One text, or several of which those with a space or a quotation mark are in quotation marks; None if there is none."""
+    texts = list(texts)
+    if len(texts) > 1:
+        texts = ['"' + it.replace('"', '""') + '"' if " " in it or '"' in it else it for it in texts]
     return " ".join(texts) or None
 
 
