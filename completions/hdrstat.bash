@@ -44,6 +44,25 @@ _hdrstat() {
     "check -d" | "check --digits") values=' ' ;;
     "check --decimals") values=' ' ;;
     "check --expected-interval") values=' ' ;;
+    "compare --with") values=' ' ;;
+    "compare -c" | "compare --column") values=' ' ;;
+    "compare --json") values=' ' ;;
+    "compare --match") values=' ' ;;
+    "compare --count") values=' ' ;;
+    "compare --delimiter") values=' ' ;;
+    "compare --unit") values='ns us ms s' ;;
+    "compare --from") values='numbers log' ;;
+    "compare --where") values=' ' ;;
+    "compare --by") values=' ' ;;
+    "compare --tag") values=' ' ;;
+    "compare --from-time") values=' ' ;;
+    "compare --to-time") values=' ' ;;
+    "compare -d" | "compare --digits") values=' ' ;;
+    "compare --decimals") values=' ' ;;
+    "compare --expected-interval") values=' ' ;;
+    "compare -p" | "compare --percentiles") values=' ' ;;
+    "compare --fail") values=' ' ;;
+    "compare -f" | "compare --format") values='table csv tsv json md' ;;
     "log --tag") values=' ' ;;
     "log -c" | "log --column") values=' ' ;;
     "log --json") values=' ' ;;
@@ -81,14 +100,15 @@ _hdrstat() {
     "page --every") values=' ' ;;
     "page --where") values=' ' ;;
     "page --by") values=' ' ;;
-    "summary "?*) options='-c --column --json --match --count --delimiter --no-header --unit --skip-bad --from --where --by --by-tag --tag --from-time --to-time -d --digits --decimals --expected-interval -p --percentiles -f --format --output-unit -q --quiet -h --help' ;;
+    "summary "?*) options='-c --column --json --match --count --delimiter --no-header --unit --skip-bad --from --where --by --by-tag --tag --from-time --to-time -d --digits --decimals --expected-interval -p --percentiles --ci --bars -f --format --output-unit -q --quiet -h --help' ;;
     "check "?*) options='-i --input --allow-empty -c --column --json --match --count --delimiter --no-header --unit --skip-bad --from --where --by --by-tag --tag --from-time --to-time -d --digits --decimals --expected-interval -q --quiet -h --help' ;;
+    "compare "?*) options='--with -c --column --json --match --count --delimiter --no-header --unit --skip-bad --from --where --by --by-tag --tag --from-time --to-time -d --digits --decimals --expected-interval -p --percentiles --fail -f --format -q --quiet -h --help' ;;
     "log "?*) options='--tag -q --quiet -h --help -c --column --json --match --count --delimiter --no-header --unit --skip-bad --time --time-unit --every --where --by -d --digits --decimals --expected-interval' ;;
     "gather "?*) options='--unsorted --tag-by-file -q --quiet --tag --from-time --to-time -h --help' ;;
     "convert "?*) options='--to -q --quiet --tag --from-time --to-time -h --help' ;;
     "page "?*) options='--unit --title --level --tag-by-file --align --tag --from-time --to-time -o --output --text --intervals -h --help -c --column --json --count --delimiter --no-header --skip-bad --time --time-unit --every --where --by' ;;
-    "help "?*) values='summary check log gather convert page' ;;
-    *) values='summary check log gather convert page help --help --version' ;;
+    "help "?*) values='summary check compare log gather convert page' ;;
+    *) values='summary check compare log gather convert page help --help --version' ;;
     esac
     if [ -n "$values" ]; then
         COMPREPLY=($(compgen -W "$values" -- "$word"))
