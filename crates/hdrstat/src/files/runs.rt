@@ -275,6 +275,7 @@ fn samples_of_tag<'a>(
     let index = match tags.iter().position(|other| are_equal(&other.tag, &tag)) {
         Some(index) => index,
         None => {
+            let index = tags.len();
             let samples = Samples {
                 batches: Vec::new(alloc),
                 min: u64::MAX,
@@ -283,7 +284,7 @@ fn samples_of_tag<'a>(
                 order: Order::OfTime,
             };
             tags.push(TagSamples { tag, samples })?;
-            tags.len() - 1
+            index
         }
     };
     match tags.get_mut(index) {
