@@ -1,6 +1,6 @@
 -- Laws of what is recorded in batches.
-use Rattle.std.specs.Prelude.{◌≡◌, ℕ, ◌^◌, ◌<◌, ◌≤◌, List, [], ◌++◌, length, true}
-use Rattle.std.proofs.Common.{sym, subst, append_assoc, arith, inl, inr, length-append, ap}
+use Rattle.std.specs.Prelude.{ℕ, ◌^◌, ◌<◌, List, [], ◌++◌, length}
+use Rattle.std.proofs.Common.{sym, subst, append_assoc, arith, inl, inr}
 use Rattle.std.proofs.lemmas.List.{append-nil}
 use Rattle.std.proofs.lemmas.Bool.{cases_lt}
 use Rattle.hdr_runs.specs.declared.batch_tally.BatchTally.{BatchTally}

@@ -1,7 +1,5 @@
 -- Numbers that are recorded, and in batches.
 use Rattle.std.specs.Prelude.{◌≡◌, ℕ, ◌^◌, ◌<◌, List, ◌++◌, length, true}
-use Rattle.hdr_base.specs.Classes.{resolution_of}
-use Rattle.hdr_model.specs.Plain.{resolution}
 use Rattle.hdr_model.specs.Samples.{StandsFor}
 use Rattle.hdr_compare.specs.Batchings.{HasRecorded}
 use Rattle.hdr_runs.specs.declared.batch_tally.BatchTally.{BatchTally}

@@ -1,5 +1,5 @@
 -- Limits of changes: by how many percent a percentile may grow.
-use Rattle.std.specs.Prelude.{ℕ, ◌+◌, ◌*◌, ◌^◌, ⊥}
+use Rattle.std.specs.Prelude.{ℕ, ◌+◌, ◌*◌, ◌^◌}
 use Rattle.hdr_compare.specs.Changes.{ExceedsBy, FallsBelowBy, IsOpen}
 use Rattle.hdr_compare.specs.Shifts.{AreShifted}
 use Rattle.hdr_compare.specs.declared.changes.Measured.{Measured}

@@ -1,5 +1,5 @@
 -- What a report says of the change of a percentile, from x to y.
-use Rattle.std.specs.Prelude.{◌≡◌, ⊥, ◌⊎◌, MatchOption}
+use Rattle.std.specs.Prelude.{◌≡◌, ◌⊎◌, MatchOption}
 use Rattle.hdr_compare.specs.Changes.{FallsBelowBy, IsGreatestRatio, IsLeastRatio, IsOpen}
 use Rattle.hdr_compare.specs.Shifts.{AreShifted}
 use Rattle.hdr_compare.specs.Verdicts.{HasNoRatio, IsNearestRatio, IsVerdict}

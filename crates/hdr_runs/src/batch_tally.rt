@@ -70,6 +70,8 @@ impl BatchTally {
         ensures unit { KeepsUnit self.old.tally self.new.tally }
     {
         recording_stands();
+        // The histogram is plain
+        let _bins = self.tally.histogram.distinct_values();
         if let Err(cause) = self.tally.record(number) {
             self.has_batches = false;
             return Err(cause);
@@ -178,6 +180,7 @@ impl NumberSink for BatchTally {
     ghost takes_more = { takes_after };
 
     #[inline(always)]
+    #[tactic(auto, using(hdr_input::proofs::InUnits::units_same))]
     fn record(&mut self, number: Number) -> Result<(), Cause> {
         if number.decimals == self.tally.decimals {
             return self.take(number, number.digits);

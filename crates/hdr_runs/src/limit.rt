@@ -1,6 +1,6 @@
 //! Limits of changes, such as `p99>+5%`.
 
-ghost use Rattle.std.specs.Prelude.{◌≡◌, ◌≤◌};
+ghost use Rattle.std.specs.Prelude.{◌≡◌, ◌≤◌, ◌+◌, ◌*◌, ◌^◌};
 ghost use Rattle.hdr_runs.specs.Limits.{IsLimitVerdict, grown, parts_of};
 
 use crate::point::Point;
@@ -52,9 +52,11 @@ impl LimitVerdict {
 
 /// Parses a limit of a change, such as `p99>+5%`. The percentage has 3 decimals at most.
 pub fn parse_limit(text: &str) -> Option<Limit<'_>> {
-    let (percentile, amount) = text.split_once(">+")?;
-    let percentile = parse_percentile(percentile)?;
-    let amount = amount.strip_suffix('%')?;
+    let (percentile, amount) = text.split_once('>')?;
+    let Some(percentile) = parse_percentile(percentile) else {
+        return None;
+    };
+    let amount = amount.strip_prefix('+')?.strip_suffix('%')?;
     if !amount.as_bytes().first()?.is_ascii_digit() {
         return None;
     }

@@ -25,25 +25,27 @@ pub(crate) fn confidence_of(tier: Tier) -> &'static str {
 
 /// A percentile whose samples count as few independent ones.
 #[derive(Clone, Copy)]
-struct Fraction<'a> {
+struct Fraction<'a, 'p> {
     independent: u64,
     samples: u64,
     /// The percentile, the name of the run, and the tag.
-    digits: &'a str,
+    digits: &'p str,
     run: &'a str,
     tag: Option<&'a str>,
 }
 
-impl Fraction<'_> {
+impl Fraction<'_, '_> {
     /// Whether fewer of the samples count than of another one.
-    fn is_below(&self, other: &Fraction<'_>) -> bool {
-        u128::from(self.independent) * u128::from(other.samples)
-            < u128::from(other.independent) * u128::from(self.samples)
+    fn is_below(&self, other: &Fraction<'_, '_>) -> bool {
+        let (independent, samples) = (self.independent, self.samples);
+        let (others, all) = (other.independent, other.samples);
+        u128::from(independent) * u128::from(all) < u128::from(others) * u128::from(samples)
     }
 
     /// Whether the samples count as fewer than half as many independent ones.
     fn is_below_half(&self) -> bool {
-        2 * u128::from(self.independent) < u128::from(self.samples)
+        let (independent, samples) = (self.independent, self.samples);
+        2 * u128::from(independent) < u128::from(samples)
     }
 }
 
@@ -82,7 +84,7 @@ impl Report<'_> {
 
     /// Returns the percentile whose samples count as the smallest fraction of independent ones, the
     /// first of equal ones.
-    fn least_fraction<'a>(&'a self, layout: &ReportLayout<'a>) -> Option<Fraction<'a>> {
+    fn least_fraction<'a, 'p>(&'a self, layout: &ReportLayout<'p>) -> Option<Fraction<'a, 'p>> {
         let mut least = None;
         for pair in &self.pairs {
             least = least_of_pair(least, pair, layout);
@@ -92,11 +94,11 @@ impl Report<'_> {
 }
 
 /// Returns the smallest fraction of those so far and of two runs.
-fn least_of_pair<'a>(
-    least: Option<Fraction<'a>>,
+fn least_of_pair<'a, 'p>(
+    least: Option<Fraction<'a, 'p>>,
     pair: &'a Pair<'_>,
-    layout: &ReportLayout<'a>,
-) -> Option<Fraction<'a>> {
+    layout: &ReportLayout<'p>,
+) -> Option<Fraction<'a, 'p>> {
     let mut least = least;
     for (compared, percentile) in pair.percentiles.iter().zip(layout.percentiles) {
         let (Some(before), Some(after)) = (&compared.before, &compared.after) else {
@@ -116,13 +118,13 @@ fn least_of_pair<'a>(
 }
 
 /// Returns how many samples of a percentile count as independent ones.
-fn fraction_of<'a>(
+fn fraction_of<'a, 'p>(
     run: &'a str,
     point: &Point,
     side: Option<&Side>,
     tag: Option<&'a str>,
-    digits: &'a str,
-) -> Fraction<'a> {
+    digits: &'p str,
+) -> Fraction<'a, 'p> {
     Fraction {
         independent: point.independent,
         samples: match side {
@@ -136,7 +138,10 @@ fn fraction_of<'a>(
 }
 
 /// Returns the smaller of two fractions, the first one if they are equal.
-fn lesser<'a>(first: Option<Fraction<'a>>, other: Fraction<'a>) -> Option<Fraction<'a>> {
+fn lesser<'a, 'p>(
+    first: Option<Fraction<'a, 'p>>,
+    other: Fraction<'a, 'p>,
+) -> Option<Fraction<'a, 'p>> {
     match first {
         Some(first) if !other.is_below(&first) => Some(first),
         _ => Some(other),
@@ -146,7 +151,7 @@ fn lesser<'a>(first: Option<Fraction<'a>>, other: Fraction<'a>) -> Option<Fracti
 /// Appends as how many independent samples those of a percentile count.
 fn push_fraction(
     text: &mut String,
-    fraction: Fraction<'_>,
+    fraction: Fraction<'_, '_>,
     layout: &ReportLayout<'_>,
 ) -> Result<(), AllocError> {
     let digits = fraction.digits;
