@@ -35,9 +35,15 @@ pub(crate) enum StatError {
     /// Logs that are compared have other units or decimals.
     #[error("the logs have values of different units or decimals")]
     OtherScale,
-    /// Runs are not compared, or have too many samples.
-    #[error("{0}")]
-    Runs(&'static str),
+    /// A run has too many samples.
+    #[error("a run has 2^40 samples or more")]
+    TooManySamples,
+    /// A report has too many comparisons.
+    #[error("more than 5000 comparisons; choose fewer percentiles or a column with fewer values")]
+    TooManyComparisons,
+    /// A value overflows where runs have different decimals.
+    #[error("a value is too large in units of the last decimal of the finer run")]
+    TooLarge,
     #[error("cannot make the log: {0}")]
     Making(IntervalLogWriterError<CountNotSerializable>),
     #[error("cannot write the output: {0}")]
@@ -108,7 +114,7 @@ impl<T: Drop> From<AllocFailed<T>> for StatError {
 impl From<BatchError> for StatError {
     fn from(error: BatchError) -> StatError {
         match error {
-            BatchError::TooMany => StatError::Runs("a run has 2^40 samples or more"),
+            BatchError::TooMany => StatError::TooManySamples,
             BatchError::OutOfMemory => StatError::OutOfMemory,
         }
     }
@@ -117,14 +123,8 @@ impl From<BatchError> for StatError {
 impl From<ReportError> for StatError {
     fn from(error: ReportError) -> StatError {
         match error {
-            ReportError::TooManyComparisons => StatError::Runs(
-                "more than 5000 comparisons; choose fewer percentiles or a column with fewer values",
-            ),
-            ReportError::TooLarge => {
-                StatError::Runs(
-                    "a value is too large in units of the last decimal of the finer run",
-                )
-            }
+            ReportError::TooManyComparisons => StatError::TooManyComparisons,
+            ReportError::TooLarge => StatError::TooLarge,
             ReportError::OutOfMemory => StatError::OutOfMemory,
         }
     }
