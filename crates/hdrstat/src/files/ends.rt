@@ -5,14 +5,15 @@ use crate::files::logs::{Parts, parts_of, print_coarser};
 use crate::files::numbers::{Form, read_groups, read_sink, require_most_lines, tag_of_group};
 use crate::files::{Files, or_standard_input};
 use crate::options::matches::Reading;
+use hdr_compare::Batching;
 use hdr_input::Recording;
 use hdr_input::groups::GroupParts;
 use hdr_logs::LogSums;
 use hdr_runs::{BatchRecording, BatchTally, LogBatches, Samples, ends_of};
-use hdr_summary::figures::Tagged;
+use hdr_summary::figures::{Ends, Tagged};
 use hdr_summary::percentile::Percentile;
 use hdrhistogram::serialization::interval_log::IntervalChoice;
-use std::alloc::Global;
+use std::alloc::{AllocError, Global};
 
 /// Returns the distributions of files, one or one for each tag, with the intervals of percentiles.
 pub(crate) fn read_parts_with_ends(
@@ -93,24 +94,43 @@ fn read_log_parts(
     read?;
     print_coarser(files.rt, &sums, sigfig);
     let unit = sums.unit();
-    let decimals = sums.decimals();
     let mut list = Vec::new(alloc);
     let parts = parts_of(alloc, sums, sigfig, is_by_tag)?;
     let mut batchings = batches.into_sums().into_iter();
     for part in parts {
-        list.push(match batchings.next() {
-            Some(batching) => {
-                let histogram = &part.distribution.histogram;
-                let samples = Samples::of_intervals(histogram, batching, decimals)?;
-                Tagged {
-                    ends: ends_of(alloc, samples, percentiles)?,
-                    ..part
-                }
-            }
-            None => part,
-        })?;
+        list.push(with_ends(alloc, part, batchings.next(), percentiles)?)?;
     }
     Ok(Parts { list, unit })
+}
+
+/// Returns the sum of a tag with the intervals of percentiles, by the batches of its intervals. Without
+/// an interval there are no ends.
+fn with_ends(
+    alloc: Global,
+    mut part: Tagged,
+    batching: Option<Batching>,
+    percentiles: &[Percentile<'_>],
+) -> Result<Tagged, StatError> {
+    let Some(batching) = batching else {
+        part.ends = no_ends(alloc, percentiles)?;
+        return Ok(part);
+    };
+    let decimals = part.distribution.decimals;
+    let samples = Samples::of_intervals(&part.distribution.histogram, batching, decimals)?;
+    part.ends = ends_of(alloc, samples, percentiles)?;
+    Ok(part)
+}
+
+/// Returns that the interval of each percentile is open.
+fn no_ends(alloc: Global, percentiles: &[Percentile<'_>]) -> Result<Vec<Ends>, AllocError> {
+    let mut ends = Vec::new(alloc);
+    for _ in percentiles {
+        ends.push(Ends {
+            low: None,
+            high: None,
+        })?;
+    }
+    Ok(ends)
 }
 
 /// Reads logs into sums, and their intervals into batches.
