@@ -29,13 +29,13 @@ install: all install-c
 
 install-c:
 	capi/build.sh
-	for header in hdr.h hdr_check.h; do \
+	for header in dkap.h dkap_check.h; do \
 		install -Dm644 capi/$$header "$(TO)/include/$$header" || exit; \
 	done
-	install -Dm644 capi/target/libhdr.a "$(TO)/lib/libhdr.a"
-	install -Dm755 capi/target/libhdr.so.1 "$(TO)/lib/libhdr.so.1"
-	ln -sf libhdr.so.1 "$(TO)/lib/libhdr.so"
-	install -Dm644 capi/target/hdr.pc "$(TO)/lib/pkgconfig/hdr.pc"
+	install -Dm644 capi/target/libdkap.a "$(TO)/lib/libdkap.a"
+	install -Dm755 capi/target/libdkap.so.1 "$(TO)/lib/libdkap.so.1"
+	ln -sf libdkap.so.1 "$(TO)/lib/libdkap.so"
+	install -Dm644 capi/target/dkap.pc "$(TO)/lib/pkgconfig/dkap.pc"
 
 dist: all
 	rm -rf target/$(DIST)

@@ -1,6 +1,6 @@
 """Makes the wheel for pip with the standard library alone, so that no build tool has to be downloaded.
 
-If capi/build.sh has made libhdr.so.1, the wheel contains it. Otherwise the package finds the installed one.
+If capi/build.sh has made libdkap.so.1, the wheel contains it. Otherwise the package finds the installed one.
 """
 
 from __future__ import annotations
@@ -12,7 +12,7 @@ from hashlib import sha256
 from pathlib import Path
 
 HERE = Path(__file__).resolve().parent
-LIBRARY = HERE.parent / "capi" / "target" / "libhdr.so.1"
+LIBRARY = HERE.parent / "capi" / "target" / "libdkap.so.1"
 
 
 def _project(key: str) -> str:

@@ -1,4 +1,4 @@
-"""High dynamic range (HDR) histograms, over the C library libhdr.
+"""High dynamic range (HDR) histograms, over the C library libdkap.
 
     from deckapricot import Histogram
 

@@ -1,4 +1,4 @@
-"""Loads libhdr, declares its calls, and raises exceptions for its statuses."""
+"""Loads libdkap, declares its calls, and raises exceptions for its statuses."""
 
 from __future__ import annotations
 
@@ -32,19 +32,19 @@ _CLASSES: dict[int, type[errors.HistogramError]] = {
 
 
 class Handle(ctypes.Structure):
-    """struct hdr_histogram: all bytes zero are a closed handle."""
+    """struct dkap_histogram: all bytes zero are a closed handle."""
 
     _fields_ = [("filled", c_bool), ("at", c_void_p)]
 
 
 class WideFraction(ctypes.Structure):
-    """struct hdr_fraction."""
+    """struct dkap_fraction."""
 
     _fields_ = [("num_low", c_uint64), ("num_high", c_uint64), ("den", c_uint64)]
 
 
 class Shape(ctypes.Structure):
-    """struct hdr_shape."""
+    """struct dkap_shape."""
 
     _fields_ = [
         ("low", c_uint64),
@@ -56,19 +56,19 @@ class Shape(ctypes.Structure):
 
 
 class ClassCursor(ctypes.Structure):
-    """struct hdr_class."""
+    """struct dkap_class."""
 
     _fields_ = [("next", c_size_t), ("lowest", c_uint64), ("highest", c_uint64), ("count", c_uint64)]
 
 
 class Time(ctypes.Structure):
-    """struct hdr_time."""
+    """struct dkap_time."""
 
     _fields_ = [("seconds", c_uint64), ("nanos", c_uint32)]
 
 
 class IntervalCursor(ctypes.Structure):
-    """struct hdr_interval."""
+    """struct dkap_interval."""
 
     _fields_ = [
         ("next", c_size_t),
@@ -112,7 +112,7 @@ _CALLS: dict[str, tuple[Any, list[Any]]] = {
     "quantile_below": (c_uint32, [c_uint64, POINTER(WideFraction)]),
     "count_at": (c_uint64, [c_uint64]),
     "count_between": (c_uint64, [c_uint64, c_uint64]),
-    "shape": (c_uint32, [POINTER(Shape)]),
+    "shape_of": (c_uint32, [POINTER(Shape)]),
     "next_class": (c_bool, [POINTER(ClassCursor)]),
     "encode": (c_uint32, _BYTES),
     "decode": (c_uint32, _BYTES),
@@ -139,7 +139,7 @@ def _path() -> str:
 
     Otherwise it returns the name alone, which the loader searches.
     """
-    name = "libhdr.so.1"
+    name = "libdkap.so.1"
     package = Path(__file__).resolve().parent
     named = os.environ.get("DECKAPRICOT_LIBRARY")
     if named:
@@ -151,22 +151,22 @@ def _path() -> str:
 
 
 class Library:
-    """The calls of the library, without the prefix hdr_."""
+    """The calls of the library, without the prefix dkap_."""
 
     def __init__(self) -> None:
         # PyDLL keeps the interpreter's lock during a call. CDLL would let another thread use the histogram meanwhile.
         library = ctypes.PyDLL(_path())
         has_lock = getattr(sys, "_is_gil_enabled", lambda: True)()
         for name, (result, arguments) in _CALLS.items():
-            call = getattr(library, "hdr_" + name)
+            call = getattr(library, "dkap_" + name)
             call.restype = result
             call.argtypes = [_HANDLE, *arguments]
             setattr(self, name, call if has_lock else locked(call))
-        self.strerror = library.hdr_strerror
+        self.strerror = library.dkap_strerror
         self.strerror.argtypes = [c_uint32]
         self.strerror.restype = c_char_p
-        library.hdr_version.restype = c_char_p
-        self.version: str = library.hdr_version().decode()
+        library.dkap_version.restype = c_char_p
+        self.version: str = library.dkap_version().decode()
 
 
 lib: Any = Library()

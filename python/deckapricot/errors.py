@@ -6,7 +6,7 @@ from typing import Optional
 
 
 class HistogramError(Exception):
-    """An error of the library. `status` is its number in hdr.h."""
+    """An error of the library. `status` is its number in dkap.h."""
 
     status: Optional[int] = None
 

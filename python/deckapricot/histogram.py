@@ -167,7 +167,7 @@ class Histogram:
 
     def _shape(self) -> Shape:
         shape = Shape()
-        check(lib.shape(self._at, byref(shape)))
+        check(lib.shape_of(self._at, byref(shape)))
         return shape
 
     @property

@@ -2,6 +2,7 @@ pub mod Bytes
 pub mod Calls
 pub mod Classes
 pub mod Fractions
+pub mod Lending
 pub mod Lines
 pub mod Logs
 pub mod Owned

@@ -1,4 +1,4 @@
-//! The library for C. `capi/hdr.h` declares these functions, and states what a caller has to ensure.
+//! The library for C. `capi/dkap.h` declares these functions, and states what a caller has to ensure.
 //!
 //! A call takes the histogram out of its handle, makes one call of the crate `hdrhistogram`, and stores it again. The contracts
 //! state what that does to the histogram of the handle. A handle without one is closed: the status is then `CLOSED`.

@@ -58,7 +58,7 @@ fn last_base(last: &LastBaseTime, base: Option<Time>) -> Option<Time>
 
 /// Reads the next interval of a log, and decodes its histogram into the handle.
 #[unsafe(no_mangle)]
-pub extern "C" fn hdr_log_next(
+pub extern "C" fn dkap_log_next(
     h: &mut Handle,
     alloc: Global,
     log: &[u8],

@@ -62,7 +62,7 @@ fn line(
 /// Writes the line of an interval to the start of `buf`. `needed` is the number of its bytes, also if
 /// `buf` is too short.
 #[unsafe(no_mangle)]
-pub extern "C" fn hdr_log_line(
+pub extern "C" fn dkap_log_line(
     h: &mut Handle,
     alloc: Global,
     start_seconds: u64,
@@ -88,13 +88,12 @@ pub extern "C" fn hdr_log_line(
     let Some(tag) = tag(tag_bytes) else {
         return INVALID_TAG;
     };
-    let Some(boxed) = h.take(alloc) else {
+    if !h.filled {
         return CLOSED;
-    };
-    let status = match line(alloc, &boxed.histogram, start, duration, tag) {
+    }
+    let held = h.pointer.as_mut();
+    match line(alloc, &held.histogram, start, duration, tag) {
         Ok(line) => copy_to(&line, buf, needed),
         Err(error) => of_line_error(&error),
-    };
-    h.put(boxed);
-    status
+    }
 }

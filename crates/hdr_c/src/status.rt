@@ -1,4 +1,4 @@
-//! The statuses that calls return. `capi/hdr.h` names them.
+//! The statuses that calls return. `capi/dkap.h` names them.
 
 ghost use Rattle.std.specs.Prelude.{◌≡◌, ℕ, MatchResult};
 ghost use Rattle.hdr_model.specs.Plain.{Plain};
@@ -51,7 +51,7 @@ pub(crate) const INVALID_PARAMETERS: u32 = 17;
 pub(crate) const ENCODED_ARRAY_TOO_LONG: u32 = 18;
 
 pub(crate) const USIZE_TOO_SMALL: u32 = 19;
-// 20 is HDR_E_SAME_HANDLE, which the calls in C return.
+// 20 is DKAP_E_SAME_HANDLE, which the calls in C return.
 pub(crate) const TIME_OUT_OF_RANGE: u32 = 21;
 
 pub(crate) const INVALID_TAG: u32 = 22;

@@ -25,7 +25,7 @@ pub(crate) fn copy_to(bytes: &[u8], buf: &mut [u8], needed: &mut usize) -> u32
 /// Encodes the histogram at the start of `buf`. `needed` is the number of its bytes, also if `buf`
 /// is too short.
 #[unsafe(no_mangle)]
-pub extern "C" fn hdr_encode(
+pub extern "C" fn dkap_encode(
     h: &mut Handle,
     alloc: Global,
     buf: &mut [u8],
@@ -35,22 +35,21 @@ pub extern "C" fn hdr_encode(
     ensures encoded { Encodes result (held h.old) buf.old buf.new needed.new }
 {
     *needed = 0;
-    let Some(boxed) = h.take(alloc) else {
+    if !h.filled {
         return CLOSED;
-    };
+    }
+    let held = h.pointer.as_mut();
     let mut serializer = V2Serializer::new(alloc);
-    let status = match serializer.to_bytes(&boxed.histogram) {
+    match serializer.to_bytes(&held.histogram) {
         Ok(bytes) => copy_to(bytes, buf, needed),
         Err(error) => of_encode_error(&error),
-    };
-    h.put(boxed);
-    status
+    }
 }
 
 /// Decodes the histogram at the start of `bytes`, and frees the one that the handle had. `taken` is
 /// the number of bytes consumed.
 #[unsafe(no_mangle)]
-pub extern "C" fn hdr_decode(h: &mut Handle, alloc: Global, bytes: &[u8], taken: &mut usize) -> u32
+pub extern "C" fn dkap_decode(h: &mut Handle, alloc: Global, bytes: &[u8], taken: &mut usize) -> u32
     ensures { Decodes result bytes.now taken.new (held h.old) (held h.new) }
 {
     *taken = 0;
