@@ -34,8 +34,8 @@ static const char *const TEXTS[] = {
     [DKAP_E_ZERO_DENOMINATOR] = "the denominator of the quantile is 0",
     [DKAP_E_TOO_MANY_SAMPLES] = "the number of samples has saturated",
     [DKAP_E_BYTES_END_EARLY] = "the input ends within the histogram",
-    [DKAP_E_INVALID_COOKIE] = "the input is not a V2 histogram",
-    [DKAP_E_UNSUPPORTED_FEATURE] = "the encoded histogram is compressed, shifted or scaled",
+    [DKAP_E_INVALID_COOKIE] = "the input is not a histogram",
+    [DKAP_E_UNSUPPORTED_FEATURE] = "the encoded histogram is shifted, scaled, or one of floating-point values",
     [DKAP_E_INVALID_PARAMETERS] = "the encoded bounds or digits are invalid",
     [DKAP_E_ENCODED_ARRAY_TOO_LONG] = "an encoded count has no bin",
     [DKAP_E_USIZE_TOO_SMALL] = "the encoded counts have too many bins",
@@ -46,6 +46,9 @@ static const char *const TEXTS[] = {
     [DKAP_E_INVALID_LINE] = "a line of the log is invalid",
     [DKAP_E_NOT_BASE64] = "the histogram of the line is not Base64",
     [DKAP_E_INVALID_ARGUMENT] = "a pointer is null, or two pointers overlap",
+    [DKAP_E_TOO_MANY_BINS] = "the encoded histogram has more bins than the limit",
+    [DKAP_E_INVALID_STREAM] = "the compressed bytes are not a complete zlib stream",
+    [DKAP_E_NOT_UTF8] = "the comment is not UTF-8",
 };
 
 const char *dkap_strerror(dkap_status status)

@@ -95,7 +95,7 @@ enum {
     DKAP_E_TOO_MANY_SAMPLES = 13,        /* the number of samples has saturated at UINT64_MAX */
     DKAP_E_BYTES_END_EARLY = 14,         /* the input ends within the histogram */
     DKAP_E_INVALID_COOKIE = 15,          /* the first four bytes are those of no format that is decoded */
-    DKAP_E_UNSUPPORTED_FEATURE = 16,     /* the encoded histogram is compressed, shifted or scaled */
+    DKAP_E_UNSUPPORTED_FEATURE = 16,     /* the encoded histogram is shifted, scaled, or one of floating-point values */
     DKAP_E_INVALID_PARAMETERS = 17,      /* the encoded bounds and digits are invalid */
     DKAP_E_ENCODED_ARRAY_TOO_LONG = 18,  /* an encoded count has no bin */
     DKAP_E_USIZE_TOO_SMALL = 19,         /* the encoded counts have 2^64 bins or more */
@@ -105,8 +105,14 @@ enum {
     DKAP_LOG_END = 23,                   /* the log has no further interval */
     DKAP_E_INVALID_LINE = 24,            /* a line is not of the form of an interval log */
     DKAP_E_NOT_BASE64 = 25,              /* the histogram of a line is not Base64 */
-    DKAP_E_INVALID_ARGUMENT = 26         /* DKAP_CHECK alone: a pointer is null, or two pointers overlap */
+    DKAP_E_INVALID_ARGUMENT = 26,        /* DKAP_CHECK alone: a pointer is null, or two pointers overlap */
+    DKAP_E_TOO_MANY_BINS = 27,           /* the encoded histogram has more bins than the limit */
+    DKAP_E_INVALID_STREAM = 28,          /* the compressed bytes are not a complete zlib stream */
+    DKAP_E_NOT_UTF8 = 29                 /* a comment is not UTF-8 */
 };
+
+/* No limit of bins. A histogram has at most 6291456 of them, of 8 bytes each. */
+#define DKAP_NO_LIMIT UINT64_MAX
 
 /* The fraction (num_high * 2^64 + num_low) / den. */
 struct dkap_fraction {
@@ -150,6 +156,16 @@ struct dkap_interval {
     bool has_base;
     size_t tag_at;
     size_t tag_length;
+};
+
+/*
+ * What the headers of a log have: its first start time, if `has_start_time`, and the number of nanoseconds of its unit,
+ * 0 if no comment such as "#[Values are in us]" has it.
+ */
+struct dkap_log_header {
+    struct dkap_time start_time;
+    bool has_start_time;
+    uint64_t unit_nanos;
 };
 
 /* Returns a static English text for a status, without a line break; also for a number that is not a status. */
@@ -249,9 +265,25 @@ dkap_status dkap_mean(const struct dkap_histogram *DKAP_RESTRICT h, struct dkap_
 dkap_status dkap_value_at_quantile(const struct dkap_histogram *DKAP_RESTRICT h, uint64_t num, uint64_t den,
                                  uint64_t *DKAP_RESTRICT value) DKAP_MUST_USE;
 
+/*
+ * Stores the value at each quantile nums[i]/den, as dkap_value_at_quantile, in any order. Those after them are
+ * unchanged. Errors: 1, 11, 12.
+ */
+dkap_status dkap_values_at_quantiles(const struct dkap_histogram *DKAP_RESTRICT h, const uint64_t *DKAP_RESTRICT nums,
+                                     size_t length, uint64_t den, uint64_t *DKAP_RESTRICT values,
+                                     size_t values_length) DKAP_MUST_USE;
+
+/* Stores the value at the percentile num/den: 999/10 is 99.9 %. Errors: 1, 12. */
+dkap_status dkap_value_at_percentile(const struct dkap_histogram *DKAP_RESTRICT h, uint64_t num, uint64_t den,
+                                     uint64_t *DKAP_RESTRICT value) DKAP_MUST_USE;
+
 /* Stores the fraction of samples in the class of `value` or below it; 1 without samples. Error: 1. */
 dkap_status dkap_quantile_below(const struct dkap_histogram *DKAP_RESTRICT h, uint64_t value,
                               struct dkap_fraction *DKAP_RESTRICT fraction) DKAP_MUST_USE;
+
+/* Stores the same in percent. Error: 1. */
+dkap_status dkap_percentile_below(const struct dkap_histogram *DKAP_RESTRICT h, uint64_t value,
+                                  struct dkap_fraction *DKAP_RESTRICT fraction) DKAP_MUST_USE;
 
 /* Returns the count of the class of `value`; of the last class if `value` has no bin. */
 uint64_t dkap_count_at(const struct dkap_histogram *h, uint64_t value) DKAP_NONNULL;
@@ -272,6 +304,26 @@ dkap_status dkap_shape_of(const struct dkap_histogram *DKAP_RESTRICT h, struct d
  */
 bool dkap_next_class(const struct dkap_histogram *DKAP_RESTRICT h, struct dkap_class *DKAP_RESTRICT c) DKAP_NONNULL;
 
+/* Classes of values, which hold for values without a bin too. A closed handle has none: the result is 0 or false. */
+
+/* Returns the lowest value of the class of `value`. */
+uint64_t dkap_lowest_equivalent(const struct dkap_histogram *h, uint64_t value) DKAP_NONNULL;
+
+/* Returns the greatest value of the class of `value`. */
+uint64_t dkap_highest_equivalent(const struct dkap_histogram *h, uint64_t value) DKAP_NONNULL;
+
+/* Returns the value in the middle of the class of `value`: half its width above the lowest. */
+uint64_t dkap_median_equivalent(const struct dkap_histogram *h, uint64_t value) DKAP_NONNULL;
+
+/* Returns the lowest value of the next class, UINT64_MAX if there is none. */
+uint64_t dkap_next_non_equivalent(const struct dkap_histogram *h, uint64_t value) DKAP_NONNULL;
+
+/* Returns the number of values in the class of `value`. */
+uint64_t dkap_equivalent_range(const struct dkap_histogram *h, uint64_t value) DKAP_NONNULL;
+
+/* Whether two values have one class. */
+bool dkap_equivalent(const struct dkap_histogram *h, uint64_t a, uint64_t b) DKAP_NONNULL;
+
 /* V2 bytes, the uncompressed binary format of HdrHistogram in Java, C, Rust and other languages. */
 
 /*
@@ -283,35 +335,76 @@ dkap_status dkap_encode(const struct dkap_histogram *DKAP_RESTRICT h, uint8_t *D
                       size_t *DKAP_RESTRICT needed) DKAP_MUST_USE;
 
 /*
- * Decodes the histogram at the start of `bytes`, which replaces that of `h`. It does not grow. `taken` is the number of
- * bytes consumed, 0 on error. Errors: 2, 14 to 19.
+ * Encodes as dkap_encode, with the V2 bytes compressed by zlib: the form in which the other libraries write logs.
+ * Errors: 1, 2, 10, 11.
  */
-dkap_status dkap_decode(struct dkap_histogram *DKAP_RESTRICT h, const uint8_t *DKAP_RESTRICT bytes, size_t length,
-                      size_t *DKAP_RESTRICT taken) DKAP_MUST_USE;
-
-/* Interval logs: text, with a line for each interval. Its histogram is V2 bytes in Base64, not compressed. */
+dkap_status dkap_encode_compressed(const struct dkap_histogram *DKAP_RESTRICT h, uint8_t *DKAP_RESTRICT buf,
+                                   size_t length, size_t *DKAP_RESTRICT needed) DKAP_MUST_USE;
 
 /*
- * Writes the line of one interval, with its line feed, at the start of `buf`. `needed` is its length, also with
+ * Decodes the histogram at the start of `bytes`, which replaces that of `h`. It does not grow, and has at most `limit`
+ * bins, such as DKAP_NO_LIMIT. The bytes may be of any version, 0 to 2, and compressed or not. `taken` is the number of
+ * bytes consumed, 0 on error; in another form than V2 bytes all are consumed. Compressed bytes take up to 57 MB more
+ * while they are decoded. Errors: 2, 14 to 19, 27, 28.
+ */
+dkap_status dkap_decode(struct dkap_histogram *DKAP_RESTRICT h, const uint8_t *DKAP_RESTRICT bytes, size_t length,
+                        uint64_t limit, size_t *DKAP_RESTRICT taken) DKAP_MUST_USE;
+
+/*
+ * Interval logs: text, with a line for each interval. Its histogram is in Base64.
+ *
+ * The calls that write a part of a log put it at the start of `buf`. `needed` is its length, also with
  * DKAP_E_BUFFER_TOO_SMALL, and 0 on other errors. Nanoseconds are less than 1000000000; times are rounded to
- * milliseconds. A `tag_length` of 0 means no tag. Errors: 1, 2, 10, 11, 21, 22.
+ * milliseconds.
+ */
+
+/*
+ * Writes a comment, each of its lines as one after `#`. The libraries for Java and C ask for a first line with
+ * "[Histogram log format version 1.3]". A unit such as microseconds is "[Values are in us]", and ns, ms and s others.
+ * Errors: 2, 11, 29.
+ */
+dkap_status dkap_log_comment(const uint8_t *DKAP_RESTRICT comment, size_t comment_length, uint8_t *DKAP_RESTRICT buf,
+                             size_t length, size_t *DKAP_RESTRICT needed) DKAP_MUST_USE;
+
+/* Writes the header of the log's start time, since the epoch. Errors: 2, 11, 21. */
+dkap_status dkap_log_start_time(uint64_t seconds, uint32_t nanos, uint8_t *DKAP_RESTRICT buf, size_t length,
+                                size_t *DKAP_RESTRICT needed) DKAP_MUST_USE;
+
+/* Writes the header of a base time, since the epoch, to which later starts are relative. Errors: 2, 11, 21. */
+dkap_status dkap_log_base_time(uint64_t seconds, uint32_t nanos, uint8_t *DKAP_RESTRICT buf, size_t length,
+                               size_t *DKAP_RESTRICT needed) DKAP_MUST_USE;
+
+/*
+ * Writes the line of one interval, with its line feed. Its histogram is V2 bytes, not compressed. A `tag_length` of 0
+ * means no tag. Errors: 1, 2, 10, 11, 21, 22.
  */
 dkap_status dkap_log_line(const struct dkap_histogram *DKAP_RESTRICT h, uint64_t start_seconds, uint32_t start_nanos,
                         uint64_t duration_seconds, uint32_t duration_nanos, const uint8_t *DKAP_RESTRICT tag,
                         size_t tag_length, uint8_t *DKAP_RESTRICT buf, size_t length,
                         size_t *DKAP_RESTRICT needed) DKAP_MUST_USE;
 
+/* Writes the same, with the histogram compressed, as the other libraries write and read it. */
+dkap_status dkap_log_line_compressed(const struct dkap_histogram *DKAP_RESTRICT h, uint64_t start_seconds,
+                                     uint32_t start_nanos, uint64_t duration_seconds, uint32_t duration_nanos,
+                                     const uint8_t *DKAP_RESTRICT tag, size_t tag_length, uint8_t *DKAP_RESTRICT buf,
+                                     size_t length, size_t *DKAP_RESTRICT needed) DKAP_MUST_USE;
+
+/* Stores the first start time of a log, and its first unit. */
+void dkap_log_header_of(const uint8_t *DKAP_RESTRICT log, size_t length,
+                        struct dkap_log_header *DKAP_RESTRICT header) DKAP_NONNULL;
+
 /*
- * Reads the next interval of a log, from the offset `interval->next` on. Its histogram replaces that of `h`, and does
- * not grow. After the last interval the status is DKAP_LOG_END, and the interval is unchanged, so that a log that grows
- * can be read on. With DKAP_E_INVALID_LINE `next` alone is set, to the offset of the line. A last line without a line
- * feed is one. To read it once it is complete, pass the interval as it was before this call: base times before the line
- * are not stored. On other errors the interval is stored without its histogram, and the next call continues after it.
- * Errors: 2, 14 to 19, 24, 25.
- *     for (struct dkap_interval i = {0}; dkap_log_next(&h, log, length, &i) == DKAP_OK;)
+ * Reads the next interval of a log, from the offset `interval->next` on. Its histogram replaces that of `h`, and is as
+ * of dkap_decode, with at most `limit` bins. After the last interval the status is DKAP_LOG_END, and the interval is
+ * unchanged, so that a log that grows can be read on. With DKAP_E_INVALID_LINE `next` alone is set, to the offset of
+ * the line. A last line without a line feed is one. To read it once it is complete, pass the interval as it was before
+ * this call: base times before the line are not stored. A line of whitespace is skipped. On other errors the interval
+ * is stored without its histogram, and the next call continues after it.
+ * Errors: 2, 14 to 19, 24, 25, 27, 28.
+ *     for (struct dkap_interval i = {0}; dkap_log_next(&h, log, length, DKAP_NO_LIMIT, &i) == DKAP_OK;)
  */
 dkap_status dkap_log_next(struct dkap_histogram *DKAP_RESTRICT h, const uint8_t *DKAP_RESTRICT log, size_t length,
-                        struct dkap_interval *DKAP_RESTRICT interval) DKAP_MUST_USE;
+                          uint64_t limit, struct dkap_interval *DKAP_RESTRICT interval) DKAP_MUST_USE;
 
 /*
  * For DKAP_CHECK: begins a use of a handle by a call of this name, and ends it. Ends the program if another use

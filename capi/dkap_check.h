@@ -319,6 +319,37 @@ DKAP_MUST_TEST static inline dkap_status dkap_value_at_quantile_checked(const st
     return result;
 }
 
+DKAP_MUST_TEST static inline dkap_status dkap_values_at_quantiles_checked(const struct dkap_histogram *h, const uint64_t
+                                                                          *nums, size_t length, uint64_t den, uint64_t
+                                                                          *values, size_t values_length)
+{
+    dkap_status result;
+
+    if (!dkap_check_length(length, sizeof *nums) ||
+        !dkap_check_length(values_length, sizeof *values) ||
+        !dkap_check_apart(h, sizeof *h, nums, length * sizeof *nums) ||
+        !dkap_check_apart(h, sizeof *h, values, values_length * sizeof *values) ||
+        !dkap_check_apart(nums, length * sizeof *nums, values, values_length * sizeof *values))
+        return DKAP_E_INVALID_ARGUMENT;
+    dkap_check_begin(h, false, "dkap_values_at_quantiles");
+    result = (dkap_values_at_quantiles)(h, nums, length, den, values, values_length);
+    dkap_check_end(h, false);
+    return result;
+}
+
+DKAP_MUST_TEST static inline dkap_status dkap_value_at_percentile_checked(const struct dkap_histogram *h, uint64_t num,
+                                                                          uint64_t den, uint64_t *value)
+{
+    dkap_status result;
+
+    if (!dkap_check_apart(h, sizeof *h, value, sizeof *value))
+        return DKAP_E_INVALID_ARGUMENT;
+    dkap_check_begin(h, false, "dkap_value_at_percentile");
+    result = (dkap_value_at_percentile)(h, num, den, value);
+    dkap_check_end(h, false);
+    return result;
+}
+
 DKAP_MUST_TEST static inline dkap_status dkap_quantile_below_checked(const struct dkap_histogram *h, uint64_t value,
                                                                      struct dkap_fraction *fraction)
 {
@@ -328,6 +359,19 @@ DKAP_MUST_TEST static inline dkap_status dkap_quantile_below_checked(const struc
         return DKAP_E_INVALID_ARGUMENT;
     dkap_check_begin(h, false, "dkap_quantile_below");
     result = (dkap_quantile_below)(h, value, fraction);
+    dkap_check_end(h, false);
+    return result;
+}
+
+DKAP_MUST_TEST static inline dkap_status dkap_percentile_below_checked(const struct dkap_histogram *h, uint64_t value,
+                                                                       struct dkap_fraction *fraction)
+{
+    dkap_status result;
+
+    if (!dkap_check_apart(h, sizeof *h, fraction, sizeof *fraction))
+        return DKAP_E_INVALID_ARGUMENT;
+    dkap_check_begin(h, false, "dkap_percentile_below");
+    result = (dkap_percentile_below)(h, value, fraction);
     dkap_check_end(h, false);
     return result;
 }
@@ -380,6 +424,78 @@ static inline bool dkap_next_class_checked(const struct dkap_histogram *h, struc
     return result;
 }
 
+static inline uint64_t dkap_lowest_equivalent_checked(const struct dkap_histogram *h, uint64_t value)
+{
+    uint64_t result;
+
+    if (h == NULL)
+        return 0;
+    dkap_check_begin(h, false, "dkap_lowest_equivalent");
+    result = (dkap_lowest_equivalent)(h, value);
+    dkap_check_end(h, false);
+    return result;
+}
+
+static inline uint64_t dkap_highest_equivalent_checked(const struct dkap_histogram *h, uint64_t value)
+{
+    uint64_t result;
+
+    if (h == NULL)
+        return 0;
+    dkap_check_begin(h, false, "dkap_highest_equivalent");
+    result = (dkap_highest_equivalent)(h, value);
+    dkap_check_end(h, false);
+    return result;
+}
+
+static inline uint64_t dkap_median_equivalent_checked(const struct dkap_histogram *h, uint64_t value)
+{
+    uint64_t result;
+
+    if (h == NULL)
+        return 0;
+    dkap_check_begin(h, false, "dkap_median_equivalent");
+    result = (dkap_median_equivalent)(h, value);
+    dkap_check_end(h, false);
+    return result;
+}
+
+static inline uint64_t dkap_next_non_equivalent_checked(const struct dkap_histogram *h, uint64_t value)
+{
+    uint64_t result;
+
+    if (h == NULL)
+        return 0;
+    dkap_check_begin(h, false, "dkap_next_non_equivalent");
+    result = (dkap_next_non_equivalent)(h, value);
+    dkap_check_end(h, false);
+    return result;
+}
+
+static inline uint64_t dkap_equivalent_range_checked(const struct dkap_histogram *h, uint64_t value)
+{
+    uint64_t result;
+
+    if (h == NULL)
+        return 0;
+    dkap_check_begin(h, false, "dkap_equivalent_range");
+    result = (dkap_equivalent_range)(h, value);
+    dkap_check_end(h, false);
+    return result;
+}
+
+static inline bool dkap_equivalent_checked(const struct dkap_histogram *h, uint64_t a, uint64_t b)
+{
+    bool result;
+
+    if (h == NULL)
+        return false;
+    dkap_check_begin(h, false, "dkap_equivalent");
+    result = (dkap_equivalent)(h, a, b);
+    dkap_check_end(h, false);
+    return result;
+}
+
 DKAP_MUST_TEST static inline dkap_status dkap_encode_checked(const struct dkap_histogram *h, uint8_t *buf, size_t
                                                              length, size_t *needed)
 {
@@ -395,8 +511,23 @@ DKAP_MUST_TEST static inline dkap_status dkap_encode_checked(const struct dkap_h
     return result;
 }
 
+DKAP_MUST_TEST static inline dkap_status dkap_encode_compressed_checked(const struct dkap_histogram *h, uint8_t *buf,
+                                                                        size_t length, size_t *needed)
+{
+    dkap_status result;
+
+    if (!dkap_check_apart(h, sizeof *h, buf, length) ||
+        !dkap_check_apart(h, sizeof *h, needed, sizeof *needed) ||
+        !dkap_check_apart(buf, length, needed, sizeof *needed))
+        return DKAP_E_INVALID_ARGUMENT;
+    dkap_check_begin(h, false, "dkap_encode_compressed");
+    result = (dkap_encode_compressed)(h, buf, length, needed);
+    dkap_check_end(h, false);
+    return result;
+}
+
 DKAP_MUST_TEST static inline dkap_status dkap_decode_checked(struct dkap_histogram *h, const uint8_t *bytes, size_t
-                                                             length, size_t *taken)
+                                                             length, uint64_t limit, size_t *taken)
 {
     dkap_status result;
 
@@ -405,8 +536,43 @@ DKAP_MUST_TEST static inline dkap_status dkap_decode_checked(struct dkap_histogr
         !dkap_check_apart(bytes, length, taken, sizeof *taken))
         return DKAP_E_INVALID_ARGUMENT;
     dkap_check_begin(h, true, "dkap_decode");
-    result = (dkap_decode)(h, bytes, length, taken);
+    result = (dkap_decode)(h, bytes, length, limit, taken);
     dkap_check_end(h, true);
+    return result;
+}
+
+DKAP_MUST_TEST static inline dkap_status dkap_log_comment_checked(const uint8_t *comment, size_t comment_length, uint8_t
+                                                                  *buf, size_t length, size_t *needed)
+{
+    dkap_status result;
+
+    if (!dkap_check_apart(comment, comment_length, buf, length) ||
+        !dkap_check_apart(comment, comment_length, needed, sizeof *needed) ||
+        !dkap_check_apart(buf, length, needed, sizeof *needed))
+        return DKAP_E_INVALID_ARGUMENT;
+    result = (dkap_log_comment)(comment, comment_length, buf, length, needed);
+    return result;
+}
+
+DKAP_MUST_TEST static inline dkap_status dkap_log_start_time_checked(uint64_t seconds, uint32_t nanos, uint8_t *buf,
+                                                                     size_t length, size_t *needed)
+{
+    dkap_status result;
+
+    if (!dkap_check_apart(buf, length, needed, sizeof *needed))
+        return DKAP_E_INVALID_ARGUMENT;
+    result = (dkap_log_start_time)(seconds, nanos, buf, length, needed);
+    return result;
+}
+
+DKAP_MUST_TEST static inline dkap_status dkap_log_base_time_checked(uint64_t seconds, uint32_t nanos, uint8_t *buf,
+                                                                    size_t length, size_t *needed)
+{
+    dkap_status result;
+
+    if (!dkap_check_apart(buf, length, needed, sizeof *needed))
+        return DKAP_E_INVALID_ARGUMENT;
+    result = (dkap_log_base_time)(seconds, nanos, buf, length, needed);
     return result;
 }
 
@@ -431,8 +597,37 @@ DKAP_MUST_TEST static inline dkap_status dkap_log_line_checked(const struct dkap
     return result;
 }
 
+DKAP_MUST_TEST static inline dkap_status dkap_log_line_compressed_checked(const struct dkap_histogram *h, uint64_t
+                                                                          start_seconds, uint32_t start_nanos, uint64_t
+                                                                          duration_seconds, uint32_t duration_nanos,
+                                                                          const uint8_t *tag, size_t tag_length, uint8_t
+                                                                          *buf, size_t length, size_t *needed)
+{
+    dkap_status result;
+
+    if (!dkap_check_apart(h, sizeof *h, tag, tag_length) ||
+        !dkap_check_apart(h, sizeof *h, buf, length) ||
+        !dkap_check_apart(h, sizeof *h, needed, sizeof *needed) ||
+        !dkap_check_apart(tag, tag_length, buf, length) ||
+        !dkap_check_apart(tag, tag_length, needed, sizeof *needed) ||
+        !dkap_check_apart(buf, length, needed, sizeof *needed))
+        return DKAP_E_INVALID_ARGUMENT;
+    dkap_check_begin(h, false, "dkap_log_line_compressed");
+    result = (dkap_log_line_compressed)(h, start_seconds, start_nanos, duration_seconds, duration_nanos, tag,
+                                        tag_length, buf, length, needed);
+    dkap_check_end(h, false);
+    return result;
+}
+
+static inline void dkap_log_header_of_checked(const uint8_t *log, size_t length, struct dkap_log_header *header)
+{
+    if (!dkap_check_apart(log, length, header, sizeof *header))
+        return;
+    (dkap_log_header_of)(log, length, header);
+}
+
 DKAP_MUST_TEST static inline dkap_status dkap_log_next_checked(struct dkap_histogram *h, const uint8_t *log, size_t
-                                                               length, struct dkap_interval *interval)
+                                                               length, uint64_t limit, struct dkap_interval *interval)
 {
     dkap_status result;
 
@@ -441,7 +636,7 @@ DKAP_MUST_TEST static inline dkap_status dkap_log_next_checked(struct dkap_histo
         !dkap_check_apart(log, length, interval, sizeof *interval))
         return DKAP_E_INVALID_ARGUMENT;
     dkap_check_begin(h, true, "dkap_log_next");
-    result = (dkap_log_next)(h, log, length, interval);
+    result = (dkap_log_next)(h, log, length, limit, interval);
     dkap_check_end(h, true);
     return result;
 }
@@ -468,16 +663,37 @@ DKAP_MUST_TEST static inline dkap_status dkap_log_next_checked(struct dkap_histo
 #define dkap_max(h) dkap_max_checked(h)
 #define dkap_mean(h, mean) dkap_mean_checked(h, mean)
 #define dkap_value_at_quantile(h, num, den, value) dkap_value_at_quantile_checked(h, num, den, value)
+#define dkap_values_at_quantiles(h, nums, length, den, values, values_length) dkap_values_at_quantiles_checked(h, \
+        nums, length, den, values, values_length)
+#define dkap_value_at_percentile(h, num, den, value) dkap_value_at_percentile_checked(h, num, den, value)
 #define dkap_quantile_below(h, value, fraction) dkap_quantile_below_checked(h, value, fraction)
+#define dkap_percentile_below(h, value, fraction) dkap_percentile_below_checked(h, value, fraction)
 #define dkap_count_at(h, value) dkap_count_at_checked(h, value)
 #define dkap_count_between(h, low, high) dkap_count_between_checked(h, low, high)
 #define dkap_shape_of(h, shape) dkap_shape_of_checked(h, shape)
 #define dkap_next_class(h, c) dkap_next_class_checked(h, c)
+#define dkap_lowest_equivalent(h, value) dkap_lowest_equivalent_checked(h, value)
+#define dkap_highest_equivalent(h, value) dkap_highest_equivalent_checked(h, value)
+#define dkap_median_equivalent(h, value) dkap_median_equivalent_checked(h, value)
+#define dkap_next_non_equivalent(h, value) dkap_next_non_equivalent_checked(h, value)
+#define dkap_equivalent_range(h, value) dkap_equivalent_range_checked(h, value)
+#define dkap_equivalent(h, a, b) dkap_equivalent_checked(h, a, b)
 #define dkap_encode(h, buf, length, needed) dkap_encode_checked(h, buf, length, needed)
-#define dkap_decode(h, bytes, length, taken) dkap_decode_checked(h, bytes, length, taken)
+#define dkap_encode_compressed(h, buf, length, needed) dkap_encode_compressed_checked(h, buf, length, needed)
+#define dkap_decode(h, bytes, length, limit, taken) dkap_decode_checked(h, bytes, length, limit, taken)
+#define dkap_log_comment(comment, comment_length, buf, length, needed) dkap_log_comment_checked(comment, \
+        comment_length, buf, length, needed)
+#define dkap_log_start_time(seconds, nanos, buf, length, needed) dkap_log_start_time_checked(seconds, nanos, buf, \
+        length, needed)
+#define dkap_log_base_time(seconds, nanos, buf, length, needed) dkap_log_base_time_checked(seconds, nanos, buf, \
+        length, needed)
 #define dkap_log_line(h, start_seconds, start_nanos, duration_seconds, duration_nanos, tag, tag_length, buf, length, \
         needed) dkap_log_line_checked(h, start_seconds, start_nanos, duration_seconds, duration_nanos, tag, \
         tag_length, buf, length, needed)
-#define dkap_log_next(h, log, length, interval) dkap_log_next_checked(h, log, length, interval)
+#define dkap_log_line_compressed(h, start_seconds, start_nanos, duration_seconds, duration_nanos, tag, tag_length, \
+        buf, length, needed) dkap_log_line_compressed_checked(h, start_seconds, start_nanos, duration_seconds, \
+        duration_nanos, tag, tag_length, buf, length, needed)
+#define dkap_log_header_of(log, length, header) dkap_log_header_of_checked(log, length, header)
+#define dkap_log_next(h, log, length, limit, interval) dkap_log_next_checked(h, log, length, limit, interval)
 
 #endif

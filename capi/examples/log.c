@@ -53,7 +53,7 @@ static dkap_status read_log(struct dkap_histogram *h, const uint8_t *log, size_t
     struct dkap_interval interval = {0};
     dkap_status status;
 
-    while ((status = dkap_log_next(h, log, length, &interval)) == DKAP_OK) {
+    while ((status = dkap_log_next(h, log, length, DKAP_NO_LIMIT, &interval)) == DKAP_OK) {
         uint64_t value = 0;
 
         status = dkap_value_at_quantile(h, 99, 100, &value);

@@ -112,7 +112,7 @@ static dkap_status decode(struct state *s)
 {
     size_t taken;
 
-    return dkap_decode(&s->h, s->bytes, s->length, &taken);
+    return dkap_decode(&s->h, s->bytes, s->length, DKAP_NO_LIMIT, &taken);
 }
 
 static dkap_status log_line(struct state *s)
@@ -120,6 +120,55 @@ static dkap_status log_line(struct state *s)
     size_t needed;
 
     return dkap_log_line(&s->k, 1, 5, 2, 7, (const uint8_t *)"tag", 3, s->buf, sizeof s->buf, &needed);
+}
+
+static dkap_status encode_compressed(struct state *s)
+{
+    size_t needed;
+
+    return dkap_encode_compressed(&s->k, s->buf, sizeof s->buf, &needed);
+}
+
+static dkap_status log_line_compressed(struct state *s)
+{
+    size_t needed;
+
+    return dkap_log_line_compressed(&s->k, 1, 5, 2, 7, (const uint8_t *)"tag", 3, s->buf, sizeof s->buf, &needed);
+}
+
+static dkap_status log_comment(struct state *s)
+{
+    size_t needed;
+
+    return dkap_log_comment((const uint8_t *)"a comment", 9, s->buf, sizeof s->buf, &needed);
+}
+
+static dkap_status log_start_time(struct state *s)
+{
+    size_t needed;
+
+    return dkap_log_start_time(1, 2, s->buf, sizeof s->buf, &needed);
+}
+
+static dkap_status log_base_time(struct state *s)
+{
+    size_t needed;
+
+    return dkap_log_base_time(1, 2, s->buf, sizeof s->buf, &needed);
+}
+
+static dkap_status decode_compressed(struct state *s)
+{
+    long limit = allowed;
+    size_t length = 0, taken = 0;
+    dkap_status status;
+
+    allowed = -1;
+    CHECK(dkap_encode_compressed(&s->k, s->buf, sizeof s->buf, &length) == DKAP_OK);
+    allowed = limit;
+    status = dkap_decode(&s->h, s->buf, length, DKAP_NO_LIMIT, &taken);
+    CHECK(taken == (status == DKAP_OK ? length : 0));
+    return status;
 }
 
 static dkap_status log_next(struct state *s)
@@ -132,7 +181,7 @@ static dkap_status log_next(struct state *s)
     allowed = -1;
     CHECK(dkap_log_line(&s->k, 1, 5, 2, 7, (const uint8_t *)"tag", 3, s->buf, sizeof s->buf, &length) == DKAP_OK);
     allowed = limit;
-    status = dkap_log_next(&s->h, s->buf, length, &interval);
+    status = dkap_log_next(&s->h, s->buf, length, DKAP_NO_LIMIT, &interval);
     CHECK(status != DKAP_OK || interval.next == length);
     return status;
 }
@@ -154,6 +203,12 @@ static const struct {
     {"dkap_decode", decode},
     {"dkap_log_line", log_line},
     {"dkap_log_next", log_next},
+    {"dkap_encode_compressed", encode_compressed},
+    {"dkap_decode", decode_compressed},
+    {"dkap_log_line_compressed", log_line_compressed},
+    {"dkap_log_comment", log_comment},
+    {"dkap_log_start_time", log_start_time},
+    {"dkap_log_base_time", log_base_time},
 };
 
 /* Makes the call with the allocation of this index failing. Returns whether it failed. */

@@ -43,7 +43,8 @@ static void closed(void)
     CHECK(dkap_init_auto(&k, 3) == DKAP_OK);
     dkap_close(&h);
     dkap_close(&h);
-    CHECK(dkap_reset(&h) == DKAP_E_CLOSED && dkap_clear(&h) == DKAP_E_CLOSED && dkap_auto_resize(&h, true) == DKAP_E_CLOSED);
+    CHECK(dkap_reset(&h) == DKAP_E_CLOSED && dkap_clear(&h) == DKAP_E_CLOSED);
+    CHECK(dkap_auto_resize(&h, true) == DKAP_E_CLOSED);
     CHECK(dkap_record(&h, 1) == DKAP_E_CLOSED && dkap_record_n(&h, 1, 2) == DKAP_E_CLOSED);
     CHECK(dkap_record_correct(&h, 9, 1, 3) == DKAP_E_CLOSED && dkap_record_saturating(&h, 9, 1) == DKAP_E_CLOSED);
     CHECK(dkap_record_all(&h, &value, 1, &length) == DKAP_E_CLOSED && length == 0);
@@ -56,7 +57,7 @@ static void closed(void)
     CHECK(dkap_mean(&h, &fraction) == DKAP_E_CLOSED && dkap_quantile_below(&h, 1, &fraction) == DKAP_E_CLOSED);
     CHECK(dkap_value_at_quantile(&h, 1, 2, &value) == DKAP_E_CLOSED && dkap_shape_of(&h, &shape) == DKAP_E_CLOSED);
     CHECK(!dkap_next_class(&h, &c) && dkap_encode(&h, bytes, 3, &length) == DKAP_E_CLOSED && length == 0);
-    CHECK(dkap_decode(&h, bytes, 3, &length) == DKAP_E_BYTES_END_EARLY && dkap_len(&h) == 0);
+    CHECK(dkap_decode(&h, bytes, 3, DKAP_NO_LIMIT, &length) == DKAP_E_BYTES_END_EARLY && dkap_len(&h) == 0);
     dkap_close(&k);
 }
 
@@ -151,7 +152,8 @@ static void encoding(void)
     memset(bytes, 0xaa, sizeof bytes);
     CHECK(dkap_encode(&h, bytes, needed - 1, &needed) == DKAP_E_BUFFER_TOO_SMALL && bytes[0] == 0xaa);
     CHECK(dkap_encode(&h, bytes, sizeof bytes, &needed) == DKAP_OK && bytes[needed] == 0xaa);
-    CHECK(dkap_decode(&k, bytes, sizeof bytes, &taken) == DKAP_OK && taken == needed && dkap_equal(&h, &k));
+    CHECK(dkap_decode(&k, bytes, sizeof bytes, DKAP_NO_LIMIT, &taken) == DKAP_OK && taken == needed);
+    CHECK(dkap_equal(&h, &k));
     CHECK(dkap_record_n(&h, 1, UINT64_C(1) << 63) == DKAP_OK);
     CHECK(dkap_encode(&h, bytes, sizeof bytes, &needed) == DKAP_E_COUNT_NOT_SERIALIZABLE && needed == 0);
     dkap_close(&h);
@@ -166,7 +168,7 @@ static dkap_status decoded(struct dkap_histogram *h, size_t at, uint8_t byte, si
     size_t taken = 0;
 
     bytes[at] = byte;
-    return dkap_decode(h, bytes, length, &taken);
+    return dkap_decode(h, bytes, length, DKAP_NO_LIMIT, &taken);
 }
 
 /* The same header, and two runs of 2^63 empty bins. */
@@ -177,7 +179,7 @@ static dkap_status decoded_runs(struct dkap_histogram *h)
     size_t taken = 0;
 
     memset(bytes + 40, 0xff, 18);
-    return dkap_decode(h, bytes, sizeof bytes, &taken);
+    return dkap_decode(h, bytes, sizeof bytes, DKAP_NO_LIMIT, &taken);
 }
 
 static void decoding(void)
@@ -187,7 +189,7 @@ static void decoding(void)
     CHECK(decoded(&h, 0, 0x1c, 42) == DKAP_OK && dkap_len(&h) == 1 && dkap_count_at(&h, 1) == 1);
     CHECK(decoded(&h, 0, 0x1c, 41) == DKAP_E_BYTES_END_EARLY && decoded(&h, 0, 0x1c, 0) == DKAP_E_BYTES_END_EARLY);
     CHECK(decoded(&h, 0, 0x1d, 42) == DKAP_E_INVALID_COOKIE);
-    CHECK(decoded(&h, 3, 0x14, 42) == DKAP_E_UNSUPPORTED_FEATURE);
+    CHECK(decoded(&h, 3, 0x14, 42) == DKAP_E_INVALID_STREAM);
     CHECK(decoded(&h, 11, 1, 42) == DKAP_E_UNSUPPORTED_FEATURE);
     CHECK(decoded(&h, 32, 0x40, 42) == DKAP_E_UNSUPPORTED_FEATURE);
     CHECK(decoded(&h, 15, 6, 42) == DKAP_E_INVALID_PARAMETERS && decoded(&h, 23, 0, 42) == DKAP_E_INVALID_PARAMETERS);
@@ -229,7 +231,7 @@ static dkap_status read_line(struct dkap_histogram *h, const char *text)
 {
     struct dkap_interval interval = {0};
 
-    return dkap_log_next(h, (const uint8_t *)text, strlen(text), &interval);
+    return dkap_log_next(h, (const uint8_t *)text, strlen(text), DKAP_NO_LIMIT, &interval);
 }
 
 static void logs(void)
@@ -241,20 +243,143 @@ static void logs(void)
     struct dkap_interval interval = {0};
     const uint8_t *log = (const uint8_t *)text;
 
-    CHECK(dkap_log_next(&h, log, strlen(text), &interval) == DKAP_OK && dkap_len(&h) == 5 && interval.start.seconds == 1);
+    CHECK(dkap_log_next(&h, log, strlen(text), DKAP_NO_LIMIT, &interval) == DKAP_OK && dkap_len(&h) == 5);
+    CHECK(interval.start.seconds == 1);
     CHECK(interval.start.nanos == 500000000 && interval.duration.seconds == 2 && interval.has_base);
     CHECK(interval.base.seconds == 100 && interval.base.nanos == 250000000);
     CHECK(interval.tag_length == 1 && text[interval.tag_at] == 'a');
-    CHECK(dkap_log_next(&h, log, strlen(text), &interval) == DKAP_OK && dkap_len(&h) == 1 && interval.tag_length == 0);
+    CHECK(dkap_log_next(&h, log, strlen(text), DKAP_NO_LIMIT, &interval) == DKAP_OK && dkap_len(&h) == 1);
+    CHECK(interval.tag_length == 0);
     CHECK(interval.next == strlen(text) && interval.has_base && interval.start.seconds == 3);
-    CHECK(dkap_log_next(&h, log, strlen(text), &interval) == DKAP_LOG_END && dkap_len(&h) == 1);
+    CHECK(dkap_log_next(&h, log, strlen(text), DKAP_NO_LIMIT, &interval) == DKAP_LOG_END && dkap_len(&h) == 1);
     CHECK(read_line(&h, "") == DKAP_LOG_END && read_line(&h, "# a comment\n") == DKAP_LOG_END);
-    CHECK(read_line(&h, "1.000,2.000\n") == DKAP_E_INVALID_LINE && read_line(&h, "1.0,2.0,3.0,HIST") == DKAP_E_INVALID_LINE);
+    CHECK(read_line(&h, "1.000,2.000\n") == DKAP_E_INVALID_LINE);
+    CHECK(read_line(&h, "1.0,2.0,3.0,HIST") == DKAP_E_INVALID_LINE);
     CHECK(read_line(&h, "1.0,2.0,3.0,?\n") == DKAP_E_NOT_BASE64);
     CHECK(read_line(&h, "1.0,2.0,3.0,HIST\n") == DKAP_E_BYTES_END_EARLY);
     CHECK(read_line(&h, "1.0,2.0,3.0,AAAAAAAA\n") == DKAP_E_INVALID_COOKIE && dkap_len(&h) == 1);
     interval.next = SIZE_MAX;
-    CHECK(dkap_log_next(&h, log, strlen(text), &interval) == DKAP_LOG_END);
+    CHECK(dkap_log_next(&h, log, strlen(text), DKAP_NO_LIMIT, &interval) == DKAP_LOG_END);
+    dkap_close(&h);
+}
+
+/* Histograms of version 1 and 0, compressed ones, and one of version 2 by Java: their counts, by the formats' definition. */
+static void other_forms(void)
+{
+    static const char v1[] = "HISTggAAACl42pNpmdzIwMDEAAWMaHSK/QcGZMDIgB0wMYwCYgArgXActAAA7/gDVQ==";
+    static const char v0[] = "HISTiQAAACd42pNpmdzBwMDAyAABMDoFSnOiiaMDJoZRQAxgJRCOgxYAAJg6AjQ=";
+    static const char plain_v1[] =
+        "HISTgQAAADAAAAAAAAAAAAAAAAAAAAAEAAAAAAAAA+g/8AAAAAAAAAAAAAAAAAAAAAAAAAAAAAMAAAAA"
+        "AAAAAAAAAAAAAAAAAAAAAAAAAAAAAAAAAAAAAQ==";
+    static const char java[] = "HISTFAAAABx42pNpmSzMwMDAzAABMJoRSjPZf4CxOABCFwKJ";
+    struct dkap_histogram h = DKAP_CLOSED;
+    struct dkap_interval interval = {0};
+    char text[512];
+
+    snprintf(text, sizeof text, " \t\r\n1.0,1.0,2.0,%s\n\n2.0,1.0,2.0,%s\n3.0,1.0,2.0,%s\r\n4.0,1.0,2.0,%s\n \n", v1, v0,
+             plain_v1, java);
+    CHECK(dkap_log_next(&h, (const uint8_t *)text, strlen(text), DKAP_NO_LIMIT, &interval) == DKAP_OK);
+    CHECK(dkap_len(&h) == 9 && dkap_count_at(&h, 3) == 2 && dkap_count_at(&h, 48) == 5 && dkap_count_at(&h, 50) == 1);
+    CHECK(dkap_log_next(&h, (const uint8_t *)text, strlen(text), DKAP_NO_LIMIT, &interval) == DKAP_OK);
+    CHECK(dkap_len(&h) == 9 && dkap_count_at(&h, 0) == 1 && dkap_count_at(&h, 49) == 5 && interval.start.seconds == 2);
+    CHECK(dkap_log_next(&h, (const uint8_t *)text, strlen(text), DKAP_NO_LIMIT, &interval) == DKAP_OK);
+    CHECK(dkap_len(&h) == 4 && dkap_count_at(&h, 7) == 3 && dkap_count_at(&h, 64) == 1 && dkap_max(&h) == 127);
+    CHECK(dkap_log_next(&h, (const uint8_t *)text, strlen(text), 4, &interval) == DKAP_E_TOO_MANY_BINS);
+    CHECK(interval.next == strlen(text) - 2 && dkap_len(&h) == 4);
+    CHECK(dkap_log_next(&h, (const uint8_t *)text, strlen(text), 4, &interval) == DKAP_LOG_END);
+    CHECK(read_line(&h, "1.0,1.0,2.0,HISTFAAAABx42pNpmSzMwMDAzAABMJoRSjPZf4CxOABCFwKK\n") == DKAP_E_INVALID_STREAM);
+    CHECK(read_line(&h, "1.0,1.0,2.0,HISTFAAAABx42pNpmSzMwMDAzAAB\n") == DKAP_E_BYTES_END_EARLY);
+
+    dkap_close(&h);
+}
+
+/* A log with headers, a comment with the unit, and a compressed line: what other libraries read, and it is read again. */
+static void written_log(void)
+{
+    static const uint8_t version[] = "[Histogram log format version 1.3]", unit[] = "[Values are in us]", bad[] = {0xff};
+    struct dkap_histogram h = DKAP_CLOSED, k = DKAP_CLOSED;
+    struct dkap_interval interval = {0};
+    struct dkap_log_header header;
+    uint8_t log[1024];
+    size_t at = 0, needed = 0;
+
+    CHECK(dkap_init(&h, 1, 1000000, 3) == DKAP_OK && dkap_record_n(&h, 777, 5) == DKAP_OK);
+    dkap_log_header_of(log, 0, &header);
+    CHECK(!header.has_start_time && header.unit_nanos == 0 && header.start_time.seconds == 0);
+    CHECK(dkap_log_comment(version, sizeof version - 1, log, 10, &needed) == DKAP_E_BUFFER_TOO_SMALL && needed == 36);
+    CHECK(dkap_log_comment(bad, 1, log, sizeof log, &needed) == DKAP_E_NOT_UTF8 && needed == 0);
+    CHECK(dkap_log_comment(version, sizeof version - 1, log, sizeof log, &needed) == DKAP_OK && needed == 36);
+    at += needed;
+    CHECK(dkap_log_start_time(1700000000, 123000000, log + at, sizeof log - at, &needed) == DKAP_OK);
+    CHECK(memcmp(log + at, "#[StartTime: 1700000000.123 (seconds since epoch)]\n", needed) == 0 && needed == 51);
+    at += needed;
+    CHECK(dkap_log_base_time(5, 0, log + at, sizeof log - at, &needed) == DKAP_OK && needed == 41);
+    at += needed;
+    CHECK(dkap_log_base_time(5, 1000000000, log, sizeof log, &needed) == DKAP_E_TIME_OUT_OF_RANGE && needed == 0);
+    CHECK(dkap_log_comment(unit, sizeof unit - 1, log + at, sizeof log - at, &needed) == DKAP_OK);
+    at += needed;
+    CHECK(dkap_log_line_compressed(&h, 1, 5, 2, 7, (const uint8_t *)"a", 1, log + at, sizeof log - at, &needed) == DKAP_OK);
+    CHECK(memcmp(log + at, "Tag=a,1.000,2.000,777.000,HISTFA", 32) == 0);
+    at += needed;
+    dkap_log_header_of(log, at, &header);
+    CHECK(header.has_start_time && header.start_time.seconds == 1700000000 && header.start_time.nanos == 123000000);
+    CHECK(header.unit_nanos == 1000);
+    CHECK(dkap_log_next(&k, log, at, DKAP_NO_LIMIT, &interval) == DKAP_OK && dkap_equal(&h, &k) && interval.next == at);
+    CHECK(interval.has_base && interval.base.seconds == 5 && interval.tag_length == 1);
+    CHECK(dkap_encode_compressed(&h, log, sizeof log, &needed) == DKAP_OK && log[3] == 0x14);
+    CHECK(dkap_decode(&k, log, needed, DKAP_NO_LIMIT, &at) == DKAP_OK && at == needed && dkap_equal(&h, &k));
+    CHECK(dkap_decode(&k, log, needed, 100, &at) == DKAP_E_TOO_MANY_BINS && at == 0 && dkap_equal(&h, &k));
+    CHECK(dkap_encode(&h, log, sizeof log, &needed) == DKAP_OK);
+    CHECK(dkap_decode(&k, log, needed, 100, &at) == DKAP_E_TOO_MANY_BINS && at == 0 && dkap_equal(&h, &k));
+    CHECK(dkap_encode_compressed(&h, log, 3, &needed) == DKAP_E_BUFFER_TOO_SMALL && needed > 3);
+    CHECK(dkap_record_n(&h, 1, UINT64_C(1) << 63) == DKAP_OK);
+    CHECK(dkap_encode_compressed(&h, log, sizeof log, &needed) == DKAP_E_COUNT_NOT_SERIALIZABLE && needed == 0);
+    dkap_close(&h);
+    CHECK(dkap_encode_compressed(&h, log, sizeof log, &needed) == DKAP_E_CLOSED && needed == 0);
+    CHECK(dkap_log_line_compressed(&h, 1, 5, 2, 7, log, 0, log + 1, 9, &needed) == DKAP_E_CLOSED);
+    dkap_close(&k);
+}
+
+/* Classes with 2 digits: values up to 255 are alone, then 2 count together up to 511, and so on. */
+static void classes(void)
+{
+    struct dkap_histogram h = DKAP_CLOSED;
+
+    CHECK(dkap_lowest_equivalent(&h, 5) == 0 && dkap_highest_equivalent(&h, 5) == 0);
+    CHECK(dkap_median_equivalent(&h, 5) == 0);
+    CHECK(dkap_next_non_equivalent(&h, 5) == 0 && dkap_equivalent_range(&h, 5) == 0 && !dkap_equivalent(&h, 5, 5));
+    CHECK(dkap_init(&h, 1, 1000, 2) == DKAP_OK);
+    CHECK(dkap_lowest_equivalent(&h, 515) == 512 && dkap_highest_equivalent(&h, 515) == 515);
+    CHECK(dkap_median_equivalent(&h, 515) == 514 && dkap_next_non_equivalent(&h, 515) == 516);
+    CHECK(dkap_equivalent_range(&h, 515) == 4 && dkap_equivalent_range(&h, 7) == 1);
+    CHECK(dkap_equivalent(&h, 512, 515) && !dkap_equivalent(&h, 511, 512));
+    CHECK(dkap_next_non_equivalent(&h, UINT64_MAX) == UINT64_MAX);
+    CHECK(dkap_highest_equivalent(&h, UINT64_MAX) == UINT64_MAX);
+    dkap_close(&h);
+}
+
+static void quantiles(void)
+{
+    static const uint64_t nums[] = {500, 0, 999, 1000, 5000, 1};
+    struct dkap_histogram h = DKAP_CLOSED;
+    struct dkap_fraction fraction;
+    uint64_t values[7] = {0}, value = 0;
+
+    CHECK(dkap_values_at_quantiles(&h, nums, 6, 1000, values, 7) == DKAP_E_CLOSED);
+    CHECK(dkap_value_at_percentile(&h, 1, 2, &value) == DKAP_E_CLOSED);
+    CHECK(dkap_percentile_below(&h, 1, &fraction) == DKAP_E_CLOSED);
+    CHECK(dkap_init(&h, 1, 10000, 4) == DKAP_OK);
+    for (value = 1; value <= 10000; value++)
+        CHECK(dkap_record(&h, value) == DKAP_OK);
+    values[6] = 77;
+    CHECK(dkap_values_at_quantiles(&h, nums, 6, 1000, values, 7) == DKAP_OK && values[0] == 5000 && values[1] == 1);
+    CHECK(values[2] == 9990 && values[3] == 10000 && values[4] == 10000 && values[5] == 10 && values[6] == 77);
+    CHECK(dkap_values_at_quantiles(&h, nums, 6, 1000, values, 5) == DKAP_E_BUFFER_TOO_SMALL);
+    CHECK(dkap_values_at_quantiles(&h, nums, 6, 0, values, 7) == DKAP_E_ZERO_DENOMINATOR && values[0] == 5000);
+    CHECK(dkap_values_at_quantiles(&h, nums, 0, 1, values, 0) == DKAP_OK && values[0] == 5000);
+    CHECK(dkap_value_at_percentile(&h, 999, 10, &value) == DKAP_OK && value == 9990);
+    CHECK(dkap_value_at_percentile(&h, 1, 0, &value) == DKAP_E_ZERO_DENOMINATOR && value == 9990);
+    CHECK(dkap_percentile_below(&h, 2500, &fraction) == DKAP_OK && fraction.num_low == 250000 && fraction.den == 10000);
     dkap_close(&h);
 }
 
@@ -262,7 +387,7 @@ static void texts(void)
 {
     dkap_status status;
 
-    for (status = 0; status <= DKAP_E_INVALID_ARGUMENT; status++)
+    for (status = 0; status <= DKAP_E_NOT_UTF8; status++)
         CHECK(strlen(dkap_strerror(status)) > 5 && strcmp(dkap_strerror(status), "unknown status") != 0);
     CHECK(strcmp(dkap_strerror(status), "unknown status") == 0);
     CHECK(strcmp(dkap_strerror(UINT32_MAX), "unknown status") == 0);
@@ -280,6 +405,10 @@ int main(void)
     decoding();
     log_lines();
     logs();
+    other_forms();
+    written_log();
+    classes();
+    quantiles();
     texts();
     return checked();
 }

@@ -1,10 +1,13 @@
 /*
- * V2 bytes with random damage are decoded, or an error has a status of dkap_decode and changes nothing. The same holds
- * for interval logs. usage: damaged NUMBER SEED
+ * V2 bytes with random damage, compressed or not, are decoded, or an error has a status of dkap_decode and changes
+ * nothing. The same holds for interval logs. usage: damaged NUMBER SEED
  */
 #include "check.h"
 
 static uint64_t state;
+
+/* The limit of bins: a damaged header is an error before it takes much memory. */
+enum { MOST_BINS = 1 << 16 };
 
 /* A number below `end`, by xorshift64*. */
 static uint64_t below(uint64_t end)
@@ -73,10 +76,11 @@ static void damage(struct bytes *b)
 
 static bool is_decode_status(dkap_status status)
 {
-    return status == DKAP_OK || (status >= DKAP_E_BYTES_END_EARLY && status <= DKAP_E_USIZE_TOO_SMALL);
+    return status == DKAP_OK || (status >= DKAP_E_BYTES_END_EARLY && status <= DKAP_E_USIZE_TOO_SMALL) ||
+           status == DKAP_E_TOO_MANY_BINS || status == DKAP_E_INVALID_STREAM;
 }
 
-static uint64_t seen[DKAP_E_INVALID_ARGUMENT + 1];
+static uint64_t seen[DKAP_E_INVALID_STREAM + 1];
 
 /* Decodes damaged bytes, from a block of their length, into a handle with a histogram. */
 static void decode_damaged(struct dkap_histogram *kept)
@@ -88,16 +92,19 @@ static void decode_damaged(struct dkap_histogram *kept)
     uint8_t *block_of_bytes;
 
     fill(&h);
-    CHECK(dkap_encode(&h, damaged.at, sizeof damaged.at, &damaged.length) == DKAP_OK);
+    if (below(2) == 0)
+        CHECK(dkap_encode(&h, damaged.at, sizeof damaged.at, &damaged.length) == DKAP_OK);
+    else
+        CHECK(dkap_encode_compressed(&h, damaged.at, sizeof damaged.at, &damaged.length) == DKAP_OK);
     damage(&damaged);
     block_of_bytes = block(damaged.length);
     memcpy(block_of_bytes, damaged.at, damaged.length);
 
     CHECK(dkap_copy(&h, kept) == DKAP_OK);
-    status = dkap_decode(&h, block_of_bytes, damaged.length, &taken);
+    status = dkap_decode(&h, block_of_bytes, damaged.length, MOST_BINS, &taken);
     CHECK(is_decode_status(status));
     if (status == DKAP_OK)
-        CHECK(taken >= 40 && taken <= damaged.length);
+        CHECK(taken >= 16 && taken <= damaged.length);
     else
         CHECK(taken == 0 && dkap_equal(&h, kept));
     seen[status]++;
@@ -140,7 +147,7 @@ static void read_damaged(struct dkap_histogram *kept)
         size_t from = interval.next;
 
         CHECK(dkap_copy(&h, kept) == DKAP_OK);
-        status = dkap_log_next(&h, block_of_bytes, log.length, &interval);
+        status = dkap_log_next(&h, block_of_bytes, log.length, MOST_BINS, &interval);
         CHECK(is_decode_status(status) || (status >= DKAP_LOG_END && status <= DKAP_E_NOT_BASE64));
         CHECK(interval.next <= log.length);
         if (status != DKAP_LOG_END && status != DKAP_E_INVALID_LINE)

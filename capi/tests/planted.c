@@ -24,11 +24,14 @@ void __wrap_dkap_close(struct dkap_histogram *h)
 
 /* A byte past the input is read. */
 #ifdef PLANT_READ
-dkap_status __real_dkap_decode(struct dkap_histogram *h, const uint8_t *bytes, size_t length, size_t *taken);
-dkap_status __wrap_dkap_decode(struct dkap_histogram *h, const uint8_t *bytes, size_t length, size_t *taken);
+dkap_status __real_dkap_decode(struct dkap_histogram *h, const uint8_t *bytes, size_t length, uint64_t limit,
+                                   size_t *taken);
+dkap_status __wrap_dkap_decode(struct dkap_histogram *h, const uint8_t *bytes, size_t length, uint64_t limit,
+                                   size_t *taken);
 
-dkap_status __wrap_dkap_decode(struct dkap_histogram *h, const uint8_t *bytes, size_t length, size_t *taken)
+dkap_status __wrap_dkap_decode(struct dkap_histogram *h, const uint8_t *bytes, size_t length, uint64_t limit,
+                                   size_t *taken)
 {
-    return __real_dkap_decode(h, bytes, length + 1, taken);
+    return __real_dkap_decode(h, bytes, length + 1, limit, taken);
 }
 #endif

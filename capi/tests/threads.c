@@ -1,7 +1,7 @@
 /*
- * Threads that only read one histogram at once, 2,000,000 times for two of them: each result is that of one thread. Then
- * the handle and all memory of the histogram are read-only while each call with a const handle is made, so that a write
- * would end the program. usage: threads READS
+ * Threads that only read one histogram at once, each READS times: each result is that of one thread. Then the handle and
+ * all memory of the histogram are read-only while each call with a const handle is made, so that a write would end the
+ * program. usage: threads READS
  */
 #define _GNU_SOURCE
 #include <pthread.h>
@@ -13,8 +13,8 @@ enum { SAMPLES = 10000, ARENA = 1 << 24 };
 
 /* What a reader finds, in numbers. */
 struct found {
-    uint64_t len, min, min_nz, max, p50, p99, at, between, sum, below;
-    size_t needed;
+    uint64_t len, min, min_nz, max, p50, p99, at, between, sum, below, bins, values[3];
+    size_t needed, packed, line;
     bool equal;
 };
 
@@ -23,7 +23,9 @@ static struct found read_all(const struct dkap_histogram *h, const struct dkap_h
     struct found f = {0};
     struct dkap_class c = {0};
     struct dkap_fraction fraction;
-    uint8_t buf[16];
+    static const uint64_t nums[] = {90, 50, 99};
+    struct dkap_shape shape;
+    uint8_t buf[16], line[16];
 
     f.len = dkap_len(h);
     f.min = dkap_min(h);
@@ -37,6 +39,10 @@ static struct found read_all(const struct dkap_histogram *h, const struct dkap_h
     CHECK(dkap_quantile_below(h, 5000, &fraction) == DKAP_OK);
     f.below = fraction.num_low;
     CHECK(dkap_encode(h, buf, sizeof buf, &f.needed) == DKAP_E_BUFFER_TOO_SMALL);
+    CHECK(dkap_encode_compressed(h, buf, sizeof buf, &f.packed) == DKAP_E_BUFFER_TOO_SMALL);
+    CHECK(dkap_log_line(h, 1, 0, 1, 0, buf, 0, line, sizeof line, &f.line) == DKAP_E_BUFFER_TOO_SMALL);
+    CHECK(dkap_values_at_quantiles(h, nums, 3, 100, f.values, 3) == DKAP_OK && dkap_shape_of(h, &shape) == DKAP_OK);
+    f.bins = shape.bins + dkap_highest_equivalent(h, 12345) + dkap_median_equivalent(h, 77777);
     while (f.sum % 7 != 0 && dkap_next_class(h, &c))
         f.sum += c.count * c.lowest;
     f.equal = dkap_equal(h, same);
@@ -48,7 +54,8 @@ static bool is_same(const struct found *one, const struct found *other)
     return one->len == other->len && one->min == other->min && one->min_nz == other->min_nz && one->max == other->max &&
            one->p50 == other->p50 && one->p99 == other->p99 && one->at == other->at && one->between == other->between &&
            one->sum == other->sum && one->below == other->below && one->needed == other->needed &&
-           one->equal == other->equal;
+           one->packed == other->packed && one->line == other->line && one->bins == other->bins &&
+           memcmp(one->values, other->values, sizeof one->values) == 0 && one->equal == other->equal;
 }
 
 struct reader {

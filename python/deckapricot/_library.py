@@ -20,14 +20,15 @@ BUFFER_TOO_SMALL = 11
 TOO_MANY_SAMPLES = 13
 LOG_END = 23
 INVALID_LINE = 24
+TOO_MANY_BINS = 27
 
 _CLASSES: dict[int, type[errors.HistogramError]] = {
     1: errors.ClosedError,
     OUT_OF_RANGE: errors.ValueOutOfRange,
     **dict.fromkeys(range(4, 9), errors.InvalidBounds),
     **dict.fromkeys((9, 10), errors.CountError),
-    **dict.fromkeys(range(14, 20), errors.DecodeError),
-    **dict.fromkeys((21, 22, 24, 25), errors.LogError),
+    **dict.fromkeys((*range(14, 20), 27, 28), errors.DecodeError),
+    **dict.fromkeys((21, 22, 24, 25, 29), errors.LogError),
 }
 
 
@@ -81,6 +82,12 @@ class IntervalCursor(ctypes.Structure):
     ]
 
 
+class LogHeader(ctypes.Structure):
+    """struct dkap_log_header."""
+
+    _fields_ = [("start_time", Time), ("has_start_time", c_bool), ("unit_nanos", c_uint64)]
+
+
 _HANDLE = POINTER(Handle)
 _SIZE = POINTER(c_size_t)
 _BYTES = [c_void_p, c_size_t, _SIZE]
@@ -109,15 +116,28 @@ _CALLS: dict[str, tuple[Any, list[Any]]] = {
     "max": (c_uint64, []),
     "mean": (c_uint32, [POINTER(WideFraction)]),
     "value_at_quantile": (c_uint32, [c_uint64, c_uint64, POINTER(c_uint64)]),
+    "values_at_quantiles": (c_uint32, [c_void_p, c_size_t, c_uint64, c_void_p, c_size_t]),
     "quantile_below": (c_uint32, [c_uint64, POINTER(WideFraction)]),
     "count_at": (c_uint64, [c_uint64]),
     "count_between": (c_uint64, [c_uint64, c_uint64]),
     "shape_of": (c_uint32, [POINTER(Shape)]),
     "next_class": (c_bool, [POINTER(ClassCursor)]),
+    "lowest_equivalent": (c_uint64, [c_uint64]),
+    "highest_equivalent": (c_uint64, [c_uint64]),
     "encode": (c_uint32, _BYTES),
-    "decode": (c_uint32, _BYTES),
+    "encode_compressed": (c_uint32, _BYTES),
+    "decode": (c_uint32, [c_void_p, c_size_t, c_uint64, _SIZE]),
     "log_line": (c_uint32, [c_uint64, c_uint32, c_uint64, c_uint32, c_void_p, c_size_t, *_BYTES]),
-    "log_next": (c_uint32, [c_void_p, c_size_t, POINTER(IntervalCursor)]),
+    "log_line_compressed": (c_uint32, [c_uint64, c_uint32, c_uint64, c_uint32, c_void_p, c_size_t, *_BYTES]),
+    "log_next": (c_uint32, [c_void_p, c_size_t, c_uint64, POINTER(IntervalCursor)]),
+}
+
+# The calls without a handle.
+_CALLS_OF_LOGS: dict[str, tuple[Any, list[Any]]] = {
+    "log_comment": (c_uint32, [c_void_p, c_size_t, *_BYTES]),
+    "log_start_time": (c_uint32, [c_uint64, c_uint32, *_BYTES]),
+    "log_base_time": (c_uint32, [c_uint64, c_uint32, *_BYTES]),
+    "log_header_of": (None, [c_void_p, c_size_t, POINTER(LogHeader)]),
 }
 
 # A garbage collection may run within a call, and close another histogram.
@@ -155,12 +175,17 @@ class Library:
 
     def __init__(self) -> None:
         # PyDLL keeps the interpreter's lock during a call. CDLL would let another thread use the histogram meanwhile.
-        library = ctypes.PyDLL(_path())
+        path = _path()
+        try:
+            library = ctypes.PyDLL(path)
+        except OSError as error:
+            raise ImportError(f"{error}: build libdkap by capi/build.sh, install it, or name it in DECKAPRICOT_LIBRARY") from None
         has_lock = getattr(sys, "_is_gil_enabled", lambda: True)()
-        for name, (result, arguments) in _CALLS.items():
+        calls = {name: (result, [_HANDLE, *arguments]) for name, (result, arguments) in _CALLS.items()}
+        for name, (result, arguments) in {**calls, **_CALLS_OF_LOGS}.items():
             call = getattr(library, "dkap_" + name)
             call.restype = result
-            call.argtypes = [_HANDLE, *arguments]
+            call.argtypes = arguments
             setattr(self, name, call if has_lock else locked(call))
         self.strerror = library.dkap_strerror
         self.strerror.argtypes = [c_uint32]

@@ -30,7 +30,7 @@ class CountError(HistogramError, ValueError):
 
 
 class DecodeError(HistogramError, ValueError):
-    """Bytes are not a V2 histogram. `offset` is that of the line read, of a log."""
+    """Bytes are not a histogram, or one of more bins than the limit. `offset` is that of the line read, of a log."""
 
     offset: Optional[int] = None
 

@@ -1,7 +1,9 @@
 pub mod Bytes
 pub mod Calls
 pub mod Classes
+pub mod Decoding
 pub mod Fractions
+pub mod Headers
 pub mod Lending
 pub mod Lines
 pub mod Logs

@@ -34,7 +34,7 @@ pub struct Shape {
 /// The number of values of a `u64`.
 const U64_VALUES: u128 = 1 << 64;
 
-fn wide_fraction(fraction: &Fraction) -> WideFraction
+pub(crate) fn wide_fraction(fraction: &Fraction) -> WideFraction
     ensures { IsFraction fraction.now result }
 {
     WideFraction {

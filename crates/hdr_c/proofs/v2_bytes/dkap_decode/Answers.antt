@@ -1,7 +1,6 @@
-use Rattle.std.proofs.Common.{◌-◌, ◌^◌, inr, refl}
-use Rattle.hdrhistogram.specs.declared.serialization.errors.DeserializeError.TheVariants.{OutOfMemory}
-use Rattle.hdr_c.proofs.Bounds.{has_bounds}
+use Rattle.std.proofs.Common.{inr, refl}
+use Rattle.hdr_c.proofs.Forms.{memory_status}
 use Rattle.hdr_c.proofs.v2_bytes.dkap_decode.Goals as goal
 
 pub returns-in_default : goal.returns-in_default
-returns-in_default c = inr (OutOfMemory, c.of_decode_error.ensures, tt, has_bounds (2 ^ 64 - 1) c.args.bytes.now _ c.in-Ok.ensures.read.read, refl, c.in_default.ensures)
+returns-in_default c = inr (memory_status c.args.limit c.in-Ok.length c.args.bytes.now c.in-Ok.histogram c.in-Ok.ensures, refl, c.in_default.ensures)
