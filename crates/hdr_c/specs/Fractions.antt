@@ -25,7 +25,7 @@ pub record AreValues (h : Plain) (nums : List ℕ) (den n : ℕ) (old new : List
   pub values : (i : ℕ) → i < n → slice_index new i ≡ value_at_quantile h (record { num = slice_index nums i; den = den })
   pub rest : (i : ℕ) → n ≤ i → slice_index new i ≡ slice_index old i
 
--- the values at quantiles are stored, or there is no room for them, or the denominator is 0
+-- the values at quantiles are stored, or the buffer is shorter, or the denominator is 0
 abbrev pub AreQuantiles : ℕ → Plain → List ℕ → ℕ → List ℕ → List ℕ → Type 0
 AreQuantiles status h nums den old new =
     ((status ≡ 12) × (den ≡ 0) × (new ≡ old))

@@ -6,7 +6,7 @@ use Rattle.hdr_log.specs.Grammar.{Entry, Start, Base, Span, entry_of}
 use Rattle.hdr_c.specs.declared.log_start.LogHeader.{LogHeader}
 use Rattle.hdr_c.specs.Times.{as_time}
 
--- what the first line has that has something. The last part between LFs is no line
+-- what the first line has that has something. The last part between LFs does not count, as its line is not complete
 unfoldable pub first_in : (List ℕ → Option ℕ) → List (List ℕ) → Option ℕ
 first_in find [] = None
 first_in find (part ∷ []) = None
