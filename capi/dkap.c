@@ -49,6 +49,7 @@ static const char *const TEXTS[] = {
     [DKAP_E_TOO_MANY_BINS] = "the encoded histogram has more bins than the limit",
     [DKAP_E_INVALID_STREAM] = "the compressed bytes are not a complete zlib stream",
     [DKAP_E_NOT_UTF8] = "the comment is not UTF-8",
+    [DKAP_E_INVALID_STEP] = "a step, a start or a number of ticks is 0, or a base is less than 2",
 };
 
 const char *dkap_strerror(dkap_status status)

@@ -108,7 +108,8 @@ enum {
     DKAP_E_INVALID_ARGUMENT = 26,        /* DKAP_CHECK alone: a pointer is null, or two pointers overlap */
     DKAP_E_TOO_MANY_BINS = 27,           /* the encoded histogram has more bins than the limit */
     DKAP_E_INVALID_STREAM = 28,          /* the compressed bytes are not a complete zlib stream */
-    DKAP_E_NOT_UTF8 = 29                 /* a comment is not UTF-8 */
+    DKAP_E_NOT_UTF8 = 29,                /* a comment is not UTF-8 */
+    DKAP_E_INVALID_STEP = 30             /* a step, a start or a number of ticks is 0, or a base less than 2 */
 };
 
 /* No limit of bins. A histogram has at most 6291456 of them, of 8 bytes each. */
@@ -303,6 +304,29 @@ dkap_status dkap_shape_of(const struct dkap_histogram *DKAP_RESTRICT h, struct d
  *     for (struct dkap_class c = {0}; dkap_next_class(&h, &c);)
  */
 bool dkap_next_class(const struct dkap_histogram *DKAP_RESTRICT h, struct dkap_class *DKAP_RESTRICT c) DKAP_NONNULL;
+
+/*
+ * Iterations in steps. Step i goes up to values[i], and counts[i] samples lie in the classes from that after the step
+ * before up to its own. `done` steps are stored: all of them, or as many as fit both arrays. Errors: 1, 30.
+ */
+
+/* The steps have `step` values each: they go to step - 1, 2 * step - 1, .. past the greatest sample. */
+dkap_status dkap_linear_steps(const struct dkap_histogram *DKAP_RESTRICT h, uint64_t step,
+                              uint64_t *DKAP_RESTRICT values, size_t length, uint64_t *DKAP_RESTRICT counts,
+                              size_t counts_length, size_t *DKAP_RESTRICT done) DKAP_MUST_USE;
+
+/* They go to start - 1, start * base - 1, start * base^2 - 1, .. past the greatest sample. */
+dkap_status dkap_log_steps(const struct dkap_histogram *DKAP_RESTRICT h, uint64_t start, uint64_t base,
+                           uint64_t *DKAP_RESTRICT values, size_t length, uint64_t *DKAP_RESTRICT counts,
+                           size_t counts_length, size_t *DKAP_RESTRICT done) DKAP_MUST_USE;
+
+/*
+ * They go to the values at quantiles that approach 1: `ticks` of them in the first half, as many in half of the rest,
+ * and so on, and then 1.
+ */
+dkap_status dkap_quantile_steps(const struct dkap_histogram *DKAP_RESTRICT h, uint32_t ticks,
+                                uint64_t *DKAP_RESTRICT values, size_t length, uint64_t *DKAP_RESTRICT counts,
+                                size_t counts_length, size_t *DKAP_RESTRICT done) DKAP_MUST_USE;
 
 /* Classes of values, which hold for values without a bin too. A closed handle has none: the result is 0 or false. */
 

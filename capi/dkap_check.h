@@ -424,6 +424,69 @@ static inline bool dkap_next_class_checked(const struct dkap_histogram *h, struc
     return result;
 }
 
+DKAP_MUST_TEST static inline dkap_status dkap_linear_steps_checked(const struct dkap_histogram *h, uint64_t step,
+                                                                   uint64_t *values, size_t length, uint64_t *counts,
+                                                                   size_t counts_length, size_t *done)
+{
+    dkap_status result;
+
+    if (!dkap_check_length(length, sizeof *values) ||
+        !dkap_check_length(counts_length, sizeof *counts) ||
+        !dkap_check_apart(h, sizeof *h, values, length * sizeof *values) ||
+        !dkap_check_apart(h, sizeof *h, counts, counts_length * sizeof *counts) ||
+        !dkap_check_apart(h, sizeof *h, done, sizeof *done) ||
+        !dkap_check_apart(values, length * sizeof *values, counts, counts_length * sizeof *counts) ||
+        !dkap_check_apart(values, length * sizeof *values, done, sizeof *done) ||
+        !dkap_check_apart(counts, counts_length * sizeof *counts, done, sizeof *done))
+        return DKAP_E_INVALID_ARGUMENT;
+    dkap_check_begin(h, false, "dkap_linear_steps");
+    result = (dkap_linear_steps)(h, step, values, length, counts, counts_length, done);
+    dkap_check_end(h, false);
+    return result;
+}
+
+DKAP_MUST_TEST static inline dkap_status dkap_log_steps_checked(const struct dkap_histogram *h, uint64_t start, uint64_t
+                                                                base, uint64_t *values, size_t length, uint64_t *counts,
+                                                                size_t counts_length, size_t *done)
+{
+    dkap_status result;
+
+    if (!dkap_check_length(length, sizeof *values) ||
+        !dkap_check_length(counts_length, sizeof *counts) ||
+        !dkap_check_apart(h, sizeof *h, values, length * sizeof *values) ||
+        !dkap_check_apart(h, sizeof *h, counts, counts_length * sizeof *counts) ||
+        !dkap_check_apart(h, sizeof *h, done, sizeof *done) ||
+        !dkap_check_apart(values, length * sizeof *values, counts, counts_length * sizeof *counts) ||
+        !dkap_check_apart(values, length * sizeof *values, done, sizeof *done) ||
+        !dkap_check_apart(counts, counts_length * sizeof *counts, done, sizeof *done))
+        return DKAP_E_INVALID_ARGUMENT;
+    dkap_check_begin(h, false, "dkap_log_steps");
+    result = (dkap_log_steps)(h, start, base, values, length, counts, counts_length, done);
+    dkap_check_end(h, false);
+    return result;
+}
+
+DKAP_MUST_TEST static inline dkap_status dkap_quantile_steps_checked(const struct dkap_histogram *h, uint32_t ticks,
+                                                                     uint64_t *values, size_t length, uint64_t *counts,
+                                                                     size_t counts_length, size_t *done)
+{
+    dkap_status result;
+
+    if (!dkap_check_length(length, sizeof *values) ||
+        !dkap_check_length(counts_length, sizeof *counts) ||
+        !dkap_check_apart(h, sizeof *h, values, length * sizeof *values) ||
+        !dkap_check_apart(h, sizeof *h, counts, counts_length * sizeof *counts) ||
+        !dkap_check_apart(h, sizeof *h, done, sizeof *done) ||
+        !dkap_check_apart(values, length * sizeof *values, counts, counts_length * sizeof *counts) ||
+        !dkap_check_apart(values, length * sizeof *values, done, sizeof *done) ||
+        !dkap_check_apart(counts, counts_length * sizeof *counts, done, sizeof *done))
+        return DKAP_E_INVALID_ARGUMENT;
+    dkap_check_begin(h, false, "dkap_quantile_steps");
+    result = (dkap_quantile_steps)(h, ticks, values, length, counts, counts_length, done);
+    dkap_check_end(h, false);
+    return result;
+}
+
 static inline uint64_t dkap_lowest_equivalent_checked(const struct dkap_histogram *h, uint64_t value)
 {
     uint64_t result;
@@ -672,6 +735,12 @@ DKAP_MUST_TEST static inline dkap_status dkap_log_next_checked(struct dkap_histo
 #define dkap_count_between(h, low, high) dkap_count_between_checked(h, low, high)
 #define dkap_shape_of(h, shape) dkap_shape_of_checked(h, shape)
 #define dkap_next_class(h, c) dkap_next_class_checked(h, c)
+#define dkap_linear_steps(h, step, values, length, counts, counts_length, done) dkap_linear_steps_checked(h, step, \
+        values, length, counts, counts_length, done)
+#define dkap_log_steps(h, start, base, values, length, counts, counts_length, done) dkap_log_steps_checked(h, start, \
+        base, values, length, counts, counts_length, done)
+#define dkap_quantile_steps(h, ticks, values, length, counts, counts_length, done) dkap_quantile_steps_checked(h, \
+        ticks, values, length, counts, counts_length, done)
 #define dkap_lowest_equivalent(h, value) dkap_lowest_equivalent_checked(h, value)
 #define dkap_highest_equivalent(h, value) dkap_highest_equivalent_checked(h, value)
 #define dkap_median_equivalent(h, value) dkap_median_equivalent_checked(h, value)

@@ -358,6 +358,41 @@ static void classes(void)
     dkap_close(&h);
 }
 
+/* The steps of the values 1 to 100, each recorded once. */
+static void steps(void)
+{
+    static const uint64_t log_values[] = {9, 19, 39, 79, 159}, log_counts[] = {9, 10, 20, 40, 21};
+    static const uint64_t quantile_values[] = {1, 50, 75, 88, 94, 97, 99, 100, 100};
+    static const uint64_t quantile_counts[] = {1, 49, 25, 13, 6, 3, 2, 1, 0};
+    struct dkap_histogram h = DKAP_CLOSED;
+    uint64_t values[12] = {0}, counts[12] = {0}, value;
+    size_t done = 9, i;
+
+    CHECK(dkap_linear_steps(&h, 10, values, 12, counts, 12, &done) == DKAP_E_CLOSED && done == 0);
+    CHECK(dkap_log_steps(&h, 10, 2, values, 12, counts, 12, &done) == DKAP_E_CLOSED);
+    CHECK(dkap_quantile_steps(&h, 1, values, 12, counts, 12, &done) == DKAP_E_CLOSED);
+    CHECK(dkap_init(&h, 1, 1000, 3) == DKAP_OK);
+    CHECK(dkap_quantile_steps(&h, 1, values, 12, counts, 12, &done) == DKAP_OK && done == 0);
+    for (value = 1; value <= 100; value++)
+        CHECK(dkap_record(&h, value) == DKAP_OK);
+    values[11] = counts[11] = 77;
+    CHECK(dkap_linear_steps(&h, 10, values, 12, counts, 12, &done) == DKAP_OK && done == 11);
+    for (i = 0; i < 11; i++)
+        CHECK(values[i] == 10 * i + 9 && counts[i] == (i == 0 ? 9 : i == 10 ? 1 : 10));
+    CHECK(values[11] == 77 && counts[11] == 77);
+    CHECK(dkap_linear_steps(&h, 20, values, 3, counts, 12, &done) == DKAP_OK && done == 3 && values[3] == 39);
+    CHECK(dkap_linear_steps(&h, 0, values, 12, counts, 12, &done) == DKAP_E_INVALID_STEP && done == 0);
+    CHECK(dkap_log_steps(&h, 10, 2, values, 12, counts, 12, &done) == DKAP_OK && done == 5);
+    CHECK(memcmp(values, log_values, sizeof log_values) == 0 && memcmp(counts, log_counts, sizeof log_counts) == 0);
+    CHECK(dkap_log_steps(&h, 10, 1, values, 12, counts, 12, &done) == DKAP_E_INVALID_STEP);
+    CHECK(dkap_log_steps(&h, 0, 2, values, 12, counts, 12, &done) == DKAP_E_INVALID_STEP);
+    CHECK(dkap_quantile_steps(&h, 1, values, 12, counts, 12, &done) == DKAP_OK && done == 9);
+    CHECK(memcmp(values, quantile_values, sizeof quantile_values) == 0);
+    CHECK(memcmp(counts, quantile_counts, sizeof quantile_counts) == 0);
+    CHECK(dkap_quantile_steps(&h, 0, values, 12, counts, 12, &done) == DKAP_E_INVALID_STEP);
+    dkap_close(&h);
+}
+
 static void quantiles(void)
 {
     static const uint64_t nums[] = {500, 0, 999, 1000, 5000, 1};
@@ -387,7 +422,7 @@ static void texts(void)
 {
     dkap_status status;
 
-    for (status = 0; status <= DKAP_E_NOT_UTF8; status++)
+    for (status = 0; status <= DKAP_E_INVALID_STEP; status++)
         CHECK(strlen(dkap_strerror(status)) > 5 && strcmp(dkap_strerror(status), "unknown status") != 0);
     CHECK(strcmp(dkap_strerror(status), "unknown status") == 0);
     CHECK(strcmp(dkap_strerror(UINT32_MAX), "unknown status") == 0);
@@ -409,6 +444,7 @@ int main(void)
     written_log();
     classes();
     quantiles();
+    steps();
     texts();
     return checked();
 }

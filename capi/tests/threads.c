@@ -14,7 +14,7 @@ enum { SAMPLES = 10000, ARENA = 1 << 24 };
 /* What a reader finds, in numbers. */
 struct found {
     uint64_t len, min, min_nz, max, p50, p99, at, between, sum, below, bins, values[3];
-    size_t needed, packed, line;
+    size_t needed, packed, line, steps;
     bool equal;
 };
 
@@ -24,6 +24,7 @@ static struct found read_all(const struct dkap_histogram *h, const struct dkap_h
     struct dkap_class c = {0};
     struct dkap_fraction fraction;
     static const uint64_t nums[] = {90, 50, 99};
+    uint64_t counts[3];
     struct dkap_shape shape;
     uint8_t buf[16], line[16];
 
@@ -42,6 +43,9 @@ static struct found read_all(const struct dkap_histogram *h, const struct dkap_h
     CHECK(dkap_encode_compressed(h, buf, sizeof buf, &f.packed) == DKAP_E_BUFFER_TOO_SMALL);
     CHECK(dkap_log_line(h, 1, 0, 1, 0, buf, 0, line, sizeof line, &f.line) == DKAP_E_BUFFER_TOO_SMALL);
     CHECK(dkap_values_at_quantiles(h, nums, 3, 100, f.values, 3) == DKAP_OK && dkap_shape_of(h, &shape) == DKAP_OK);
+    CHECK(dkap_linear_steps(h, 1000, f.values, 3, counts, 3, &f.steps) == DKAP_OK);
+    CHECK(dkap_quantile_steps(h, 2, f.values, 3, counts, 3, &f.steps) == DKAP_OK);
+    CHECK(dkap_log_steps(h, 1000, 2, f.values, 3, counts, 3, &f.steps) == DKAP_OK);
     f.bins = shape.bins + dkap_highest_equivalent(h, 12345) + dkap_median_equivalent(h, 77777);
     while (f.sum % 7 != 0 && dkap_next_class(h, &c))
         f.sum += c.count * c.lowest;

@@ -4,5 +4,6 @@ mod Creating
 mod Forms
 mod LogSteps
 mod HeaderSteps
+mod StepLaws
 pub mod Runs
 pub mod Values

@@ -10,4 +10,5 @@ pub mod Logs
 pub mod Owned
 pub mod Runs
 pub mod Status
+pub mod Steps
 pub mod Times

@@ -23,4 +23,5 @@ mod queries;
 mod raw_parts;
 mod recording;
 mod status;
+mod steps;
 mod v2_bytes;

@@ -67,6 +67,8 @@ pub(crate) const INVALID_STREAM: u32 = 28;
 
 pub(crate) const NOT_UTF8: u32 = 29;
 
+pub(crate) const INVALID_STEP: u32 = 30;
+
 pub(crate) fn of_creation_error(error: &CreationError) -> u32
     ensures { result ≡ creation_status error.now }
 {
