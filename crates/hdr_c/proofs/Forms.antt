@@ -14,7 +14,7 @@ use Rattle.hdr_c.specs.Decoding.{IsConvertStatus, IsDecoded, IsDecodeStatus, IsH
 use Rattle.hdr_c.specs.Status.{decode_status}
 use Rattle.hdr_c.proofs.Bounds.{has_bounds}
 
-pub memory_status : (limit taken : ℕ) (bytes : List ℕ) (h : Plain) → IsDecoded limit bytes h taken → IsDecodeStatus bytes 2
+pub memory_status : (limit taken : ℕ) (bytes : List ℕ) (h : Plain) → IsDecoded limit bytes h taken → IsDecodeStatus limit bytes 2
 memory_status limit taken bytes h (within, inl read) = inl (OutOfMemory, refl, tt, has_bounds (2 ^ 64 - 1) bytes _ read.read)
 memory_status limit taken bytes h (within, inr other) = inr (inl (other.0, inl (converting.OutOfMemory, refl)))
 

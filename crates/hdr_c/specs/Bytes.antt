@@ -40,4 +40,4 @@ EncodesCompressed status (Some h) old new needed =
 abbrev pub Decodes : ℕ → ℕ → List ℕ → ℕ → Option Plain → Option Plain → Type 0
 Decodes status limit bytes taken old new =
     ((status ≡ 0) × ((h : Plain) × (new ≡ Some h) × IsDecoded limit bytes h taken))
-    ⊎ (IsDecodeStatus bytes status × (taken ≡ 0) × (new ≡ old))
+    ⊎ (IsDecodeStatus limit bytes status × (taken ≡ 0) × (new ≡ old))

@@ -1,5 +1,7 @@
 -- Histograms of bytes in any form: of versions 0 to 2, compressed or not.
-use Rattle.std.specs.Prelude.{◌≡◌, ◌⊎◌, ◌-◌, ◌^◌, ◌≤◌, ℕ, List, Some, None, Err, length}
+use Rattle.std.specs.Prelude.{◌≡◌, ◌⊎◌, ◌-◌, ◌^◌, ◌<◌, ◌≤◌, ℕ, List, Some, None, Err, length, drop, slice_index}
+use Rattle.byteorder.specs.Endian.{big_number}
+use Rattle.hdr_base.specs.Classes.{bin_of, resolution_of}
 use Rattle.hdr_model.specs.Plain.{Plain}
 use Rattle.hdr_log.specs.Texts.{base64_bytes}
 use Rattle.hdr_convert.specs.Converted.{IsV2Of}
@@ -27,19 +29,30 @@ IsDecoded limit bytes h taken =
     (length h.counts ≤ limit)
     × (IsReadAs (2 ^ 64 - 1) bytes h taken ⊎ (IsNoV2 bytes × IsHistogramIn bytes h × (taken ≡ length bytes)))
 
--- the status of an error of V2 bytes, or of bytes in another form, or 27: the histogram has more bins than the limit
-abbrev pub IsDecodeStatus : List ℕ → ℕ → Type 0
-IsDecodeStatus bytes status =
+-- the bounds in a header of V2 bytes need more bins than the limit: the highest value has one past it
+unfoldable pub HeaderExceeds : ℕ → List ℕ → Type 0
+HeaderExceeds limit bytes =
+    limit ≤ bin_of (resolution_of (big_number 8 (drop 16 bytes)) (slice_index bytes 15)) (big_number 8 (drop 24 bytes))
+
+-- the bytes are those of a histogram with more bins than the limit
+abbrev pub HasMoreBins : ℕ → List ℕ → Type 0
+HasMoreBins limit bytes =
+    (h : Plain) × (limit < length h.counts)
+    × (((taken : ℕ) × IsReadAs (2 ^ 64 - 1) bytes h taken) ⊎ (IsNoV2 bytes × IsHistogramIn bytes h))
+
+-- the status of an error of V2 bytes, or of bytes in another form, or 27: there are more bins than the limit
+abbrev pub IsDecodeStatus : ℕ → List ℕ → ℕ → Type 0
+IsDecodeStatus limit bytes status =
     ((e : DeserializeError) × (status ≡ decode_status e) × FailsBy (defect_of_error e) (v2_at (2 ^ 64 - 1) bytes) × RunsOutOnly (HasBounds bytes) e)
     ⊎ (IsNoV2 bytes × IsConvertStatus status)
-    ⊎ (status ≡ 27)
+    ⊎ ((status ≡ 27) × (HeaderExceeds limit bytes ⊎ HasMoreBins limit bytes))
 
 -- a field is the Base64 of a histogram's bytes in any form, whatever follows V2 bytes
 abbrev pub IsFieldHistogram : ℕ → List ℕ → Plain → Type 0
 IsFieldHistogram limit field h = (bytes : List ℕ) × (base64_bytes field ≡ Some bytes) × ((taken : ℕ) × IsDecoded limit bytes h taken)
 
 -- the status of a field that is not Base64, or whose bytes are not decoded, or 2: memory ran out
-abbrev pub IsFieldStatus : List ℕ → ℕ → Type 0
-IsFieldStatus field status =
+abbrev pub IsFieldStatus : ℕ → List ℕ → ℕ → Type 0
+IsFieldStatus limit field status =
     ((status ≡ 25) × (base64_bytes field ≡ None)) ⊎ (status ≡ 2)
-    ⊎ ((bytes : List ℕ) × (base64_bytes field ≡ Some bytes) × IsDecodeStatus bytes status)
+    ⊎ ((bytes : List ℕ) × (base64_bytes field ≡ Some bytes) × IsDecodeStatus limit bytes status)

@@ -65,7 +65,7 @@ IsNext status limit (Invalid at) old new before after = (status ≡ 24) × (new 
 IsNext status limit (Line at next base found) old new before after =
     IsInterval at next base found new
     × (((status ≡ 0) × ((h : Plain) × (after ≡ Some h) × IsFieldHistogram limit found.field h))
-    ⊎ (IsFieldStatus found.field status × (after ≡ before)))
+    ⊎ (IsFieldStatus limit found.field status × (after ≡ before)))
 
 -- the next interval of a log is read
 abbrev pub ReadsNext : ℕ → List ℕ → ℕ → c.NextInterval → c.NextInterval → Option Plain → Option Plain → Type 0

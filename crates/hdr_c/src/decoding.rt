@@ -1,10 +1,10 @@
 //! Histograms of bytes in any form: of versions 0 to 2, compressed or not.
 
-ghost use Rattle.std.specs.Prelude.{◌≡◌, ◌-◌, ◌^◌, ◌≤◌, ℕ, length, IfSome, MatchResult};
+ghost use Rattle.std.specs.Prelude.{◌≡◌, ◌-◌, ◌^◌, ◌<◌, ◌≤◌, ℕ, length, IsTrue, MatchOption, MatchResult};
 ghost use Rattle.hdrhistogram.specs.Defects.{defect_of_error, FailsBy, RunsOutOnly};
 ghost use Rattle.hdrhistogram.specs.V2Read.{HasBounds, IsReadAs, v2_at};
 ghost use Rattle.hdrhistogram.specs.declared.serialization.errors.DeserializeError.{DeserializeError};
-ghost use Rattle.hdr_c.specs.Decoding.{IsConvertStatus, IsDecodeStatus, IsDecoded, IsFieldHistogram, IsFieldStatus, IsHistogramIn};
+ghost use Rattle.hdr_c.specs.Decoding.{HeaderExceeds, IsConvertStatus, IsDecodeStatus, IsDecoded, IsFieldHistogram, IsFieldStatus, IsHistogramIn, IsNoV2};
 ghost use Rattle.hdr_c.specs.Status.{decode_status};
 
 use crate::status::{NOT_BASE64, OUT_OF_MEMORY, TOO_MANY_BINS, of_convert_error, of_decode_error};
@@ -24,7 +24,7 @@ pub(crate) fn decoded(
     limit: u64,
 ) -> Result<(Histogram<u64>, usize), u32>
     ensures { MatchResult result (λ found. IsDecoded limit bytes.now found.0 found.1)
-        (IsDecodeStatus bytes.now) }
+        (IsDecodeStatus limit bytes.now) }
 {
     if exceeds(bytes, limit) {
         return Err(TOO_MANY_BINS);
@@ -40,7 +40,8 @@ pub(crate) fn decoded(
 
 /// Returns a histogram, unless it has more than `limit` bins.
 fn limited(histogram: Histogram<u64>, limit: u64) -> Option<Histogram<u64>>
-    ensures { IfSome result (λ h. (h ≡ histogram) × (length h.counts ≤ limit)) }
+    ensures { MatchOption result (limit < length histogram.counts)
+        (λ h. (h ≡ histogram) × (length h.counts ≤ limit)) }
 {
     if histogram.distinct_values() as u64 > limit {
         return None;
@@ -58,12 +59,21 @@ fn other_form(
     requires defect { FailsBy (defect_of_error error.now) (v2_at (2 ^ 64 - 1) bytes.now) }
     requires memory { RunsOutOnly (HasBounds bytes.now) error.now }
     ensures { MatchResult result (λ found. IsDecoded limit bytes.now found.0 found.1)
-        (IsDecodeStatus bytes.now) }
+        (IsDecodeStatus limit bytes.now) }
 {
     match error {
-        DeserializeError::InvalidCookie | DeserializeError::UnsupportedFeature => {}
-        _ => return Err(of_decode_error(error)),
+        DeserializeError::InvalidCookie => from_other_form(alloc, bytes, limit),
+        DeserializeError::UnsupportedFeature => from_other_form(alloc, bytes, limit),
+        _ => Err(of_decode_error(error)),
     }
+}
+
+/// Returns the histogram of bytes that do not decode as V2 bytes.
+fn from_other_form(alloc: Global, bytes: &[u8], limit: u64) -> Result<(Histogram<u64>, usize), u32>
+    requires { IsNoV2 bytes.now }
+    ensures { MatchResult result (λ found. IsDecoded limit bytes.now found.0 found.1)
+        (IsDecodeStatus limit bytes.now) }
+{
     match converted(alloc, bytes) {
         Ok(histogram) => match limited(histogram, limit) {
             Some(histogram) => Ok((histogram, bytes.len())),
@@ -99,7 +109,10 @@ fn decoded_v2(alloc: Global, v2: &[u8]) -> Result<Histogram<u64>, u32>
 
 /// Whether the bounds in the header of V2 bytes need more than `limit` bins. A header of another form
 /// is not read here.
-fn exceeds(bytes: &[u8], limit: u64) -> bool {
+#[tactic(auto, unfolding(crate::specs::Decoding::HeaderExceeds))]
+fn exceeds(bytes: &[u8], limit: u64) -> bool
+    ensures { IsTrue result → HeaderExceeds limit bytes.now }
+{
     if bytes.len() < 32 || !bytes.starts_with(&[0x1c, 0x84, 0x93, 0x13]) {
         return false;
     }
@@ -112,7 +125,7 @@ fn exceeds(bytes: &[u8], limit: u64) -> bool {
 
 /// Returns the histogram of an interval's field, in any form. An error is its status.
 pub(crate) fn field_histogram(alloc: Global, field: &str, limit: u64) -> Result<Histogram<u64>, u32>
-    ensures { MatchResult result (IsFieldHistogram limit field.now) (IsFieldStatus field.now) }
+    ensures { MatchResult result (IsFieldHistogram limit field.now) (IsFieldStatus limit field.now) }
 {
     match field_bytes(alloc, field) {
         Ok(bytes) => Ok(decoded(alloc, &bytes, limit)?.0),
