@@ -1,6 +1,6 @@
 # make: proves and builds the programs, target/hdr and target/hdrstat. make check: the gate.
 # make install: installs them below PREFIX, with manual pages, completions and the library for C. make dist: an archive of the
-# same, in dist. make install-c: installs the library for C alone.
+# same and of Python's wheel, in dist. make install-c: installs the library for C alone.
 # make test: all rows and cases; make test ROW=NAME or CASE=NAME: one of them. docs/TESTING.md says more.
 # make edits: all wrong bodies, which the prover has to refuse: those of crates/*/edits and of crates/*/further-edits. The gate
 # tries a part of the first (docs/TESTING.md).
@@ -29,19 +29,20 @@ install: all install-c
 
 install-c:
 	capi/build.sh
-	for header in hdr.h hdr_check.h; do \
+	for header in dkap.h dkap_check.h; do \
 		install -Dm644 capi/$$header "$(TO)/include/$$header" || exit; \
 	done
-	install -Dm644 capi/target/libhdr.a "$(TO)/lib/libhdr.a"
-	install -Dm755 capi/target/libhdr.so.1 "$(TO)/lib/libhdr.so.1"
-	ln -sf libhdr.so.1 "$(TO)/lib/libhdr.so"
-	install -Dm644 capi/target/hdr.pc "$(TO)/lib/pkgconfig/hdr.pc"
+	install -Dm644 capi/target/libdkap.a "$(TO)/lib/libdkap.a"
+	install -Dm755 capi/target/libdkap.so.1 "$(TO)/lib/libdkap.so.1"
+	ln -sf libdkap.so.1 "$(TO)/lib/libdkap.so"
+	install -Dm644 capi/target/dkap.pc "$(TO)/lib/pkgconfig/dkap.pc"
 
 dist: all
 	rm -rf target/$(DIST)
 	$(MAKE) --no-print-directory install DESTDIR= PREFIX=target/$(DIST)
 	install -m644 LICENSE-MIT LICENSE-APACHE target/$(DIST)
 	sed 's/VERSION/$(VERSION)/' tools/dist-readme >target/$(DIST)/README
+	cd python && python3 -c 'import backend, sys; backend.build_wheel(sys.argv[1])' ../target/$(DIST)
 	mkdir -p dist
 	tar -C target --sort=name --owner=0 --group=0 --numeric-owner -czf dist/$(DIST).tar.gz $(DIST)
 	rm -rf target/$(DIST)

@@ -1,5 +1,5 @@
 #!/bin/sh
-# Makes the library for C in capi/target: libhdr.a, libhdr.so.1 with its link libhdr.so, and hdr.pc. Only the calls of hdr.h are
+# Makes the library for C in capi/target: libdkap.a, libdkap.so.1 with its link libdkap.so, and dkap.pc. Only the calls of dkap.h are
 # visible in them. The crate hdr_c is proved and built first, if its archive is not newer than its sources.
 set -eu
 cd "$(dirname "$0")/.."
@@ -43,15 +43,15 @@ if ! is_fresh; then
     touch "$proved"
 fi
 
-# One object of the proved code, the kit's calls of malloc, realloc and free, and hdr.c.
-sed -nE 's/^(hdr_status|uint64_t|bool|void|const char) \*?(hdr_[a-z0-9_]+)\(.*/\2/p' capi/hdr.h >"$out/symbols"
-"${CC:-cc}" -std=c99 -O2 -fPIC -Wall -Wextra -pedantic -Werror -DHDR_VERSION="\"$version\"" \
-    -c -o "$out/hdr.o" "${HDR_C:-capi/hdr.c}" -Icapi
-ld -r -o "$out/libhdr.o" "$out/hdr.o" --whole-archive "$proved" --no-whole-archive "$kit/c/liblibc_c.a"
-objcopy --keep-global-symbols="$out/symbols" "$out/libhdr.o"
+# One object of the proved code, the kit's calls of malloc, realloc and free, and dkap.c.
+sed -nE 's/^(dkap_status|uint64_t|bool|void|const char) \*?(dkap_[a-z0-9_]+)\(.*/\2/p' capi/dkap.h >"$out/symbols"
+"${CC:-cc}" -std=c99 -O2 -fPIC -Wall -Wextra -pedantic -Werror -DDKAP_VERSION="\"$version\"" \
+    -c -o "$out/dkap.o" "${DKAP_C:-capi/dkap.c}" -Icapi
+ld -r -o "$out/libdkap.o" "$out/dkap.o" --whole-archive "$proved" --no-whole-archive "$kit/c/liblibc_c.a"
+objcopy --keep-global-symbols="$out/symbols" "$out/libdkap.o"
 
-rm -f "$out/libhdr.a"
-ar rcsD "$out/libhdr.a" "$out/libhdr.o"
-"${CC:-cc}" -shared -Wl,-soname,libhdr.so.1 -Wl,-z,defs -Wl,-z,now -o "$out/libhdr.so.1" "$out/libhdr.o"
-ln -sf libhdr.so.1 "$out/libhdr.so"
-sed "s|@VERSION@|$version|" capi/hdr.pc.in >"$out/hdr.pc"
+rm -f "$out/libdkap.a"
+ar rcsD "$out/libdkap.a" "$out/libdkap.o"
+"${CC:-cc}" -shared -Wl,-soname,libdkap.so.1 -Wl,-z,defs -Wl,-z,now -o "$out/libdkap.so.1" "$out/libdkap.o"
+ln -sf libdkap.so.1 "$out/libdkap.so"
+sed "s|@VERSION@|$version|" capi/dkap.pc.in >"$out/dkap.pc"

@@ -1,6 +1,6 @@
 """Makes the wheel for pip with the standard library alone, so that no build tool has to be downloaded.
 
-If capi/build.sh has made libhdr.so.1, the wheel contains it. Otherwise the package finds the installed one.
+The wheel contains the library that capi/build.sh has made, and without it there is none.
 """
 
 from __future__ import annotations
@@ -12,13 +12,14 @@ from hashlib import sha256
 from pathlib import Path
 
 HERE = Path(__file__).resolve().parent
-LIBRARY = HERE.parent / "capi" / "target" / "libhdr.so.1"
+LIBRARY = HERE.parent / "capi" / "target" / "libdkap.so.1"
+LICENSES = ("LICENSE-MIT", "LICENSE-APACHE")
 
 
 def _project(key: str) -> str:
     """Returns a text of the table [project] of pyproject.toml."""
     text = (HERE / "pyproject.toml").read_text(encoding="utf-8")
-    return re.search(rf'^{key} = "(.*)"$', text, re.MULTILINE)[1]
+    return re.search(rf'^{key} = (?:\[{{ name = )?"(.*?)"', text, re.MULTILINE)[1]
 
 
 def _record(name: str, content: bytes) -> str:
@@ -26,18 +27,34 @@ def _record(name: str, content: bytes) -> str:
     return f"{name},sha256={digest},{len(content)}\n"
 
 
-def build_wheel(wheel_directory: str, config_settings: object = None, metadata_directory: object = None) -> str:
-    """Makes the wheel (PEP 517), and returns the name of its file."""
+def _library() -> bytes:
+    if not LIBRARY.exists():
+        raise SystemExit(f"{LIBRARY} is missing: run capi/build.sh first, which proves and builds it with the Rattle kit")
+    return LIBRARY.read_bytes()
+
+
+def _tag(library: bytes) -> str:
+    """The tag of the platform: the greatest version of glibc of which the library needs a symbol, 2.17 at least."""
+    needed = [int(minor) for minor in re.findall(rb"GLIBC_2\.(\d+)", library)]
+    return f"py3-none-manylinux_2_{max([17, *needed])}_x86_64"
+
+
+def _metadata() -> bytes:
+    keys = {"Name": "name", "Version": "version", "Summary": "description", "Author": "authors", "License": "license"}
+    fields = {"Metadata-Version": "2.1", **{field: _project(key) for field, key in keys.items()}}
+    fields["Requires-Python"] = _project("requires-python")
+    lines = [f"{key}: {text}\n" for key, text in fields.items()] + [f"License-File: {name}\n" for name in LICENSES]
+    lines += ["Description-Content-Type: text/markdown\n", "\n", (HERE / _project("readme")).read_text(encoding="utf-8")]
+    return "".join(lines).encode()
+
+
+def _write(wheel_directory: str, files: dict[str, bytes], tag: str) -> str:
+    """Writes the wheel of these files, and returns its name."""
     name, version = _project("name"), _project("version")
-    tag = "py3-none-linux_x86_64" if LIBRARY.exists() else "py3-none-any"
     info = f"{name}-{version}.dist-info"
-    files = {f"{name}/{path.name}": path.read_bytes() for path in sorted((HERE / name).glob("*.py"))}
-    files[f"{name}/py.typed"] = b""
-    if LIBRARY.exists():
-        files[f"{name}/{LIBRARY.name}"] = LIBRARY.read_bytes()
-    metadata = {"Metadata-Version": "2.1", "Name": name, "Version": version, "Summary": _project("description")}
-    metadata["Requires-Python"] = _project("requires-python")
-    files[f"{info}/METADATA"] = "".join(f"{key}: {text}\n" for key, text in metadata.items()).encode()
+    files[f"{info}/METADATA"] = _metadata()
+    for license_name in LICENSES:
+        files[f"{info}/licenses/{license_name}"] = (HERE.parent / license_name).read_bytes()
     files[f"{info}/WHEEL"] = f"Wheel-Version: 1.0\nGenerator: backend\nRoot-Is-Purelib: false\nTag: {tag}\n".encode()
     record = "".join(_record(path, content) for path, content in files.items()) + f"{info}/RECORD,,\n"
     wheel = f"{name}-{version}-{tag}.whl"
@@ -46,3 +63,18 @@ def build_wheel(wheel_directory: str, config_settings: object = None, metadata_d
             archive.writestr(path, content)
         archive.writestr(f"{info}/RECORD", record)
     return wheel
+
+
+def build_wheel(wheel_directory: str, config_settings: object = None, metadata_directory: object = None) -> str:
+    """Makes the wheel (PEP 517), and returns the name of its file."""
+    library, name = _library(), _project("name")
+    files = {f"{name}/{path.name}": path.read_bytes() for path in sorted((HERE / name).glob("*.py"))}
+    files[f"{name}/py.typed"] = b""
+    files[f"{name}/{LIBRARY.name}"] = library
+    return _write(wheel_directory, files, _tag(library))
+
+
+def build_editable(wheel_directory: str, config_settings: object = None, metadata_directory: object = None) -> str:
+    """Makes a wheel that names this folder (PEP 660), for pip install -e, and returns the name of its file."""
+    library, name = _library(), _project("name")
+    return _write(wheel_directory, {f"__editable__.{name}.pth": f"{HERE}\n".encode()}, _tag(library))

@@ -1,6 +1,6 @@
 // A class whose destructor frees the histogram. It can be moved, and not copied by accident.
-//     c++ -std=c++17 raii.cpp $(pkg-config --cflags --libs hdr) -o raii
-#include <hdr.h>
+//     c++ -std=c++17 raii.cpp $(pkg-config --cflags --libs dkap) -o raii
+#include <dkap.h>
 
 #include <iostream>
 #include <stdexcept>
@@ -8,27 +8,27 @@
 
 class Histogram {
 public:
-    explicit Histogram(std::uint8_t digits) { check(hdr_init_auto(&handle, digits)); }
-    Histogram(Histogram &&other) noexcept : handle(std::exchange(other.handle, HDR_CLOSED)) {}
+    explicit Histogram(std::uint8_t digits) { check(dkap_init_auto(&handle, digits)); }
+    Histogram(Histogram &&other) noexcept : handle(std::exchange(other.handle, DKAP_CLOSED)) {}
     Histogram(const Histogram &) = delete;
     Histogram &operator=(const Histogram &) = delete;
-    ~Histogram() { hdr_close(&handle); }
+    ~Histogram() { dkap_close(&handle); }
 
-    void record(std::uint64_t value) { check(hdr_record(&handle, value)); }
-    std::uint64_t quantile(std::uint64_t num, std::uint64_t den)
+    void record(std::uint64_t value) { check(dkap_record(&handle, value)); }
+    std::uint64_t quantile(std::uint64_t num, std::uint64_t den) const
     {
         std::uint64_t value = 0;
-        check(hdr_value_at_quantile(&handle, num, den, &value));
+        check(dkap_value_at_quantile(&handle, num, den, &value));
         return value;
     }
 
 private:
-    static void check(hdr_status status)
+    static void check(dkap_status status)
     {
-        if (status != HDR_OK) throw std::runtime_error(hdr_strerror(status));
+        if (status != DKAP_OK) throw std::runtime_error(dkap_strerror(status));
     }
 
-    hdr_histogram handle = HDR_CLOSED;
+    dkap_histogram handle = DKAP_CLOSED;
 };
 
 int main()

@@ -7,7 +7,7 @@
 #include <stdlib.h>
 #include <string.h>
 
-#include "hdr.h"
+#include "dkap.h"
 
 static int failures = 0;
 
@@ -39,13 +39,13 @@ static inline uint8_t *block(size_t length)
 }
 
 /* The V2 bytes of a histogram in a block of their length. */
-static inline uint8_t *encoded(struct hdr_histogram *h, size_t *length)
+static inline uint8_t *encoded(const struct dkap_histogram *h, size_t *length)
 {
     uint8_t none = 0, *bytes;
 
-    CHECK(hdr_encode(h, &none, 0, length) == HDR_E_BUFFER_TOO_SMALL);
+    CHECK(dkap_encode(h, &none, 0, length) == DKAP_E_BUFFER_TOO_SMALL);
     bytes = block(*length);
-    CHECK(hdr_encode(h, bytes, *length, length) == HDR_OK);
+    CHECK(dkap_encode(h, bytes, *length, length) == DKAP_OK);
     return bytes;
 }
 

@@ -1,10 +1,13 @@
 /*
- * V2 bytes with random damage are decoded, or an error has a status of hdr_decode and changes nothing. The same holds
- * for interval logs. usage: damaged NUMBER SEED
+ * V2 bytes with random damage, compressed or not, are decoded, or an error has a status of dkap_decode and changes
+ * nothing. The same holds for interval logs. usage: damaged NUMBER SEED
  */
 #include "check.h"
 
 static uint64_t state;
+
+/* The limit of bins: a damaged header is an error before it takes much memory. */
+enum { MOST_BINS = 1 << 16 };
 
 /* A number below `end`, by xorshift64*. */
 static uint64_t below(uint64_t end)
@@ -21,14 +24,14 @@ struct bytes {
 };
 
 /* A random histogram of a few counts; few of them need many bins. */
-static void fill(struct hdr_histogram *h)
+static void fill(struct dkap_histogram *h)
 {
     uint8_t sigfig = (uint8_t)below(3);
     uint64_t low = UINT64_C(1) << below(12), samples = 1 + below(30);
 
-    CHECK(hdr_init(h, low, low << (1 + below(20)), sigfig) == HDR_OK);
+    CHECK(dkap_init(h, low, low << (1 + below(20)), sigfig) == DKAP_OK);
     while (samples-- > 0)
-        CHECK(hdr_record_saturating(h, below(UINT64_C(1) << (1 + below(40))), 1 + below(1000)) == HDR_OK);
+        CHECK(dkap_record_saturating(h, below(UINT64_C(1) << (1 + below(40))), 1 + below(1000)) == DKAP_OK);
 }
 
 static void damage_once(struct bytes *b)
@@ -71,63 +74,67 @@ static void damage(struct bytes *b)
         damage_once(b);
 }
 
-static bool is_decode_status(hdr_status status)
+static bool is_decode_status(dkap_status status)
 {
-    return status == HDR_OK || (status >= HDR_E_BYTES_END_EARLY && status <= HDR_E_USIZE_TOO_SMALL);
+    return status == DKAP_OK || (status >= DKAP_E_BYTES_END_EARLY && status <= DKAP_E_USIZE_TOO_SMALL) ||
+           status == DKAP_E_TOO_MANY_BINS || status == DKAP_E_INVALID_STREAM;
 }
 
-static uint64_t seen[HDR_E_INVALID_ARGUMENT + 1];
+static uint64_t seen[DKAP_E_INVALID_STREAM + 1];
 
 /* Decodes damaged bytes, from a block of their length, into a handle with a histogram. */
-static void decode_damaged(struct hdr_histogram *kept)
+static void decode_damaged(struct dkap_histogram *kept)
 {
-    struct hdr_histogram h = HDR_CLOSED;
+    struct dkap_histogram h = DKAP_CLOSED;
     struct bytes damaged;
     size_t taken = 0;
-    hdr_status status;
+    dkap_status status;
     uint8_t *block_of_bytes;
 
     fill(&h);
-    CHECK(hdr_encode(&h, damaged.at, sizeof damaged.at, &damaged.length) == HDR_OK);
+    if (below(2) == 0)
+        CHECK(dkap_encode(&h, damaged.at, sizeof damaged.at, &damaged.length) == DKAP_OK);
+    else
+        CHECK(dkap_encode_compressed(&h, damaged.at, sizeof damaged.at, &damaged.length) == DKAP_OK);
     damage(&damaged);
     block_of_bytes = block(damaged.length);
     memcpy(block_of_bytes, damaged.at, damaged.length);
 
-    CHECK(hdr_copy(&h, kept) == HDR_OK);
-    status = hdr_decode(&h, block_of_bytes, damaged.length, &taken);
+    CHECK(dkap_copy(&h, kept) == DKAP_OK);
+    status = dkap_decode(&h, block_of_bytes, damaged.length, MOST_BINS, &taken);
     CHECK(is_decode_status(status));
-    if (status == HDR_OK)
-        CHECK(taken >= 40 && taken <= damaged.length);
+    if (status == DKAP_OK)
+        CHECK(taken >= 16 && taken <= damaged.length);
     else
-        CHECK(taken == 0 && hdr_equal(&h, kept));
+        CHECK(taken == 0 && dkap_equal(&h, kept));
     seen[status]++;
     free(block_of_bytes);
-    hdr_close(&h);
+    dkap_close(&h);
 }
 
 static void append_line(struct bytes *log)
 {
-    struct hdr_histogram h = HDR_CLOSED;
+    struct dkap_histogram h = DKAP_CLOSED;
     size_t length = 0, tag_length = below(4);
-    hdr_status status;
+    dkap_status status;
 
     fill(&h);
-    status = hdr_log_line(&h, below(100), (uint32_t)below(1000000000), below(100), (uint32_t)below(1000000000),
+    status = dkap_log_line(&h, below(100), (uint32_t)below(1000000000), below(100), (uint32_t)below(1000000000),
                           (const uint8_t *)"abc", tag_length, log->at + log->length, sizeof log->at - log->length,
                           &length);
-    CHECK(status == HDR_OK || status == HDR_E_BUFFER_TOO_SMALL);
-    if (status == HDR_OK)
+    CHECK(status == DKAP_OK || status == DKAP_E_BUFFER_TOO_SMALL);
+    if (status == DKAP_OK)
         log->length += length;
-    hdr_close(&h);
+    dkap_close(&h);
 }
 
 /* Reads a damaged log of three lines to its end or its first invalid line, from a block of its length. */
-static void read_damaged(struct hdr_histogram *kept)
+static void read_damaged(struct dkap_histogram *kept)
 {
-    struct hdr_histogram h = HDR_CLOSED;
-    struct hdr_interval interval = {0};
+    struct dkap_histogram h = DKAP_CLOSED;
+    struct dkap_interval interval = {0};
     struct bytes log = {.length = 0};
-    hdr_status status = HDR_OK;
+    dkap_status status = DKAP_OK;
     uint8_t *block_of_bytes;
     int line;
 
@@ -136,26 +143,26 @@ static void read_damaged(struct hdr_histogram *kept)
     damage(&log);
     block_of_bytes = block(log.length);
     memcpy(block_of_bytes, log.at, log.length);
-    while (status != HDR_LOG_END && status != HDR_E_INVALID_LINE) {
+    while (status != DKAP_LOG_END && status != DKAP_E_INVALID_LINE) {
         size_t from = interval.next;
 
-        CHECK(hdr_copy(&h, kept) == HDR_OK);
-        status = hdr_log_next(&h, block_of_bytes, log.length, &interval);
-        CHECK(is_decode_status(status) || (status >= HDR_LOG_END && status <= HDR_E_NOT_BASE64));
+        CHECK(dkap_copy(&h, kept) == DKAP_OK);
+        status = dkap_log_next(&h, block_of_bytes, log.length, MOST_BINS, &interval);
+        CHECK(is_decode_status(status) || (status >= DKAP_LOG_END && status <= DKAP_E_NOT_BASE64));
         CHECK(interval.next <= log.length);
-        if (status != HDR_LOG_END && status != HDR_E_INVALID_LINE)
+        if (status != DKAP_LOG_END && status != DKAP_E_INVALID_LINE)
             CHECK(interval.next > from && interval.tag_at + interval.tag_length <= interval.next);
-        if (status != HDR_OK)
-            CHECK(hdr_equal(&h, kept));
+        if (status != DKAP_OK)
+            CHECK(dkap_equal(&h, kept));
         seen[status]++;
     }
     free(block_of_bytes);
-    hdr_close(&h);
+    dkap_close(&h);
 }
 
 static void print_seen(const char *what, uint64_t number)
 {
-    hdr_status status;
+    dkap_status status;
 
     printf("%" PRIu64 " damaged %s:", number, what);
     for (status = 0; status < sizeof seen / sizeof seen[0]; status++)
@@ -167,17 +174,17 @@ static void print_seen(const char *what, uint64_t number)
 
 int main(int argc, char **argv)
 {
-    struct hdr_histogram kept = HDR_CLOSED;
+    struct dkap_histogram kept = DKAP_CLOSED;
     uint64_t number = argc > 1 ? strtoull(argv[1], NULL, 10) : 1000, i;
 
     state = argc > 2 ? strtoull(argv[2], NULL, 10) : 1;
-    CHECK(hdr_init(&kept, 1, 100, 1) == HDR_OK && hdr_record(&kept, 7) == HDR_OK);
+    CHECK(dkap_init(&kept, 1, 100, 1) == DKAP_OK && dkap_record(&kept, 7) == DKAP_OK);
     for (i = 0; i < number; i++)
         decode_damaged(&kept);
     print_seen("V2 bytes", number);
     for (i = 0; i < number; i++)
         read_damaged(&kept);
     print_seen("logs", number);
-    hdr_close(&kept);
+    dkap_close(&kept);
     return checked();
 }

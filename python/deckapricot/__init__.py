@@ -1,4 +1,4 @@
-"""High dynamic range (HDR) histograms, over the C library libhdr.
+"""High dynamic range (HDR) histograms, over the C library libdkap.
 
     from deckapricot import Histogram
 
@@ -22,7 +22,7 @@ from .errors import (
     ValueOutOfRange,
 )
 from .histogram import Class, Histogram
-from .logs import Interval, LogWriter, read_log
+from .logs import HistogramLogReader, Interval, LogWriter, read_log
 
 __all__ = [
     "Class",
@@ -31,6 +31,7 @@ __all__ = [
     "DecodeError",
     "Histogram",
     "HistogramError",
+    "HistogramLogReader",
     "Interval",
     "InvalidBounds",
     "LogError",

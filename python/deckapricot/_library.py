@@ -1,4 +1,4 @@
-"""Loads libhdr, declares its calls, and raises exceptions for its statuses."""
+"""Loads libdkap, declares its calls, and raises exceptions for its statuses."""
 
 from __future__ import annotations
 
@@ -20,31 +20,32 @@ BUFFER_TOO_SMALL = 11
 TOO_MANY_SAMPLES = 13
 LOG_END = 23
 INVALID_LINE = 24
+TOO_MANY_BINS = 27
 
 _CLASSES: dict[int, type[errors.HistogramError]] = {
     1: errors.ClosedError,
     OUT_OF_RANGE: errors.ValueOutOfRange,
     **dict.fromkeys(range(4, 9), errors.InvalidBounds),
     **dict.fromkeys((9, 10), errors.CountError),
-    **dict.fromkeys(range(14, 20), errors.DecodeError),
-    **dict.fromkeys((21, 22, 24, 25), errors.LogError),
+    **dict.fromkeys((*range(14, 20), 27, 28), errors.DecodeError),
+    **dict.fromkeys((21, 22, 24, 25, 29), errors.LogError),
 }
 
 
 class Handle(ctypes.Structure):
-    """struct hdr_histogram: all bytes zero are a closed handle."""
+    """struct dkap_histogram: all bytes zero are a closed handle."""
 
     _fields_ = [("filled", c_bool), ("at", c_void_p)]
 
 
 class WideFraction(ctypes.Structure):
-    """struct hdr_fraction."""
+    """struct dkap_fraction."""
 
     _fields_ = [("num_low", c_uint64), ("num_high", c_uint64), ("den", c_uint64)]
 
 
 class Shape(ctypes.Structure):
-    """struct hdr_shape."""
+    """struct dkap_shape."""
 
     _fields_ = [
         ("low", c_uint64),
@@ -56,19 +57,19 @@ class Shape(ctypes.Structure):
 
 
 class ClassCursor(ctypes.Structure):
-    """struct hdr_class."""
+    """struct dkap_class."""
 
     _fields_ = [("next", c_size_t), ("lowest", c_uint64), ("highest", c_uint64), ("count", c_uint64)]
 
 
 class Time(ctypes.Structure):
-    """struct hdr_time."""
+    """struct dkap_time."""
 
     _fields_ = [("seconds", c_uint64), ("nanos", c_uint32)]
 
 
 class IntervalCursor(ctypes.Structure):
-    """struct hdr_interval."""
+    """struct dkap_interval."""
 
     _fields_ = [
         ("next", c_size_t),
@@ -79,6 +80,12 @@ class IntervalCursor(ctypes.Structure):
         ("tag_at", c_size_t),
         ("tag_length", c_size_t),
     ]
+
+
+class LogHeader(ctypes.Structure):
+    """struct dkap_log_header."""
+
+    _fields_ = [("start_time", Time), ("has_start_time", c_bool), ("unit_nanos", c_uint64)]
 
 
 _HANDLE = POINTER(Handle)
@@ -109,15 +116,28 @@ _CALLS: dict[str, tuple[Any, list[Any]]] = {
     "max": (c_uint64, []),
     "mean": (c_uint32, [POINTER(WideFraction)]),
     "value_at_quantile": (c_uint32, [c_uint64, c_uint64, POINTER(c_uint64)]),
+    "values_at_quantiles": (c_uint32, [c_void_p, c_size_t, c_uint64, c_void_p, c_size_t]),
     "quantile_below": (c_uint32, [c_uint64, POINTER(WideFraction)]),
     "count_at": (c_uint64, [c_uint64]),
     "count_between": (c_uint64, [c_uint64, c_uint64]),
-    "shape": (c_uint32, [POINTER(Shape)]),
+    "shape_of": (c_uint32, [POINTER(Shape)]),
     "next_class": (c_bool, [POINTER(ClassCursor)]),
+    "lowest_equivalent": (c_uint64, [c_uint64]),
+    "highest_equivalent": (c_uint64, [c_uint64]),
     "encode": (c_uint32, _BYTES),
-    "decode": (c_uint32, _BYTES),
+    "encode_compressed": (c_uint32, _BYTES),
+    "decode": (c_uint32, [c_void_p, c_size_t, c_uint64, _SIZE]),
     "log_line": (c_uint32, [c_uint64, c_uint32, c_uint64, c_uint32, c_void_p, c_size_t, *_BYTES]),
-    "log_next": (c_uint32, [c_void_p, c_size_t, POINTER(IntervalCursor)]),
+    "log_line_compressed": (c_uint32, [c_uint64, c_uint32, c_uint64, c_uint32, c_void_p, c_size_t, *_BYTES]),
+    "log_next": (c_uint32, [c_void_p, c_size_t, c_uint64, POINTER(IntervalCursor)]),
+}
+
+# The calls without a handle.
+_CALLS_OF_LOGS: dict[str, tuple[Any, list[Any]]] = {
+    "log_comment": (c_uint32, [c_void_p, c_size_t, *_BYTES]),
+    "log_start_time": (c_uint32, [c_uint64, c_uint32, *_BYTES]),
+    "log_base_time": (c_uint32, [c_uint64, c_uint32, *_BYTES]),
+    "log_header_of": (None, [c_void_p, c_size_t, POINTER(LogHeader)]),
 }
 
 # A garbage collection may run within a call, and close another histogram.
@@ -139,7 +159,7 @@ def _path() -> str:
 
     Otherwise it returns the name alone, which the loader searches.
     """
-    name = "libhdr.so.1"
+    name = "libdkap.so.1"
     package = Path(__file__).resolve().parent
     named = os.environ.get("DECKAPRICOT_LIBRARY")
     if named:
@@ -151,22 +171,27 @@ def _path() -> str:
 
 
 class Library:
-    """The calls of the library, without the prefix hdr_."""
+    """The calls of the library, without the prefix dkap_."""
 
     def __init__(self) -> None:
         # PyDLL keeps the interpreter's lock during a call. CDLL would let another thread use the histogram meanwhile.
-        library = ctypes.PyDLL(_path())
+        path = _path()
+        try:
+            library = ctypes.PyDLL(path)
+        except OSError as error:
+            raise ImportError(f"{error}: build libdkap by capi/build.sh, install it, or name it in DECKAPRICOT_LIBRARY") from None
         has_lock = getattr(sys, "_is_gil_enabled", lambda: True)()
-        for name, (result, arguments) in _CALLS.items():
-            call = getattr(library, "hdr_" + name)
+        calls = {name: (result, [_HANDLE, *arguments]) for name, (result, arguments) in _CALLS.items()}
+        for name, (result, arguments) in {**calls, **_CALLS_OF_LOGS}.items():
+            call = getattr(library, "dkap_" + name)
             call.restype = result
-            call.argtypes = [_HANDLE, *arguments]
+            call.argtypes = arguments
             setattr(self, name, call if has_lock else locked(call))
-        self.strerror = library.hdr_strerror
+        self.strerror = library.dkap_strerror
         self.strerror.argtypes = [c_uint32]
         self.strerror.restype = c_char_p
-        library.hdr_version.restype = c_char_p
-        self.version: str = library.hdr_version().decode()
+        library.dkap_version.restype = c_char_p
+        self.version: str = library.dkap_version().decode()
 
 
 lib: Any = Library()

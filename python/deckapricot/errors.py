@@ -6,7 +6,7 @@ from typing import Optional
 
 
 class HistogramError(Exception):
-    """An error of the library. `status` is its number in hdr.h."""
+    """An error of the library. `status` is its number in dkap.h."""
 
     status: Optional[int] = None
 
@@ -30,7 +30,7 @@ class CountError(HistogramError, ValueError):
 
 
 class DecodeError(HistogramError, ValueError):
-    """Bytes are not a V2 histogram. `offset` is that of the line read, of a log."""
+    """Bytes are not a histogram, or one of more bins than the limit. `offset` is that of the line read, of a log."""
 
     offset: Optional[int] = None
 

@@ -2,12 +2,13 @@
 
 from __future__ import annotations
 
-from collections.abc import Iterator
+from array import array
+from collections.abc import Iterable, Iterator
+from copy import deepcopy
 from ctypes import byref, c_size_t, c_uint64
 from fractions import Fraction
-from functools import partial
-from math import ceil
-from typing import Any, NamedTuple, Optional
+from math import ceil, lcm
+from typing import Any, NamedTuple, Optional, TypeVar
 
 from ._library import (
     OUT_OF_RANGE,
@@ -26,13 +27,15 @@ from .errors import DecodeError
 
 _close = lib.close
 
+_Self = TypeVar("_Self", bound="Histogram")
+
 
 class Class(NamedTuple):
     """A nonempty class: its values are low to high."""
 
     low: int
     high: int
-    count: int
+    count: int  # type: ignore[assignment]
 
 
 class Histogram:
@@ -42,9 +45,18 @@ class Histogram:
     `high`, values from 0 to at least that can be recorded, and others are errors. Without one the histogram grows.
     """
 
+    __slots__ = ("_at", "_handle", "__weakref__")
+
+    _at: Any
+    _handle: Handle
+
+    def __new__(cls: type[_Self], *_: Any, **__: Any) -> _Self:
+        histogram = super().__new__(cls)
+        histogram._handle = Handle()
+        histogram._at = byref(histogram._handle)
+        return histogram
+
     def __init__(self, digits: int = 3, low: int = 1, high: Optional[int] = None) -> None:
-        self._handle = Handle()
-        self._at = byref(self._handle)
         digits = min(word(digits, "digits"), 255)
         if high is None and low == 1:
             check(lib.init_auto(self._at, digits))
@@ -55,54 +67,79 @@ class Histogram:
                 self.auto_resize = True
 
     @classmethod
-    def _closed(cls) -> Histogram:
+    def from_bytes(cls: type[_Self], data: Any, *, auto_resize: bool = False, max_bins: int = U64_MAX) -> _Self:
+        """Decodes the bytes of a histogram of any HdrHistogram library: of versions 0 to 2, compressed or not.
+
+        A histogram of more than `max_bins` bins, of 8 bytes each, is an error.
+        """
         histogram = cls.__new__(cls)
-        histogram._handle = Handle()
-        histogram._at = byref(histogram._handle)
+        histogram._decode(data, auto_resize, max_bins)
         return histogram
 
-    @classmethod
-    def from_bytes(cls, data: Any, *, auto_resize: bool = False) -> Histogram:
-        """Decodes V2 bytes, uncompressed, of `to_bytes` or of other HdrHistogram libraries."""
-        histogram, taken = cls._closed(), c_size_t()
+    def _decode(self, data: Any, auto_resize: bool, max_bins: int = U64_MAX) -> None:
+        taken = c_size_t()
         with memory(data) as (address, length):
-            check(lib.decode(histogram._at, address, length, byref(taken)))
+            check(lib.decode(self._at, address, length, word(max_bins, "max_bins"), byref(taken)))
         if taken.value != length:
             raise DecodeError(f"{length - taken.value} bytes follow the histogram")
-        histogram.auto_resize = auto_resize
-        return histogram
+        self.auto_resize = auto_resize
 
-    def to_bytes(self) -> bytes:
-        """Encodes the counts and bounds as V2 bytes, uncompressed. These do not say whether the histogram grows."""
-        return written(lib.encode, self._at)
+    def to_bytes(self, *, compressed: bool = False) -> bytes:
+        """Encodes the counts and bounds as V2 bytes, which may be compressed as in the logs of other libraries.
 
-    def copy(self) -> Histogram:
-        """Returns a copy, which is independent."""
-        histogram = self._closed()
+        These do not say whether the histogram grows.
+        """
+        return written(lib.encode_compressed if compressed else lib.encode, self._at)
+
+    def copy(self: _Self) -> _Self:
+        """Returns a copy, which is independent. Attributes of a subclass are copied as copy.copy does."""
+        histogram = type(self).__new__(type(self))
         check(lib.copy(histogram._at, self._at))
+        for name, value in self._attributes().items():
+            setattr(histogram, name, value)
         return histogram
 
     __copy__ = copy
 
-    def __deepcopy__(self, memo: Any) -> Histogram:
-        return self.copy()
+    def __deepcopy__(self: _Self, memo: dict[int, Any]) -> _Self:
+        histogram = type(self).__new__(type(self))
+        memo[id(self)] = histogram
+        check(lib.copy(histogram._at, self._at))
+        for name, value in deepcopy(self._attributes(), memo).items():
+            setattr(histogram, name, value)
+        return histogram
 
     def __reduce__(self) -> Any:
-        return partial(type(self).from_bytes, auto_resize=self.auto_resize), (self.to_bytes(),)
+        return _closed, (type(self),), (self.to_bytes(), self.auto_resize, self._attributes())
+
+    def __setstate__(self, state: tuple[bytes, bool, dict[str, Any]]) -> None:
+        data, auto_resize, attributes = state
+        self._decode(data, auto_resize)
+        for name, value in attributes.items():
+            setattr(self, name, value)
+
+    def _attributes(self) -> dict[str, Any]:
+        """The attributes that a subclass added, in its `__dict__` and its `__slots__`."""
+        found = dict(getattr(self, "__dict__", {}))
+        for kind in type(self).__mro__[: -len(Histogram.__mro__)]:
+            slots = vars(kind).get("__slots__", ())
+            for name in (slots,) if isinstance(slots, str) else slots:
+                if name not in ("__dict__", "__weakref__") and hasattr(self, name):
+                    found[name] = getattr(self, name)
+        return found
 
     def close(self) -> None:
         """Frees the memory. Other calls raise ClosedError then, or return 0."""
         lib.close(self._at)
 
-    def __enter__(self) -> Histogram:
+    def __enter__(self: _Self) -> _Self:
         return self
 
     def __exit__(self, *_: Any) -> None:
         self.close()
 
     def __del__(self, _close: Any = _close) -> None:
-        if hasattr(self, "_at"):
-            _close(self._at)
+        _close(self._at)
 
     def record(self, value: int, count: int = 1, *, expected_interval: int = 0) -> None:
         """Records a value `count` times.
@@ -120,14 +157,16 @@ class Histogram:
         """Records a value, or `high` in place of one that has no bin. The histogram never grows."""
         check(lib.record_saturating(self._at, word(value), word(count, "count")))
 
-    def record_many(self, values: Any) -> int:
+    def record_many(self, values: Any, *, scale: Optional[float] = None) -> int:
         """Records each value of an iterable or buffer once, and returns their number.
 
-        Arrays of 64-bit integers are not copied: array.array, NumPy arrays, pandas Series. If a value is out of range
-        or memory runs out, the values before it are recorded, and their number is `recorded` of the exception.
+        Values are integers of any type. With a scale they may be floats: each is recorded as its product with the
+        scale, rounded. Arrays of 64-bit integers are not copied: array.array, NumPy arrays, pandas Series. If a value
+        is out of range or memory runs out, the values before it are recorded, and their number is `recorded` of the
+        exception.
         """
         done = c_size_t()
-        view = words(values)
+        view = words(values, scale)
         with memory(view) as (address, length):
             status = lib.record_all(self._at, address, length // 8, byref(done))
         if status:
@@ -140,13 +179,14 @@ class Histogram:
 
     def merge(self, other: Histogram, *, expected_interval: int = 0) -> None:
         """Adds the counts of another histogram, corrected for an expected interval between samples if there is one."""
+        other = _histogram(other)
         other = other.copy() if other is self else other
         if expected_interval:
             check(lib.add_correct(self._at, other._at, word(expected_interval, "expected_interval")))
         else:
             check(lib.add(self._at, other._at))
 
-    def __iadd__(self, other: Any) -> Histogram:
+    def __iadd__(self: _Self, other: Histogram) -> _Self:
         if not isinstance(other, Histogram):
             return NotImplemented
         self.merge(other)
@@ -154,6 +194,7 @@ class Histogram:
 
     def subtract(self, other: Histogram) -> None:
         """Subtracts the counts of another histogram."""
+        other = _histogram(other)
         other = other.copy() if other is self else other
         check(lib.subtract(self._at, other._at))
 
@@ -167,7 +208,7 @@ class Histogram:
 
     def _shape(self) -> Shape:
         shape = Shape()
-        check(lib.shape(self._at, byref(shape)))
+        check(lib.shape_of(self._at, byref(shape)))
         return shape
 
     @property
@@ -201,11 +242,8 @@ class Histogram:
 
     @property
     def total(self) -> int:
-        """The number of samples, at most 2**64 - 1. `len` is at most 2**63 - 1."""
+        """The number of samples, at most 2**64 - 1. A histogram has no `len`: its iterator yields classes."""
         return int(lib.len(self._at))
-
-    def __len__(self) -> int:
-        return min(self.total, 2**63 - 1)
 
     def __bool__(self) -> bool:
         return self.total > 0
@@ -258,11 +296,28 @@ class Histogram:
         """Returns the value at a percentile, such as "99.9", which is exact."""
         return self.quantile(exact(percent), 100)
 
+    def percentiles(self, percents: Iterable[Number]) -> list[int]:
+        """Returns the value at each percentile, in the order given, by one call of the library if it can be."""
+        quantiles = [exact(percent) / 100 for percent in percents]
+        whole = lcm(*(quantile.denominator for quantile in quantiles))
+        if whole > U64_MAX or any(quantile < 0 for quantile in quantiles):
+            return [self.quantile(quantile) for quantile in quantiles]
+        nums = array("Q", (int(min(quantile, Fraction(1)) * whole) for quantile in quantiles))
+        values = array("Q", bytes(8 * len(nums)))
+        with memory(nums) as (address, _), memory(values) as (result, _):
+            check(lib.values_at_quantiles(self._at, address, len(nums), whole, result, len(values)))
+        return values.tolist()
+
     def fraction_below(self, value: int) -> Fraction:
         """Returns the fraction of samples in the class of `value` or below it, 1 if there are none."""
         found = WideFraction()
         check(lib.quantile_below(self._at, word(value), byref(found)))
         return _fraction(found)
+
+    def class_of(self, value: int) -> tuple[int, int]:
+        """Returns the lowest and the greatest of the values that count as this one."""
+        value = word(value)
+        return int(lib.lowest_equivalent(self._at, value)), int(lib.highest_equivalent(self._at, value))
 
     def count_at(self, value: int) -> int:
         """Returns the count of the class of `value`; of the last class if it has no bin."""
@@ -294,6 +349,16 @@ class Histogram:
             f"<Histogram: {self.total} samples from {self.min} to {self.max}, "
             f"digits {shape.sigfig}, low {shape.low}, high {shape.high}{grows}>"
         )
+
+
+def _closed(kind: type[_Self]) -> _Self:
+    return kind.__new__(kind)
+
+
+def _histogram(other: Any) -> Histogram:
+    if not isinstance(other, Histogram):
+        raise TypeError(f"a histogram is wanted, and not {type(other).__name__}")
+    return other
 
 
 def _fraction(wide: WideFraction) -> Fraction:

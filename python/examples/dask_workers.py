@@ -56,7 +56,7 @@ def main(samples: str = "10000", workers: str = "4") -> None:
         while len(parts) > 1:
             parts = list(executor.map(merge, [parts[at : at + 4] for at in range(0, len(parts), 4)]))
     total = Histogram.from_bytes(parts[0])
-    print(f"{len(total)} samples, p99 {total.percentile(99)}")
+    print(f"{total.total} samples, p99 {total.percentile(99)}")
     alone = merge(count(seed, int(samples)) for seed in seeds)
     print("equal to one process" if total == Histogram.from_bytes(alone) else "not equal to one process")
 

@@ -23,7 +23,7 @@ def main() -> None:
     with ProcessPoolExecutor(4, mp_context=multiprocessing.get_context("spawn")) as pool:
         for part in pool.map(count, range(8)):
             total += part
-    print(f"{len(total)} samples, p99 {total.percentile(99)}")
+    print(f"{total.total} samples, p99 {total.percentile(99)}")
 
 
 if __name__ == "__main__":

@@ -54,6 +54,18 @@ class Named(Histogram):
     """A subclass."""
 
 
+class Labelled(Histogram):
+    """A subclass with an attribute in its `__dict__`."""
+
+    label: list[str]
+
+
+class Slotted(Histogram):
+    """A subclass with an attribute in its `__slots__`."""
+
+    __slots__ = ("label",)
+
+
 @contextmanager
 def little_memory() -> Iterator[None]:
     """Lets allocations of more than 16 MiB fail."""
@@ -77,7 +89,7 @@ class Reading(unittest.TestCase):
     def test_figures(self) -> None:
         h = Histogram(3, 1, 3_600_000_000)
         h.record_many(range(1, 101))
-        self.assertEqual((len(h), h.total, h.min, h.min_nonzero, h.max), (100, 100, 1, 1, 100))
+        self.assertEqual((h.total, h.min, h.min_nonzero, h.max), (100, 1, 1, 100))
         self.assertEqual(h.mean, Fraction(101, 2))
         self.assertEqual((h.fraction_below(25), h.count_at(7), h.count_between(3, 5)), (Fraction(1, 4), 1, 3))
         self.assertEqual(list(h)[:2], [Class(1, 1, 1), Class(2, 2, 1)])
@@ -87,7 +99,7 @@ class Reading(unittest.TestCase):
 
     def test_empty(self) -> None:
         h = Histogram()
-        self.assertEqual((len(h), bool(h), h.min, h.min_nonzero, h.max, h.mean), (0, False, 0, None, 0, 0))
+        self.assertEqual((h.total, bool(h), h.min, h.min_nonzero, h.max, h.mean), (0, False, 0, None, 0, 0))
         self.assertEqual((h.percentile(99), h.fraction_below(3), list(h), h.auto_resize), (0, 1, [], True))
         self.assertEqual(h.quantile(Fraction(1, 3**60)), 0)
 
@@ -106,6 +118,25 @@ class Reading(unittest.TestCase):
         for bad in (-1, "x", float("nan"), "-0.1"):
             with self.assertRaises(ValueError):
                 h.quantile(bad)
+
+    def test_percentiles(self) -> None:
+        h = Histogram(4)
+        h.record_many(range(1, 10_001))
+        self.assertEqual(h.percentiles(["99.9", 50, Fraction(1, 3), 0, 100, 700]), [9990, 5000, 34, 1, 10_000, 10_000])
+        self.assertEqual((h.percentiles([]), h.percentiles([Fraction(1, 3**60), 50])), ([], [1, 5000]))
+        with self.assertRaises(ValueError):
+            h.percentiles([50, -1])
+        h.close()
+        with self.assertRaises(ClosedError):
+            h.percentiles([50])
+
+    def test_iteration(self) -> None:
+        h = Histogram()
+        h.record(5, 2**60)
+        self.assertEqual((list(h), h.total, bool(h)), ([Class(5, 5, 2**60)], 2**60, True))
+        with self.assertRaises(TypeError):
+            len(h)
+        self.assertEqual(h.class_of(2049), (2048, 2049))
 
     def test_quantiles_of_sorted_samples(self) -> None:
         rng = random.Random(48)
@@ -153,6 +184,57 @@ class Recording(unittest.TestCase):
         if pandas:
             self.assertEqual(Histogram().record_many(pandas.Series([1, 2, 3])), 3)
 
+    def test_scale(self) -> None:
+        for values in ([0.0012, 0.5, 1e-9, 3], array("d", [0.0012, 0.5, 1e-9, 3]), iter([0.0012, 0.5, 1e-9, 3])):
+            h = Histogram(4)
+            self.assertEqual(h.record_many(values, scale=1000), 4)
+            self.assertEqual(list(h), [Class(0, 0, 1), Class(1, 1, 1), Class(500, 500, 1), Class(3000, 3000, 1)])
+        h = Histogram()
+        for values in ([float("nan")], array("d", [1.0, float("nan")])):
+            with self.assertRaisesRegex(ValueError, "not a number"):
+                h.record_many(values, scale=1)
+        for values in ([-1.0], [2.0**64], [float("inf")]):
+            with self.assertRaises(OverflowError):
+                h.record_many(values, scale=1)
+        self.assertEqual(h.total, 0)
+
+    @unittest.skipUnless(numpy, "NumPy is not installed")
+    def test_arrays(self) -> None:
+        expected = [Class(3, 3, 1), Class(4, 4, 1), Class(200, 200, 1)]
+        for dtype in ("u1", "i2", "u2", "i4", "u4", "i8", "u8", ">i8", ">u4", "O"):
+            for values in (numpy.array([3, 4, 200], dtype), numpy.array([3, 0, 4, 0, 200, 0], dtype)[::2]):
+                h = Histogram()
+                self.assertEqual((h.record_many(values), list(h)), (3, expected))
+        for values in (numpy.array([1, -1], "i4"), numpy.array([1, -1], ">i8")):
+            with self.assertRaises(OverflowError):
+                Histogram().record_many(values)
+        for values in (numpy.zeros((2, 2), "u8"), numpy.zeros(2), numpy.zeros(2, "M8[s]"), numpy.zeros(2, "?"), numpy.array(3)):
+            with self.assertRaises(TypeError):
+                Histogram().record_many(values)
+        with self.assertRaisesRegex(TypeError, "2 dimensions"):
+            Histogram().record_many(numpy.zeros((2, 2), "u8"))
+        h = Histogram(4)
+        self.assertEqual(h.record_many(numpy.array([0.0012, 0.5, -1e-9], "f4"), scale=1000), 3)
+        self.assertEqual(list(h), [Class(0, 0, 1), Class(1, 1, 1), Class(500, 500, 1)])
+        for bad, error in (([1, numpy.nan], ValueError), ([-1], OverflowError), ([2.0**64], OverflowError), ([numpy.inf], OverflowError)):
+            with self.assertRaises(error):
+                h.record_many(numpy.array(bad), scale=1)
+        self.assertEqual(h.record_many(numpy.array([]), scale=1), 0)
+        self.assertEqual(h.record_many(memoryview(array("i", [7, 8]))), 2)
+
+    @unittest.skipUnless(pandas, "pandas is not installed")
+    def test_series(self) -> None:
+        for values in (pandas.Series([3, 4]), pandas.Series([3, 4], dtype="Int64"), pandas.Index([3, 4]), pandas.Series([3, 4], dtype="uint8")):
+            h = Histogram()
+            self.assertEqual((h.record_many(values), list(h)), (2, [Class(3, 3, 1), Class(4, 4, 1)]))
+        with self.assertRaisesRegex(ValueError, "missing"):
+            Histogram().record_many(pandas.Series([3, None], dtype="Int64"))
+        with self.assertRaisesRegex(ValueError, "not a number"):
+            Histogram().record_many(pandas.Series([3, None]), scale=1)
+        with self.assertRaisesRegex(TypeError, "2 dimensions"):
+            Histogram().record_many(pandas.DataFrame({"a": [1], "b": [2]}))
+        self.assertEqual(Histogram().record_many(pandas.Series([0.5, 0.25]), scale=1e6), 2)
+
     def test_invalid(self) -> None:
         h = Histogram(3, 1, 1000)
         for call in (lambda: h.record(-1), lambda: h.record(2**64), lambda: h.record_many([1, -1])):
@@ -167,7 +249,7 @@ class Recording(unittest.TestCase):
             h.record(1.5)
         with self.assertRaisesRegex(ValueOutOfRange, "the value at index 2") as context:
             h.record_many([1, 2, 9999, 3])
-        self.assertEqual((context.exception.recorded, context.exception.status, len(h)), (2, 3, 2))
+        self.assertEqual((context.exception.recorded, context.exception.status, h.total), (2, 3, 2))
         with self.assertRaises(ValueOutOfRange):
             h.record(5000)
         h.record_saturating(5000)
@@ -177,7 +259,7 @@ class Recording(unittest.TestCase):
         h = Histogram(5)
         with little_memory(), self.assertRaises(MemoryError) as context:
             h.record_many([1, 2, 2**63, 3])
-        self.assertEqual((context.exception.recorded, len(h)), (2, 2))
+        self.assertEqual((context.exception.recorded, h.total), (2, 2))
 
     def test_bounds(self) -> None:
         for arguments in ((3, 0, 10), (3, 10, 19), (6, 1, 2), (300, 1, 2), (5, 2**62, 2**64 - 1), (7,), (3, 2**63)):
@@ -191,9 +273,9 @@ class Recording(unittest.TestCase):
         h = Histogram()
         h.record(77)
         h.clear()
-        self.assertEqual((len(h), h.max), (0, 77))
+        self.assertEqual((h.total, h.max), (0, 77))
         h.reset()
-        self.assertEqual((len(h), h.max), (0, 0))
+        self.assertEqual((h.total, h.max), (0, 0))
 
 
 class Objects(unittest.TestCase):
@@ -227,12 +309,46 @@ class Objects(unittest.TestCase):
         with self.assertRaises(TypeError):
             hash(Histogram())
 
+    def test_attributes(self) -> None:
+        for kind in (Labelled, Slotted):
+            h = kind(2)
+            h.label = ["a"]
+            h.record(7)
+            for k in (h.copy(), copy.copy(h), copy.deepcopy(h), pickle.loads(pickle.dumps(h)), pickle.loads(pickle.dumps(h, 2))):
+                self.assertEqual((type(k), k.label, k.total, k), (kind, ["a"], 1, h))
+            self.assertIs(copy.copy(h).label, h.label)
+            self.assertIsNot(copy.deepcopy(h).label, h.label)
+        with self.assertRaises(AttributeError):
+            Histogram().lable = 3
+
+    def test_second_init(self) -> None:
+        pages = int(Path("/proc/self/statm").read_text().split()[1])
+        h = Histogram(5, 1, 2**40)
+        for _ in range(50):
+            h.__init__(5, 1, 2**40)
+        self.assertLess(int(Path("/proc/self/statm").read_text().split()[1]) - pages, 20_000)
+        h.record(3)
+        with self.assertRaises(InvalidBounds):
+            h.__init__(7)
+        self.assertEqual((h.total, h.digits), (1, 5))
+
+    def test_forms(self) -> None:
+        h = Histogram(2, 1, 10**6)
+        h.record(1234, 7)
+        packed = h.to_bytes(compressed=True)
+        self.assertEqual((packed[:4].hex(), Histogram.from_bytes(packed)), ("1c849314", h))
+        with self.assertRaises(DecodeError) as context:
+            Histogram.from_bytes(packed, max_bins=100)
+        self.assertEqual(context.exception.status, 27)
+        with self.assertRaises(DecodeError):
+            Histogram.from_bytes(packed[:-1])
+
     def test_merging(self) -> None:
         h, k = Histogram(3, 1, 1000), Histogram()
         k.record_many([5, 6, 7])
         h += k
         h.merge(h)
-        self.assertEqual((len(h), len(k)), (6, 3))
+        self.assertEqual((h.total, k.total), (6, 3))
         h.subtract(k)
         self.assertEqual(list(h), list(k))
         h.subtract(h)
@@ -242,9 +358,12 @@ class Objects(unittest.TestCase):
         k.record(10**6)
         with self.assertRaises(ValueOutOfRange):
             h.merge(k)
+        for call in (h.merge, h.subtract):
+            with self.assertRaisesRegex(TypeError, "a histogram is wanted, and not int"):
+                call(5)
         with self.assertRaises(TypeError):
             h += 3
-        self.assertEqual(len(h), 0)
+        self.assertEqual(h.total, 0)
 
     def test_closing(self) -> None:
         with Histogram() as h:
@@ -255,7 +374,7 @@ class Objects(unittest.TestCase):
             with self.assertRaises(ClosedError):
                 call()
         self.assertTrue(issubclass(ClosedError, HistogramError))
-        self.assertEqual((len(h), list(h), repr(h)), (0, [], "<Histogram: closed>"))
+        self.assertEqual((h.total, list(h), repr(h)), (0, [], "<Histogram: closed>"))
 
 
 class Threads(unittest.TestCase):
@@ -277,7 +396,7 @@ class Threads(unittest.TestCase):
         for thread in threads:
             thread.join()
         sys.setswitchinterval(interval)
-        self.assertEqual((len(h), h.count_at(7)), (8 * 104_000, 8 * 4005))
+        self.assertEqual((h.total, h.count_at(7)), (8 * 104_000, 8 * 4005))
 
     def test_lock_without_that_of_the_interpreter(self) -> None:
         self.assertEqual(locked(divmod)(7, 2), (3, 1))

@@ -9,7 +9,7 @@ from decimal import Decimal
 from fractions import Fraction
 from pathlib import Path
 
-from deckapricot import ClosedError, DecodeError, Histogram, LogError, LogWriter, read_log
+from deckapricot import ClosedError, DecodeError, Histogram, HistogramLogReader, LogError, LogWriter, read_log
 
 FIELD = b"HISTEwAAAAMAAAAAAAAAAwAAAAAAAAABAAAAAAAAAAI/8AAAAAAAAAACCA=="
 
@@ -32,7 +32,7 @@ class Logs(unittest.TestCase):
         self.assertEqual((first.tag, first.start_ns, first.duration_ns, first.base_ns), ("a", 0, 10**9, None))
         self.assertEqual((second.tag, second.start, second.duration), (None, 1.5, 0.25))
         self.assertEqual((third.tag, third.start_ns, third.duration), ("β", 2_250_000_000, 3.0))
-        self.assertEqual([len(i.histogram) for i in (first, second, third)], [5, 1, 0])
+        self.assertEqual([i.histogram.total for i in (first, second, third)], [5, 1, 0])
         self.assertEqual(list(second.histogram), list(counted(10**9)))
 
     def test_files(self) -> None:
@@ -49,6 +49,35 @@ class Logs(unittest.TestCase):
         log = b"1.0,1.0,1.0," + FIELD + b"\n#[BaseTime: 100.250 (seconds since epoch)]\n1.0,1.0,1.0," + FIELD + b"\n"
         self.assertEqual([i.base_ns for i in read_log(log)], [None, 100_250_000_000])
         self.assertEqual(list(read_log(b"")), [])
+
+    def test_headers(self) -> None:
+        file = io.BytesIO()
+        log = LogWriter(file, compressed=True)
+        log.write_start_time("1700000000.125")
+        log.write_base_time(5)
+        log.write_unit("us")
+        log.write_comment("two\nlines")
+        log.write(counted(1, 2, 3), 1, 2)
+        lines = file.getvalue().decode().split("\n")
+        self.assertEqual(lines[:2], ["#[Histogram log format version 1.3]", "#[StartTime: 1700000000.125 (seconds since epoch)]"])
+        self.assertEqual(lines[2:6], ["#[BaseTime: 5.000 (seconds since epoch)]", "#[Values are in us]", "#two", "#lines"])
+        self.assertTrue(lines[6].startswith("1.000,2.000,3.000,HISTFA"))
+        reader = HistogramLogReader(file.getvalue() + b" \n\n")
+        self.assertEqual((reader.start_time_ns, reader.unit), (1_700_000_000_125_000_000, "us"))
+        self.assertEqual([(i.base_ns, list(i.histogram)) for i in reader], [(5 * 10**9, list(counted(1, 2, 3)))])
+        self.assertEqual((read_log(b"").start_time_ns, read_log(b"").unit), (None, None))
+        with self.assertRaises(ValueError):
+            log.write_unit("minutes")
+
+    def test_versions(self) -> None:
+        """The case of hdrstat with logs of versions 0 and 1, whose histograms it converts to V2 bytes."""
+        cases = Path(__file__).parents[2] / "tests" / "cases" / "hdrstat"
+        old, new = (list(read_log(cases / f"convert_old_versions.{end}")) for end in ("in", "out"))
+        self.assertEqual([i.histogram for i in old], [i.histogram for i in new])
+        self.assertEqual(([i.start for i in old], old[0].histogram.count_at(49)), ([0, 1, 2, 3, 4], 5))
+        with self.assertRaises(DecodeError) as context:
+            list(read_log(cases / "convert_bomb.in", max_bins=1000))
+        self.assertIn(context.exception.status, (27, 28))
 
     def test_errors(self) -> None:
         good = b"1.0,1.0,1.0," + FIELD + b"\n"

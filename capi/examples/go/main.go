@@ -4,8 +4,8 @@
 package main
 
 /*
-#cgo pkg-config: hdr
-#include <hdr.h>
+#cgo pkg-config: dkap
+#include <dkap.h>
 */
 import "C"
 
@@ -16,30 +16,30 @@ import (
 	"sync"
 )
 
-// Histogram owns a handle. The lock is needed: one call at a time may use a handle, also to read it.
+// Histogram owns a handle. A call that changes it excludes all others: readers share the lock.
 type Histogram struct {
-	lock   sync.Mutex
-	handle C.struct_hdr_histogram
+	lock   sync.RWMutex
+	handle C.struct_dkap_histogram
 }
 
-func check(status C.hdr_status) error {
-	if status == C.HDR_OK {
+func check(status C.dkap_status) error {
+	if status == C.DKAP_OK {
 		return nil
 	}
-	return errors.New(C.GoString(C.hdr_strerror(status)))
+	return errors.New(C.GoString(C.dkap_strerror(status)))
 }
 
 // New creates a histogram that grows. It is not copied, as the handle in it must not be, and it is closed after use.
 func New(digits uint8) (*Histogram, error) {
 	h := new(Histogram)
-	return h, check(C.hdr_init_auto(&h.handle, C.uint8_t(digits)))
+	return h, check(C.dkap_init_auto(&h.handle, C.uint8_t(digits)))
 }
 
 // Close frees the histogram.
 func (h *Histogram) Close() {
 	h.lock.Lock()
 	defer h.lock.Unlock()
-	C.hdr_close(&h.handle)
+	C.dkap_close(&h.handle)
 }
 
 // RecordAll records each value once, with one call of C for all of them.
@@ -50,15 +50,15 @@ func (h *Histogram) RecordAll(values []uint64) error {
 	h.lock.Lock()
 	defer h.lock.Unlock()
 	var done C.size_t
-	return check(C.hdr_record_all(&h.handle, (*C.uint64_t)(&values[0]), C.size_t(len(values)), &done))
+	return check(C.dkap_record_all(&h.handle, (*C.uint64_t)(&values[0]), C.size_t(len(values)), &done))
 }
 
 // Quantile returns the value at the quantile num/den.
 func (h *Histogram) Quantile(num, den uint64) (uint64, error) {
-	h.lock.Lock()
-	defer h.lock.Unlock()
+	h.lock.RLock()
+	defer h.lock.RUnlock()
 	var value C.uint64_t
-	err := check(C.hdr_value_at_quantile(&h.handle, C.uint64_t(num), C.uint64_t(den), &value))
+	err := check(C.dkap_value_at_quantile(&h.handle, C.uint64_t(num), C.uint64_t(den), &value))
 	return uint64(value), err
 }
 

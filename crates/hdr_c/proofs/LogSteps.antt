@@ -2,26 +2,26 @@
 use Rattle.std.proofs.Common.{◌≡◌, ◌∙◌, ℕ, ◌+◌, ◌<◌, Bool, List, [], ◌∷◌, length, Option, Some, None, refl, subst, sym, ap, arith}
 use Rattle.hdr_log.specs.Parts.{parts, split_at_byte}
 use Rattle.std.specs.Option.{option_or}
-use Rattle.hdr_log.specs.Grammar.{Entry, Start, Base, Span, entry_of, is_skipped}
+use Rattle.hdr_log.specs.Grammar.{Entry, Start, Base, Span, entry_of}
 use Rattle.hdr_log.specs.Timed.{TimedInterval, base_after, interval_after, time_after}
 use Rattle.hdr_log.proofs.GrammarSteps.{split_parted, split_none, some_part}
-use Rattle.hdr_c.specs.Logs.{Found, End, Invalid, Line, first_from, or_later}
+use Rattle.hdr_c.specs.Logs.{Found, End, Invalid, Line, first_from, is_passed, or_later}
 
-line_step : (at : ℕ) (base : Option ℕ) (line part : List ℕ) (lines : List (List ℕ)) → first_from at base (line ∷ part ∷ lines) ≡ or_later (entry_of line) (is_skipped line) at (at + length line + 1) base (λ later. first_from (at + length line + 1) later (part ∷ lines))
+line_step : (at : ℕ) (base : Option ℕ) (line part : List ℕ) (lines : List (List ℕ)) → first_from at base (line ∷ part ∷ lines) ≡ or_later (entry_of line) (is_passed line) at (at + length line + 1) base (λ later. first_from (at + length line + 1) later (part ∷ lines))
 unfolding first_from
 line_step at base [] part lines = refl
 line_step at base (x ∷ line) part lines = refl
 
-first_step : (at : ℕ) (base : Option ℕ) (text line rest : List ℕ) → split_at_byte 10 text ≡ Some (line, rest) → first_from at base (parts 10 text) ≡ or_later (entry_of line) (is_skipped line) at (at + length line + 1) base (λ later. first_from (at + length line + 1) later (parts 10 rest))
+first_step : (at : ℕ) (base : Option ℕ) (text line rest : List ℕ) → split_at_byte 10 text ≡ Some (line, rest) → first_from at base (parts 10 text) ≡ or_later (entry_of line) (is_passed line) at (at + length line + 1) base (λ later. first_from (at + length line + 1) later (parts 10 rest))
 first_step at base text line rest h =
     let p : (first : List ℕ) × (more : List (List ℕ)) × (parts 10 rest ≡ first ∷ more) = some_part rest in
     let e : parts 10 text ≡ line ∷ parts 10 rest = split_parted text line rest h in
     rw (e, p.2) (line_step at base line p.0 p.1)
 
 -- a line with an entry
-pub has_entry : (at : ℕ) (base : Option ℕ) (text line rest : List ℕ) (e : Entry) (all : Found) → first_from at base (parts 10 text) ≡ all → Some (line, rest) ≡ split_at_byte 10 text → Some e ≡ entry_of line → or_later (Some e) (is_skipped line) at (at + length line + 1) base (λ later. first_from (at + length line + 1) later (parts 10 rest)) ≡ all
+pub has_entry : (at : ℕ) (base : Option ℕ) (text line rest : List ℕ) (e : Entry) (all : Found) → first_from at base (parts 10 text) ≡ all → Some (line, rest) ≡ split_at_byte 10 text → Some e ≡ entry_of line → or_later (Some e) (is_passed line) at (at + length line + 1) base (λ later. first_from (at + length line + 1) later (parts 10 rest)) ≡ all
 has_entry at base text line rest e all same h says =
-    ap (λ o. or_later o (is_skipped line) at (at + length line + 1) base (λ later. first_from (at + length line + 1) later (parts 10 rest))) says
+    ap (λ o. or_later o (is_passed line) at (at + length line + 1) base (λ later. first_from (at + length line + 1) later (parts 10 rest))) says
     ∙ sym (first_step at base text line rest (sym h)) ∙ same
 
 -- an entry is an interval, after the last base time of the lines read or the one before them
@@ -41,10 +41,10 @@ has_no_interval last base (Base time) skipped at next later now all is moved h =
 has_no_interval last base (Span j) skipped at next later now all is moved h = absurd (let f = is in cc)
 
 -- a line without an entry
-pub has_none : (at : ℕ) (base : Option ℕ) (text line rest : List ℕ) (skipped : Bool) (all : Found) → first_from at base (parts 10 text) ≡ all → Some (line, rest) ≡ split_at_byte 10 text → None ≡ entry_of line → skipped ≡ is_skipped line → or_later None skipped at (at + length line + 1) base (λ later. first_from (at + length line + 1) later (parts 10 rest)) ≡ all
+pub has_none : (at : ℕ) (base : Option ℕ) (text line rest : List ℕ) (skipped : Bool) (all : Found) → first_from at base (parts 10 text) ≡ all → Some (line, rest) ≡ split_at_byte 10 text → None ≡ entry_of line → skipped ≡ is_passed line → or_later None skipped at (at + length line + 1) base (λ later. first_from (at + length line + 1) later (parts 10 rest)) ≡ all
 has_none at base text line rest skipped all same h says skip =
     ap (λ s. or_later None s at (at + length line + 1) base (λ later. first_from (at + length line + 1) later (parts 10 rest))) skip
-    ∙ ap (λ o. or_later o (is_skipped line) at (at + length line + 1) base (λ later. first_from (at + length line + 1) later (parts 10 rest))) says
+    ∙ ap (λ o. or_later o (is_passed line) at (at + length line + 1) base (λ later. first_from (at + length line + 1) later (parts 10 rest))) says
     ∙ sym (first_step at base text line rest (sym h)) ∙ same
 
 -- no line is left

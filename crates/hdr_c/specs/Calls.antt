@@ -1,6 +1,6 @@
 -- What a call does to the histogram of a handle. A call returns a status: 0 is success, 1 a closed handle, and any other
 -- number an error.
-use Rattle.std.specs.Prelude.{◌≡◌, ◌⊎◌, ◌-◌, ◌^◌, ◌≤◌, ◌<◌, ℕ, Bool, false, Option, Some, None, Result, Ok, Err, List, length, take, slice_index}
+use Rattle.std.specs.Prelude.{◌≡◌, ◌⊎◌, ◌-◌, ◌^◌, ◌<◌, ℕ, Bool, false, Option, Some, None, Result, Ok, Err, List, length, take, slice_index}
 use Rattle.hdr_model.specs.Plain.{Plain, empty_plain}
 use Rattle.hdr_model.specs.Equality.{same_plain}
 use Rattle.hdr_model.specs.Merging.{after_add, after_add_correct}
@@ -62,15 +62,6 @@ abbrev pub RecordsMany : ℕ → List ℕ → ℕ → Option Plain → Option Pl
 RecordsMany status values done None new = (status ≡ 1) × (done ≡ 0) × (new ≡ None)
 RecordsMany status values done (Some old) new =
     (new ≡ Some (after_values (take done values) old)) × EndsAfter status values done (after_values (take done values) old)
-
--- both histograms are taken, and their handles closed
-abbrev pub TakesBoth : Plain → Plain → Option Plain → Option Plain → Option Plain → Option Plain → Type 0
-TakesBoth h k first second first_new second_new = (first ≡ Some h) × (second ≡ Some k) × (first_new ≡ None) × (second_new ≡ None)
-
--- a handle is closed, and both are unchanged
-abbrev pub LeavesBoth : Option Plain → Option Plain → Option Plain → Option Plain → Type 0
-LeavesBoth None second first_new second_new = (first_new ≡ None) × (second_new ≡ second)
-LeavesBoth (Some h) second first_new second_new = (first_new ≡ Some h) × (second ≡ None) × (second_new ≡ None)
 
 -- a second histogram is added
 abbrev pub Adds : ℕ → Option Plain → Option Plain → Option Plain → Type 0

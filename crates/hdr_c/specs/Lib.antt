@@ -1,10 +1,14 @@
 pub mod Bytes
 pub mod Calls
 pub mod Classes
+pub mod Decoding
 pub mod Fractions
+pub mod Headers
+pub mod Lending
 pub mod Lines
 pub mod Logs
 pub mod Owned
 pub mod Runs
 pub mod Status
+pub mod Steps
 pub mod Times

@@ -8,13 +8,13 @@ use Rattle.hdr_model.specs.declared.errors.AdditionError.{AdditionError}
 use Rattle.hdr_model.specs.declared.errors.AdditionError.TheVariants as addition
 use Rattle.hdr_model.specs.declared.errors.SubtractionError.{SubtractionError}
 use Rattle.hdr_model.specs.declared.errors.SubtractionError.TheVariants as subtraction
+use Rattle.hdr_convert.specs.declared.errors.ConvertError.{ConvertError}
+use Rattle.hdr_convert.specs.declared.errors.ConvertError.TheVariants as converting
 use Rattle.hdrhistogram.specs.declared.serialization.errors.CountNotSerializable.{CountNotSerializable}
 use Rattle.hdrhistogram.specs.declared.serialization.errors.V2SerializeError.{V2SerializeError}
 use Rattle.hdrhistogram.specs.declared.serialization.errors.V2SerializeError.TheVariants as encoding
 use Rattle.hdrhistogram.specs.declared.serialization.errors.DeserializeError.{DeserializeError}
 use Rattle.hdrhistogram.specs.declared.serialization.errors.DeserializeError.TheVariants as decoding
-use Rattle.hdrhistogram.specs.declared.serialization.errors.FieldDecodeError.{FieldDecodeError}
-use Rattle.hdrhistogram.specs.declared.serialization.errors.FieldDecodeError.TheVariants as field
 use Rattle.hdrhistogram.specs.declared.serialization.interval_log.errors.IntervalLogWriterError.{IntervalLogWriterError}
 use Rattle.hdrhistogram.specs.declared.serialization.interval_log.errors.IntervalLogWriterError.TheVariants as line
 
@@ -59,11 +59,19 @@ decode_status decoding.InvalidParameters = 17
 decode_status decoding.EncodedArrayTooLong = 18
 decode_status decoding.UsizeTypeTooSmall = 19
 
--- the status of an error of decoding a field
-abbrev pub field_status : FieldDecodeError → ℕ
-field_status field.OutOfMemory = 2
-field_status field.NotBase64 = 25
-field_status (field.Decode e) = decode_status e
+-- the status of an error of bytes in another form than V2 bytes
+abbrev pub convert_status : ConvertError → ℕ
+convert_status converting.OutOfMemory = 2
+convert_status converting.Incomplete = 14
+convert_status converting.NotALine = 15
+convert_status converting.NotAHistogram = 15
+convert_status converting.NotV2Inside = 15
+convert_status (converting.OldVersion version) = 16
+convert_status converting.Unsupported = 16
+convert_status converting.DoubleHistogram = 16
+convert_status converting.Bounds = 17
+convert_status converting.NotBase64 = 25
+convert_status (converting.Inflate e) = 28
 
 -- the status of an error of a line in memory
 abbrev pub IsLineStatus : IntervalLogWriterError CountNotSerializable → ℕ → Type 0

@@ -6,7 +6,6 @@ ghost use Rattle.hdr_c.specs.Classes.{AllZeroFrom, IsNextClass, IsNextNonzero};
 
 use crate::handle::Handle;
 use hdrhistogram::Histogram;
-use std::alloc::Global;
 
 /// A nonempty class: its least and greatest value, and its count. `next` is the index of the bin
 /// after it, and 0 to begin with.
@@ -31,25 +30,23 @@ fn next_nonempty(histogram: &Histogram<u64>, from: usize) -> Option<usize>
 
 /// Stores the first nonempty class from the bin `class.next` on. Returns `false` if there is none.
 #[unsafe(no_mangle)]
-pub extern "C" fn hdr_next_class(h: &mut Handle, alloc: Global, class: &mut Class) -> bool
+pub extern "C" fn dkap_next_class(h: &mut Handle, class: &mut Class) -> bool
     ensures { Reads (held h.old) (held h.new) (λ p. IsNextClass p result class.old class.new)
         ((result ≡ false) × (class.new ≡ class.old)) }
 {
-    let Some(boxed) = h.take(alloc) else {
+    if !h.filled {
+        return false;
+    }
+    let histogram = &h.pointer.as_mut().histogram;
+    let Some(at) = next_nonempty(histogram, class.next) else {
         return false;
     };
-    let histogram = &boxed.histogram;
-    let mut found = false;
-    if let Some(at) = next_nonempty(histogram, class.next) {
-        let lowest = histogram.bin_value(at).unwrap_or(0);
-        *class = Class {
-            next: at.saturating_add(1),
-            lowest,
-            highest: histogram.highest_equivalent(lowest),
-            count: histogram.counters()[at],
-        };
-        found = true;
-    }
-    h.put(boxed);
-    found
+    let lowest = histogram.bin_value(at).unwrap_or(0);
+    *class = Class {
+        next: at.saturating_add(1),
+        lowest,
+        highest: histogram.highest_equivalent(lowest),
+        count: histogram.counters()[at],
+    };
+    true
 }

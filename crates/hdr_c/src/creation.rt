@@ -25,7 +25,7 @@ fn store(h: &mut Handle, alloc: Global, created: Result<Histogram<u64>, Creation
 /// Creates a histogram with fixed bounds (`Histogram::new_with_bounds`), and frees the one that the
 /// handle had.
 #[unsafe(no_mangle)]
-pub extern "C" fn hdr_init(h: &mut Handle, alloc: Global, low: u64, high: u64, sigfig: u8) -> u32
+pub extern "C" fn dkap_init(h: &mut Handle, alloc: Global, low: u64, high: u64, sigfig: u8) -> u32
     ensures { Creates result low high sigfig false (held h.old) (held h.new) }
 {
     store(
@@ -37,7 +37,7 @@ pub extern "C" fn hdr_init(h: &mut Handle, alloc: Global, low: u64, high: u64, s
 
 /// Creates a histogram that grows (`Histogram::new`), and frees the one that the handle had.
 #[unsafe(no_mangle)]
-pub extern "C" fn hdr_init_auto(h: &mut Handle, alloc: Global, sigfig: u8) -> u32
+pub extern "C" fn dkap_init_auto(h: &mut Handle, alloc: Global, sigfig: u8) -> u32
     ensures { Creates result 1 2 sigfig true (held h.old) (held h.new) }
 {
     store(h, alloc, Histogram::new(alloc, sigfig))
@@ -45,7 +45,7 @@ pub extern "C" fn hdr_init_auto(h: &mut Handle, alloc: Global, sigfig: u8) -> u3
 
 /// Frees the histogram. A closed handle is unchanged.
 #[unsafe(no_mangle)]
-pub extern "C" fn hdr_close(h: &mut Handle, alloc: Global)
+pub extern "C" fn dkap_close(h: &mut Handle, alloc: Global)
     ensures { held h.new ≡ None }
 {
     drop(h.take(alloc));
@@ -53,53 +53,52 @@ pub extern "C" fn hdr_close(h: &mut Handle, alloc: Global)
 
 /// Copies the histogram of `source`, and frees the one that the handle had.
 #[unsafe(no_mangle)]
-pub extern "C" fn hdr_copy_distinct(h: &mut Handle, alloc: Global, source: &mut Handle) -> u32
+pub extern "C" fn dkap_copy_distinct(h: &mut Handle, alloc: Global, source: &mut Handle) -> u32
     ensures copied { Copies result (held h.old) (held source.old) (held h.new) }
     ensures unchanged { held source.new ≡ held source.old }
 {
-    let Some(boxed) = source.take(alloc) else {
+    if !source.filled {
         return CLOSED;
-    };
-    let copy = boxed.histogram.clone();
-    source.put(boxed);
-    store(h, alloc, copy)
+    }
+    let held = source.pointer.as_mut();
+    store(h, alloc, held.histogram.clone())
 }
 
 /// Clears the samples, the least value and the greatest (`Histogram::reset`).
 #[unsafe(no_mangle)]
-pub extern "C" fn hdr_reset(h: &mut Handle, alloc: Global) -> u32
+pub extern "C" fn dkap_reset(h: &mut Handle) -> u32
     ensures { Changes result (held h.old) (held h.new) after_reset }
 {
-    let Some(mut boxed) = h.take(alloc) else {
+    if !h.filled {
         return CLOSED;
-    };
-    boxed.histogram.reset();
-    h.put(boxed);
+    }
+    let held = h.pointer.as_mut();
+    held.histogram.reset();
     OK
 }
 
 /// Clears the samples alone (`Histogram::clear`).
 #[unsafe(no_mangle)]
-pub extern "C" fn hdr_clear(h: &mut Handle, alloc: Global) -> u32
+pub extern "C" fn dkap_clear(h: &mut Handle) -> u32
     ensures { Changes result (held h.old) (held h.new) after_clear }
 {
-    let Some(mut boxed) = h.take(alloc) else {
+    if !h.filled {
         return CLOSED;
-    };
-    boxed.histogram.clear();
-    h.put(boxed);
+    }
+    let held = h.pointer.as_mut();
+    held.histogram.clear();
     OK
 }
 
 /// Sets whether the bins grow to values past them.
 #[unsafe(no_mangle)]
-pub extern "C" fn hdr_auto_resize(h: &mut Handle, alloc: Global, enabled: bool) -> u32
+pub extern "C" fn dkap_auto_resize(h: &mut Handle, enabled: bool) -> u32
     ensures { Changes result (held h.old) (held h.new) (λ p. record p { auto_resize = enabled }) }
 {
-    let Some(mut boxed) = h.take(alloc) else {
+    if !h.filled {
         return CLOSED;
-    };
-    boxed.histogram.auto(enabled);
-    h.put(boxed);
+    }
+    let held = h.pointer.as_mut();
+    held.histogram.auto(enabled);
     OK
 }

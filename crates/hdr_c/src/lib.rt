@@ -1,20 +1,27 @@
-//! The library for C. `capi/hdr.h` declares these functions, and states what a caller has to ensure.
+//! The library for C. `capi/dkap.h` declares these functions, and states what a caller has to ensure.
 //!
-//! A call takes the histogram out of its handle, makes one call of the crate `hdrhistogram`, and stores it again. The contracts
-//! state what that does to the histogram of the handle. A handle without one is closed: the status is then `CLOSED`.
+//! A call makes one call of the crate `hdrhistogram` with the histogram of its handle. The contracts state what that does to the
+//! histogram. A handle without one is closed: the status is then `CLOSED`.
 #![tactic(auto)]
 
 mod classes;
+mod compressing;
 mod creation;
+mod decoding;
+mod equivalents;
 mod handle;
 mod held;
 mod interval;
+mod log_headers;
 mod log_reading;
+mod log_start;
 mod log_writing;
 mod merging;
+mod percentiles;
 mod pointer;
 mod queries;
 mod raw_parts;
 mod recording;
 mod status;
+mod steps;
 mod v2_bytes;

@@ -1,19 +1,21 @@
 //! The intervals of a log in the caller's memory, one after another.
 
 ghost use Rattle.std.specs.Prelude.{◌≡◌, ◌≤◌, ◌<◌, drop, length};
+ghost use Rattle.std.specs.Char.{is_ascii_whitespace};
+ghost use Rattle.std.specs.List.{list_all};
 ghost use Rattle.std.specs.Option.{option_map, option_or};
 ghost use Rattle.hdr_log.specs.Parts.{parts};
 ghost use Rattle.hdr_c.specs.Calls.{held};
-ghost use Rattle.hdr_c.specs.Logs.{first_from, view_of_found, AreBaseNanosInRange, ReadsNext};
+ghost use Rattle.hdr_c.specs.Logs.{first_from, is_passed, view_of_found, AreBaseNanosInRange, ReadsNext};
 ghost use Rattle.hdr_c.specs.Times.{as_time, AreNanosInRange};
 
+use crate::decoding::field_histogram;
 use crate::handle::Handle;
 use crate::interval::{Found, NextInterval, Time};
-use crate::status::{INVALID_LINE, LOG_END, OK, of_field_error};
+use crate::status::{INVALID_LINE, LOG_END, OK, OUT_OF_MEMORY};
 use hdr_log::LastBaseTime;
 use hdr_log::line::{entry, is_skipped};
 use hdr_log::parts::split_line;
-use hdrhistogram::serialization::{Deserializer, FieldDecodeError};
 use std::alloc::Global;
 
 /// Returns the first interval of the lines of `log` from the byte `from` on.
@@ -32,7 +34,7 @@ fn first_interval(log: &[u8], from: usize, base: Option<Time>) -> Found<'_>
             if let Some(found) = last.timed(entry) {
                 return Found::Interval(at, next, last_base(&last, base), found.interval);
             }
-        } else if !is_skipped(line) {
+        } else if !is_passed(line) {
             return Found::Invalid(at);
         }
         at = next;
@@ -43,6 +45,21 @@ fn first_interval(log: &[u8], from: usize, base: Option<Time>) -> Found<'_>
     } else {
         Found::Invalid(at)
     }
+}
+
+/// Whether a line is skipped, or has only whitespace.
+#[tactic(auto, unfolding(crate::specs::Logs::is_passed))]
+fn is_passed(line: &[u8]) -> bool
+    ensures { result ≡ is_passed line.now }
+{
+    is_skipped(line) || is_blank(line)
+}
+
+/// Whether a line has only whitespace.
+fn is_blank(line: &[u8]) -> bool
+    ensures { result ≡ list_all is_ascii_whitespace line.now }
+{
+    line.iter().all(|byte| byte.is_ascii_whitespace())
 }
 
 /// Returns the last base time of the lines read, or `base` if they have none.
@@ -56,15 +73,16 @@ fn last_base(last: &LastBaseTime, base: Option<Time>) -> Option<Time>
     }
 }
 
-/// Reads the next interval of a log, and decodes its histogram into the handle.
+/// Reads the next interval of a log, and decodes its histogram, in any form and of at most `limit` bins, into the handle.
 #[unsafe(no_mangle)]
-pub extern "C" fn hdr_log_next(
+pub extern "C" fn dkap_log_next(
     h: &mut Handle,
     alloc: Global,
     log: &[u8],
+    limit: u64,
     interval: &mut NextInterval,
 ) -> u32
-    ensures read { ReadsNext result log.now interval.old interval.new (held h.old) (held h.new) }
+    ensures read { ReadsNext result log.now limit interval.old interval.new (held h.old) (held h.new) }
     ensures base_nanos { interval.old.base.nanos < 1_000_000_000 → interval.new.base.nanos < 1_000_000_000 }
 {
     let from = interval.next.min(log.len());
@@ -77,13 +95,12 @@ pub extern "C" fn hdr_log_next(
         Found::Interval(at, next, base, found) => (at, next, base, found),
     };
     *interval = NextInterval::new(at, next, base, &found);
-    let field = found.encoded_histogram();
-    let histogram = match Deserializer::new(alloc).decode_field::<u64>(field) {
+    let histogram = match field_histogram(alloc, found.encoded_histogram(), limit) {
         Ok(histogram) => histogram,
-        Err(error) => return of_field_error(&error),
+        Err(status) => return status,
     };
     match h.fill(alloc, histogram) {
         Ok(()) => OK,
-        Err(_) => of_field_error(&FieldDecodeError::OutOfMemory),
+        Err(_) => OUT_OF_MEMORY,
     }
 }

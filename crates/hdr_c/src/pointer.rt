@@ -25,6 +25,9 @@ impl Model for Pointer {
 }
 
 impl Pointer {
+    ghost use Rattle.std.specs.Borrow.{sem};
+    ghost use Rattle.hdr_c.specs.Lending.{pointer_follows};
+
     /// The null pointer.
     pub fn null(alloc: Global) -> Pointer
         ensures { result.held ≡ None }
@@ -44,6 +47,15 @@ impl Pointer {
             at: ptr as *mut u8,
             alloc,
         }
+    }
+
+    /// The histogram of the pointer. Neither the pointer nor its block is written.
+    pub fn as_mut(&mut self) -> &mut Held
+        requires { is_some self.old.held ≡ true }
+        ensures* writes_back { sem 𝓛 (pointer_follows self.entry result) }
+        ensures value { Some result.now ≡ self.old.held }
+    {
+        unsafe { &mut *(self.at as *mut Held) }
     }
 
     /// The block of the pointer.

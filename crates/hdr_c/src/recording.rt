@@ -9,94 +9,74 @@ ghost use Rattle.hdr_c.specs.Runs.{after_values};
 use crate::handle::Handle;
 use crate::status::{CLOSED, OK, of_record_error, of_recording};
 use hdrhistogram::Histogram;
-use std::alloc::Global;
 
 /// Records a value once.
 #[unsafe(no_mangle)]
-pub extern "C" fn hdr_record(h: &mut Handle, alloc: Global, value: u64) -> u32
+pub extern "C" fn dkap_record(h: &mut Handle, value: u64) -> u32
     ensures { Records result value (held h.old) (held h.new)
         (λ p. after_record (2 ^ 64 - 1) p value 1) }
 {
-    let Some(mut boxed) = h.take(alloc) else {
+    if !h.filled {
         return CLOSED;
-    };
-    let status = of_recording(boxed.histogram.record(value));
-    h.put(boxed);
-    status
+    }
+    let held = h.pointer.as_mut();
+    of_recording(held.histogram.record(value))
 }
 
 /// Records a value `count` times.
 #[unsafe(no_mangle)]
-pub extern "C" fn hdr_record_n(h: &mut Handle, alloc: Global, value: u64, count: u64) -> u32
+pub extern "C" fn dkap_record_n(h: &mut Handle, value: u64, count: u64) -> u32
     ensures { Records result value (held h.old) (held h.new)
         (λ p. after_record (2 ^ 64 - 1) p value count) }
 {
-    let Some(mut boxed) = h.take(alloc) else {
+    if !h.filled {
         return CLOSED;
-    };
-    let status = of_recording(boxed.histogram.record_n(value, count));
-    h.put(boxed);
-    status
+    }
+    let held = h.pointer.as_mut();
+    of_recording(held.histogram.record_n(value, count))
 }
 
 /// Records a value `count` times, and the samples that a client omitted that should have sent one
 /// every `interval` (`Histogram::record_n_correct`).
 #[unsafe(no_mangle)]
-pub extern "C" fn hdr_record_correct(
-    h: &mut Handle,
-    alloc: Global,
-    value: u64,
-    count: u64,
-    interval: u64,
-) -> u32
+pub extern "C" fn dkap_record_correct(h: &mut Handle, value: u64, count: u64, interval: u64) -> u32
     ensures { Records result value (held h.old) (held h.new)
         (λ p. after_correct (2 ^ 64 - 1) p value count interval) }
 {
-    let Some(mut boxed) = h.take(alloc) else {
+    if !h.filled {
         return CLOSED;
-    };
-    let status = of_recording(boxed.histogram.record_n_correct(value, count, interval));
-    h.put(boxed);
-    status
+    }
+    let held = h.pointer.as_mut();
+    of_recording(held.histogram.record_n_correct(value, count, interval))
 }
 
 /// Records a value `count` times, or `high` if the value has no bin
 /// (`Histogram::saturating_record_n`).
 #[unsafe(no_mangle)]
-pub extern "C" fn hdr_record_saturating(
-    h: &mut Handle,
-    alloc: Global,
-    value: u64,
-    count: u64,
-) -> u32
+pub extern "C" fn dkap_record_saturating(h: &mut Handle, value: u64, count: u64) -> u32
     ensures { Changes result (held h.old) (held h.new)
         (λ p. after_record (2 ^ 64 - 1) p (clamp_to_bins p value) count) }
 {
-    let Some(mut boxed) = h.take(alloc) else {
+    if !h.filled {
         return CLOSED;
-    };
-    boxed.histogram.saturating_record_n(value, count);
-    h.put(boxed);
+    }
+    let held = h.pointer.as_mut();
+    held.histogram.saturating_record_n(value, count);
     OK
 }
 
 /// Records each value once, in order, up to the first error. `done` is the number of values recorded.
 #[unsafe(no_mangle)]
-pub extern "C" fn hdr_record_all(
-    h: &mut Handle,
-    alloc: Global,
-    values: &[u64],
-    done: &mut usize,
-) -> u32
+pub extern "C" fn dkap_record_all(h: &mut Handle, values: &[u64], done: &mut usize) -> u32
     ensures { RecordsMany result values.now done.new (held h.old) (held h.new) }
 {
-    let Some(mut boxed) = h.take(alloc) else {
+    if !h.filled {
         *done = 0;
         return CLOSED;
-    };
-    let (recorded, status) = record_each(&mut boxed.histogram, values);
+    }
+    let held = h.pointer.as_mut();
+    let (recorded, status) = record_each(&mut held.histogram, values);
     *done = recorded;
-    h.put(boxed);
     status
 }
 

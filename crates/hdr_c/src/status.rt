@@ -1,15 +1,14 @@
-//! The statuses that calls return. `capi/hdr.h` names them.
+//! The statuses that calls return. `capi/dkap.h` names them.
 
 ghost use Rattle.std.specs.Prelude.{◌≡◌, ℕ, MatchResult};
 ghost use Rattle.hdr_model.specs.Plain.{Plain};
 ghost use Rattle.hdrhistogram.specs.LogLeaving.{IsV2LineError};
 ghost use Rattle.hdrhistogram.specs.SerializeErrors.{IsToBytesError};
-ghost use Rattle.hdr_c.specs.Status.{IsEncodeStatus, IsLineStatus, addition_status, creation_status, decode_status, field_status, record_status, subtraction_status};
+ghost use Rattle.hdr_c.specs.Status.{IsEncodeStatus, IsLineStatus, addition_status, convert_status, creation_status, decode_status, record_status, subtraction_status};
 
+use hdr_convert::ConvertError;
 use hdrhistogram::serialization::interval_log::IntervalLogWriterError;
-use hdrhistogram::serialization::{
-    CountNotSerializable, DeserializeError, FieldDecodeError, V2SerializeError,
-};
+use hdrhistogram::serialization::{CountNotSerializable, DeserializeError, V2SerializeError};
 use hdrhistogram::{AdditionError, CreationError, RecordError, SubtractionError};
 
 pub(crate) const OK: u32 = 0;
@@ -51,7 +50,7 @@ pub(crate) const INVALID_PARAMETERS: u32 = 17;
 pub(crate) const ENCODED_ARRAY_TOO_LONG: u32 = 18;
 
 pub(crate) const USIZE_TOO_SMALL: u32 = 19;
-// 20 is HDR_E_SAME_HANDLE, which the calls in C return.
+// 20 is DKAP_E_SAME_HANDLE, which the calls in C return.
 pub(crate) const TIME_OUT_OF_RANGE: u32 = 21;
 
 pub(crate) const INVALID_TAG: u32 = 22;
@@ -61,6 +60,14 @@ pub(crate) const LOG_END: u32 = 23;
 pub(crate) const INVALID_LINE: u32 = 24;
 
 pub(crate) const NOT_BASE64: u32 = 25;
+// 26 is DKAP_E_INVALID_ARGUMENT, which the tests of DKAP_CHECK return.
+pub(crate) const TOO_MANY_BINS: u32 = 27;
+
+pub(crate) const INVALID_STREAM: u32 = 28;
+
+pub(crate) const NOT_UTF8: u32 = 29;
+
+pub(crate) const INVALID_STEP: u32 = 30;
 
 pub(crate) fn of_creation_error(error: &CreationError) -> u32
     ensures { result ≡ creation_status error.now }
@@ -144,13 +151,20 @@ pub(crate) fn of_decode_error(error: &DeserializeError) -> u32
     }
 }
 
-pub(crate) fn of_field_error(error: &FieldDecodeError) -> u32
-    ensures { result ≡ field_status error.now }
+pub(crate) fn of_convert_error(error: &ConvertError) -> u32
+    ensures { result ≡ convert_status error.now }
 {
     match error {
-        FieldDecodeError::NotBase64 => NOT_BASE64,
-        FieldDecodeError::Decode(cause) => of_decode_error(cause),
-        FieldDecodeError::OutOfMemory => OUT_OF_MEMORY,
+        ConvertError::NotALine | ConvertError::NotAHistogram | ConvertError::NotV2Inside => {
+            INVALID_COOKIE
+        }
+        ConvertError::OldVersion(_) | ConvertError::Unsupported | ConvertError::DoubleHistogram =>
+            UNSUPPORTED_FEATURE,
+        ConvertError::Bounds => INVALID_PARAMETERS,
+        ConvertError::Incomplete => BYTES_END_EARLY,
+        ConvertError::NotBase64 => NOT_BASE64,
+        ConvertError::Inflate(_) => INVALID_STREAM,
+        ConvertError::OutOfMemory => OUT_OF_MEMORY,
     }
 }
 
