@@ -189,13 +189,19 @@ def random_limits(random, percentiles):
     return limits
 
 
+def interval_of(random, runs):
+    """An expected interval for which no number has many missing samples, or 0."""
+    most = max(max(it) for it in runs)
+    interval = max(runs[0]) // random.randint(2, 9)
+    return interval if random.random() < 0.15 and interval and most // interval < 100 else 0
+
+
 def run_case(random):
     """A case of compare: two or three runs, or several of each side."""
     sigfig = random.choice([3, 3, 3, 2, 5, 1, 0])
     has_several = random.random() < 0.2
     decimals = [random.choice([0, 0, 1, 3]) for _ in range(3)]
     first = numbers_of(random)
-    interval = max(first) // random.randint(2, 9) if random.random() < 0.15 and max(first) > 9 else 0
     files, arguments = {}, ["compare"]
     if has_several:
         sides = [[first if random.random() < 0.7 else after_change(random, first) for _ in range(random.randint(4, 18))] for _ in range(2)]
@@ -206,6 +212,7 @@ def run_case(random):
         interval, runs = 0, [("after", both[1])]
     else:
         each = [first] + [after_change(random, first) for _ in range(random.choice([1, 1, 1, 2]))]
+        interval = interval_of(random, each)
         if interval:
             decimals = [decimals[0]] * 3
         files = {name: text_of(numbers, places) for name, numbers, places in zip("abc", each, decimals)}
