@@ -1,3 +1,6 @@
+room=$(mktemp -d)
+trap 'rm -rf "$room"' EXIT
+cd "$room"
 seq 9 >a
 for i in 1 2 3; do cp a a$i; done
 "$1" compare a; echo "status $?"
