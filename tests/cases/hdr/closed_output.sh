@@ -1,1 +1,0 @@
-exec "$1" report 3 1/2 </dev/null >&-

@@ -1,1 +1,0 @@
-exec "$1" report 3 "$(printf '1/2\377')"

@@ -1,1 +1,0 @@
-"$1" gather >/dev/full

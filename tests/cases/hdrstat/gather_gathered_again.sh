@@ -1,1 +1,0 @@
-"$1" gather --unsorted | "$1" gather

@@ -1,1 +1,0 @@
-"$1" summary --from log --tag '' -f csv -p 50
