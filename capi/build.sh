@@ -1,6 +1,6 @@
 #!/bin/sh
 # Makes the library for C in capi/target: libdkap.a, libdkap.so.1 with its link libdkap.so, and dkap.pc. Only the calls of dkap.h are
-# visible in them. The crate hdr_c is proved and built first, if its archive is not newer than its sources.
+# visible in them. The recorder is libdkap_recorder.a, libdkap_recorder.so.1 and dkap_recorder.pc. The crate hdr_c is proved and built first, if its archive is not newer than its sources.
 set -eu
 cd "$(dirname "$0")/.."
 proved=crates/hdr_c/out/libhdr_c.a
@@ -55,3 +55,14 @@ ar rcsD "$out/libdkap.a" "$out/libdkap.o"
 "${CC:-cc}" -shared -Wl,-soname,libdkap.so.1 -Wl,-z,defs -Wl,-z,now -o "$out/libdkap.so.1" "$out/libdkap.o"
 ln -sf libdkap.so.1 "$out/libdkap.so"
 sed "s|@VERSION@|$version|" capi/dkap.pc.in >"$out/dkap.pc"
+
+# The recorder, which is not proved, is a library of its own. It stays loaded: what it does at the end of a thread may be
+# called later.
+sed -nE 's/^(dkap_status|void) (dkap_recorder_[a-z_]+)\(.*/\2/p' capi/recorder.h >"$out/recorder_symbols"
+"${CC:-cc}" -std=c11 -O2 -fPIC -pthread -Wall -Wextra -Wshadow -pedantic -Werror -c -o "$out/recorder.o" -Icapi capi/recorder.c
+rm -f "$out/libdkap_recorder.a"
+ar rcsD "$out/libdkap_recorder.a" "$out/recorder.o"
+"${CC:-cc}" -shared -pthread -Wl,-soname,libdkap_recorder.so.1 -Wl,-z,defs -Wl,-z,now -Wl,-z,nodelete \
+    -o "$out/libdkap_recorder.so.1" "$out/recorder.o" "$out/libdkap.so.1"
+ln -sf libdkap_recorder.so.1 "$out/libdkap_recorder.so"
+sed "s|@VERSION@|$version|" capi/dkap_recorder.pc.in >"$out/dkap_recorder.pc"

@@ -258,6 +258,11 @@ uint64_t dkap_max(const struct dkap_histogram *h) DKAP_NONNULL;
 dkap_status dkap_mean(const struct dkap_histogram *DKAP_RESTRICT h, struct dkap_fraction *DKAP_RESTRICT mean)
                       DKAP_MUST_USE;
 
+/* Stores the standard deviation, each sample taken as the middle of its class, with the root rounded down to a fraction over the
+ * number of samples; 0 without samples. Errors: 1, 13. */
+dkap_status dkap_standard_deviation(const struct dkap_histogram *DKAP_RESTRICT h, struct dkap_fraction *DKAP_RESTRICT deviation)
+                                    DKAP_MUST_USE;
+
 /*
  * Stores the value at the quantile num/den: the greatest value of the class of the sample of rank
  * ceil(num * len / den), in ascending order from 1. A quantile above 1 counts as 1. For num 0 it is the lowest value of

@@ -306,6 +306,19 @@ DKAP_MUST_TEST static inline dkap_status dkap_mean_checked(const struct dkap_his
     return result;
 }
 
+DKAP_MUST_TEST static inline dkap_status dkap_standard_deviation_checked(const struct dkap_histogram *h, struct
+                                                                         dkap_fraction *deviation)
+{
+    dkap_status result;
+
+    if (!dkap_check_apart(h, sizeof *h, deviation, sizeof *deviation))
+        return DKAP_E_INVALID_ARGUMENT;
+    dkap_check_begin(h, false, "dkap_standard_deviation");
+    result = (dkap_standard_deviation)(h, deviation);
+    dkap_check_end(h, false);
+    return result;
+}
+
 DKAP_MUST_TEST static inline dkap_status dkap_value_at_quantile_checked(const struct dkap_histogram *h, uint64_t num,
                                                                         uint64_t den, uint64_t *value)
 {
@@ -725,6 +738,7 @@ DKAP_MUST_TEST static inline dkap_status dkap_log_next_checked(struct dkap_histo
 #define dkap_min_nz(h) dkap_min_nz_checked(h)
 #define dkap_max(h) dkap_max_checked(h)
 #define dkap_mean(h, mean) dkap_mean_checked(h, mean)
+#define dkap_standard_deviation(h, deviation) dkap_standard_deviation_checked(h, deviation)
 #define dkap_value_at_quantile(h, num, den, value) dkap_value_at_quantile_checked(h, num, den, value)
 #define dkap_values_at_quantiles(h, nums, length, den, values, values_length) dkap_values_at_quantiles_checked(h, \
         nums, length, den, values, values_length)

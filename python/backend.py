@@ -1,6 +1,6 @@
 """Makes the wheel for pip with the standard library alone, so that no build tool has to be downloaded.
 
-The wheel contains the library that capi/build.sh has made, and without it there is none.
+The wheel contains the libraries that capi/build.sh has made, and without them there is none.
 """
 
 from __future__ import annotations
@@ -13,6 +13,7 @@ from pathlib import Path
 
 HERE = Path(__file__).resolve().parent
 LIBRARY = HERE.parent / "capi" / "target" / "libdkap.so.1"
+RECORDER = LIBRARY.with_name("libdkap_recorder.so.1")
 LICENSES = ("LICENSE-MIT", "LICENSE-APACHE")
 
 
@@ -27,15 +28,17 @@ def _record(name: str, content: bytes) -> str:
     return f"{name},sha256={digest},{len(content)}\n"
 
 
-def _library() -> bytes:
-    if not LIBRARY.exists():
-        raise SystemExit(f"{LIBRARY} is missing: run capi/build.sh first, which proves and builds it with the Rattle kit")
-    return LIBRARY.read_bytes()
+def _libraries() -> dict[str, bytes]:
+    """Returns the bytes of each library by its name."""
+    for path in (LIBRARY, RECORDER):
+        if not path.exists():
+            raise SystemExit(f"{path} is missing: run capi/build.sh first, which proves and builds it with the Rattle kit")
+    return {path.name: path.read_bytes() for path in (LIBRARY, RECORDER)}
 
 
-def _tag(library: bytes) -> str:
-    """The tag of the platform: the greatest version of glibc of which the library needs a symbol, 2.17 at least."""
-    needed = [int(minor) for minor in re.findall(rb"GLIBC_2\.(\d+)", library)]
+def _tag(libraries: dict[str, bytes]) -> str:
+    """The tag of the platform: the greatest version of glibc of which a library needs a symbol, 2.17 at least."""
+    needed = [int(minor) for library in libraries.values() for minor in re.findall(rb"GLIBC_2\.(\d+)", library)]
     return f"py3-none-manylinux_2_{max([17, *needed])}_x86_64"
 
 
@@ -67,14 +70,14 @@ def _write(wheel_directory: str, files: dict[str, bytes], tag: str) -> str:
 
 def build_wheel(wheel_directory: str, config_settings: object = None, metadata_directory: object = None) -> str:
     """Makes the wheel (PEP 517), and returns the name of its file."""
-    library, name = _library(), _project("name")
+    libraries, name = _libraries(), _project("name")
     files = {f"{name}/{path.name}": path.read_bytes() for path in sorted((HERE / name).glob("*.py"))}
     files[f"{name}/py.typed"] = b""
-    files[f"{name}/{LIBRARY.name}"] = library
-    return _write(wheel_directory, files, _tag(library))
+    files |= {f"{name}/{library}": content for library, content in libraries.items()}
+    return _write(wheel_directory, files, _tag(libraries))
 
 
 def build_editable(wheel_directory: str, config_settings: object = None, metadata_directory: object = None) -> str:
     """Makes a wheel that names this folder (PEP 660), for pip install -e, and returns the name of its file."""
-    library, name = _library(), _project("name")
-    return _write(wheel_directory, {f"__editable__.{name}.pth": f"{HERE}\n".encode()}, _tag(library))
+    libraries, name = _libraries(), _project("name")
+    return _write(wheel_directory, {f"__editable__.{name}.pth": f"{HERE}\n".encode()}, _tag(libraries))

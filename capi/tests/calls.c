@@ -55,6 +55,7 @@ static void closed(void)
     CHECK(dkap_len(&h) == 0 && dkap_min(&h) == 0 && dkap_min_nz(&h) == 0 && dkap_max(&h) == 0);
     CHECK(dkap_count_at(&h, 1) == 0 && dkap_count_between(&h, 0, 9) == 0);
     CHECK(dkap_mean(&h, &fraction) == DKAP_E_CLOSED && dkap_quantile_below(&h, 1, &fraction) == DKAP_E_CLOSED);
+    CHECK(dkap_standard_deviation(&h, &fraction) == DKAP_E_CLOSED);
     CHECK(dkap_value_at_quantile(&h, 1, 2, &value) == DKAP_E_CLOSED && dkap_shape_of(&h, &shape) == DKAP_E_CLOSED);
     CHECK(!dkap_next_class(&h, &c) && dkap_encode(&h, bytes, 3, &length) == DKAP_E_CLOSED && length == 0);
     CHECK(dkap_decode(&h, bytes, 3, DKAP_NO_LIMIT, &length) == DKAP_E_BYTES_END_EARLY && dkap_len(&h) == 0);
@@ -100,6 +101,7 @@ static void reading(void)
     CHECK(dkap_value_at_quantile(&h, 1, 0, &value) == DKAP_E_ZERO_DENOMINATOR && value == 99);
     CHECK(dkap_value_at_quantile(&h, UINT64_MAX, 1, &value) == DKAP_OK && value == 100);
     CHECK(dkap_mean(&h, &fraction) == DKAP_OK && fraction.num_low == 5050 && fraction.den == 100);
+    CHECK(dkap_standard_deviation(&h, &fraction) == DKAP_OK && fraction.num_low == 2886 && fraction.den == 100);
     CHECK(dkap_quantile_below(&h, 25, &fraction) == DKAP_OK && fraction.num_low == 25 && fraction.den == 100);
     CHECK(dkap_min(&h) == 1 && dkap_min_nz(&h) == 1 && dkap_max(&h) == 100);
     while (dkap_next_class(&h, &c)) {
@@ -113,6 +115,7 @@ static void reading(void)
     CHECK(dkap_record_n(&h, UINT64_MAX, UINT64_MAX / 2) == DKAP_OK);
     CHECK(dkap_mean(&h, &fraction) == DKAP_OK && fraction.num_high > 0);
     CHECK(dkap_record_n(&h, 1, UINT64_MAX) == DKAP_OK && dkap_mean(&h, &fraction) == DKAP_E_TOO_MANY_SAMPLES);
+    CHECK(dkap_standard_deviation(&h, &fraction) == DKAP_E_TOO_MANY_SAMPLES);
     dkap_close(&h);
 }
 

@@ -8,7 +8,7 @@
     latencies.percentile("99.9")
 
 A call keeps the interpreter's lock, so threads may share a histogram. Without that lock, as in a free-threaded build,
-the package has a lock of its own. As in C, a histogram is not used in the forked child of a process that has threads.
+the package has a lock of its own. Threads record at once in a Recorder. As in C, a histogram is not used in the forked child of a process that has threads.
 """
 
 from ._library import version
@@ -23,6 +23,7 @@ from .errors import (
 )
 from .histogram import Class, Histogram
 from .logs import HistogramLogReader, Interval, LogWriter, read_log
+from .recorder import Recorder
 
 __all__ = [
     "Class",
@@ -36,6 +37,7 @@ __all__ = [
     "InvalidBounds",
     "LogError",
     "LogWriter",
+    "Recorder",
     "ValueOutOfRange",
     "read_log",
     "version",

@@ -88,7 +88,7 @@ class LogHeader(ctypes.Structure):
     _fields_ = [("start_time", Time), ("has_start_time", c_bool), ("unit_nanos", c_uint64)]
 
 
-_HANDLE = POINTER(Handle)
+HANDLE = POINTER(Handle)
 _SIZE = POINTER(c_size_t)
 _BYTES = [c_void_p, c_size_t, _SIZE]
 
@@ -96,7 +96,7 @@ _BYTES = [c_void_p, c_size_t, _SIZE]
 _CALLS: dict[str, tuple[Any, list[Any]]] = {
     "init": (c_uint32, [c_uint64, c_uint64, c_uint8]),
     "init_auto": (c_uint32, [c_uint8]),
-    "copy": (c_uint32, [_HANDLE]),
+    "copy": (c_uint32, [HANDLE]),
     "close": (None, []),
     "auto_resize": (c_uint32, [c_bool]),
     "reset": (c_uint32, []),
@@ -106,15 +106,16 @@ _CALLS: dict[str, tuple[Any, list[Any]]] = {
     "record_correct": (c_uint32, [c_uint64, c_uint64, c_uint64]),
     "record_saturating": (c_uint32, [c_uint64, c_uint64]),
     "record_all": (c_uint32, _BYTES),
-    "add": (c_uint32, [_HANDLE]),
-    "add_correct": (c_uint32, [_HANDLE, c_uint64]),
-    "subtract": (c_uint32, [_HANDLE]),
-    "equal": (c_bool, [_HANDLE]),
+    "add": (c_uint32, [HANDLE]),
+    "add_correct": (c_uint32, [HANDLE, c_uint64]),
+    "subtract": (c_uint32, [HANDLE]),
+    "equal": (c_bool, [HANDLE]),
     "len": (c_uint64, []),
     "min": (c_uint64, []),
     "min_nz": (c_uint64, []),
     "max": (c_uint64, []),
     "mean": (c_uint32, [POINTER(WideFraction)]),
+    "standard_deviation": (c_uint32, [POINTER(WideFraction)]),
     "value_at_quantile": (c_uint32, [c_uint64, c_uint64, POINTER(c_uint64)]),
     "values_at_quantiles": (c_uint32, [c_void_p, c_size_t, c_uint64, c_void_p, c_size_t]),
     "quantile_below": (c_uint32, [c_uint64, POINTER(WideFraction)]),
@@ -154,7 +155,13 @@ def locked(call: Callable[..., Any]) -> Callable[..., Any]:
     return call_locked
 
 
-def _path() -> str:
+def guarded(call: Callable[..., Any]) -> Callable[..., Any]:
+    """Returns the call, made under the lock of the package if the interpreter has none."""
+    has_lock = getattr(sys, "_is_gil_enabled", lambda: True)()
+    return call if has_lock else locked(call)
+
+
+def library_path() -> str:
     """Returns what DECKAPRICOT_LIBRARY names, else the library beside the package or of the repository, if any.
 
     Otherwise it returns the name alone, which the loader searches.
@@ -175,18 +182,17 @@ class Library:
 
     def __init__(self) -> None:
         # PyDLL keeps the interpreter's lock during a call. CDLL would let another thread use the histogram meanwhile.
-        path = _path()
+        path = library_path()
         try:
             library = ctypes.PyDLL(path)
         except OSError as error:
             raise ImportError(f"{error}: build libdkap by capi/build.sh, install it, or name it in DECKAPRICOT_LIBRARY") from None
-        has_lock = getattr(sys, "_is_gil_enabled", lambda: True)()
-        calls = {name: (result, [_HANDLE, *arguments]) for name, (result, arguments) in _CALLS.items()}
+        calls = {name: (result, [HANDLE, *arguments]) for name, (result, arguments) in _CALLS.items()}
         for name, (result, arguments) in {**calls, **_CALLS_OF_LOGS}.items():
             call = getattr(library, "dkap_" + name)
             call.restype = result
             call.argtypes = arguments
-            setattr(self, name, call if has_lock else locked(call))
+            setattr(self, name, guarded(call))
         self.strerror = library.dkap_strerror
         self.strerror.argtypes = [c_uint32]
         self.strerror.restype = c_char_p
@@ -216,3 +222,13 @@ def check(status: int) -> None:
     """Raises the exception of a status, if it is not 0."""
     if status:
         raise error_of(status)
+
+
+def check_recorded(status: int, recorded: int) -> None:
+    """Raises the exception of a status, if it is not 0, with the number of values recorded before the error."""
+    if status:
+        error = error_of(status)
+        error.recorded = recorded  # type: ignore[attr-defined]
+        if status == OUT_OF_RANGE:
+            error.args = (f"{error}: the value at index {recorded}",)
+        raise error

@@ -3,7 +3,7 @@
 from __future__ import annotations
 
 from array import array
-from collections.abc import Iterable, Iterator
+from collections.abc import Callable, Iterable, Iterator
 from copy import deepcopy
 from ctypes import byref, c_size_t, c_uint64
 from fractions import Fraction
@@ -11,7 +11,6 @@ from math import ceil, lcm
 from typing import Any, NamedTuple, Optional, TypeVar
 
 from ._library import (
-    OUT_OF_RANGE,
     TOO_MANY_SAMPLES,
     U64_MAX,
     ClassCursor,
@@ -19,7 +18,7 @@ from ._library import (
     Shape,
     WideFraction,
     check,
-    error_of,
+    check_recorded,
     lib,
 )
 from ._values import Number, exact, memory, word, words, written
@@ -169,12 +168,7 @@ class Histogram:
         view = words(values, scale)
         with memory(view) as (address, length):
             status = lib.record_all(self._at, address, length // 8, byref(done))
-        if status:
-            error = error_of(status)
-            error.recorded = done.value  # type: ignore[attr-defined]
-            if status == OUT_OF_RANGE:
-                error.args = (f"{error}: the value at index {done.value}",)
-            raise error
+        check_recorded(status, done.value)
         return done.value
 
     def merge(self, other: Histogram, *, expected_interval: int = 0) -> None:
@@ -267,8 +261,20 @@ class Histogram:
     @property
     def mean(self) -> Optional[Fraction]:
         """The mean, each sample taken as the middle of its class. It is None if there are 2**64 - 1 samples or more."""
+        return self._fraction_by(lib.mean)
+
+    @property
+    def standard_deviation(self) -> Optional[Fraction]:
+        """The standard deviation, each sample taken as the middle of its class. It is None if there are 2**64 - 1 samples or more.
+
+        The root is rounded down to a fraction over the number of samples.
+        """
+        return self._fraction_by(lib.standard_deviation)
+
+    def _fraction_by(self, call: Callable[..., int]) -> Optional[Fraction]:
+        """Returns the fraction that a call of the library stores, or None if there are too many samples."""
         found = WideFraction()
-        status = lib.mean(self._at, byref(found))
+        status = call(self._at, byref(found))
         if status == TOO_MANY_SAMPLES:
             return None
         check(status)

@@ -90,7 +90,7 @@ class Reading(unittest.TestCase):
         h = Histogram(3, 1, 3_600_000_000)
         h.record_many(range(1, 101))
         self.assertEqual((h.total, h.min, h.min_nonzero, h.max), (100, 1, 1, 100))
-        self.assertEqual(h.mean, Fraction(101, 2))
+        self.assertEqual((h.mean, h.standard_deviation), (Fraction(101, 2), Fraction(2886, 100)))
         self.assertEqual((h.fraction_below(25), h.count_at(7), h.count_between(3, 5)), (Fraction(1, 4), 1, 3))
         self.assertEqual(list(h)[:2], [Class(1, 1, 1), Class(2, 2, 1)])
         self.assertEqual((h.digits, h.low, h.high, h.bins, h.auto_resize), (3, 1, 3_600_000_000, 23552, False))
@@ -100,6 +100,7 @@ class Reading(unittest.TestCase):
     def test_empty(self) -> None:
         h = Histogram()
         self.assertEqual((h.total, bool(h), h.min, h.min_nonzero, h.max, h.mean), (0, False, 0, None, 0, 0))
+        self.assertEqual(h.standard_deviation, 0)
         self.assertEqual((h.percentile(99), h.fraction_below(3), list(h), h.auto_resize), (0, 1, [], True))
         self.assertEqual(h.quantile(Fraction(1, 3**60)), 0)
 

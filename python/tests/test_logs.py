@@ -2,13 +2,20 @@
 
 from __future__ import annotations
 
+import base64
 import io
+import sys
 import tempfile
 import unittest
+import zlib
 from decimal import Decimal
 from fractions import Fraction
 from pathlib import Path
 
+sys.dont_write_bytecode = True
+sys.path.append(str(Path(__file__).parents[2] / "tools"))
+
+from case_files import cases_of
 from deckapricot import ClosedError, DecodeError, Histogram, HistogramLogReader, LogError, LogWriter, read_log
 
 FIELD = b"HISTEwAAAAMAAAAAAAAAAwAAAAAAAAABAAAAAAAAAAI/8AAAAAAAAAACCA=="
@@ -71,12 +78,14 @@ class Logs(unittest.TestCase):
 
     def test_versions(self) -> None:
         """The case of hdrstat with logs of versions 0 and 1, whose histograms it converts to V2 bytes."""
-        cases = Path(__file__).parents[2] / "tests" / "cases" / "hdrstat"
-        old, new = (list(read_log(cases / f"convert_old_versions.{end}")) for end in ("in", "out"))
+        case = next(case for case in cases_of("hdrstat")[0] if case.name == "convert_old_versions")
+        old, new = (list(read_log(io.BytesIO(case.text(kind)))) for kind in ("in", "out"))
         self.assertEqual([i.histogram for i in old], [i.histogram for i in new])
         self.assertEqual(([i.start for i in old], old[0].histogram.count_at(49)), ([0, 1, 2, 3, 4], 5))
+        packed = zlib.compress(bytes(60_000_000))
+        field = bytes.fromhex("1c849314") + len(packed).to_bytes(4, "big") + packed
         with self.assertRaises(DecodeError) as context:
-            list(read_log(cases / "convert_bomb.in", max_bins=1000))
+            list(read_log(io.BytesIO(b"0.0,1.0,2.0," + base64.b64encode(field) + b"\n"), max_bins=1000))
         self.assertIn(context.exception.status, (27, 28))
 
     def test_errors(self) -> None:
