@@ -2,6 +2,7 @@
 use Rattle.std.specs.Prelude.{◌≡◌, ◌⊎◌, ◌-◌, ◌/◌, ◌%◌, ◌^◌, ◌<◌, ◌≤◌, ℕ, min, List, Option, Some, None, length, slice_index}
 use Rattle.hdr_base.specs.Fractions.{Ratio}
 use Rattle.hdr_model.specs.Plain.{Plain}
+use Rattle.hdr_model.specs.Deviation.{IsDeviation}
 use Rattle.hdr_model.specs.Quantiles.{value_at_quantile}
 use Rattle.hdr_c.specs.declared.queries.WideFraction.{WideFraction}
 use Rattle.hdr_c.specs.declared.queries.Shape.{Shape}
@@ -14,6 +15,11 @@ IsFraction q s = (s.num_low ≡ q.num % 2 ^ 64) × (s.num_high ≡ q.num / 2 ^ 6
 abbrev pub IsMean : ℕ → Option Ratio → WideFraction → WideFraction → Type 0
 IsMean status None old new = (status ≡ 13) × (new ≡ old)
 IsMean status (Some q) old new = (status ≡ 0) × IsFraction q new
+
+-- a standard deviation is stored, or the total is full: the status is then 13, and nothing is stored
+abbrev pub IsStoredDeviation : ℕ → Plain → WideFraction → WideFraction → Type 0
+IsStoredDeviation status h old new =
+    (h.total ≡ 2 ^ 64 - 1 → (status ≡ 13) × (new ≡ old)) × (h.total < 2 ^ 64 - 1 → (status ≡ 0) × (deviation : Ratio) × IsDeviation h deviation × IsFraction deviation new)
 
 -- the value at a quantile is stored, or the denominator is 0: the status is then 12, and nothing is stored
 abbrev pub IsQuantile : ℕ → ℕ → ℕ → ℕ → ℕ → Type 0

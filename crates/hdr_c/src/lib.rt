@@ -8,6 +8,7 @@ mod classes;
 mod compressing;
 mod creation;
 mod decoding;
+mod deviation;
 mod equivalents;
 mod handle;
 mod held;

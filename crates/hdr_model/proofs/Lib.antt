@@ -26,6 +26,7 @@ pub mod EqualityZeros
 pub mod StatisticsBetween
 pub mod StatisticsShares
 pub mod StatisticsMeans
+pub mod DeviationSums
 pub mod UnfinishedFacts
 pub mod PlainAfter
 pub mod SamplesFacts

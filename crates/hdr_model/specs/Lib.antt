@@ -8,6 +8,7 @@ pub mod Subtracting
 pub mod CallErrors
 pub mod Quantiles
 pub mod Statistics
+pub mod Deviation
 pub mod Equality
 pub mod Joining
 pub mod Unfinished

@@ -1,6 +1,7 @@
 //! V2 bytes and their parts, in hexadecimal.
 
 use crate::arguments::{ok_or_invalid, parse_u64};
+use crate::items::numbers_text;
 use crate::outcome::{LineError, Outcome, Value, ensure_same, optional_number};
 use crate::single::{is_same, replace};
 use hdr_base::Counter;
@@ -138,6 +139,18 @@ fn decode_field_into<T: Counter>(alloc: Global, h: &mut Histogram<T>, text: &str
     replace(h, Deserializer::new(alloc).decode_field_into(text, spare)?)
 }
 
+/// Returns the text of the nonempty classes of a field: the lowest value and the count of each.
+fn classes_of_field(alloc: Global, text: &str) -> Outcome {
+    let mut classes = Vec::new(alloc);
+    Deserializer::new(alloc).decode_classes(text, &mut classes)?;
+    let mut numbers = Vec::new(alloc);
+    for class in &classes {
+        numbers.push(class.value).map_err(AllocError::from)?;
+        numbers.push(class.count).map_err(AllocError::from)?;
+    }
+    numbers_text(alloc, numbers)
+}
+
 /// Makes a call on a histogram and bytes.
 pub fn call_histogram<T: Counter>(
     alloc: Global,
@@ -152,6 +165,7 @@ pub fn call_histogram<T: Counter>(
         ("decode_alone", _) => decode(alloc, h, parse_hex(alloc, text)?.as_slice()),
         ("decode_field", _) => replace(h, Deserializer::new(alloc).decode_field(text)?),
         ("decode_field_into", _) => decode_field_into(alloc, h, text),
+        ("decode_classes", _) => classes_of_field(alloc, text),
         _ => Err(LineError::UnknownCall),
     }
 }

@@ -101,6 +101,14 @@ fn fraction_text(alloc: Global, fraction: Fraction) -> Outcome {
     Ok(Value::Text(format!(in alloc; "{}", fraction)?))
 }
 
+/// Returns the text of a fraction, if there is one.
+fn fraction_or_none(alloc: Global, fraction: Option<Fraction>) -> Outcome {
+    match fraction {
+        Some(fraction) => fraction_text(alloc, fraction),
+        None => Ok(Value::None),
+    }
+}
+
 /// Makes a call on a histogram whose value is text.
 pub fn call<T: Counter>(alloc: Global, h: &Histogram<T>, name: &str, numbers: &[u64]) -> Outcome {
     match (name, numbers) {
@@ -117,10 +125,8 @@ pub fn call<T: Counter>(alloc: Global, h: &Histogram<T>, name: &str, numbers: &[
         },
         ("quantile_below", [value]) => fraction_text(alloc, h.quantile_below(*value)),
         ("percentile_below", [value]) => fraction_text(alloc, h.percentile_below(*value)),
-        ("mean", []) => match h.mean() {
-            Some(mean) => fraction_text(alloc, mean),
-            None => Ok(Value::None),
-        },
+        ("mean", []) => fraction_or_none(alloc, h.mean()),
+        ("standard_deviation", []) => fraction_or_none(alloc, h.standard_deviation()),
         _ => Err(LineError::UnknownCall),
     }
 }

@@ -5,8 +5,8 @@ use hdrhistogram::serialization::v2_serializer::{
     counts_array_max_encoded_size, encode_counts, varint_write, zig_zag_encode,
 };
 use hdrhistogram::serialization::{
-    DeserializeError, Deserializer, FieldDecodeError, Serializer, V2SerializeError, V2Serializer,
-    deserializer,
+    DeserializeError, Deserializer, FieldDecodeError, RecordedBounds, RecordedClass, Serializer,
+    V2SerializeError, V2Serializer, deserializer,
 };
 use hdrhistogram::{Counter, Histogram};
 use std::alloc::{AllocError, Global};
@@ -94,6 +94,22 @@ pub fn decode_field_into<T: Counter>(
     spare: Option<Histogram<T>>,
 ) -> Result<Histogram<T>, FieldDecodeError> {
     deserializer.decode_field_into(field, spare)
+}
+
+/// The nonempty classes of an interval's field. Returns its lowest value and its digits.
+pub fn decode_classes(
+    deserializer: &mut Deserializer,
+    field: &str,
+    classes: &mut Vec<RecordedClass>,
+) -> Result<(u64, u8), FieldDecodeError> {
+    let RecordedBounds { low, sigfig } = deserializer.decode_classes(field, classes)?;
+    Ok((low, sigfig))
+}
+
+/// The lowest value of a class, and its count.
+pub fn class_parts(class: RecordedClass) -> (u64, u64) {
+    let RecordedClass { value, count } = class;
+    (value, count)
 }
 
 /// Every variant, and no other.

@@ -53,6 +53,10 @@ pub fn mean<T: Counter>(histogram: &Histogram<T>) -> Option<Fraction> {
     histogram.mean()
 }
 
+pub fn standard_deviation<T: Counter>(histogram: &Histogram<T>) -> Option<Fraction> {
+    histogram.standard_deviation()
+}
+
 pub fn integer_mean<T: Counter>(histogram: &Histogram<T>) -> Option<u128> {
     let mean = histogram.mean()?;
     Some(mean.num / mean.den)

@@ -12,6 +12,7 @@ pub mod V2ReadHistogram
 pub mod V2ReadHeader
 pub mod V2ReadRestated
 pub mod V2ReadPlain
+pub mod ClassesReadFacts
 pub mod PayloadReadFilling
 pub mod VarintRead
 pub mod LogStartsParts

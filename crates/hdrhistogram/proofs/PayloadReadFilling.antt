@@ -68,14 +68,14 @@ no_second true b x y m h = cc
 no_second false true x y m h = cc
 no_second false false x y m h = refl
 
-below_bins : (bins greatest place n : ℕ) → defect_at bins greatest place (pos (suc n)) ≡ None → place < bins
+pub below_bins : (bins greatest place n : ℕ) → defect_at bins greatest place (pos (suc n)) ≡ None → place < bins
 below_bins bins greatest place n h =
     let tests = no_second (ltb greatest (suc n)) (ltb 0 (suc n) && leb bins place) _ _ _ h in
     let positive : ltb 0 (suc n) ≡ true = lt-ltb 0 (suc n) (omega arith) in
     ⊎_elim (λ e. absurd (true≢false (sym positive ∙ e))) (λ e. leb-false bins place e) (and_cases _ _ tests)
 
 -- a number without a defect adds its bins
-with_fitted : (bins greatest place : ℕ) (front : List ℕ) (n : ℤ) → length front ≡ place → defect_at bins greatest place n ≡ None
+pub with_fitted : (bins greatest place : ℕ) (front : List ℕ) (n : ℤ) → length front ≡ place → defect_at bins greatest place n ≡ None
     → with_count (fit_bins bins front) place n ≡ fit_bins bins (front ++ bins_of_number n)
 with_fitted bins greatest place front (pos zero) e fine = sym (fitted_run bins front 1)
 with_fitted bins greatest place front (pos (suc n)) e fine =

@@ -198,7 +198,7 @@ both_true : (a b : Bool) → (a && b) ≡ true → (a ≡ true) × (b ≡ true)
 both_true true b e = (refl, e)
 both_true false b e = absurd (let f : false ≡ true = e in cc)
 
-bounds_from : (low high sigfig : ℕ) → are_bounds low high sigfig ≡ true → IsBounds low high sigfig
+pub bounds_from : (low high sigfig : ℕ) → are_bounds low high sigfig ≡ true → IsBounds low high sigfig
 unfolding are_bounds
 bounds_from low high sigfig e =
     let a = both_true (nat_lt 0 low && nat_lt low (2 ^ 63) && nat_le (2 * low) high && nat_le sigfig 5) (nat_le (unit_of low + digits_of sigfig) 63) e in
@@ -282,3 +282,13 @@ bytes_read ended is most text = by_result (v2_at most text) refl
         let restated : IsRestated h = record { total = refl; top_mark = (top_of_numbers c.counts).1; lower_mark = (lower_of_numbers c.counts).1 } in
         (Ok (h, taken), is-read most text rest h taken e refl restated refl)
     by_result (Err f) e = let n = named ended is f in (Err n.0, (f, n.1, e))
+
+-- bytes that decode to contents decode to a histogram with them
+pub contents_held : (most : ℕ) (text rest : List ℕ) (c : Contents) → AreBytes text → v2_at most text ≡ Ok (c, rest)
+    → (h : Plain) × (taken : ℕ) × IsReadAs most text h taken × IsPlain most h × (histogram_contents h ≡ c)
+contents_held most text rest c are e =
+    let h = closed c in
+    let taken = length text - length rest in
+    let restated : IsRestated h = record { total = refl; top_mark = (top_of_numbers c.counts).1; lower_mark = (lower_of_numbers c.counts).1 } in
+    let read = is-read most text rest h taken e refl restated refl in
+    (h, taken, read, read_is_plain most taken text h are read, refl)

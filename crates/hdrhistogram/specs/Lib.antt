@@ -10,6 +10,7 @@ pub mod PayloadRead
 pub mod V2Read
 pub mod HeaderView
 pub mod FieldRead
+pub mod ClassesRead
 pub mod LogStarts
 pub mod LogLeaving
 pub mod LogWriters

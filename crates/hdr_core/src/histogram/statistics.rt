@@ -6,6 +6,9 @@ ghost use Rattle.hdr_model.specs.Plain.{IsPlain, resolution, reach};
 ghost use Rattle.hdr_model.specs.Samples.{StandsFor};
 ghost use Rattle.hdr_model.specs.Statistics.{bin_or_last, sum_between, samples_between, quantile_below, in_hundredths, median_of, weight_from, mean};
 
+mod deviation;
+mod u256;
+
 use super::Histogram;
 use hdr_base::{Counter, Fraction, Scale, saturating_from};
 
@@ -118,9 +121,16 @@ fn weight(scale: Scale, bin: usize, number: u64) -> u128
     ensures value { result ≡ median_of scale (value_of scale bin) * number }
     ensures bound { result ≤ 2 ^ 64 * number }
 {
+    u128::from(middle(scale, bin)) * u128::from(number)
+}
+
+/// Returns the value in the middle of the class of `bin`.
+fn middle(scale: Scale, bin: usize) -> u64
+    requires { bin ≤ bin_of scale (2 ^ 64 - 1) }
+    ensures { result ≡ median_of scale (value_of scale bin) }
+{
     let Some(lowest) = scale.bin_value(bin) else {
         return 0;
     };
-    let middle = scale.lowest(lowest) + scale.width(lowest) / 2;
-    u128::from(middle) * u128::from(number)
+    scale.lowest(lowest) + scale.width(lowest) / 2
 }

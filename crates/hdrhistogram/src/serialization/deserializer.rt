@@ -1,12 +1,14 @@
 //! Decodes V2 bytes.
 
-ghost use Rattle.std.specs.Prelude.{◌≡◌, ℕ, List, [], length, replicate, true, false, None, IfOk, IfErr, MatchResult};
+ghost use Rattle.std.specs.Prelude.{◌≡◌, ◌-◌, ◌^◌, ℕ, List, [], length, replicate, true, false, None, IfOk, IfErr, MatchResult};
 ghost use Rattle.std.specs.Io.KnownBytes.{Consumes};
 ghost use Rattle.hdrhistogram.specs.Defects.{Gives, TakesAs, Checks, FailsBy, TakesDefect, RunsOutOnly, defect_of_error};
 ghost use Rattle.hdrhistogram.specs.V2Read.{HasBounds, creation_defect, bounds_defect, bins_for, bytes_at, v2_at, builder_contents, histogram_contents, IsRestated, IsReadAs};
 ghost use Rattle.hdrhistogram.specs.HeaderView.{header_of};
 ghost use Rattle.hdrhistogram.specs.FieldRead.{IsHeldIn, IsFieldDecodeError};
+ghost use Rattle.hdrhistogram.specs.ClassesRead.{AppendsField};
 
+use crate::serialization::class_decoder::{RecordedBounds, RecordedClass, append_classes};
 pub use crate::serialization::errors::{DeserializeError, FieldDecodeError};
 use crate::serialization::fields::{Header, header_at, read_header, unexpected_eof};
 use crate::serialization::header::HEADER_LEN;
@@ -135,6 +137,47 @@ impl Deserializer {
         self.payload.clear();
         read
     }
+
+    /// Appends the nonempty classes of the histogram of an interval's field, in ascending order,
+    /// and returns its bounds. It is `decode_field` for a sum of many intervals, which needs no
+    /// counters of its own for each. On error some of the classes may be appended.
+    ///
+    /// # Errors
+    /// As `decode_field`.
+    pub fn decode_classes(
+        &mut self,
+        field: &str,
+        classes: &mut Vec<RecordedClass>,
+    ) -> Result<RecordedBounds, FieldDecodeError>
+        ensures read { MatchResult result (λ bounds. AppendsField (2 ^ 64 - 1) field.now bounds
+            classes.old.items classes.new.items) (IsFieldDecodeError (2 ^ 64 - 1) field.now) }
+        ensures as_new { self.new ≡ [] }
+    {
+        let read = read_classes(field, &mut self.payload, classes);
+        self.payload.clear();
+        read
+    }
+}
+
+/// Appends the classes of the histogram of a field, which is decoded through `buffer`.
+fn read_classes(
+    field: &str,
+    buffer: &mut Vec<u8>,
+    classes: &mut Vec<RecordedClass>,
+) -> Result<RecordedBounds, FieldDecodeError>
+    ensures { MatchResult result (λ bounds. AppendsField (2 ^ 64 - 1) field.now bounds
+        classes.old.items classes.new.items) (IsFieldDecodeError (2 ^ 64 - 1) field.now) }
+{
+    match decode_into(field, buffer) {
+        Ok(()) => {}
+        Err(FieldError::NotBase64) => return Err(FieldDecodeError::NotBase64),
+        Err(FieldError::OutOfMemory) => return Err(FieldDecodeError::OutOfMemory),
+    }
+    match append_classes(classes, buffer) {
+        Ok(bounds) => Ok(bounds),
+        Err(DeserializeError::OutOfMemory) => Err(FieldDecodeError::OutOfMemory),
+        Err(cause) => Err(FieldDecodeError::Decode(cause)),
+    }
 }
 
 /// Decodes the histogram of a field through `buffer`.
@@ -214,7 +257,7 @@ fn creation_error(error: CreationError) -> DeserializeError
 
 /// Returns the first `len` bytes of `text`, and the rest.
 #[tactic(auto, unfolding(crate::specs::V2Read::bytes_at))]
-fn bytes_at(text: &[u8], len: usize) -> Result<(&[u8], &[u8]), DeserializeError>
+pub(crate) fn bytes_at(text: &[u8], len: usize) -> Result<(&[u8], &[u8]), DeserializeError>
     ensures { Gives (λ x. (x.0.now, x.1.now)) result (bytes_at len text.now) }
 {
     if text.len() < len {

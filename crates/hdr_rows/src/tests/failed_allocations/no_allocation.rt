@@ -109,10 +109,12 @@ fn statistics_are_right(h: &Histogram<u64>, half: Quantile) -> bool {
     let below = h.quantile_below(7);
     let percent = h.percentile_below(7);
     let is_mean = matches!(h.mean(), Some(mean) if mean.num == 7 && mean.den == 1);
+    let is_deviation = matches!(h.standard_deviation(), Some(d) if d.num == 0 && d.den == 1);
     (quantiles, percentiles) == (2, 2)
         && (below.num, below.den) == (1, 1)
         && (percent.num, percent.den) == (100, 1)
         && is_mean
+        && is_deviation
 }
 
 /// Whether constructors that allocate nothing are called, and a log is read.
