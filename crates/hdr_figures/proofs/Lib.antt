@@ -1,1 +1,3 @@
+mod AddedClasses
 mod Adding
+mod ClassRanks

@@ -1,4 +1,5 @@
 pub mod Breaks
+pub mod Classes
 pub mod Figures
 pub mod Intervals
 pub mod Levels

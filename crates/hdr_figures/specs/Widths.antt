@@ -2,6 +2,7 @@
 use Rattle.std.specs.Prelude.{◌≡◌, ℕ, ◌-◌, ◌^◌, max, min}
 use Rattle.hdr_base.specs.Classes.{HasScale, lowest_of, resolution_of, top_of}
 use Rattle.hdr_model.specs.Plain.{Plain}
+use Rattle.hdr_figures.specs.declared.classes.Classes.{Classes}
 use Rattle.hdr_figures.specs.declared.level.LevelValue.{LevelValue}
 use Rattle.hdr_figures.specs.declared.sum.Width.{Width}
 
@@ -24,6 +25,10 @@ IsWithClass width at = IsLowest width at.value at.lowest × IsHighest width at.v
 -- the width of the classes of a histogram
 abbrev pub IsWidthOf : Plain → Width → Type 0
 IsWidthOf h width = (width.low ≡ h.low) × (width.sigfig ≡ h.sigfig)
+
+-- the width of classes that were decoded
+abbrev pub width_in : Classes → Width
+width_in c = record { low = c.bounds.low; sigfig = c.bounds.sigfig }
 
 -- the width of classes that have those of two widths in them
 abbrev pub IsJoin : Width → Width → Width → Type 0

@@ -1,8 +1,11 @@
 //! The figures of tags, and of their points of time.
 
 ghost use Rattle.std.specs.Prelude.{◌≡◌, ◌<◌};
+ghost use Rattle.hdr_model.specs.Plain.{Plain};
+ghost use Rattle.hdr_figures.specs.Classes.{AreClassesOf};
 ghost use Rattle.hdr_figures.specs.Figures.{AreFiguresOf, no_peaks, peaks_with, value_at};
 
+use crate::classes::Classes;
 use crate::level::LevelValue;
 use crate::sum::Sum;
 use hdr_logs::StoredInterval;
@@ -152,16 +155,16 @@ impl Peaks {
         }
     }
 
-    /// Returns the greatest percentiles of these intervals and one more, which has this histogram.
-    pub(crate) fn with(self, histogram: &Histogram<u64>) -> Peaks
-        ensures { result ≡ peaks_with self histogram.now }
+    /// Returns the greatest percentiles of these intervals and one more, which has these classes.
+    pub(crate) fn with(self, classes: &Classes<'_>) -> Peaks
+        ensures { (h : Plain) → AreClassesOf classes.now h → result ≡ peaks_with self h }
     {
         Peaks {
-            p50: self.p50.max(value_at(histogram, 1, 2)),
-            p90: self.p90.max(value_at(histogram, 9, 10)),
-            p99: self.p99.max(value_at(histogram, 99, 100)),
-            p999: self.p999.max(value_at(histogram, 999, 1_000)),
-            max: self.max.max(value_at(histogram, 1, 1)),
+            p50: self.p50.max(classes.value_at(1, 2)),
+            p90: self.p90.max(classes.value_at(9, 10)),
+            p99: self.p99.max(classes.value_at(99, 100)),
+            p999: self.p999.max(classes.value_at(999, 1_000)),
+            max: self.max.max(classes.value_at(1, 1)),
         }
     }
 }

@@ -2,6 +2,7 @@
 #![tactic(auto)]
 
 pub mod breaks;
+mod classes;
 pub mod figures;
 pub mod level;
 pub mod sum;

@@ -1,18 +1,21 @@
 //! Sums of intervals.
 
-ghost use Rattle.std.specs.Prelude.{◌≡◌, ◌-◌, ◌^◌, ◌↔◌, true, map, IfOk, OnOk, IsTrue};
+ghost use Rattle.std.specs.Prelude.{◌≡◌, ◌≤◌, ◌-◌, ◌^◌, ◌↔◌, true, map, IfOk, OnOk, IsTrue};
 ghost use Rattle.std.specs.List.{All};
 ghost use Rattle.hdr_base.specs.Classes.{IsFiner};
-ghost use Rattle.hdr_model.specs.Plain.{empty_plain, resolution};
+ghost use Rattle.hdr_model.specs.Plain.{Plain, IsPlain, empty_plain, max_of, reach, resolution};
 ghost use Rattle.hdr_model.specs.Merging.{after_add};
 ghost use Rattle.hdr_model.specs.Recording.{after_reset};
+ghost use Rattle.hdr_figures.specs.Classes.{AreClassesOf, IsMarkedBySamples};
 ghost use Rattle.hdr_figures.specs.Figures.{AreFiguresOf, value_at};
-ghost use Rattle.hdr_figures.specs.Widths.{IsHighest, IsJoin, IsLowest, IsWidthOf, IsWithClass};
+ghost use Rattle.hdr_figures.specs.Widths.{IsHighest, IsJoin, IsLowest, IsWidthOf, IsWithClass, width_in};
 
+use crate::classes::{Classes, record_all};
 use crate::figures::{Figures, value_at};
 use crate::level::{LevelValue, PageLevel};
 use hdr_base::Scale;
 use hdr_logs::add;
+use hdrhistogram::serialization::RecordedBounds;
 use hdrhistogram::{AdditionError, CreationError, Histogram};
 use std::alloc::{AllocError, Global};
 
@@ -113,6 +116,43 @@ impl Sum {
         let is_coarser = add(&mut self.histogram, &other.histogram)?;
         self.width = self.width.join(other.width);
         Ok(is_coarser)
+    }
+
+    /// Whether the greatest value of an interval of these classes has a bin.
+    pub(crate) fn has_bins_for(&self, classes: &Classes<'_>) -> bool
+        ensures greatest { (h : Plain) → AreClassesOf classes.now h → IsTrue result
+            → max_of h ≤ reach self.now.histogram }
+        ensures plain { IsPlain (2 ^ 64 - 1) self.now.histogram }
+    {
+        self.histogram.bin_of(classes.max()).is_some()
+    }
+
+    /// Adds an interval of these classes, which have bins. Returns whether it is coarser.
+    pub(crate) fn add_classes(&mut self, classes: &Classes<'_>) -> Result<bool, AllocError>
+        requires { IsPlain (2 ^ 64 - 1) self.old.histogram }
+        ensures sum { (h : Plain) → AreClassesOf classes.now h → max_of h ≤ reach self.old.histogram
+            → IsMarkedBySamples self.old.histogram → OnOk result (self.new.histogram
+            ≡ after_add (2 ^ 64 - 1) self.old.histogram h) }
+        ensures width { OnOk result (IsJoin self.old.width (width_in classes.now) self.new.width) }
+        ensures coarser { IfOk result (λ is_coarser. IsTrue is_coarser
+            ↔ (IsFiner classes.now.scale (resolution self.old.histogram) → ⊥)) }
+    {
+        let is_coarser = self.is_finer_than(classes.scale);
+        record_all(&mut self.histogram, classes.items)?;
+        let RecordedBounds { low, sigfig } = classes.bounds;
+        self.width = self.width.join(Width { low, sigfig });
+        Ok(is_coarser)
+    }
+
+    /// Whether not all classes of a scale lie in those of the sum.
+    fn is_finer_than(&self, scale: Scale) -> bool
+        requires { IsPlain (2 ^ 64 - 1) self.now.histogram }
+        ensures { IsTrue result ↔ (IsFiner scale (resolution self.now.histogram) → ⊥) }
+    {
+        match Scale::new(self.histogram.low(), self.histogram.sigfig()) {
+            Some(own) => own.unit() < scale.unit() || scale.digits() < own.digits(),
+            None => unreachable!(),
+        }
     }
 
     /// Returns the figures of the samples.

@@ -8,18 +8,18 @@ ghost use Rattle.hdr_model.specs.Plain.{Plain};
 ghost use Rattle.hdr_model.specs.Recording.{after_reset};
 ghost use Rattle.hdrhistogram.specs.FieldRead.{IsHeldIn};
 ghost use Rattle.hdr_logs.specs.Stored.{view_of_stored};
+ghost use Rattle.hdr_figures.specs.Classes.{AreClassesOf, IsMarkedBySamples};
 ghost use Rattle.hdr_figures.specs.Figures.{AreFiguresOf, ArePeaksOf, peaks_with, value_at, with_samples};
 ghost use Rattle.hdr_figures.specs.Intervals.{AreHistogramsOf, IsWorse, span_of, sum_of};
 
-use crate::figures::{
-    Cell, LogFigures, Peaks, PointFigures, TagFigures, TagSamples, Total, Worst, value_at,
-};
+use crate::classes::Classes;
+use crate::figures::{Cell, LogFigures, Peaks, PointFigures, TagFigures, TagSamples, Total, Worst};
 use crate::level::PageLevel;
 use crate::sum::Sum;
 use crate::timeline::Timeline;
 use hdr_logs::{LogError, StoredInterval};
 use hdrhistogram::Histogram;
-use hdrhistogram::serialization::Deserializer;
+use hdrhistogram::serialization::{Deserializer, RecordedClass};
 use std::alloc::{AllocError, Global};
 use std::cmp::Reverse;
 use std::mem;
@@ -54,8 +54,8 @@ fn keys_of<'a>(
 #[derive(Drop)]
 struct Sums<'a> {
     deserializer: Deserializer,
-    /// The histogram that was added last: the next one is decoded into its memory.
-    spare: Option<Histogram<u64>>,
+    /// The classes of the interval that was added last.
+    classes: Vec<RecordedClass>,
     /// The sum of a point of a tag, and the greatest percentiles of its intervals.
     point: Sum,
     peaks: Peaks,
@@ -160,7 +160,7 @@ impl<'a> Sums<'a> {
         };
         Ok(Sums {
             deserializer: Deserializer::new(alloc),
-            spare: None,
+            classes: Vec::new(alloc),
             point: Sum::new(alloc)?,
             peaks: Peaks::new(),
             starts: Vec::new(alloc),
@@ -243,34 +243,36 @@ impl<'a> Sums<'a> {
 
     /// Adds an interval to its point.
     fn add_interval(&mut self, interval: &'a StoredInterval) -> Result<(), LogError>
-        ensures { OnOk result ((h : Plain)
+        requires { IsMarkedBySamples self.old.point.histogram }
+        ensures sum { OnOk result ((h : Plain)
             × IsHeldIn (2 ^ 64 - 1) (view_of_stored interval.now).field h
             × (self.new.point.histogram ≡ after_add (2 ^ 64 - 1) self.old.point.histogram h)
             × (self.new.peaks ≡ peaks_with self.old.peaks h)) }
+        ensures marks { OnOk result (IsMarkedBySamples self.new.point.histogram) }
     {
-        let spare = self.spare.take();
-        let source = Sum::of(interval.histogram(&mut self.deserializer, spare)?);
-        let is_coarser = self.point.add(&source)?;
+        self.classes.clear();
+        let bounds = interval.classes(&mut self.deserializer, &mut self.classes)?;
+        let classes = Classes::new(bounds, &self.classes);
+        let is_coarser = add_to_sum(&mut self.point, &mut self.deserializer, interval, &classes)?;
         self.coarser = self.coarser.saturating_add(u64::from(is_coarser));
-        self.peaks = self.peaks.with(&source.histogram);
-        self.add_start(interval, &source.histogram)?;
-        self.spare = Some(source.histogram);
+        self.peaks = self.peaks.with(&classes);
+        let greatest = classes.greatest();
+        self.add_start(interval, greatest)?;
         Ok(())
     }
 
-    /// Adds the start of an interval with samples, and compares its greatest value.
+    /// Adds the start of an interval, and compares its greatest value, if it has samples.
     fn add_start(
         &mut self,
         interval: &'a StoredInterval,
-        histogram: &Histogram<u64>,
+        greatest: Option<u64>,
     ) -> Result<(), AllocError>
         ensures point { self.new.point ≡ self.old.point }
         ensures peaks { self.new.peaks ≡ self.old.peaks }
     {
-        if histogram.is_empty() {
+        let Some(value) = greatest else {
             return Ok(());
-        }
-        let value = value_at(histogram, 1, 1);
+        };
         self.update_worst(Worst { value, interval });
         self.starts.push(interval.start)?;
         Ok(())
@@ -316,6 +318,25 @@ impl Worst<'_> {
             || place.file == others.file && place.line < others.line;
         self.value > other.value || self.value == other.value && is_before
     }
+}
+
+/// Adds an interval of these classes to a sum. Returns whether it is coarser.
+fn add_to_sum(
+    sum: &mut Sum,
+    deserializer: &mut Deserializer,
+    interval: &StoredInterval,
+    classes: &Classes<'_>,
+) -> Result<bool, LogError>
+    ensures { (h : Plain) → IsHeldIn (2 ^ 64 - 1) (view_of_stored interval.now).field h
+        → AreClassesOf classes.now h → IsMarkedBySamples sum.old.histogram
+        → OnOk result (sum.new.histogram ≡ after_add (2 ^ 64 - 1) sum.old.histogram h) }
+{
+    if sum.has_bins_for(classes) {
+        return Ok(sum.add_classes(classes)?);
+    }
+    // Only the addition of a histogram makes the bins that it needs.
+    let histogram = interval.histogram(deserializer, None)?;
+    Ok(sum.add(&Sum::of(histogram))?)
 }
 
 /// Appends the samples of a point.

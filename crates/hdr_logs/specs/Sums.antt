@@ -9,7 +9,8 @@ use Rattle.hdr_model.specs.Plain.{Plain, empty_plain, resolution}
 use Rattle.hdr_model.specs.Merging.{after_add}
 use Rattle.hdrhistogram.specs.Chosen.{Filter, view_of_interval_choice}
 use Rattle.hdrhistogram.specs.FieldRead.{IsHeldIn}
-use Rattle.hdr_logs.specs.Intervals.{LogInterval}
+use Rattle.hdr_logs.specs.Intervals.{LogInterval, tag_or_none}
+use Rattle.hdr_logs.specs.Stored.{Stored}
 use Rattle.hdr_logs.specs.declared.sums.TagSum.{TagSum}
 use Rattle.hdr_logs.specs.declared.sums.LogSums.{LogSums}
 
@@ -97,6 +98,11 @@ Passes takes old i new sink after =
     × (new ≡ with_sums old (after_interval old.sigfig old.sums (sum_tag old.is_by_tag i.tag) h))
     × (index : ℕ) × (index_of (sum_tag old.is_by_tag i.tag) new.sums ≡ Some index)
     × (decimals : ℕ) × takes sink index h decimals after
+
+-- the same of a stored interval
+abbrev pub PassesStored : {S : Type 0} → (S → ℕ → Plain → ℕ → S → Type 0) → Summing → Stored → Summing → S → S → Type 0
+PassesStored takes old s new sink after =
+    (i : LogInterval) × (i.tag ≡ tag_or_none (Some s.tag)) × (i.field ≡ s.field) × Passes takes old i new sink after
 
 -- the histograms of intervals are added and taken, one after the other
 abbrev pub PassesAll : {S : Type 0} → (S → ℕ → Plain → ℕ → S → Type 0) → Summing → List LogInterval → Summing → S → S → Type 0

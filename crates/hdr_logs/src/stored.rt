@@ -6,6 +6,7 @@ ghost use Rattle.std.specs.Duration.{as_nanos};
 ghost use Rattle.std.specs.String.{string_bytes};
 ghost use Rattle.hdr_log.specs.Grammar.{is_tag};
 ghost use Rattle.hdr_log.specs.Tags.{tag_text};
+ghost use Rattle.hdrhistogram.specs.ClassesRead.{AppendsField};
 ghost use Rattle.hdrhistogram.specs.FieldRead.{IsHeldIn};
 ghost use Rattle.hdr_logs.specs.FileNames.{text_in_file};
 ghost use Rattle.hdr_logs.specs.Times.{nearest_millisecond, IsTooLate};
@@ -15,8 +16,8 @@ use crate::interval::Interval;
 use crate::place::Place;
 use hdr_input::Unit;
 use hdrhistogram::Histogram;
-use hdrhistogram::serialization::Deserializer;
 use hdrhistogram::serialization::interval_log::Tag;
+use hdrhistogram::serialization::{Deserializer, RecordedBounds, RecordedClass};
 use std::alloc::{AllocError, Global};
 use std::time::Duration;
 
@@ -92,6 +93,23 @@ impl StoredInterval {
         }
     }
 
+    /// Returns the interval, which begins at its millisecond.
+    pub(crate) fn interval(&self) -> Interval<'_>
+        ensures tag { (view_of_log_interval result).tag
+            ≡ tag_or_none (Some (view_of_stored self.now).tag) }
+        ensures field { (view_of_log_interval result).field ≡ (view_of_stored self.now).field }
+    {
+        Interval {
+            time: u128::from(self.start) * MILLISECOND,
+            tag: self.tag(),
+            duration: self.duration,
+            field: self.field.as_str(),
+            decimals: self.decimals,
+            unit: self.unit,
+            place: self.place,
+        }
+    }
+
     /// Returns the text of its tag, which is empty if it has none.
     pub fn name(&self) -> &str
         ensures { result.now ≡ (view_of_stored self.now).tag }
@@ -125,6 +143,23 @@ impl StoredInterval {
         ensures { IfOk result (IsHeldIn (2 ^ 64 - 1) (view_of_stored self.now).field) }
     {
         decoded(deserializer, spare, self.field.as_str(), self.place)
+    }
+
+    /// Appends the nonempty classes of its histogram, and returns the bounds of that.
+    ///
+    /// # Errors
+    /// As `histogram`.
+    pub fn classes(
+        &self,
+        deserializer: &mut Deserializer,
+        classes: &mut Vec<RecordedClass>,
+    ) -> Result<RecordedBounds, LogError>
+        ensures { IfOk result (λ bounds. AppendsField (2 ^ 64 - 1) (view_of_stored self.now).field bounds
+            classes.old.items classes.new.items) }
+    {
+        deserializer
+            .decode_classes(self.field.as_str(), classes)
+            .map_err(|cause| LogError::of_field(self.place, cause))
     }
 }
 

@@ -8,6 +8,8 @@ use Rattle.std.proofs.lemmas.List.Sums.{sum_by_more, sum_by_more_le}
 use Rattle.hdr_base.specs.Fractions.{Ratio}
 use Rattle.hdr_model.specs.Plain.{Plain, resolution}
 use Rattle.hdr_model.specs.Quantiles.{ranked_sample}
+use Rattle.hdrhistogram.specs.declared.serialization.class_decoder.RecordedClass.{RecordedClass}
+use Rattle.hdr_verdict.specs.ClassSamples.{AreClassesOf}
 use Rattle.hdr_verdict.specs.declared.tail.Tail.{Tail}
 use Rattle.hdr_verdict.specs.declared.usual.Blocks.{Blocks}
 use Rattle.hdr_verdict.specs.declared.usual.TailValues.{TailValues}
@@ -183,7 +185,7 @@ pub begun-for : (width : Width) (cells : List (List ℕ)) (total : ℕ) (tails :
 begun-for width cells total tails all b = (all-weaker (AreNoBlocks width total) (AreBlocksOf width cells total 0) (no-cells width cells total) all b.0, b.1)
 
 -- the tails of blocks stay with one more cell
-same-all-tails : (h : Plain) (olds news : List Blocks) → AllZip (Pushes h) olds news → map (λ (own : TailValues). own.tail) (values_of news) ≡ map (λ (own : TailValues). own.tail) (values_of olds)
+same-all-tails : (h : List RecordedClass) (olds news : List Blocks) → AllZip (Pushes h) olds news → map (λ (own : TailValues). own.tail) (values_of news) ≡ map (λ (own : TailValues). own.tail) (values_of olds)
 same-all-tails h [] [] all = refl
 same-all-tails h [] (y ∷ news) all = absurd all
 same-all-tails h (x ∷ olds) [] all = absurd all
@@ -191,7 +193,7 @@ same-all-tails h (x ∷ olds) (y ∷ news) all =
     let f = λ (own : TailValues). own.tail in
     map-append f y.tails.items (values_of news) ∙ ap (λ l. l ++ map f (values_of news)) all.0.tails ∙ ap (λ l. map f x.tails.items ++ l) (same-all-tails h olds news all.1) ∙ sym (map-append f x.tails.items (values_of olds))
 
-pub pushed-for : (width : Width) (cells : List (List ℕ)) (total n : ℕ) (h : Plain) (tails : List Tail) (olds news : List Blocks) → n < length cells → CanCount cells → Rounds width h (get_or cells n [])
+pub pushed-for : (width : Width) (cells : List (List ℕ)) (total n : ℕ) (h : List RecordedClass) (tails : List Tail) (olds news : List Blocks) → n < length cells → CanCount cells → AreClassesOf width h (get_or cells n [])
     → AreBlocksFor width cells total n tails olds → AllZip (Pushes h) olds news → AreBlocksFor width cells total (n + 1) tails news
 pushed-for width cells total n h tails olds news inside fits rounds r p =
     (all-zip (AreBlocksOf width cells total n) (Pushes h) (AreBlocksOf width cells total (n + 1)) (λ old new b q. q.blocks width cells total n inside fits rounds b) olds news r.0 p, same-all-tails h olds news p ∙ r.1)

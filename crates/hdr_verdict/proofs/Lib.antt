@@ -3,6 +3,7 @@ pub mod RunSums
 pub mod TailFacts
 pub mod Rounding
 pub mod CountsAbove
+pub mod ClassFacts
 pub mod Holding
 pub mod CellSamples
 pub mod Keeping

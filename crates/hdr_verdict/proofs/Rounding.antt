@@ -99,22 +99,8 @@ value-rounds width h q S value r same proper some is =
 pub total-rounds : (width : Width) (h : Plain) (S : List ℕ) → Rounds width h S → h.total ≡ length S
 total-rounds width h S r = r.stands.total ∙ sym (ap length r.is ∙ length-map r.exact (top_of (classes_of width)))
 
-in-class-most : (g : Resolution) (i : ℕ) (S : List ℕ) → in_class g i S ≤ length S
+pub in-class-most : (g : Resolution) (i : ℕ) (S : List ℕ) → in_class g i S ≤ length S
 in-class-most g i S = count_by-le-length (λ s. bin_of g s == i) S
-
-pub add-rounds : (width : Width) (old new h : Plain) (S T : List ℕ) → resolution new ≡ resolution old → resolution old ≡ classes_of width
-    → ((L : List ℕ) → StandsFor h L → IsFiner (resolution h) (resolution old) → GainsSamples (2 ^ 64 - 1) old new L)
-    → Rounds width old S → Rounds width h T → length S + length T < 2 ^ 64 → Rounds width new (S ++ T)
-add-rounds width old new h S T kept same gains s t few =
-    let both = s.exact ++ t.exact in
-    let few-exact : length both < 2 ^ 64 = omega (arith, length-append s.exact t.exact, total-rounds width old S s, s.stands.total, total-rounds width h T t, t.stands.total) in
-    let fits : Fits (2 ^ 64 - 1) (resolution old) both = record { in_all = few-exact; in_classes = λ i. omega (arith, few-exact, in-class-most (resolution old) i both) } in
-    record {
-      finer = subst (λ g. IsFiner g (classes_of width)) (sym (kept ∙ same)) (record { unit = omega arith; digits = omega arith });
-      exact = both;
-      stands = gains t.exact t.stands (subst (λ g. IsFiner (resolution h) g) (sym same) t.finer) s.exact s.stands fits;
-      is = ap (λ l. l ++ T) s.is ∙ ap (λ l. rounded width s.exact ++ l) t.is ∙ sym (map-append (top_of (classes_of width)) s.exact t.exact);
-    }
 
 ranked-none : (q : Ratio) → ranked_sample q [] ≡ 0
 unfolding ranked_sample

@@ -2,6 +2,8 @@
 use Rattle.std.specs.Prelude.{◌≡◌, ℕ, ◌+◌, ◌*◌, ◌<◌, ◌≤◌, ◌++◌, [], ◌∷◌, List, length, map, take, drop, slice_index_or, Option}
 use Rattle.std.specs.List.{All, flat_map, sum_by}
 use Rattle.hdr_model.specs.Plain.{Plain, resolution}
+use Rattle.hdrhistogram.specs.declared.serialization.class_decoder.RecordedClass.{RecordedClass}
+use Rattle.hdr_verdict.specs.ClassSamples.{AreClassesOf}
 use Rattle.hdr_verdict.specs.Samples.{Rounds, CanCount, classes_of}
 use Rattle.hdr_verdict.specs.Tails.{tail_value}
 use Rattle.hdr_verdict.specs.Usual.{blocks_from, least_block, usual_of}
@@ -47,9 +49,9 @@ pub record AreNoBlocks (width : Width) (total : ℕ) (blocks : Blocks) : Type 0 
   pub values : All (AreValuesOf total blocks.least []) blocks.tails.items
 
 -- a cell is added to blocks
-pub record Pushes (cell : Plain) (old new : Blocks) : Type 0 where
+pub record Pushes (cell : List RecordedClass) (old new : Blocks) : Type 0 where
   pub tails : tails_of new ≡ tails_of old
-  pub blocks : (width : Width) (cells : List (List ℕ)) (total n : ℕ) → n < length cells → CanCount cells → Rounds width cell (slice_index_or cells n [])
+  pub blocks : (width : Width) (cells : List (List ℕ)) (total n : ℕ) → n < length cells → CanCount cells → AreClassesOf width cell (slice_index_or cells n [])
       → AreBlocksOf width cells total n old → AreBlocksOf width cells total (n + 1) new
 
 -- the values of the tails of all blocks

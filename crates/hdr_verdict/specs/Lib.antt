@@ -6,6 +6,7 @@ pub mod Slow
 pub mod Cells
 pub mod Groups
 pub mod Samples
+pub mod ClassSamples
 pub mod Decoders
 pub mod TagSamples
 pub mod Blocks

@@ -4,7 +4,7 @@ ghost use Rattle.hdr_base.specs.Classes.{HasScale};
 
 use crate::width::Width;
 use hdr_logs::LogError;
-use hdrhistogram::Histogram;
+use hdrhistogram::serialization::RecordedClass;
 
 /// How many samples of each cell are above a value.
 #[derive(Drop)]
@@ -18,7 +18,7 @@ impl CountsAbove {
     ghost use Rattle.hdr_verdict.specs.CountsAboveFor.{PushesCell};
 
     /// Adds a cell.
-    pub(crate) fn push(&mut self, width: Width, cell: &Histogram<u64>) -> Result<(), LogError>
+    pub(crate) fn push(&mut self, width: Width, cell: &[RecordedClass]) -> Result<(), LogError>
         requires { HasScale width.low width.sigfig }
         ensures { OnOk result (PushesCell width cell.now self.old self.new) }
     {

@@ -11,7 +11,7 @@ use crate::above::CountsAbove;
 use crate::samples::TagSamples;
 use crate::width::Width;
 use hdr_logs::LogError;
-use hdrhistogram::Histogram;
+use hdrhistogram::serialization::RecordedClass;
 use std::alloc::{AllocError, Global};
 
 /// Returns no cells for each of some values.
@@ -33,7 +33,7 @@ fn empty_counts(alloc: Global, values: &[u64]) -> Result<Vec<CountsAbove>, Alloc
 }
 
 /// Adds a cell to the counts of each value.
-fn push_cell(all: &mut [CountsAbove], width: Width, cell: &Histogram<u64>) -> Result<(), LogError>
+fn push_cell(all: &mut [CountsAbove], width: Width, cell: &[RecordedClass]) -> Result<(), LogError>
     requires { HasScale width.low width.sigfig }
     ensures { OnOk result (AllZip (PushesCell width cell.now) all.old all.new) }
 {
@@ -54,10 +54,10 @@ pub(crate) fn counts_above(
         → AllZip (AreCountsOf cells (length cells)) values.now all.items) }
 {
     let mut all = empty_counts(alloc, values)?;
+    let mut classes = Vec::new(alloc);
     for index in 0..samples.cells().len() {
-        let histogram = samples.histogram(index)?;
-        push_cell(&mut all, samples.width(), &histogram)?;
-        samples.keep(histogram);
+        samples.decode(index, &mut classes)?;
+        push_cell(&mut all, samples.width(), &classes)?;
     }
     Ok(all)
 }

@@ -1,23 +1,21 @@
-//! The histograms of a tag's intervals.
+//! The classes of a tag's intervals.
 
-ghost use Rattle.std.specs.Prelude.{◌≡◌, ◌<◌, length, map, slice_index_or, IfOk, List};
+ghost use Rattle.std.specs.Prelude.{◌≡◌, ◌-◌, ◌<◌, ◌^◌, length, map, min, slice_index_or, IfOk, List};
 ghost use Rattle.hdr_base.specs.Classes.{HasScale};
+ghost use Rattle.hdr_verdict.specs.ClassSamples.{AppendsHeld, values_of};
 
 use crate::width::Width;
 use hdr_logs::{LogError, StoredInterval};
-use hdrhistogram::Histogram;
-use hdrhistogram::serialization::Deserializer;
+use hdrhistogram::serialization::{Deserializer, RecordedBounds, RecordedClass};
 use std::alloc::Global;
 
-/// What decodes the histograms of a tag's intervals.
+/// What decodes the classes of a tag's intervals.
 #[derive(Drop)]
 pub(crate) struct Decoder<'a> {
     alloc: Global,
     /// The intervals, in ascending order of their starts.
     intervals: Vec<&'a StoredInterval>,
     deserializer: Deserializer,
-    /// A histogram that was decoded: the next one is decoded into its memory.
-    spare: Option<Histogram<u64>>,
 }
 
 /// The number of samples of each interval, and the width of classes that have those of all
@@ -30,7 +28,7 @@ pub(crate) struct Counts {
 }
 
 impl<'a> Decoder<'a> {
-    ghost use Rattle.hdr_verdict.specs.Samples.{Held, IsOf, nothing_held, width_of, AreHeld};
+    ghost use Rattle.hdr_verdict.specs.Samples.{Held, nothing_held, width_of, AreHeld};
     ghost use Rattle.hdr_verdict.specs.Decoders.{intervals_of};
 
     /// Returns what decodes intervals.
@@ -41,7 +39,6 @@ impl<'a> Decoder<'a> {
             alloc,
             intervals,
             deserializer: Deserializer::new(alloc),
-            spare: None,
         }
     }
 
@@ -52,22 +49,21 @@ impl<'a> Decoder<'a> {
         &self.intervals
     }
 
-    /// Returns the histogram of an interval. `keep` takes it back.
-    pub(crate) fn decode(&mut self, index: usize) -> Result<Histogram<u64>, LogError>
+    /// Appends the nonempty classes of an interval's histogram, and returns the bounds of that.
+    pub(crate) fn decode(
+        &mut self,
+        index: usize,
+        classes: &mut Vec<RecordedClass>,
+    ) -> Result<RecordedBounds, LogError>
         requires { index < length (intervals_of self.old) }
         ensures intervals { intervals_of self.new ≡ intervals_of self.old }
-        ensures held { IfOk result (λ h. (all : List Held) → AreHeld (intervals_of self.old) all
-            → IsOf (slice_index_or all index nothing_held) h) }
+        ensures scale { IfOk result (λ bounds. HasScale bounds.low bounds.sigfig) }
+        ensures held { IfOk result (λ bounds. (all : List Held) → AreHeld (intervals_of self.old) all
+            → AppendsHeld (slice_index_or all index nothing_held) bounds classes.old.items
+            classes.new.items) }
     {
         let interval = self.intervals[index];
-        interval.histogram(&mut self.deserializer, self.spare.take())
-    }
-
-    /// Takes a histogram back, into whose memory the next one is decoded.
-    pub(crate) fn keep(&mut self, histogram: Histogram<u64>)
-        ensures { intervals_of self.new ≡ intervals_of self.old }
-    {
-        self.spare = Some(histogram);
+        interval.classes(&mut self.deserializer, classes)
     }
 
     /// Counts the samples of the intervals.
@@ -80,16 +76,26 @@ impl<'a> Decoder<'a> {
             → (counts.samples.items ≡ map (λ held. length held.samples) all)
             × (counts.width ≡ width_of all)) }
     {
+        let mut classes = Vec::new(self.alloc);
         let mut samples = Vec::new(self.alloc);
         let mut width = Width::FINEST;
         for index in 0..self.intervals().len() {
-            let histogram = self.decode(index)?;
-            width = width.join(&histogram);
-            samples.push(histogram.len())?;
-            self.keep(histogram);
+            classes.clear();
+            let bounds = self.decode(index, &mut classes)?;
+            width = width.join(bounds);
+            samples.push(total_of(&classes))?;
         }
-        // A tag waits for its turn without a histogram.
-        self.spare = None;
         Ok(Counts { samples, width })
     }
+}
+
+/// Returns the number of samples of classes, or `u64::MAX` if that is less.
+fn total_of(classes: &[RecordedClass]) -> u64
+    ensures { result ≡ min (length (values_of classes.now)) (2 ^ 64 - 1) }
+{
+    let mut total = 0u64;
+    for class in classes {
+        total = total.saturating_add(class.count);
+    }
+    total
 }

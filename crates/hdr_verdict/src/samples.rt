@@ -13,6 +13,7 @@ use crate::decoder::Decoder;
 use crate::runs::Run;
 use crate::width::Width;
 use hdr_logs::{LogError, StoredInterval};
+use hdrhistogram::serialization::RecordedClass;
 use hdrhistogram::{Histogram, Quantile};
 use std::alloc::Global;
 
@@ -29,6 +30,7 @@ pub struct TagSamples<'a> {
 }
 
 impl<'a> TagSamples<'a> {
+    ghost use Rattle.hdr_verdict.specs.ClassSamples.{AreClassesOf};
     ghost use Rattle.hdr_verdict.specs.Samples.{Held, AreHeld, Rounds, CanCount, samples_of_cells, samples_between, rounded, classes_of, width_of};
     ghost use Rattle.hdr_verdict.specs.TagSamples.{HasSamples, KeepsCells, cells_of, intervals_of_tag, width_of_tag};
     ghost use Rattle.hdr_verdict.specs.Slow.{samples_in, kept};
@@ -89,44 +91,41 @@ impl<'a> TagSamples<'a> {
         self.width
     }
 
-    /// Returns the histogram of a cell. `keep` takes it back.
-    pub(crate) fn histogram(&mut self, index: usize) -> Result<Histogram<u64>, LogError>
+    /// Replaces `classes` by the classes of a cell.
+    pub(crate) fn decode(
+        &mut self,
+        index: usize,
+        classes: &mut Vec<RecordedClass>,
+    ) -> Result<(), LogError>
         requires { index < length (cells_of self.old) }
         ensures keeps { KeepsCells self.old self.new }
-        ensures samples { IfOk result (λ h. (cells : List (List ℕ)) → HasSamples self.old cells
-            → Rounds (width_of_tag self.old) h (slice_index_or cells index [])) }
+        ensures samples { OnOk result ((cells : List (List ℕ)) → HasSamples self.old cells
+            → AreClassesOf (width_of_tag self.old) classes.new.items (slice_index_or cells index [])) }
     {
         let cell = self.cells[index];
-        if cell.next - cell.first == 1 {
-            return self.decoder.decode(cell.first);
-        }
-        self.merged(cell.first, cell.next)
+        self.decode_all(cell.first, cell.next, classes)
     }
 
-    /// Returns the sum of intervals, from the index `first` to before the index `next`.
-    fn merged(&mut self, first: usize, next: usize) -> Result<Histogram<u64>, LogError>
+    /// Replaces `classes` by the classes of intervals, from the index `first` to before the index
+    /// `next`.
+    fn decode_all(
+        &mut self,
+        first: usize,
+        next: usize,
+        classes: &mut Vec<RecordedClass>,
+    ) -> Result<(), LogError>
         requires order { first ≤ next }
         requires within { next ≤ length (intervals_of self.old.decoder) }
         ensures keeps { KeepsCells self.old self.new }
-        ensures classes { IfOk result (λ h. resolution h ≡ classes_of (width_of_tag self.old)) }
-        ensures samples { IfOk result (λ h. (all : List Held) → AreHeld (intervals_of self.old.decoder) all
-            → self.old.width ≡ width_of all → length (samples_between all first next) < 2 ^ 64
-            → Rounds self.old.width h (rounded self.old.width (samples_between all first next))) }
+        ensures samples { OnOk result ((all : List Held) → AreHeld (intervals_of self.old.decoder) all
+            → self.old.width ≡ width_of all → AreClassesOf self.old.width classes.new.items
+            (rounded self.old.width (samples_between all first next))) }
     {
-        let mut sum = self.width.histogram(self.alloc)?;
+        classes.clear();
         for index in first..next {
-            let histogram = self.decoder.decode(index)?;
-            self.width.add(&mut sum, &histogram)?;
-            self.decoder.keep(histogram);
+            let _bounds = self.decoder.decode(index, classes)?;
         }
-        Ok(sum)
-    }
-
-    /// Takes a histogram back, into whose memory the next one is decoded.
-    pub(crate) fn keep(&mut self, histogram: Histogram<u64>)
-        ensures { KeepsCells self.old self.new }
-    {
-        self.decoder.keep(histogram);
+        Ok(())
     }
 
     /// Returns the value at a quantile of the samples in the cells of a run, but those that are
@@ -142,19 +141,22 @@ impl<'a> TagSamples<'a> {
             → 0 < quantile.num → 0 < quantile.den
             → value ≡ ranked_sample quantile (samples_in cells left_out.now run)) }
     {
+        let mut classes = Vec::new(self.alloc);
         let mut sum = self.width.histogram(self.alloc)?;
         for index in run.start..run.end.min(self.cells().len()) {
-            self.add_kept(&mut sum, index, left_out)?;
+            self.add_kept(&mut sum, index, left_out, &mut classes)?;
         }
         Ok(self.width.value(&sum, quantile))
     }
 
-    /// Adds the samples of a cell to a sum, unless it is left out.
+    /// Adds the samples of a cell to a sum, unless it is left out, and decodes its classes into
+    /// `classes`.
     fn add_kept(
         &mut self,
         sum: &mut Histogram<u64>,
         index: usize,
         left_out: &[bool],
+        classes: &mut Vec<RecordedClass>,
     ) -> Result<(), LogError>
         requires { index < length (cells_of self.old) }
         ensures keeps { KeepsCells self.old self.new }
@@ -167,10 +169,8 @@ impl<'a> TagSamples<'a> {
         if is_set(left_out, index) {
             return Ok(());
         }
-        let histogram = self.histogram(index)?;
-        self.width.add(sum, &histogram)?;
-        self.keep(histogram);
-        Ok(())
+        self.decode(index, classes)?;
+        self.width.add(sum, classes)
     }
 }
 

@@ -10,6 +10,7 @@ use crate::quartile::{least_block, lower_quartile};
 use crate::tail::Tail;
 use crate::width::Width;
 use hdr_logs::LogError;
+use hdrhistogram::serialization::RecordedClass;
 use hdrhistogram::{CreationError, Histogram};
 use std::alloc::{AllocError, Global};
 
@@ -144,7 +145,7 @@ impl Blocks {
     }
 
     /// Adds a cell.
-    pub(crate) fn push(&mut self, cell: &Histogram<u64>) -> Result<(), LogError>
+    pub(crate) fn push(&mut self, cell: &[RecordedClass]) -> Result<(), LogError>
         ensures { OnOk result (Pushes cell.now self.old self.new) }
     {
         self.width.add(&mut self.part, cell)?;

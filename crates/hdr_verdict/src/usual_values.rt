@@ -12,7 +12,7 @@ use crate::samples::TagSamples;
 use crate::tail::Tail;
 use crate::usual::{Blocks, TailValues, Usual, fewest_samples};
 use hdr_logs::LogError;
-use hdrhistogram::Histogram;
+use hdrhistogram::serialization::RecordedClass;
 use std::alloc::{AllocError, Global};
 
 /// Returns no blocks of a tag for some tails. Tails that want as many samples in a block have the
@@ -46,7 +46,7 @@ fn blocks_of(
 }
 
 /// Adds a cell to the blocks of each tail.
-fn push_cell(all: &mut [Blocks], cell: &Histogram<u64>) -> Result<(), LogError>
+fn push_cell(all: &mut [Blocks], cell: &[RecordedClass]) -> Result<(), LogError>
     ensures { OnOk result (AllZip (Pushes cell.now) all.old all.new) }
 {
     for blocks in all.iter_mut() {
@@ -109,10 +109,10 @@ fn usual_by_blocks(
         → usual.items ≡ map (λ tail. usual_of tail.num tail.den (sum_by length cells) cells) tails.now) }
 {
     let mut all = blocks_of(alloc, samples, tails)?;
+    let mut classes = Vec::new(alloc);
     for index in 0..samples.cells().len() {
-        let histogram = samples.histogram(index)?;
-        push_cell(&mut all, &histogram)?;
-        samples.keep(histogram);
+        samples.decode(index, &mut classes)?;
+        push_cell(&mut all, &classes)?;
     }
     usual_of_all(alloc, all)
 }

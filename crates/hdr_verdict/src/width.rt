@@ -1,22 +1,18 @@
 //! The width of classes.
 
-ghost use Rattle.std.specs.Prelude.{◌≡◌, ◌+◌, ◌-◌, ◌<◌, ◌≤◌, ◌^◌, ℕ, [], ◌++◌, List, length, IfOk, OnOk};
+ghost use Rattle.std.specs.Prelude.{◌≡◌, ◌+◌, ◌-◌, ◌<◌, ◌^◌, ℕ, [], ◌++◌, List, count_by, length, min, nat_le, replicate, IfOk, OnOk};
 ghost use Rattle.hdr_base.specs.Classes.{HasScale, lowest_of};
-ghost use Rattle.hdr_model.specs.Plain.{IsPlain, resolution};
+ghost use Rattle.hdr_model.specs.Plain.{resolution};
 ghost use Rattle.hdr_model.specs.Quantiles.{ranked_sample};
+ghost use Rattle.hdr_verdict.specs.ClassSamples.{AreClassesOf, GainsFew, values_of};
 ghost use Rattle.hdr_verdict.specs.Tails.{count_above};
 
 use hdr_base::Scale;
+use hdr_logs::LogError;
 use hdr_model::laws::clearing_stands;
-use hdrhistogram::{AdditionError, CreationError, Histogram, Quantile};
+use hdrhistogram::serialization::{RecordedBounds, RecordedClass};
+use hdrhistogram::{CreationError, Histogram, Quantile};
 use std::alloc::Global;
-
-/// For the prover alone: the histogram is plain (`IsPlain`). It does nothing.
-fn show_plain(histogram: &Histogram<u64>)
-    ensures { IsPlain (2 ^ 64 - 1) histogram.now }
-{
-    let _bins = histogram.distinct_values();
-}
 
 /// The width of classes: their least one, and the significant digits that they keep.
 #[derive(Clone, Copy)]
@@ -26,20 +22,21 @@ pub struct Width {
 }
 
 impl Width {
-    ghost use Rattle.hdr_verdict.specs.Samples.{Held, IsOf, Rounds, joined_width, classes_of, finest};
+    ghost use Rattle.hdr_verdict.specs.Samples.{Held, Rounds, joined_width, classes_of, finest};
 
     /// The width of the finest classes.
     pub const FINEST: Width = Width { low: 1, sigfig: 5 };
 
     /// Returns the width of classes that have those of this width and of a histogram in them.
-    pub(crate) fn join(self, histogram: &Histogram<u64>) -> Width
-        ensures width { (held : Held) → IsOf held histogram.now → result ≡ joined_width self held }
-        ensures scale { HasScale self.low self.sigfig → HasScale result.low result.sigfig }
+    pub(crate) fn join(self, bounds: RecordedBounds) -> Width
+        ensures width { (held : Held) → bounds.low ≡ held.low → bounds.sigfig ≡ held.sigfig
+            → result ≡ joined_width self held }
+        ensures scale { HasScale self.low self.sigfig → HasScale bounds.low bounds.sigfig
+            → HasScale result.low result.sigfig }
     {
-        show_plain(histogram);
         Width {
-            low: self.low.max(histogram.low()),
-            sigfig: self.sigfig.min(histogram.sigfig()),
+            low: self.low.max(bounds.low),
+            sigfig: self.sigfig.min(bounds.sigfig),
         }
     }
 
@@ -54,22 +51,17 @@ impl Width {
         }
     }
 
-    /// Returns how many samples of a histogram are above a value, if each is the greatest value of
-    /// its class of this width.
-    pub(crate) fn count_above(self, histogram: &Histogram<u64>, value: u64) -> u64
+    /// Returns how many samples of classes are above a value, if each is the greatest value of its
+    /// class of this width.
+    pub(crate) fn count_above(self, classes: &[RecordedClass], value: u64) -> u64
         requires { HasScale self.low self.sigfig }
-        ensures samples { (S : List ℕ) → Rounds self histogram.now S → result ≡ count_above value S }
-        ensures within { result ≤ histogram.now.total }
+        ensures { (S : List ℕ) → AreClassesOf self classes.now S → length S < 2 ^ 64
+            → result ≡ count_above value S }
     {
-        show_plain(histogram);
         let Some(next) = value.checked_add(1) else {
             return 0;
         };
-        let Some(below) = self.lowest(next).checked_sub(1) else {
-            return histogram.len();
-        };
-        let below = histogram.quantile_below(below).num as u64;
-        histogram.len().saturating_sub(below)
+        count_from(classes, self.lowest(next))
     }
 
     /// Returns a histogram without samples, of classes of this width, which grows.
@@ -88,19 +80,18 @@ impl Width {
         Ok(histogram)
     }
 
-    /// Adds the samples of a histogram to a sum of classes of this width.
+    /// Adds the samples of classes to a sum of classes of this width.
     pub(crate) fn add(
         self,
         sum: &mut Histogram<u64>,
-        histogram: &Histogram<u64>,
-    ) -> Result<(), AdditionError>
+        classes: &[RecordedClass],
+    ) -> Result<(), LogError>
         ensures classes { resolution sum.new ≡ resolution sum.old }
         ensures samples { OnOk result ((S T : List ℕ) → resolution sum.old ≡ classes_of self
-            → Rounds self sum.old S → Rounds self histogram.now T → length S + length T < 2 ^ 64
+            → Rounds self sum.old S → AreClassesOf self classes.now T → length S + length T < 2 ^ 64
             → Rounds self sum.new (S ++ T)) }
     {
-        sum.add(histogram)?;
-        Ok(())
+        record_all(sum, classes)
     }
 
     /// Removes the samples of a sum of classes of this width.
@@ -122,4 +113,42 @@ impl Width {
         }
         sum.value_at_quantile(quantile)
     }
+}
+
+/// Records the lowest value of each class, as often as its count.
+fn record_all(sum: &mut Histogram<u64>, classes: &[RecordedClass]) -> Result<(), LogError>
+    ensures classes { resolution sum.new ≡ resolution sum.old }
+    ensures samples { OnOk result (GainsFew sum.old sum.new (values_of classes.now)) }
+{
+    for class in classes {
+        record_one(sum, *class)?;
+    }
+    Ok(())
+}
+
+/// Records the lowest value of a class, as often as its count.
+#[inline(always)]
+fn record_one(sum: &mut Histogram<u64>, class: RecordedClass) -> Result<(), LogError>
+    ensures classes { resolution sum.new ≡ resolution sum.old }
+    ensures samples { OnOk result (GainsFew sum.old sum.new (replicate class.count class.value)) }
+{
+    match sum.record_n(class.value, class.count) {
+        Ok(()) => Ok(()),
+        // A sum grows, so that it does not record a value only if memory runs out.
+        Err(_) => Err(LogError::OutOfMemory),
+    }
+}
+
+/// Returns the sum of the counts of classes whose lowest value is at least `first`, or `u64::MAX`
+/// if that is less.
+fn count_from(classes: &[RecordedClass], first: u64) -> u64
+    ensures { result ≡ min (count_by (nat_le first) (values_of classes.now)) (2 ^ 64 - 1) }
+{
+    let mut count = 0u64;
+    for class in classes {
+        if class.value >= first {
+            count = count.saturating_add(class.count);
+        }
+    }
+    count
 }

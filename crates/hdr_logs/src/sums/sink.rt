@@ -3,10 +3,12 @@
 ghost use Rattle.std.specs.Prelude.{◌≡◌, ℕ, List, IfSome, OnOk, Some};
 ghost use Rattle.hdr_model.specs.Plain.{Plain};
 ghost use Rattle.hdr_logs.specs.Intervals.{LogInterval, LogHolds};
-ghost use Rattle.hdr_logs.specs.Sums.{view_of_sums, AreIndexed, PassesAll};
+ghost use Rattle.hdr_logs.specs.Stored.{view_of_stored};
+ghost use Rattle.hdr_logs.specs.Sums.{view_of_sums, AreIndexed, PassesAll, PassesStored};
 
 use crate::errors::LogError;
 use crate::reader::{LineBuffer, LogLine, LogReader};
+use crate::stored::StoredInterval;
 use crate::sums::LogSums;
 use hdr_input::Unit;
 use hdrhistogram::Histogram;
@@ -63,6 +65,26 @@ impl LogSums<'_> {
             }
         }
         Err(LogError::TooManyLines)
+    }
+
+    /// Adds a copy of an interval, whether it is chosen or not, and passes its histogram to `sink`.
+    ///
+    /// # Errors
+    /// Returns an error if its histogram is invalid, or if its values have other decimals or another
+    /// unit than those before, and the errors of `sink`.
+    pub fn add_stored<S: HistogramSink>(
+        &mut self,
+        alloc: Global,
+        stored: &StoredInterval,
+        sink: &mut S,
+    ) -> Result<(), LogError>
+        ensures sums { OnOk result (AreIndexed self.old → PassesStored S.takes (view_of_sums self.old)
+            (view_of_stored stored.now) (view_of_sums self.new) sink.old sink.new) }
+        ensures indices { OnOk result (AreIndexed self.old → AreIndexed self.new) }
+    {
+        let sum = self.add(alloc, &stored.interval())?;
+        self.pass(sum, sink)?;
+        Ok(())
     }
 
     /// Passes the histogram of the interval that was added last to a sink, with the index of its

@@ -3,7 +3,7 @@ use Rattle.std.specs.List.{AllZip, sum_by}
 use Rattle.std.proofs.lemmas.Result.{IfOk-weaker}
 use Rattle.hdr_verdict.specs.declared.tail.Tail.{Tail}
 use Rattle.hdr_verdict.specs.declared.cell.Cell.{Cell}
-use Rattle.hdr_verdict.specs.Samples.{Rounds}
+use Rattle.hdr_verdict.specs.ClassSamples.{AreClassesOf}
 use Rattle.hdr_verdict.specs.Blocks.{IsUsualOf, Pushes, values_of}
 use Rattle.hdr_verdict.specs.Usual.{usual_of}
 use Rattle.hdr_verdict.specs.TagSamples.{HasSamples, width_of_tag, cells_of}
@@ -17,14 +17,15 @@ loop-index-preserved c =
     let old = c.args.samples.now in
     let before = c.loop-index.invariant in
     record {
-      keeps = keeps-both old c.loop-index.samples c.keep.new.self before.keeps (keeps-both c.loop-index.samples c.histogram.new.self c.keep.new.self c.histogram.ensures.keeps c.keep.ensures);
+      keeps = keeps-both old c.loop-index.samples c.decode.new.self before.keeps c.decode.ensures.keeps;
       blocks = λ cells s.
           let here = keeps-samples old c.loop-index.samples cells before.keeps s in
           let inside : c.loop-index.index < length cells = omega (arith, many-cells old cells s, ap length c.cells-index-end.ensures, c.loop-index-test.true) in
-          let rounds = subst (λ w. Rounds w c.in_ok-histogram.histogram (get_or cells c.loop-index.index [])) before.keeps.width (c.in_ok-histogram.ensures.samples cells here) in
+          let are = subst (λ w. AreClassesOf w c.decode.new.classes.items (get_or cells c.loop-index.index [])) before.keeps.width (c.in_ok-decode.ensures.samples cells here) in
+          let here-are = subst (λ l. AreClassesOf (width_of_tag old) l (get_or cells c.loop-index.index [])) (sym c.deref.ensures.value) are in
           let total = min (sum_by (λ (cell : Cell). cell.samples) (cells_of old)) (2 ^ 64 - 1) in
-          let pushed = subst (λ l. AllZip (Pushes c.in_ok-histogram.histogram) l c.push_cell.new.all) c.deref_mut.ensures.value c.in_ok-push_cell.ensures in
-          let both = pushed-for (width_of_tag old) cells total c.loop-index.index c.in_ok-histogram.histogram c.args.tails.now c.loop-index.all.items c.push_cell.new.all inside s.fits rounds (before.blocks cells s) pushed in
+          let pushed = subst (λ l. AllZip (Pushes c.deref.result.now) l c.push_cell.new.all) c.deref_mut.ensures.value c.in_ok-push_cell.ensures in
+          let both = pushed-for (width_of_tag old) cells total c.loop-index.index c.deref.result.now c.args.tails.now c.loop-index.all.items c.push_cell.new.all inside s.fits here-are (before.blocks cells s) pushed in
           let many : length c.push_cell.new.all ≡ c.loop-index.all.len = omega (arith, c.push_cell.auto.all, c.deref_mut.ensures.len) in
           subst (AreBlocksFor (width_of_tag old) cells total (c.loop-index.index + 1) c.args.tails.now) (sym (refilled c.loop-index.all.len c.push_cell.new.all (drop (length c.push_cell.new.all) c.loop-index.all.items) many)) both;
     }

@@ -1,7 +1,9 @@
-use Rattle.std.proofs.Common.{◌≡◌, ◌∙◌, ◌+◌, ◌<◌, ap, sym, refl, subst, arith, length, map, get_or, take_all}
+use Rattle.std.proofs.Common.{◌≡◌, ◌∙◌, ◌+◌, ◌<◌, ap, sym, refl, subst, arith, ◌-◌, ◌^◌, length, map, min, get_or, take_all}
 use Rattle.std.proofs.lemmas.List.{length_push}
 use Rattle.hdr_verdict.specs.Samples.{AreHeld, nothing_held, width_of}
+use Rattle.hdr_verdict.specs.ClassSamples.{values_of}
 use Rattle.hdr_verdict.specs.Decoders.{intervals_of}
+use Rattle.hdr_verdict.proofs.ClassFacts.{held-long}
 use Rattle.hdr_verdict.proofs.Holding.{count-more, finest-scale, as-many, refs-many, samples_in}
 use Rattle.hdr_verdict.proofs.decoder.Decoder.count.Goals as goal
 
@@ -15,17 +17,17 @@ loop-index-init c = record {
 
 pub loop-index-preserved : goal.loop-index-preserved
 loop-index-preserved c = record {
-  intervals = c.keep.ensures ∙ c.decode.ensures.intervals ∙ c.loop-index.invariant.intervals;
-  many = ap length c.in_ok-push.ensures.items ∙ length_push c.loop-index.samples.items c.len.result ∙ ap (λ n. n + 1) c.loop-index.invariant.many;
-  scale = c.join-width.ensures.scale c.loop-index.invariant.scale;
+  intervals = c.decode.ensures.intervals ∙ c.loop-index.invariant.intervals;
+  many = ap length c.in_ok-push.ensures.items ∙ length_push c.loop-index.samples.items c.total_of.result ∙ ap (λ n. n + 1) c.loop-index.invariant.many;
+  scale = c.join-width.ensures.scale c.loop-index.invariant.scale c.in_ok-bounds.ensures.scale;
   counts = λ all held.
       let here = subst (λ l. AreHeld l all) (sym c.loop-index.invariant.intervals) held in
-      let is = c.in_ok-histogram.ensures.held all here in
+      let is = c.in_ok-bounds.ensures.held all here in
       let so-far = c.loop-index.invariant.counts all held in
       let many = refs-many c.intervals-index-end.result.now (intervals_of c.args.self.now) c.intervals-index-end.ensures in
       let inside : c.loop-index.index < length all = omega (arith, many, as-many (intervals_of c.args.self.now) all held, c.loop-index-test.true) in
-      let one : c.len.result ≡ samples_in (get_or all c.loop-index.index nothing_held) = c.len.ensures ∙ is.samples.total in
-      let more = count-more all c.loop-index.index c.loop-index.samples.items c.loop-index.width c.join-width.result c.len.result inside so-far.0 so-far.1 one (c.join-width.ensures.width (get_or all c.loop-index.index nothing_held) is) in
+      let one : c.total_of.result ≡ samples_in (get_or all c.loop-index.index nothing_held) = c.total_of.ensures ∙ ap (λ l. min (length (values_of l)) (2 ^ 64 - 1)) c.deref.ensures.value ∙ held-long (get_or all c.loop-index.index nothing_held) c.in_ok-bounds.bounds c.clear.new.self.items c.decode.new.classes.items is c.clear.ensures.items in
+      let more = count-more all c.loop-index.index c.loop-index.samples.items c.loop-index.width c.join-width.result c.total_of.result inside so-far.0 so-far.1 one (c.join-width.ensures.width (get_or all c.loop-index.index nothing_held) is.low is.sigfig) in
       (c.in_ok-push.ensures.items ∙ more.0, more.1);
 }
 

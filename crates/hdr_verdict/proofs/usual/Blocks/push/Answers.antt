@@ -2,6 +2,7 @@ use Rattle.std.proofs.Common.{◌≡◌, ◌∙◌, ◌++◌, [], length, get_or
 use Rattle.hdr_verdict.specs.declared.usual.Blocks.{Blocks}
 use Rattle.std.specs.List.{AllZip}
 use Rattle.hdr_verdict.specs.Blocks.{AppendsBlock}
+use Rattle.hdr_verdict.specs.ClassSamples.{AreClassesOf}
 use Rattle.hdr_verdict.specs.Samples.{Rounds, classes_of}
 use Rattle.hdr_verdict.proofs.Rounding.{total-rounds}
 use Rattle.hdr_verdict.proofs.BlockFacts.{pushed-short, pushed-full, same-tails, since-fits}
@@ -12,7 +13,7 @@ returns-then-from-self c = record {
   tails = refl;
   blocks = λ width cells total n inside fits cell b.
       let old = c.args.self.now in
-      let here = subst (λ w. Rounds w c.args.cell.now (get_or cells n [])) (sym b.same_width) cell in
+      let here = subst (λ w. AreClassesOf w c.args.cell.now (get_or cells n [])) (sym b.same_width) cell in
       let classes = b.classes ∙ ap classes_of (sym b.same_width) in
       let part = c.in_ok-add.ensures.samples b.since (get_or cells n []) classes (subst (λ w. Rounds w old.part b.since) (sym b.same_width) b.part) here (since-fits width cells total n old b inside fits) in
       let count : c.len.result ≡ length (b.since ++ get_or cells n []) = c.len.ensures ∙ total-rounds old.width c.add.new.sum (b.since ++ get_or cells n []) part in
@@ -27,7 +28,7 @@ returns c = record {
       let old = c.args.self.now in
       let new = c.finish.new.self in
       let T = b.since ++ get_or cells n [] in
-      let here = subst (λ w. Rounds w c.args.cell.now (get_or cells n [])) (sym b.same_width) cell in
+      let here = subst (λ w. AreClassesOf w c.args.cell.now (get_or cells n [])) (sym b.same_width) cell in
       let classes = b.classes ∙ ap classes_of (sym b.same_width) in
       let part = c.in_ok-add.ensures.samples b.since (get_or cells n []) classes (subst (λ w. Rounds w old.part b.since) (sym b.same_width) b.part) here (since-fits width cells total n old b inside fits) in
       let count : c.len.result ≡ length T = c.len.ensures ∙ total-rounds old.width c.add.new.sum T part in
