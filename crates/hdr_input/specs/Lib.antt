@@ -14,3 +14,5 @@ pub mod BoundLaws
 pub mod Visible
 pub mod Blanks
 pub mod BlankReaders
+pub mod TimeSlices
+pub mod Intervals
