@@ -1,4 +1,5 @@
 pub mod Bounds
+pub mod Shifted
 pub mod Batches
 pub mod SameBatches
 pub mod Intervals

@@ -7,6 +7,7 @@ pub mod Ends
 pub mod Intervals
 pub mod EndsOf
 pub mod Runs
+pub mod Positions
 pub mod Verdicts
 pub mod Shifts
 pub mod Parts

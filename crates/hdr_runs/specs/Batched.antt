@@ -1,8 +1,12 @@
 -- Numbers that are recorded, and in batches.
-use Rattle.std.specs.Prelude.{◌≡◌, ℕ, ◌^◌, ◌<◌, List, ◌++◌, length, true}
+use Rattle.std.specs.Prelude.{◌≡◌, ℕ, ◌^◌, ◌<◌, List, [], ◌∷◌, ◌++◌, length, false, true}
+use Rattle.hdr_model.specs.Plain.{Plain}
 use Rattle.hdr_model.specs.Samples.{StandsFor}
-use Rattle.hdr_compare.specs.Batchings.{HasRecorded}
+use Rattle.hdr_compare.specs.Batchings.{HasRecorded, batches_of}
 use Rattle.hdr_runs.specs.declared.batch_tally.BatchTally.{BatchTally}
+use Rattle.hdr_runs.specs.declared.order.Order.{Order}
+use Rattle.hdr_runs.specs.declared.order.Order.TheVariants.{OfTime, Sorted, Counted, FewIntervals}
+use Rattle.hdr_runs.specs.declared.side.Samples.{Samples}
 
 -- the tally stands for samples, and so do the batches, one part after the other
 pub record HasSamples (S : List ℕ) (t : BatchTally) : Type 0 where
@@ -13,3 +17,27 @@ pub record HasSamples (S : List ℕ) (t : BatchTally) : Type 0 where
 abbrev pub TakesSame : BatchTally → BatchTally → Type 0
 TakesSame old new = new.has_batches ≡ true → (old.has_batches ≡ true)
     × ((S : List ℕ) → HasSamples S old → (T : List ℕ) × (length (S ++ T) < 2 ^ 64 → HasSamples (S ++ T) new))
+
+-- the batches have all numbers
+abbrev pub HasBatches : BatchTally → Type 0
+HasBatches t = t.has_batches ≡ true
+
+-- the numbers are sorted if they only ascend or only descend, and their order is not known without batches
+abbrev pub IsOrderOf : BatchTally → Order → Type 0
+IsOrderOf t OfTime = HasBatches t × (t.steps.ascends ≡ t.steps.descends)
+IsOrderOf t Sorted = HasBatches t × (t.steps.ascends ≡ t.steps.descends → ⊥)
+IsOrderOf t Counted = t.has_batches ≡ false
+IsOrderOf t FewIntervals = ⊥
+
+-- samples in batches if their order is that of time, and otherwise in one
+abbrev pub ordered : BatchTally → Order → List Plain
+ordered t OfTime = batches_of t.batching
+ordered t order = t.tally.histogram ∷ []
+
+-- the samples of a tally, in their order
+pub record AreSamplesOf (t : BatchTally) (samples : Samples) : Type 0 where
+  pub order : IsOrderOf t samples.order
+  pub batches : samples.batches.items ≡ ordered t samples.order
+  pub least : samples.min ≡ t.tally.min
+  pub greatest : samples.max ≡ t.tally.max
+  pub decimals : samples.decimals ≡ t.tally.decimals

@@ -3,4 +3,7 @@ pub mod BatchLaws
 pub mod ReportChanges
 pub mod Limits
 pub mod Points
+pub mod Bands
 pub mod Sorted
+pub mod LevelTallies
+pub mod LevelVerdicts

@@ -27,6 +27,10 @@ least_of side = side.min
 abbrev pub greatest_of : Side → ℕ
 greatest_of side = side.max
 
+-- the decimals of a unit
+abbrev pub decimals_of : Side → ℕ
+decimals_of side = side.decimals
+
 -- a value within the least and the greatest sample
 abbrev pub within : Side → ℕ → ℕ
 within side v = max (min v (greatest_of side)) (least_of side)

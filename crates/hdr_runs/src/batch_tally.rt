@@ -1,5 +1,7 @@
 //! Numbers that are recorded, and in batches of those that follow one another.
 
+ghost use Rattle.std.specs.Prelude.{◌≡◌, ◌∷◌, [], IfOk};
+
 use crate::order::Order;
 use crate::side::Samples;
 use crate::steps::Steps;
@@ -33,6 +35,9 @@ pub struct BatchRecording {
 }
 
 impl GroupMaker for BatchRecording {
+    ghost use Rattle.std.specs.Prelude.{IfOk};
+    ghost use Rattle.hdr_runs.specs.Batched.{HasBatches};
+
     type Sink = BatchTally;
 
     fn recording(&self) -> Recording {
@@ -43,7 +48,9 @@ impl GroupMaker for BatchRecording {
         BatchRecording { recording }
     }
 
-    fn make(&self, alloc: Global) -> Result<BatchTally, InputError> {
+    fn make(&self, alloc: Global) -> Result<BatchTally, InputError>
+        ensures { IfOk result HasBatches }
+    {
         let tally = self.recording.make(alloc)?;
         match Batching::new(alloc, self.recording.sigfig.min(5)) {
             Ok(batching) => Ok(BatchTally {
@@ -58,16 +65,17 @@ impl GroupMaker for BatchRecording {
 }
 
 impl BatchTally {
-    ghost use Rattle.std.specs.Prelude.{◌≡◌};
+    ghost use Rattle.std.specs.Prelude.{◌≡◌, IfOk, OnOk};
     ghost use Rattle.hdr_input.specs.Numbers.{in_units};
     ghost use Rattle.hdr_input.specs.Recorded.{KeepsUnit};
-    ghost use Rattle.hdr_runs.specs.Batched.{TakesSame};
+    ghost use Rattle.hdr_runs.specs.Batched.{AreSamplesOf, HasBatches, IsOrderOf, TakesSame};
 
     /// Records a number, which has these units. After an error the batches do not have all numbers.
     fn take(&mut self, number: Number, units: u64) -> Result<(), Cause>
         requires { units ≡ in_units number.digits number.decimals self.old.tally.decimals }
         ensures same { TakesSame self.old self.new }
         ensures unit { KeepsUnit self.old.tally self.new.tally }
+        ensures keeps { OnOk result (HasBatches self.old → HasBatches self.new) }
     {
         recording_stands();
         // The histogram is plain
@@ -88,7 +96,9 @@ impl BatchTally {
     }
 
     /// Returns in which order the numbers are known.
-    pub fn order(&self) -> Order {
+    pub fn order(&self) -> Order
+        ensures { IsOrderOf self.now result }
+    {
         if !self.has_batches {
             Order::Counted
         } else if self.steps.is_sorted() {
@@ -99,31 +109,18 @@ impl BatchTally {
     }
 
     /// Returns the samples in batches: in one if their order is not that of time.
-    pub fn into_samples(self, alloc: Global) -> Result<Samples, BatchError> {
-        let order = self.order();
-        let BatchTally {
-            tally,
-            batching,
-            ..
-        } = self;
-        let (min, max, decimals) = (tally.min, tally.max, tally.decimals);
-        let batches = match order {
-            Order::OfTime => batching.into_batches()?,
-            _ => one_batch(alloc, tally.histogram)?,
-        };
-        Ok(Samples {
-            batches,
-            min,
-            max,
-            decimals,
-            order,
-        })
+    pub fn into_samples(self, alloc: Global) -> Result<Samples, BatchError>
+        ensures { IfOk result (AreSamplesOf self) }
+    {
+        let (_, samples) = self.into_parts(alloc)?;
+        Ok(samples)
     }
-}
 
-impl BatchTally {
     /// Returns the distribution of the numbers, and their samples in batches.
-    pub fn into_parts(self, alloc: Global) -> Result<(Distribution, Samples), BatchError> {
+    pub fn into_parts(self, alloc: Global) -> Result<(Distribution, Samples), BatchError>
+        ensures distribution { IfOk result (λ parts. parts.0.histogram ≡ self.tally.histogram) }
+        ensures samples { IfOk result (λ parts. AreSamplesOf self parts.1) }
+    {
         let order = self.order();
         let BatchTally {
             tally,
@@ -132,7 +129,7 @@ impl BatchTally {
         } = self;
         let batches = match order {
             Order::OfTime => batching.into_batches()?,
-            _ => one_batch(alloc, copy_of(&tally.histogram)?)?,
+            _ => one_batch(alloc, &tally.histogram)?,
         };
         let samples = Samples {
             batches,
@@ -145,15 +142,15 @@ impl BatchTally {
     }
 }
 
-/// Returns a copy of a histogram.
-fn copy_of(histogram: &Histogram<u64>) -> Result<Histogram<u64>, BatchError> {
-    histogram.clone().map_err(|_| BatchError::OutOfMemory)
-}
-
 /// Returns a histogram as a list.
-fn one_batch(alloc: Global, histogram: Histogram<u64>) -> Result<Vec<Histogram<u64>>, BatchError> {
+fn one_batch(alloc: Global, histogram: &Histogram<u64>) -> Result<Vec<Histogram<u64>>, BatchError>
+    ensures { IfOk result (λ batches. batches.items ≡ histogram.now ∷ []) }
+{
+    let Ok(copy) = histogram.clone() else {
+        return Err(BatchError::OutOfMemory);
+    };
     let mut batches = Vec::new(alloc);
-    match batches.push(histogram) {
+    match batches.push(copy) {
         Ok(()) => Ok(batches),
         Err(_) => Err(BatchError::OutOfMemory),
     }
@@ -170,8 +167,9 @@ impl GroupSink for BatchTally {
 }
 
 impl NumberSink for BatchTally {
+    ghost use Rattle.std.specs.Prelude.{OnOk};
     ghost use Rattle.hdr_runs.specs.BatchLaws.{takes_nothing, takes_after};
-    ghost use Rattle.hdr_runs.specs.Batched.{TakesSame};
+    ghost use Rattle.hdr_runs.specs.Batched.{HasBatches, TakesSame};
 
     ghost takes = { TakesSame };
 
@@ -181,7 +179,10 @@ impl NumberSink for BatchTally {
 
     #[inline(always)]
     #[tactic(auto, using(hdr_input::proofs::InUnits::units_same))]
-    fn record(&mut self, number: Number) -> Result<(), Cause> {
+    fn record(&mut self, number: Number) -> Result<(), Cause>
+        ensures taken { TakesSame self.old self.new }
+        ensures keeps { OnOk result (HasBatches self.old → HasBatches self.new) }
+    {
         if number.decimals == self.tally.decimals {
             return self.take(number, number.digits);
         }
@@ -189,7 +190,10 @@ impl NumberSink for BatchTally {
         self.take(number, units)
     }
 
-    fn record_wide(&mut self, number: Wide) -> Result<(), Cause> {
+    fn record_wide(&mut self, number: Wide) -> Result<(), Cause>
+        ensures taken { TakesSame self.old self.new }
+        ensures keeps { OnOk result (HasBatches self.old → HasBatches self.new) }
+    {
         let decimals = self.tally.decimals;
         let narrow = number.rounded(decimals)?;
         self.record(narrow)?;

@@ -2,9 +2,12 @@
 //! the texts of that.
 #![tactic(auto)]
 
+mod band;
 mod batch_tally;
 mod change;
 mod ends;
+mod level_check;
+mod level_tally;
 mod limit;
 mod log_batches;
 mod order;
@@ -14,9 +17,12 @@ mod side;
 mod steps;
 mod texts;
 
+pub use band::BandPoint;
 pub use batch_tally::{BatchRecording, BatchTally};
 pub use change::{Change, change_of};
 pub use ends::ends_of;
+pub use level_check::LevelCheck;
+pub use level_tally::{LevelRecording, LevelTally};
 pub use limit::{Limit, LimitVerdict, parse_limit};
 pub use log_batches::LogBatches;
 pub use order::Order;

@@ -2,7 +2,7 @@
 
 use crate::order::Order;
 use crate::point::Point;
-use hdr_compare::{BatchError, Measured, Run, Tier};
+use hdr_compare::{BatchError, Measured, Position, Run, Tier, WithinBound};
 use hdrhistogram::{Histogram, Quantile};
 use std::alloc::{AllocError, Global};
 
@@ -43,8 +43,8 @@ pub struct Side {
     run: Run,
     /// How many samples there are.
     samples: u64,
-    min: u64,
-    max: u64,
+    pub(crate) min: u64,
+    pub(crate) max: u64,
     decimals: u32,
 }
 
@@ -52,7 +52,8 @@ impl Side {
     ghost use Rattle.std.specs.Prelude.{◌≡◌, ◌≤◌, IfOk, MatchOption};
     ghost use Rattle.std.specs.Option.{option_map};
     ghost use Rattle.hdr_compare.specs.Intervals.{samples_of};
-    ghost use Rattle.hdr_runs.specs.Points.{IsPointOf, batches_of_side, greatest_of, least_of, within};
+    ghost use Rattle.hdr_compare.specs.Positions.{IsPositionOf};
+    ghost use Rattle.hdr_runs.specs.Points.{IsPointOf, batches_of_side, decimals_of, greatest_of, least_of, within};
 
     /// Returns samples and their tag.
     ///
@@ -90,7 +91,9 @@ impl Side {
     }
 
     /// Returns the decimals of a unit.
-    pub fn decimals(&self) -> u32 {
+    pub fn decimals(&self) -> u32
+        ensures { result ≡ decimals_of self.now }
+    {
         self.decimals
     }
 
@@ -119,6 +122,23 @@ impl Side {
             measured,
             independent: interval.independent(),
         }))
+    }
+
+    /// Returns on which side of a bound a quantile is, or `None` without samples. The denominator
+    /// of the quantile is at most 1,000,000.
+    pub(crate) fn position(
+        &self,
+        alloc: Global,
+        quantile: Quantile,
+        tier: Tier,
+        within: WithinBound,
+    ) -> Result<Option<Position>, AllocError>
+        requires den { quantile.den ≤ 1000000 }
+        requires proper { quantile.num ≤ quantile.den }
+        ensures { IfOk result (λ found. MatchOption found (samples_of (batches_of_side self.now) ≡ 0)
+            (IsPositionOf (batches_of_side self.now) quantile tier within)) }
+    {
+        self.run.position(alloc, quantile, tier, within)
     }
 
     /// Returns a value within the least and the greatest sample.

@@ -54,6 +54,17 @@ pub struct ReportLayout<'a> {
 }
 
 impl Report<'_> {
+    /// Returns the cells of the table of compared runs: the names of its columns, and a row for each
+    /// line.
+    pub fn rows(
+        &self,
+        alloc: Global,
+        layout: &ReportLayout<'_>,
+    ) -> Result<Vec<Vec<String>>, AllocError> {
+        let lines = lines::lines_of(alloc, self, layout)?;
+        table::rows_of(alloc, &lines, layout)
+    }
+
     /// Returns the lines of compared runs, without a footer.
     pub fn text(&self, alloc: Global, layout: &ReportLayout<'_>) -> Result<String, AllocError> {
         let lines = lines::lines_of(alloc, self, layout)?;

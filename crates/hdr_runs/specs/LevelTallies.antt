@@ -1,0 +1,41 @@
+-- Numbers that are counted within bounds, and recorded in batches.
+use Rattle.std.specs.Prelude.{⊤, Option, Some, None}
+use Rattle.hdr_input.specs.BoundLaws.{CountsSome, counts_nothing, counts_after}
+use Rattle.hdr_runs.specs.BatchLaws.{takes_nothing, takes_after}
+use Rattle.hdr_runs.specs.Batched.{TakesSame}
+use Rattle.hdr_runs.specs.declared.batch_tally.BatchTally.{BatchTally}
+use Rattle.hdr_runs.specs.declared.level_tally.LevelTally.{LevelTally}
+
+-- batches take samples, if there are batches, and stay if there are none
+abbrev pub TakesInBatches : Option BatchTally → Option BatchTally → Type 0
+TakesInBatches None None = ⊤
+TakesInBatches (Some old) (Some new) = TakesSame old new
+TakesInBatches old new = ⊥
+
+-- some numbers are counted, and batches take what all of them take
+pub record TakesInBoth (old new : LevelTally) : Type 0 where
+  pub counted : CountsSome old.counted new.counted
+  pub batches : TakesInBatches old.batches new.batches
+
+pub batches_nothing : (t : Option BatchTally) → TakesInBatches t t
+batches_nothing None = tt
+batches_nothing (Some t) = takes_nothing t
+
+pub batches_after : (a b c : Option BatchTally) → TakesInBatches a b → TakesInBatches b c → TakesInBatches a c
+batches_after None None None first more = tt
+batches_after (Some a) (Some b) (Some c) first more = takes_after a b c first more
+batches_after None None (Some c) first more = absurd more
+batches_after None (Some b) c first more = absurd first
+batches_after (Some a) None c first more = absurd first
+batches_after (Some a) (Some b) None first more = absurd more
+
+-- nothing is taken where nothing changes
+pub takes_in_none : (t : LevelTally) → TakesInBoth t t
+takes_in_none t = record { counted = counts_nothing t.counted; batches = batches_nothing t.batches }
+
+-- what is taken after other samples
+pub takes_in_more : (a b c : LevelTally) → TakesInBoth a b → TakesInBoth b c → TakesInBoth a c
+takes_in_more a b c first more = record {
+  counted = counts_after a.counted b.counted c.counted first.counted more.counted;
+  batches = batches_after a.batches b.batches c.batches first.batches more.batches;
+}
