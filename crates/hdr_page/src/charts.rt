@@ -1,6 +1,7 @@
 //! The drawings of a page: all tags over time, percentiles, and each tag with its heat map.
 
 mod bands;
+mod confidence;
 pub(crate) mod detail;
 mod emphasis;
 mod ending;
@@ -19,11 +20,16 @@ use crate::charts::detail::detail_of;
 use crate::charts::over_time::push_over_time;
 use crate::charts::percentiles::{push_percentiles, quantiles};
 use crate::charts::tag_drawing::push_tag_drawing;
+use crate::comparison::Comparison;
 use hdr_view::view::View;
 use std::alloc::AllocError;
 
 /// Appends the drawings.
-pub(crate) fn push_drawings(view: &View<'_>, text: &mut String) -> Result<(), AllocError> {
+pub(crate) fn push_drawings(
+    view: &View<'_>,
+    text: &mut String,
+    comparison: Option<&Comparison>,
+) -> Result<(), AllocError> {
     let rows = view.scale().rows(view.alloc)?;
     let quantiles = quantiles(view);
     let mut details = Vec::new(view.alloc);
@@ -40,7 +46,7 @@ pub(crate) fn push_drawings(view: &View<'_>, text: &mut String) -> Result<(), Al
     })?;
     if has_times && !view.is_single() {
         push_over_time(view, text)?;
-        push_percentiles(view, text, &details)?;
+        push_percentiles(view, text, &details, comparison)?;
         text.push_str("</div>\n<div class=\"two\">\n")?;
     }
     if has_times {
@@ -49,7 +55,7 @@ pub(crate) fn push_drawings(view: &View<'_>, text: &mut String) -> Result<(), Al
         }
     }
     if !has_times || view.is_single() {
-        push_percentiles(view, text, &details)?;
+        push_percentiles(view, text, &details, comparison)?;
     }
     text.push_str("</div>\n")
 }

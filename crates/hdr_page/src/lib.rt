@@ -3,12 +3,14 @@
 #![tactic(auto)]
 
 mod charts;
+mod comparison;
 mod html;
 mod separated;
 mod style;
 mod table;
 mod terminal;
 
+pub use comparison::{Comparison, TagSide};
 pub use hdr_figures::level::PageLevel;
 pub use hdr_view::options::PageOptions;
 pub use html::page;

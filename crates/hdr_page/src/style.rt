@@ -114,6 +114,24 @@ td i{width:1.8em}
 @media print{body{padding:0;max-width:none;font-size:12px}.say{font-size:16px}figure,tr{
 break-inside:avoid}.two{grid-template-columns:minmax(0,1fr)}.sw{display:none}}";
 
+/// The style of runs that are compared.
+const RUNS: &str = "
+.ci{fill:var(--t);fill-opacity:.2}
+.runs .l{text-align:left}.runs td.l{white-space:normal}.runs+.soft{margin-top:6px}
+@media(max-width:700px){
+.runs tbody th:first-child{grid-column:span 2}.runs tbody th{grid-column:span 1}
+.runs tbody th:only-of-type{grid-column:span 3}
+.runs td:nth-child(n){display:flex;white-space:normal;overflow-wrap:anywhere}
+.runs td:nth-child(n)::before{content:attr(data-of)}.runs td:nth-child(n)::after{content:none}
+.runs td.l:nth-child(n){grid-column:span 3}.runs td.l:nth-child(n)::before{content:none}
+.runs td:empty:nth-child(n){display:none}
+}";
+
+/// Appends the style of runs that are compared.
+pub(crate) fn push_style_of_runs(text: &mut String) -> Result<(), AllocError> {
+    text.push_str(RUNS)
+}
+
 /// Appends the style.
 pub(crate) fn push_style(text: &mut String) -> Result<(), AllocError> {
     text.push_str(ROOT)?;

@@ -5,6 +5,7 @@ mod rows;
 
 use crate::charts::detail::curve_of;
 use crate::charts::percentiles::LINES;
+use crate::comparison::Comparison;
 use hdr_draw::quantiles::QuantileScale;
 use hdr_draw::values::{AxisTick, ValueScale};
 use hdr_logs::{LogError, LogIntervals};
@@ -24,16 +25,24 @@ const ROWS: u32 = 16;
 
 const BLOCKS: [&str; 9] = [" ", "▁", "▂", "▃", "▄", "▅", "▆", "▇", "█"];
 
-/// Returns the page of intervals as text for a terminal with 80 columns.
+/// Returns the page of intervals as text for a terminal with 80 columns. The lines of runs that are
+/// compared may be longer.
 pub fn page_text(
     alloc: Global,
     intervals: &LogIntervals,
     options: PageOptions<'_>,
+    comparison: Option<&Comparison>,
 ) -> Result<String, LogError> {
     let view = View::new(alloc, intervals, options, PageForm::Plain)?;
+    let mut title = String::new(alloc);
+    view.push_title(&mut title)?;
+    let mut text = String::new(alloc);
+    push_wrapped(&mut text, title.as_str())?;
+    if let Some(comparison) = comparison {
+        comparison.push_plain(&mut text)?;
+    }
     let mut summary = String::new(alloc);
     view.push_summary(&mut summary)?;
-    let mut text = String::new(alloc);
     push_wrapped(&mut text, summary.as_str())?;
     if view.log.all.count > 0 {
         text.push_str("\n")?;

@@ -1,3 +1,5 @@
 pub mod Amounts
 pub mod LevelFacts
 pub mod ShownUnits
+pub mod TagOrder
+pub mod Times

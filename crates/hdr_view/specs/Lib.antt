@@ -1,2 +1,4 @@
 pub mod Amounts
+pub mod Naming
+pub mod Order
 pub mod Views

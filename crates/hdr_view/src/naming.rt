@@ -1,5 +1,12 @@
 //! The incidents that are named by letters.
 
+ghost use Rattle.std.specs.Prelude.{◌≡◌, ◌↔◌, ℕ, ◌+◌, ◌<◌, ◌++◌, ◌∷◌, [], IfOk, OnOk, IsTrue, length, map, take, drop};
+ghost use Rattle.std.specs.Prelude.{if◌then◌else◌, nat_lt};
+ghost use Rattle.std.specs.List.{All};
+ghost use Rattle.hdr_view.specs.Naming.{HaveEachOnce, IsLineOf, IsNaming, count_in, is_first, is_gap, least, lightest, start_of, tag_of, times, times_in};
+ghost use Rattle.std.specs.Prelude.{slice_get};
+ghost use Rattle.hdr_view.specs.Order.{tags_of};
+
 use hdr_verdict::{Episode, EpisodeKind, Incident};
 use std::alloc::{AllocError, Global};
 
@@ -25,6 +32,11 @@ pub struct NamedIncidents {
     pub heaviest: usize,
     /// The indices of all of them, in order of time.
     pub all: Vec<usize>,
+    /// Whether it is a stall or a gap, which have letters before others.
+    pub(crate) comes_first: bool,
+    /// When the heaviest began, and its tag.
+    pub(crate) start: u64,
+    pub(crate) tag: usize,
 }
 
 /// The incidents that are named, in order of time, and the others.
@@ -46,7 +58,9 @@ pub(crate) fn is_slow(incident: &Incident) -> bool {
 }
 
 /// Returns the tags of an incident: that of the heaviest episode, and then the others by weight.
-pub(crate) fn tags_of(alloc: Global, incident: &Incident) -> Result<Vec<usize>, AllocError> {
+pub(crate) fn tags_of(alloc: Global, incident: &Incident) -> Result<Vec<usize>, AllocError>
+    ensures { IfOk result (λ tags. tags.items ≡ tags_of incident.now) }
+{
     let mut tags = Vec::new(alloc);
     push(&mut tags, incident.heaviest.tag)?;
     for episode in &incident.joined {
@@ -64,7 +78,9 @@ pub fn episode_of(incident: &Incident, tag: usize) -> Option<&Episode> {
 }
 
 /// Appends an index.
-pub(crate) fn push(indices: &mut Vec<usize>, index: usize) -> Result<(), AllocError> {
+pub(crate) fn push(indices: &mut Vec<usize>, index: usize) -> Result<(), AllocError>
+    ensures { OnOk result (indices.new.items ≡ indices.old.items ++ index ∷ []) }
+{
     indices.push(index).map_err(|_| AllocError)
 }
 
@@ -75,26 +91,55 @@ struct Short {
     index: usize,
 }
 
-/// Returns the short incidents by their tags, and those of the same tags by falling weight.
-fn short_ones(alloc: Global, incidents: &[Incident]) -> Result<Vec<Short>, AllocError> {
+/// Returns the short incidents by their tags, and those of the same tags by falling weight. Appends
+/// the index of each other incident.
+fn short_ones(
+    alloc: Global,
+    incidents: &[Incident],
+    single: &mut Vec<usize>,
+) -> Result<Vec<Short>, AllocError>
+    ensures { IfOk result (λ short. (index : ℕ)
+        → times index single.new.items + times index (map (λ s. s.index) short.items)
+        ≡ times index single.old.items + (if nat_lt index (length incidents.now) then 1 else 0)) }
+{
     let mut short = Vec::new(alloc);
     for (index, incident) in incidents.iter().enumerate() {
-        let run = incident.heaviest.run;
-        if is_slow(incident)
-            && run.end.saturating_sub(run.start) <= SHORT
-            && !incident.has_lasting()
-        {
-            let mut tags = tags_of(alloc, incident)?;
-            tags.sort()?;
-            short.push(Short { tags, index }).map_err(|_| AllocError)?;
+        if is_short(incident) {
+            push_short(&mut short, sorted_tags(alloc, incident)?, index)?;
+        } else {
+            push(single, index)?;
         }
     }
-    short.sort_by(|a, b| a.tags.cmp(&b.tags).then(a.index.cmp(&b.index)))?;
+    short.sort_by(|a: &Short, b: &Short| a.tags.cmp(&b.tags).then(a.index.cmp(&b.index)))?;
     Ok(short)
 }
 
+/// Whether an incident is slow for a short time, and over at the end of the log.
+fn is_short(incident: &Incident) -> bool {
+    let run = incident.heaviest.run;
+    is_slow(incident) && run.end.saturating_sub(run.start) <= SHORT && !incident.has_lasting()
+}
+
+/// Returns the tags of an incident in ascending order.
+fn sorted_tags(alloc: Global, incident: &Incident) -> Result<Vec<usize>, AllocError> {
+    let mut tags = tags_of(alloc, incident)?;
+    tags.sort()?;
+    Ok(tags)
+}
+
+/// Appends a short incident.
+fn push_short(short: &mut Vec<Short>, tags: Vec<usize>, index: usize) -> Result<(), AllocError>
+    ensures { OnOk result (map (λ s. s.index) short.new.items
+        ≡ map (λ s. s.index) short.old.items ++ index ∷ []) }
+{
+    match short.push(Short { tags, index }) {
+        Ok(()) => Ok(()),
+        Err(_) => Err(AllocError),
+    }
+}
+
 /// Returns how many of the heaviest of some incidents are no longer alike the others.
-fn outliers(incidents: &[Incident], alike: &[Short]) -> usize {
+fn outliers(incidents: &[Incident], alike: &[&Short]) -> usize {
     let weight = |at: usize| {
         alike
             .get(at)
@@ -112,84 +157,232 @@ fn outliers(incidents: &[Incident], alike: &[Short]) -> usize {
     alike.len()
 }
 
-/// Returns all incidents by their letters, the heaviest first.
-fn lines_of(alloc: Global, incidents: &[Incident]) -> Result<Vec<NamedIncidents>, AllocError> {
+/// Returns all incidents by their letters: those that are alike have one.
+fn lines_of(alloc: Global, incidents: &[Incident]) -> Result<Vec<NamedIncidents>, AllocError>
+    ensures each_once { IfOk result (λ lines. HaveEachOnce (length incidents.now) lines.items) }
+    ensures each { IfOk result (λ lines. All (IsLineOf incidents.now) lines.items) }
+{
+    let mut single = Vec::new(alloc);
+    let short = short_ones(alloc, incidents, &mut single)?;
     let mut lines = Vec::new(alloc);
-    let mut is_in_group = vec![in alloc; false; incidents.len()]?;
-    let short = short_ones(alloc, incidents)?;
-    for alike in short.chunk_by(|a, b| a.tags == b.tags) {
-        let alike = alike.get(outliers(incidents, alike)..).unwrap_or(&[]);
-        if alike.len() >= FEWEST_ALIKE {
-            push_group(alloc, &mut lines, incidents, alike, &mut is_in_group)?;
+    let mut alike = Vec::new(alloc);
+    for short in &short {
+        if !has_tags_of(&alike, short) {
+            push_alike(alloc, incidents, &alike, &mut lines, &mut single)?;
+            alike = Vec::new(alloc);
         }
+        push_reference(&mut alike, short)?;
     }
-    for (index, is_in_group) in is_in_group.iter().enumerate() {
-        if !*is_in_group {
-            let mut all = Vec::new(alloc);
-            push(&mut all, index)?;
-            let heaviest = index;
-            lines
-                .push(NamedIncidents { heaviest, all })
-                .map_err(|_| AllocError)?;
-        }
-    }
-    lines.sort_by_key(|line: &NamedIncidents| line.heaviest)?;
+    push_alike(alloc, incidents, &alike, &mut lines, &mut single)?;
+    push_singles(alloc, incidents, &mut lines, &single)?;
     Ok(lines)
 }
 
-/// Appends incidents that are alike.
-fn push_group(
+/// Whether a short incident has the same tags as others, if there are any.
+fn has_tags_of(alike: &[&Short], short: &Short) -> bool {
+    match alike.first() {
+        Some(first) => first.tags == short.tags,
+        None => true,
+    }
+}
+
+/// Appends a short incident.
+fn push_reference<'a>(alike: &mut Vec<&'a Short>, short: &'a Short) -> Result<(), AllocError>
+    ensures { OnOk result (map (λ s. s.now.index) alike.new.items
+        ≡ map (λ s. s.now.index) alike.old.items ++ short.entry.now.index ∷ []) }
+{
+    match alike.push(short) {
+        Ok(()) => Ok(()),
+        Err(_) => Err(AllocError),
+    }
+}
+
+/// Appends a line of incidents that are alike, if there are enough of them, and the indices of the
+/// others.
+fn push_alike(
     alloc: Global,
-    lines: &mut Vec<NamedIncidents>,
     incidents: &[Incident],
-    alike: &[Short],
-    is_in_group: &mut [bool],
-) -> Result<(), AllocError> {
+    alike: &[&Short],
+    lines: &mut Vec<NamedIncidents>,
+    single: &mut Vec<usize>,
+) -> Result<(), AllocError>
+    ensures times { OnOk result ((index : ℕ) → times_in index lines.new.items + times index single.new.items
+        ≡ times_in index lines.old.items + times index single.old.items
+        + times index (map (λ s. s.now.index) alike.now)) }
+    ensures lines { OnOk result (All (IsLineOf incidents.now) lines.old.items
+        → All (IsLineOf incidents.now) lines.new.items) }
+{
+    let outliers = outliers(incidents, alike);
+    let is_group = alike.len().saturating_sub(outliers) >= FEWEST_ALIKE;
     let mut all = Vec::new(alloc);
-    for short in alike {
-        push(&mut all, short.index)?;
-        if let Some(is_in_group) = is_in_group.get_mut(short.index) {
-            *is_in_group = true;
+    for (position, short) in alike.iter().enumerate() {
+        if is_group && position >= outliers {
+            push(&mut all, short.index)?;
+        } else {
+            push(single, short.index)?;
         }
     }
-    let heaviest = all.first().copied().unwrap_or(0);
+    push_line(incidents, lines, all)?;
+    Ok(())
+}
+
+/// Appends a line of incidents, if there are any.
+fn push_line(
+    incidents: &[Incident],
+    lines: &mut Vec<NamedIncidents>,
+    mut all: Vec<usize>,
+) -> Result<(), AllocError>
+    ensures times { OnOk result ((index : ℕ) → times_in index lines.new.items
+        ≡ times_in index lines.old.items + times index all.items) }
+    ensures lines { OnOk result (All (IsLineOf incidents.now) lines.old.items
+        → All (IsLineOf incidents.now) lines.new.items) }
+{
+    if all.is_empty() {
+        return Ok(());
+    }
     all.sort_by_key(|index: &usize| start_of(incidents, *index))?;
-    lines
-        .push(NamedIncidents { heaviest, all })
-        .map_err(|_| AllocError)
+    let heaviest = least(&all);
+    let (start, tag) = start_of(incidents, heaviest);
+    let comes_first = comes_first(incidents, heaviest);
+    let line = NamedIncidents {
+        heaviest,
+        all,
+        comes_first,
+        start,
+        tag,
+    };
+    push_named(lines, line)?;
+    Ok(())
+}
+
+/// Appends a line for each of some incidents.
+fn push_singles(
+    alloc: Global,
+    incidents: &[Incident],
+    lines: &mut Vec<NamedIncidents>,
+    single: &[usize],
+) -> Result<(), AllocError>
+    ensures times { OnOk result ((index : ℕ) → times_in index lines.new.items
+        ≡ times_in index lines.old.items + times index single.now) }
+    ensures lines { OnOk result (All (IsLineOf incidents.now) lines.old.items
+        → All (IsLineOf incidents.now) lines.new.items) }
+{
+    for index in single {
+        let mut all = Vec::new(alloc);
+        push(&mut all, *index)?;
+        push_line(incidents, lines, all)?;
+    }
+    Ok(())
+}
+
+/// Appends a line.
+fn push_named(lines: &mut Vec<NamedIncidents>, line: NamedIncidents) -> Result<(), AllocError>
+    ensures { OnOk result (lines.new.items ≡ lines.old.items ++ line ∷ []) }
+{
+    match lines.push(line) {
+        Ok(()) => Ok(()),
+        Err(_) => Err(AllocError),
+    }
+}
+
+/// Returns the least of some indices.
+fn least(indices: &[usize]) -> usize
+    ensures { result ≡ least indices.now }
+{
+    let mut least = usize::MAX;
+    for index in indices {
+        least = least.min(*index);
+    }
+    least
 }
 
 /// Returns when an incident begins, and its first tag.
-fn start_of(incidents: &[Incident], index: usize) -> (u64, usize) {
+fn start_of(incidents: &[Incident], index: usize) -> (u64, usize)
+    ensures start { result.0 ≡ start_of (slice_get incidents.now index) }
+    ensures tag { result.1 ≡ tag_of (slice_get incidents.now index) }
+{
     match incidents.get(index) {
         Some(incident) => (incident.heaviest.start, incident.heaviest.tag),
         None => (0, 0),
     }
 }
 
-/// Whether an incident is a stall or a gap, which are named before others.
-fn comes_first(incidents: &[Incident], line: &NamedIncidents) -> bool {
-    incidents.get(line.heaviest).is_some_and(|incident| {
-        incident.has_stall() || incident.heaviest.kind == EpisodeKind::Gap
-    })
+/// Whether an incident is a stall or a gap.
+fn comes_first(incidents: &[Incident], index: usize) -> bool
+    ensures { result ≡ is_first (slice_get incidents.now index) }
+{
+    match incidents.get(index) {
+        Some(incident) => incident.has_stall() || is_gap(incident.heaviest.kind),
+        None => false,
+    }
+}
+
+/// Whether samples did not come.
+fn is_gap(kind: EpisodeKind) -> bool
+    ensures { result ≡ is_gap kind }
+{
+    matches!(kind, EpisodeKind::Gap)
+}
+
+/// Returns the lines that have letters.
+fn first_of(lines: &[NamedIncidents]) -> &[NamedIncidents]
+    ensures { result.now ≡ take 8 lines.now }
+{
+    lines.get(..NAMED).unwrap_or(lines)
+}
+
+/// Returns the lines that have none.
+fn rest_of(lines: &[NamedIncidents]) -> &[NamedIncidents]
+    ensures { result.now ≡ drop 8 lines.now }
+{
+    lines.get(NAMED..).unwrap_or(&[])
+}
+
+/// Returns how many incidents are in lines.
+fn count_in(lines: &[NamedIncidents]) -> usize
+    ensures { result ≡ count_in lines.now }
+{
+    let mut count = 0usize;
+    for line in lines {
+        count = count.saturating_add(line.all.len());
+    }
+    count
+}
+
+/// Returns the index of the lightest of the heaviest incidents of lines.
+fn lightest(lines: &[NamedIncidents]) -> usize
+    ensures { result ≡ lightest lines.now }
+{
+    let mut index = 0usize;
+    for line in lines {
+        index = index.max(line.heaviest);
+    }
+    index
+}
+
+/// Whether the incidents of lines are lighter than the one of an index.
+fn are_lighter(lines: &[NamedIncidents], index: usize) -> bool
+    ensures { IsTrue result ↔ All (λ line. index < line.heaviest) lines.now }
+{
+    for line in lines {
+        if line.heaviest <= index {
+            return false;
+        }
+    }
+    true
 }
 
 impl Naming {
     /// Returns which of the incidents are named: stalls and gaps, and then the heaviest others.
-    pub fn new(alloc: Global, incidents: &[Incident]) -> Result<Naming, AllocError> {
+    pub fn new(alloc: Global, incidents: &[Incident]) -> Result<Naming, AllocError>
+        ensures { IfOk result (λ n. IsNaming incidents.now n) }
+    {
         let mut named = lines_of(alloc, incidents)?;
-        named.sort_by_key(|line: &NamedIncidents| (!comes_first(incidents, line), line.heaviest))?;
-        let mut others = 0usize;
-        for line in named.iter().skip(NAMED) {
-            others = others.saturating_add(line.all.len());
-        }
-        let lightest = named.iter().take(NAMED).map(|line| line.heaviest).max();
-        let are_lighter = named
-            .iter()
-            .skip(NAMED)
-            .all(|line| Some(line.heaviest) > lightest);
+        named.sort_by_key(|line: &NamedIncidents| (!line.comes_first, line.heaviest))?;
+        let others = count_in(rest_of(&named));
+        let are_lighter = are_lighter(rest_of(&named), lightest(first_of(&named)));
         named.truncate(NAMED);
-        named.sort_by_key(|line: &NamedIncidents| start_of(incidents, line.heaviest))?;
+        named.sort_by_key(|line: &NamedIncidents| (line.start, line.tag))?;
         Ok(Naming {
             named,
             others,

@@ -1,5 +1,12 @@
 //! The order of the tags on a page, and how long each was slow.
 
+ghost use Rattle.std.specs.Prelude.{ℕ, ◌≡◌, List, IfOk, OnOk, map};
+ghost use Rattle.std.specs.List.{fold};
+ghost use Rattle.std.specs.List.Sorted.{IsPermutation, IsSorted};
+ghost use Rattle.std.specs.Ordering.{nat_cmp};
+ghost use Rattle.hdr_verdict.specs.declared.incident.Incident.{Incident};
+ghost use Rattle.hdr_view.specs.Order.{AreAt, first_tags, indices_of, with_first, with_others};
+
 use crate::naming::{Naming, push, tags_of};
 use hdr_figures::figures::DRAWN;
 use hdr_verdict::{Episode, EpisodeKind, Incident};
@@ -12,9 +19,14 @@ pub(crate) fn order_of(
     tags: usize,
     incidents: &[Incident],
     naming: &Naming,
-) -> Result<Vec<usize>, AllocError> {
+) -> Result<Vec<usize>, AllocError>
+    ensures { IfOk result (λ order. (named : List Incident)
+        × AreAt (indices_of naming.now.named.items) incidents.now named
+        × (order.items ≡ with_others tags (first_tags tags named))) }
+{
     let named = named_incidents(alloc, incidents, naming)?;
-    ordered(alloc, tags, &named)
+    let first = first_tags(alloc, tags, &named)?;
+    with_others(alloc, tags, &first)
 }
 
 /// Returns the incidents that are named, the heaviest first.
@@ -22,18 +34,13 @@ pub(crate) fn named_incidents<'a>(
     alloc: Global,
     incidents: &'a [Incident],
     naming: &Naming,
-) -> Result<Vec<&'a Incident>, AllocError> {
-    let mut is_named = vec![in alloc; false; incidents.len()]?;
-    for line in &naming.named {
-        for index in &line.all {
-            if let Some(is_named) = is_named.get_mut(*index) {
-                *is_named = true;
-            }
-        }
-    }
+) -> Result<Vec<&'a Incident>, AllocError>
+    ensures { IfOk result (λ named. AreAt (indices_of naming.now.named.items) incidents.now
+        (map (λ i. i.now) named.items)) }
+{
     let mut named = Vec::new(alloc);
-    for (incident, is_named) in incidents.iter().zip(is_named) {
-        if is_named {
+    for index in &indices_of(alloc, naming)? {
+        if let Some(incident) = incidents.get(*index) {
             match named.push(incident) {
                 Ok(()) => {}
                 Err(_) => return Err(AllocError),
@@ -43,10 +50,26 @@ pub(crate) fn named_incidents<'a>(
     Ok(named)
 }
 
-/// Returns the indices of tags: the first of those of incidents, and then all others.
-fn ordered(alloc: Global, tags: usize, incidents: &[&Incident]) -> Result<Vec<usize>, AllocError> {
-    let first = first_tags(alloc, tags, incidents)?;
-    let mut order = first.clone()?;
+/// Returns the indices of the incidents that are named, in ascending order.
+fn indices_of(alloc: Global, naming: &Naming) -> Result<Vec<usize>, AllocError>
+    ensures permutation { IfOk result (λ indices. IsPermutation (indices_of naming.now.named.items)
+        indices.items) }
+    ensures sorted { IfOk result (λ indices. IsSorted nat_cmp indices.items) }
+{
+    let mut indices = Vec::new(alloc);
+    for line in &naming.named {
+        indices.extend_from_slice(&line.all)?;
+    }
+    indices.sort()?;
+    Ok(indices)
+}
+
+/// Returns some tags, and then all others below a number.
+fn with_others(alloc: Global, tags: usize, first: &[usize]) -> Result<Vec<usize>, AllocError>
+    ensures { IfOk result (λ order. order.items ≡ with_others tags first.now) }
+{
+    let mut order = Vec::new(alloc);
+    order.extend_from_slice(first)?;
     for tag in 0..tags {
         if !first.contains(&tag) {
             push(&mut order, tag)?;
@@ -56,22 +79,30 @@ fn ordered(alloc: Global, tags: usize, incidents: &[&Incident]) -> Result<Vec<us
 }
 
 /// Returns the tags of incidents, each once, up to as many as are drawn.
-fn first_tags(
-    alloc: Global,
-    tags: usize,
-    incidents: &[&Incident],
-) -> Result<Vec<usize>, AllocError> {
+fn first_tags(alloc: Global, tags: usize, incidents: &[&Incident]) -> Result<Vec<usize>, AllocError>
+    ensures { IfOk result (λ first. first.items ≡ first_tags tags (map (λ i. i.now) incidents.now)) }
+{
     let mut first = Vec::new(alloc);
     for incident in incidents {
-        for tag in &tags_of(alloc, incident)? {
-            push_first(&mut first, tags, *tag)?;
-        }
+        push_firsts(&mut first, tags, &tags_of(alloc, incident)?)?;
     }
     Ok(first)
 }
 
+/// Appends each of some tags, unless it is there or enough others are.
+fn push_firsts(first: &mut Vec<usize>, tags: usize, more: &[usize]) -> Result<(), AllocError>
+    ensures { OnOk result (first.new.items ≡ fold (with_first tags) first.old.items more.now) }
+{
+    for tag in more {
+        push_first(first, tags, *tag)?;
+    }
+    Ok(())
+}
+
 /// Appends a tag, unless it is there or enough others are.
-fn push_first(first: &mut Vec<usize>, tags: usize, tag: usize) -> Result<(), AllocError> {
+fn push_first(first: &mut Vec<usize>, tags: usize, tag: usize) -> Result<(), AllocError>
+    ensures { OnOk result (first.new.items ≡ with_first tags first.old.items tag) }
+{
     if first.len() < DRAWN && tag < tags && !first.contains(&tag) {
         push(first, tag)?;
     }

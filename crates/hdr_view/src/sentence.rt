@@ -36,12 +36,16 @@ impl Sort {
 }
 
 impl View<'_> {
-    /// Appends the title, the sentence and the incidents.
-    pub fn push_summary(&self, text: &mut String) -> Result<(), AllocError> {
+    /// Appends the title.
+    pub fn push_title(&self, text: &mut String) -> Result<(), AllocError> {
         self.push_markup(text, "<h1>")?;
         self.push_shown(text, self.options.title, IN_TITLE)?;
         self.push_markup(text, "</h1>")?;
-        text.push_str("\n")?;
+        text.push_str("\n")
+    }
+
+    /// Appends the sentence and the incidents.
+    pub fn push_summary(&self, text: &mut String) -> Result<(), AllocError> {
         self.push_sentence(text)?;
         self.push_coarser(text)?;
         self.push_incidents(text)?;

@@ -2,11 +2,13 @@
 
 mod begun;
 pub(crate) mod checks;
+pub(crate) mod compared;
 pub(crate) mod ends;
 pub(crate) mod log_counts;
 pub(crate) mod logs;
 pub(crate) mod names;
 pub(crate) mod numbers;
+pub(crate) mod periods;
 mod progress;
 pub(crate) mod runs;
 pub(crate) mod surveyed;
@@ -66,6 +68,11 @@ impl<'r, 'l, 'n> Files<'r, 'l, 'n> {
         or_standard_input(self.names)
             .iter()
             .all(|name| self.can_repeat(*name))
+    }
+
+    /// Whether there is one input, which cannot be read again, as a pipe.
+    pub(crate) fn is_one_pipe(self) -> bool {
+        or_standard_input(self.names).len() == 1 && !self.can_repeat_all()
     }
 
     /// Returns the error of numbers that are not read.

@@ -14,8 +14,8 @@ use crate::files::logs::{Parts, read_sums};
 use crate::files::numbers::{Form, read_groups, read_numbers, require_most_lines, tag_of_group};
 use crate::options::matches::Reading;
 use clap::{ArgMatches, Command, Error};
-use hdr_input::Recording;
 use hdr_input::groups::GroupParts;
+use hdr_input::{Recording, Tally};
 use hdr_summary::figures::Tagged;
 use std::alloc::Global;
 use std::process::ExitCode;
@@ -86,12 +86,17 @@ fn read_one_part(
     recording: Recording,
     form: Form<'_, '_>,
 ) -> Result<Parts, StatError> {
-    let distribution = read_numbers(files, recording, form)?.into_distribution();
-    let mut list = Vec::new(files.alloc());
+    let tally = read_numbers(files, recording, form)?;
+    part_of_all(files.alloc(), tally)
+}
+
+/// Returns the distribution of all numbers.
+fn part_of_all(alloc: Global, tally: Tally) -> Result<Parts, StatError> {
+    let mut list = Vec::new(alloc);
     list.push(Tagged {
         tag: None,
-        distribution,
-        ends: Vec::new(files.alloc()),
+        distribution: tally.into_distribution(),
+        ends: Vec::new(alloc),
     })?;
     Ok(Parts { list, unit: None })
 }

@@ -1,10 +1,12 @@
 //! The drawing of percentiles.
 
+use crate::charts::confidence::{ConfidenceBand, bands_of};
 use crate::charts::detail::{CurvePoint, Detail};
 use crate::charts::ending::{Ending, push_level_endings};
 use crate::charts::field::{Field, FieldScale, push_path};
 use crate::charts::frame::{Frame, push_below, push_names};
 use crate::charts::legend::line_class;
+use crate::comparison::Comparison;
 use hdr_draw::path::{Path, Point, WIDTH};
 use hdr_draw::quantiles::QuantileScale;
 use hdr_draw::tenths::push_tenths;
@@ -72,7 +74,11 @@ const LINEAR: Kind = Kind {
 const HEAD: &str = "<figure><fieldset class=\"sw\" aria-label=\"Scale of values\">\
 <input type=\"radio\" name=\"y\" id=\"yl\" checked><label for=\"yl\">log</label>\
 <input type=\"radio\" name=\"y\" id=\"yn\"><label for=\"yn\">linear</label></fieldset>\
-<h2>Percentiles</h2><figcaption>of all samples; a curve ends at its max</figcaption>";
+<h2>Percentiles</h2><figcaption>of all samples; a curve ends at its max";
+
+const BANDS: &str =
+    "; bands: intervals of 95 % of each percentile, up to the least or the greatest \
+sample where they are open";
 
 /// Returns the scale of quantiles.
 pub(crate) fn quantiles(view: &View<'_>) -> QuantileScale {
@@ -88,12 +94,18 @@ pub(crate) fn push_percentiles(
     view: &View<'_>,
     text: &mut String,
     details: &[Detail],
+    comparison: Option<&Comparison>,
 ) -> Result<(), AllocError> {
     text.push_str(HEAD)?;
+    if comparison.is_some() {
+        text.push_str(BANDS)?;
+    }
+    text.push_str("</figcaption>")?;
+    let bands = bands_of(view, comparison)?;
     let logarithmic = FieldScale::Logarithmic(view.scale());
-    push_curves(view, text, details, &logarithmic, LOGARITHMIC)?;
+    push_curves(view, text, details, &bands, &logarithmic, LOGARITHMIC)?;
     let linear = FieldScale::linear(view.greatest());
-    push_curves(view, text, details, &linear, LINEAR)?;
+    push_curves(view, text, details, &bands, &linear, LINEAR)?;
     text.push_str("</figure>\n")
 }
 
@@ -102,6 +114,7 @@ fn push_curves(
     view: &View<'_>,
     text: &mut String,
     details: &[Detail],
+    bands: &[ConfidenceBand],
     scale: &FieldScale,
     kind: Kind,
 ) -> Result<(), AllocError> {
@@ -111,6 +124,7 @@ fn push_curves(
     CURVES.push_level_lines(text, scale, view.options.levels)?;
     let mut endings = Vec::new(view.alloc);
     CURVES.push_begin(text)?;
+    push_intervals(view, text, bands, scale)?;
     for (index, (tag, detail)) in view.log.drawn.iter().zip(details).enumerate().rev() {
         let class = line_class(view.alloc, index)?;
         let mut path = Path::new(view.alloc, CURVES.tenths());
@@ -130,6 +144,20 @@ fn push_curves(
     push_level_endings(view, &mut endings, CURVES, scale)?;
     CURVES.push_endings(text, &mut endings)?;
     text.push_str("</svg>")
+}
+
+/// Appends the bands behind the curves on a scale.
+fn push_intervals(
+    view: &View<'_>,
+    text: &mut String,
+    bands: &[ConfidenceBand],
+    scale: &FieldScale,
+) -> Result<(), AllocError> {
+    let quantiles = quantiles(view);
+    for (index, band) in bands.iter().enumerate() {
+        band.push_to(text, index, CURVES, scale, &quantiles)?;
+    }
+    Ok(())
 }
 
 /// Begins the drawing on a scale, with its description.

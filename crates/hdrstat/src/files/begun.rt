@@ -17,6 +17,25 @@ const MOST_FIRST: usize = 2 * SURVEYED;
 /// The bytes that a file compressed by gzip begins with.
 const GZIP: [u8; 2] = [0x1f, 0x8b];
 
+/// What is read of an input before its other bytes.
+#[derive(Clone, Copy, PartialEq, Eq)]
+pub(crate) enum First {
+    /// As many bytes as show whether it is compressed.
+    Bytes,
+    /// The lines that are surveyed.
+    Lines,
+}
+
+impl First {
+    /// Whether the start of an input has all that is read first.
+    fn is_read(self, start: &[u8]) -> bool {
+        match self {
+            First::Bytes => start.len() >= GZIP.len(),
+            First::Lines => surveyed_len(start) < start.len() || start.len() >= MOST_FIRST,
+        }
+    }
+}
+
 /// An input whose first bytes were read, and are read again from memory.
 #[derive(Drop)]
 pub(crate) struct BegunInput<'a> {
@@ -27,11 +46,15 @@ pub(crate) struct BegunInput<'a> {
 }
 
 impl<'a> BegunInput<'a> {
-    /// Reads the first bytes of an input: its first lines, or all of it if it is short.
+    /// Reads the first bytes or lines of an input, or all of it if it is short.
     ///
     /// # Errors
     /// Returns an error if reading fails, if memory runs out, or if the input is compressed.
-    pub(crate) fn new(alloc: Global, input: Input<'a>) -> Result<BegunInput<'a>, InputError> {
+    pub(crate) fn new(
+        alloc: Global,
+        input: Input<'a>,
+        first: First,
+    ) -> Result<BegunInput<'a>, InputError> {
         let mut input = RetryReader { reader: input };
         let mut start = Vec::new(alloc);
         let mut buffer = vec![in alloc; 0u8; SURVEYED]?;
@@ -41,7 +64,7 @@ impl<'a> BegunInput<'a> {
             if let Some(bytes) = buffer.get(..len) {
                 start.extend_from_slice(bytes)?;
             }
-            if len == 0 || surveyed_len(&start) < start.len() || start.len() >= MOST_FIRST {
+            if len == 0 || first.is_read(&start) {
                 break;
             }
         }

@@ -8,9 +8,11 @@ use crate::files::log_counts::{LogCounts, LogLevels, TagCounts};
 use crate::files::logs::{parts_of, print_coarser};
 use crate::files::numbers::{Form, read_groups, read_sink, tag_of_group};
 use crate::files::{Files, or_standard_input};
-use hdr_input::groups::{BoundRecording, GroupMaker, GroupParts};
+use hdr_compare::{Batching, Tier};
+use hdr_input::groups::{GroupMaker, GroupParts};
 use hdr_input::{BoundTally, Distribution, Recording};
 use hdr_logs::LogSums;
+use hdr_runs::{LevelCheck, LevelRecording, LevelTally, Samples, Side};
 use hdr_summary::checks::{Check, CheckedSamples};
 use hdr_summary::decimals::Conversion;
 use hdr_summary::figures::Tagged;
@@ -28,7 +30,14 @@ struct CheckedPart {
     tag: Option<String>,
     distribution: Distribution,
     sum: SampleSum,
-    checks: Vec<Check>,
+    checks: Vec<LevelCheck>,
+}
+
+/// Samples in batches, by which percentiles have intervals.
+#[derive(Drop)]
+struct Intervals {
+    side: Side,
+    tier: Tier,
 }
 
 /// What was read, and the checks of all levels for each tag.
@@ -86,57 +95,87 @@ impl Checked {
     pub(crate) fn verdicts(&self, alloc: Global) -> Result<Vec<Verdict>, StatError> {
         let mut verdicts = Vec::new(alloc);
         for part in &self.parts {
-            for check in &part.checks {
-                verdicts.push(check.verdict)?;
+            for level in &part.checks {
+                verdicts.push(level.check.verdict)?;
             }
         }
         Ok(verdicts)
     }
 }
 
-/// Returns the checks of numbers.
+/// Returns the checks of numbers, by the intervals of percentiles if these are asked for.
 fn checks_of_tally(
     alloc: Global,
     tally: &BoundTally,
     sum: SampleSum,
     levels: &[Level<'_>],
-) -> Result<Vec<Check>, StatError> {
+    intervals: Option<&Intervals>,
+) -> Result<Vec<LevelCheck>, StatError> {
     let mut checks = Vec::new(alloc);
     for level in levels {
-        let check = match level.measure {
-            Measure::Mean => check_of_mean(&sum, level, tally.tally.decimals),
-            _ => Check {
-                counts: LevelCounts::of_tally(tally, level),
-                verdict: level.verdict_of_tally(tally),
-            },
+        let counts = LevelCounts::of_tally(tally, level);
+        let check = match (level.measure, intervals) {
+            (Measure::Mean, _) => check_of_mean(&sum, level, tally.tally.decimals),
+            (Measure::Quantile(_), Some(intervals)) => {
+                check_of_interval(alloc, intervals, level, counts)?
+            }
+            _ => plain(counts, level.verdict_of_tally(tally)),
         };
         checks.push(check)?;
     }
     Ok(checks)
 }
 
-/// Compares the numbers of files with levels: all, or those of each group. How many lines were
-/// skipped and how many numbers were rounded is printed on standard error.
+/// Returns the check of a percentile by its interval.
+fn check_of_interval(
+    alloc: Global,
+    intervals: &Intervals,
+    level: &Level<'_>,
+    counts: LevelCounts,
+) -> Result<LevelCheck, StatError> {
+    let tier = intervals.tier;
+    let verdict = intervals.side.verdict(alloc, level, &counts, tier)?;
+    Ok(LevelCheck {
+        check: Check { counts, verdict },
+        tier: Some(tier),
+    })
+}
+
+/// Returns a check without an interval.
+fn plain(counts: LevelCounts, verdict: Verdict) -> LevelCheck {
+    LevelCheck {
+        check: Check { counts, verdict },
+        tier: None,
+    }
+}
+
+/// Compares the numbers of files with levels: all, or those of each group. Percentiles are compared
+/// by their intervals if there is a tier. How many lines were skipped and how many numbers were
+/// rounded is printed on standard error.
 pub(crate) fn check_numbers(
     files: Files<'_, '_, '_>,
     recording: Recording,
     form: Form<'_, '_>,
     levels: &[Level<'_>],
+    tier: Option<Tier>,
 ) -> Result<Checked, StatError> {
     let alloc = files.alloc();
     let mut bounds = Vec::new(alloc);
     for level in levels {
         bounds.push(level.bound())?;
     }
-    let bounds = &bounds;
-    let maker = BoundRecording { recording, bounds };
+    let maker = LevelRecording {
+        recording,
+        bounds: &bounds,
+        has_batches: tier.is_some(),
+    };
     let (parts, is_mostly_skipped) = match form.groups() {
-        Some(columns) => parts_of_groups(files, maker, form, columns, levels)?,
+        Some(columns) => parts_of_groups(files, maker, form, columns, levels, tier)?,
         None => {
             let tally = read_sink(files, maker, form)?;
-            let is_mostly_skipped = tally.numbers() < tally.tally.skipped;
+            let is_mostly_skipped = tally.counted.numbers() < tally.counted.tally.skipped;
             let mut parts = Vec::new(alloc);
-            parts.push(part_of_tally(alloc, None, tally, levels)?)?;
+            parts.push(part_of_tally(alloc, None, tally, levels, tier)?)?;
             (parts, is_mostly_skipped)
         }
     };
@@ -154,10 +193,11 @@ pub(crate) fn check_numbers(
 /// more lines were skipped than counted.
 fn parts_of_groups(
     files: Files<'_, '_, '_>,
-    maker: BoundRecording<'_>,
+    maker: LevelRecording<'_>,
     form: Form<'_, '_>,
     columns: &[&str],
     levels: &[Level<'_>],
+    tier: Option<Tier>,
 ) -> Result<(Vec<CheckedPart>, bool), StatError> {
     let alloc = files.alloc();
     let groups = read_groups(files, maker, form, columns)?;
@@ -166,13 +206,13 @@ fn parts_of_groups(
     let mut parts = Vec::new(alloc);
     let mut numbers = 0u64;
     for (text, tally) in texts.as_slice().iter().zip(sinks) {
-        numbers = numbers.saturating_add(tally.numbers());
+        numbers = numbers.saturating_add(tally.counted.numbers());
         let tag = tag_of_group(alloc, text)?;
-        parts.push(part_of_tally(alloc, tag, tally, levels)?)?;
+        parts.push(part_of_tally(alloc, tag, tally, levels, tier)?)?;
     }
     if parts.is_empty() {
         let none = maker.make(alloc).map_err(|_| StatError::OutOfMemory)?;
-        parts.push(part_of_tally(alloc, None, none, levels)?)?;
+        parts.push(part_of_tally(alloc, None, none, levels, tier)?)?;
     }
     Ok((parts, numbers < skipped))
 }
@@ -181,36 +221,55 @@ fn parts_of_groups(
 fn part_of_tally(
     alloc: Global,
     tag: Option<String>,
-    tally: BoundTally,
+    tally: LevelTally,
     levels: &[Level<'_>],
+    tier: Option<Tier>,
 ) -> Result<CheckedPart, StatError> {
-    let (low, high) = tally.sums();
-    let total = tally.total();
+    let LevelTally { counted, batches } = tally;
+    let intervals = match (batches, tier) {
+        (Some(batches), Some(tier)) => Some(intervals_of(
+            alloc,
+            batches.into_samples(alloc)?,
+            tier,
+        )?),
+        _ => None,
+    };
+    let (low, high) = counted.sums();
+    let total = counted.total();
     let sum = SampleSum { total, low, high };
-    let checks = checks_of_tally(alloc, &tally, sum, levels)?;
+    let checks = checks_of_tally(alloc, &counted, sum, levels, intervals.as_ref())?;
     Ok(CheckedPart {
         tag,
-        distribution: tally.tally.into_distribution(),
+        distribution: counted.tally.into_distribution(),
         sum,
         checks,
     })
 }
 
-/// Returns the checks of the samples of a tag.
+/// Returns samples by which percentiles have intervals.
+fn intervals_of(alloc: Global, samples: Samples, tier: Tier) -> Result<Intervals, StatError> {
+    Ok(Intervals {
+        side: Side::new(alloc, None, samples)?,
+        tier,
+    })
+}
+
+/// Returns the checks of the samples of a tag, by the intervals of percentiles if these are asked for.
 fn checks_of_tag(
     alloc: Global,
     tag: &TagCounts,
     decimals: u32,
     levels: &[Level<'_>],
-) -> Result<Vec<Check>, StatError> {
+    intervals: Option<&Intervals>,
+) -> Result<Vec<LevelCheck>, StatError> {
     let mut checks = Vec::new(alloc);
     for (level, counts) in levels.iter().zip(&tag.levels) {
-        let check = match level.measure {
-            Measure::Mean => check_of_mean(&tag.sum, level, decimals),
-            _ => Check {
-                counts: counts.counts(),
-                verdict: level.verdict_by_class(counts),
-            },
+        let check = match (level.measure, intervals) {
+            (Measure::Mean, _) => check_of_mean(&tag.sum, level, decimals),
+            (Measure::Quantile(_), Some(intervals)) => {
+                check_of_interval(alloc, intervals, level, counts.counts())?
+            }
+            _ => plain(counts.counts(), level.verdict_by_class(counts)),
         };
         checks.push(check)?;
     }
@@ -218,10 +277,9 @@ fn checks_of_tag(
 }
 
 /// Returns the check of a mean.
-fn check_of_mean(sum: &SampleSum, level: &Level<'_>, decimals: u32) -> Check {
+fn check_of_mean(sum: &SampleSum, level: &Level<'_>, decimals: u32) -> LevelCheck {
     let counts = sum.counts(level, decimals);
-    let verdict = level.verdict(&counts);
-    Check { counts, verdict }
+    plain(counts, level.verdict(&counts))
 }
 
 /// Reads logs into sums, and counts their samples.
@@ -239,6 +297,7 @@ fn read_logs(
 }
 
 /// Compares the samples of the chosen intervals of logs with levels: of all, or of each tag.
+/// Percentiles are compared by their intervals if there is a tier.
 pub(crate) fn check_logs(
     files: Files<'_, '_, '_>,
     sigfig: u8,
@@ -248,7 +307,7 @@ pub(crate) fn check_logs(
 ) -> Result<Checked, StatError> {
     let alloc = files.alloc();
     let mut sums = LogSums::new(alloc, choice, sigfig, is_by_tag);
-    let mut counts = LogCounts::new(alloc, written);
+    let mut counts = LogCounts::new(alloc, written, sigfig);
     let read = read_logs(files, &mut sums, &mut counts);
     files.print_notes(sums.notes());
     read?;
@@ -264,25 +323,59 @@ pub(crate) fn check_logs(
     counts.push_tags(parts.len(), 0)?;
     let mut checked = Vec::new(alloc);
     for (index, part) in parts.into_iter().enumerate() {
-        let Tagged {
-            tag,
-            distribution,
-            ..
-        } = part;
-        let Some(tag_counts) = counts.tag(index) else {
-            continue;
-        };
-        let checks = checks_of_tag(alloc, tag_counts, distribution.decimals, counts.levels())?;
-        checked.push(CheckedPart {
-            tag,
-            distribution,
-            sum: tag_counts.sum,
-            checks,
-        })?;
+        if let Some(part) = part_of_tag(alloc, part, &mut counts, index)? {
+            checked.push(part)?;
+        }
     }
     Ok(Checked {
         parts: checked,
         unit: unit.or(written.asked),
         is_mostly_skipped: false,
     })
+}
+
+/// Returns the checks of the tag of an index.
+fn part_of_tag(
+    alloc: Global,
+    part: Tagged,
+    counts: &mut LogCounts<'_, '_>,
+    index: usize,
+) -> Result<Option<CheckedPart>, StatError> {
+    let Tagged {
+        tag,
+        distribution,
+        ..
+    } = part;
+    let intervals = match (counts.take_batching(index), counts.tier()) {
+        (Some(batching), Some(tier)) => Some(intervals_of_log(
+            alloc,
+            &distribution,
+            batching,
+            tier,
+        )?),
+        _ => None,
+    };
+    let Some(tag_counts) = counts.tag(index) else {
+        return Ok(None);
+    };
+    let decimals = distribution.decimals;
+    let levels = counts.levels();
+    let checks = checks_of_tag(alloc, tag_counts, decimals, levels, intervals.as_ref())?;
+    Ok(Some(CheckedPart {
+        tag,
+        distribution,
+        sum: tag_counts.sum,
+        checks,
+    }))
+}
+
+/// Returns the samples of the intervals of a tag, by which percentiles have intervals.
+fn intervals_of_log(
+    alloc: Global,
+    distribution: &Distribution,
+    batching: Batching,
+    tier: Tier,
+) -> Result<Intervals, StatError> {
+    let samples = Samples::of_intervals(&distribution.histogram, batching, distribution.decimals)?;
+    intervals_of(alloc, samples, tier)
 }

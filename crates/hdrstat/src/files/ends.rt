@@ -103,8 +103,8 @@ fn read_log_parts(
     Ok(Parts { list, unit })
 }
 
-/// Returns the sum of a tag with the intervals of percentiles, by the batches of its intervals. Without
-/// an interval there are no ends.
+/// Returns the sum of a tag with the intervals of percentiles, by the batches of its intervals. They are
+/// open if the tag has no interval.
 fn with_ends(
     alloc: Global,
     mut part: Tagged,

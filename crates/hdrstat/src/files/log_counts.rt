@@ -3,6 +3,7 @@
 ghost use Rattle.std.specs.Prelude.{◌≡◌, []};
 ghost use Rattle.hdrstat.specs.LogCounts.{has_mean, is_of_mean};
 
+use hdr_compare::{BatchError, Batching, Tier};
 use hdr_logs::{HistogramSink, LogError};
 use hdr_summary::classes::ClassCounts;
 use hdr_summary::levels::{Level, Measure, parse_level_in};
@@ -16,11 +17,18 @@ use std::alloc::{AllocError, Global};
 pub(crate) struct TagCounts {
     pub(crate) levels: Vec<ClassCounts>,
     pub(crate) sum: SampleSum,
+    /// The intervals of the tag in batches, if percentiles are to have confidence intervals.
+    batching: Option<Batching>,
 }
 
 impl TagCounts {
     /// Returns the counts of a tag without samples, whose values have these decimals.
-    fn new(alloc: Global, levels: &[Level<'_>], decimals: u32) -> Result<TagCounts, AllocError> {
+    fn new(
+        alloc: Global,
+        levels: &[Level<'_>],
+        decimals: u32,
+        batching: Option<Batching>,
+    ) -> Result<TagCounts, AllocError> {
         let mut counts = Vec::new(alloc);
         for level in levels {
             counts.push(ClassCounts::new(level, decimals))?;
@@ -28,25 +36,33 @@ impl TagCounts {
         Ok(TagCounts {
             levels: counts,
             sum: SampleSum::EMPTY,
+            batching,
         })
     }
 
-    /// Adds the samples of a histogram at each level, and to the sum if `has_mean`.
-    fn add(&mut self, histogram: &Histogram<u64>, has_mean: bool) {
+    /// Adds the samples of a histogram at each level, to the sum if `has_mean`, and to the batches if
+    /// there are any.
+    fn add(&mut self, histogram: &Histogram<u64>, has_mean: bool) -> Result<(), BatchError> {
         for counts in self.levels.iter_mut() {
             counts.add(histogram);
         }
         if has_mean {
             self.sum.add(histogram);
         }
+        match &mut self.batching {
+            Some(batching) => batching.add(histogram),
+            None => Ok(()),
+        }
     }
 }
 
-/// The levels of logs as they are written, and the unit that the arguments ask for.
+/// The levels of logs as they are written, the unit that the arguments ask for, and the tier if
+/// percentiles are to have confidence intervals.
 #[derive(Clone, Copy)]
 pub(crate) struct LogLevels<'a, 'n> {
     pub texts: &'a [&'n str],
     pub asked: Option<Unit>,
+    pub tier: Option<Tier>,
 }
 
 /// What is counted of the samples of each tag of logs.
@@ -57,11 +73,13 @@ pub(crate) struct LogCounts<'a, 'n> {
     /// The levels in the unit of the values, once it is known.
     levels: Vec<Level<'n>>,
     tags: Vec<TagCounts>,
+    /// The significant digits of batches, up to 5.
+    sigfig: u8,
 }
 
 impl<'a, 'n> LogCounts<'a, 'n> {
-    /// Returns the counts of no tags.
-    pub(crate) fn new(alloc: Global, written: LogLevels<'a, 'n>) -> LogCounts<'a, 'n>
+    /// Returns the counts of no tags. Batches have these significant digits, up to 5.
+    pub(crate) fn new(alloc: Global, written: LogLevels<'a, 'n>, sigfig: u8) -> LogCounts<'a, 'n>
         ensures { result.tags.items ≡ [] }
     {
         LogCounts {
@@ -69,7 +87,13 @@ impl<'a, 'n> LogCounts<'a, 'n> {
             written,
             levels: Vec::new(alloc),
             tags: Vec::new(alloc),
+            sigfig,
         }
+    }
+
+    /// Returns the tier, if percentiles are to have confidence intervals.
+    pub(crate) fn tier(&self) -> Option<Tier> {
+        self.written.tier
     }
 
     /// The levels, once the unit of the values is known.
@@ -85,7 +109,7 @@ impl<'a, 'n> LogCounts<'a, 'n> {
         if !self.levels.is_empty() {
             return Ok(());
         }
-        let LogLevels { texts, asked } = self.written;
+        let LogLevels { texts, asked, .. } = self.written;
         for text in texts {
             let Some(level) = parse_level_in(*text, asked.or(unit), unit.or(asked)) else {
                 return Err(LogError::NoUnit);
@@ -99,12 +123,25 @@ impl<'a, 'n> LogCounts<'a, 'n> {
 
     /// Adds tags without samples, whose values have these decimals, so that there are `count` or
     /// more.
-    pub(crate) fn push_tags(&mut self, count: usize, decimals: u32) -> Result<(), AllocError> {
+    pub(crate) fn push_tags(&mut self, count: usize, decimals: u32) -> Result<(), BatchError> {
         for _ in self.tags.len()..count {
-            let tag = TagCounts::new(self.alloc, &self.levels, decimals)?;
-            self.tags.push(tag)?;
+            let batching = match self.tier() {
+                Some(_) => Some(Batching::new(self.alloc, self.sigfig.min(5))?),
+                None => None,
+            };
+            let tag = TagCounts::new(self.alloc, &self.levels, decimals, batching);
+            let tag = tag.map_err(|_| BatchError::OutOfMemory)?;
+            if self.tags.push(tag).is_err() {
+                return Err(BatchError::OutOfMemory);
+            }
         }
         Ok(())
+    }
+
+    /// Returns the batches of the tag of an index, which then has none.
+    pub(crate) fn take_batching(&mut self, index: usize) -> Option<Batching> {
+        let tag = self.tags.get_mut(index)?;
+        tag.batching.take()
     }
 
     /// Returns the counts of the tag of an index.
@@ -124,13 +161,16 @@ impl HistogramSink for LogCounts<'_, '_> {
         unit: Option<Unit>,
     ) -> Result<(), LogError> {
         self.parse_levels(unit)?;
-        self.push_tags(sum.saturating_add(1), decimals)?;
+        if self.push_tags(sum.saturating_add(1), decimals).is_err() {
+            return Err(LogError::OutOfMemory);
+        }
         let has_mean = has_mean(&self.levels);
         match self.tags.get_mut(sum) {
-            Some(tag) => tag.add(histogram, has_mean),
-            None => return Err(LogError::OutOfMemory),
+            Some(tag) => tag
+                .add(histogram, has_mean)
+                .map_err(|_| LogError::OutOfMemory),
+            None => Err(LogError::OutOfMemory),
         }
-        Ok(())
     }
 }
 

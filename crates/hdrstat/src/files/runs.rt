@@ -196,9 +196,9 @@ fn samples_of(
 
 /// The samples of a tag of logs.
 #[derive(Drop)]
-struct TagSamples {
-    tag: Option<String>,
-    samples: Samples,
+pub(crate) struct TagSamples {
+    pub tag: Option<String>,
+    pub samples: Samples,
 }
 
 /// Returns the chosen intervals of the logs of a run, by tag.
@@ -237,7 +237,7 @@ fn read_log_run(
 
 /// Adds the sums of a log to the samples of its run: its intervals in batches if the run has one log,
 /// and otherwise as one batch.
-fn add_sums(
+pub(crate) fn add_sums(
     alloc: Global,
     tags: &mut Vec<TagSamples>,
     sums: LogSums<'_>,

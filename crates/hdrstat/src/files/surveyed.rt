@@ -1,7 +1,7 @@
 //! Files of numbers, whose first numbers determine the decimals of a unit.
 
 use crate::errors::StatError;
-use crate::files::begun::BegunInput;
+use crate::files::begun::{BegunInput, First};
 use crate::files::numbers::{Form, read_input, read_rows_of};
 use crate::files::{Files, or_standard_input};
 use crate::output::print_error_line;
@@ -62,7 +62,7 @@ impl<'r, 'l, 'n, 'a, 'b> NumberFiles<'r, 'l, 'n, 'a, 'b> {
         for (index, name) in or_standard_input(self.files.names).iter().enumerate() {
             let can_repeat = self.files.can_repeat(*name);
             if can_repeat || self.pipe.is_none() {
-                let input = self.begin(index, *name)?;
+                let input = self.begin(index, *name, First::Lines)?;
                 self.survey_lines(index, input.first_lines(), &mut survey)?;
                 if !can_repeat {
                     self.pipe = Some(Pipe { index, input });
@@ -72,10 +72,10 @@ impl<'r, 'l, 'n, 'a, 'b> NumberFiles<'r, 'l, 'n, 'a, 'b> {
         Ok(survey)
     }
 
-    /// Opens a file, and reads its first bytes.
-    fn begin(&self, index: usize, name: &str) -> Result<BegunInput<'r>, StatError> {
+    /// Opens a file, and reads its first bytes or lines.
+    fn begin(&self, index: usize, name: &str, first: First) -> Result<BegunInput<'r>, StatError> {
         let input = self.files.open(name)?;
-        BegunInput::new(self.files.alloc(), input).map_err(|cause| self
+        BegunInput::new(self.files.alloc(), input, first).map_err(|cause| self
             .files
             .numbers_error(index, cause))
     }
@@ -109,7 +109,7 @@ impl<'r, 'l, 'n, 'a, 'b> NumberFiles<'r, 'l, 'n, 'a, 'b> {
             Some(pipe) if pipe.index == index => Ok(pipe.input),
             other => {
                 self.pipe = other;
-                self.begin(index, name)
+                self.begin(index, name, First::Bytes)
             }
         }
     }

@@ -4,9 +4,11 @@ use crate::errors::StatError;
 use crate::files::Files;
 use crate::files::numbers::{Form, require_most_lines};
 use crate::files::surveyed::NumberFiles;
+use crate::output::print;
 use hdr_input::group_texts::tag_text;
-use hdr_input::intervals::{Cut, Intervals};
-use hdr_input::{Distribution, Recording, Unit};
+use hdr_input::intervals::{Cut, Intervals, TimeSlice};
+use hdr_input::rows::{RowSink, RowTexts};
+use hdr_input::{Distribution, InputError, Recording, Unit};
 use hdr_logs::{decimals_comment, unit_comment};
 use hdrhistogram::serialization::interval_log::{IntervalLogWriter, IntervalLogWriterBuilder, Tag};
 use hdrhistogram::serialization::{CountNotSerializable, V2Serializer};
@@ -61,15 +63,27 @@ pub(crate) fn log_of_intervals(
     unit: Option<Unit>,
     tag: Option<Tag<'_>>,
 ) -> Result<Vec<u8>, StatError> {
-    read.intervals
-        .sort_by_key(|slice| (slice.number, slice.group))?;
-    let tags = tags_of(alloc, read)?;
     let mut text = Vec::new(alloc);
     write_headers(alloc, &mut text, read.tally.decimals, unit)?;
+    let slices = read.take_all()?;
+    push_slices(alloc, &mut text, &slices, read, cut, tag)?;
+    Ok(text)
+}
+
+/// Appends intervals to a log.
+fn push_slices(
+    alloc: Global,
+    text: &mut Vec<u8>,
+    slices: &[TimeSlice],
+    read: &Intervals<'_, '_>,
+    cut: Cut<'_, '_>,
+    tag: Option<Tag<'_>>,
+) -> Result<(), StatError> {
+    let tags = tags_of(alloc, read)?;
     let mut serializer = V2Serializer::new(alloc);
-    let mut log = IntervalLogWriter::new(alloc, &mut text, &mut serializer, 1);
+    let mut log = IntervalLogWriter::new(alloc, text, &mut serializer, 1);
     let length = cut.length.unwrap_or(0);
-    for slice in &read.intervals {
+    for slice in slices {
         let start = Duration::from_nanos(slice.number.saturating_mul(length));
         let duration = Duration::from_nanos(length);
         match tag_at(&tags, slice.group) {
@@ -77,8 +91,116 @@ pub(crate) fn log_of_intervals(
             None => log.push_v2(&slice.histogram, start, duration, tag)?,
         }
     }
-    drop(log);
-    Ok(text)
+    Ok(())
+}
+
+/// A log of which intervals are printed once a later one begins.
+#[derive(Drop)]
+struct StreamedLog<'r, 'l, 'n, 't> {
+    rt: &'r HostRuntime,
+    read: Intervals<'l, 'n>,
+    cut: Cut<'l, 'n>,
+    tag: Option<Tag<'t>>,
+    /// What is printed next, with the headers at first.
+    text: Vec<u8>,
+    /// Why the log was not printed.
+    error: Option<StatError>,
+}
+
+impl StreamedLog<'_, '_, '_, '_> {
+    /// Prints intervals.
+    fn print(&mut self, alloc: Global, slices: &[TimeSlice]) -> Result<(), StatError> {
+        push_slices(
+            alloc,
+            &mut self.text,
+            slices,
+            &self.read,
+            self.cut,
+            self.tag,
+        )?;
+        print(self.rt, &self.text)?;
+        self.text.clear();
+        Ok(())
+    }
+
+    /// Prints the intervals that are complete.
+    fn print_complete(&mut self, alloc: Global) -> Result<(), StatError> {
+        let slices = self.read.take_complete()?;
+        self.print(alloc, &slices)
+    }
+}
+
+impl RowSink for StreamedLog<'_, '_, '_, '_> {
+    fn take_row(&mut self, alloc: Global, row: RowTexts<'_>) -> Result<(), InputError> {
+        self.read.take_row(alloc, row)?;
+        if !self.read.has_complete() {
+            return Ok(());
+        }
+        match self.print_complete(alloc) {
+            Ok(()) => Ok(()),
+            Err(error) => {
+                self.error = Some(error);
+                Err(InputError::OutOfMemory)
+            }
+        }
+    }
+
+    fn begin_file(&mut self) {
+        self.read.begin_file();
+    }
+}
+
+/// Prints the numbers of an input as a log: an interval once a later one begins, and at the end the
+/// others. Numbers of an interval that was printed before are printed as another one, and a line on
+/// standard error says how many there are. So are skipped lines and rounded numbers.
+///
+/// # Errors
+/// Returns `MostlySkipped` if more lines were skipped than numbers read.
+pub(crate) fn print_log_as_read(
+    files: Files<'_, '_, '_>,
+    recording: Recording,
+    form: Form<'_, '_>,
+    cut: Cut<'_, '_>,
+    unit: Option<Unit>,
+    tag: Option<Tag<'_>>,
+) -> Result<(), StatError> {
+    let alloc = files.alloc();
+    let mut numbers = NumberFiles::new(files, recording, form)?;
+    let read = Intervals::new(alloc, numbers.recording, cut)?;
+    let mut text = Vec::new(alloc);
+    write_headers(alloc, &mut text, read.tally.decimals, unit)?;
+    let rt = files.rt;
+    let mut log = StreamedLog {
+        rt,
+        read,
+        cut,
+        tag,
+        text,
+        error: None,
+    };
+    let outcome = numbers.read_rows_into(&mut log);
+    if let Some(error) = log.error.take() {
+        return Err(error);
+    }
+    outcome?;
+    numbers.print_notes(log.read.tally.skipped, log.read.tally.rounded);
+    print_late(rt, log.read.late());
+    require_most_lines(log.read.numbers(), log.read.tally.skipped)?;
+    let slices = log.read.take_all()?;
+    log.print(alloc, &slices)
+}
+
+/// Prints on standard error how many numbers came after their intervals were printed.
+fn print_late(rt: &HostRuntime, late: u64) {
+    let _ = match late {
+        0 => return,
+        1 => eprintln!(rt;
+            "hdrstat: 1 number came after its interval was printed; gather --unsorted merges both"
+        ),
+        _ => eprintln!(rt;
+            "hdrstat: {late} numbers came after their intervals were printed; gather --unsorted merges these"
+        ),
+    };
 }
 
 /// Returns the tag at an index, or `None` if it is empty.

@@ -8,12 +8,14 @@ use crate::errors::StatError;
 use crate::files::Files;
 use crate::files::checks::{Checked, check_logs, check_numbers};
 use crate::files::log_counts::LogLevels;
-use crate::options::arguments::{self, INPUT, OUTPUT, flag, option, quiet, with_reading};
+use crate::options::arguments::{self, FIGURES, INPUT, OUTPUT, flag, option, quiet, with_reading};
 use crate::options::forms::{conditions_of, groups_by};
 use crate::options::matches::{Reading, reading_of, unit_of};
 use crate::output::print;
+use crate::subcommands::summary::MOST_DENOMINATOR;
 use clap::{Arg, ArgAction, ArgMatches, Command, Error};
-use hdr_summary::levels::{Level, parse_level_in};
+use hdr_compare::Tier;
+use hdr_summary::levels::{Level, Measure, parse_level_in};
 use hdr_summary::units::Unit;
 use hdr_summary::verdicts::Verdict;
 use std::alloc::Global;
@@ -28,7 +30,10 @@ A level is a figure (count, min, max, mean, or a percentile such as p99), a sign
                 numbers were rounded, and their mean is on either side
   few           too few samples, all of them on the side where so few are likely to be
 
-Numbers are compared as they were read, and with levels as they are written.
+Numbers are compared as they were read, and with levels as they are written. With --ci the
+confidence intervals of percentiles decide, wrongly by chance in at most 5 % of the runs of a
+tag: one is undecided if its interval has values on both sides of the level, and few if the
+samples are too few for the end of the interval on which the level depends.
 
 Examples:
   hdrstat check 'p99<0.2' 'max<=1' <latencies.txt
@@ -58,7 +63,9 @@ pub(crate) fn command<'a>(alloc: Global) -> Result<Command<'a>, Error> {
         .arg(levels)?
         .arg(input)?
         .arg(flag(alloc, "allow-empty", help).help_heading(INPUT))?;
+    let help = "Decide percentiles only if the samples suffice, by how they hang together";
     let command = with_reading(alloc, command)?
+        .arg(flag(alloc, "ci", help).help_heading(FIGURES))?
         .arg(quiet(alloc).help_heading(OUTPUT))?
         .arg(arguments::help(alloc))?;
     Ok(command)
@@ -82,12 +89,18 @@ pub(crate) fn run(rt: &HostRuntime, matches: &ArgMatches<'_>) -> Result<ExitCode
         Reading::Numbers { .. } => levels_of(rt, texts, asked, asked)?,
         Reading::Logs { .. } => levels_of_logs(rt, texts, asked)?,
     };
+    let tier = if matches.get_flag("ci") {
+        Some(tier_of(alloc, &levels)?)
+    } else {
+        None
+    };
     let files = Files {
         rt,
         names: matches.get_strs("input").unwrap_or(&[]),
         is_quiet: matches.get_flag("quiet"),
     };
-    let checked = check_reading(files, reading, &levels, LogLevels { texts, asked })?;
+    let written = LogLevels { texts, asked, tier };
+    let checked = check_reading(files, reading, &levels, written)?;
     if checked.is_empty() && !matches.get_flag("allow-empty") {
         let _ = eprintln!(rt; "hdrstat: no numbers; --allow-empty accepts an empty input");
         return Ok(ExitCode::from(BROKEN));
@@ -105,7 +118,9 @@ fn check_reading(
     written: LogLevels<'_, '_>,
 ) -> Result<Checked, StatError> {
     match reading {
-        Reading::Numbers { recording, form } => check_numbers(files, recording, form, levels),
+        Reading::Numbers { recording, form } => {
+            check_numbers(files, recording, form, levels, written.tier)
+        }
         Reading::Logs {
             choice,
             sigfig,
@@ -189,6 +204,29 @@ fn levels_of_logs<'a>(
         let _ = levels_of(rt, texts, asked.or(unit), unit)?;
     }
     levels_of(rt, texts, None, asked.or(Some(Unit::Seconds)))
+}
+
+/// Returns the tier of the intervals of levels.
+///
+/// # Errors
+/// Returns a usage error if there are more than 5,000 levels, or if one is of a mean, or of a
+/// percentile with more than 4 decimals: these have no intervals.
+fn tier_of(alloc: Global, levels: &[Level<'_>]) -> Result<Tier, StatError> {
+    for level in levels {
+        let Level { text, measure, .. } = *level;
+        let why = match measure {
+            Measure::Mean => "is of a mean, which has no interval",
+            Measure::Quantile(quantile) if quantile.den() > MOST_DENOMINATOR => {
+                "has more than 4 decimals, and so no interval"
+            }
+            _ => continue,
+        };
+        return Err(StatError::usage(alloc, text, why));
+    }
+    match Tier::of(levels.len() as u64) {
+        Some(tier) => Ok(tier),
+        None => Err(StatError::usage(alloc, "--ci", "decides at most 5000 levels")),
+    }
 }
 
 /// Returns the error of an argument that is not a level.

@@ -9,13 +9,14 @@ use clap::{ArgMatches, Command, Error};
 use hdr_convert::Form;
 use hdr_logs::{LineBuffer, LogError, LogReader};
 use hdrhistogram::serialization::interval_log::IntervalChoice;
-use std::alloc::Global;
+use std::alloc::{AllocError, Global};
 use std::io::Read;
 use std::process::ExitCode;
 
 const AFTER: &str = "\
 Other HdrHistogram libraries compress the histograms of their logs. `hdr` reads and writes
-plain ones. Comments, tags, times and greatest values stay as they are.
+plain ones. Comments, tags, times and greatest values stay as they are. Compressed logs have
+the comment of their version, without which HdrHistogram_c does not read them.
 
 Examples:
   hdrstat convert --to plain java.log >plain.log
@@ -67,8 +68,10 @@ fn convert_log(
     ))?;
     let mut buffer = LineBuffer::new(alloc);
     let mut converted = Vec::new(alloc);
+    let mut lacks_version = form == Form::Compressed && index == 0;
     for _ in 0..u64::MAX {
-        let goes_on = convert_lines(alloc, &mut log, form, &mut buffer, &mut converted);
+        let lacks = &mut lacks_version;
+        let goes_on = convert_lines(alloc, &mut log, form, &mut buffer, &mut converted, lacks);
         print(files.rt, &converted)?;
         converted.clear();
         if !matches!(goes_on, Ok(true)) {
@@ -82,6 +85,37 @@ fn convert_log(
 /// The length of the lines that are printed at once, unless the input has no more yet.
 const PIECE: usize = 65_536;
 
+/// The comment of the version of logs of other libraries.
+const VERSION: &[u8] = b"#[Histogram log format version 1.3]\n";
+
+/// What any version's comment begins with.
+const ANY_VERSION: &[u8] = b"#[Histogram log format version ";
+
+/// Inserts the comment of the version before the line at `start`, which is the last one, if that is the
+/// first line of a log that does not begin with `#`. A comment of any version before it is enough.
+fn add_version(
+    alloc: Global,
+    converted: &mut Vec<u8>,
+    start: usize,
+    lacks_version: &mut bool,
+) -> Result<(), AllocError> {
+    let line = converted.get(start..).unwrap_or(&[]);
+    if !*lacks_version || line.is_empty() {
+        return Ok(());
+    }
+    if line.starts_with(b"#") {
+        *lacks_version = !line.starts_with(ANY_VERSION);
+        return Ok(());
+    }
+    let mut last = Vec::new(alloc);
+    last.extend_from_slice(line)?;
+    converted.truncate(start);
+    converted.extend_from_slice(VERSION)?;
+    converted.extend_from_slice(&last)?;
+    *lacks_version = false;
+    Ok(())
+}
+
 /// Appends the next lines of a log. Returns whether there may be more.
 fn convert_lines<R: Read + Drop>(
     alloc: Global,
@@ -89,11 +123,17 @@ fn convert_lines<R: Read + Drop>(
     form: Form,
     buffer: &mut LineBuffer,
     converted: &mut Vec<u8>,
+    lacks_version: &mut bool,
 ) -> Result<bool, LogError> {
     for _ in 0..u64::MAX {
+        let start = converted.len();
         if !log.convert_line(alloc, form, buffer, converted)? {
+            if *lacks_version {
+                converted.extend_from_slice(VERSION)?;
+            }
             return Ok(false);
         }
+        add_version(alloc, converted, start, lacks_version)?;
         if converted.len() >= PIECE || log.is_drained() {
             return Ok(true);
         }

@@ -3,7 +3,7 @@
 use crate::errors::StatError;
 use crate::files::Files;
 use crate::files::numbers::read_numbers;
-use crate::files::timed::{log_of_intervals, log_of_numbers, read_intervals_of};
+use crate::files::timed::{log_of_intervals, log_of_numbers, print_log_as_read, read_intervals_of};
 use crate::options::arguments::{
     TAGS_BY, files, option, quiet, skip_bad, unit, with_forms, with_groups, with_recording,
     with_times,
@@ -18,7 +18,9 @@ use std::process::ExitCode;
 const AFTER: &str = "\
 The log has one interval, or with --time an interval for each --every that has numbers, in
 order of time. Its values are in units of the last decimal: 0.0289 is 289, with 4 decimals.
-The decimals and --unit are comments of the log, which the other subcommands read.
+The decimals and --unit are comments of the log, which the other subcommands read. Of a pipe
+an interval is printed once a later one begins: after the first 64 KiB, or with --decimals at
+once.
 
 Examples:
   hdrstat log --tag checkout --unit s --decimals 6 <latencies.txt >service.log
@@ -58,6 +60,10 @@ pub(crate) fn run(rt: &HostRuntime, matches: &ArgMatches<'_>) -> Result<ExitCode
         names: matches.get_strs("FILE").unwrap_or(&[]),
         is_quiet: matches.get_flag("quiet"),
     };
+    if cut.length.is_some() && files.is_one_pipe() {
+        print_log_as_read(files, recording, form, cut, unit, tag)?;
+        return Ok(ExitCode::SUCCESS);
+    }
     let log = if cut.length.is_none() && cut.groups.is_empty() {
         let numbers = read_numbers(files, recording, form)?.into_distribution();
         log_of_numbers(alloc, numbers, unit, tag)?

@@ -4,6 +4,7 @@ ghost use Rattle.std.specs.Prelude.{◌<◌, ◌≤◌, IfSome};
 
 use crate::errors::StatError;
 use crate::files::Files;
+use crate::files::compared::compared_logs;
 use crate::files::logs::read_intervals;
 use crate::files::numbers::Form;
 use crate::files::timed::{log_of_intervals, read_intervals_of};
@@ -13,11 +14,12 @@ use crate::options::arguments::{
 use crate::options::forms::{conditions_of, cut_of, form_of, groups_by};
 use crate::options::matches::{choice_of, file_names_of, unit_of};
 use crate::output::{check_output, write_output};
+use crate::subcommands::summary::{USUAL_PERCENTILES, percentiles_of};
 use clap::{Arg, ArgAction, ArgMatches, Command, Error};
 use hdr_input::distribution::MOST_DECIMALS;
 use hdr_input::{Number, Recording};
 use hdr_logs::{LogError, LogIntervals};
-use hdr_page::{PageLevel, PageOptions, page, page_text, rows};
+use hdr_page::{Comparison, PageLevel, PageOptions, page, page_text, rows};
 use hdr_summary::levels::{Level, Measure, Side, parse_level_in};
 use hdr_summary::units::Unit;
 use std::alloc::{AllocError, Global};
@@ -34,7 +36,8 @@ missing below half of the usual rate. The page says what far is, and which tags 
 have too few samples to be tested. With --level the sentence also says which tags keep it.
 
 --tag-by-file keeps the intervals of each file apart, as `hdrstat gather` does. With --align, two
-runs are shown over one another.
+runs are shown over one another. The page of two logs begins with what `hdrstat compare` prints of
+them, and the curves of its percentiles have bands: intervals of 95 %.
 
 Values are in the unit and the decimals that comments of a log have, as `hdrstat log` writes them,
 and otherwise integers of --unit. Each is shown in the longest unit in which it is one or more.
@@ -113,9 +116,9 @@ pub(crate) fn run(rt: &HostRuntime, matches: &ArgMatches<'_>) -> Result<ExitCode
         levels: &levels,
         amounts: &amounts,
     };
-    let text = text_of(alloc, matches, &intervals, options).map_err(|cause| files.log_error(
-        cause,
-    ))?;
+    let compared = comparison_of(files, matches, &intervals)?;
+    let text = text_of(alloc, matches, &intervals, options, compared.as_ref());
+    let text = text.map_err(|cause| files.log_error(cause))?;
     write_output(rt, output, text.as_bytes())?;
     Ok(ExitCode::SUCCESS)
 }
@@ -316,18 +319,36 @@ fn page_level(level: &Level<'_>, decimals: u32) -> Option<PageLevel>
     Some(PageLevel { num, den, value })
 }
 
+/// Compares the logs of a page, if there are two, which are aligned and have tags by file.
+fn comparison_of(
+    files: Files<'_, '_, '_>,
+    matches: &ArgMatches<'_>,
+    intervals: &LogIntervals,
+) -> Result<Option<Comparison>, StatError> {
+    let are_two_runs = files.names.len() == 2
+        && matches.get_flag("align")
+        && matches.get_flag("tag-by-file");
+    if !are_two_runs || matches.get_flag("intervals") {
+        return Ok(None);
+    }
+    let alloc = files.alloc();
+    let percentiles = percentiles_of(alloc, &USUAL_PERCENTILES)?;
+    compared_logs(files, intervals, &percentiles)
+}
+
 /// Returns the text of intervals that the arguments ask for.
 fn text_of(
     alloc: Global,
     matches: &ArgMatches<'_>,
     intervals: &LogIntervals,
     options: PageOptions<'_>,
+    comparison: Option<&Comparison>,
 ) -> Result<String, LogError> {
     if matches.get_flag("intervals") {
         rows(alloc, intervals)
     } else if matches.get_flag("text") {
-        page_text(alloc, intervals, options)
+        page_text(alloc, intervals, options, comparison)
     } else {
-        page(alloc, intervals, options)
+        page(alloc, intervals, options, comparison)
     }
 }

@@ -4,11 +4,12 @@ use crate::errors::StatError;
 use crate::files::Files;
 use crate::files::ends::read_parts_with_ends;
 use crate::files::logs::Parts;
+use crate::files::periods::{Periods, read_numbers_by_period};
 use crate::options::arguments::{FIGURES, OUTPUT, files, flag, help, option, quiet, with_reading};
 use crate::options::forms::{conditions_of, groups_by};
-use crate::options::matches::{Reading, reading_of, unit_of};
+use crate::options::matches::{Reading, nanoseconds_of, reading_of, unit_of};
 use crate::output::print;
-use crate::subcommands::read_parts;
+use crate::subcommands::{part_of_all, read_parts};
 use clap::builder::ValueParser;
 use clap::{Arg, ArgAction, ArgMatches, Command, Error};
 use hdr_summary::bars::push_bars;
@@ -20,13 +21,13 @@ use hdr_summary::units::Unit;
 use std::alloc::{AllocError, Global};
 use std::collections::HashSet;
 use std::process::ExitCode;
+use std::time::Duration;
 
 const AFTER: &str = "\
 Examples:
   hdrstat summary -p 50,99.9 --format json <latencies.txt
   hey -o csv http://localhost/ | hdrstat summary -c response-time --by status-code
-  hdrstat summary --from log --by-tag service.log
-Status: 0; 1 if the input is invalid, or input or output fails; 2 for a usage error. `man hdrstat` says more.";
+  hdrstat summary --from log --by-tag service.log";
 
 /// Returns the command line of `hdrstat summary`.
 pub(crate) fn command<'a>(alloc: Global) -> Result<Command<'a>, Error> {
@@ -45,6 +46,11 @@ fn with_output<'a>(alloc: Global, command: Command<'a>) -> Result<Command<'a>, E
     let intervals = flag(alloc, "ci", help_of_intervals).help_heading(FIGURES);
     let help_of_bars = "Draw how many numbers are in ranges of values, below the table";
     let bars = flag(alloc, "bars", help_of_bars).help_heading(FIGURES);
+    let help_of_every = "Print a line of figures each TIME of reading, such as 10s";
+    let every = option(alloc, "every", "TIME", help_of_every)
+        .conflicts_with("by")?
+        .conflicts_with("ci")?
+        .help_heading(FIGURES);
     let format = option(alloc, "format", "FORMAT", "Format of the output")
         .short('f')
         .value_parser(["table", "csv", "tsv", "json", "hgrm", "openmetrics"].as_slice())
@@ -57,6 +63,7 @@ fn with_output<'a>(alloc: Global, command: Command<'a>) -> Result<Command<'a>, E
         .arg(percentiles_option(alloc))?
         .arg(intervals)?
         .arg(bars)?
+        .arg(every)?
         .arg(format)?
         .arg(unit)?;
     let command = command
@@ -64,6 +71,9 @@ fn with_output<'a>(alloc: Global, command: Command<'a>) -> Result<Command<'a>, E
         .arg(help(alloc))?;
     Ok(command)
 }
+
+/// The percentiles that are printed if none are asked for.
+pub(crate) const USUAL_PERCENTILES: [&str; 4] = ["50", "90", "99", "99.9"];
 
 /// Returns the option of the percentiles.
 pub(crate) fn percentiles_option<'a>(alloc: Global) -> Arg<'a> {
@@ -94,11 +104,20 @@ pub(crate) fn run(rt: &HostRuntime, matches: &ArgMatches<'_>) -> Result<ExitCode
         names: matches.get_strs("FILE").unwrap_or(&[]),
         is_quiet: matches.get_flag("quiet"),
     };
-    let has_intervals = matches.get_flag("ci");
-    let Parts { list, unit } = if has_intervals {
-        read_parts_with_ends(files, reading, &percentiles)?
-    } else {
-        read_parts(files, reading)?
+    let every = every_of(alloc, matches, format)?;
+    let Parts { list, unit } = match (reading, every) {
+        (Reading::Numbers { recording, form }, Some(length)) => {
+            let conversion = conversion_of(alloc, matches, None)?;
+            let periods = Periods {
+                length,
+                percentiles: &percentiles,
+                conversion,
+            };
+            let tally = read_numbers_by_period(files, recording, form, periods)?;
+            part_of_all(alloc, tally)?
+        }
+        _ if matches.get_flag("ci") => read_parts_with_ends(files, reading, &percentiles)?,
+        _ => read_parts(files, reading)?,
     };
     let layout = Layout {
         format,
@@ -109,6 +128,29 @@ pub(crate) fn run(rt: &HostRuntime, matches: &ArgMatches<'_>) -> Result<ExitCode
     let text = text_of(alloc, matches, &list, &layout)?;
     print(rt, text.as_bytes())?;
     Ok(ExitCode::SUCCESS)
+}
+
+/// Returns how often lines of figures are printed, if they are asked for: of numbers, above a table.
+fn every_of(
+    alloc: Global,
+    matches: &ArgMatches<'_>,
+    format: Format,
+) -> Result<Option<Duration>, StatError> {
+    let Some(nanos) = nanoseconds_of(alloc, matches, "every")? else {
+        return Ok(None);
+    };
+    if nanos == 0 {
+        return Err(StatError::usage(alloc, "--every", "needs a time above 0"));
+    }
+    if matches.get_str("from") == Some("log") {
+        let why = "prints figures of numbers while they are read, and not of logs";
+        return Err(StatError::usage(alloc, "--every", why));
+    }
+    if format != Format::Table {
+        let why = "prints lines above a table, and no other format";
+        return Err(StatError::usage(alloc, "--every", why));
+    }
+    Ok(Some(Duration::from_nanos(nanos)))
 }
 
 /// Returns the format of the output, or an error if it does not have what is asked for.
@@ -186,7 +228,7 @@ fn check_bars(
 }
 
 /// The greatest denominator of the quantile of a percentile that has an interval.
-const MOST_DENOMINATOR: u64 = 1_000_000;
+pub(crate) const MOST_DENOMINATOR: u64 = 1_000_000;
 
 /// Returns an error if a percentile has more than 4 decimals, and so no interval.
 pub(crate) fn require_intervals(
