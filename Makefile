@@ -1,10 +1,12 @@
 # make: proves and builds the programs, target/hdr and target/hdrstat. make check: the gate.
 # make install: installs them below PREFIX, with manual pages, completions and the library for C. make dist: an archive of the
-# same and of Python's wheel, in dist. make install-c: installs the library for C alone.
+# same and of Python's wheel, in dist. make install-c: installs the library for C alone. make install-compat: the library that
+# programs of HdrHistogram_c take in place of theirs (capi/compat).
 # make test: all rows and cases; make test ROW=NAME or CASE=NAME: one of them. docs/TESTING.md says more.
 # make edits: all wrong bodies, which the prover has to refuse: those of crates/*/edits and of crates/*/further-edits. The gate
 # tries a part of the first (docs/TESTING.md).
 # make quick: proves what has changed since the last commit, over the work that earlier checks kept, and plays the tests.
+# make docs: lists all definitions that contracts cite, in target/docs/DEFINITIONS.md.
 # make bench: times beside the Rust crate hdrhistogram (compare/run says where that comes from).
 # make bench-shapes: instructions and times of each operation on the data that users have, beside the same.
 PREFIX ?= /usr/local
@@ -32,46 +34,57 @@ install-c:
 	for header in dkap.h dkap_check.h; do \
 		install -Dm644 capi/$$header "$(TO)/include/$$header" || exit; \
 	done
-	install -Dm644 capi/target/libdkap.a "$(TO)/lib/libdkap.a"
-	install -Dm755 capi/target/libdkap.so.1 "$(TO)/lib/libdkap.so.1"
-	ln -sf libdkap.so.1 "$(TO)/lib/libdkap.so"
-	install -Dm644 capi/target/dkap.pc "$(TO)/lib/pkgconfig/dkap.pc"
+	install -Dm644 capi/recorder.h "$(TO)/include/dkap_recorder.h"
+	for library in dkap dkap_recorder; do \
+		install -Dm644 capi/target/lib$$library.a "$(TO)/lib/lib$$library.a" && \
+		install -Dm755 capi/target/lib$$library.so.1 "$(TO)/lib/lib$$library.so.1" && \
+		ln -sf lib$$library.so.1 "$(TO)/lib/lib$$library.so" && \
+		install -Dm644 capi/target/$$library.pc "$(TO)/lib/pkgconfig/$$library.pc" || exit; \
+	done
 
-dist: all
+# The calls of HdrHistogram_c over the library for C, for its programs: capi/README.md.
+install-compat:
+	capi/build.sh
+	capi/compat/build.sh
+	install -Dm644 capi/target/compat/libhdr_histogram.a "$(TO)/lib/libhdr_histogram.a"
+	install -Dm755 capi/target/compat/libhdr_histogram.so.6 "$(TO)/lib/libhdr_histogram.so.6"
+	ln -sf libhdr_histogram.so.6 "$(TO)/lib/libhdr_histogram.so"
+
+dist: all docs
 	rm -rf target/$(DIST)
 	$(MAKE) --no-print-directory install DESTDIR= PREFIX=target/$(DIST)
-	install -m644 LICENSE-MIT LICENSE-APACHE target/$(DIST)
+	install -m644 LICENSE-MIT LICENSE-APACHE target/docs/DEFINITIONS.md target/$(DIST)
 	sed 's/VERSION/$(VERSION)/' tools/dist-readme >target/$(DIST)/README
 	cd python && python3 -c 'import backend, sys; backend.build_wheel(sys.argv[1])' ../target/$(DIST)
 	mkdir -p dist
 	tar -C target --sort=name --owner=0 --group=0 --numeric-owner -czf dist/$(DIST).tar.gz $(DIST)
 	rm -rf target/$(DIST)
 
-# The edits are tried in a copy of the repository meanwhile, on what the proofs leave of the processors. What comes of them is
-# printed near the end, and then the processor minutes of all of it.
+# The last line has the processor minutes of all of it.
 check:
 	tools/minutes "make check" $(MAKE) --no-print-directory gate
 
+# A part of the edits is tried, and the library for C built, over the libraries that rt ci leaves.
 gate:
 	tools/edits --control
-	$(MAKE) --no-print-directory -j2 proofs-and-runs trials || { cat target/edits.log; exit 1; }
-	cat target/edits.log
-
-trials:
-	mkdir -p target
-	nice tools/edits --fresh --third >target/edits.log
-
-# What the gate does beside the edits.
-proofs-and-runs:
 	rt ci
 	tools/test --keep
-	tools/refused.sh
-	tools/refused_main.sh
+	$(MAKE) --no-print-directory -j2 failed-allocations trials || { cat target/edits.log; exit 1; }
+	cat target/edits.log
+	-tools/rattle_words.py --static hdr_c
 	tools/capi
 	tools/test --proved
 	tools/language
 	tools/imports
 	tools/documents crates/hdr/out/hdr
+
+trials:
+	mkdir -p target
+	tools/edits --part >target/edits.log
+
+failed-allocations:
+	tools/refused.sh
+	tools/refused_main.sh
 
 # On the proved builds where they are fresh; else what is stale is built unproved.
 test:
@@ -88,10 +101,13 @@ quick:
 	tools/edits --further --changed
 	tools/test
 
+docs:
+	tools/generate
+
 bench:
 	compare/run
 
 bench-shapes:
 	compare/run shapes
 
-.PHONY: all install install-c dist check gate proofs-and-runs trials test edits quick bench bench-shapes
+.PHONY: all install install-c install-compat dist check gate trials failed-allocations test edits quick docs bench bench-shapes

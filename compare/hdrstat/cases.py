@@ -3,7 +3,7 @@
 
 usage: compare/hdrstat/cases.py PROGRAM SEED COUNT [KIND..]
 
-KIND is numbers, tables, check, logs, log_check, gather, convert, page, verdict, groups, json, matches, times, mixed, runs or ends.
+KIND is numbers, tables, check, logs, log_check, gather, convert, page, verdict, groups, json, matches, times, mixed, runs, ends or levels.
 
 Each case has a seed of its own, SEED:NUMBER, from which it is made. A case that differs is printed with its arguments, and its input
 is left in a file of /tmp. Status 1 if any differs.
@@ -17,6 +17,7 @@ import tempfile
 sys.dont_write_bytecode = True
 from form_inputs import group_case, json_case, match_case, mixed_case
 from inputs import check_case, number_case, table_case
+from level_inputs import levels_case
 from log_inputs import convert_case, gather_case, log_case, log_check_case, page_case
 from run_inputs import ends_case, run_case
 from time_inputs import time_case
@@ -26,7 +27,7 @@ KINDS = {
     "numbers": number_case, "tables": table_case, "check": check_case, "logs": log_case, "log_check": log_check_case, "gather": gather_case,
     "convert": convert_case, "page": page_case, "verdict": verdict_case,
     "groups": group_case, "json": json_case, "matches": match_case, "times": time_case, "mixed": mixed_case,
-    "runs": run_case, "ends": ends_case,
+    "runs": run_case, "ends": ends_case, "levels": levels_case,
 }
 
 
@@ -35,7 +36,7 @@ def run(program, case, room):
     for name, data in case.files.items():
         with open(os.path.join(room, name), "wb") as file:
             file.write(data)
-    ran = subprocess.run(["hdrstat", *case.arguments], executable=program, cwd=room, input=case.stdin, capture_output=True, timeout=60, check=False)
+    ran = subprocess.run(["hdrstat", *case.arguments], executable=program, cwd=room, input=case.stdin, capture_output=True, timeout=600, check=False)
     return ran.stdout, ran.stderr, ran.returncode
 
 

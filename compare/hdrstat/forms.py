@@ -176,24 +176,50 @@ def tag_in_log(name):
     return b"Tag=%s," % name if name else b""
 
 
-class Written:
-    """The intervals of a log, equal to an output that has them in order of time."""
+class Printed:
+    """In which part of a printed log an interval is: a part ends when an interval begins that is later than all before."""
 
-    def __init__(self, read, length):
-        self.lines = []
-        for (start, _), group in read.groups.items():
+    def __init__(self):
+        self.latest, self.parts, self.late = None, 0, 0
+
+    def part_of(self, start):
+        if self.latest is None or start > self.latest:
+            self.parts += self.latest is not None
+            self.latest = start
+        elif start < self.latest and self.parts:
+            self.late += 1
+        return self.parts
+
+    def note(self):
+        if not self.late:
+            return b""
+        if self.late == 1:
+            return b"hdrstat: 1 number came after its interval was printed; gather --unsorted merges both\n"
+        return b"hdrstat: %d numbers came after their intervals were printed; gather --unsorted merges these\n" % self.late
+
+
+class Written:
+    """The first parts of a log that is printed as it is read, equal to an output that has them, each in order of time."""
+
+    def __init__(self, read, length, parts):
+        self.parts = [[] for _ in range(parts)]
+        for (start, _, part), group in read.groups.items():
             times = [seconds(start), seconds(length), top_of(group.samples)]
             head, counts = tag_in_log(group.name) + b",".join(times), group.samples.counts
-            self.lines.append((head, group.samples.sigfig, sorted(counts.items())))
-        self.lines.sort()
+            if part < parts:
+                self.parts[part].append((head, group.samples.sigfig, sorted(counts.items())))
 
     def __eq__(self, other):
         lines = [it for it in other.split(b"\n")[:-1] if not it.startswith(b"#")]
-        starts = [Fraction(it.split(b",")[it.startswith(b"Tag=")].decode()) for it in lines]
-        return starts == sorted(starts) and self.lines == sorted(line_of(it) for it in lines)
+        for part in self.parts:
+            first, lines = lines[: len(part)], lines[len(part) :]
+            starts = [Fraction(it.split(b",")[it.startswith(b"Tag=")].decode()) for it in first]
+            if starts != sorted(starts) or sorted(part) != sorted(line_of(it) for it in first):
+                return False
+        return not lines
 
     def __repr__(self):
-        return repr(self.lines)
+        return repr(self.parts)
 
 
 def seconds(milliseconds):

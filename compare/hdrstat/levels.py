@@ -148,6 +148,11 @@ def random_level(random, samples, tally, unit):
         value, places = int(exact), decimals
         if name == "mean" and samples and random.random() < 0.8:
             value = int(tally.mean_ends(samples)[0] * 10**decimals)
+    return level_near(random, name, value, places, unit)
+
+
+def level_near(random, name, value, places, unit):
+    """A level of a figure at a value of so many decimals, or near it; None if its number is too large."""
     digits, shift = max(0, value + random.choice([-1, 0, 0, 0, 1, random.randint(-1000, 1000)])), places
     more = random.choice([0, 0, 0, 1, 2, 5])
     digits, shift = digits * 10**more + (random.choice([0, 1, random.randint(0, 10**more - 1)]) if more else 0), places + more

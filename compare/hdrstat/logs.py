@@ -492,9 +492,21 @@ def with_form(logs, is_compressed, notes, choice):
             elif found[number]:
                 head, (bytes_of_field, becomes_compressed) = line.rpartition(b",")[0] + b",", found[number]
                 out.append((head, bytes_of_field) if becomes_compressed else head + base64.b64encode(bytes_of_field) + b"\n")
+        if is_compressed and name == next(iter(logs)):
+            out = with_version(out, failure)
         if failure:
             return out, failure
     return out, None
+
+
+def with_version(lines, failure):
+    """The lines of a log with the comment of a version behind its first comments, unless these have one, or end at a failure."""
+    texts = [it if isinstance(it, bytes) else b"," for it in lines]
+    count = next((at for at, it in enumerate(texts) if not it.startswith(b"#")), len(lines))
+    has_version = any(it.startswith(b"#[Histogram log format version ") for it in texts[:count])
+    if has_version or (failure and count == len(lines)):
+        return lines
+    return [*lines[:count], b"#[Histogram log format version 1.3]\n", *lines[count:]]
 
 
 def in_form(data, is_compressed):

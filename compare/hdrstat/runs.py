@@ -104,6 +104,30 @@ class Samples:
         return None, independent
 
 
+    def verdict(self, quantile, tier, most, sure, perhaps):
+        """Whether a percentile is within a bound: True or False beyond chance, and otherwise why it is not known. `most` is the greatest unit within
+        the bound, or None if none is; `sure` samples are within it, and `perhaps` may be."""
+        upto = self.upto[sum(low <= most for low, _ in self.classes) if most is not None else 0]
+        first, last = self.ranks(quantile, tier, min(self.point(quantile, tier).independent, self.effective(upto, tier)))
+        if last is not None and last <= sure:
+            return True
+        if first is not None and perhaps < first:
+            return False
+        return "few" if first is None or last is None else "undecided"
+
+    def ranks(self, quantile, tier, independent):
+        """The ranks of the first and of the last sample of an interval, None where the samples are too few."""
+        num, den = quantile
+        far = [rank for rank in range(self.count + 1) if self.is_far(rank, independent, quantile, tier)]
+        first = max((rank for rank in far if 0 < rank and rank * den < num * self.count), default=None)
+        last = min((rank + 1 for rank in far if rank < self.count and num * self.count < rank * den), default=None)
+        if first is None and 100 * independent * num >= tier[3] * den:
+            first = 1
+        if last is None and 100 * independent * (den - num) >= tier[3] * den:
+            last = self.count
+        return first, last
+
+
 @dataclasses.dataclass
 class Point:
     value: int

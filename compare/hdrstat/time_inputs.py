@@ -2,7 +2,7 @@
 import datetime
 
 from form_inputs import PLAIN, few_texts, json_object, json_string, number_text
-from forms import Paged, Record, Written, nanoseconds_of, note_of, read_records
+from forms import Paged, Printed, Record, Written, nanoseconds_of, note_of, read_records
 from inputs import Case, field
 from levels import UNITS
 from model import decimal_text
@@ -97,8 +97,22 @@ def time_case(random):
     start = lambda it: it.time // (length * 10**6) * length
     read = read_records(records, decimals, skips_bad, key=lambda it, name: (start(it), name))
     data = json_bytes(random, rows) if is_json else csv_bytes(random, rows)
-    arguments = ["page", "--intervals", *arguments] if is_page else ["log", *arguments]
+    if not is_page:
+        return Case(["log", *arguments], data, {}, printed_log(records, decimals, skips_bad, start, length))
+    arguments = ["page", "--intervals", *arguments]
     if read.has_error:
         return Case(arguments, data, {}, (b"", None, 1))
-    out = Paged(read, length) if is_page else Written(read, length)
-    return Case(arguments, data, {}, (out, note_of(read), 0))
+    return Case(arguments, data, {}, (Paged(read, length), note_of(read), 0))
+
+
+def printed_log(records, decimals, skips_bad, start, length):
+    """What log prints of records that it reads from a pipe, up to the first one with an error, and its status."""
+    read_all = lambda count, printed: read_records(
+        records[:count], decimals, skips_bad, key=lambda it, name: (start(it), name, printed.part_of(start(it)))
+    )
+    good = next((it for it in range(len(records)) if read_all(it + 1, Printed()).has_error), None)
+    printed = Printed()
+    read = read_all(good, printed)
+    if good is not None:
+        return Written(read, length, printed.parts), None, 1
+    return Written(read, length, printed.parts + 1), note_of(read) + printed.note(), 0
