@@ -27,6 +27,7 @@ _hdrstat() {
     "summary --decimals") values=' ' ;;
     "summary --expected-interval") values=' ' ;;
     "summary -p" | "summary --percentiles") values=' ' ;;
+    "summary --every") values=' ' ;;
     "summary -f" | "summary --format") values='table csv tsv json hgrm openmetrics' ;;
     "summary --output-unit") values='ns us ms s' ;;
     "check -c" | "check --column") values=' ' ;;
@@ -100,8 +101,8 @@ _hdrstat() {
     "page --every") values=' ' ;;
     "page --where") values=' ' ;;
     "page --by") values=' ' ;;
-    "summary "?*) options='-c --column --json --match --count --delimiter --no-header --unit --skip-bad --from --where --by --by-tag --tag --from-time --to-time -d --digits --decimals --expected-interval -p --percentiles --ci --bars -f --format --output-unit -q --quiet -h --help' ;;
-    "check "?*) options='-i --input --allow-empty -c --column --json --match --count --delimiter --no-header --unit --skip-bad --from --where --by --by-tag --tag --from-time --to-time -d --digits --decimals --expected-interval -q --quiet -h --help' ;;
+    "summary "?*) options='-c --column --json --match --count --delimiter --no-header --unit --skip-bad --from --where --by --by-tag --tag --from-time --to-time -d --digits --decimals --expected-interval -p --percentiles --ci --bars --every -f --format --output-unit -q --quiet -h --help' ;;
+    "check "?*) options='-i --input --allow-empty -c --column --json --match --count --delimiter --no-header --unit --skip-bad --from --where --by --by-tag --tag --from-time --to-time -d --digits --decimals --expected-interval --ci -q --quiet -h --help' ;;
     "compare "?*) options='--with -c --column --json --match --count --delimiter --no-header --unit --skip-bad --from --where --by --by-tag --tag --from-time --to-time -d --digits --decimals --expected-interval -p --percentiles --fail -f --format -q --quiet -h --help' ;;
     "log "?*) options='--tag -q --quiet -h --help -c --column --json --match --count --delimiter --no-header --unit --skip-bad --time --time-unit --every --where --by -d --digits --decimals --expected-interval' ;;
     "gather "?*) options='--unsorted --tag-by-file -q --quiet --tag --from-time --to-time -h --help' ;;

@@ -28,6 +28,7 @@ complete -c hdrstat -n '__fish_seen_subcommand_from summary' -l expected-interva
 complete -c hdrstat -n '__fish_seen_subcommand_from summary' -s p -l percentiles -x -d 'Percentiles to print'
 complete -c hdrstat -n '__fish_seen_subcommand_from summary' -l ci -d 'Intervals of 95 % beside percentiles, by how samples hang together'
 complete -c hdrstat -n '__fish_seen_subcommand_from summary' -l bars -d 'Draw how many numbers are in ranges of values, below the table'
+complete -c hdrstat -n '__fish_seen_subcommand_from summary' -l every -x -d 'Print a line of figures each TIME of reading, such as 10s'
 complete -c hdrstat -n '__fish_seen_subcommand_from summary' -s f -l format -x -a 'table csv tsv json hgrm openmetrics' -d 'Format of the output'
 complete -c hdrstat -n '__fish_seen_subcommand_from summary' -l output-unit -x -a 'ns us ms s' -d 'Unit of the output'
 complete -c hdrstat -n '__fish_seen_subcommand_from summary' -s q -l quiet -d 'Do not show on a terminal how much of a file is read'
@@ -53,6 +54,7 @@ complete -c hdrstat -n '__fish_seen_subcommand_from check' -l to-time -x -d 'Onl
 complete -c hdrstat -n '__fish_seen_subcommand_from check' -s d -l digits -x -d 'Significant digits of percentiles'
 complete -c hdrstat -n '__fish_seen_subcommand_from check' -l decimals -x -d 'Round numbers to N decimals'
 complete -c hdrstat -n '__fish_seen_subcommand_from check' -l expected-interval -x -d 'Add the missing samples, if one was due each TIME'
+complete -c hdrstat -n '__fish_seen_subcommand_from check' -l ci -d 'Decide percentiles only if the samples suffice, by how they hang together'
 complete -c hdrstat -n '__fish_seen_subcommand_from check' -s q -l quiet -d 'Do not show on a terminal how much of a file is read'
 complete -c hdrstat -n '__fish_seen_subcommand_from check' -s h -l help -d 'Print help'
 complete -c hdrstat -n '__fish_seen_subcommand_from compare' -f
