@@ -1,7 +1,7 @@
 # make: proves and builds the programs, target/hdr and target/hdrstat. make check: the gate.
 # make install: installs them below PREFIX, with manual pages, completions and the library for C. make dist: an archive of the
-# same and of Python's wheel, in dist. make install-c: installs the library for C alone. make install-compat: the library that
-# programs of HdrHistogram_c take in place of theirs (capi/compat).
+# same and of Python's wheel, in dist; of one commit it has the same bytes each time. make install-c: installs the library for C alone.
+# make install-compat: the library that programs of HdrHistogram_c take in place of theirs (capi/compat).
 # make test: all rows and cases; make test ROW=NAME or CASE=NAME: one of them. docs/TESTING.md says more.
 # make edits: all wrong bodies, which the prover has to refuse: those of crates/*/edits and of crates/*/further-edits. The gate
 # tries a part of the first (docs/TESTING.md).
@@ -14,6 +14,8 @@ PROGRAMS = hdr hdrstat
 VERSION = $(shell sed -n 's/.*have version \(.*\)\.$$/\1/p' crates.txt)
 DIST = deckapricot-$(VERSION)-x86_64-linux
 TO = $(DESTDIR)$(PREFIX)
+# The time of the files of an archive
+COMMIT_TIME = $(or $(SOURCE_DATE_EPOCH),$(shell git log -1 --format=%ct 2>/dev/null),0)
 
 all:
 	./build.sh $(PROGRAMS)
@@ -57,34 +59,36 @@ dist: all docs
 	sed 's/VERSION/$(VERSION)/' tools/dist-readme >target/$(DIST)/README
 	cd python && python3 -c 'import backend, sys; backend.build_wheel(sys.argv[1])' ../target/$(DIST)
 	mkdir -p dist
-	tar -C target --sort=name --owner=0 --group=0 --numeric-owner -czf dist/$(DIST).tar.gz $(DIST)
+	tar -C target --sort=name --owner=0 --group=0 --numeric-owner --mode=go=rX,u+rw --mtime=@$(COMMIT_TIME) -cf - $(DIST) | gzip -9n \
+		>dist/$(DIST).tar.gz
 	rm -rf target/$(DIST)
 
 # The last line has the processor minutes of all of it.
 check:
 	tools/minutes "make check" $(MAKE) --no-print-directory gate
 
-# A part of the edits is tried, and the library for C built, over the libraries that rt ci leaves.
+# The edits are tried beside the runs, over the libraries that rt ci leaves.
 gate:
+	tools/language
+	tools/imports
 	tools/edits --control
 	rt ci
 	tools/test --keep
-	$(MAKE) --no-print-directory -j2 failed-allocations trials || { cat target/edits.log; exit 1; }
+	$(MAKE) --no-print-directory -j2 runs trials || { cat target/edits.log; exit 1; }
 	cat target/edits.log
-	-tools/rattle_words.py --static hdr_c
-	tools/capi
-	tools/test --proved
-	tools/language
-	tools/imports
-	tools/documents crates/hdr/out/hdr
 
 trials:
 	mkdir -p target
 	tools/edits --part >target/edits.log
 
-failed-allocations:
+# (the library for C is built over the same libraries)
+runs:
 	tools/refused.sh
 	tools/refused_main.sh
+	tools/test --proved
+	tools/documents crates/hdr/out/hdr
+	-tools/rattle_words.py --static hdr_c
+	tools/capi
 
 # On the proved builds where they are fresh; else what is stale is built unproved.
 test:
@@ -110,4 +114,4 @@ bench:
 bench-shapes:
 	compare/run shapes
 
-.PHONY: all install install-c install-compat dist check gate trials failed-allocations test edits quick docs bench bench-shapes
+.PHONY: all install install-c install-compat dist check gate trials runs test edits quick docs bench bench-shapes

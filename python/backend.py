@@ -61,11 +61,17 @@ def _write(wheel_directory: str, files: dict[str, bytes], tag: str) -> str:
     files[f"{info}/WHEEL"] = f"Wheel-Version: 1.0\nGenerator: backend\nRoot-Is-Purelib: false\nTag: {tag}\n".encode()
     record = "".join(_record(path, content) for path, content in files.items()) + f"{info}/RECORD,,\n"
     wheel = f"{name}-{version}-{tag}.whl"
-    with zipfile.ZipFile(Path(wheel_directory) / wheel, "w", zipfile.ZIP_DEFLATED) as archive:
-        for path, content in files.items():
-            archive.writestr(path, content)
-        archive.writestr(f"{info}/RECORD", record)
+    with zipfile.ZipFile(Path(wheel_directory) / wheel, "w") as archive:
+        for path, content in {**files, f"{info}/RECORD": record.encode()}.items():
+            archive.writestr(_entry(path), content, zipfile.ZIP_DEFLATED)
     return wheel
+
+
+def _entry(path: str) -> zipfile.ZipInfo:
+    """An entry of the wheel, with no time of its own, so that equal files make equal wheels."""
+    entry = zipfile.ZipInfo(path, (1980, 1, 1, 0, 0, 0))
+    entry.external_attr = 0o644 << 16
+    return entry
 
 
 def build_wheel(wheel_directory: str, config_settings: object = None, metadata_directory: object = None) -> str:
