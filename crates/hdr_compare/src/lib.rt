@@ -15,8 +15,6 @@ mod ranks;
 mod run;
 mod shifts;
 mod sums;
-#[cfg(test)]
-mod tests;
 mod tiers;
 mod verdicts;
 

@@ -1,10 +1,11 @@
 //! What rows can't test: allocations that fail, in turn or if they are large, readers and writers that fail, of the library and
-//! of the program, messages of errors that no row meets, the headline, and laws.
+//! of the program, messages of errors that no row meets, the headline, laws, and the ends of intervals.
 
 mod compressed;
 mod failed_allocations;
 mod failing;
 mod headline;
+mod intervals;
 mod large_allocations;
 mod laws;
 mod messages;

@@ -1,6 +1,6 @@
 //! Intervals whose ends a reference in integers has, for samples in batches.
 
-use super::*;
+use hdr_compare::{Batching, Run, Tier};
 use hdrhistogram::{Histogram, Quantile};
 use std::alloc::Global;
 use std::process::Abort;
