@@ -1,5 +1,5 @@
 -- The interval of a quantile of samples in batches, whose histograms are hs.
-use Rattle.std.specs.Prelude.{◌≡◌, ℕ, ◌-◌, ◌≤◌, nat_lt, if◌then◌else◌, List, Option, Some, None, IfSome}
+use Rattle.std.specs.Prelude.{◌≡◌, ℕ, ◌-◌, ◌^◌, ◌≤◌, nat_lt, if◌then◌else◌, List, Option, Some, None, IfSome, IsSome}
 use Rattle.std.specs.List.{sum_by}
 use Rattle.hdr_base.specs.Fractions.{Ratio}
 use Rattle.hdr_model.specs.Plain.{Plain}
@@ -46,3 +46,8 @@ pub record IsHighEnd (hs : List Plain) (q : Ratio) (tier : Tier) (e high : ℕ) 
 pub record AreEnds (hs : List Plain) (q : Ratio) (tier : Tier) (i : Interval) : Type 0 where
   pub low : IfSome i.low.value (IsLowEnd hs q tier i.low.independent)
   pub high : IfSome i.high.value (IsHighEnd hs q tier i.high.independent)
+
+-- an interval has a lower end if 0 is one, at which no samples are below it, and an upper end if the greatest value of 64 bits is one
+pub record HasReachedEnds (hs : List Plain) (q : Ratio) (tier : Tier) (i : Interval) : Type 0 where
+  pub low : IsLowEnd hs q tier i.low.independent 0 → IsSome i.low.value
+  pub high : IsHighEnd hs q tier i.high.independent (2 ^ 64 - 1) → IsSome i.high.value

@@ -63,8 +63,8 @@ impl End {
 }
 
 impl Run {
-    ghost use Rattle.std.specs.Prelude.{ℕ, List, ◌<◌, ◌≤◌, length, IfOk, IfSome, MatchOption};
-    ghost use Rattle.hdr_compare.specs.Intervals.{AreEnds, IsHighEnd, IsLowEnd, samples_of};
+    ghost use Rattle.std.specs.Prelude.{ℕ, List, ◌<◌, ◌≤◌, length, IfOk, IfSome, IsSome, MatchOption};
+    ghost use Rattle.hdr_compare.specs.Intervals.{AreEnds, HasReachedEnds, IsHighEnd, IsLowEnd, samples_of};
     ghost use Rattle.hdr_model.specs.Quantiles.{IsTopNear, ranked_sample};
     ghost use Rattle.hdr_model.specs.Samples.{StandsFor};
     ghost use Rattle.hdr_compare.specs.Runs.{all_of, batches_of};
@@ -83,6 +83,7 @@ impl Run {
             → 0 < length S → 0 < quantile.num → IsTopNear (all_of self.now) (ranked_sample quantile S) i.value)) }
         ensures ends { IfOk result (λ found. MatchOption found (samples_of (batches_of self.now) ≡ 0)
             (AreEnds (batches_of self.now) quantile tier)) }
+        ensures reached { IfOk result (λ found. IfSome found (HasReachedEnds (batches_of self.now) quantile tier)) }
     {
         if self.samples == 0 {
             return Ok(None);
@@ -112,6 +113,8 @@ impl Run {
         requires proper { quantile.num ≤ quantile.den }
         ensures low { IfOk result (λ end. IfSome end.value
             (IsLowEnd (batches_of self.now) quantile tier end.independent)) }
+        ensures reached { IfOk result (λ end. IsLowEnd (batches_of self.now) quantile tier end.independent 0
+            → IsSome end.value) }
         ensures independent { IfOk result (λ end. end.independent ≤ independent) }
     {
         let mut independent = independent;
@@ -127,12 +130,43 @@ impl Run {
             };
             match basis.is_low_end(under.count) {
                 Some(true) => return Ok(End::at(low, independent)),
-                Some(false) => return Ok(End::open(independent)),
+                Some(false) => break,
                 None => {}
             }
             low = self.all.lowest_equivalent(self.value_at_rank(under.count));
         }
-        Ok(End::open(independent))
+        self.least_end(alloc, quantile, tier, independent)
+    }
+
+    /// Returns 0 as the lower end, if the first sample is one, and none otherwise.
+    fn least_end(
+        &self,
+        alloc: Global,
+        quantile: Quantile,
+        tier: Tier,
+        independent: u64,
+    ) -> Result<End, AllocError>
+        requires den { quantile.den ≤ 1000000 }
+        requires proper { quantile.num ≤ quantile.den }
+        ensures low { IfOk result (λ end. IfSome end.value
+            (IsLowEnd (batches_of self.now) quantile tier end.independent)) }
+        ensures reached { IfOk result (λ end. IsLowEnd (batches_of self.now) quantile tier end.independent 0
+            → IsSome end.value) }
+        ensures independent { IfOk result (λ end. end.independent ≤ independent) }
+    {
+        let under = counted_upto(alloc, &self.batches, None, tier)?;
+        let independent = under.independent.min(independent);
+        let basis = Basis {
+            samples: self.samples,
+            independent,
+            quantile,
+            tier,
+        };
+        if basis.begins_after(under.count) {
+            Ok(End::at(0, independent))
+        } else {
+            Ok(End::open(independent))
+        }
     }
 
     /// Returns the upper end of the interval of a quantile, from the class of a value upwards.
@@ -148,6 +182,8 @@ impl Run {
         requires proper { quantile.num ≤ quantile.den }
         ensures high { IfOk result (λ end. IfSome end.value
             (IsHighEnd (batches_of self.now) quantile tier end.independent)) }
+        ensures reached { IfOk result (λ end. IsHighEnd (batches_of self.now) quantile tier end.independent
+            u64.MAX → IsSome end.value) }
         ensures independent { IfOk result (λ end. end.independent ≤ independent) }
     {
         let mut independent = independent;
@@ -163,11 +199,42 @@ impl Run {
             };
             match basis.is_high_end(upto.count) {
                 Some(true) => return Ok(End::at(high, independent)),
-                Some(false) => return Ok(End::open(independent)),
+                Some(false) => break,
                 None => {}
             }
             high = self.value_at_rank(upto.count.saturating_add(1));
         }
-        Ok(End::open(independent))
+        self.greatest_end(alloc, quantile, tier, independent)
+    }
+
+    /// Returns `u64::MAX` as the upper end, if the last sample is one, and none otherwise.
+    fn greatest_end(
+        &self,
+        alloc: Global,
+        quantile: Quantile,
+        tier: Tier,
+        independent: u64,
+    ) -> Result<End, AllocError>
+        requires den { quantile.den ≤ 1000000 }
+        requires proper { quantile.num ≤ quantile.den }
+        ensures high { IfOk result (λ end. IfSome end.value
+            (IsHighEnd (batches_of self.now) quantile tier end.independent)) }
+        ensures reached { IfOk result (λ end. IsHighEnd (batches_of self.now) quantile tier end.independent
+            u64.MAX → IsSome end.value) }
+        ensures independent { IfOk result (λ end. end.independent ≤ independent) }
+    {
+        let upto = counted_upto(alloc, &self.batches, Some(u64::MAX), tier)?;
+        let independent = upto.independent.min(independent);
+        let basis = Basis {
+            samples: self.samples,
+            independent,
+            quantile,
+            tier,
+        };
+        if basis.ends_with(upto.count) {
+            Ok(End::at(u64::MAX, independent))
+        } else {
+            Ok(End::open(independent))
+        }
     }
 }

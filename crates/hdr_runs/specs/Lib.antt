@@ -4,6 +4,10 @@ pub mod ReportChanges
 pub mod Limits
 pub mod Points
 pub mod Bands
+pub mod Orders
+pub mod Scaled
+pub mod SumBatches
+pub mod Reports
 pub mod Sorted
 pub mod LevelTallies
 pub mod LevelVerdicts

@@ -1,5 +1,6 @@
 -- Limits of changes: by how many percent a percentile may grow.
-use Rattle.std.specs.Prelude.{ℕ, ◌+◌, ◌*◌, ◌^◌}
+use Rattle.std.specs.Prelude.{◌≡◌, ◌≢◌, ℕ, ◌+◌, ◌*◌, ◌^◌, ◌<◌, ◌≤◌, List, ◌∷◌, ◌++◌, codes, length, slice_index, true}
+use Rattle.std.specs.Char.{is_ascii_digit}
 use Rattle.hdr_compare.specs.Changes.{ExceedsBy, FallsBelowBy, IsOpen}
 use Rattle.hdr_compare.specs.Shifts.{AreShifted}
 use Rattle.hdr_compare.specs.declared.changes.Measured.{Measured}
@@ -11,8 +12,23 @@ use Rattle.hdr_runs.specs.declared.limit.LimitVerdict.TheVariants.{Kept, Broken,
 abbrev pub parts_of : ℕ → ℕ
 parts_of decimals = 100 * 10 ^ decimals
 
+-- a text begins with a digit
+abbrev pub BeginsWithDigit : List ℕ → Type 0
+BeginsWithDigit text = (digit : ℕ) × (rest : List ℕ) × (text ≡ digit ∷ rest) × (is_ascii_digit digit ≡ true)
+
+-- a text is PERCENTILE>+AMOUNT%: the percentile has no `>` (62), and the amount begins with a digit
+pub record IsLimitText (text percentile amount : List ℕ) : Type 0 where
+  pub whole : text ≡ percentile ++ (codes ">+" ++ (amount ++ codes "%"))
+  pub first : (i : ℕ) → i < length percentile → slice_index percentile i ≢ 62
+  pub digit : BeginsWithDigit amount
+
 abbrev pub grown : Number → ℕ
 grown percent = parts_of percent.decimals + percent.digits
+
+-- a percentage has at most 3 decimals, and with a hundred percent it is at most 10,000,000 parts
+pub record IsAmount (percent : Number) : Type 0 where
+  pub few : percent.decimals ≤ 3
+  pub within : grown percent ≤ 10000000
 
 -- whether y is above num / den times x: beyond chance it is, or it is below; chance can make both; or x or y has no end
 abbrev pub IsVerdictAt : (num den : ℕ) → Measured → Measured → LimitVerdict → Type 0

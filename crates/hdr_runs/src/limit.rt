@@ -1,7 +1,7 @@
 //! Limits of changes, such as `p99>+5%`.
 
-ghost use Rattle.std.specs.Prelude.{◌≡◌, ◌≤◌, ◌+◌, ◌*◌, ◌^◌};
-ghost use Rattle.hdr_runs.specs.Limits.{IsLimitVerdict, grown, parts_of};
+ghost use Rattle.std.specs.Prelude.{◌≡◌, ◌≤◌, ◌+◌, ◌*◌, ◌^◌, ◌↔◌, ℕ, List, IfSome, IsTrue, MatchOption};
+ghost use Rattle.hdr_runs.specs.Limits.{BeginsWithDigit, IsAmount, IsLimitText, IsLimitVerdict, grown, parts_of};
 
 use crate::point::Point;
 use hdr_compare::{comparable, exceeds, falls_below};
@@ -51,20 +51,17 @@ impl LimitVerdict {
 }
 
 /// Parses a limit of a change, such as `p99>+5%`. The percentage has 3 decimals at most.
-pub fn parse_limit(text: &str) -> Option<Limit<'_>> {
-    let (percentile, amount) = text.split_once('>')?;
+pub fn parse_limit(text: &str) -> Option<Limit<'_>>
+    ensures text { IfSome result (λ limit. limit.text.now ≡ text.now) }
+    ensures parts { IfSome result (λ limit. (percentile amount : List ℕ) × IsLimitText text.now percentile amount) }
+    ensures amount { IfSome result (λ limit. IsAmount limit.amount) }
+{
+    let (percentile, amount) = split_limit(text)?;
     let Some(percentile) = parse_percentile(percentile) else {
         return None;
     };
-    let amount = amount.strip_prefix('+')?.strip_suffix('%')?;
-    if !amount.as_bytes().first()?.is_ascii_digit() {
-        return None;
-    }
     let amount = Number::parse(amount.as_bytes(), None).ok()?;
-    if amount.decimals > MOST_DECIMALS {
-        return None;
-    }
-    if amount.digits > MOST_RATIO - parts_of(amount.decimals) {
+    if !is_amount(amount) {
         return None;
     }
     Some(Limit {
@@ -72,6 +69,43 @@ pub fn parse_limit(text: &str) -> Option<Limit<'_>> {
         percentile,
         amount,
     })
+}
+
+/// Splits a limit into its percentile and its percentage, which begins with a digit.
+fn split_limit(text: &str) -> Option<(&str, &str)>
+    ensures { MatchOption result ((percentile amount : List ℕ) → IsLimitText text.now percentile amount → ⊥)
+        (λ parts. IsLimitText text.now parts.0.now parts.1.now) }
+{
+    let Some((percentile, growth)) = text.split_once('>') else {
+        return None;
+    };
+    let Some(shown) = growth.strip_prefix('+') else {
+        return None;
+    };
+    let Some(amount) = shown.strip_suffix('%') else {
+        return None;
+    };
+    if !begins_with_digit(amount) {
+        return None;
+    }
+    Some((percentile, amount))
+}
+
+/// Whether a text begins with a digit.
+fn begins_with_digit(text: &str) -> bool
+    ensures { IsTrue result ↔ BeginsWithDigit text.now }
+{
+    match text.as_bytes() {
+        [first, ..] => first.is_ascii_digit(),
+        [] => false,
+    }
+}
+
+/// Whether a limit can be by a percentage: it has 3 decimals at most, and is not too large.
+fn is_amount(amount: Number) -> bool
+    ensures { IsTrue result ↔ IsAmount amount }
+{
+    amount.decimals <= MOST_DECIMALS && amount.digits <= MOST_RATIO - parts_of(amount.decimals)
 }
 
 /// Returns how many parts a hundred percent have, if one percent has these decimals.
