@@ -7,3 +7,5 @@ pub mod Bands
 pub mod Sorted
 pub mod LevelTallies
 pub mod LevelVerdicts
+pub mod LogCounts
+pub mod CountedLogs
