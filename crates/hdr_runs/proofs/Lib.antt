@@ -1,1 +1,4 @@
 pub mod Reports
+pub mod Each
+pub mod LogTags
+pub mod LogRuns

@@ -11,3 +11,5 @@ pub mod Reports
 pub mod Sorted
 pub mod LevelTallies
 pub mod LevelVerdicts
+pub mod LogCounts
+pub mod CountedLogs

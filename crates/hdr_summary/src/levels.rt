@@ -1,6 +1,6 @@
 //! Levels that figures have to keep, such as `p99<=200ms`.
 
-ghost use Rattle.std.specs.Prelude.{◌≡◌, ◌≤◌, ◌*◌, ◌%◌, ◌^◌, ◌↔◌, IsTrue};
+ghost use Rattle.std.specs.Prelude.{◌≡◌, ◌≤◌, ◌*◌, ◌%◌, ◌^◌, ◌↔◌, IfSome, IsTrue};
 ghost use Rattle.hdr_summary.specs.Levels.{IsOnSide, is_upper, bound_of};
 
 use crate::percentile::parse_percentile;
@@ -68,12 +68,16 @@ fn split_side(text: &str) -> Option<(&str, Side, &str)> {
 
 /// Parses a level such as `p99<=200ms`. A unit of time is only valid if the input has one. A count
 /// has none.
-pub fn parse_level(text: &str, unit: Option<Unit>) -> Option<Level<'_>> {
+pub fn parse_level(text: &str, unit: Option<Unit>) -> Option<Level<'_>>
+    ensures { IfSome result (λ level. level.text.now ≡ text.now) }
+{
     parse_level_in(text, unit, unit)
 }
 
 /// As `parse_level`. A level without a unit is in `usual`, if there is one.
-pub fn parse_level_in(text: &str, usual: Option<Unit>, unit: Option<Unit>) -> Option<Level<'_>> {
+pub fn parse_level_in(text: &str, usual: Option<Unit>, unit: Option<Unit>) -> Option<Level<'_>>
+    ensures { IfSome result (λ level. level.text.now ≡ text.now) }
+{
     let (name, side, amount) = split_side(text)?;
     let measure = parse_measure(name)?;
     let number = match measure {

@@ -1,4 +1,3 @@
 pub mod Comparisons
 pub mod Delimiters
-pub mod LogCounts
 pub mod Statuses

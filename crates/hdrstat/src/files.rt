@@ -4,7 +4,6 @@ mod begun;
 pub(crate) mod checks;
 pub(crate) mod compared;
 pub(crate) mod ends;
-pub(crate) mod log_counts;
 pub(crate) mod logs;
 pub(crate) mod names;
 pub(crate) mod numbers;

@@ -4,7 +4,6 @@ ghost use Rattle.std.specs.Prelude.{◌≡◌, ◌↔◌, IsTrue};
 ghost use Rattle.std.specs.List.{All};
 
 use crate::errors::StatError;
-use crate::files::log_counts::{LogCounts, LogLevels, TagCounts};
 use crate::files::logs::{parts_of, print_coarser};
 use crate::files::numbers::{Form, read_groups, read_sink, tag_of_group};
 use crate::files::{Files, or_standard_input};
@@ -12,7 +11,9 @@ use hdr_compare::{Batching, Tier};
 use hdr_input::groups::{GroupMaker, GroupParts};
 use hdr_input::{BoundTally, Distribution, Recording};
 use hdr_logs::LogSums;
-use hdr_runs::{LevelCheck, LevelRecording, LevelTally, Samples, Side};
+use hdr_runs::{
+    LevelCheck, LevelRecording, LevelTally, LogCounts, LogLevels, Samples, Side, TagCounts,
+};
 use hdr_summary::checks::{Check, CheckedSamples};
 use hdr_summary::decimals::Conversion;
 use hdr_summary::figures::Tagged;
@@ -263,9 +264,9 @@ fn checks_of_tag(
     intervals: Option<&Intervals>,
 ) -> Result<Vec<LevelCheck>, StatError> {
     let mut checks = Vec::new(alloc);
-    for (level, counts) in levels.iter().zip(&tag.levels) {
+    for (level, counts) in levels.iter().zip(tag.counts()) {
         let check = match (level.measure, intervals) {
-            (Measure::Mean, _) => check_of_mean(&tag.sum, level, decimals),
+            (Measure::Mean, _) => check_of_mean(&tag.sum(), level, decimals),
             (Measure::Quantile(_), Some(intervals)) => {
                 check_of_interval(alloc, intervals, level, counts.counts())?
             }
@@ -290,7 +291,8 @@ fn read_logs(
 ) -> Result<(), StatError> {
     for (index, name) in or_standard_input(files.names).iter().enumerate() {
         let input = files.open(*name)?;
-        sums.read_log_into(files.alloc(), index, input, counts)
+        counts
+            .read_log(files.alloc(), sums, index, input)
             .map_err(|cause| files.log_error(cause))?;
     }
     Ok(())
@@ -364,7 +366,7 @@ fn part_of_tag(
     Ok(Some(CheckedPart {
         tag,
         distribution,
-        sum: tag_counts.sum,
+        sum: tag_counts.sum(),
         checks,
     }))
 }

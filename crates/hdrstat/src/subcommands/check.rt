@@ -7,7 +7,6 @@ ghost use Rattle.hdrstat.specs.Statuses.{is_broken, is_kept, status_of_verdicts}
 use crate::errors::StatError;
 use crate::files::Files;
 use crate::files::checks::{Checked, check_logs, check_numbers};
-use crate::files::log_counts::LogLevels;
 use crate::options::arguments::{self, FIGURES, INPUT, OUTPUT, flag, option, quiet, with_reading};
 use crate::options::forms::{conditions_of, groups_by};
 use crate::options::matches::{Reading, reading_of, unit_of};
@@ -15,6 +14,7 @@ use crate::output::print;
 use crate::subcommands::summary::MOST_DENOMINATOR;
 use clap::{Arg, ArgAction, ArgMatches, Command, Error};
 use hdr_compare::Tier;
+use hdr_runs::LogLevels;
 use hdr_summary::levels::{Level, Measure, parse_level_in};
 use hdr_summary::units::Unit;
 use hdr_summary::verdicts::Verdict;

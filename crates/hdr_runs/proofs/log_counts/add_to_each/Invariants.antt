@@ -1,0 +1,6 @@
+use Rattle.hdr_runs.specs.LogCounts.{AddsClasses}
+use Rattle.hdr_runs.proofs.Each.{Changed}
+use Rattle.hdr_runs.proofs.log_counts.add_to_each.Given as goal
+
+abbrev pub invariant-loop-counts : goal.invariant-loop-counts
+invariant-loop-counts l = Changed (AddsClasses l.histogram) l.initial.all l.all l.counts-index
