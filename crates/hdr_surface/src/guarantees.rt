@@ -1,4 +1,4 @@
-//! What a caller may rely on: a variant that can't occur is `unreachable!()`, and a value that is there is unwrapped.
+//! What a caller may rely on: a variant that can't occur is `unreachable!()`, and what is there or succeeds is unwrapped.
 
 use hdrhistogram::serialization::interval_log::{
     IntervalLogWriter, IntervalLogWriterBuilder, IntervalLogWriterError, Tag,
@@ -16,20 +16,15 @@ pub fn same_counter<T: Counter>(counter: T) -> T {
     T::from_u64(counter.as_u64()).unwrap()
 }
 
-/// Guard: an index below `distinct_values`.
-pub fn number_at<T: Counter>(histogram: &Histogram<T>, index: usize) -> u64 {
+/// The value and the count of a bin. Guard: an index below `distinct_values`.
+pub fn bin_at<T: Counter>(histogram: &Histogram<T>, index: usize) -> (u64, T) {
     if index >= histogram.distinct_values() {
-        return 0;
+        return (0, T::zero());
     }
-    histogram.bin_count(index).unwrap().as_u64()
-}
-
-/// Guard: an index below `distinct_values`.
-pub fn value_at<T: Counter>(histogram: &Histogram<T>, index: usize) -> u64 {
-    if index >= histogram.distinct_values() {
-        return 0;
-    }
-    histogram.bin_value(index).unwrap()
+    (
+        histogram.bin_value(index).unwrap(),
+        histogram.bin_count(index).unwrap(),
+    )
 }
 
 /// The bin of a value is a bin.
@@ -83,27 +78,15 @@ pub fn clone_correct<T: Counter>(histogram: &Histogram<T>, interval: u64) -> Opt
 
 /// Recording a value that has a bin succeeds.
 pub fn record<T: Counter>(histogram: &mut Histogram<T>, value: u64) {
-    if histogram.bin_of(value).is_none() {
-        return;
-    }
-    match histogram.record(value) {
-        Ok(()) => {}
-        Err(RecordError::ValueOutOfRangeResizeDisabled) => unreachable!(),
-        Err(RecordError::ResizeFailedUsizeTypeTooSmall) => unreachable!(),
-        Err(RecordError::OutOfMemory) => unreachable!(),
+    if histogram.bin_of(value).is_some() {
+        histogram.record(value).unwrap();
     }
 }
 
 /// Correcting a value that has a bin succeeds.
 pub fn record_correct<T: Counter>(histogram: &mut Histogram<T>, value: u64, interval: u64) {
-    if histogram.bin_of(value).is_none() {
-        return;
-    }
-    match histogram.record_correct(value, interval) {
-        Ok(()) => {}
-        Err(RecordError::ValueOutOfRangeResizeDisabled) => unreachable!(),
-        Err(RecordError::ResizeFailedUsizeTypeTooSmall) => unreachable!(),
-        Err(RecordError::OutOfMemory) => unreachable!(),
+    if histogram.bin_of(value).is_some() {
+        histogram.record_correct(value, interval).unwrap();
     }
 }
 
@@ -114,14 +97,8 @@ pub fn record_n_correct<T: Counter>(
     count: T,
     interval: u64,
 ) {
-    if histogram.bin_of(value).is_none() {
-        return;
-    }
-    match histogram.record_n_correct(value, count, interval) {
-        Ok(()) => {}
-        Err(RecordError::ValueOutOfRangeResizeDisabled) => unreachable!(),
-        Err(RecordError::ResizeFailedUsizeTypeTooSmall) => unreachable!(),
-        Err(RecordError::OutOfMemory) => unreachable!(),
+    if histogram.bin_of(value).is_some() {
+        histogram.record_n_correct(value, count, interval).unwrap();
     }
 }
 
@@ -153,40 +130,22 @@ pub fn add<T: Counter>(target: &mut Histogram<T>, source: &Histogram<T>) {
 
 /// An empty source is added.
 pub fn add_empty<T: Counter>(target: &mut Histogram<T>, source: &Histogram<T>) {
-    if !source.is_empty() {
-        return;
-    }
-    match target.add(source) {
-        Ok(()) => {}
-        Err(AdditionError::OtherAddendValueExceedsRange) => unreachable!(),
-        Err(AdditionError::ResizeFailedUsizeTypeTooSmall) => unreachable!(),
-        Err(AdditionError::OutOfMemory) => unreachable!(),
+    if source.is_empty() {
+        target.add(source).unwrap();
     }
 }
 
 /// Setting to a source whose greatest value has a bin succeeds.
 pub fn set_to<T: Counter>(target: &mut Histogram<T>, source: &Histogram<T>) {
-    if target.bin_of(source.max()).is_none() {
-        return;
-    }
-    match target.set_to(source) {
-        Ok(()) => {}
-        Err(AdditionError::OtherAddendValueExceedsRange) => unreachable!(),
-        Err(AdditionError::ResizeFailedUsizeTypeTooSmall) => unreachable!(),
-        Err(AdditionError::OutOfMemory) => unreachable!(),
+    if target.bin_of(source.max()).is_some() {
+        target.set_to(source).unwrap();
     }
 }
 
 /// The same for a source of another counter type.
 pub fn add_from<T: Counter, F: Counter>(target: &mut Histogram<T>, source: &Histogram<F>) {
-    if target.bin_of(source.max()).is_none() {
-        return;
-    }
-    match target.add_from(source) {
-        Ok(()) => {}
-        Err(AdditionError::OtherAddendValueExceedsRange) => unreachable!(),
-        Err(AdditionError::ResizeFailedUsizeTypeTooSmall) => unreachable!(),
-        Err(AdditionError::OutOfMemory) => unreachable!(),
+    if target.bin_of(source.max()).is_some() {
+        target.add_from(source).unwrap();
     }
 }
 
@@ -204,23 +163,14 @@ pub fn subtract<T: Counter>(target: &mut Histogram<T>, source: &Histogram<T>) ->
 
 /// An empty subtrahend is subtracted.
 pub fn subtract_empty<T: Counter>(target: &mut Histogram<T>, source: &Histogram<T>) {
-    if !source.is_empty() {
-        return;
-    }
-    match target.subtract(source) {
-        Ok(()) => {}
-        Err(SubtractionError::SubtrahendValueExceedsMinuendRange) => unreachable!(),
-        Err(SubtractionError::SubtrahendCountExceedsMinuendCount) => unreachable!(),
+    if source.is_empty() {
+        target.subtract(source).unwrap();
     }
 }
 
 /// Clamping always succeeds.
 pub fn clamp<T: Counter>(histogram: &mut Histogram<T>, value: u64, count: T) {
-    match histogram.apply(&Call::Clamp(value, count)) {
-        Ok(()) => {}
-        Err(CallError::Record(_)) => unreachable!(),
-        Err(CallError::Addition(_)) => unreachable!(),
-    }
+    histogram.apply(&Call::Clamp(value, count)).unwrap();
 }
 
 /// `Record` fails with a `RecordError`.
@@ -288,12 +238,7 @@ pub fn tag_again<'a>(tag: Tag<'a>) -> Tag<'a> {
     Tag::new(tag.as_str()).unwrap()
 }
 
-/// A letter is a tag.
-pub fn tag_a() -> Tag<'static> {
-    Tag::new("a").unwrap()
-}
-
-/// The empty text is a tag.
-pub fn empty_tag() -> Tag<'static> {
-    Tag::new("").unwrap()
+/// A letter is a tag, and so is the empty text.
+pub fn two_tags() -> [Tag<'static>; 2] {
+    [Tag::new("a").unwrap(), Tag::new("").unwrap()]
 }

@@ -1,28 +1,17 @@
 //! Values that have a bin.
 
-use hdrhistogram::{Counter, CreationError, Histogram, RecordError};
+use hdrhistogram::{Counter, CreationError, Histogram};
 use std::alloc::Global;
 
 /// `high` has a bin.
 pub fn record_high<T: Counter>(histogram: &mut Histogram<T>) {
-    match histogram.record(histogram.high()) {
-        Ok(()) => {}
-        Err(RecordError::ValueOutOfRangeResizeDisabled) => unreachable!(),
-        Err(RecordError::ResizeFailedUsizeTypeTooSmall) => unreachable!(),
-        Err(RecordError::OutOfMemory) => unreachable!(),
-    }
+    histogram.record(histogram.high()).unwrap();
 }
 
 /// A source whose greatest value has a bin is added with correction.
 pub fn add_correct<T: Counter>(target: &mut Histogram<T>, source: &Histogram<T>, interval: u64) {
-    if target.bin_of(source.max()).is_none() {
-        return;
-    }
-    match target.add_correct(source, interval) {
-        Ok(()) => {}
-        Err(RecordError::ValueOutOfRangeResizeDisabled) => unreachable!(),
-        Err(RecordError::ResizeFailedUsizeTypeTooSmall) => unreachable!(),
-        Err(RecordError::OutOfMemory) => unreachable!(),
+    if target.bin_of(source.max()).is_some() {
+        target.add_correct(source, interval).unwrap();
     }
 }
 

@@ -4,10 +4,12 @@ use hdr_base::Scale;
 use hdr_base::laws::intervals;
 use hdr_counts::Counts;
 use hdrhistogram::serialization::deserializer::varint_read_slice;
-use hdrhistogram::serialization::v2_serializer::{counts_array_max_encoded_size, encode_counts};
+use hdrhistogram::serialization::v2_serializer::{
+    counts_array_max_encoded_size, encode_counts, varint_write,
+};
 use hdrhistogram::serialization::{Deserializer, Serializer, V2SerializeError, V2Serializer};
 use hdrhistogram::{Counter, Histogram, Quantile};
-use std::alloc::Global;
+use std::alloc::{AllocError, Global};
 
 /// A denominator that is a literal is not 0.
 pub fn three_tenths() -> Quantile {
@@ -30,6 +32,55 @@ pub fn integer_part(quantile: Quantile) -> u64 {
 /// The numerator of a quantile fits 64 bits.
 pub fn count_below<T: Counter>(histogram: &Histogram<T>, value: u64) -> u64 {
     histogram.quantile_below(value).num as u64
+}
+
+/// The denominator of a fraction is at least 1.
+pub fn integer_mean<T: Counter>(histogram: &Histogram<T>) -> Option<u128> {
+    let mean = histogram.mean()?;
+    Some(mean.num / mean.den)
+}
+
+/// The denominator of a fraction is at least 1.
+pub fn integer_percentile_below<T: Counter>(histogram: &Histogram<T>, value: u64) -> u128 {
+    let percentile = histogram.percentile_below(value);
+    percentile.num / percentile.den
+}
+
+/// The denominator of a fraction is at least 1.
+pub fn is_all_below<T: Counter>(histogram: &Histogram<T>, value: u64) -> bool {
+    let below = histogram.quantile_below(value);
+    below.num / below.den == 1
+}
+
+/// A quantile is at most 1.
+pub fn quantile_above<T: Counter>(histogram: &Histogram<T>, value: u64) -> u128 {
+    let below = histogram.quantile_below(value);
+    below.den - below.num
+}
+
+/// The saturating sum of counters is never above the total.
+pub fn count_above<T: Counter>(histogram: &Histogram<T>, value: u64) -> u64 {
+    histogram.len() - histogram.count_between(0, value)
+}
+
+/// `high` is at least twice `low`.
+pub fn span<T: Counter>(histogram: &Histogram<T>) -> u64 {
+    histogram.high() - histogram.low()
+}
+
+/// There are at most 64 buckets.
+pub fn last_of_buckets<T: Counter>(histogram: &Histogram<T>) -> u64 {
+    u64::MAX >> (64 - histogram.buckets())
+}
+
+/// The width of a class is at least 1.
+pub fn in_widths<T: Counter>(histogram: &Histogram<T>, value: u64) -> u64 {
+    value / histogram.equivalent_range(value)
+}
+
+/// The next class lies above the value, or at `u64::MAX`.
+pub fn below_next<T: Counter>(histogram: &Histogram<T>, value: u64) -> u64 {
+    histogram.next_non_equivalent(value) - value
 }
 
 /// The middle of a class is not below its lowest value.
@@ -106,6 +157,41 @@ pub fn payload<'a, T: Counter>(histogram: &Histogram<T>, buffer: &'a mut [u8]) -
     }
 }
 
+/// Guard: nine bytes for each bin up to the greatest value's.
+pub fn payload_to_the_mark<T: Counter>(
+    histogram: &Histogram<T>,
+    buffer: &mut [u8],
+) -> Option<Result<usize, V2SerializeError>> {
+    let last = histogram.bin_of(histogram.max())?;
+    let max_len = counts_array_max_encoded_size(last.checked_add(1)?)?;
+    if buffer.len() < max_len {
+        return None;
+    }
+    Some(encode_counts(histogram, buffer))
+}
+
+/// Nine bytes for each bin don't overflow, and are enough.
+pub fn payload_in_new_buffer<T: Counter>(
+    alloc: Global,
+    histogram: &Histogram<T>,
+) -> Result<Vec<u8>, AllocError> {
+    let mut buffer = vec![in alloc; 0u8; 9 * histogram.distinct_values()]?;
+    match encode_counts(histogram, &mut buffer) {
+        Ok(len) => buffer.truncate(len),
+        Err(_) => buffer.clear(),
+    }
+    Ok(buffer)
+}
+
+/// The bytes of a varint, in a buffer of the caller's. Guard: nine bytes.
+pub fn varint_bytes(n: u64, buffer: &mut [u8]) -> Option<&[u8]> {
+    if buffer.len() < 9 {
+        return None;
+    }
+    let len = varint_write(n, buffer);
+    Some(&buffer[..len])
+}
+
 /// The bytes after a varint. Guard: at least nine bytes.
 pub fn after_varint(bytes: &[u8]) -> Option<&[u8]> {
     if bytes.len() < 9 {
@@ -127,13 +213,8 @@ pub fn after_histogram<'a>(deserializer: &mut Deserializer, bytes: &'a [u8]) -> 
 pub fn in_vector<T: Counter>(alloc: Global, histogram: &Histogram<T>) -> Option<Vec<u8>> {
     let mut bytes = Vec::new(alloc);
     match V2Serializer::new(alloc).serialize(histogram, &mut bytes) {
-        Ok(count) => {
-            if count == bytes.len() {
-                Some(bytes)
-            } else {
-                unreachable!()
-            }
-        }
+        Ok(count) if count == bytes.len() => Some(bytes),
+        Ok(_) => unreachable!(),
         Err(_) => None,
     }
 }

@@ -2,14 +2,6 @@
 
 use hdrhistogram::{Counter, Histogram, Quantile, RecordError, Ticks};
 
-pub fn new() -> Ticks {
-    Ticks::new()
-}
-
-pub fn count(ticks: &Ticks) -> u64 {
-    ticks.count()
-}
-
 /// Guard: a count below `u64::MAX`.
 pub fn tick(ticks: &mut Ticks) {
     if ticks.count() < u64::MAX {
@@ -43,19 +35,7 @@ pub fn value_at_quantile_counted<T: Counter>(
     Some(histogram.value_at_quantile_counted(quantile, ticks))
 }
 
-/// New ticks need no guard.
-pub fn ticks_of_quantile<T: Counter>(histogram: &Histogram<T>, quantile: Quantile) -> u64 {
-    let mut ticks = Ticks::new();
-    let _value = histogram.value_at_quantile_counted(quantile, &mut ticks);
-    ticks.count()
-}
-
-/// One type by three paths.
-pub fn by_three_paths(ticks: hdr_base::Ticks) -> hdr_core::Ticks {
-    let again: hdrhistogram::Ticks = ticks;
-    again
-}
-
+/// New ticks need no guard, and not for the second call.
 pub fn of_quantiles<T: Counter>(histogram: &Histogram<T>, a: Quantile, b: Quantile) -> u64 {
     let mut ticks = Ticks::new();
     let _a = histogram.value_at_quantile_counted(a, &mut ticks);
@@ -63,6 +43,7 @@ pub fn of_quantiles<T: Counter>(histogram: &Histogram<T>, a: Quantile, b: Quanti
     ticks.count()
 }
 
+/// The same for corrections.
 pub fn of_corrections<T: Counter>(
     histogram: &mut Histogram<T>,
     count: T,
