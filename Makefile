@@ -67,28 +67,30 @@ dist: all docs
 check:
 	tools/minutes "make check" $(MAKE) --no-print-directory gate
 
-# The edits are tried beside the runs, over the libraries that rt ci leaves.
+# What follows rt ci is run side by side, over the programs and libraries that it leaves.
 gate:
 	tools/language
 	tools/imports
-	tools/edits --control
 	rt ci
 	tools/test --keep
-	$(MAKE) --no-print-directory -j2 runs trials || { cat target/edits.log; exit 1; }
-	cat target/edits.log
+	$(MAKE) --no-print-directory -j4 failed-allocations cases capi trials
 
-trials:
-	mkdir -p target
-	tools/edits --part >target/edits.log
-
-# (the library for C is built over the same libraries)
-runs:
+failed-allocations:
 	tools/refused.sh
 	tools/refused_main.sh
+
+cases:
 	tools/test --proved
 	tools/documents crates/hdr/out/hdr
+
+# (rt ci proves the library for C, and does not build it)
+capi:
 	-tools/rattle_words.py --static hdr_c
 	tools/capi
+
+trials:
+	tools/edits --control
+	tools/edits --part
 
 # On the proved builds where they are fresh; else what is stale is built unproved.
 test:
@@ -114,4 +116,4 @@ bench:
 bench-shapes:
 	compare/run shapes
 
-.PHONY: all install install-c install-compat dist check gate trials runs test edits quick docs bench bench-shapes
+.PHONY: all install install-c install-compat dist check gate failed-allocations cases capi trials test edits quick docs bench bench-shapes
