@@ -1,5 +1,5 @@
 -- Sums, and the indices of their tags.
-use Rattle.std.proofs.Common.{◌≡◌, ℕ, zero, suc, ◌<◌, ◌-◌, ◌^◌, Bool, true, false, cond, if◌then◌else◌, List, [], ◌∷◌, ◌++◌, Option, Some, None, length, map, get_or, String, Global, refl, sym, ap, subst, ◌∙◌, arith}
+use Rattle.std.proofs.Common.{⊤, ◌≡◌, ℕ, zero, suc, ◌<◌, ◌-◌, ◌^◌, Bool, true, false, cond, if◌then◌else◌, List, [], ◌∷◌, ◌++◌, Option, Some, None, unwrap_or, length, map, get_or, String, Global, refl, sym, ap, subst, ◌∙◌, arith}
 use Rattle.std.specs.Option.{option_map}
 use Rattle.std.proofs.Math.ListN.{set}
 use Rattle.std.specs.Map.{update}
@@ -136,12 +136,34 @@ adds_more [] i old mid new are one = (new, subst (λ s. Adds s i new) are one, r
 adds_more (first ∷ all) i old mid new are one = (are.0, are.1, adds_more all i are.0 mid new are.2 one)
 
 -- intervals are added and taken, and then one more
-pub passes_more : {S : Type 0} (takes : S → ℕ → Plain → ℕ → S → Type 0) (all : List LogInterval) (i : LogInterval) (old mid new : Summing) (sink between after : S)
-    → PassesAll takes old all mid sink between → Passes takes mid i new between after → PassesAll takes old (all ++ i ∷ []) new sink after
-passes_more {S} takes [] i old mid new sink between after are one =
-    (new, after, subst (λ s. Passes takes s i new sink after) are.0 (subst (λ s. Passes takes mid i new s after) are.1 one), (refl, refl))
-passes_more takes (first ∷ all) i old mid new sink between after are one =
-    (are.0, are.1, are.2, passes_more takes all i are.0 mid new are.1 between after are.3 one)
+pub passes_more : {S : Type 0} (takes : S → ℕ → Plain → ℕ → S → Type 0) (decimals : ℕ) (all : List LogInterval) (i : LogInterval) (old mid new : Summing) (sink between after : S)
+    → PassesAll takes decimals old all mid sink between → Passes takes decimals mid i new between after → PassesAll takes decimals old (all ++ i ∷ []) new sink after
+passes_more {S} takes decimals [] i old mid new sink between after are one =
+    (new, after, subst (λ s. Passes takes decimals s i new sink after) are.0 (subst (λ s. Passes takes decimals mid i new s after) are.1 one), (refl, refl))
+passes_more takes decimals (first ∷ all) i old mid new sink between after are one =
+    (are.0, are.1, are.2, passes_more takes decimals all i are.0 mid new are.1 between after are.3 one)
+
+-- the decimals of intervals are known, unless there are none
+abbrev pub AreKnownOf : List LogInterval → Option ℕ → Type 0
+AreKnownOf [] decimals = ⊤
+AreKnownOf (i ∷ all) decimals = (d : ℕ) × (decimals ≡ Some d)
+
+-- the same where the first of them makes the decimals known, and the others keep them
+pub passes_then : {S : Type 0} (takes : S → ℕ → Plain → ℕ → S → Type 0) (all : List LogInterval) (i : LogInterval) (old mid new : Summing) (sink between after : S) (before now : Option ℕ)
+    → ((d : ℕ) → before ≡ Some d → now ≡ Some d) → AreKnownOf all before
+    → PassesAll takes (unwrap_or before 0) old all mid sink between → Passes takes (unwrap_or now 0) mid i new between after
+    → PassesAll takes (unwrap_or now 0) old (all ++ i ∷ []) new sink after
+passes_then takes [] i old mid new sink between after before now keeps known are one =
+    passes_more takes (unwrap_or now 0) [] i old mid new sink between after are one
+passes_then takes (first ∷ all) i old mid new sink between after before now keeps known are one =
+    let same : before ≡ now = known.1 ∙ sym (keeps known.0 known.1) in
+    passes_more takes (unwrap_or now 0) (first ∷ all) i old mid new sink between after
+    (subst (λ d. PassesAll takes (unwrap_or d 0) old (first ∷ all) mid sink between) same are) one
+
+-- they are known with one more
+pub known_then : (all : List LogInterval) (i : LogInterval) (now : Option ℕ) (d : ℕ) → now ≡ Some d → AreKnownOf (all ++ i ∷ []) now
+known_then [] i now d is = (d, is)
+known_then (first ∷ all) i now d is = (d, is)
 
 -- a text is the same as itself
 pub same_text : (t : List ℕ) → bytes_eq t t ≡ true

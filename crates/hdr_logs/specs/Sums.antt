@@ -1,5 +1,5 @@
 -- The sums of the chosen intervals of logs.
-use Rattle.std.specs.Prelude.{◌≡◌, ℕ, zero, suc, ◌-◌, ◌^◌, ◌<◌, ◌↔◌, Bool, true, false, IsTrue, if◌then◌else◌, List, [], ◌∷◌, length, map, Option, Some, None}
+use Rattle.std.specs.Prelude.{◌≡◌, ℕ, zero, suc, ◌-◌, ◌^◌, ◌<◌, ◌↔◌, Bool, true, false, IsTrue, if◌then◌else◌, List, [], ◌∷◌, length, map, Option, Some, None, unwrap_or}
 use Rattle.std.specs.Option.{option_map}
 use Rattle.std.specs.HashMap.{get_by_text}
 use Rattle.std.specs.Str.{bytes_eq}
@@ -91,24 +91,30 @@ unfoldable pub index_of : Option (List ℕ) → List Sum → Option ℕ
 index_of tag [] = None
 index_of tag (sum ∷ sums) = if is_same_tag sum.tag tag then Some 0 else option_map suc (index_of tag sums)
 
--- the histogram of an interval is added to the sum of its tag, and is then taken: with the index of the sum and some decimals
-abbrev pub Passes : {S : Type 0} → (S → ℕ → Plain → ℕ → S → Type 0) → Summing → LogInterval → Summing → S → S → Type 0
-Passes takes old i new sink after =
-    (h : Plain) × IsHeldIn (2 ^ 64 - 1) i.field h
-    × (new ≡ with_sums old (after_interval old.sigfig old.sums (sum_tag old.is_by_tag i.tag) h))
-    × (index : ℕ) × (index_of (sum_tag old.is_by_tag i.tag) new.sums ≡ Some index)
-    × (decimals : ℕ) × takes sink index h decimals after
+-- the decimals of the values of sums: those of the intervals so far, and 0 before the first
+abbrev pub decimals_of_sums : LogSums → ℕ
+decimals_of_sums s = unwrap_or s.decimals 0
+
+-- a histogram, which an interval holds, is added to the sum of its tag, whose index is this
+pub record AddsAt (old : Summing) (i : LogInterval) (new : Summing) (h : Plain) (index : ℕ) : Type 0 where
+  pub held : IsHeldIn (2 ^ 64 - 1) i.field h
+  pub added : new ≡ with_sums old (after_interval old.sigfig old.sums (sum_tag old.is_by_tag i.tag) h)
+  pub at : index_of (sum_tag old.is_by_tag i.tag) new.sums ≡ Some index
+
+-- the histogram of an interval is added to the sum of its tag, and is then taken: with the index of the sum and these decimals
+abbrev pub Passes : {S : Type 0} → (S → ℕ → Plain → ℕ → S → Type 0) → ℕ → Summing → LogInterval → Summing → S → S → Type 0
+Passes takes decimals old i new sink after = (h : Plain) × (index : ℕ) × AddsAt old i new h index × takes sink index h decimals after
 
 -- the same of a stored interval
-abbrev pub PassesStored : {S : Type 0} → (S → ℕ → Plain → ℕ → S → Type 0) → Summing → Stored → Summing → S → S → Type 0
-PassesStored takes old s new sink after =
-    (i : LogInterval) × (i.tag ≡ tag_or_none (Some s.tag)) × (i.field ≡ s.field) × Passes takes old i new sink after
+abbrev pub PassesStored : {S : Type 0} → (S → ℕ → Plain → ℕ → S → Type 0) → ℕ → Summing → Stored → Summing → S → S → Type 0
+PassesStored takes decimals old s new sink after =
+    (i : LogInterval) × (i.tag ≡ tag_or_none (Some s.tag)) × (i.field ≡ s.field) × Passes takes decimals old i new sink after
 
 -- the histograms of intervals are added and taken, one after the other
-abbrev pub PassesAll : {S : Type 0} → (S → ℕ → Plain → ℕ → S → Type 0) → Summing → List LogInterval → Summing → S → S → Type 0
-PassesAll takes old [] new sink after = (new ≡ old) × (after ≡ sink)
-PassesAll {S} takes old (i ∷ all) new sink after =
-    (mid : Summing) × (between : S) × Passes takes old i mid sink between × PassesAll takes mid all new between after
+abbrev pub PassesAll : {S : Type 0} → (S → ℕ → Plain → ℕ → S → Type 0) → ℕ → Summing → List LogInterval → Summing → S → S → Type 0
+PassesAll takes decimals old [] new sink after = (new ≡ old) × (after ≡ sink)
+PassesAll {S} takes decimals old (i ∷ all) new sink after =
+    (mid : Summing) × (between : S) × Passes takes decimals old i mid sink between × PassesAll takes decimals mid all new between after
 
 -- the sums of tags are found by the indices
 abbrev pub AreIndexed : LogSums → Type 0

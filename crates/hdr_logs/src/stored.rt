@@ -98,6 +98,7 @@ impl StoredInterval {
         ensures tag { (view_of_log_interval result).tag
             ≡ tag_or_none (Some (view_of_stored self.now).tag) }
         ensures field { (view_of_log_interval result).field ≡ (view_of_stored self.now).field }
+        ensures decimals { result.decimals ≡ self.now.decimals }
     {
         Interval {
             time: u128::from(self.start) * MILLISECOND,

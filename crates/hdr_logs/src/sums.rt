@@ -2,7 +2,7 @@
 
 pub mod sink;
 
-ghost use Rattle.std.specs.Prelude.{◌≡◌, ◌-◌, ◌^◌, ◌<◌, ◌++◌, [], ◌∷◌, List, IfOk, IfSome, OnOk, Some, length};
+ghost use Rattle.std.specs.Prelude.{◌≡◌, ◌-◌, ◌^◌, ◌<◌, ◌++◌, ℕ, [], ◌∷◌, List, IfOk, IfSome, OnOk, Some, length, unwrap_or};
 ghost use Rattle.std.specs.Option.{option_map};
 ghost use Rattle.std.specs.String.{string_bytes};
 ghost use Rattle.hdr_model.specs.Plain.{Plain};
@@ -10,7 +10,7 @@ ghost use Rattle.hdr_log.specs.Tags.{tag_text};
 ghost use Rattle.hdrhistogram.specs.FieldRead.{IsHeldIn};
 ghost use Rattle.hdr_logs.specs.Intervals.{LogInterval, LogHolds, view_of_log_interval};
 ghost use Rattle.hdr_logs.specs.Sums.{sums_of, view_of_sums, empty_sum, sum_tag, AddsHeld, AddsAll, AddsField};
-ghost use Rattle.hdr_logs.specs.Sums.{index_of, AreIndexed, IsSumAt, KeepsOptions, added_at};
+ghost use Rattle.hdr_logs.specs.Sums.{index_of, AreIndexed, IsSumAt, KeepsOptions, added_at, decimals_of_sums};
 
 use crate::adding::add;
 use crate::errors::LogError;
@@ -150,7 +150,9 @@ impl<'a> LogSums<'a> {
     }
 
     /// Returns the decimals of the values.
-    pub fn decimals(&self) -> u32 {
+    pub fn decimals(&self) -> u32
+        ensures { result ≡ decimals_of_sums self.now }
+    {
         self.decimals.unwrap_or(0)
     }
 
@@ -165,6 +167,8 @@ impl<'a> LogSums<'a> {
         ensures options { KeepsOptions self.old self.new }
         ensures sums { self.new.sums ≡ self.old.sums }
         ensures indices { AreIndexed self.old → AreIndexed self.new }
+        ensures decimals { OnOk result (self.new.decimals ≡ Some (unwrap_or interval.now.decimals 0)) }
+        ensures known { (d : ℕ) → self.old.decimals ≡ Some d → self.new.decimals ≡ Some d }
     {
         let decimals = interval.decimals.unwrap_or(0);
         if self.decimals.is_none() {
@@ -185,6 +189,7 @@ impl<'a> LogSums<'a> {
             (sum_tag self.old.is_by_tag (option_map tag_text tag.entry)) (sums_of self.new)
             ≡ Some index) }
         ensures indices { OnOk result (AreIndexed self.old → AreIndexed self.new) }
+        ensures decimals { self.new.decimals ≡ self.old.decimals }
     {
         let tag = if self.is_by_tag { tag } else { None };
         match tag {
@@ -208,6 +213,7 @@ impl<'a> LogSums<'a> {
         ensures found { IfOk result (λ index. AreIndexed self.old
             → index_of (Some tag.now) (sums_of self.new) ≡ Some index) }
         ensures indices { OnOk result (AreIndexed self.old → AreIndexed self.new) }
+        ensures decimals { self.new.decimals ≡ self.old.decimals }
     {
         if let Some(index) = self.indices.get(tag) {
             return Ok(*index);
@@ -227,6 +233,7 @@ impl<'a> LogSums<'a> {
             ≡ sums_of self.old ++ empty_sum self.old.sigfig (option_map string_bytes tag) ∷ []) }
         ensures indices { self.new.indices ≡ self.old.indices }
         ensures untagged { self.new.untagged ≡ self.old.untagged }
+        ensures decimals { self.new.decimals ≡ self.old.decimals }
     {
         let index = self.sums.len();
         let histogram = Histogram::new(alloc, self.sigfig)?;
@@ -242,6 +249,7 @@ impl<'a> LogSums<'a> {
             × (sums_of self.new ≡ added_at index (sums_of self.old) h) × (self.new.spare ≡ Some h)) }
         ensures indices { self.new.indices ≡ self.old.indices }
         ensures untagged { self.new.untagged ≡ self.old.untagged }
+        ensures decimals { self.new.decimals ≡ self.old.decimals }
     {
         let Some(sum) = self.sums.get_mut(index) else {
             return Ok(());
@@ -266,6 +274,8 @@ impl<'a> LogSums<'a> {
             (view_of_log_interval interval.now).tag) (sums_of self.new) ≡ Some index) }
         ensures choice { self.new.choice ≡ self.old.choice }
         ensures indices { OnOk result (AreIndexed self.old → AreIndexed self.new) }
+        ensures decimals { OnOk result (self.new.decimals ≡ Some (unwrap_or interval.now.decimals 0)) }
+        ensures known { (d : ℕ) → self.old.decimals ≡ Some d → self.new.decimals ≡ Some d }
     {
         self.check_scale(interval)?;
         let index = self.index_of(alloc, interval.tag)?;

@@ -14,10 +14,10 @@ use Rattle.hdr_runs.specs.declared.log_counts.LogCounts.{LogCounts}
 use Rattle.hdr_runs.specs.LogCounts.{FitsBatches, HasCountedAt, InBatchesAt, ParsesLevels, TakesHistogram, asked_of, levels_of, tags_of, with_samples, with_values}
 use Rattle.hdr_runs.specs.CountedLogs.{Taken, AreTaken, CountsEach, JoinsEach, StandForEach, samples_at, values_at}
 
--- histograms are taken, one after the other
-abbrev pub TakesAll : LogCounts → List Taken → LogCounts → Type 0
-TakesAll old [] new = new ≡ old
-TakesAll old (t ∷ taken) new = (mid : LogCounts) × TakesHistogram old t.index t.histogram t.decimals mid × TakesAll mid taken new
+-- histograms are taken, one after the other, whose values have these decimals
+abbrev pub TakesAll : ℕ → LogCounts → List Taken → LogCounts → Type 0
+TakesAll decimals old [] new = new ≡ old
+TakesAll decimals old (t ∷ taken) new = (mid : LogCounts) × TakesHistogram old t.index t.histogram decimals mid × TakesAll decimals mid taken new
 
 -- levels will stay: if there are none, none are written
 abbrev AreFixed : LogCounts → Type 0
@@ -46,10 +46,10 @@ then-fixed (level ∷ before) after texts known parsed none =
 fixed-after : (old new : LogCounts) → ParsesLevels old new → AreFixed new
 fixed-after old new parses none = ap (λ a. a.texts) parses.asked ∙ then-fixed (levels_of old) (levels_of new) (asked_of old).texts parses.known parses.parsed none
 
-levels-stay : (taken : List Taken) (old new : LogCounts) → AreFixed old → TakesAll old taken new → levels_of new ≡ levels_of old
-levels-stay [] old new fixed takes = ap levels_of takes
-levels-stay (t ∷ taken) old new fixed takes =
-    levels-stay taken takes.0 new (fixed-after old takes.0 takes.1.levels) takes.2 ∙ stays (levels_of old) (levels_of takes.0) (asked_of old).texts takes.1.levels.known takes.1.levels.parsed fixed
+levels-stay : (d : ℕ) (taken : List Taken) (old new : LogCounts) → AreFixed old → TakesAll d old taken new → levels_of new ≡ levels_of old
+levels-stay d [] old new fixed takes = ap levels_of takes
+levels-stay d (t ∷ taken) old new fixed takes =
+    levels-stay d taken takes.0 new (fixed-after old takes.0 takes.1.levels) takes.2 ∙ stays (levels_of old) (levels_of takes.0) (asked_of old).texts takes.1.levels.known takes.1.levels.parsed fixed
 
 -- samples of one tag and then those of further histograms
 grouped : {X : Type 0} (b : Bool) (L M rest : List X) → (if b then L ++ M else L) ++ rest ≡ L ++ ((if b then M else []) ++ rest)
@@ -57,19 +57,18 @@ grouped true L M rest = append_assoc L M rest
 grouped false L M rest = refl
 
 -- each tag has counted what was taken
-pub counts-each : (taken : List Taken) (old new : LogCounts) → TakesAll old taken new → CountsEach old taken new
-counts-each [] old new takes k d L SS few same stand at =
+pub counts-each : (d : ℕ) (taken : List Taken) (old new : LogCounts) → TakesAll d old taken new → CountsEach old d taken new
+counts-each d [] old new takes k L SS few stand at =
     let here : HasCountedAt (levels_of new) d (tags_of new) k L = subst (λ c. HasCountedAt (levels_of new) d (tags_of c) k L) (sym takes) at in
     subst (HasCountedAt (levels_of new) d (tags_of new) k) (sym (append-nil L)) here
-counts-each (t ∷ taken) old new takes k d L [] few same stand at = absurd stand
-counts-each (t ∷ taken) old new takes k d L (S ∷ SS) few same stand at =
+counts-each d (t ∷ taken) old new takes k L [] few stand at = absurd stand
+counts-each d (t ∷ taken) old new takes k L (S ∷ SS) few stand at =
     let mid = takes.0 in
-    let stay : levels_of new ≡ levels_of mid = levels-stay taken mid new (fixed-after old mid takes.1.levels) takes.2 in
+    let stay : levels_of new ≡ levels_of mid = levels-stay d taken mid new (fixed-after old mid takes.1.levels) takes.2 in
     let before : HasCountedAt (levels_of mid) d (tags_of old) k L = subst (λ l. HasCountedAt l d (tags_of old) k L) stay at in
-    let P : Taken → Type 0 = λ x. x.decimals ≡ d in
     let one : HasCountedAt (levels_of mid) d (tags_of mid) k (with_samples k t.index t.histogram S L) =
-    takes.1.samples k d L S few (λ fresh. sym (All-head P t taken same)) stand.0 before in
-    let more = counts-each taken mid new takes.2 k d (with_samples k t.index t.histogram S L) SS few (All-tail P t taken same) stand.1 (subst (λ l. HasCountedAt l d (tags_of mid) k (with_samples k t.index t.histogram S L)) (sym stay) one) in
+    takes.1.samples k d L S few (λ fresh. refl) stand.0 before in
+    let more = counts-each d taken mid new takes.2 k (with_samples k t.index t.histogram S L) SS few stand.1 (subst (λ l. HasCountedAt l d (tags_of mid) k (with_samples k t.index t.histogram S L)) (sym stay) one) in
     subst (HasCountedAt (levels_of new) d (tags_of new) k) (grouped (k == t.index) L (known_by (resolution t.histogram) S) (samples_at k taken SS)) more
 
 values-known : (g : Resolution) (S : List ℕ) → map (λ x. x.value) (known_by g S) ≡ S
@@ -91,12 +90,12 @@ values-grouped b g S T rest =
     ∙ ap (λ l. S ++ l) (sym (map-append (λ x. x.value) (if b then known_by g T else []) rest))
 
 -- the batches of each tag have what was taken
-pub joins-each : (taken : List Taken) (old new : LogCounts) → TakesAll old taken new → JoinsEach old taken new
-joins-each [] old new takes k S SS fit stand few at =
+pub joins-each : (d : ℕ) (taken : List Taken) (old new : LogCounts) → TakesAll d old taken new → JoinsEach old taken new
+joins-each d [] old new takes k S SS fit stand few at =
     let here : InBatchesAt (asked_of old) (tags_of new) k S = subst (λ c. InBatchesAt (asked_of old) (tags_of c) k S) (sym takes) at in
     subst (InBatchesAt (asked_of old) (tags_of new) k) (sym (append-nil S)) here
-joins-each (t ∷ taken) old new takes k S [] fit stand few at = absurd stand
-joins-each (t ∷ taken) old new takes k S (T ∷ SS) fit stand few at =
+joins-each d (t ∷ taken) old new takes k S [] fit stand few at = absurd stand
+joins-each d (t ∷ taken) old new takes k S (T ∷ SS) fit stand few at =
     let mid = takes.0 in
     let same : asked_of mid ≡ asked_of old = takes.1.levels.asked in
     let P : ℕ → Taken → Type 0 = λ n x. FitsBatches n x.histogram in
@@ -106,15 +105,15 @@ joins-each (t ∷ taken) old new takes k S (T ∷ SS) fit stand few at =
     let long : length (joined ++ values_at k taken SS) < 2 ^ 64 = subst (λ l. length l < 2 ^ 64) (sym is) few in
     let some : length joined < 2 ^ 64 = omega (arith, long, length-append joined (values_at k taken SS)) in
     let one : InBatchesAt (asked_of old) (tags_of mid) k joined = takes.1.batches k S T stand.0 (All-head (P digits) t taken fit) some at in
-    let more = joins-each taken mid new takes.2 k joined SS (subst (λ a. All (P a.digits) taken) (sym same) (All-tail (P digits) t taken fit)) stand.1 long (subst (λ a. InBatchesAt a (tags_of mid) k joined) (sym same) one) in
+    let more = joins-each d taken mid new takes.2 k joined SS (subst (λ a. All (P a.digits) taken) (sym same) (All-tail (P digits) t taken fit)) stand.1 long (subst (λ a. InBatchesAt a (tags_of mid) k joined) (sym same) one) in
     let there : InBatchesAt (asked_of old) (tags_of new) k (joined ++ values_at k taken SS) = subst (λ a. InBatchesAt a (tags_of new) k (joined ++ values_at k taken SS)) same more in
     subst (InBatchesAt (asked_of old) (tags_of new) k) is there
 
 -- what was passed was taken
-pub are-taken : (all : List LogInterval) (old new : Summing) (sink after : LogCounts) → PassesAll TakesHistogram old all new sink after → (taken : List Taken) × AreTaken old all new taken × TakesAll sink taken after
-are-taken [] old new sink after passes = ([], passes.0, passes.1)
-are-taken (i ∷ all) old new sink after passes =
+pub are-taken : (d : ℕ) (all : List LogInterval) (old new : Summing) (sink after : LogCounts) → PassesAll TakesHistogram d old all new sink after → (taken : List Taken) × AreTaken old all new taken × TakesAll d sink taken after
+are-taken d [] old new sink after passes = ([], passes.0, passes.1)
+are-taken d (i ∷ all) old new sink after passes =
     let one = passes.2 in
-    let t : Taken = record { index = one.3; histogram = one.0; decimals = one.5 } in
-    let rest = are-taken all passes.0 new passes.1 after passes.3 in
-    (t ∷ rest.0, (passes.0, (one.0, one.1, one.2, one.3, one.4, one.5, refl), rest.1), (passes.1, one.6, rest.2))
+    let t : Taken = record { index = one.1; histogram = one.0 } in
+    let rest = are-taken d all passes.0 new passes.1 after passes.3 in
+    (t ∷ rest.0, (passes.0, one.2, rest.1), (passes.1, one.3, rest.2))

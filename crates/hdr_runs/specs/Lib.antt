@@ -13,3 +13,4 @@ pub mod LevelTallies
 pub mod LevelVerdicts
 pub mod LogCounts
 pub mod CountedLogs
+pub mod LevelChecks

@@ -5,6 +5,7 @@
 mod band;
 mod batch_tally;
 mod change;
+mod checks;
 mod ends;
 mod level_check;
 mod level_tally;
@@ -21,6 +22,7 @@ mod texts;
 pub use band::BandPoint;
 pub use batch_tally::{BatchRecording, BatchTally};
 pub use change::{Change, change_of};
+pub use checks::{LevelIntervals, checks_of_numbers, sum_of_numbers};
 pub use ends::ends_of;
 pub use level_check::LevelCheck;
 pub use level_tally::{LevelRecording, LevelTally};

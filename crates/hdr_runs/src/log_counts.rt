@@ -294,7 +294,7 @@ impl<'a, 'n> LogCounts<'a, 'n> {
 
 impl LogCounts<'_, '_> {
     ghost use Rattle.std.specs.Prelude.{OnOk};
-    ghost use Rattle.hdr_logs.specs.Sums.{AreIndexed, view_of_sums};
+    ghost use Rattle.hdr_logs.specs.Sums.{AreIndexed, decimals_of_sums, view_of_sums};
     ghost use Rattle.hdr_runs.specs.CountedLogs.{CountsLog};
 
     /// Reads the log of this index to its end, adds its chosen intervals to their sums, and counts
@@ -311,7 +311,7 @@ impl LogCounts<'_, '_> {
         reader: R,
     ) -> Result<(), LogError>
         ensures counted { OnOk result (AreIndexed sums.old → CountsLog (R.remaining reader)
-            (view_of_sums sums.old) (view_of_sums sums.new) self.old self.new) }
+            (decimals_of_sums sums.new) (view_of_sums sums.old) (view_of_sums sums.new) self.old self.new) }
         ensures indices { OnOk result (AreIndexed sums.old → AreIndexed sums.new) }
     {
         sums.read_log_into(alloc, file, reader, self)

@@ -3,3 +3,4 @@ pub mod Fractions
 pub mod SampleSums
 pub mod TrueVerdicts
 pub mod StepsLead
+pub mod Percentiles

@@ -3,8 +3,8 @@
 ghost use Rattle.std.specs.Prelude.{◌≡◌, ℕ, List, IfSome, OnOk, Some};
 ghost use Rattle.hdr_model.specs.Plain.{Plain};
 ghost use Rattle.hdr_logs.specs.Intervals.{LogInterval, LogHolds};
-ghost use Rattle.hdr_logs.specs.Stored.{view_of_stored};
-ghost use Rattle.hdr_logs.specs.Sums.{view_of_sums, AreIndexed, PassesAll, PassesStored};
+ghost use Rattle.hdr_logs.specs.Stored.{decimals_of, view_of_stored};
+ghost use Rattle.hdr_logs.specs.Sums.{view_of_sums, decimals_of_sums, AreIndexed, PassesAll, PassesStored};
 
 use crate::errors::LogError;
 use crate::reader::{LineBuffer, LogLine, LogReader};
@@ -46,7 +46,8 @@ impl LogSums<'_> {
     ) -> Result<(), LogError>
         ensures sums { OnOk result (AreIndexed self.old → (all : List LogInterval)
             × IfSome (R.remaining reader) (λ text. LogHolds (view_of_sums self.old).filter text all)
-            × PassesAll S.takes (view_of_sums self.old) all (view_of_sums self.new) sink.old sink.new) }
+            × PassesAll S.takes (decimals_of_sums self.new) (view_of_sums self.old) all (view_of_sums self.new)
+            sink.old sink.new) }
         ensures indices { OnOk result (AreIndexed self.old → AreIndexed self.new) }
     {
         let mut buffer = LineBuffer::new(alloc);
@@ -78,8 +79,8 @@ impl LogSums<'_> {
         stored: &StoredInterval,
         sink: &mut S,
     ) -> Result<(), LogError>
-        ensures sums { OnOk result (AreIndexed self.old → PassesStored S.takes (view_of_sums self.old)
-            (view_of_stored stored.now) (view_of_sums self.new) sink.old sink.new) }
+        ensures sums { OnOk result (AreIndexed self.old → PassesStored S.takes (decimals_of stored.now)
+            (view_of_sums self.old) (view_of_stored stored.now) (view_of_sums self.new) sink.old sink.new) }
         ensures indices { OnOk result (AreIndexed self.old → AreIndexed self.new) }
     {
         let sum = self.add(alloc, &stored.interval())?;
@@ -91,7 +92,7 @@ impl LogSums<'_> {
     /// sum.
     fn pass<S: HistogramSink>(&self, sum: usize, sink: &mut S) -> Result<(), LogError>
         ensures { OnOk result ((h : Plain) → self.now.spare ≡ Some h
-            → (decimals : ℕ) × S.takes sink.old sum h decimals sink.new) }
+            → S.takes sink.old sum h (decimals_of_sums self.now) sink.new) }
     {
         let decimals = self.decimals();
         match &self.spare {

@@ -9,19 +9,19 @@ use crate::files::numbers::{Form, read_groups, read_sink, tag_of_group};
 use crate::files::{Files, or_standard_input};
 use hdr_compare::{Batching, Tier};
 use hdr_input::groups::{GroupMaker, GroupParts};
-use hdr_input::{BoundTally, Distribution, Recording};
+use hdr_input::{Distribution, Recording};
 use hdr_logs::LogSums;
 use hdr_runs::{
-    LevelCheck, LevelRecording, LevelTally, LogCounts, LogLevels, Samples, Side, TagCounts,
+    LevelCheck, LevelIntervals, LevelRecording, LevelTally, LogCounts, LogLevels, Samples, Side,
+    checks_of_numbers, sum_of_numbers,
 };
-use hdr_summary::checks::{Check, CheckedSamples};
+use hdr_summary::checks::CheckedSamples;
 use hdr_summary::decimals::Conversion;
 use hdr_summary::figures::Tagged;
-use hdr_summary::levels::{Level, Measure, parse_level_in};
+use hdr_summary::levels::Level;
 use hdr_summary::means::SampleSum;
 use hdr_summary::units::Unit;
-use hdr_summary::verdicts::{LevelCounts, Verdict};
-use hdrhistogram::Histogram;
+use hdr_summary::verdicts::Verdict;
 use hdrhistogram::serialization::interval_log::IntervalChoice;
 use std::alloc::Global;
 
@@ -32,13 +32,6 @@ struct CheckedPart {
     distribution: Distribution,
     sum: SampleSum,
     checks: Vec<LevelCheck>,
-}
-
-/// Samples in batches, by which percentiles have intervals.
-#[derive(Drop)]
-struct Intervals {
-    side: Side,
-    tier: Tier,
 }
 
 /// What was read, and the checks of all levels for each tag.
@@ -101,52 +94,6 @@ impl Checked {
             }
         }
         Ok(verdicts)
-    }
-}
-
-/// Returns the checks of numbers, by the intervals of percentiles if these are asked for.
-fn checks_of_tally(
-    alloc: Global,
-    tally: &BoundTally,
-    sum: SampleSum,
-    levels: &[Level<'_>],
-    intervals: Option<&Intervals>,
-) -> Result<Vec<LevelCheck>, StatError> {
-    let mut checks = Vec::new(alloc);
-    for level in levels {
-        let counts = LevelCounts::of_tally(tally, level);
-        let check = match (level.measure, intervals) {
-            (Measure::Mean, _) => check_of_mean(&sum, level, tally.tally.decimals),
-            (Measure::Quantile(_), Some(intervals)) => {
-                check_of_interval(alloc, intervals, level, counts)?
-            }
-            _ => plain(counts, level.verdict_of_tally(tally)),
-        };
-        checks.push(check)?;
-    }
-    Ok(checks)
-}
-
-/// Returns the check of a percentile by its interval.
-fn check_of_interval(
-    alloc: Global,
-    intervals: &Intervals,
-    level: &Level<'_>,
-    counts: LevelCounts,
-) -> Result<LevelCheck, StatError> {
-    let tier = intervals.tier;
-    let verdict = intervals.side.verdict(alloc, level, &counts, tier)?;
-    Ok(LevelCheck {
-        check: Check { counts, verdict },
-        tier: Some(tier),
-    })
-}
-
-/// Returns a check without an interval.
-fn plain(counts: LevelCounts, verdict: Verdict) -> LevelCheck {
-    LevelCheck {
-        check: Check { counts, verdict },
-        tier: None,
     }
 }
 
@@ -235,52 +182,25 @@ fn part_of_tally(
         )?),
         _ => None,
     };
-    let (low, high) = counted.sums();
-    let total = counted.total();
-    let sum = SampleSum { total, low, high };
-    let checks = checks_of_tally(alloc, &counted, sum, levels, intervals.as_ref())?;
+    let checks = checks_of_numbers(alloc, levels, &counted, intervals.as_ref())?;
     Ok(CheckedPart {
         tag,
+        sum: sum_of_numbers(&counted),
         distribution: counted.tally.into_distribution(),
-        sum,
         checks,
     })
 }
 
 /// Returns samples by which percentiles have intervals.
-fn intervals_of(alloc: Global, samples: Samples, tier: Tier) -> Result<Intervals, StatError> {
-    Ok(Intervals {
+fn intervals_of(
+    alloc: Global,
+    samples: Samples,
+    tier: Tier,
+) -> Result<LevelIntervals, StatError> {
+    Ok(LevelIntervals {
         side: Side::new(alloc, None, samples)?,
         tier,
     })
-}
-
-/// Returns the checks of the samples of a tag, by the intervals of percentiles if these are asked for.
-fn checks_of_tag(
-    alloc: Global,
-    tag: &TagCounts,
-    decimals: u32,
-    levels: &[Level<'_>],
-    intervals: Option<&Intervals>,
-) -> Result<Vec<LevelCheck>, StatError> {
-    let mut checks = Vec::new(alloc);
-    for (level, counts) in levels.iter().zip(tag.counts()) {
-        let check = match (level.measure, intervals) {
-            (Measure::Mean, _) => check_of_mean(&tag.sum(), level, decimals),
-            (Measure::Quantile(_), Some(intervals)) => {
-                check_of_interval(alloc, intervals, level, counts.counts())?
-            }
-            _ => plain(counts.counts(), level.verdict_by_class(counts)),
-        };
-        checks.push(check)?;
-    }
-    Ok(checks)
-}
-
-/// Returns the check of a mean.
-fn check_of_mean(sum: &SampleSum, level: &Level<'_>, decimals: u32) -> LevelCheck {
-    let counts = sum.counts(level, decimals);
-    plain(counts, level.verdict(&counts))
 }
 
 /// Reads logs into sums, and counts their samples.
@@ -362,7 +282,7 @@ fn part_of_tag(
     };
     let decimals = distribution.decimals;
     let levels = counts.levels();
-    let checks = checks_of_tag(alloc, tag_counts, decimals, levels, intervals.as_ref())?;
+    let checks = tag_counts.checks(alloc, levels, decimals, intervals.as_ref())?;
     Ok(Some(CheckedPart {
         tag,
         distribution,
@@ -377,7 +297,7 @@ fn intervals_of_log(
     distribution: &Distribution,
     batching: Batching,
     tier: Tier,
-) -> Result<Intervals, StatError> {
+) -> Result<LevelIntervals, StatError> {
     let samples = Samples::of_intervals(&distribution.histogram, batching, distribution.decimals)?;
     intervals_of(alloc, samples, tier)
 }

@@ -2,8 +2,8 @@ use Rattle.std.proofs.Common.{◌++◌, ◌∷◌, [], List, refl, sym, subst, �
 use Rattle.hdrhistogram.specs.Chosen.{view_of_interval_choice}
 use Rattle.hdr_logs.specs.Intervals.{LogInterval, LogHolds, view_of_log_interval}
 use Rattle.hdr_logs.specs.Reading.{UnreadHold, IsEnd, intervals_of_line}
-use Rattle.hdr_logs.specs.Sums.{view_of_sums, Passes}
-use Rattle.hdr_logs.proofs.Indices.{passes_more}
+use Rattle.hdr_logs.specs.Sums.{view_of_sums, decimals_of_sums, AddsAt, Passes}
+use Rattle.hdr_logs.proofs.Indices.{passes_then, known_then}
 use Rattle.hdr_logs.proofs.NextLine.{if_known}
 use Rattle.hdr_logs.proofs.sums.LogSums.read_log_into.Goals.{in-Chosen+in_ok-sum-in-Chosen+in_ok-pass-in-Chosen, in-Other}
 use Rattle.hdr_logs.proofs.sums.LogSums.read_log_into.Goals as goal
@@ -13,7 +13,7 @@ loop-init g c = record {
   indices = λ indexed. indexed;
   choice = refl;
   known = λ known. known;
-  passed = λ indexed. ([], (refl, refl), λ rest left. left);
+  passed = λ indexed. ([], (refl, refl), (λ rest left. left), tt);
 }
 
 pub loop-preserved : goal.loop-preserved
@@ -36,14 +36,17 @@ loop-preserved g c =
                 let now = so_far.indices indexed in
                 let added = one.added now in
                 let taken = w.in_ok-pass-in-Chosen.ensures added.0 added.3 in
-                let passes : Passes takes (view_of_sums c.loop.self) i (view_of_sums w.add.new.self) c.loop.sink w.pass.new.sink =
-                (added.0, added.1, added.2, w.in_ok-sum-in-Chosen.sum, one.index now, taken.0, taken.1) in
+                let at : AddsAt (view_of_sums c.loop.self) i (view_of_sums w.add.new.self) added.0 w.in_ok-sum-in-Chosen.sum =
+                record { held = added.1; added = added.2; at = one.index now } in
+                let passes : Passes takes (decimals_of_sums w.add.new.self) (view_of_sums c.loop.self) i (view_of_sums w.add.new.self) c.loop.sink w.pass.new.sink =
+                (added.0, w.in_ok-sum-in-Chosen.sum, at, taken) in
                 let more =
-                passes_more takes before.0 i (view_of_sums c.args.self.now) (view_of_sums c.loop.self) (view_of_sums w.add.new.self) c.args.sink.now c.loop.sink w.pass.new.sink before.1 passes in
+                passes_then takes before.0 i (view_of_sums c.args.self.now) (view_of_sums c.loop.self) (view_of_sums w.add.new.self) c.args.sink.now c.loop.sink w.pass.new.sink
+                c.loop.self.decimals w.add.new.self.decimals w.add.ensures.known before.3 before.1 passes in
                 let left : (rest : List LogInterval) → UnreadHold remaining c.next_line.new.self rest → UnreadHold remaining begun ((before.0 ++ i ∷ []) ++ rest) = λ rest h.
                 let here = subst (λ l. UnreadHold remaining c.loop.log (intervals_of_line l ++ rest)) w.in-Chosen.is (line.intervals rest h) in
                 subst (UnreadHold remaining begun) (sym (append_assoc before.0 (i ∷ []) rest)) (before.2 (i ∷ rest) here) in
-                (before.0 ++ i ∷ [], more, left);
+                (before.0 ++ i ∷ [], more, left, known_then before.0 i w.add.new.self.decimals _ one.decimals);
           })
       | in-Other w ↦
           rw (w.self-is, w.sink-is) (record {
@@ -52,7 +55,7 @@ loop-preserved g c =
             known = λ known. line.known (so_far.known known);
             passed = λ indexed.
                 let before = so_far.passed indexed in
-                (before.0, before.1, λ rest h. before.2 rest (subst (λ l. UnreadHold remaining c.loop.log (intervals_of_line l ++ rest)) w.in-Other.is (line.intervals rest h)));
+                (before.0, before.1, (λ rest h. before.2 rest (subst (λ l. UnreadHold remaining c.loop.log (intervals_of_line l ++ rest)) w.in-Other.is (line.intervals rest h))), before.3);
           })
     ]
 

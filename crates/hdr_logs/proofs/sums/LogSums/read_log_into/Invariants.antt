@@ -1,7 +1,8 @@
 use Rattle.std.proofs.Common.{◌++◌, ◌≡◌, List}
 use Rattle.hdr_logs.specs.Intervals.{LogInterval}
 use Rattle.hdr_logs.specs.Reading.{UnreadHold, IsKnown}
-use Rattle.hdr_logs.specs.Sums.{view_of_sums, AreIndexed, PassesAll}
+use Rattle.hdr_logs.specs.Sums.{view_of_sums, decimals_of_sums, AreIndexed, PassesAll}
+use Rattle.hdr_logs.proofs.Indices.{AreKnownOf}
 use Rattle.hdr_logs.proofs.sums.LogSums.read_log_into.Given as goal
 
 -- intervals so far are passed, and are those before the ones that are left
@@ -11,6 +12,7 @@ invariant-loop g l = record {
   choice : l.self.choice ≡ l.initial.self.choice;
   known : IsKnown g.R.Read.remaining l.initial.log → IsKnown g.R.Read.remaining l.log;
   passed : AreIndexed l.initial.self → (done : List LogInterval)
-      × PassesAll g.S.HistogramSink.takes (view_of_sums l.initial.self) done (view_of_sums l.self) l.initial.sink l.sink
-      × ((rest : List LogInterval) → UnreadHold g.R.Read.remaining l.log rest → UnreadHold g.R.Read.remaining l.initial.log (done ++ rest));
+      × PassesAll g.S.HistogramSink.takes (decimals_of_sums l.self) (view_of_sums l.initial.self) done (view_of_sums l.self) l.initial.sink l.sink
+      × ((rest : List LogInterval) → UnreadHold g.R.Read.remaining l.log rest → UnreadHold g.R.Read.remaining l.initial.log (done ++ rest))
+      × AreKnownOf done l.self.decimals;
 }
