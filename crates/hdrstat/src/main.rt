@@ -1,15 +1,12 @@
 //! `hdrstat`: percentiles of numbers and of interval logs, a subcommand for each question.
 #![tactic(auto)]
 
-mod errors;
-mod files;
-mod options;
-mod output;
+mod compared;
+mod page;
 mod subcommands;
 
 use clap::error::ErrorKind as UsageErrorKind;
-use errors::StatError;
-use output::print_error_line;
+use hdr_files::{StatError, print_error_line};
 use std::alloc::AllocError;
 use std::env;
 use std::io::{self, ErrorKind};

@@ -1,0 +1,128 @@
+//! The logs of the arguments.
+
+use crate::errors::StatError;
+use crate::files::Files;
+use crate::names::FileNames;
+use crate::output::print_error_line;
+use hdr_input::{Distribution, Unit};
+use hdr_logs::{LogError, LogIntervals, LogSums, Note, TagSum};
+use hdr_summary::figures::Tagged;
+use hdrhistogram::Histogram;
+use hdrhistogram::serialization::interval_log::IntervalChoice;
+use std::alloc::Global;
+
+/// Distributions, and the unit that logs have of their values.
+#[derive(Drop)]
+pub struct Parts {
+    pub list: Vec<Tagged>,
+    pub unit: Option<Unit>,
+}
+
+/// Returns the sums of the chosen intervals of logs: one, or one for each tag. If intervals are
+/// coarser than their sum, their number is printed on standard error.
+pub(crate) fn read_sums(
+    files: Files<'_, '_, '_>,
+    sigfig: u8,
+    choice: IntervalChoice<'_>,
+    is_by_tag: bool,
+) -> Result<Parts, StatError> {
+    let alloc = files.alloc();
+    let mut sums = LogSums::new(alloc, choice, sigfig, is_by_tag);
+    let read = files.read_each(|index, input| {
+        sums.read_log(alloc, index, input)
+            .map_err(|cause| files.log_error(cause))
+    });
+    files.print_notes(sums.notes());
+    read?;
+    print_coarser(files.rt, &sums, sigfig);
+    let unit = sums.unit();
+    let list = parts_of(alloc, sums, sigfig, is_by_tag)?;
+    Ok(Parts { list, unit })
+}
+
+/// Returns the distributions of sums: one, or one for each tag.
+pub(crate) fn parts_of(
+    alloc: Global,
+    sums: LogSums<'_>,
+    sigfig: u8,
+    is_by_tag: bool,
+) -> Result<Vec<Tagged>, StatError> {
+    let decimals = sums.decimals();
+    let mut parts = Vec::new(alloc);
+    for TagSum { tag, histogram } in sums.sums {
+        let distribution = Distribution::of_histogram(histogram, decimals);
+        let ends = Vec::new(alloc);
+        parts.push(Tagged {
+            tag,
+            distribution,
+            ends,
+        })?;
+    }
+    if parts.is_empty() && !is_by_tag {
+        let empty = Histogram::new(alloc, sigfig)?;
+        parts.push(Tagged {
+            tag: None,
+            distribution: Distribution::of_histogram(empty, decimals),
+            ends: Vec::new(alloc),
+        })?;
+    }
+    Ok(parts)
+}
+
+/// Prints on standard error how many of the chosen intervals are coarser than their sum, if any are.
+pub(crate) fn print_coarser(rt: &HostRuntime, sums: &LogSums<'_>, sigfig: u8) {
+    let coarser = sums.coarser;
+    let chosen = sums.chosen;
+    if coarser > 0 {
+        let _ = eprintln!(rt;
+            "hdrstat: {coarser} of {chosen} intervals coarser than {sigfig} digits"
+        );
+    }
+}
+
+/// Returns the chosen intervals of logs. If logs are aligned, each is laid over the first.
+pub fn read_intervals(
+    files: Files<'_, '_, '_>,
+    choice: IntervalChoice<'_>,
+    file_names: &FileNames,
+    is_aligned: bool,
+) -> Result<LogIntervals, StatError> {
+    let alloc = files.alloc();
+    let mut intervals = LogIntervals::new(alloc);
+    let read = files.read_each(|index, input| {
+        let before = intervals.list.len();
+        intervals
+            .read_log(alloc, index, input, choice, file_names.name(index))
+            .map_err(|cause| files.log_error(cause))?;
+        if is_aligned {
+            intervals
+                .align_from(before)
+                .map_err(|cause| files.log_error(cause))?;
+        }
+        Ok(())
+    });
+    files.print_notes(intervals.notes());
+    read?;
+    Ok(intervals)
+}
+
+impl Files<'_, '_, '_> {
+    /// Returns the error of logs, with the name of the log that has it, if one has.
+    pub fn log_error(self, cause: LogError) -> StatError {
+        let name = match cause.file() {
+            Some(index) => self.name(index),
+            None => "the logs",
+        };
+        StatError::logs(self.alloc(), name, cause)
+    }
+
+    /// Prints the lines of logs that are not read on standard error, with the names of the logs.
+    pub fn print_notes(self, notes: &[Note]) {
+        for note in notes {
+            let file = self.name(note.place.file);
+            if let Ok(line) = format!(in self.alloc(); "hdrstat: {file}: {note}") {
+                print_error_line(self.rt, line.as_str());
+            }
+        }
+    }
+}

@@ -1,0 +1,314 @@
+//! The runs of the arguments: their samples in batches.
+
+use crate::errors::StatError;
+use crate::files::{Files, or_standard_input};
+use crate::logs::print_coarser;
+use crate::numbers::{Form, require_most_lines, tag_of_group};
+use crate::reading::Reading;
+use crate::surveyed::NumberFiles;
+use hdr_input::groups::{GroupMaker, GroupParts, Groups};
+use hdr_input::{Recording, Unit};
+use hdr_logs::{LogSums, TagSum};
+use hdr_runs::{BatchRecording, BatchTally, LogBatches, Order, Samples, Side};
+use hdrhistogram::serialization::interval_log::IntervalChoice;
+use std::alloc::Global;
+
+/// A run: its samples by tag, and the unit that logs have of their values.
+#[derive(Drop)]
+pub struct RunSides {
+    pub sides: Vec<Side>,
+    pub unit: Option<Unit>,
+}
+
+/// The tallies of a tag, of each file that has it.
+#[derive(Drop)]
+struct TagTallies {
+    tag: Option<String>,
+    tallies: Vec<BatchTally>,
+}
+
+/// What was read of the files of a run.
+#[derive(Drop)]
+struct NumberRun {
+    tags: Vec<TagTallies>,
+    numbers: u64,
+    skipped: u64,
+    rounded: u64,
+}
+
+/// Returns the samples of a run, by tag. Those of a run of several files have a batch for each of
+/// them, and otherwise batches of those that follow one another.
+pub fn read_run(files: Files<'_, '_, '_>, reading: Reading<'_, '_>) -> Result<RunSides, StatError> {
+    match reading {
+        Reading::Numbers { recording, form } => Ok(RunSides {
+            sides: read_number_run(files, recording, form)?,
+            unit: None,
+        }),
+        Reading::Logs {
+            choice,
+            sigfig,
+            is_by_tag,
+        } => read_log_run(files, sigfig, choice, is_by_tag),
+    }
+}
+
+/// Returns the numbers of a run, by the texts of their groups. How many lines were skipped and how
+/// many numbers were rounded is printed on standard error.
+fn read_number_run(
+    files: Files<'_, '_, '_>,
+    recording: Recording,
+    form: Form<'_, '_>,
+) -> Result<Vec<Side>, StatError> {
+    let alloc = files.alloc();
+    let mut numbers = NumberFiles::new(files, recording, form)?;
+    let mut run = number_run_of(files, form, &mut numbers)?;
+    if numbers.becomes_finer(run.rounded)? {
+        run = number_run_of(files, form, &mut numbers)?;
+    }
+    numbers.print_notes(run.skipped, run.rounded);
+    require_most_lines(run.numbers, run.skipped)?;
+    let has_one_file = files.names.len() <= 1;
+    let mut sides = Vec::new(alloc);
+    for TagTallies { tag, tallies } in run.tags {
+        if let Some(samples) = samples_of(alloc, tallies, has_one_file)? {
+            sides.push(Side::new(alloc, tag, samples)?)?;
+        }
+    }
+    Ok(sides)
+}
+
+/// Returns the numbers of the files of a run as they are recorded now.
+fn number_run_of(
+    files: Files<'_, '_, '_>,
+    form: Form<'_, '_>,
+    numbers: &mut NumberFiles<'_, '_, '_, '_, '_>,
+) -> Result<NumberRun, StatError> {
+    let alloc = files.alloc();
+    let mut run = NumberRun {
+        tags: Vec::new(alloc),
+        numbers: 0,
+        skipped: 0,
+        rounded: 0,
+    };
+    let maker = BatchRecording {
+        recording: numbers.recording,
+    };
+    for (index, name) in or_standard_input(files.names).iter().enumerate() {
+        match form.groups() {
+            Some(columns) => {
+                let groups = Groups::new(alloc, maker, columns);
+                let mut groups = groups.map_err(|cause| files.numbers_error(0, cause))?;
+                numbers.read_file_rows_into(index, *name, &mut groups)?;
+                run.add_groups(alloc, groups.into_parts())?;
+            }
+            None => {
+                let mut tally = maker.make(alloc).map_err(|_| StatError::OutOfMemory)?;
+                numbers.read_file_into(index, *name, &mut tally)?;
+                run.skipped = run.skipped.saturating_add(tally.tally.skipped);
+                run.rounded = run.rounded.saturating_add(tally.tally.rounded);
+                run.add_tally(alloc, None, tally)?;
+            }
+        }
+    }
+    numbers.finish_pass();
+    Ok(run)
+}
+
+impl NumberRun {
+    /// Adds the groups of a file.
+    fn add_groups(
+        &mut self,
+        alloc: Global,
+        groups: GroupParts<BatchTally>,
+    ) -> Result<(), StatError> {
+        self.skipped = self.skipped.saturating_add(groups.skipped);
+        self.rounded = self.rounded.saturating_add(groups.rounded);
+        let GroupParts { texts, sinks, .. } = groups;
+        for (text, tally) in texts.as_slice().iter().zip(sinks) {
+            let tag = tag_of_group(alloc, text)?;
+            self.add_tally(alloc, tag, tally)?;
+        }
+        Ok(())
+    }
+
+    /// Adds the numbers of a tag of a file.
+    fn add_tally(
+        &mut self,
+        alloc: Global,
+        tag: Option<String>,
+        tally: BatchTally,
+    ) -> Result<(), StatError> {
+        self.numbers = self.numbers.saturating_add(tally.tally.numbers());
+        for other in self.tags.iter_mut() {
+            if are_equal(&other.tag, &tag) {
+                other.tallies.push(tally)?;
+                return Ok(());
+            }
+        }
+        let mut tallies = Vec::new(alloc);
+        tallies.push(tally)?;
+        self.tags.push(TagTallies { tag, tallies })?;
+        Ok(())
+    }
+}
+
+/// Whether two tags are the same.
+fn are_equal(one: &Option<String>, other: &Option<String>) -> bool {
+    match (one, other) {
+        (Some(one), Some(other)) => one.as_str() == other.as_str(),
+        (None, None) => true,
+        _ => false,
+    }
+}
+
+/// Returns the samples of a tag, or `None` if there are none.
+fn samples_of(
+    alloc: Global,
+    tallies: Vec<BatchTally>,
+    has_one_file: bool,
+) -> Result<Option<Samples>, StatError> {
+    let mut samples = Samples {
+        batches: Vec::new(alloc),
+        min: u64::MAX,
+        max: 0,
+        decimals: 0,
+        order: Order::OfTime,
+    };
+    for tally in tallies {
+        if tally.tally.histogram.is_empty() {
+            continue;
+        }
+        if has_one_file {
+            return Ok(Some(tally.into_samples(alloc)?));
+        }
+        let tally = tally.tally;
+        samples.decimals = tally.decimals;
+        samples.add_run(tally.histogram, tally.min, tally.max)?;
+    }
+    if samples.batches.is_empty() {
+        return Ok(None);
+    }
+    Ok(Some(samples))
+}
+
+/// The samples of a tag of logs.
+#[derive(Drop)]
+pub struct TagSamples {
+    pub tag: Option<String>,
+    pub samples: Samples,
+}
+
+/// Returns the chosen intervals of the logs of a run, by tag.
+fn read_log_run(
+    files: Files<'_, '_, '_>,
+    sigfig: u8,
+    choice: IntervalChoice<'_>,
+    is_by_tag: bool,
+) -> Result<RunSides, StatError> {
+    let alloc = files.alloc();
+    let has_one_file = files.names.len() <= 1;
+    let mut tags = Vec::new(alloc);
+    let mut log_unit = LogUnit { unit: None };
+    for (index, name) in or_standard_input(files.names).iter().enumerate() {
+        let mut sums = LogSums::new(alloc, choice, sigfig, is_by_tag);
+        let mut batches = LogBatches::new(alloc, sigfig);
+        let input = files.open(*name)?;
+        let read = sums
+            .read_log_into(alloc, index, input, &mut batches)
+            .map_err(|cause| files.log_error(cause));
+        files.print_notes(sums.notes());
+        read?;
+        print_coarser(files.rt, &sums, sigfig);
+        log_unit.add(sums.unit())?;
+        add_sums(alloc, &mut tags, sums, batches, has_one_file)?;
+    }
+    let mut sides = Vec::new(alloc);
+    for TagSamples { tag, samples } in tags {
+        sides.push(Side::new(alloc, tag, samples)?)?;
+    }
+    Ok(RunSides {
+        sides,
+        unit: log_unit.unit,
+    })
+}
+
+/// Adds the sums of a log to the samples of its run: its intervals in batches if the run has one log,
+/// and otherwise as one batch.
+pub fn add_sums(
+    alloc: Global,
+    tags: &mut Vec<TagSamples>,
+    sums: LogSums<'_>,
+    batches: LogBatches,
+    has_one_file: bool,
+) -> Result<(), StatError> {
+    let decimals = sums.decimals();
+    for (sum, batching) in sums.sums.into_iter().zip(batches.into_sums()) {
+        let TagSum { tag, histogram } = sum;
+        if histogram.is_empty() {
+            continue;
+        }
+        if has_one_file {
+            let samples = Samples::of_intervals(&histogram, batching, decimals)?;
+            tags.push(TagSamples { tag, samples })?;
+            continue;
+        }
+        let samples = samples_of_tag(alloc, tags, tag, decimals)?;
+        let (min, max) = (histogram.min(), histogram.max());
+        samples.add_run(histogram, min, max)?;
+    }
+    Ok(())
+}
+
+/// Returns the samples of a tag, which are added if they are new.
+///
+/// # Errors
+/// Returns `OtherScale` if they have other decimals.
+fn samples_of_tag<'a>(
+    alloc: Global,
+    tags: &'a mut Vec<TagSamples>,
+    tag: Option<String>,
+    decimals: u32,
+) -> Result<&'a mut Samples, StatError> {
+    let index = match tags.iter().position(|other| are_equal(&other.tag, &tag)) {
+        Some(index) => index,
+        None => {
+            let index = tags.len();
+            let samples = Samples {
+                batches: Vec::new(alloc),
+                min: u64::MAX,
+                max: 0,
+                decimals,
+                order: Order::OfTime,
+            };
+            tags.push(TagSamples { tag, samples })?;
+            index
+        }
+    };
+    match tags.get_mut(index) {
+        Some(part) if part.samples.decimals == decimals => Ok(&mut part.samples),
+        _ => Err(StatError::OtherScale),
+    }
+}
+
+/// The unit that logs have of their values.
+#[derive(Clone, Copy)]
+pub struct LogUnit {
+    pub unit: Option<Unit>,
+}
+
+impl LogUnit {
+    /// Adds the unit of a log, if one is known.
+    ///
+    /// # Errors
+    /// Returns `OtherScale` if another one is known.
+    pub fn add(&mut self, unit: Option<Unit>) -> Result<(), StatError> {
+        match (self.unit, unit) {
+            (Some(one), Some(other)) if one != other => Err(StatError::OtherScale),
+            (None, unit) => {
+                self.unit = unit;
+                Ok(())
+            }
+            _ => Ok(()),
+        }
+    }
+}
