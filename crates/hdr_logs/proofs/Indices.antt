@@ -1,5 +1,5 @@
 -- Sums, and the indices of their tags.
-use Rattle.std.proofs.Common.{⊤, ◌≡◌, ℕ, zero, suc, ◌<◌, ◌-◌, ◌^◌, Bool, true, false, cond, if◌then◌else◌, List, [], ◌∷◌, ◌++◌, Option, Some, None, unwrap_or, length, map, get_or, String, Global, refl, sym, ap, subst, ◌∙◌, arith}
+use Rattle.std.proofs.Common.{◌≡◌, ℕ, zero, suc, ◌<◌, ◌-◌, ◌^◌, Bool, true, false, cond, if◌then◌else◌, List, [], ◌∷◌, ◌++◌, Option, Some, None, unwrap_or, length, map, get_or, String, Global, refl, sym, ap, subst, ◌∙◌, arith}
 use Rattle.std.specs.Option.{option_map}
 use Rattle.std.proofs.Math.ListN.{set}
 use Rattle.std.specs.Map.{update}
@@ -145,7 +145,7 @@ passes_more takes decimals (first ∷ all) i old mid new sink between after are 
 
 -- the decimals of intervals are known, unless there are none
 abbrev pub AreKnownOf : List LogInterval → Option ℕ → Type 0
-AreKnownOf [] decimals = ⊤
+AreKnownOf [] decimals = Unit {0}
 AreKnownOf (i ∷ all) decimals = (d : ℕ) × (decimals ≡ Some d)
 
 -- the same where the first of them makes the decimals known, and the others keep them

@@ -2,7 +2,7 @@
 use Rattle.std.specs.Prelude.{⊤, ◌≡◌, ◌≢◌, ◌↔◌, ℕ, ◌+◌, ◌-◌, ◌^◌, ◌<◌, ◌≤◌, min, List, length, Option, Some, None, MatchOption}
 use Rattle.hdr_base.specs.Fractions.{Ratio}
 use Rattle.hdr_compare.specs.Intervals.{samples_of}
-use Rattle.hdr_input.specs.Bounds.{count_within, sum_error}
+use Rattle.hdr_input.specs.Bounds.{HasBound, count_within, sum_error}
 use Rattle.hdr_input.specs.Bounds as bounds
 use Rattle.hdr_input.specs.declared.bound_tally.BoundTally.{BoundTally}
 use Rattle.hdr_input.specs.declared.number.Number.{Number}
@@ -57,6 +57,11 @@ pub record IsOfNumbers (level : Level) (S : List Number) (intervals : Option Lev
   pub sure : c.check.counts.sure ≡ count_within (bound_of level.side level.number) S
   pub perhaps : c.check.counts.perhaps ≡ count_within (bound_of level.side level.number) S
   pub by_counts : IsByCounts level intervals c
+
+-- what is said of a level by the numbers of a tally
+pub record IsOfTally (tally : BoundTally) (S : List Number) (intervals : Option LevelIntervals) (level : Level) (c : LevelCheck) : Type 0 where
+  pub mean : level.measure ≡ Mean → IsOfMean level (sum_of_numbers tally (length S)) tally.tally.decimals c
+  pub others : level.measure ≢ Mean → HasBound tally (bound_of level.side level.number) → IsOfNumbers level S intervals c
 
 -- what is said of a level by samples of logs, each known by its class
 pub record IsOfClasses (level : Level) (decimals : ℕ) (L : List Known) (intervals : Option LevelIntervals) (c : LevelCheck) : Type 0 where

@@ -1,13 +1,13 @@
 //! The levels of numbers and of the tags of logs, compared with what was counted.
 
-ghost use Rattle.std.specs.Prelude.{◌≡◌, ◌≢◌, ◌≤◌, ◌<◌, ◌^◌, ℕ, List, IfOk, length};
-ghost use Rattle.std.specs.List.{All, AllZip};
+ghost use Rattle.std.specs.Prelude.{◌≡◌, ◌<◌, ◌^◌, ℕ, List, IfOk, length};
+ghost use Rattle.std.specs.List.{AllZip};
 ghost use Rattle.std.specs.Option.{option_map};
-ghost use Rattle.hdr_input.specs.Bounds.{HasBound, HasCounted};
+ghost use Rattle.hdr_input.specs.Bounds.{HasCounted};
 ghost use Rattle.hdr_input.specs.declared.number.Number.{Number};
 ghost use Rattle.hdr_summary.specs.Classes.{Known, HasClasses};
 ghost use Rattle.hdr_summary.specs.Levels.{bound_of};
-ghost use Rattle.hdr_runs.specs.LevelChecks.{IsByCounts, IsOfClasses, IsOfMean, IsOfNumbers, IsOfTag};
+ghost use Rattle.hdr_runs.specs.LevelChecks.{IsByCounts, IsOfClasses, IsOfMean, IsOfTally};
 ghost use Rattle.hdr_runs.specs.LevelChecks.{sum_of_numbers};
 
 use crate::level_check::LevelCheck;
@@ -77,13 +77,8 @@ impl LevelCheck {
         tally: &BoundTally,
         intervals: Option<&LevelIntervals>,
     ) -> Result<LevelCheck, AllocError>
-        ensures mean { IfOk result (λ c. (S : List Number) → level.now.measure ≡ Measure.Mean
-            → HasCounted tally.now S → length S < 2 ^ 64
-            → IsOfMean level.now (sum_of_numbers tally.now (length S)) tally.now.tally.decimals c) }
-        ensures others { IfOk result (λ c. (S : List Number) → level.now.measure ≢ Measure.Mean
-            → HasBound tally.now (bound_of level.now.side level.now.number)
-            → HasCounted tally.now S → length S < 2 ^ 64
-            → IsOfNumbers level.now S (option_map (λ i. i.now) intervals) c) }
+        ensures { IfOk result (λ c. (S : List Number) → HasCounted tally.now S → length S < 2 ^ 64
+            → IsOfTally tally.now S (option_map (λ i. i.now) intervals) level.now c) }
     {
         match level.measure {
             Measure::Mean => {
@@ -136,7 +131,10 @@ pub fn checks_of_numbers(
     levels: &[Level<'_>],
     tally: &BoundTally,
     intervals: Option<&LevelIntervals>,
-) -> Result<Vec<LevelCheck>, AllocError> {
+) -> Result<Vec<LevelCheck>, AllocError>
+    ensures { IfOk result (λ checks. (S : List Number) → HasCounted tally.now S → length S < 2 ^ 64
+        → AllZip (IsOfTally tally.now S (option_map (λ i. i.now) intervals)) levels.now checks.items) }
+{
     let mut checks = Vec::new(alloc);
     for level in levels {
         checks.push(LevelCheck::of_numbers(alloc, level, tally, intervals)?)?;
@@ -145,7 +143,8 @@ pub fn checks_of_numbers(
 }
 
 impl TagCounts {
-    ghost use Rattle.hdr_runs.specs.LogCounts.{HasCounted};
+    ghost use Rattle.hdr_runs.specs.LevelChecks.{IsOfTag};
+    ghost use Rattle.hdr_runs.specs.LogCounts as logs;
 
     /// Compares the levels at which the samples of the tag were counted with these. Values have
     /// `decimals`. A percentile is compared by its interval if there are intervals, and a mean by the
@@ -160,7 +159,7 @@ impl TagCounts {
         decimals: u32,
         intervals: Option<&LevelIntervals>,
     ) -> Result<Vec<LevelCheck>, AllocError>
-        ensures { IfOk result (λ checks. (L : List Known) → HasCounted levels.now decimals L self.now
+        ensures { IfOk result (λ checks. (L : List Known) → logs.HasCounted levels.now decimals L self.now
             → AllZip (IsOfTag self.now decimals L (option_map (λ i. i.now) intervals)) levels.now checks.items) }
     {
         let mut checks = Vec::new(alloc);
