@@ -1,8 +1,7 @@
 -- The texts of percentiles.
-use Rattle.std.proofs.Common.{◌≡◌, ◌≢◌, ◌⊎◌, ◌&&◌, ◌==◌, ◌||◌, ◌<◌, ℕ, Bool, true, false, zero, suc, List, [], ◌∷◌, ◌++◌, length, get_or, refl, sym, ap, subst, ◌∙◌, inl, inr, arith}
+use Rattle.std.proofs.Common.{◌≡◌, ◌≢◌, ◌⊎◌, ◌==◌, ◌||◌, ◌<◌, ℕ, Bool, true, zero, suc, List, [], ◌∷◌, ◌++◌, length, get_or, refl, sym, ap, subst, ◌∙◌, inl, inr, arith}
 use Rattle.std.specs.Char.{is_ascii_digit}
 use Rattle.std.specs.List.{list_all}
-use Rattle.std.proofs.lemmas.List.{append_cancel_right}
 use Rattle.std.proofs.lemmas.List.Folds.{list_all-append}
 use Rattle.hdr_log.specs.Parts.{is_digits}
 use Rattle.hdr_log.proofs.PartsDigits.{digits_all}
@@ -41,24 +40,33 @@ no-percent text all =
     let h = both (list_all is_part text) (list_all is_part (37 ∷ [])) (sym (list_all-append is_part text (37 ∷ [])) ∙ all) in
     absurd (cc (h.1))
 
+first-of : (b : ℕ) (l : List ℕ) (r : List ℕ) → b ∷ l ≡ 112 ∷ r → b ≡ 112
+first-of b l r e = ap (λ x. get_or x 0 0) e
+
+no-p-first : (b : ℕ) (d : List ℕ) → ArePart (b ∷ d) → b ≡ 112 → ⊥
+no-p-first b d part is = no-p d (subst (λ x. ArePart (x ∷ d)) is part)
+
+begins-otherwise : (d r : List ℕ) → ArePart d → d ++ 37 ∷ [] ≡ 112 ∷ r → ⊥
+begins-otherwise [] r part e = let h : 37 ≡ 112 = first-of 37 [] r e in absurd (omega (arith, h))
+begins-otherwise (b ∷ d) r part e = no-p-first b d part (first-of b (d ++ 37 ∷ []) r e)
+
 -- what is left of a percentile without a `p` at its start
-pub after-p : (text rest digits : List ℕ) → (rest ≡ text) ⊎ (text ≡ 112 ∷ rest) → ((r : List ℕ) → text ≡ 112 ∷ r → rest ≡ r) → ArePart digits → IsMarked text digits → (rest ≡ digits) ⊎ (rest ≡ digits ++ 37 ∷ [])
-after-p text rest digits kept stripped part marked = elim marked [
-  | inl is ↦ elim kept [
-    | inl same ↦ inl (same ∙ is)
-    | inr begins ↦ absurd (no-p rest (subst ArePart (sym is ∙ begins) part))
-  ]
-  | inr (inl is) ↦ inl (stripped digits is)
-  | inr (inr (inl is)) ↦ elim kept [
-    | inl same ↦ inr (same ∙ is)
-    | inr begins ↦ absurd (ends-with-p digits rest part (sym is ∙ begins))
-  ]
-  | inr (inr (inr is)) ↦ inr (stripped (digits ++ 37 ∷ []) is)
-]
-  where
-    ends-with-p : (d r : List ℕ) → ArePart d → d ++ 37 ∷ [] ≡ 112 ∷ r → ⊥
-    ends-with-p [] r part e = cc
-    ends-with-p (b ∷ d) r part e = no-p d (subst (λ x. ArePart (x ∷ d)) (cc) part)
+abbrev IsLeft : (rest digits : List ℕ) → Type 0
+IsLeft rest digits = (rest ≡ digits) ⊎ (rest ≡ digits ++ 37 ∷ [])
+
+of-digits : (text rest digits : List ℕ) → (rest ≡ text) ⊎ (text ≡ 112 ∷ rest) → ArePart digits → text ≡ digits → IsLeft rest digits
+of-digits text rest digits (inl same) part is = inl (same ∙ is)
+of-digits text rest digits (inr begins) part is = absurd (no-p rest (subst ArePart (sym is ∙ begins) part))
+
+of-percent : (text rest digits : List ℕ) → (rest ≡ text) ⊎ (text ≡ 112 ∷ rest) → ArePart digits → text ≡ digits ++ 37 ∷ [] → IsLeft rest digits
+of-percent text rest digits (inl same) part is = inr (same ∙ is)
+of-percent text rest digits (inr begins) part is = absurd (begins-otherwise digits rest part (sym is ∙ begins))
+
+pub after-p : (text rest digits : List ℕ) → (rest ≡ text) ⊎ (text ≡ 112 ∷ rest) → ((r : List ℕ) → text ≡ 112 ∷ r → rest ≡ r) → ArePart digits → IsMarked text digits → IsLeft rest digits
+after-p text rest digits kept stripped part (inl is) = of-digits text rest digits kept part is
+after-p text rest digits kept stripped part (inr (inl is)) = inl (stripped digits is)
+after-p text rest digits kept stripped part (inr (inr (inl is))) = of-percent text rest digits kept part is
+after-p text rest digits kept stripped part (inr (inr (inr is))) = inr (stripped (digits ++ 37 ∷ []) is)
 
 -- and then without a `%` at its end
 pub before-percent : (text start digits : List ℕ) → (start ≡ text) ⊎ (text ≡ start ++ 37 ∷ []) → ((s : List ℕ) → text ≡ s ++ 37 ∷ [] → start ≡ s) → ArePart digits → (text ≡ digits) ⊎ (text ≡ digits ++ 37 ∷ []) → start ≡ digits

@@ -1,4 +1,4 @@
-use Rattle.std.proofs.Common.{◌≡◌, ◌++◌, ◌∷◌, List, ℕ, Some, None, lit<, sym, subst, ap, ◌∙◌, true, inl, inr}
+use Rattle.std.proofs.Common.{◌≡◌, Some, None, lit<, sym, subst, ◌∙◌, true, inl, inr}
 use Rattle.std.specs.Char.{is_ascii_digit}
 use Rattle.std.specs.List.{list_all}
 use Rattle.std.proofs.lemmas.Str.Pattern.{split_after, split_parts}
