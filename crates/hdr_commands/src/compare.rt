@@ -6,14 +6,16 @@ ghost use Rattle.hdr_commands.specs.Comparisons.{is_broken, is_few, status_of_li
 
 use crate::options::arguments::{FIGURES, OUTPUT, help, option, quiet, with_reading};
 use crate::options::forms::{conditions_of, groups_by};
-use crate::options::matches::reading_of;
+use crate::options::matches::{reading_of, unit_of};
 use crate::summary::{percentiles_of, percentiles_option, require_intervals};
 use clap::{Arg, ArgAction, ArgMatches, Command, Error};
 use hdr_files::{Files, LogUnit, Reading, RunSides, StatError, print, print_error_line, read_run};
 use hdr_runs::{
     Limit, LimitVerdict, NamedRun, Report, ReportFormat, ReportLayout, Side, parse_limit,
 };
+use hdr_summary::decimals::Conversion;
 use hdr_summary::percentile::Percentile;
+use hdr_summary::units::Unit;
 use std::alloc::Global;
 use std::process::ExitCode;
 
@@ -84,6 +86,8 @@ struct Runs<'n> {
     after: Vec<NamedRun<'n>>,
     /// Whether those before and those after are several runs of each side.
     has_several: bool,
+    /// The unit that logs have of their values.
+    unit: Option<Unit>,
 }
 
 /// Compares the runs of files.
@@ -101,6 +105,10 @@ pub fn run(rt: &HostRuntime, matches: &ArgMatches<'_>) -> Result<ExitCode, StatE
         percentiles: &percentiles,
         has_tags: matches.get_flag("by-tag") || matches.get_str("by").is_some(),
         has_runs: runs.after.len() > 1,
+        conversion: match (runs.unit, unit_of(matches)) {
+            (Some(from), Some(to)) => Conversion::new(from, to),
+            _ => Conversion::NONE,
+        },
     };
     let verdicts = print_report(rt, &runs, &limits, &layout)?;
     Ok(ExitCode::from(status_of(&verdicts)))
@@ -197,6 +205,7 @@ fn read_sides<'n>(
         before,
         after,
         has_several: true,
+        unit: reader.unit.unit,
     })
 }
 
@@ -224,6 +233,7 @@ fn read_each<'n>(
         before,
         after: runs,
         has_several: false,
+        unit: reader.unit.unit,
     })
 }
 

@@ -9,6 +9,7 @@ mod separated;
 mod table;
 
 use crate::report::Report;
+use hdr_summary::decimals::Conversion;
 use hdr_summary::percentile::Percentile;
 pub use limits::LimitLine;
 use std::alloc::{AllocError, Global};
@@ -51,6 +52,8 @@ pub struct ReportLayout<'a> {
     /// Whether each line has its tag, and the name of its run.
     pub has_tags: bool,
     pub has_runs: bool,
+    /// How values are converted to be printed.
+    pub conversion: Conversion,
 }
 
 impl Report<'_> {

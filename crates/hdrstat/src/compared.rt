@@ -4,6 +4,7 @@ use hdr_files::{Files, StatError, TagSamples, add_sums};
 use hdr_logs::{LogIntervals, LogSums};
 use hdr_page::{Comparison, TagSide};
 use hdr_runs::{LogBatches, NamedRun, Report, ReportFormat, ReportLayout, Side};
+use hdr_summary::decimals::Conversion;
 use hdr_summary::percentile::Percentile;
 use hdrhistogram::serialization::interval_log::{IntervalChoice, TagChoice};
 use std::alloc::Global;
@@ -134,6 +135,7 @@ fn comparison_of(
         percentiles,
         has_tags,
         has_runs: false,
+        conversion: Conversion::NONE,
     };
     let report = Report::new(alloc, before, runs, percentiles)?;
     Ok(Comparison {

@@ -6,7 +6,7 @@ use crate::report::{Compared, Pair, Report};
 use crate::side::Side;
 use crate::texts::ReportLayout;
 use hdr_compare::{Tier, Verdict};
-use hdr_summary::decimals::decimal;
+use hdr_summary::decimals::{Conversion, decimal};
 use hdr_summary::percentile::Percentile;
 use hdrhistogram::Quantile;
 use std::alloc::{AllocError, Global};
@@ -64,7 +64,12 @@ pub(crate) fn lines_of<'a>(
     for pair in &report.pairs {
         lines.push(count_line(alloc, pair)?)?;
         for (compared, percentile) in pair.percentiles.iter().zip(layout.percentiles) {
-            lines.push(percentile_line(alloc, pair, compared, percentile, report.tier)?)?;
+            let figure = Figure {
+                percentile,
+                tier: report.tier,
+                scale: (layout.conversion, pair.decimals),
+            };
+            lines.push(percentile_line(alloc, pair, compared, figure)?)?;
         }
     }
     Ok(lines)
@@ -99,14 +104,27 @@ fn count_of(alloc: Global, side: Option<&Side>) -> Result<Texts, AllocError> {
     })
 }
 
+/// A percentile of a line, the confidence of its interval, how its values are converted to be
+/// printed, and their decimals.
+#[derive(Clone, Copy)]
+struct Figure<'a> {
+    percentile: &'a Percentile<'a>,
+    tier: Tier,
+    scale: (Conversion, u32),
+}
+
 /// Returns the line of a percentile.
 fn percentile_line<'a>(
     alloc: Global,
     pair: &Pair<'a>,
     compared: &Compared,
-    percentile: &Percentile<'_>,
-    tier: Tier,
+    figure: Figure<'_>,
 ) -> Result<Line<'a>, AllocError> {
+    let Figure {
+        percentile,
+        tier,
+        scale,
+    } = figure;
     let digits = percentile.digits;
     let (verdict, needed) = match &compared.change {
         Some(change) => verdict_of(change, percentile.quantile, tier),
@@ -116,8 +134,8 @@ fn percentile_line<'a>(
         tag: pair.tag,
         run: pair.run,
         figure: format!(in alloc; "p{digits}")?,
-        before: point_texts(alloc, &compared.before, pair.decimals)?,
-        after: point_texts(alloc, &compared.after, pair.decimals)?,
+        before: point_texts(alloc, &compared.before, scale)?,
+        after: point_texts(alloc, &compared.after, scale)?,
         change: change_texts(alloc, &compared.change)?,
         verdict,
         needed,
@@ -152,25 +170,30 @@ fn verdict_of(change: &Change, quantile: Quantile, tier: Tier) -> (&'static str,
 }
 
 /// Returns the texts of a percentile and its interval.
-fn point_texts(alloc: Global, point: &Option<Point>, decimals: u32) -> Result<Texts, AllocError> {
+fn point_texts(
+    alloc: Global,
+    point: &Option<Point>,
+    scale: (Conversion, u32),
+) -> Result<Texts, AllocError> {
     let Some(point) = point else {
         return Ok(Texts::none());
     };
     Ok(Texts {
-        value: value_text(alloc, Some(point.measured.value), decimals)?,
-        low: value_text(alloc, point.measured.low, decimals)?,
-        high: value_text(alloc, point.measured.high, decimals)?,
+        value: value_text(alloc, Some(point.measured.value), scale)?,
+        low: value_text(alloc, point.measured.low, scale)?,
+        high: value_text(alloc, point.measured.high, scale)?,
     })
 }
 
-/// Returns a value as a decimal, if there is one.
+/// Returns a value as a converted decimal, if there is one.
 fn value_text(
     alloc: Global,
     value: Option<u64>,
-    decimals: u32,
+    scale: (Conversion, u32),
 ) -> Result<Option<String>, AllocError> {
+    let (conversion, decimals) = scale;
     match value {
-        Some(value) => Ok(Some(decimal(alloc, u128::from(value), decimals)?)),
+        Some(value) => Ok(Some(conversion.decimal(alloc, u128::from(value), decimals)?)),
         None => Ok(None),
     }
 }
