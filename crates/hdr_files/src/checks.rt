@@ -1,8 +1,5 @@
 //! Numbers and logs of the arguments, compared with levels.
 
-ghost use Rattle.std.specs.Prelude.{◌≡◌, ◌↔◌, IsTrue};
-ghost use Rattle.std.specs.List.{All};
-
 use crate::errors::StatError;
 use crate::files::{Files, or_standard_input};
 use crate::logs::{parts_of, print_coarser};
@@ -45,10 +42,12 @@ pub struct Checked {
 }
 
 impl Checked {
+    ghost use Rattle.std.specs.Prelude.{◌↔◌, IsTrue};
+    ghost use Rattle.hdr_files.specs.Checks.{IsWithoutSamples};
+
     /// Whether nothing was recorded.
     pub fn is_empty(&self) -> bool
-        ensures { IsTrue result
-            ↔ All (λ part. part.distribution.histogram.total ≡ 0) self.now.parts.items }
+        ensures { IsTrue result ↔ IsWithoutSamples self.now }
     {
         self.parts
             .iter()
