@@ -9,7 +9,9 @@ use crate::options::forms::{conditions_of, groups_by};
 use crate::options::matches::{reading_of, unit_of};
 use crate::summary::{percentiles_of, percentiles_option, require_intervals};
 use clap::{Arg, ArgAction, ArgMatches, Command, Error};
-use hdr_files::{Files, LogUnit, Reading, RunSides, StatError, print, print_error_line, read_run};
+use hdr_files::{
+    FEWEST_RUNS, Files, LogUnit, Reading, RunSides, StatError, print, print_error_line, read_run,
+};
 use hdr_runs::{
     Limit, LimitVerdict, NamedRun, Report, ReportFormat, ReportLayout, Side, parse_limit,
 };
@@ -70,9 +72,6 @@ pub fn command<'a>(alloc: Global) -> Result<Command<'a>, Error> {
     Ok(command)
 }
 
-/// The fewest runs of a side of several.
-const FEWEST_RUNS: usize = 4;
-
 /// The status if a limit is broken.
 const BROKEN: u8 = 3;
 
@@ -114,7 +113,8 @@ pub fn run(rt: &HostRuntime, matches: &ArgMatches<'_>) -> Result<ExitCode, StatE
     Ok(ExitCode::from(status_of(&verdicts)))
 }
 
-/// Prints what changed, and returns the verdicts of limits.
+/// Prints what changed, and returns the verdicts of limits. Without samples of any run there are too
+/// few for each.
 fn print_report(
     rt: &HostRuntime,
     runs: &Runs<'_>,
@@ -131,14 +131,26 @@ fn print_report(
     let mut verdicts = Vec::new(alloc);
     for line in report.limit_lines(alloc, limits, layout)? {
         verdicts.push(line.verdict)?;
-        if layout.format.has_footer() {
-            print(rt, line.text.as_bytes())?;
-            print(rt, b"\n")?;
-        } else {
-            print_error_line(rt, line.text.as_str());
+        print_limit(rt, layout, line.text.as_str())?;
+    }
+    if verdicts.is_empty() {
+        for limit in limits {
+            let text = limit.text;
+            verdicts.push(LimitVerdict::Few)?;
+            print_limit(rt, layout, format!(in alloc; "few {text}")?.as_str())?;
         }
     }
     Ok(verdicts)
+}
+
+/// Prints the line of a limit, on standard error if the output is for programs.
+fn print_limit(rt: &HostRuntime, layout: &ReportLayout<'_>, line: &str) -> Result<(), StatError> {
+    if !layout.format.has_footer() {
+        print_error_line(rt, line);
+        return Ok(());
+    }
+    print(rt, line.as_bytes())?;
+    print(rt, b"\n")
 }
 
 /// Reads runs, whose logs have one unit of their values.

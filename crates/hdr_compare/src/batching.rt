@@ -65,18 +65,19 @@ impl Batching {
     }
 
     /// Records all samples of a histogram, as those of an interval of time: batches then have the
-    /// same number of intervals. After an error the samples are lost.
+    /// same number of intervals with samples. After an error the samples are lost.
     pub fn add(&mut self, histogram: &Histogram<u64>) -> Result<(), BatchError>
         ensures digits { digits_of self.new ≡ digits_of self.old }
         ensures samples { OnOk result ((S T : List ℕ) → StandsFor histogram.now T
             → IsFiner (resolution histogram.now) (resolution_of 1 (digits_of self.old))
             → length (S ++ T) < 2 ^ 64 → HasRecorded S self.old → HasRecorded (S ++ T) self.new) }
     {
-        if self.filled >= self.size {
+        let intervals = u64::from(!histogram.is_empty());
+        if self.filled.saturating_add(intervals) > self.size {
             self.begin()?;
         }
         self.add_to_last(histogram)?;
-        self.filled = self.filled.saturating_add(1);
+        self.filled = self.filled.saturating_add(intervals);
         Ok(())
     }
 

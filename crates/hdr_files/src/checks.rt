@@ -191,11 +191,7 @@ fn part_of_tally(
 }
 
 /// Returns samples by which percentiles have intervals.
-fn intervals_of(
-    alloc: Global,
-    samples: Samples,
-    tier: Tier,
-) -> Result<LevelIntervals, StatError> {
+fn intervals_of(alloc: Global, samples: Samples, tier: Tier) -> Result<LevelIntervals, StatError> {
     Ok(LevelIntervals {
         side: Side::new(alloc, None, samples)?,
         tier,

@@ -4,6 +4,7 @@ use crate::errors::StatError;
 use crate::files::{Files, or_standard_input};
 use crate::logs::print_coarser;
 use crate::numbers::{Form, require_most_lines, tag_of_group};
+use crate::output::print_error_line;
 use crate::reading::Reading;
 use crate::surveyed::NumberFiles;
 use hdr_input::groups::{GroupMaker, GroupParts, Groups};
@@ -68,13 +69,54 @@ fn read_number_run(
     numbers.print_notes(run.skipped, run.rounded);
     require_most_lines(run.numbers, run.skipped)?;
     let has_one_file = files.names.len() <= 1;
-    let mut sides = Vec::new(alloc);
+    let mut tags = Vec::new(alloc);
     for TagTallies { tag, tallies } in run.tags {
         if let Some(samples) = samples_of(alloc, tallies, has_one_file)? {
+            tags.push(TagSamples { tag, samples })?;
+        }
+    }
+    sides_of(files, tags)
+}
+
+/// The fewest runs of a side of several whose samples can be compared.
+pub const FEWEST_RUNS: usize = 4;
+
+/// Returns the sides of tags. Of several files, a tag that has samples in fewer than four is left
+/// out, and a line on standard error says so.
+fn sides_of(files: Files<'_, '_, '_>, tags: Vec<TagSamples>) -> Result<Vec<Side>, StatError> {
+    let alloc = files.alloc();
+    let has_one_file = files.names.len() <= 1;
+    let mut sides = Vec::new(alloc);
+    for TagSamples { tag, samples } in tags {
+        let runs = samples.batches.len();
+        if has_one_file || runs >= FEWEST_RUNS {
             sides.push(Side::new(alloc, tag, samples)?)?;
+        } else {
+            print_few_runs(files, &tag, runs)?;
         }
     }
     Ok(sides)
+}
+
+/// Prints on standard error that a tag has samples in a few runs alone.
+fn print_few_runs(
+    files: Files<'_, '_, '_>,
+    tag: &Option<String>,
+    runs: usize,
+) -> Result<(), StatError> {
+    let all = files.names.len();
+    let mut line = String::new(files.alloc());
+    line.push_str("hdrstat: ")?;
+    if let Some(tag) = tag {
+        line.push_str(tag.as_str())?;
+        line.push_str(": ")?;
+    }
+    write!(
+        line,
+        "{runs} of {all} runs have samples, and fewer than 4 are not compared"
+    )?;
+    print_error_line(files.rt, line.as_str());
+    Ok(())
 }
 
 /// Returns the numbers of the files of a run as they are recorded now.
@@ -222,12 +264,8 @@ fn read_log_run(
         log_unit.add(sums.unit())?;
         add_sums(alloc, &mut tags, sums, batches, has_one_file)?;
     }
-    let mut sides = Vec::new(alloc);
-    for TagSamples { tag, samples } in tags {
-        sides.push(Side::new(alloc, tag, samples)?)?;
-    }
     Ok(RunSides {
-        sides,
+        sides: sides_of(files, tags)?,
         unit: log_unit.unit,
     })
 }

@@ -190,15 +190,15 @@ pub fn print_log_as_read(
     log.print(alloc, &slices)
 }
 
-/// Prints on standard error how many numbers came after their intervals were printed.
+/// Prints on standard error how many numbers came after their intervals had ended.
 fn print_late(rt: &HostRuntime, late: u64) {
     let _ = match late {
         0 => return,
         1 => eprintln!(rt;
-            "hdrstat: 1 number came after its interval was printed; gather --unsorted merges both"
+            "hdrstat: 1 number came after its interval had ended; gather --unsorted puts it in its place"
         ),
         _ => eprintln!(rt;
-            "hdrstat: {late} numbers came after their intervals were printed; gather --unsorted merges these"
+            "hdrstat: {late} numbers came after their intervals had ended; gather --unsorted puts them in place"
         ),
     };
 }

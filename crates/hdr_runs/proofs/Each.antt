@@ -52,3 +52,10 @@ refilled n new rest many = take-append-le n new rest (omega arith) ∙ take_all 
 -- one more of each of two lists, of the first up to an index
 pub zip-more : {X Y : Type 0} (R : X → Y → Type 0) (xs : List X) (ys : List Y) (i : ℕ) (x : X) (y : Y) → i < length xs → x ≡ get_or xs i x → AllZip R (take i xs) ys → R x y → AllZip R (take (i + 1) xs) (ys ++ y ∷ [])
 zip-more R xs ys i x y inside is all one = subst (λ l. AllZip R l (ys ++ y ∷ [])) (ap (λ z. take i xs ++ z ∷ []) is ∙ sym (take_more xs i x inside)) (zip-push R (take i xs) ys x y all one)
+
+-- what is at one index of two lists
+pub zip-at : {X Y : Type 0} (R : X → Y → Type 0) (xs : List X) (ys : List Y) (i : ℕ) (x : X) (y : Y) → AllZip R xs ys → i < length xs → x ≡ get_or xs i x → y ≡ get_or ys i y → R x y
+zip-at R [] ys i x y all inside is at = absurd (omega (arith, inside))
+zip-at R (a ∷ xs) [] i x y all inside is at = absurd all
+zip-at R (a ∷ xs) (b ∷ ys) zero x y all inside is at = subst (λ u. R u y) (sym is) (subst (R a) (sym at) all.0)
+zip-at R (a ∷ xs) (b ∷ ys) (suc i) x y all inside is at = zip-at R xs ys i x y all.1 (omega (arith, inside)) is at

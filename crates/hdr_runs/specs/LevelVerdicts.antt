@@ -9,7 +9,7 @@ use Rattle.hdr_input.specs.Bounds.{IsMost}
 use Rattle.hdr_summary.specs.Levels.{bound_of, is_upper}
 use Rattle.hdr_summary.specs.declared.levels.Level.{Level}
 use Rattle.hdr_summary.specs.declared.levels.Measure.{Measure}
-use Rattle.hdr_summary.specs.declared.levels.Measure.TheVariants.{Count, Min, Max, Mean, Quantile}
+use Rattle.hdr_summary.specs.declared.levels.Measure.TheVariants.{Quantile}
 use Rattle.hdr_summary.specs.declared.verdicts.LevelCounts.{LevelCounts}
 use Rattle.hdr_summary.specs.declared.verdicts.Verdict.{Verdict}
 use Rattle.hdr_summary.specs.declared.verdicts.Verdict.TheVariants.{Kept, Broken, Undecided, Few}

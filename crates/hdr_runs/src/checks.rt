@@ -39,7 +39,7 @@ impl LevelCheck {
         intervals: Option<&LevelIntervals>,
     ) -> Result<LevelCheck, AllocError>
         ensures counts { IfOk result (λ c. c.check.counts ≡ counts) }
-        ensures said { IfOk result (IsByCounts level.now (option_map (λ i. i.now) intervals)) }
+        ensures said { IfOk result (IsByCounts level.now (option_map (λ i. i.now) intervals.entry)) }
     {
         let (verdict, tier) = match (&level.measure, intervals) {
             (Measure::Quantile(_), Some(LevelIntervals { side, tier })) => (
@@ -78,7 +78,7 @@ impl LevelCheck {
         intervals: Option<&LevelIntervals>,
     ) -> Result<LevelCheck, AllocError>
         ensures { IfOk result (λ c. (S : List Number) → HasCounted tally.now S → length S < 2 ^ 64
-            → IsOfTally tally.now S (option_map (λ i. i.now) intervals) level.now c) }
+            → IsOfTally tally.now S (option_map (λ i. i.now) intervals.entry) level.now c) }
     {
         match level.measure {
             Measure::Mean => {
@@ -103,7 +103,7 @@ impl LevelCheck {
     ) -> Result<LevelCheck, AllocError>
         ensures { IfOk result (λ c. (decimals : ℕ) (L : List Known)
             → HasClasses counts.now (bound_of level.now.side level.now.number) decimals L
-            → IsOfClasses level.now decimals L (option_map (λ i. i.now) intervals) c) }
+            → IsOfClasses level.now decimals L (option_map (λ i. i.now) intervals.entry) c) }
     {
         LevelCheck::by_counts(alloc, level, counts.counts(), intervals)
     }
@@ -133,7 +133,7 @@ pub fn checks_of_numbers(
     intervals: Option<&LevelIntervals>,
 ) -> Result<Vec<LevelCheck>, AllocError>
     ensures { IfOk result (λ checks. (S : List Number) → HasCounted tally.now S → length S < 2 ^ 64
-        → AllZip (IsOfTally tally.now S (option_map (λ i. i.now) intervals)) levels.now checks.items) }
+        → AllZip (IsOfTally tally.now S (option_map (λ i. i.now) intervals.entry)) levels.now checks.items) }
 {
     let mut checks = Vec::new(alloc);
     for level in levels {
@@ -145,6 +145,25 @@ pub fn checks_of_numbers(
 impl TagCounts {
     ghost use Rattle.hdr_runs.specs.LevelChecks.{IsOfTag};
     ghost use Rattle.hdr_runs.specs.LogCounts as logs;
+
+    /// Compares a level with the samples of the tag, which were counted at its bound.
+    fn check(
+        &self,
+        alloc: Global,
+        level: &Level<'_>,
+        counts: &ClassCounts,
+        decimals: u32,
+        intervals: Option<&LevelIntervals>,
+    ) -> Result<LevelCheck, AllocError>
+        ensures { IfOk result (λ c. (L : List Known)
+            → HasClasses counts.now (bound_of level.now.side level.now.number) decimals L
+            → IsOfTag self.now decimals L (option_map (λ i. i.now) intervals.entry) level.now c) }
+    {
+        match level.measure {
+            Measure::Mean => Ok(LevelCheck::of_mean(level, &self.sum(), decimals)),
+            _ => LevelCheck::of_classes(alloc, level, counts, intervals),
+        }
+    }
 
     /// Compares the levels at which the samples of the tag were counted with these. Values have
     /// `decimals`. A percentile is compared by its interval if there are intervals, and a mean by the
@@ -160,14 +179,14 @@ impl TagCounts {
         intervals: Option<&LevelIntervals>,
     ) -> Result<Vec<LevelCheck>, AllocError>
         ensures { IfOk result (λ checks. (L : List Known) → logs.HasCounted levels.now decimals L self.now
-            → AllZip (IsOfTag self.now decimals L (option_map (λ i. i.now) intervals)) levels.now checks.items) }
+            → AllZip (IsOfTag self.now decimals L (option_map (λ i. i.now) intervals.entry)) levels.now checks.items) }
     {
         let mut checks = Vec::new(alloc);
-        for (level, counts) in levels.iter().zip(self.counts()) {
-            let check = match level.measure {
-                Measure::Mean => LevelCheck::of_mean(level, &self.sum(), decimals),
-                _ => LevelCheck::of_classes(alloc, level, counts, intervals)?,
+        for (index, level) in levels.iter().enumerate() {
+            let Some(counts) = self.counts().get(index) else {
+                return Ok(checks);
             };
+            let check = self.check(alloc, level, counts, decimals, intervals)?;
             checks.push(check)?;
         }
         Ok(checks)
