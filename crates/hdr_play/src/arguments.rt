@@ -3,6 +3,12 @@
 use crate::outcome::LineError;
 use hdr_base::{Counter, Quantile};
 
+/// The name of a call, and the text of its arguments.
+pub type TextCall<'a> = (&'a str, &'a str);
+
+/// The name of a call, and its numbers.
+pub type NumberCall<'a> = (&'a str, &'a [u64]);
+
 /// Splits `text` at its first space.
 pub fn split_at_space(text: &str) -> (&str, &str) {
     text.split_once(' ').unwrap_or((text, ""))
@@ -21,10 +27,7 @@ impl Numbers {
         let mut count: usize = 0;
         if !text.is_empty() {
             for argument in text.split(' ') {
-                let Some(slot) = list.get_mut(count) else {
-                    return Err(LineError::UnknownCall);
-                };
-                *slot = parse_u64(argument)?;
+                *list.get_mut(count).ok_or(LineError::UnknownCall)? = parse_u64(argument)?;
                 count = count.saturating_add(1);
             }
         }
@@ -43,10 +46,7 @@ pub fn parse_u64(argument: &str) -> Result<u64, LineError> {
 
 /// Returns the value, or an error if the argument has none.
 pub fn ok_or_invalid<V: Drop>(value: Option<V>) -> Result<V, LineError> {
-    match value {
-        Some(value) => Ok(value),
-        None => Err(LineError::InvalidArgument),
-    }
+    value.ok_or(LineError::InvalidArgument)
 }
 
 /// Converts a number to a counter.

@@ -1,6 +1,6 @@
 //! V2 bytes and their parts, in hexadecimal.
 
-use crate::arguments::{ok_or_invalid, parse_u64};
+use crate::arguments::{TextCall, ok_or_invalid, parse_u64};
 use crate::items::numbers_text;
 use crate::outcome::{LineError, Outcome, Value, ensure_same, optional_number};
 use crate::single::{is_same, replace};
@@ -67,61 +67,39 @@ fn payload<T: Counter>(alloc: Global, h: &Histogram<T>) -> Outcome {
 }
 
 /// A decoded histogram, and the number of bytes consumed.
-#[derive(Drop)]
-struct Decoded<T: Counter> {
-    histogram: Histogram<T>,
-    consumed: usize,
-}
-
-/// Decodes a histogram from a slice.
-fn decode_slice<T: Counter>(alloc: Global, bytes: &[u8]) -> Result<Decoded<T>, DeserializeError> {
-    let (histogram, consumed) = Deserializer::new(alloc).decode_slice(bytes)?;
-    Ok(Decoded {
-        histogram,
-        consumed,
-    })
-}
+type Decoded<T> = (Histogram<T>, usize);
 
 /// Decodes a histogram from a reader that returns one byte a call.
 fn decode_reader<T: Counter>(alloc: Global, bytes: &[u8]) -> Result<Decoded<T>, DeserializeError> {
     let mut reader = OneByteReader(bytes);
     let histogram = Deserializer::new(alloc).deserialize(&mut reader)?;
-    let consumed = bytes.len().saturating_sub(reader.0.len());
-    Ok(Decoded {
-        histogram,
-        consumed,
-    })
+    Ok((histogram, bytes.len().saturating_sub(reader.0.len())))
 }
 
 /// Whether two results of decoding are the same.
 fn is_same_decoded<T: Counter>(one: &Decoded<T>, other: &Decoded<T>) -> bool {
-    one.consumed == other.consumed
-        && one.histogram == other.histogram
-        && is_same(&one.histogram, &other.histogram)
+    one.1 == other.1 && one.0 == other.0 && is_same(&one.0, &other.0)
 }
 
-/// Whether two errors have the same message.
-fn is_same_message(
+/// Whether two results of decoding are the same, or two errors with the same message.
+fn is_same_result<T: Counter>(
     alloc: Global,
-    one: &DeserializeError,
-    other: &DeserializeError,
+    one: &Result<Decoded<T>, DeserializeError>,
+    other: &Result<Decoded<T>, DeserializeError>,
 ) -> Result<bool, AllocError> {
-    Ok(one.to_string(alloc)?.as_str() == other.to_string(alloc)?.as_str())
+    Ok(match (one, other) {
+        (Ok(one), Ok(other)) => is_same_decoded(one, other),
+        (Err(one), Err(other)) => one.to_string(alloc)?.as_str()
+            == other.to_string(alloc)?.as_str(),
+        _ => false,
+    })
 }
 
 /// Decodes a histogram from a slice and from a reader, whose results have to be the same.
 fn decode<T: Counter>(alloc: Global, h: &mut Histogram<T>, bytes: &[u8]) -> Outcome {
-    let (sliced, read) = (decode_slice(alloc, bytes), decode_reader(alloc, bytes));
-    let is_equal = match (&sliced, &read) {
-        (Ok(sliced), Ok(read)) => is_same_decoded(sliced, read),
-        (Err(sliced), Err(read)) => is_same_message(alloc, sliced, read)?,
-        _ => false,
-    };
-    ensure_same(is_equal)?;
-    let Decoded {
-        histogram,
-        consumed,
-    } = sliced?;
+    let sliced = Deserializer::new(alloc).decode_slice(bytes);
+    ensure_same(is_same_result(alloc, &sliced, &decode_reader(alloc, bytes))?)?;
+    let (histogram, consumed) = sliced?;
     drop(mem::replace(h, histogram));
     Ok(Value::Number(consumed as u64))
 }
@@ -145,8 +123,7 @@ fn classes_of_field(alloc: Global, text: &str) -> Outcome {
     Deserializer::new(alloc).decode_classes(text, &mut classes)?;
     let mut numbers = Vec::new(alloc);
     for class in &classes {
-        numbers.push(class.value).map_err(AllocError::from)?;
-        numbers.push(class.count).map_err(AllocError::from)?;
+        numbers.extend_from_slice(&[class.value, class.count])?;
     }
     numbers_text(alloc, numbers)
 }
@@ -155,17 +132,16 @@ fn classes_of_field(alloc: Global, text: &str) -> Outcome {
 pub fn call_histogram<T: Counter>(
     alloc: Global,
     h: &mut Histogram<T>,
-    name: &str,
-    text: &str,
+    call: TextCall<'_>,
 ) -> Outcome {
-    match (name, text) {
+    match call {
         ("to_bytes", "") => to_bytes(alloc, h),
         ("encode_counts", "") => payload(alloc, h),
-        ("decode", _) => decode_with_trailing(alloc, h, text),
-        ("decode_alone", _) => decode(alloc, h, parse_hex(alloc, text)?.as_slice()),
-        ("decode_field", _) => replace(h, Deserializer::new(alloc).decode_field(text)?),
-        ("decode_field_into", _) => decode_field_into(alloc, h, text),
-        ("decode_classes", _) => classes_of_field(alloc, text),
+        ("decode", text) => decode_with_trailing(alloc, h, text),
+        ("decode_alone", text) => decode(alloc, h, &parse_hex(alloc, text)?),
+        ("decode_field", text) => replace(h, Deserializer::new(alloc).decode_field(text)?),
+        ("decode_field_into", text) => decode_field_into(alloc, h, text),
+        ("decode_classes", text) => classes_of_field(alloc, text),
         _ => Err(LineError::UnknownCall),
     }
 }
@@ -189,7 +165,7 @@ fn decode_varint(bytes: &[u8]) -> Option<u64> {
     let mut truncated = OneByteReader(bytes.get(..bytes.len().checked_sub(1)?)?);
     let fails = varint_read(&mut truncated).is_err();
     let is_expected = read == n && len == bytes.len() && reader.0.len() == 12 - len && fails;
-    if is_expected { Some(n) } else { None }
+    is_expected.then_some(n)
 }
 
 /// Returns the zig-zag encoding of an integer, which has to decode to it.
@@ -199,16 +175,18 @@ fn zig_zag(n: i64) -> Outcome {
     Ok(Value::Number(encoded))
 }
 
+/// Returns the length of a buffer that is long enough for the payload of this number of bins.
+fn room(bins: u64) -> Option<u64> {
+    Some(counts_array_max_encoded_size(bins as usize)? as u64)
+}
+
 /// Makes a call on bytes and numbers.
-pub fn call(alloc: Global, name: &str, text: &str) -> Outcome {
-    match name {
-        "varint" => encode_varint(alloc, parse_u64(text)?),
-        "varint_read" => Ok(optional_number(decode_varint(parse_hex(alloc, text)?.as_slice()))),
-        "zig_zag" => zig_zag(ok_or_invalid(text.parse::<i64>().ok())?),
-        "room" => match counts_array_max_encoded_size(parse_u64(text)? as usize) {
-            Some(bytes) => Ok(Value::Number(bytes as u64)),
-            None => Ok(Value::None),
-        },
+pub fn call(alloc: Global, call: TextCall<'_>) -> Outcome {
+    match call {
+        ("varint", text) => encode_varint(alloc, parse_u64(text)?),
+        ("varint_read", text) => Ok(optional_number(decode_varint(&parse_hex(alloc, text)?))),
+        ("zig_zag", text) => zig_zag(ok_or_invalid(text.parse::<i64>().ok())?),
+        ("room", text) => Ok(optional_number(room(parse_u64(text)?))),
         _ => Err(LineError::UnknownCall),
     }
 }

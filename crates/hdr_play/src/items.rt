@@ -1,45 +1,37 @@
 //! Statistics and items of iterators, as text.
 
-use crate::arguments::{ok_or_invalid, parse_u64};
+use crate::arguments::{NumberCall, ok_or_invalid, parse_u64, to_quantile};
 use crate::outcome::{LineError, Outcome, Value, ensure_same};
 use hdr_base::{Counter, Fraction, IterationValue, Quantile};
 use hdr_core::Histogram;
 use std::alloc::{AllocError, Global};
 
 /// The number of items that are printed of a list.
-const MAX_ITEMS: u64 = 16;
+const MAX_ITEMS: usize = 16;
 
-/// Appends the numbers of an item: its value, its counter, the samples since the item before, its quantile, and the
-/// quantile iterated to.
+/// Appends the numbers of an item, after a comma if it is not the first: its value, its counter,
+/// the samples since the item before, its quantile, and the quantile iterated to.
 fn push_item<T: Counter>(output: &mut String, item: &IterationValue<T>) -> Result<(), AllocError> {
     let (value, since) = (item.value_iterated_to(), item.count_since_last_iteration());
     let (quantile, tick) = (item.quantile(), item.quantile_iterated_to());
+    let count = item.count_at_value().as_u64();
+    let separator = if output.is_empty() { "" } else { ", " };
     write!(
         output,
-        "{value} {} {since} ",
-        item.count_at_value().as_u64()
-    )?;
-    write!(
-        output,
-        "{}/{} {}/{}",
-        quantile.num, quantile.den, tick.num, tick.den
+        "{separator}{value} {count} {since} {quantile} {tick}"
     )
 }
 
 /// Whether the percentile of an item is 100 times its quantile, and `new` of its parts returns an equal item.
 fn is_consistent<T: Counter>(item: &IterationValue<T>) -> bool {
-    let (quantile, tick) = (item.quantile(), item.quantile_iterated_to());
-    let percentile = item.percentile();
+    let (quantile, percentile) = (item.quantile(), item.percentile());
     let Ok(num) = u64::try_from(quantile.num) else {
         return false;
     };
     let copy = IterationValue::new(
         item.value_iterated_to(),
-        Fraction {
-            num: u128::from(num),
-            den: quantile.den,
-        },
-        tick,
+        Fraction::new(u128::from(num), quantile.den),
+        item.quantile_iterated_to(),
         item.count_at_value(),
         item.count_since_last_iteration(),
     );
@@ -60,96 +52,83 @@ fn text_or_none(output: String) -> Value {
 /// Returns the digest with one more item: each of its numbers is added to 31 times the digest, in 128 bits.
 fn update_digest<T: Counter>(digest: u128, item: &IterationValue<T>) -> u128 {
     let (quantile, tick) = (item.quantile(), item.quantile_iterated_to());
-    let mut digest = digest;
-    for number in [
+    let numbers = [
         u128::from(item.value_iterated_to()),
         u128::from(item.count_at_value().as_u64()),
         u128::from(item.count_since_last_iteration()),
         quantile.num,
         tick.num,
         tick.den,
-    ] {
-        digest = digest.wrapping_mul(31).wrapping_add(number);
-    }
-    digest
+    ];
+    numbers.iter().fold(
+        digest,
+        |sum, number| sum.wrapping_mul(31).wrapping_add(*number),
+    )
 }
 
 /// Returns the items of an iterator, separated by commas; of a long list the first ones, their number, and the digest of all.
 fn items<T: Counter>(alloc: Global, list: Vec<IterationValue<T>>) -> Outcome {
     let mut output = String::new(alloc);
-    let mut number: u64 = 0;
     let mut digest: u128 = 0;
-    for item in list.as_slice() {
+    for (index, item) in list.iter().enumerate() {
         ensure_same(is_consistent(item))?;
-        if number < MAX_ITEMS {
-            if number > 0 {
-                output.push_str(", ")?;
-            }
+        digest = update_digest(digest, item);
+        if index < MAX_ITEMS {
             push_item(&mut output, item)?;
         }
-        digest = update_digest(digest, item);
-        number = number.saturating_add(1);
     }
-    if number > MAX_ITEMS {
-        write!(output, " .. {number} {digest}")?;
+    if list.len() > MAX_ITEMS {
+        write!(output, " .. {} {digest}", list.len())?;
     }
     Ok(text_or_none(output))
 }
 
-/// Returns the text of a fraction.
-fn fraction_text(alloc: Global, fraction: Fraction) -> Outcome {
-    Ok(Value::Text(format!(in alloc; "{}", fraction)?))
-}
-
 /// Returns the text of a fraction, if there is one.
-fn fraction_or_none(alloc: Global, fraction: Option<Fraction>) -> Outcome {
+fn fraction_text(alloc: Global, fraction: Option<Fraction>) -> Outcome {
     match fraction {
-        Some(fraction) => fraction_text(alloc, fraction),
+        Some(fraction) => Ok(Value::Text(format!(in alloc; "{fraction}")?)),
         None => Ok(Value::None),
     }
 }
 
 /// Makes a call on a histogram whose value is text.
-pub fn call<T: Counter>(alloc: Global, h: &Histogram<T>, name: &str, numbers: &[u64]) -> Outcome {
-    match (name, numbers) {
+pub fn call<T: Counter>(alloc: Global, h: &Histogram<T>, call: NumberCall<'_>) -> Outcome {
+    match call {
         ("iter_all", []) => items(alloc, h.iter_all().collect(alloc)?),
         ("iter_recorded", []) => items(alloc, h.iter_recorded().collect(alloc)?),
-        ("iter_linear", [step]) if *step >= 1 => items(alloc, h.iter_linear(*step).collect(alloc)?),
-        ("iter_log", [start, base]) if *start >= 1 && *base >= 2 => items(
-            alloc,
-            h.iter_log(*start, *base).collect(alloc)?,
-        ),
-        ("iter_quantiles", [ticks]) => match u32::try_from(*ticks) {
+        ("iter_linear", &[step]) if step >= 1 => items(alloc, h.iter_linear(step).collect(alloc)?),
+        ("iter_log", &[start, base]) if start >= 1 && base >= 2 => {
+            items(alloc, h.iter_log(start, base).collect(alloc)?)
+        }
+        ("iter_quantiles", &[ticks]) => match u32::try_from(ticks) {
             Ok(ticks) if ticks >= 1 => items(alloc, h.iter_quantiles(ticks).collect(alloc)?),
             _ => Err(LineError::InvalidArgument),
         },
-        ("quantile_below", [value]) => fraction_text(alloc, h.quantile_below(*value)),
-        ("percentile_below", [value]) => fraction_text(alloc, h.percentile_below(*value)),
-        ("mean", []) => fraction_or_none(alloc, h.mean()),
-        ("standard_deviation", []) => fraction_or_none(alloc, h.standard_deviation()),
+        ("quantile_below", &[value]) => fraction_text(alloc, Some(h.quantile_below(value))),
+        ("percentile_below", &[value]) => fraction_text(alloc, Some(h.percentile_below(value))),
+        ("mean", []) => fraction_text(alloc, h.mean()),
+        ("standard_deviation", []) => fraction_text(alloc, h.standard_deviation()),
         _ => Err(LineError::UnknownCall),
     }
 }
 
+/// Parses a quantile, `NUM/DEN`.
+fn parse_quantile(text: &str) -> Result<Quantile, LineError> {
+    let (num, den) = ok_or_invalid(text.split_once('/'))?;
+    to_quantile(parse_u64(num)?, parse_u64(den)?)
+}
+
 /// Parses quantiles, separated by spaces.
 pub fn parse_quantiles(alloc: Global, text: &str) -> Result<Vec<Quantile>, LineError> {
-    let mut list = Vec::new(alloc);
-    for argument in text.split(' ') {
-        let (num, den) = ok_or_invalid(argument.split_once('/'))?;
-        list.push(ok_or_invalid(Quantile::new(parse_u64(num)?, parse_u64(den)?))?)
-            .map_err(AllocError::from)?;
-    }
-    Ok(list)
+    text.split(' ').map(parse_quantile).try_collect(alloc)
 }
 
 /// Returns the text of numbers, separated by spaces.
 pub fn numbers_text(alloc: Global, list: Vec<u64>) -> Outcome {
     let mut output = String::new(alloc);
     for value in list.as_slice() {
-        if !output.is_empty() {
-            output.push(' ')?;
-        }
-        write!(output, "{value}")?;
+        let separator = if output.is_empty() { "" } else { " " };
+        write!(output, "{separator}{value}")?;
     }
     Ok(text_or_none(output))
 }

@@ -1,14 +1,13 @@
 //! Interval logs, as escaped text: `\n` and `\r` stand for a line feed and a carriage return, and `\xHH` for any byte.
 
-use crate::arguments::{ok_or_invalid, parse_u64, split_at_space};
+use crate::arguments::{TextCall, ok_or_invalid, parse_u64, split_at_space};
 use crate::outcome::{LineError, Outcome, Value};
 use hdr_base::Counter;
 use hdr_core::Histogram;
 use hdr_log::field::{FieldError, decoded};
 use hdrhistogram::serialization::V2Serializer;
 use hdrhistogram::serialization::interval_log::{
-    IntervalLogHistogram, IntervalLogIterator, IntervalLogWriterBuilder, LogEntry,
-    LogIteratorError, Tag,
+    IntervalLogIterator, IntervalLogWriterBuilder, LogEntry, LogIteratorError, Tag,
 };
 use std::alloc::{AllocError, Global};
 use std::str::Chars;
@@ -34,9 +33,7 @@ pub fn unescape(alloc: Global, text: &str) -> Result<Vec<u8>, LineError> {
     for (index, part) in text.split('\\').enumerate() {
         let mut chars = part.chars();
         if index > 0 {
-            bytes
-                .push(ok_or_invalid(parse_escape(&mut chars))?)
-                .map_err(AllocError::from)?;
+            bytes.push(ok_or_invalid(parse_escape(&mut chars))?)?;
         }
         bytes.extend_from_slice(chars.as_str().as_bytes())?;
     }
@@ -62,43 +59,28 @@ fn escape(alloc: Global, bytes: &[u8]) -> Outcome {
     Ok(Value::Text(output))
 }
 
-/// Appends a time as its seconds, a point and nine digits, between `before` and `after`.
-fn push_time(
-    output: &mut String,
-    before: &str,
-    time: Duration,
-    after: &str,
-) -> Result<(), AllocError> {
-    write!(
-        output,
-        "{before}{}.{:09}{after}",
-        time.as_secs(),
-        time.subsec_nanos()
-    )
+/// Appends `before`, and a time as its seconds, a point and nine digits.
+fn push_time(output: &mut String, before: &str, time: Duration) -> Result<(), AllocError> {
+    let (seconds, nanos) = (time.as_secs(), time.subsec_nanos());
+    write!(output, "{before}{seconds}.{nanos:09}")
 }
 
-/// Appends the parts of an interval's line: its tag, its times, its max and its field.
-fn push_interval(output: &mut String, line: &IntervalLogHistogram<'_>) -> Result<(), AllocError> {
-    let tag = match line.tag() {
-        Some(tag) => tag.as_str(),
-        None => "-",
-    };
-    output.push_str(tag)?;
-    push_time(output, " ", line.start_timestamp(), " ")?;
-    push_time(output, "", line.duration(), " ")?;
-    write!(output, "{} {};", line.max(), line.encoded_histogram())
-}
-
-/// Appends an entry, or its error.
+/// Appends the parts of an entry, or its error. Those of an interval are its tag, its times, its
+/// max and its field.
 fn push_entry(
     output: &mut String,
     entry: &Result<LogEntry<'_>, LogIteratorError>,
 ) -> Result<(), AllocError> {
     match entry {
-        Ok(LogEntry::StartTime(time)) => push_time(output, "start ", *time, ";"),
-        Ok(LogEntry::BaseTime(time)) => push_time(output, "base ", *time, ";"),
-        Ok(LogEntry::Interval(line)) => push_interval(output, line),
-        Err(LogIteratorError::ParseError { offset }) => write!(output, "fault at {offset};"),
+        Ok(LogEntry::StartTime(time)) => push_time(output, "start ", *time),
+        Ok(LogEntry::BaseTime(time)) => push_time(output, "base ", *time),
+        Ok(LogEntry::Interval(line)) => {
+            output.push_str(line.tag().map_or("-", |tag| tag.as_str()))?;
+            push_time(output, " ", line.start_timestamp())?;
+            push_time(output, " ", line.duration())?;
+            write!(output, " {} {}", line.max(), line.encoded_histogram())
+        }
+        Err(LogIteratorError::ParseError { offset }) => write!(output, "fault at {offset}"),
     }
 }
 
@@ -107,6 +89,7 @@ fn read_entries(alloc: Global, log: &[u8]) -> Outcome {
     let mut output = String::new(alloc);
     for entry in IntervalLogIterator::new(log) {
         push_entry(&mut output, &entry)?;
+        output.push(';')?;
     }
     output.push_str("end")?;
     Ok(Value::Text(output))
@@ -146,16 +129,13 @@ fn set_option(
     builder: &mut IntervalLogWriterBuilder,
     text: &str,
 ) -> Result<(), LineError> {
-    let (name, rest) = split_at_space(text);
-    match name {
-        "start" => drop(builder.with_start_time(parse_time(rest)?)),
-        "base" => drop(builder.with_base_time(parse_time(rest)?)),
-        "divisor" => set_divisor(builder, rest)?,
-        "comment" => ok_or_invalid(
-            builder
-                .add_comment(unescape_string(alloc, rest)?.as_str())
-                .ok(),
-        )?,
+    match split_at_space(text) {
+        ("start", time) => drop(builder.with_start_time(parse_time(time)?)),
+        ("base", time) => drop(builder.with_base_time(parse_time(time)?)),
+        ("divisor", divisor) => set_divisor(builder, divisor)?,
+        ("comment", text) => {
+            ok_or_invalid(builder.add_comment(&unescape_string(alloc, text)?).ok())?
+        }
         _ => return Err(LineError::UnknownCall),
     }
     Ok(())
@@ -201,13 +181,13 @@ fn is_less(text: &str) -> Outcome {
 }
 
 /// Makes a call on a log or on tags.
-pub fn call(alloc: Global, name: &str, text: &str) -> Outcome {
-    match name {
-        "read" => read_entries(alloc, unescape(alloc, text)?.as_slice()),
-        "field" => decode_field(alloc, text),
-        "tag" => Ok(Value::Bool(Tag::new(text).is_some())),
-        "before" => is_less(text),
-        "begin" => begin(alloc, text),
+pub fn call(alloc: Global, call: TextCall<'_>) -> Outcome {
+    match call {
+        ("read", text) => read_entries(alloc, &unescape(alloc, text)?),
+        ("field", text) => decode_field(alloc, text),
+        ("tag", text) => Ok(Value::Bool(Tag::new(text).is_some())),
+        ("before", text) => is_less(text),
+        ("begin", text) => begin(alloc, text),
         _ => Err(LineError::UnknownCall),
     }
 }

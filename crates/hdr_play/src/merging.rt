@@ -34,11 +34,8 @@ pub fn merge<T: Counter>(alloc: Global, h: &mut Histogram<T>, text: &str) -> Out
     let (tag, text) = split_at_space(text);
     let (from, text) = split_at_space(text);
     let (to, log) = split_at_space(text);
-    let choice = IntervalChoice {
-        tags: parse_tags(tag)?,
-        from: parse_bound(from)?,
-        to: parse_bound(to)?,
-    };
+    let (tags, from, to) = (parse_tags(tag)?, parse_bound(from)?, parse_bound(to)?);
+    let choice = IntervalChoice { tags, from, to };
     let sigfig = to_sigfig(parse_u64(sigfig)?)?;
     let log = unescape(alloc, log)?;
     let merged = merge_chosen(alloc, log.as_slice(), &choice, sigfig)?;

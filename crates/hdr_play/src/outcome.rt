@@ -49,11 +49,24 @@ pub enum LineError {
     #[error("an argument is not one that the call takes")]
     InvalidArgument,
     #[error("memory ran out")]
-    OutOfMemory(#[from] AllocError),
+    OutOfMemory(#[from(alloc)] AllocError),
 }
 
 /// The value of a call, or its error.
 pub type Outcome = Result<Value, LineError>;
+
+/// Makes the first of these calls that is known, and returns its outcome.
+macro_rules! first_known {
+    ($last:expr) => { $last };
+    ($call:expr, $($rest:expr),+) => {
+        match $call {
+            Err(LineError::UnknownCall) => first_known!($($rest),+),
+            outcome => outcome,
+        }
+    };
+}
+
+pub(crate) use first_known;
 
 impl LineError {
     /// Whether the error is not one of the library: the line is invalid, or an allocation of the player failed.
@@ -67,10 +80,8 @@ impl LineError {
     /// Returns the error of the library as its `Debug` prints it.
     pub fn name(&self, alloc: Global) -> Result<String, AllocError> {
         let debug = format!(in alloc; "{self:?}")?;
-        let (_, name) = debug
-            .as_str()
-            .split_once('(')
-            .unwrap_or(("", debug.as_str()));
+        let text = debug.as_str();
+        let (_, name) = text.split_once('(').unwrap_or(("", text));
         String::from_str(alloc, name.strip_suffix(")").unwrap_or(name))
     }
 
@@ -95,11 +106,7 @@ impl Value {
 
 /// Returns an error unless two calls that have to agree do.
 pub fn ensure_same(is_same: bool) -> Result<(), LineError> {
-    if is_same {
-        Ok(())
-    } else {
-        Err(LineError::Differ)
-    }
+    is_same.then_some(()).ok_or(LineError::Differ)
 }
 
 /// Returns the value of a call that may return `None`.

@@ -10,19 +10,25 @@ use std::alloc::{AllocError, Global};
 /// The numbers of rows that passed and failed, and the output for those that failed.
 #[derive(Drop)]
 pub struct Report {
+    alloc: Global,
     pub passed: u64,
     pub failed: u64,
     pub output: String,
 }
 
-/// A row at one of its counter types, and the line number of its title.
+/// A row, and the line number of its title.
 #[derive(Clone, Copy)]
 struct Row<'a> {
     file: &'a str,
     number: u64,
-    name: &'a str,
-    counter: &'a str,
-    lines: &'a str,
+    text: &'a str,
+}
+
+impl<'a> Row<'a> {
+    /// Returns the name of the row, and its counter types.
+    fn title(self) -> (&'a str, &'a str) {
+        split_at_space(self.text.lines().next().unwrap_or(""))
+    }
 }
 
 /// Whether the name of an error is the expected one, with its parts or without them.
@@ -47,34 +53,26 @@ fn is_expected(alloc: Global, outcome: &Outcome, expected: &str) -> Result<bool,
     }
 }
 
+/// What is wrong with a line: a message, or nothing.
+type Difference = Result<Option<String>, AllocError>;
+
 /// Returns a message with the expected and the actual outcome, or `None` if they are the same.
-fn difference(
-    alloc: Global,
-    outcome: &Outcome,
-    expected: &str,
-) -> Result<Option<String>, AllocError> {
+fn difference(alloc: Global, outcome: &Outcome, expected: &str) -> Difference {
     if is_expected(alloc, outcome, expected)? {
         return Ok(None);
     }
-    let mut message = format!(in alloc; "    wanted {expected}\n    came   ")?;
-    match outcome {
-        Ok(value) => writeln!(message, "{}", value.to_text(alloc)?)?,
-        Err(error) => writeln!(
-            message,
-            "{} {}",
-            error.name(alloc)?,
-            error.quoted_message(alloc)?
-        )?,
-    }
-    Ok(Some(message))
+    let came = match outcome {
+        Ok(value) => value.to_text(alloc)?,
+        Err(error) => {
+            let (name, message) = (error.name(alloc)?, error.quoted_message(alloc)?);
+            format!(in alloc; "{name} {message}")?
+        }
+    };
+    Ok(Some(format!(in alloc; "    wanted {expected}\n    came   {came}\n")?))
 }
 
 /// Returns a message if a line that is wrong on purpose does not differ from its first outcome, or differs from its second.
-fn deliberate_difference(
-    alloc: Global,
-    outcome: &Outcome,
-    expected: &str,
-) -> Result<Option<String>, AllocError> {
+fn deliberate_difference(alloc: Global, outcome: &Outcome, expected: &str) -> Difference {
     let Some((wrong, right)) = expected.split_once(" but ") else {
         return Ok(Some(format!(in alloc; "    fault: no ` but ` and what comes\n")?));
     };
@@ -85,11 +83,7 @@ fn deliberate_difference(
 }
 
 /// Plays a line. Returns a message if it fails.
-fn play_line<T: Counter>(
-    alloc: Global,
-    table: &mut Table<T>,
-    line: &str,
-) -> Result<Option<String>, AllocError> {
+fn play_line<T: Counter>(alloc: Global, table: &mut Table<T>, line: &str) -> Difference {
     if line.is_empty() || line.starts_with('#') {
         return Ok(None);
     }
@@ -97,56 +91,11 @@ fn play_line<T: Counter>(
     let deliberate = call.strip_prefix("! ");
     let outcome = table.execute(alloc, deliberate.unwrap_or(call));
     match &outcome {
-        Err(error) if error.is_player_error() => Ok(Some(format!(in alloc;
-            "    fault: {error}\n"
-        )?)),
+        Err(error) if error.is_player_error() => {
+            Ok(Some(format!(in alloc; "    fault: {error}\n")?))
+        }
         _ if deliberate.is_some() => deliberate_difference(alloc, &outcome, expected),
         _ => difference(alloc, &outcome, expected),
-    }
-}
-
-/// Plays a row at the counter type `T`, and appends each line that fails to `output`. Returns whether the row passes.
-fn play_row_of<T: Counter>(
-    alloc: Global,
-    row: Row<'_>,
-    output: &mut String,
-) -> Result<bool, LineError> {
-    let mut table: Table<T> = Table::new(alloc)?;
-    let mut passes = true;
-    let mut number = row.number;
-    for line in row.lines.lines() {
-        number = number.saturating_add(1);
-        if let Some(message) = play_line(alloc, &mut table, line)? {
-            writeln!(
-                output,
-                "{}:{number}: {} {}: {line}",
-                row.file, row.name, row.counter
-            )?;
-            output.push_str(message.as_str())?;
-            passes = false;
-        }
-    }
-    // (without this call the prover takes the parts of all tables apart here)
-    drop(table);
-    Ok(passes)
-}
-
-/// Plays a row at its counter type.
-fn play_row(alloc: Global, row: Row<'_>, output: &mut String) -> Result<bool, LineError> {
-    match row.counter {
-        "u8" => play_row_of::<u8>(alloc, row, output),
-        "u16" => play_row_of::<u16>(alloc, row, output),
-        "u32" => play_row_of::<u32>(alloc, row, output),
-        "u64" => play_row_of::<u64>(alloc, row, output),
-        "c12" => play_row_of::<C12>(alloc, row, output),
-        _ => {
-            writeln!(
-                output,
-                "{}:{}: {}: fault: no counter type `{}`",
-                row.file, row.number, row.name, row.counter
-            )?;
-            Ok(false)
-        }
     }
 }
 
@@ -154,9 +103,19 @@ impl Report {
     /// Returns a report of no rows.
     pub fn new(alloc: Global) -> Report {
         Report {
+            alloc,
             passed: 0,
             failed: 0,
             output: String::new(alloc),
+        }
+    }
+
+    /// Counts a row.
+    fn count(&mut self, passes: bool) {
+        if passes {
+            self.passed = self.passed.saturating_add(1);
+        } else {
+            self.failed = self.failed.saturating_add(1);
         }
     }
 
@@ -165,51 +124,61 @@ impl Report {
         for line in text.lines() {
             if !line.is_empty() && !line.starts_with('#') {
                 writeln!(self.output, "{file}: fault: in no row: {line}")?;
-                self.failed = self.failed.saturating_add(1);
+                self.count(false);
             }
         }
         Ok(())
     }
 
+    /// Plays a row at the counter type `T`, and appends each line that fails to the output.
+    fn play_at<T: Counter>(&mut self, row: Row<'_>, counter: &str) -> Result<(), LineError> {
+        let (file, (name, _)) = (row.file, row.title());
+        let mut table: Table<T> = Table::new(self.alloc)?;
+        let mut passes = true;
+        for (index, line) in row.text.lines().enumerate().skip(1) {
+            if let Some(message) = play_line(self.alloc, &mut table, line)? {
+                let number = row.number.saturating_add(index as u64);
+                writeln!(self.output, "{file}:{number}: {name} {counter}: {line}")?;
+                self.output.push_str(message.as_str())?;
+                passes = false;
+            }
+        }
+        // (without this call the prover takes the parts of all tables apart here)
+        drop(table);
+        self.count(passes);
+        Ok(())
+    }
+
     /// Plays a row at each of its counter types.
-    fn play_counter_types(
-        &mut self,
-        alloc: Global,
-        file: &str,
-        number: u64,
-        text: &str,
-    ) -> Result<(), LineError> {
-        let (title, lines) = text.split_once('\n').unwrap_or((text, ""));
-        let (name, counters) = split_at_space(title);
+    fn play_row(&mut self, row: Row<'_>) -> Result<(), LineError> {
+        let (name, counters) = row.title();
         for counter in counters.split(' ') {
-            let row = Row {
-                file,
-                number,
-                name,
-                counter,
-                lines,
-            };
-            if play_row(alloc, row, &mut self.output)? {
-                self.passed = self.passed.saturating_add(1);
-            } else {
-                self.failed = self.failed.saturating_add(1);
+            match counter {
+                "u8" => self.play_at::<u8>(row, counter)?,
+                "u16" => self.play_at::<u16>(row, counter)?,
+                "u32" => self.play_at::<u32>(row, counter)?,
+                "u64" => self.play_at::<u64>(row, counter)?,
+                "c12" => self.play_at::<C12>(row, counter)?,
+                _ => {
+                    write!(self.output, "{}:{}: {name}: ", row.file, row.number)?;
+                    writeln!(self.output, "fault: no counter type `{counter}`")?;
+                    self.count(false);
+                }
             }
         }
         Ok(())
     }
 
     /// Plays the rows of a file.
-    pub fn play(&mut self, alloc: Global, file: &str, text: &str) -> Result<(), LineError> {
+    pub fn play(&mut self, file: &str, rows: &str) -> Result<(), LineError> {
         let mut number: u64 = 1;
-        for (index, part) in text.split("\nrow ").enumerate() {
-            if index > 0 {
-                self.play_counter_types(alloc, file, number, part)?;
-            } else if let Some(first) = part.strip_prefix("row ") {
-                self.play_counter_types(alloc, file, number, first)?;
-            } else {
-                self.check_head(file, part)?;
+        for (index, text) in rows.split("\nrow ").enumerate() {
+            match text.strip_prefix("row ") {
+                Some(text) if index == 0 => self.play_row(Row { file, number, text })?,
+                None if index == 0 => self.check_head(file, text)?,
+                _ => self.play_row(Row { file, number, text })?,
             }
-            number = number.saturating_add(part.split('\n').count() as u64);
+            number = number.saturating_add(text.split('\n').count() as u64);
         }
         Ok(())
     }

@@ -4,7 +4,7 @@ use crate::arguments::{Numbers, split_at_space, to_counter};
 use crate::outcome::LineError;
 use hdr_base::Counter;
 use hdr_core::{Call, CallFrom, Histogram};
-use std::alloc::{AllocError, Global};
+use std::alloc::Global;
 
 /// Parses a call in which `other` is a source.
 pub fn parse_call<'a, T: Counter>(
@@ -12,21 +12,16 @@ pub fn parse_call<'a, T: Counter>(
     other: &'a Histogram<T>,
 ) -> Result<Call<'a, T>, LineError> {
     let (name, rest) = split_at_space(text);
-    let numbers = Numbers::parse(rest)?;
-    match (name, numbers.as_slice()) {
-        ("record", [value, count]) => Ok(Call::Record(*value, to_counter(*count)?)),
-        ("clamp", [value, count]) => Ok(Call::Clamp(*value, to_counter(*count)?)),
-        ("correct", [value, count, interval]) => Ok(Call::Correct(
-            *value,
-            to_counter(*count)?,
-            *interval,
-        )),
-        ("clear", []) => Ok(Call::Clear),
-        ("reset", []) => Ok(Call::Reset),
-        ("add", []) => Ok(Call::Add(other)),
-        ("add_correct", [interval]) => Ok(Call::AddCorrect(other, *interval)),
-        _ => Err(LineError::UnknownCall),
-    }
+    Ok(match (name, Numbers::parse(rest)?.as_slice()) {
+        ("record", &[value, count]) => Call::Record(value, to_counter(count)?),
+        ("clamp", &[value, count]) => Call::Clamp(value, to_counter(count)?),
+        ("correct", &[value, n, interval]) => Call::Correct(value, to_counter(n)?, interval),
+        ("clear", []) => Call::Clear,
+        ("reset", []) => Call::Reset,
+        ("add", []) => Call::Add(other),
+        ("add_correct", &[interval]) => Call::AddCorrect(other, interval),
+        _ => return Err(LineError::UnknownCall),
+    })
 }
 
 /// Parses the calls of a run, separated by commas.
@@ -35,13 +30,9 @@ pub fn parse_calls<'a, T: Counter>(
     text: &str,
     other: &'a Histogram<T>,
 ) -> Result<Vec<Call<'a, T>>, LineError> {
-    let mut calls = Vec::new(alloc);
-    for call in text.split(", ") {
-        calls
-            .push(parse_call(call, other)?)
-            .map_err(AllocError::from)?;
-    }
-    Ok(calls)
+    text.split(", ")
+        .map(|call| parse_call(call, other))
+        .try_collect(alloc)
 }
 
 /// Parses a call in which `wide` may be the source too.
@@ -51,10 +42,9 @@ fn parse_call_from<'a, T: Counter>(
     wide: &'a Histogram<u64>,
 ) -> Result<CallFrom<'a, T, u64>, LineError> {
     let (name, rest) = split_at_space(text);
-    let numbers = Numbers::parse(rest)?;
-    match (name, numbers.as_slice()) {
+    match (name, Numbers::parse(rest)?.as_slice()) {
         ("add_from", []) => Ok(CallFrom::AddFrom(wide)),
-        ("add_correct_from", [interval]) => Ok(CallFrom::AddCorrectFrom(wide, *interval)),
+        ("add_correct_from", &[interval]) => Ok(CallFrom::AddCorrectFrom(wide, interval)),
         _ => Ok(CallFrom::Own(parse_call(text, other)?)),
     }
 }
@@ -66,11 +56,7 @@ pub fn parse_calls_from<'a, T: Counter>(
     other: &'a Histogram<T>,
     wide: &'a Histogram<u64>,
 ) -> Result<Vec<CallFrom<'a, T, u64>>, LineError> {
-    let mut calls = Vec::new(alloc);
-    for call in text.split(", ") {
-        calls
-            .push(parse_call_from(call, other, wide)?)
-            .map_err(AllocError::from)?;
-    }
-    Ok(calls)
+    text.split(", ")
+        .map(|call| parse_call_from(call, other, wide))
+        .try_collect(alloc)
 }

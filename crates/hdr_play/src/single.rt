@@ -1,22 +1,23 @@
 //! Calls on one histogram: the name, the numbers, and the call.
 
-use crate::arguments::{to_counter, to_quantile, to_sigfig};
+use crate::arguments::{NumberCall, to_counter, to_quantile, to_sigfig};
+use crate::items;
 use crate::outcome::Value::{self, Number};
-use crate::outcome::{LineError, Outcome, ensure_same, optional_number};
+use crate::outcome::{LineError, Outcome, ensure_same, first_known, optional_number};
 use hdr_base::{Counter, Quantile, Ticks};
 use hdr_core::Histogram;
 use std::alloc::Global;
 use std::mem;
 
 /// Replaces the histogram by a new one.
-fn create<T: Counter>(alloc: Global, h: &mut Histogram<T>, name: &str, numbers: &[u64]) -> Outcome {
-    let new = match (name, numbers) {
-        ("new", [sigfig]) => Histogram::new(alloc, to_sigfig(*sigfig)?)?,
-        ("new_with_max", [high, sigfig]) => {
-            Histogram::new_with_max(alloc, *high, to_sigfig(*sigfig)?)?
+fn create<T: Counter>(alloc: Global, h: &mut Histogram<T>, call: NumberCall<'_>) -> Outcome {
+    let new = match call {
+        ("new", &[sigfig]) => Histogram::new(alloc, to_sigfig(sigfig)?)?,
+        ("new_with_max", &[high, sigfig]) => {
+            Histogram::new_with_max(alloc, high, to_sigfig(sigfig)?)?
         }
-        ("new_with_bounds", [low, high, sigfig]) => {
-            Histogram::new_with_bounds(alloc, *low, *high, to_sigfig(*sigfig)?)?
+        ("new_with_bounds", &[low, high, sigfig]) => {
+            Histogram::new_with_bounds(alloc, low, high, to_sigfig(sigfig)?)?
         }
         _ => return Err(LineError::UnknownCall),
     };
@@ -30,19 +31,16 @@ pub fn replace<T: Counter>(h: &mut Histogram<T>, new: Histogram<T>) -> Outcome {
 }
 
 /// Makes a call that changes the histogram.
-fn change<T: Counter>(h: &mut Histogram<T>, name: &str, numbers: &[u64]) -> Outcome {
-    match (name, numbers) {
-        ("record", [value]) => h.record(*value)?,
-        ("record_n", [value, count]) => h.record_n(*value, to_counter(*count)?)?,
-        ("record_correct", [value, interval]) => h.record_correct(*value, *interval)?,
-        ("record_n_correct", [value, count, interval]) => {
-            h.record_n_correct(*value, to_counter(*count)?, *interval)?
+fn change<T: Counter>(h: &mut Histogram<T>, call: NumberCall<'_>) -> Outcome {
+    match call {
+        ("record", &[value]) => h.record(value)?,
+        ("record_n", &[value, count]) => h.record_n(value, to_counter(count)?)?,
+        ("record_correct", &[value, interval]) => h.record_correct(value, interval)?,
+        ("record_n_correct", &[value, count, interval]) => {
+            h.record_n_correct(value, to_counter(count)?, interval)?
         }
-        ("saturating_record", [value]) => h.saturating_record(*value),
-        ("saturating_record_n", [value, count]) => h.saturating_record_n(
-            *value,
-            to_counter(*count)?,
-        ),
+        ("saturating_record", &[value]) => h.saturating_record(value),
+        ("saturating_record_n", &[value, n]) => h.saturating_record_n(value, to_counter(n)?),
         ("clear", []) => h.clear(),
         ("reset", []) => h.reset(),
         ("auto", [0]) => h.auto(false),
@@ -71,19 +69,31 @@ fn property<T: Counter>(h: &Histogram<T>, name: &str) -> Option<u64> {
     }
 }
 
-/// Makes a call on a value's class, or on the counts of classes; 1 is true, and 0 is false.
-fn class_number<T: Counter>(h: &Histogram<T>, name: &str, numbers: &[u64]) -> Option<u64> {
-    match (name, numbers) {
-        ("count_at", [value]) => Some(h.count_at(*value).as_u64()),
-        ("count_between", [low, high]) => Some(h.count_between(*low, *high)),
-        ("lowest_equivalent", [value]) => Some(h.lowest_equivalent(*value)),
-        ("highest_equivalent", [value]) => Some(h.highest_equivalent(*value)),
-        ("next_non_equivalent", [value]) => Some(h.next_non_equivalent(*value)),
-        ("median_equivalent", [value]) => Some(h.median_equivalent(*value)),
-        ("equivalent_range", [value]) => Some(h.equivalent_range(*value)),
-        ("equivalent", [one, other]) => Some(u64::from(h.equivalent(*one, *other))),
-        _ => None,
-    }
+/// Returns the ticks of a quantile, whose value has to be the same without ticks.
+fn quantile_ticks<T: Counter>(h: &Histogram<T>, quantile: Quantile) -> Result<u64, LineError> {
+    let mut ticks = Ticks::new();
+    let value = h.value_at_quantile_counted(quantile, &mut ticks);
+    ensure_same(value == h.value_at_quantile(quantile))?;
+    Ok(ticks.count())
+}
+
+/// Makes a call that returns a number; 1 is true, and 0 is false.
+fn read<T: Counter>(h: &Histogram<T>, call: NumberCall<'_>) -> Outcome {
+    Ok(Number(match call {
+        (name, []) => property(h, name).ok_or(LineError::UnknownCall)?,
+        ("count_at", &[value]) => h.count_at(value).as_u64(),
+        ("count_between", &[low, high]) => h.count_between(low, high),
+        ("lowest_equivalent", &[value]) => h.lowest_equivalent(value),
+        ("highest_equivalent", &[value]) => h.highest_equivalent(value),
+        ("next_non_equivalent", &[value]) => h.next_non_equivalent(value),
+        ("median_equivalent", &[value]) => h.median_equivalent(value),
+        ("equivalent_range", &[value]) => h.equivalent_range(value),
+        ("equivalent", &[one, other]) => u64::from(h.equivalent(one, other)),
+        ("value_at_quantile", &[num, den]) => h.value_at_quantile(to_quantile(num, den)?),
+        ("value_at_percentile", &[num, den]) => h.value_at_percentile(to_quantile(num, den)?),
+        ("looks", &[num, den]) => quantile_ticks(h, to_quantile(num, den)?)?,
+        _ => return Err(LineError::UnknownCall),
+    }))
 }
 
 /// Returns the count of a bin.
@@ -97,78 +107,36 @@ fn counter_at<T: Counter>(h: &Histogram<T>, index: u64) -> Option<u64> {
 }
 
 /// Makes a call on a bin.
-fn call_bin<T: Counter>(h: &Histogram<T>, name: &str, numbers: &[u64]) -> Outcome {
-    match (name, numbers) {
-        ("bin_of", [value]) => match h.bin_of(*value) {
-            Some(index) => Ok(Number(index as u64)),
-            None => Ok(Value::None),
-        },
-        ("bin_value", [index]) => Ok(optional_number(h.bin_value(*index as usize))),
-        ("bin_count", [index]) => Ok(optional_number(bin_count(h, *index))),
-        ("counters", [index]) => Ok(optional_number(counter_at(h, *index))),
-        _ => Err(LineError::UnknownCall),
-    }
-}
-
-/// Returns the ticks of a quantile, whose value has to be the same without ticks.
-fn quantile_ticks<T: Counter>(h: &Histogram<T>, quantile: Quantile) -> Outcome {
-    let mut ticks = Ticks::new();
-    let value = h.value_at_quantile_counted(quantile, &mut ticks);
-    ensure_same(value == h.value_at_quantile(quantile))?;
-    Ok(Number(ticks.count()))
+fn call_bin<T: Counter>(h: &Histogram<T>, call: NumberCall<'_>) -> Outcome {
+    Ok(optional_number(match call {
+        ("bin_of", &[value]) => h.bin_of(value).map(|index| index as u64),
+        ("bin_value", &[index]) => h.bin_value(index as usize),
+        ("bin_count", &[index]) => bin_count(h, index),
+        ("counters", &[index]) => counter_at(h, index),
+        _ => return Err(LineError::UnknownCall),
+    }))
 }
 
 /// Corrects class by class, and returns the number of counters updated.
-fn correction_ticks<T: Counter>(
-    h: &mut Histogram<T>,
-    value: u64,
-    count: T,
-    interval: u64,
-) -> Outcome {
+fn correct_counted<T: Counter>(h: &mut Histogram<T>, call: NumberCall<'_>) -> Outcome {
+    let ("record_n_correct_counted", &[value, count, interval]) = call else {
+        return Err(LineError::UnknownCall);
+    };
     let mut ticks = Ticks::new();
-    h.record_n_correct_counted(value, count, interval, &mut ticks)?;
+    h.record_n_correct_counted(value, to_counter(count)?, interval, &mut ticks)?;
     Ok(Number(ticks.count()))
 }
 
-/// Makes a call on a quantile, or a call that counts its ticks.
-fn call_quantile<T: Counter>(h: &mut Histogram<T>, name: &str, numbers: &[u64]) -> Outcome {
-    match (name, numbers) {
-        ("value_at_quantile", [num, den]) => Ok(Number(h.value_at_quantile(to_quantile(
-            *num, *den,
-        )?))),
-        ("value_at_percentile", [num, den]) => Ok(Number(h.value_at_percentile(to_quantile(
-            *num, *den,
-        )?))),
-        ("looks", [num, den]) => quantile_ticks(h, to_quantile(*num, *den)?),
-        ("record_n_correct_counted", [value, count, interval]) => {
-            correction_ticks(h, *value, to_counter(*count)?, *interval)
-        }
-        _ => call_bin(h, name, numbers),
-    }
-}
-
-/// Makes a call on one histogram that takes numbers alone and whose value is not text.
-pub fn call<T: Counter>(
-    alloc: Global,
-    h: &mut Histogram<T>,
-    name: &str,
-    numbers: &[u64],
-) -> Outcome {
-    let found = match numbers {
-        [] => property(h, name),
-        _ => class_number(h, name, numbers),
-    };
-    if let Some(number) = found {
-        return Ok(Number(number));
-    }
-    match change(h, name, numbers) {
-        Err(LineError::UnknownCall) => {}
-        outcome => return outcome,
-    }
-    match create(alloc, h, name, numbers) {
-        Err(LineError::UnknownCall) => call_quantile(h, name, numbers),
-        outcome => outcome,
-    }
+/// Makes a call on one histogram that takes numbers alone.
+pub fn call<T: Counter>(alloc: Global, h: &mut Histogram<T>, call: NumberCall<'_>) -> Outcome {
+    first_known!(
+        read(h, call),
+        change(h, call),
+        create(alloc, h, call),
+        call_bin(h, call),
+        correct_counted(h, call),
+        items::call(alloc, h, call)
+    )
 }
 
 /// The calls that have to return the same on equal histograms.
@@ -177,15 +145,9 @@ const PROPERTIES: &str =
 
 /// Whether `PROPERTIES` return the same on both, and all bins have the same counts.
 pub fn is_same<T: Counter, F: Counter>(one: &Histogram<T>, other: &Histogram<F>) -> bool {
-    for name in PROPERTIES.split(' ') {
-        if property(one, name) != property(other, name) {
-            return false;
-        }
-    }
-    for index in 0..one.distinct_values() as u64 {
-        if bin_count(one, index) != bin_count(other, index) {
-            return false;
-        }
-    }
-    true
+    let bins = one.distinct_values() as u64;
+    PROPERTIES
+        .split(' ')
+        .all(|name| property(one, name) == property(other, name))
+        && (0..bins).all(|index| bin_count(one, index) == bin_count(other, index))
 }

@@ -12,7 +12,7 @@ use std::{env, fs, io};
 /// Plays the rows of a file. Returns whether no allocation failed.
 fn play_file(rt: &HostRuntime, report: &mut Report, file: &str) -> io::Result<bool> {
     let text = fs::read_to_string(rt, file)?;
-    Ok(report.play(rt.alloc(), file, text.as_str()).is_ok())
+    Ok(report.play(file, text.as_str()).is_ok())
 }
 
 /// Plays all files, and prints the report. Returns whether there are rows and all passed.

@@ -13,9 +13,8 @@ mod program;
 mod serializers;
 mod streams;
 
-use hdrhistogram::Histogram;
+use hdr_core::{CreationError, Histogram};
 use std::alloc::Global;
-use std::test::Fail;
 
 /// The V2 bytes of 1 once and 2 four times, by three digits.
 pub const FIRST_RUN: [u8; 43] = [
@@ -23,10 +22,14 @@ pub const FIRST_RUN: [u8; 43] = [
     0, 0, 0, 2, 0x3f, 0xf0, 0, 0, 0, 0, 0, 0, 0, 2, 8,
 ];
 
-/// The histogram of these bytes.
-pub fn first_run(alloc: Global) -> Result<Histogram<u64>, Fail> {
+/// The line of a log with these bytes: the first second, with tag `a`.
+pub const FIRST_LINE: &str =
+    "Tag=a,0.000,1.000,2.000,HISTEwAAAAMAAAAAAAAAAwAAAAAAAAABAAAAAAAAAAI/8AAAAAAAAAACCA==\n";
+
+/// Returns the histogram of these bytes.
+pub fn first_run(alloc: Global) -> Result<Histogram<u64>, CreationError> {
     let mut h = Histogram::new(alloc, 3)?;
-    h.record_n(1, 1)?;
-    h.record_n(2, 4)?;
+    h.saturating_record(1);
+    h.saturating_record_n(2, 4);
     Ok(h)
 }

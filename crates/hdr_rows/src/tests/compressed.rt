@@ -4,6 +4,7 @@ use crate::tests::FIRST_RUN;
 use crate::tests::messages::assert_message;
 use hdr_convert::{ConvertError, Form, compressed, convert_field, form_of, v2_bytes};
 use hdr_zlib::{CompressionLevel, InflateError, adler32, deflate, inflate};
+use std::alloc::Global;
 use std::process::Abort;
 use std::test::Fail;
 
@@ -46,17 +47,24 @@ fn inflates_what_deflate_writes(rt: HostRuntime) -> Result<(), Fail> {
     Ok(())
 }
 
+/// Returns the field in another form.
+fn converted(alloc: Global, field: &str, form: Form) -> Result<String, Fail> {
+    let mut output = Vec::new(alloc);
+    convert_field(alloc, field, form, &mut output)?;
+    Ok(String::from_utf8(output)?)
+}
+
 #[test]
 fn converts_a_histogram_of_java(rt: HostRuntime) -> Result<(), Fail> {
-    let mut field = Vec::new(rt.alloc());
-    convert_field(rt.alloc(), COMPRESSED, Form::Plain, &mut field)?;
-    assert_eq!(rt; field.as_slice(), PLAIN.as_bytes());
-    field.clear();
-    convert_field(rt.alloc(), PLAIN, Form::Compressed, &mut field)?;
-    let packed = str::from_utf8(&field)?;
-    let mut again = Vec::new(rt.alloc());
-    convert_field(rt.alloc(), packed, Form::Plain, &mut again)?;
-    assert_eq!(rt; again.as_slice(), PLAIN.as_bytes());
+    assert_eq!(rt;
+        converted(rt.alloc(), COMPRESSED, Form::Plain)?.as_str(),
+        PLAIN
+    );
+    let packed = converted(rt.alloc(), PLAIN, Form::Compressed)?;
+    assert_eq!(rt;
+        converted(rt.alloc(), packed.as_str(), Form::Plain)?.as_str(),
+        PLAIN
+    );
     Ok(())
 }
 
@@ -72,33 +80,24 @@ fn compresses_bytes_and_back(rt: HostRuntime) -> Result<(), Fail> {
 }
 
 #[test]
-fn forms_of_other_histograms(rt: HostRuntime) -> Result<(), Fail> {
-    assert_eq!(rt;
-        form_of(&[0x1c, 0x84, 0x93, 0x41]),
-        Err(ConvertError::OldVersion(1))
-    );
-    assert_eq!(rt;
-        form_of(&[0x1c, 0x84, 0x93, 0x88]),
-        Err(ConvertError::OldVersion(0))
-    );
-    assert_eq!(rt;
-        form_of(&[0x0c, 0x72, 0x12, 0x4e]),
-        Err(ConvertError::DoubleHistogram)
-    );
+fn forms_of_other_histograms(rt: HostRuntime) {
+    for (cookie, error) in [
+        ([0x1c, 0x84, 0x93, 0x41], ConvertError::OldVersion(1)),
+        ([0x1c, 0x84, 0x93, 0x88], ConvertError::OldVersion(0)),
+        ([0x0c, 0x72, 0x12, 0x4e], ConvertError::DoubleHistogram),
+    ] {
+        assert_eq!(rt; form_of(&cookie), Err(error));
+    }
     assert_eq!(rt;
         form_of(&[0x1c, 0x84, 0x93]),
         Err(ConvertError::NotAHistogram)
     );
-    Ok(())
 }
 
 #[test]
 fn conversion_messages(rt: HostRuntime) -> Result<(), Fail> {
-    assert_message(
-        &rt,
-        &ConvertError::OldVersion(1),
-        "a histogram of version 1 with counters of an unknown width",
-    )?;
+    let message = "a histogram of version 1 with counters of an unknown width";
+    assert_message(&rt, &ConvertError::OldVersion(1), message)?;
     assert_message(&rt, &ConvertError::DoubleHistogram, "a double histogram")?;
     let error = ConvertError::Inflate(InflateError::Checksum);
     let message = "invalid compressed histogram: the checksum of the data is wrong";

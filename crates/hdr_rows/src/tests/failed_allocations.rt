@@ -44,6 +44,30 @@ const CREATING: &str =
     log field AQI=; log begin comment a then b; one log_line 0.0 1.0 1 a; \
     one merge 3 a - - Tag=a,0.0,1.0,2.0,HISTEwAAAAMAAAAAAAAAAwAAAAAAAAABAAAAAAAAAAI/8AAAAAAAAAACCA==\\n";
 
+/// Returns the value of a result as `Some`, or `None` if an allocation failed. Any other error
+/// fails the test.
+macro_rules! allocated {
+    ($rt:expr, $result:expr, $out_of_memory:pat) => {
+        match $result {
+            Ok(value) => Some(value),
+            Err(error) => {
+                assert!($rt; matches!(error, $out_of_memory));
+                None
+            }
+        }
+    };
+}
+
+pub(crate) use allocated;
+
+/// Prints `no memory` unless all allocations succeeded.
+fn report(rt: &impl Print, succeeds: bool) -> Result<(), Fail> {
+    if !succeeds {
+        println!(rt; "no memory")?;
+    }
+    Ok(())
+}
+
 /// Whether the error of a call as a value is a failed allocation.
 fn is_failed_allocation_of_call(cause: &CallError) -> bool {
     matches!(
@@ -88,12 +112,7 @@ const SAME_AS_WIDE: &str = "one same_wide; one equals_wide";
 
 /// Whether all comparisons return true.
 fn are_same(alloc: Global, table: &mut Table<u64>, comparisons: &str) -> bool {
-    for comparison in comparisons.split("; ") {
-        if !matches!(table.execute(alloc, comparison), Ok(Value::Bool(true))) {
-            return false;
-        }
-    }
-    true
+    comparisons.split("; ").all(|it| matches!(table.execute(alloc, it), Ok(Value::Bool(true))))
 }
 
 /// Returns the histograms after the calls of `setup`, or `None` if an allocation failed.
@@ -108,55 +127,47 @@ fn create_table(alloc: Global, setup: &str) -> Option<Table<u64>> {
 
 /// Whether an allocation failed in a call, or in the calls of `setup`. A call that failed changed nothing: all comparisons
 /// still return true.
-fn call_fails(rt: &impl Abort, alloc: Global, setup: &str, call: &str, comparisons: &str) -> bool {
-    let Some(mut table) = create_table(alloc, setup) else {
+fn call_fails(rt: &(impl Abort + AllocGlobal), setup: &str, call: &str, comparisons: &str) -> bool {
+    let Some(mut table) = create_table(rt.alloc(), setup) else {
         return true;
     };
-    let fails = any_fails(alloc, &mut table, call);
-    if fails {
-        assert!(rt; are_same(alloc, &mut table, comparisons), "{call}");
-    }
+    let fails = any_fails(rt.alloc(), &mut table, call);
+    assert!(rt;
+        !fails || are_same(rt.alloc(), &mut table, comparisons),
+        "{call}"
+    );
     drop(table);
     fails
 }
 
-/// Makes each call of a list on histograms of its own, and prints whether an allocation failed in one.
-fn try_each(
-    rt: &(impl Abort + AllocGlobal + Print),
-    setup: &str,
-    calls: &str,
-    comparisons: &str,
-) -> Result<(), Fail> {
-    let mut has_failed = false;
+/// Makes each call of a list on histograms of its own. Returns whether an allocation failed in
+/// none.
+fn all_succeed(rt: &(impl Abort + AllocGlobal), calls: &str, setup: &str, same: &str) -> bool {
+    let mut succeed = true;
     for call in calls.split("; ") {
-        if call_fails(rt, rt.alloc(), setup, call, comparisons) {
-            has_failed = true;
-        }
+        succeed &= !call_fails(rt, setup, call, same);
     }
-    if has_failed {
-        println!(rt; "no memory")?;
-    }
-    Ok(())
+    succeed
 }
 
 #[test]
 fn growing(rt: HostRuntime) -> Result<(), Fail> {
-    try_each(&rt, TWINS, GROWING, SAME_AS_OTHER)
+    report(&rt, all_succeed(&rt, GROWING, TWINS, SAME_AS_OTHER))
 }
 
 #[test]
 fn merging(rt: HostRuntime) -> Result<(), Fail> {
-    try_each(&rt, EMPTY, MERGING, SAME_AS_WIDE)
+    report(&rt, all_succeed(&rt, MERGING, EMPTY, SAME_AS_WIDE))
 }
 
 #[test]
 fn merging_into_samples(rt: HostRuntime) -> Result<(), Fail> {
-    try_each(&rt, NONEMPTY, MERGING, SAME_AS_WIDE)
+    report(&rt, all_succeed(&rt, MERGING, NONEMPTY, SAME_AS_WIDE))
 }
 
 #[test]
 fn creating(rt: HostRuntime) -> Result<(), Fail> {
-    try_each(&rt, TWINS, CREATING, SAME_AS_OTHER)
+    report(&rt, all_succeed(&rt, CREATING, TWINS, SAME_AS_OTHER))
 }
 
 /// Prints whether an allocation failed in the second call of a run. The effect of the first call remains: 4 is recorded, as in
@@ -166,20 +177,18 @@ fn check_run(
     table: &mut Table<u64>,
     outcome: Result<(), RunError>,
 ) -> Result<(), Fail> {
-    if let Err(error) = outcome {
-        assert_eq!(rt; error.at, 1);
-        assert!(rt; is_failed_allocation_of_call(&error.cause));
+    if let Err(error) = &outcome {
+        assert!(rt; error.at == 1 && is_failed_allocation_of_call(&error.cause));
         assert!(rt; !any_fails(rt.alloc(), table, "other saturating_record 4"));
         assert!(rt; are_same(rt.alloc(), table, SAME_AS_OTHER));
-        println!(rt; "no memory")?;
     }
-    Ok(())
+    report(rt, outcome.is_ok())
 }
 
 #[test]
 fn running(rt: HostRuntime) -> Result<(), Fail> {
     let Some(mut table) = create_table(rt.alloc(), TWINS) else {
-        return Ok(println!(rt; "no memory")?);
+        return report(&rt, false);
     };
     let calls = [Call::Record(4, 1), Call::Record(1000, 5), Call::Clear];
     let result = table.one.apply_all(&calls);
@@ -189,7 +198,7 @@ fn running(rt: HostRuntime) -> Result<(), Fail> {
 #[test]
 fn running_from(rt: HostRuntime) -> Result<(), Fail> {
     let Some(mut table) = create_table(rt.alloc(), TWINS) else {
-        return Ok(println!(rt; "no memory")?);
+        return report(&rt, false);
     };
     let calls = [
         CallFrom::Own(Call::Record(4, 1)),

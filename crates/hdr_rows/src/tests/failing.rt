@@ -4,10 +4,11 @@
 use std::io::{self, ErrorKind, Read, Write};
 
 macro_rules! kinds {
-    ($($kind:ident)*) => { [$(ErrorKind::$kind),*] };
+    ($($kind:ident)*) => { [None, $(Some(ErrorKind::$kind)),*] };
 }
 
-pub const KINDS: [ErrorKind; 42] = kinds! {
+/// Each kind of error, after `None`.
+pub const KINDS: [Option<ErrorKind>; 43] = kinds! {
     NotFound PermissionDenied ConnectionRefused ConnectionReset HostUnreachable NetworkUnreachable
     ConnectionAborted NotConnected AddrInUse AddrNotAvailable NetworkDown BrokenPipe AlreadyExists
     WouldBlock NotADirectory IsADirectory DirectoryNotEmpty ReadOnlyFilesystem FilesystemLoop
@@ -17,14 +18,31 @@ pub const KINDS: [ErrorKind; 42] = kinds! {
     InProgress Other Uncategorized
 };
 
+/// How a call over a stream ended: `Ok`, or the kind of the stream's error, or `None` for any other
+/// error.
+pub type Ended = Result<(), Option<ErrorKind>>;
+
+/// Returns how a call ended, whose error is an enum with a variant `IoError`.
+macro_rules! ended {
+    ($result:expr, $error:ident) => {
+        match $result {
+            Ok(_) => Ok(()),
+            Err($error::IoError(cause)) => Err(Some(cause.kind())),
+            Err(_) => Err(None),
+        }
+    };
+}
+
+pub(crate) use ended;
+
 /// A reader that returns at most `step` bytes a call, and fails at one call, counted from 1.
 #[derive(Drop)]
 pub struct Source<'a> {
-    pub rest: &'a [u8],
+    rest: &'a [u8],
     step: usize,
     calls: usize,
-    pub fails_at: usize,
-    pub kind: ErrorKind,
+    fails_at: usize,
+    kind: ErrorKind,
 }
 
 impl<'a> Source<'a> {
@@ -37,6 +55,19 @@ impl<'a> Source<'a> {
             fails_at,
             kind,
         }
+    }
+
+    /// Whether all but the last `left` bytes were read.
+    pub fn leaves(&self, left: usize) -> bool {
+        self.rest.len() == left
+    }
+
+    /// Whether a call that reads `needed` bytes of `len`, one at a time, ended as it has to: by
+    /// reading them, or by the error of a read, after which nothing is read.
+    pub fn ends(&self, ended: Ended, needed: usize, len: usize) -> bool {
+        let before = self.fails_at.saturating_sub(1);
+        let wanted = (before >= needed).then_some(()).ok_or(Some(self.kind));
+        ended == wanted && self.leaves(len.saturating_sub(before.min(needed)))
     }
 }
 
@@ -56,14 +87,14 @@ impl<'a> Read for Source<'a> {
 
 /// A writer of at most 256 bytes, which accepts at most `step` bytes a call, and fails at one call, counted from 1: with an
 /// error of `kind`, or by returning 0.
-#[derive(Drop)]
+#[derive(Clone, Copy)]
 pub struct Sink {
     buf: [u8; 256],
     len: usize,
     step: usize,
     calls: usize,
-    pub fails_at: usize,
-    pub kind: Option<ErrorKind>,
+    fails_at: usize,
+    kind: Option<ErrorKind>,
 }
 
 impl Sink {
@@ -84,15 +115,23 @@ impl Sink {
         self.buf.get(..self.len).unwrap_or(&[])
     }
 
-    /// Whether it holds just the part of `output` that was written before it failed.
-    pub fn holds_prefix(&self, output: &[u8]) -> bool {
-        let len = self.fails_at.saturating_sub(1).saturating_mul(self.step);
-        self.written() == &output[..output.len().min(len)]
+    /// Returns the number of bytes that are written before it fails.
+    fn len_before(&self) -> usize {
+        self.fails_at.saturating_sub(1).saturating_mul(self.step)
     }
 
-    /// Returns the kind of error that its caller has to return: its own, or `WriteZero`.
-    pub fn expected_kind(&self) -> ErrorKind {
-        self.kind.unwrap_or(ErrorKind::WriteZero)
+    /// Whether it holds just the part of `output` that was written before it failed.
+    pub fn holds_prefix(&self, output: &[u8]) -> bool {
+        self.written() == &output[..output.len().min(self.len_before())]
+    }
+
+    /// Whether a call that writes `output` ended as it has to: by writing all of it, or by its
+    /// error, or `WriteZero`, after the bytes before.
+    pub fn ends(&self, ended: Ended, output: &[u8]) -> bool {
+        let kind = self.kind.unwrap_or(ErrorKind::WriteZero);
+        let is_written = self.len_before() >= output.len();
+        let wanted = is_written.then_some(()).ok_or(Some(kind));
+        ended == wanted && self.holds_prefix(output)
     }
 }
 
@@ -100,10 +139,7 @@ impl Write for Sink {
     fn write(&mut self, buf: &[u8]) -> io::Result<usize> {
         self.calls = self.calls.saturating_add(1);
         if self.calls == self.fails_at {
-            return match self.kind {
-                Some(kind) => Err(io::Error::from(kind)),
-                None => Ok(0),
-            };
+            return self.kind.map_or(Ok(0), |kind| Err(io::Error::from(kind)));
         }
         let free = self.buf.get_mut(self.len..).unwrap_or(&mut []);
         let count = buf.len().min(free.len()).min(self.step);

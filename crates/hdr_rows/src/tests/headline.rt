@@ -23,29 +23,18 @@ fn second(start: Duration) -> LineParts<'static>
 /// Correction adds 9,000, 8,000 .. to 1,000, so the sixth of twelve is 4,000, in a class of two values.
 #[test]
 fn median_of_corrected(rt: HostRuntime) -> Result<(), Fail> {
-    let Ok(mut histogram) = Histogram::<u64>::new(rt.alloc(), 3) else {
-        return Err(Fail::from("no histogram"));
-    };
+    let mut histogram = Histogram::<u64>::new(rt.alloc(), 3)?;
     let calls = [
         Call::Correct(10_000, 1, 1000),
         Call::Record(1, 1),
         Call::Clamp(2, 1),
     ];
-    let Some(quantile) = Quantile::new(1, 2) else {
-        return Err(Fail::from("no quantile"));
-    };
-    let Ok(copies) = headline(
-        rt.alloc(),
-        &mut histogram,
-        &calls,
-        second(Duration::ZERO),
-        quantile,
-    ) else {
-        return Err(Fail::from("an error"));
-    };
+    let median = Quantile::new(1, 2).ok_or("no quantile")?;
+    let start = second(Duration::ZERO);
+    let copies = headline(rt.alloc(), &mut histogram, &calls, start, median)?;
     assert_eq!(rt; copies.value, 4001);
-    assert_eq!(rt; copies.from_bytes.value_at_quantile(quantile), 4001);
-    assert_eq!(rt; copies.from_line.value_at_quantile(quantile), 4001);
+    assert_eq!(rt; copies.from_bytes.value_at_quantile(median), 4001);
+    assert_eq!(rt; copies.from_line.value_at_quantile(median), 4001);
     assert_eq!(rt; copies.from_line.len(), 12);
     Ok(())
 }
@@ -56,43 +45,31 @@ fn error_of(
     calls: &[Call<'_, u64>],
     start: Duration,
 ) -> Result<HeadlineError, Fail> {
-    let Ok(mut histogram) = Histogram::<u64>::new_with_bounds(rt.alloc(), 1, 1000, 1) else {
-        return Err(Fail::from("no histogram"));
-    };
-    let Some(quantile) = Quantile::new(1, 2) else {
-        return Err(Fail::from("no quantile"));
-    };
-    match headline(rt.alloc(), &mut histogram, calls, second(start), quantile) {
-        Ok(_) => Err(Fail::from("no error")),
-        Err(error) => Ok(error),
-    }
+    let mut histogram = Histogram::<u64>::new_with_bounds(rt.alloc(), 1, 1000, 1)?;
+    let median = Quantile::new(1, 2).ok_or("no quantile")?;
+    let result = headline(rt.alloc(), &mut histogram, calls, second(start), median);
+    Ok(result.err().ok_or("no error")?)
 }
 
 #[test]
 fn value_past_the_reach_fails(rt: HostRuntime) -> Result<(), Fail> {
     let calls = [Call::Record(1, 1), Call::Record(5000, 1)];
-    match error_of(&rt, &calls, Duration::ZERO)? {
-        HeadlineError::Call(error) => {
-            assert_eq!(rt; error.at, 1);
-            Ok(())
-        }
-        _ => Err(Fail::from("another error")),
-    }
+    let error = error_of(&rt, &calls, Duration::ZERO)?;
+    assert!(rt; matches!(error, HeadlineError::Call(error) if error.at == 1));
+    Ok(())
 }
 
 #[test]
 fn great_count_has_no_bytes(rt: HostRuntime) -> Result<(), Fail> {
-    match error_of(&rt, &[Call::Record(1, 1 << 63)], Duration::ZERO)? {
-        HeadlineError::CountNotSerializable => Ok(()),
-        _ => Err(Fail::from("another error")),
-    }
+    let error = error_of(&rt, &[Call::Record(1, 1 << 63)], Duration::ZERO)?;
+    assert!(rt; matches!(error, HeadlineError::CountNotSerializable));
+    Ok(())
 }
 
 #[test]
 fn late_start_is_out_of_range(rt: HostRuntime) -> Result<(), Fail> {
     let late = Duration::new(u64::MAX, 999_999_999);
-    match error_of(&rt, &[Call::Record(1, 1)], late)? {
-        HeadlineError::TimeOutOfRange => Ok(()),
-        _ => Err(Fail::from("another error")),
-    }
+    let error = error_of(&rt, &[Call::Record(1, 1)], late)?;
+    assert!(rt; matches!(error, HeadlineError::TimeOutOfRange));
+    Ok(())
 }

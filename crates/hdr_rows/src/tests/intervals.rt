@@ -21,89 +21,49 @@ fn run_of(alloc: Global, factor: u64) -> Result<Run, Fail> {
     Ok(Run::new(alloc, batches)?)
 }
 
-/// What an interval has to be.
-#[derive(Clone, Copy)]
-struct Wanted {
-    num: u64,
-    den: u64,
-    tier: Tier,
-    value: u64,
-    low: Option<u64>,
-    high: Option<u64>,
-    independent: u64,
-}
+/// Of an interval: the value, the ends, and the number of independent samples.
+type Ends = (u64, Option<u64>, Option<u64>, u64);
 
-/// Compares the interval of a quantile of a run with what it has to be.
-fn compare(alloc: Global, rt: &impl Abort, run: &Run, wanted: Wanted) -> Result<(), Fail> {
-    let Some(quantile) = Quantile::new(wanted.num, wanted.den) else {
-        return Err(Fail::from("no quantile"));
-    };
-    if wanted.den > 100 || wanted.num > wanted.den {
+/// Returns the interval of a quantile of a run.
+fn interval(alloc: Global, run: &Run, num: u64, den: u64, tier: Tier) -> Result<Ends, Fail> {
+    let quantile = Quantile::new(num, den).ok_or("no quantile")?;
+    if quantile.den() > 100 || quantile.num() > quantile.den() {
         return Err(Fail::from("no quantile of a test"));
     }
-    let Some(found) = run.interval(alloc, quantile, wanted.tier)? else {
-        return Err(Fail::from("no interval"));
-    };
-    assert_eq!(rt; found.value, wanted.value);
-    assert_eq!(rt; found.low.value, wanted.low);
-    assert_eq!(rt; found.high.value, wanted.high);
-    assert_eq!(rt; found.independent(), wanted.independent);
-    Ok(())
-}
-
-/// Returns what the interval of the median of the numbers has to be.
-fn median(tier: Tier, low: Option<u64>, high: Option<u64>, independent: u64) -> Wanted {
-    Wanted {
-        num: 1,
-        den: 2,
-        tier,
-        value: 500,
-        low,
-        high,
-        independent,
-    }
-}
-
-/// Returns what the interval of the percentile of 99 has to be.
-fn tail(tier: Tier, low: Option<u64>, high: Option<u64>, independent: u64) -> Wanted {
-    Wanted {
-        num: 99,
-        den: 100,
-        tier,
-        value: 990,
-        low,
-        high,
-        independent,
-    }
+    let found = run.interval(alloc, quantile, tier)?.ok_or("no interval")?;
+    Ok((
+        found.value,
+        found.low.value,
+        found.high.value,
+        found.independent(),
+    ))
 }
 
 #[test]
 fn ends_of_samples_in_no_order(rt: HostRuntime) -> Result<(), Fail> {
-    let alloc = rt.alloc();
-    let run = run_of(alloc, 7_919)?;
-    let wanted = median(Tier::FivePercent, Some(469), Some(532), 1_000);
-    compare(alloc, &rt, &run, wanted)?;
-    let wanted = tail(Tier::FivePercent, Some(981), Some(998), 618);
-    compare(alloc, &rt, &run, wanted)?;
-    let wanted = median(Tier::OnePercent, Some(459), Some(542), 1_000);
-    compare(alloc, &rt, &run, wanted)?;
-    let wanted = tail(Tier::OnePercent, Some(977), None, 518);
-    compare(alloc, &rt, &run, wanted)?;
-    let wanted = tail(Tier::OneInThousand, Some(969), None, 390);
-    compare(alloc, &rt, &run, wanted)?;
+    let run = run_of(rt.alloc(), 7_919)?;
+    for (num, den, tier, ends) in [
+        (1, 2, Tier::FivePercent, (500, Some(469), Some(532), 1_000)),
+        (99, 100, Tier::FivePercent, (990, Some(981), Some(998), 618)),
+        (1, 2, Tier::OnePercent, (500, Some(459), Some(542), 1_000)),
+        (99, 100, Tier::OnePercent, (990, Some(977), None, 518)),
+        (99, 100, Tier::OneInThousand, (990, Some(969), None, 390)),
+    ] {
+        assert_eq!(rt; interval(rt.alloc(), &run, num, den, tier)?, ends);
+    }
     Ok(())
 }
 
 #[test]
 fn ends_of_ascending_samples(rt: HostRuntime) -> Result<(), Fail> {
-    let alloc = rt.alloc();
-    let run = run_of(alloc, 1)?;
-    let wanted = median(Tier::FivePercent, Some(113), Some(888), 6);
-    compare(alloc, &rt, &run, wanted)?;
-    let wanted = median(Tier::OnePercent, None, None, 5);
-    compare(alloc, &rt, &run, wanted)?;
-    let wanted = tail(Tier::OnePercent, Some(583), None, 5);
-    compare(alloc, &rt, &run, wanted)?;
+    let run = run_of(rt.alloc(), 1)?;
+    for (num, den, tier, ends) in [
+        (1, 2, Tier::FivePercent, (500, Some(113), Some(888), 6)),
+        (1, 2, Tier::OnePercent, (500, None, None, 5)),
+        (99, 100, Tier::OnePercent, (990, Some(583), None, 5)),
+    ] {
+        assert_eq!(rt; interval(rt.alloc(), &run, num, den, tier)?, ends);
+    }
     Ok(())
 }
 
@@ -111,22 +71,14 @@ fn ends_of_ascending_samples(rt: HostRuntime) -> Result<(), Fail> {
 fn a_run_without_samples_has_no_interval(rt: HostRuntime) -> Result<(), Fail> {
     let run = Run::new(rt.alloc(), Vec::new(rt.alloc()))?;
     if let Some(median) = Quantile::new(1, 2) {
-        if run
-            .interval(rt.alloc(), median, Tier::OnePercent)?
-            .is_some()
-        {
-            return Err(Fail::from("an interval of no samples"));
-        }
+        let found = run.interval(rt.alloc(), median, Tier::OnePercent)?;
+        assert!(rt; found.is_none());
     }
     Ok(())
 }
 
-/// Returns the numbers of samples of the batches of some numbers that are recorded, each once.
-fn sizes_of(alloc: Global, numbers: u64) -> Result<Vec<u64>, Fail> {
-    let mut batching = Batching::new(alloc, 3)?;
-    for number in 0..numbers {
-        batching.record(number, 0)?;
-    }
+/// Returns the numbers of samples of the batches.
+fn sizes_of(alloc: Global, batching: Batching) -> Result<Vec<u64>, Fail> {
     let mut sizes = Vec::new(alloc);
     for batch in &batching.into_batches()? {
         sizes.push(batch.len())?;
@@ -134,15 +86,24 @@ fn sizes_of(alloc: Global, numbers: u64) -> Result<Vec<u64>, Fail> {
     Ok(sizes)
 }
 
+/// Returns the numbers of samples of the batches of some numbers that are recorded, each once.
+fn sizes_for(alloc: Global, numbers: u64) -> Result<Vec<u64>, Fail> {
+    let mut batching = Batching::new(alloc, 3)?;
+    for number in 0..numbers {
+        batching.record(number, 0)?;
+    }
+    sizes_of(alloc, batching)
+}
+
 #[test]
 fn batches_have_one_size_but_the_last(rt: HostRuntime) -> Result<(), Fail> {
     let alloc = rt.alloc();
-    assert!(rt; sizes_of(alloc, 3)?.as_slice() == [1, 1, 1].as_slice());
-    assert!(rt; sizes_of(alloc, 16)?.as_slice() == [1; 16].as_slice());
-    assert!(rt; sizes_of(alloc, 17)?.as_slice() == [2, 2, 2, 2, 2, 2, 2, 2, 1].as_slice());
-    assert!(rt; sizes_of(alloc, 32)?.as_slice() == [2; 16].as_slice());
+    assert!(rt; sizes_for(alloc, 3)?.as_slice() == [1, 1, 1].as_slice());
+    assert!(rt; sizes_for(alloc, 16)?.as_slice() == [1; 16].as_slice());
+    assert!(rt; sizes_for(alloc, 17)?.as_slice() == [2, 2, 2, 2, 2, 2, 2, 2, 1].as_slice());
+    assert!(rt; sizes_for(alloc, 32)?.as_slice() == [2; 16].as_slice());
     let hundred = [8, 8, 8, 8, 8, 8, 8, 8, 8, 8, 8, 8, 4];
-    assert!(rt; sizes_of(alloc, 100)?.as_slice() == hundred.as_slice());
+    assert!(rt; sizes_for(alloc, 100)?.as_slice() == hundred.as_slice());
     Ok(())
 }
 
@@ -151,10 +112,6 @@ fn missing_samples_are_of_the_batch_of_their_number(rt: HostRuntime) -> Result<(
     let mut batching = Batching::new(rt.alloc(), 3)?;
     batching.record(50, 10)?;
     batching.record(5, 10)?;
-    let mut sizes = Vec::new(rt.alloc());
-    for batch in &batching.into_batches()? {
-        sizes.push(batch.len())?;
-    }
-    assert!(rt; sizes.as_slice() == [5, 1].as_slice());
+    assert!(rt; sizes_of(rt.alloc(), batching)?.as_slice() == [5, 1].as_slice());
     Ok(())
 }

@@ -12,10 +12,10 @@ const OUT_OF_MEMORY: &str = "Out of memory";
 
 const USIZE: &str = "The `usize` type is too small to represent the desired configuration";
 
-const RESIZE_FAILED: &str =
+const RESIZING: &str =
     "Auto resizing is enabled and must be used to represent the provided value, but the histogram cannot be resized because `usize` cannot represent sufficient length";
 
-const ADDITION_FAILED: &str =
+const ADDING: &str =
     "The other histogram includes values that would map to indexes in this histogram that are not expressible for `usize`";
 
 /// Asserts the message of an error.
@@ -47,16 +47,8 @@ fn out_of_memory_messages(rt: HostRuntime) -> Result<(), Fail> {
 fn usize_messages(rt: HostRuntime) -> Result<(), Fail> {
     assert_message(&rt, &CreationError::UsizeTypeTooSmall, USIZE)?;
     assert_message(&rt, &UsizeTypeTooSmall, USIZE)?;
-    assert_message(
-        &rt,
-        &RecordError::ResizeFailedUsizeTypeTooSmall,
-        RESIZE_FAILED,
-    )?;
-    assert_message(
-        &rt,
-        &AdditionError::ResizeFailedUsizeTypeTooSmall,
-        ADDITION_FAILED,
-    )?;
+    assert_message(&rt, &RecordError::ResizeFailedUsizeTypeTooSmall, RESIZING)?;
+    assert_message(&rt, &AdditionError::ResizeFailedUsizeTypeTooSmall, ADDING)?;
     let message = "Internal calculations cannot be represented in `usize`";
     assert_message(&rt, &V2SerializeError::UsizeTypeTooSmall, message)
 }

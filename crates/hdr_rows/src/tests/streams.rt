@@ -1,11 +1,11 @@
 //! The results of the library if a reader or a writer fails.
 
-use crate::tests::failing::{KINDS, Sink, Source};
-use crate::tests::{FIRST_RUN, first_run};
+use crate::tests::failing::{KINDS, Sink, Source, ended};
+use crate::tests::{FIRST_LINE, FIRST_RUN, first_run};
 use hdrhistogram::Histogram;
 use hdrhistogram::serialization::deserializer::varint_read;
 use hdrhistogram::serialization::interval_log::{
-    IntervalLogWriter, IntervalLogWriterBuilder, IntervalLogWriterError, Tag,
+    IntervalLogWriter, IntervalLogWriterBuilder, IntervalLogWriterError as LogError, Tag,
 };
 use hdrhistogram::serialization::{
     DeserializeError, Deserializer, Serializer, V2SerializeError, V2Serializer,
@@ -16,66 +16,35 @@ use std::process::Abort;
 use std::test::Fail;
 use std::time::Duration;
 
-/// Fails the test with the error's kind and the call that failed, unless the result is the expected one.
-fn assert_expected(rt: &impl Abort, is_expected: bool, kind: Option<ErrorKind>, fails_at: usize) {
-    assert!(rt; is_expected, "{kind:?} at {fails_at}");
-}
-
-/// Returns a writer that accepts seven bytes a call.
-fn seven_byte_sink(fails_at: usize, kind: Option<ErrorKind>) -> Sink {
-    Sink::new(7, fails_at, kind)
-}
-
-/// Whether all bytes are written by seven calls, or the error of one of them is returned after the bytes before it.
-fn serializes(h: &Histogram<u64>, serializer: &mut V2Serializer, mut sink: Sink) -> bool {
-    let is_expected = match serializer.serialize(h, &mut sink) {
-        Ok(count) => count == 43 && sink.fails_at == 8,
-        Err(V2SerializeError::IoError(cause)) => sink.fails_at < 8
-            && cause.kind() == sink.expected_kind(),
-        Err(_) => false,
-    };
-    is_expected && sink.holds_prefix(FIRST_RUN.as_slice())
-}
-
-/// Serializes to a writer that fails at each of its calls in turn.
-fn serialize_each(rt: &(impl Abort + AllocGlobal), kind: Option<ErrorKind>) -> Result<(), Fail> {
-    let h = first_run(rt.alloc())?;
-    let mut serializer = V2Serializer::new(rt.alloc());
-    for fails_at in 1..9usize {
-        let is_expected = serializes(&h, &mut serializer, seven_byte_sink(fails_at, kind));
-        assert_expected(rt, is_expected, kind, fails_at);
-    }
-    Ok(())
-}
-
+/// All bytes are written by seven calls, or the error of one of them is returned after the bytes
+/// before it.
 #[test]
 fn writers_of_bytes(rt: HostRuntime) -> Result<(), Fail> {
-    serialize_each(&rt, None)?;
+    let h = first_run(rt.alloc())?;
+    let mut serializer = V2Serializer::new(rt.alloc());
     for kind in KINDS {
-        serialize_each(&rt, Some(kind))?;
+        for fails_at in 1..9usize {
+            let mut sink = Sink::new(7, fails_at, kind);
+            let result = serializer.serialize(&h, &mut sink);
+            let is_expected = matches!(result, Ok(43) | Err(_))
+                && sink.ends(ended!(result, V2SerializeError), &FIRST_RUN);
+            assert!(rt; is_expected, "{kind:?} at {fails_at}");
+        }
     }
     Ok(())
 }
 
-/// Whether all bytes are read by 43 calls, or the error of one of them is returned.
-fn reads(deserializer: &mut Deserializer, source: &mut Source) -> bool {
-    match deserializer.deserialize::<u64, Source>(source) {
-        Ok(h) => h.len() == 5 && source.fails_at == 44,
-        Err(DeserializeError::IoError(cause)) => source.fails_at < 44
-            && cause.kind() == source.kind,
-        Err(_) => false,
-    }
-}
-
+/// All bytes are read by 43 calls, or the error of one of them is returned.
 #[test]
 fn readers_of_bytes(rt: HostRuntime) {
     let mut deserializer = Deserializer::new(rt.alloc());
-    for kind in KINDS {
+    for kind in KINDS.into_iter().flatten() {
         for fails_at in 1..45usize {
-            let mut source = Source::new(FIRST_RUN.as_slice(), 1, fails_at, kind);
-            let len = FIRST_RUN.len().saturating_sub(fails_at.saturating_sub(1));
-            let is_expected = reads(&mut deserializer, &mut source) && source.rest.len() == len;
-            assert_expected(&rt, is_expected, Some(kind), fails_at);
+            let mut source = Source::new(&FIRST_RUN, 1, fails_at, kind);
+            let result = deserializer.deserialize::<u64, Source>(&mut source);
+            let is_expected = !matches!(&result, Ok(h) if h.len() != 5)
+                && source.ends(ended!(result, DeserializeError), 43, 43);
+            assert!(rt; is_expected, "{kind:?} at {fails_at}");
         }
     }
 }
@@ -92,16 +61,8 @@ const INVALID: [(usize, u8, usize); 7] = [
     (42, 0x80, 43),
 ];
 
-/// Whether the bytes of a reader that does not fail are an error; a stream's error has to be the unexpected end.
-fn rejects(deserializer: &mut Deserializer, source: &mut Source) -> bool {
-    match deserializer.deserialize::<u64, Source>(source) {
-        Ok(_) => false,
-        Err(DeserializeError::IoError(cause)) => cause.kind() == ErrorKind::UnexpectedEof,
-        Err(_) => true,
-    }
-}
-
-/// Nothing is consumed after the bytes that determine the error.
+/// Nothing is consumed after the bytes that determine the error. If that is the stream's, it is the
+/// unexpected end.
 #[test]
 fn invalid_bytes(rt: HostRuntime) {
     let mut deserializer = Deserializer::new(rt.alloc());
@@ -110,132 +71,98 @@ fn invalid_bytes(rt: HostRuntime) {
         if let Some(slot) = bytes.get_mut(index) {
             *slot = byte;
         }
-        let mut source = Source::new(bytes.as_slice(), 1, 0, ErrorKind::Other);
-        let len = FIRST_RUN.len().saturating_sub(consumed);
-        let is_expected = rejects(&mut deserializer, &mut source) && source.rest.len() == len;
-        assert!(rt; is_expected, "byte {index}");
+        let mut source = Source::new(&bytes, 1, 0, ErrorKind::Other);
+        let result = deserializer.deserialize::<u64, Source>(&mut source);
+        let ended = ended!(result, DeserializeError);
+        let left = FIRST_RUN.len().saturating_sub(consumed);
+        assert!(rt;
+            matches!(ended, Err(None | Some(ErrorKind::UnexpectedEof))),
+            "byte {index}"
+        );
+        assert!(rt; source.leaves(left), "byte {index}");
     }
 }
 
 /// The varint of the greatest number, which has nine bytes, and a trailing byte.
 const MAX_VARINT: [u8; 10] = [0xff, 0xff, 0xff, 0xff, 0xff, 0xff, 0xff, 0xff, 0xff, 7];
 
-/// Whether the greatest number is read by nine calls, or the error of one of them is returned.
-fn reads_max_varint(source: &mut Source) -> bool {
-    match varint_read(source) {
-        Ok(n) => n == u64::MAX && source.fails_at == 10,
-        Err(cause) => source.fails_at < 10 && cause.kind() == source.kind,
-    }
-}
-
+/// The number is read by nine calls, or the error of one of them is returned.
 #[test]
 fn readers_of_varints(rt: HostRuntime) {
-    for kind in KINDS {
+    for kind in KINDS.into_iter().flatten() {
         for fails_at in 1..11usize {
-            let mut source = Source::new(MAX_VARINT.as_slice(), 1, fails_at, kind);
-            let len = 11usize.saturating_sub(fails_at);
-            let is_expected = reads_max_varint(&mut source) && source.rest.len() == len;
-            assert_expected(&rt, is_expected, Some(kind), fails_at);
+            let mut source = Source::new(&MAX_VARINT, 1, fails_at, kind);
+            let is_expected = match varint_read(&mut source) {
+                Ok(n) => n == u64::MAX && source.ends(Ok(()), 9, 10),
+                Err(cause) => source.ends(Err(Some(cause.kind())), 9, 10),
+            };
+            assert!(rt; is_expected, "{kind:?} at {fails_at}");
         }
     }
 }
 
-const LINE: &[u8; 85] =
-    b"Tag=a,0.000,1.000,2.000,HISTEwAAAAMAAAAAAAAAAwAAAAAAAAABAAAAAAAAAAI/8AAAAAAAAAACCA==\n";
-
-/// Whether a part of a log is written by `calls` calls, or the error of one of them is returned.
-fn is_expected_result<E: Drop>(
-    outcome: Result<(), IntervalLogWriterError<E>>,
-    sink: &Sink,
-    calls: usize,
-) -> bool {
-    match outcome {
-        Ok(()) => sink.fails_at > calls,
-        Err(IntervalLogWriterError::IoError(cause)) => sink.fails_at <= calls
-            && cause.kind() == sink.expected_kind(),
-        Err(_) => false,
-    }
-}
-
-/// Whether all of an interval is written by 13 calls, or an error is returned after the bytes before it.
-fn writes_interval(
+/// A histogram, and what writes it to a log. Each method writes a part to a writer of seven bytes a
+/// call. It returns whether all is written, or an error is returned after the bytes before it.
+#[derive(Drop)]
+struct LogParts {
     alloc: Global,
-    h: &Histogram<u64>,
-    serializer: &mut V2Serializer,
-    mut sink: Sink,
-) -> bool {
-    let result = {
-        let mut log = IntervalLogWriter::new(alloc, &mut sink, serializer, 1);
-        log.write_histogram(h, Duration::new(0, 0), Duration::new(1, 0), Tag::new("a"))
-    };
-    is_expected_result(result, &sink, 13) && sink.holds_prefix(LINE.as_slice())
+    h: Histogram<u64>,
+    serializer: V2Serializer,
 }
 
-/// The same for an interval whose V2 bytes are not copied.
-fn writes_v2(
-    alloc: Global,
-    h: &Histogram<u64>,
-    serializer: &mut V2Serializer,
-    mut sink: Sink,
-) -> bool {
-    let result = {
-        let mut log = IntervalLogWriter::new(alloc, &mut sink, serializer, 1);
-        log.write_v2(h, Duration::new(0, 0), Duration::new(1, 0), Tag::new("a"))
-    };
-    is_expected_result(result, &sink, 13) && sink.holds_prefix(LINE.as_slice())
-}
-
-/// The same for a log's start with a comment, and 2 calls.
-fn writes_start(
-    builder: &IntervalLogWriterBuilder,
-    serializer: &mut V2Serializer,
-    mut sink: Sink,
-) -> bool {
-    let result = match builder.begin_log_with(&mut sink, serializer) {
-        Ok(_) => Ok(()),
-        Err(e) => Err(e),
-    };
-    is_expected_result(result, &sink, 2) && sink.holds_prefix(b"#a comment\n")
-}
-
-/// The same for a comment of two lines, and 4 calls.
-fn writes_comment(alloc: Global, serializer: &mut V2Serializer, mut sink: Sink) -> bool {
-    let result = {
-        let mut log = IntervalLogWriter::new(alloc, &mut sink, serializer, 1);
-        log.write_comment("a comment\nof two lines")
-    };
-    is_expected_result(result, &sink, 4) && sink.holds_prefix(b"#a comment\n#of two lines\n")
-}
-
-/// Writes an interval, a log's start and a comment to writers that fail at each of their calls in turn.
-fn log_each(rt: &(impl Abort + AllocGlobal), kind: Option<ErrorKind>) -> Result<(), Fail> {
-    let h = first_run(rt.alloc())?;
-    let mut serializer = V2Serializer::new(rt.alloc());
-    let mut builder = IntervalLogWriterBuilder::new(rt.alloc());
-    builder.add_comment("a comment")?;
-    for fails_at in 1..15usize {
-        let is_expected = writes_interval(
-            rt.alloc(),
-            &h,
-            &mut serializer,
-            seven_byte_sink(fails_at, kind),
-        ) && writes_v2(
-            rt.alloc(),
-            &h,
-            &mut serializer,
-            seven_byte_sink(fails_at, kind),
-        ) && writes_start(&builder, &mut serializer, seven_byte_sink(fails_at, kind))
-            && writes_comment(rt.alloc(), &mut serializer, seven_byte_sink(fails_at, kind));
-        assert_expected(rt, is_expected, kind, fails_at);
+impl LogParts {
+    fn interval(&mut self, mut sink: Sink) -> bool {
+        let mut log = IntervalLogWriter::new(self.alloc, &mut sink, &mut self.serializer, 1);
+        let (start, duration) = (Duration::ZERO, Duration::new(1, 0));
+        let result = log.write_histogram(&self.h, start, duration, Tag::new("a"));
+        drop(log);
+        sink.ends(ended!(result, LogError), FIRST_LINE.as_bytes())
     }
-    Ok(())
+
+    /// An interval whose V2 bytes are not copied.
+    fn v2(&mut self, mut sink: Sink) -> bool {
+        let mut log = IntervalLogWriter::new(self.alloc, &mut sink, &mut self.serializer, 1);
+        let result = log.write_v2(&self.h, Duration::ZERO, Duration::new(1, 0), Tag::new("a"));
+        drop(log);
+        sink.ends(ended!(result, LogError), FIRST_LINE.as_bytes())
+    }
+
+    /// A log's start with a comment.
+    fn start(&mut self, builder: &IntervalLogWriterBuilder, mut sink: Sink) -> bool {
+        let ended = ended!(
+            builder.begin_log_with(&mut sink, &mut self.serializer),
+            LogError
+        );
+        sink.ends(ended, b"#a comment\n")
+    }
+
+    /// A comment of two lines.
+    fn comment(&mut self, mut sink: Sink) -> bool {
+        let mut log = IntervalLogWriter::new(self.alloc, &mut sink, &mut self.serializer, 1);
+        let result = log.write_comment("a comment\nof two lines");
+        drop(log);
+        sink.ends(ended!(result, LogError), b"#a comment\n#of two lines\n")
+    }
 }
 
 #[test]
 fn writers_of_logs(rt: HostRuntime) -> Result<(), Fail> {
-    log_each(&rt, None)?;
+    let mut parts = LogParts {
+        alloc: rt.alloc(),
+        h: first_run(rt.alloc())?,
+        serializer: V2Serializer::new(rt.alloc()),
+    };
+    let mut builder = IntervalLogWriterBuilder::new(rt.alloc());
+    builder.add_comment("a comment")?;
     for kind in KINDS {
-        log_each(&rt, Some(kind))?;
+        for fails_at in 1..15usize {
+            let sink = Sink::new(7, fails_at, kind);
+            let is_expected = parts.interval(sink)
+                && parts.v2(sink)
+                && parts.start(&builder, sink)
+                && parts.comment(sink);
+            assert!(rt; is_expected, "{kind:?} at {fails_at}");
+        }
     }
     Ok(())
 }

@@ -1,8 +1,11 @@
 //! Bytes and logs.
 
-use crate::tests::FIRST_RUN;
+use crate::tests::failed_allocations::{allocated, report};
+use crate::tests::{FIRST_RUN, first_run};
 use hdrhistogram::Histogram;
-use hdrhistogram::serialization::interval_log::{IntervalLogWriter, IntervalLogWriterError};
+use hdrhistogram::serialization::interval_log::{
+    IntervalLogWriter, IntervalLogWriterError as LogError,
+};
 use hdrhistogram::serialization::{
     DeserializeError, Deserializer, Serializer, V2SerializeError, V2Serializer,
 };
@@ -11,177 +14,96 @@ use std::process::Abort;
 use std::test::Fail;
 use std::time::Duration;
 
-/// Returns an empty histogram, and one with a sample in its top class, or `None` if an allocation failed.
-fn small_and_large(alloc: Global) -> Option<(Histogram<u64>, Histogram<u64>)> {
-    let small = Histogram::new(alloc, 0).ok()?;
-    let mut large = Histogram::new_with_max(alloc, 1000, 2).ok()?;
+/// Returns the length of the bytes of a histogram, or `None` if an allocation failed.
+fn len_of(rt: &impl Abort, serializer: &mut V2Serializer, h: &Histogram<u64>) -> Option<usize> {
+    Some(allocated!(rt, serializer.to_bytes(h), V2SerializeError::OutOfMemory)?.len())
+}
+
+/// Returns the lengths of the bytes of an empty histogram, and of one with a sample in its top
+/// class. An allocation failed for one at most, and `to_bytes` returns the bytes the second time.
+fn lens_of_both(rt: &(impl Abort + AllocGlobal)) -> Option<(usize, usize)> {
+    let small = Histogram::new(rt.alloc(), 0).ok()?;
+    let mut large = Histogram::new_with_max(rt.alloc(), 1000, 2).ok()?;
     large.saturating_record(1000);
-    Some((small, large))
-}
-
-/// Whether `to_bytes` returns bytes of length `len`; otherwise an allocation failed.
-fn returns_bytes(
-    rt: &impl Abort,
-    serializer: &mut V2Serializer,
-    h: &Histogram<u64>,
-    len: usize,
-) -> bool {
-    match serializer.to_bytes(h) {
-        Ok(bytes) => {
-            assert_eq!(rt; bytes.len(), len);
-            true
-        }
-        Err(error) => {
-            assert!(rt; matches!(error, V2SerializeError::OutOfMemory));
-            false
-        }
-    }
-}
-
-/// Whether `to_bytes` returns the bytes of both at once; otherwise an allocation failed, and it returns them the second time.
-fn returns_both(
-    rt: &impl Abort,
-    small: &Histogram<u64>,
-    large: &Histogram<u64>,
-    alloc: Global,
-) -> bool {
-    let mut serializer = V2Serializer::new(alloc);
-    let first = returns_bytes(rt, &mut serializer, small, 41);
-    let second = returns_bytes(rt, &mut serializer, large, 43);
-    assert!(rt; first || second);
-    assert!(rt; returns_bytes(rt, &mut serializer, small, 41));
-    assert!(rt; returns_bytes(rt, &mut serializer, large, 43));
-    drop(serializer);
-    first && second
+    let mut serializer = V2Serializer::new(rt.alloc());
+    let first = len_of(rt, &mut serializer, &small);
+    let second = len_of(rt, &mut serializer, &large);
+    assert!(rt; first.is_some() || second.is_some());
+    assert_eq!(rt; len_of(rt, &mut serializer, &small), Some(41));
+    assert_eq!(rt; len_of(rt, &mut serializer, &large), Some(43));
+    Some((first?, second?))
 }
 
 #[test]
 fn to_bytes(rt: HostRuntime) -> Result<(), Fail> {
-    let Some((small, large)) = small_and_large(rt.alloc()) else {
-        return Ok(println!(rt; "no memory")?);
-    };
-    let at_once = returns_both(&rt, &small, &large, rt.alloc());
-    drop(small);
-    drop(large);
-    if !at_once {
-        println!(rt; "no memory")?;
+    let lens = lens_of_both(&rt);
+    assert!(rt; matches!(lens, None | Some((41, 43))));
+    report(&rt, lens.is_some())
+}
+
+/// Writes the bytes of the first run, or returns `None` if an allocation failed. Then nothing is
+/// written, and after it the serializer makes the right bytes, by `serialize` and by `to_bytes`.
+fn write_first_run(rt: &(impl Abort + AllocGlobal)) -> Option<usize> {
+    let h = first_run(rt.alloc()).ok()?;
+    let mut written = Vec::with_capacity(rt.alloc(), 100).ok()?;
+    let mut serializer = V2Serializer::new(rt.alloc());
+    let result = serializer.serialize(&h, &mut written);
+    let count = allocated!(rt, result, V2SerializeError::OutOfMemory);
+    if count.is_none() {
+        assert!(rt; written.is_empty());
+        assert!(rt; serializer.serialize(&h, &mut written).is_ok());
     }
-    Ok(())
+    assert!(rt; written.as_slice() == FIRST_RUN.as_slice());
+    assert!(rt; matches!(serializer.to_bytes(&h), Ok(bytes) if bytes == FIRST_RUN.as_slice()));
+    count
 }
 
-/// Returns the histogram of the first run, or `None` if an allocation failed.
-fn first_run(alloc: Global) -> Option<Histogram<u64>> {
-    let mut h = Histogram::new(alloc, 3).ok()?;
-    h.saturating_record(1);
-    h.saturating_record_n(2, 4);
-    Some(h)
-}
-
-/// Whether the bytes of the first run are written; otherwise an allocation failed, and nothing is written.
-fn serializes(
-    rt: &impl Abort,
-    serializer: &mut V2Serializer,
-    h: &Histogram<u64>,
-    written: &mut Vec<u8>,
-) -> bool {
-    match serializer.serialize(h, written) {
-        Ok(_) => {
-            assert!(rt; written.as_slice() == FIRST_RUN.as_slice());
-            true
-        }
-        Err(error) => {
-            assert!(rt; matches!(error, V2SerializeError::OutOfMemory));
-            assert!(rt; written.is_empty());
-            false
-        }
-    }
-}
-
-/// After a failed allocation the serializer makes the right bytes, by `serialize` and by `to_bytes`.
 #[test]
 fn serialize(rt: HostRuntime) -> Result<(), Fail> {
-    let Some(h) = first_run(rt.alloc()) else {
-        return Ok(println!(rt; "no memory")?);
-    };
-    let Ok(mut written) = Vec::with_capacity(rt.alloc(), 100) else {
-        return Ok(println!(rt; "no memory")?);
-    };
-    let mut serializer = V2Serializer::new(rt.alloc());
-    let at_once = serializes(&rt, &mut serializer, &h, &mut written);
-    if !at_once {
-        assert!(rt; serializes(&rt, &mut serializer, &h, &mut written));
-    }
-    let bytes = serializer.to_bytes(&h);
-    assert!(rt; matches!(bytes, Ok(bytes) if bytes == FIRST_RUN.as_slice()));
-    drop(serializer);
-    drop(h);
-    if !at_once {
-        println!(rt; "no memory")?;
-    }
-    Ok(())
+    report(&rt, write_first_run(&rt).is_some())
 }
 
-/// Whether a slice is decoded; otherwise an allocation failed.
-fn decodes_slice(rt: &impl Abort, deserializer: &mut Deserializer) -> bool {
-    match deserializer.decode_slice::<u64>(&FIRST_RUN) {
-        Ok((h, consumed)) => {
-            assert_eq!(rt; (h.len(), consumed), (5, 43));
-            true
-        }
-        Err(error) => {
-            assert!(rt; matches!(error, DeserializeError::OutOfMemory));
-            false
-        }
-    }
+/// Decodes a slice, or returns `None` if an allocation failed.
+fn decode_first_run(rt: &impl Abort, deserializer: &mut Deserializer) -> Option<(u64, usize)> {
+    let result = deserializer.decode_slice::<u64>(&FIRST_RUN);
+    let (h, consumed) = allocated!(rt, result, DeserializeError::OutOfMemory)?;
+    Some((h.len(), consumed))
 }
 
 #[test]
 fn decode_slice(rt: HostRuntime) -> Result<(), Fail> {
     let mut deserializer = Deserializer::new(rt.alloc());
-    if !decodes_slice(&rt, &mut deserializer) {
-        println!(rt; "no memory")?;
-        assert!(rt; decodes_slice(&rt, &mut deserializer));
-    }
-    Ok(())
+    let first = decode_first_run(&rt, &mut deserializer);
+    let last = first.or_else(|| decode_first_run(&rt, &mut deserializer));
+    assert_eq!(rt; last, Some((5, 43)));
+    report(&rt, first.is_some())
 }
 
-/// Whether a reader's bytes are decoded to a histogram of `len` samples, up to their end; otherwise an allocation failed.
-fn decodes_reader(
-    rt: &impl Abort,
-    deserializer: &mut Deserializer,
-    bytes: &[u8],
-    len: u64,
-) -> bool {
+/// Decodes a reader's bytes up to their end, and returns the number of samples, or `None` if an
+/// allocation failed.
+fn read_all(rt: &impl Abort, deserializer: &mut Deserializer, bytes: &[u8]) -> Option<u64> {
     let mut reader = bytes;
-    match deserializer.deserialize::<u64, &[u8]>(&mut reader) {
-        Ok(h) => {
-            assert!(rt; h.len() == len && reader.is_empty());
-            true
-        }
-        Err(error) => {
-            assert!(rt; matches!(error, DeserializeError::OutOfMemory));
-            false
-        }
-    }
+    let result = deserializer.deserialize::<u64, &[u8]>(&mut reader);
+    let h = allocated!(rt, result, DeserializeError::OutOfMemory)?;
+    assert!(rt; reader.is_empty());
+    Some(h.len())
 }
 
-/// Prints whether an allocation failed as bytes were decoded, after which the first run is decoded.
-fn check_deserializer(
-    rt: &(impl Abort + AllocGlobal + Print),
-    bytes: &[u8],
-    len: u64,
-) -> Result<(), Fail> {
+/// Whether bytes of `len` samples are decoded. Otherwise an allocation failed, and the first run is
+/// decoded afterwards.
+fn decodes(rt: &(impl Abort + AllocGlobal), bytes: &[u8], len: u64) -> bool {
     let mut deserializer = Deserializer::new(rt.alloc());
-    if !decodes_reader(rt, &mut deserializer, bytes, len) {
-        println!(rt; "no memory")?;
-        assert!(rt; decodes_reader(rt, &mut deserializer, &FIRST_RUN, 5));
+    let decoded = read_all(rt, &mut deserializer, bytes);
+    if decoded.is_none() {
+        assert_eq!(rt; read_all(rt, &mut deserializer, &FIRST_RUN), Some(5));
     }
-    Ok(())
+    assert!(rt; decoded.is_none_or(|decoded| decoded == len));
+    decoded.is_some()
 }
 
 #[test]
 fn deserialize(rt: HostRuntime) -> Result<(), Fail> {
-    check_deserializer(&rt, &FIRST_RUN, 5)
+    report(&rt, decodes(&rt, &FIRST_RUN, 5))
 }
 
 /// The header of bytes with 5,000 numbers, and 0 held once, which is the first of them.
@@ -192,90 +114,54 @@ const LONG_HEADER: [u8; 41] = [
 
 /// Returns bytes whose payload is read in two chunks, or `None` if an allocation failed.
 fn long_bytes(alloc: Global) -> Option<Vec<u8>> {
-    let mut bytes = Vec::with_capacity(alloc, 5_040).ok()?;
-    bytes.extend_from_slice(LONG_HEADER.as_slice()).ok()?;
-    for _ in 1..5_000u64 {
-        bytes.push(0).ok()?;
-    }
+    let mut bytes = vec![in alloc; 0u8; 5_040].ok()?;
+    let start = bytes.as_mut_slice().get_mut(..41)?;
+    start.copy_from_slice(&LONG_HEADER);
     Some(bytes)
 }
 
 #[test]
 fn deserialize_in_chunks(rt: HostRuntime) -> Result<(), Fail> {
-    let Some(bytes) = long_bytes(rt.alloc()) else {
-        return Ok(println!(rt; "no memory")?);
-    };
-    check_deserializer(&rt, bytes.as_slice(), 1)
-}
-
-/// Returns an empty histogram, and a buffer for its log, or `None` if an allocation failed.
-fn empty_and_log(alloc: Global) -> Option<(Histogram<u64>, Vec<u8>)> {
-    let h = Histogram::new(alloc, 0).ok()?;
-    let log = Vec::with_capacity(alloc, 200).ok()?;
-    Some((h, log))
+    let bytes = long_bytes(rt.alloc());
+    report(&rt, bytes.is_some_and(|bytes| decodes(&rt, &bytes, 1)))
 }
 
 /// A log of a comment of two lines, which ends at 6, and of three intervals of an empty histogram, of 75 bytes each.
 const LOG: &[u8; 231] =
     b"#a\n#b\n0.000,0.000,0.000,HISTEwAAAAEAAAAAAAAAAAAAAAAAAAABAAAAAAAAAAI/8AAAAAAAAAA=\n0.000,0.000,0.000,HISTEwAAAAEAAAAAAAAAAAAAAAAAAAABAAAAAAAAAAI/8AAAAAAAAAA=\n0.000,0.000,0.000,HISTEwAAAAEAAAAAAAAAAAAAAAAAAAABAAAAAAAAAAI/8AAAAAAAAAA=\n";
 
-/// Whether a part of a log was written; otherwise an allocation failed. `None` for any other error.
-fn succeeds(outcome: Result<(), IntervalLogWriterError<V2SerializeError>>) -> Option<bool> {
-    match outcome {
-        Err(IntervalLogWriterError::SerializeError(V2SerializeError::OutOfMemory)) => Some(false),
-        outcome => succeeds_v2(outcome),
-    }
+/// Writes the parts of `LOG` before the first whose allocation fails, which writes nothing. Returns
+/// where the log ends then as an error.
+fn write_parts(rt: &(impl Abort + AllocGlobal), log: &mut Vec<u8>) -> Result<(), usize> {
+    let h = Histogram::<u64>::new(rt.alloc(), 0).ok().ok_or(0usize)?;
+    let mut serializer = V2Serializer::new(rt.alloc());
+    let mut writer = IntervalLogWriter::new(rt.alloc(), log, &mut serializer, 1);
+    let comment = writer.write_comment("a\nb");
+    allocated!(rt, comment, LogError::OutOfMemory).ok_or(0usize)?;
+    let interval = writer.write_histogram(&h, Duration::ZERO, Duration::ZERO, None);
+    allocated!(
+        rt,
+        interval,
+        LogError::OutOfMemory | LogError::SerializeError(V2SerializeError::OutOfMemory)
+    )
+    .ok_or(6usize)?;
+    let v2 = writer.write_v2(&h, Duration::ZERO, Duration::ZERO, None);
+    allocated!(rt, v2, LogError::OutOfMemory).ok_or(81usize)?;
+    let pushed = writer.push_v2(&h, Duration::ZERO, Duration::ZERO, None);
+    allocated!(rt, pushed, LogError::OutOfMemory).ok_or(156usize)
 }
 
-/// The same, if only the log's own error is one of memory.
-fn succeeds_v2<E: Drop>(outcome: Result<(), IntervalLogWriterError<E>>) -> Option<bool> {
-    match outcome {
-        Ok(()) => Some(true),
-        Err(IntervalLogWriterError::OutOfMemory) => Some(false),
-        Err(_) => None,
-    }
-}
-
-/// Returns how many parts of `LOG` are written before an allocation fails, or `None` for any other error.
-fn parts_written(
-    alloc: Global,
-    serializer: &mut V2Serializer,
-    h: &Histogram<u64>,
-    log: &mut Vec<u8>,
-) -> Option<usize> {
-    let mut writer = IntervalLogWriter::new(alloc, log, serializer, 1);
-    if !succeeds(writer.write_comment("a\nb"))? {
-        return Some(0);
-    }
-    if !succeeds(writer.write_histogram(h, Duration::ZERO, Duration::ZERO, None))? {
-        return Some(1);
-    }
-    if !succeeds_v2(writer.write_v2(h, Duration::ZERO, Duration::ZERO, None))? {
-        return Some(2);
-    }
-    if !succeeds_v2(writer.push_v2(h, Duration::ZERO, Duration::ZERO, None))? {
-        return Some(3);
-    }
-    Some(4)
+/// Writes `LOG`, or returns `None` if an allocation failed. Then the log has the parts before it.
+fn write_log(rt: &(impl Abort + AllocGlobal)) -> Option<()> {
+    let mut log = Vec::with_capacity(rt.alloc(), 200).ok()?;
+    let written = write_parts(rt, &mut log);
+    let end = written.err().unwrap_or(231);
+    assert!(rt; LOG.get(..end) == Some(log.as_slice()));
+    written.ok()
 }
 
 /// A part whose allocation fails leaves the parts before it, and nothing of its own.
 #[test]
 fn log_part_by_part(rt: HostRuntime) -> Result<(), Fail> {
-    let Some((h, mut log)) = empty_and_log(rt.alloc()) else {
-        return Ok(println!(rt; "no memory")?);
-    };
-    let mut serializer = V2Serializer::new(rt.alloc());
-    let parts = parts_written(rt.alloc(), &mut serializer, &h, &mut log);
-    drop(serializer);
-    drop(h);
-    let Some(parts) = parts else {
-        return Err(Fail::from("another error"));
-    };
-    let end = [0, 6, 81, 156, 231].get(parts).copied().unwrap_or(0);
-    assert!(rt; log.as_slice() == LOG.as_slice().get(..end).unwrap_or(&[]));
-    if parts < 4 {
-        println!(rt; "no memory")?;
-    }
-    Ok(())
+    report(&rt, write_log(&rt).is_some())
 }

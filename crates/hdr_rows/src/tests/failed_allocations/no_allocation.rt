@@ -1,6 +1,6 @@
 //! Calls that allocate nothing.
 
-use crate::tests::failed_allocations::{any_fails, create_table};
+use crate::tests::failed_allocations::{any_fails, create_table, report};
 use hdr_base::Quantile;
 use hdr_core::{Call, CallFrom, Histogram};
 use hdr_log::{IntervalLogIterator, Tag};
@@ -62,19 +62,14 @@ fn run_from_succeeds(table: &mut Table<u64>) -> bool {
 /// Whether calls that allocate nothing succeed, or `None` if an allocation failed before them.
 fn calls_succeed(alloc: Global) -> Option<bool> {
     let mut table = create_table(alloc, SMALL)?;
-    Some(
-        !any_fails(alloc, &mut table, CALLS)
-            && run_succeeds(&mut table)
-            && run_from_succeeds(&mut table),
-    )
+    let succeed = !any_fails(alloc, &mut table, CALLS);
+    Some(succeed && run_succeeds(&mut table) && run_from_succeeds(&mut table))
 }
 
 /// Whether the payload of a histogram is right, in a buffer that is not allocated anew.
 fn payload_is_right(h: &Histogram<u64>, buf: &mut Vec<u8>) -> bool {
-    let Some(max_len) = counts_array_max_encoded_size(h.distinct_values()) else {
-        return false;
-    };
-    max_len <= buf.len() && matches!(encode_counts(h, buf), Ok(len) if len > 0)
+    counts_array_max_encoded_size(h.distinct_values()).is_some_and(|len| len <= buf.len())
+        && matches!(encode_counts(h, buf), Ok(len) if len > 0)
 }
 
 /// Whether numbers are encoded, and decoded again.
@@ -104,17 +99,13 @@ fn count_items(h: &Histogram<u64>) -> u64 {
 /// Whether the statistics are right for 7 once.
 fn statistics_are_right(h: &Histogram<u64>, half: Quantile) -> bool {
     let halves = [half, half];
-    let quantiles = h.value_at_quantiles(halves.as_slice()).count();
-    let percentiles = h.value_at_percentiles(halves.as_slice()).count();
-    let below = h.quantile_below(7);
-    let percent = h.percentile_below(7);
-    let is_mean = matches!(h.mean(), Some(mean) if mean.num == 7 && mean.den == 1);
-    let is_deviation = matches!(h.standard_deviation(), Some(d) if d.num == 0 && d.den == 1);
-    (quantiles, percentiles) == (2, 2)
+    let (below, percent) = (h.quantile_below(7), h.percentile_below(7));
+    h.value_at_quantiles(&halves).count() == 2
+        && h.value_at_percentiles(&halves).count() == 2
         && (below.num, below.den) == (1, 1)
         && (percent.num, percent.den) == (100, 1)
-        && is_mean
-        && is_deviation
+        && matches!(h.mean(), Some(mean) if (mean.num, mean.den) == (7, 1))
+        && matches!(h.standard_deviation(), Some(d) if (d.num, d.den) == (0, 1))
 }
 
 /// Whether constructors that allocate nothing are called, and a log is read.
@@ -147,18 +138,14 @@ fn reading_succeeds(alloc: Global) -> Option<bool> {
 /// No allocation fails once the histograms are there.
 #[test]
 fn calls_without_allocation(rt: HostRuntime) -> Result<(), Fail> {
-    match calls_succeed(rt.alloc()) {
-        Some(succeeds) => assert!(rt; succeeds),
-        None => println!(rt; "no memory")?,
-    }
-    Ok(())
+    let succeed = calls_succeed(rt.alloc());
+    assert!(rt; succeed != Some(false));
+    report(&rt, succeed.is_some())
 }
 
 #[test]
 fn reading_without_allocation(rt: HostRuntime) -> Result<(), Fail> {
-    match reading_succeeds(rt.alloc()) {
-        Some(succeeds) => assert!(rt; succeeds),
-        None => println!(rt; "no memory")?,
-    }
-    Ok(())
+    let succeeds = reading_succeeds(rt.alloc());
+    assert!(rt; succeeds != Some(false));
+    report(&rt, succeeds.is_some())
 }
