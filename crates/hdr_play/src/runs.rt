@@ -30,9 +30,11 @@ pub fn parse_calls<'a, T: Counter>(
     text: &str,
     other: &'a Histogram<T>,
 ) -> Result<Vec<Call<'a, T>>, LineError> {
-    text.split(", ")
-        .map(|call| parse_call(call, other))
-        .try_collect(alloc)
+    let mut calls = Vec::new(alloc);
+    for call in text.split(", ") {
+        calls.push(parse_call(call, other)?)?;
+    }
+    Ok(calls)
 }
 
 /// Parses a call in which `wide` may be the source too.
@@ -56,7 +58,9 @@ pub fn parse_calls_from<'a, T: Counter>(
     other: &'a Histogram<T>,
     wide: &'a Histogram<u64>,
 ) -> Result<Vec<CallFrom<'a, T, u64>>, LineError> {
-    text.split(", ")
-        .map(|call| parse_call_from(call, other, wide))
-        .try_collect(alloc)
+    let mut calls = Vec::new(alloc);
+    for call in text.split(", ") {
+        calls.push(parse_call_from(call, other, wide)?)?;
+    }
+    Ok(calls)
 }
