@@ -3,7 +3,8 @@
 
 usage: compare/hdrstat/cases.py PROGRAM SEED COUNT [KIND..]
 
-KIND is numbers, tables, check, logs, log_check, gather, convert, page, verdict, groups, json, matches, times, mixed, runs, ends or levels.
+KIND is numbers, tables, check, logs, log_check, gather, convert, page, verdict, groups, json, matches, times, mixed, runs, log_runs, ends or
+levels.
 
 Each case has a seed of its own, SEED:NUMBER, from which it is made. A case that differs is printed with its arguments, and its input
 is left in a file of /tmp. Status 1 if any differs.
@@ -19,7 +20,7 @@ from form_inputs import group_case, json_case, match_case, mixed_case
 from inputs import check_case, number_case, table_case
 from level_inputs import levels_case
 from log_inputs import convert_case, gather_case, log_case, log_check_case, page_case
-from run_inputs import ends_case, run_case
+from run_inputs import ends_case, log_run_case, run_case
 from time_inputs import time_case
 from verdict_inputs import verdict_case
 
@@ -27,7 +28,7 @@ KINDS = {
     "numbers": number_case, "tables": table_case, "check": check_case, "logs": log_case, "log_check": log_check_case, "gather": gather_case,
     "convert": convert_case, "page": page_case, "verdict": verdict_case,
     "groups": group_case, "json": json_case, "matches": match_case, "times": time_case, "mixed": mixed_case,
-    "runs": run_case, "ends": ends_case, "levels": levels_case,
+    "runs": run_case, "log_runs": log_run_case, "ends": ends_case, "levels": levels_case,
 }
 
 

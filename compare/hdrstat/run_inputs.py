@@ -1,15 +1,19 @@
 """Random runs for hdrstat compare and summary --ci, with what the model prints."""
+import base64
+import collections
 import csv
 import io
 
 from inputs import Case
-from runs import TIERS, Samples, batches_of, decimal_of, exceeds, falls_below, in_small_units, needed, percent_of, ratios, tier_of, verdict_of
+from logs import bin_of, v2
+from runs import TIERS, Samples, batches_of, class_of, decimal_of, exceeds, falls_below, in_small_units, needed, percent_of, ratios, tier_of, verdict_of
 
 HEADS = ["figure", "before", "low", "high", "after", "low", "high", "change", "low", "high", "verdict"]
 COLUMNS = ["figure", "before", "before_low", "before_high", "after", "after_low", "after_high", "change", "change_low", "change_high", "verdict",
            "before_independent", "after_independent"]
 SINGLE = "What changes from run to run by itself is not seen in one run of each: --with compares 4 or more of each.\n"
 SORTED = "is sorted, so its order is not that of time: its samples are taken as independent."
+FEW = "has fewer than 4 intervals: its samples are taken as independent."
 
 
 # Numbers of a run
@@ -67,6 +71,42 @@ def samples_of(numbers, decimals, sigfig, interval):
 
 def text_of(numbers, decimals):
     return "".join(decimal_of(it, decimals) + "\n" for it in numbers).encode()
+
+
+# Logs of a run
+
+
+def intervals_of(random):
+    """The numbers of each interval of a log: of even traffic, of some busy intervals, in waves, or with idle ones."""
+    count = random.choice([2, 3, 4, 5, 15, 17, 40, 100])
+    rate = random.choice([1, 3, 10, 30])
+    kind = random.choice(["even", "busy", "waves", "idle"])
+    level, every = random.choice([5, 300, 10**6, 10**12]), []
+    first, width = random.randrange(count), random.randint(1, 4)
+    for at in range(count):
+        own = {"busy": rate * 30 if first <= at < first + width else 1, "waves": 1 + rate * abs(at % 20 - 10) // 3, "idle": rate if random.random() < 0.3 else 0}.get(kind, rate)
+        factor = random.lognormvariate(0, 0.3)
+        every.append([int(level * factor * random.lognormvariate(0, 0.4)) for _ in range(min(own, 400))])
+    every[first] = every[first] or [level]
+    return every
+
+
+def samples_of_log(intervals):
+    """The samples of a log: batches are of its intervals with samples, and values are known by their classes of 3 digits."""
+    some = [it for it in intervals if it]
+    batches = [[it for interval in batch for it in interval] for batch in batches_of(some)]
+    samples = Samples(batches, 0, 3, FEW if len(batches) < 4 else "")
+    samples.least, samples.greatest = samples.classes[0][0], samples.classes[-1][1]
+    return samples
+
+
+def log_of(intervals):
+    lines = ["#[Histogram log format version 1.3]"]
+    for at, numbers in enumerate(intervals):
+        counts = collections.Counter(bin_of(it, 3, 1) for it in numbers)
+        field = base64.b64encode(v2(counts, 3, 1, class_of(max([2, *numbers]), 3)[1])).decode()
+        lines.append(f"{at}.000,1.000,1.000,{field}")
+    return ("\n".join(lines) + "\n").encode()
 
 
 # Reports
@@ -228,6 +268,31 @@ def run_case(random):
     tier = tier_of(len(runs) * len(percentiles))
     report = [(name, both[0], it, pair_lines(both[0], it, percentiles, tier)) for name, it in runs]
     return Case(arguments, b"", files, wanted_of(report, tier, limits, form, has_several))
+
+
+def log_run_case(random):
+    """A case of compare of logs."""
+    first = intervals_of(random)
+    others = [after_change_of_intervals(random, first) for _ in range(random.choice([1, 1, 2]))]
+    files = {name: log_of(it) for name, it in zip("abc", [first, *others])}
+    before, *after = [samples_of_log(it) for it in (first, *others)]
+    runs = [("after" if len(after) == 1 else name, it) for name, it in zip("bc", after)]
+    percentiles = random_percentiles(random)
+    limits = random_limits(random, percentiles)
+    form = random.choice(["table", "csv", "tsv", "json", "md"])
+    arguments = ["compare", "--from", "log", *files, "-p", ",".join(text for text, _ in percentiles), "-f", form]
+    arguments += [word for it in limits for word in ("--fail", it[0])]
+    tier = tier_of(len(runs) * len(percentiles))
+    report = [(name, before, it, pair_lines(before, it, percentiles, tier)) for name, it in runs]
+    return Case(arguments, b"", files, wanted_of(report, tier, limits, form, False))
+
+
+def after_change_of_intervals(random, intervals):
+    """Other intervals, or the same ones in another order with a change."""
+    if random.random() < 0.4:
+        return intervals_of(random)
+    factor = random.choice([100, 100, 103, 110, 80, 300])
+    return [[it * factor // 100 for it in random.choices(numbers, k=len(numbers))] if numbers else [] for numbers in random.sample(intervals, len(intervals))]
 
 
 def wanted_of(report, tier, limits, form, has_several):

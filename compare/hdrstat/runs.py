@@ -66,8 +66,12 @@ class Samples:
         squares = sum((16 * abs(count * self.count - size * total) // self.count) ** 2 for size, count in zip(sizes, counts))
         if not self.is_ordered or batches < 4 or not 0 < total < self.count or not squares:
             return self.count
-        factor = FACTORS[min(batches, 16) - 4][tier[4]]
-        return min(self.count, max(1, 256000 * total * (self.count - total) * (batches - 1) // (squares * batches * factor)))
+        # As how many batches of one size these count
+        even = min(batches, -(-self.count**2 // sum(size**2 for size in sizes)))
+        if even < 4:
+            return 1
+        factor = FACTORS[min(even, 16) - 4][tier[4]]
+        return min(self.count, max(1, 256000 * total * (self.count - total) * (even - 1) // (squares * even * factor)))
 
     def is_far(self, rank, independent, quantile, tier):
         """Whether a rank is so far from the quantile that chance reaches it seldom enough."""

@@ -1,10 +1,10 @@
 -- Bounds of what is computed of batches.
-use Rattle.std.proofs.Common.{◌≡◌, ℕ, ◌+◌, ◌-◌, ◌*◌, ◌/◌, ◌^◌, ◌<◌, ◌≤◌, min, max, List, rules, arith, inl, inr}
+use Rattle.std.proofs.Common.{◌≡◌, ℕ, ◌+◌, ◌-◌, ◌*◌, ◌/◌, ◌^◌, ◌<◌, ◌≤◌, min, max, List, [], ◌∷◌, rules, arith, inl, inr}
 use Rattle.std.specs.List.{sum_by}
 use Rattle.std.proofs.lemmas.Bool.{cases_lt}
-use Rattle.std.proofs.Math.Nat.{mul-le-mul, mul-le-mul_right, div-le_of_le-mul, div-eq_of_lt, mul_assoc}
-use Rattle.std.proofs.lemmas.List.Sums.{sum_by-le-sum_by}
-use Rattle.hdr_compare.specs.Effective.{effective_of}
+use Rattle.std.proofs.Math.Nat.{add-mul, mul-add, mul-le-mul, mul-le-mul_right, div-le_of_le-mul, div-eq_of_lt, mul_assoc}
+use Rattle.std.proofs.lemmas.List.Sums.{sum_by-cons, sum_by-le-sum_by}
+use Rattle.hdr_compare.specs.Effective.{effective_of, square}
 use Rattle.hdr_compare.specs.Tiers.{student_of}
 use Rattle.hdr_compare.specs.declared.tiers.Tier.{Tier}
 use Rattle.hdr_compare.specs.declared.batch.Batch.{Batch}
@@ -29,6 +29,32 @@ expected_fits count rest len small left few =
     let two : 256000 * count * rest ≤ 256000 * 2 ^ 40 * 2 ^ 40 = mul-le-mul one within in
     let three : 256000 * count * rest * len ≤ 256000 * 2 ^ 40 * 2 ^ 40 * 2 ^ 20 = mul-le-mul two few in
     omega (arith, three)
+
+square_of_sum : (a b c : ℕ) → c ≤ square b → square a + c ≤ square (a + b)
+square_of_sum a b c within = omega (arith, within, mul-add (a + b) a b, add-mul a b a, add-mul a b b)
+
+-- the squares of sizes add up to at most the square of their sum
+pub squares_within : (batches : List Batch) → sum_by (λ b. square b.size) batches ≤ square (sum_by (λ b. b.size) batches)
+squares_within [] = omega arith
+squares_within (b ∷ batches) =
+    let others : sum_by (λ b. square b.size) batches ≤ square (sum_by (λ b. b.size) batches) = squares_within batches in
+    let squares : sum_by (λ b. square b.size) (b ∷ batches) ≡ square b.size + sum_by (λ b. square b.size) batches = sum_by-cons (λ b. square b.size) b batches in
+    let sizes : sum_by (λ b. b.size) (b ∷ batches) ≡ b.size + sum_by (λ b. b.size) batches = sum_by-cons (λ b. b.size) b batches in
+    rw (squares, sizes) (square_of_sum b.size (sum_by (λ b. b.size) batches) (sum_by (λ b. square b.size) batches) others)
+
+square_at_least : (a : ℕ) → a ≤ square a
+square_at_least a =
+    elim (cases_lt 0 a) [
+      | inl some ↦ (
+          let one : 1 ≤ a = omega (arith, some) in
+          let more : 1 * a ≤ a * a = mul-le-mul_right a one in
+          omega (arith, more))
+      | inr none ↦ omega (arith, none)
+    ]
+
+-- sizes are at most their squares
+pub sizes_within : (batches : List Batch) → sum_by (λ b. b.size) batches ≤ sum_by (λ b. square b.size) batches
+sizes_within batches = sum_by-le-sum_by (λ b. b.size) (λ b. square b.size) batches (λ b. square_at_least b.size)
 
 quotient_of_same : (number a b factor : ℕ) → a ≡ b → number / (a * factor) ≡ number / (b * factor)
 quotient_of_same number a b factor same = search (rules, same)

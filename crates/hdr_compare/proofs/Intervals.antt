@@ -1,10 +1,11 @@
 -- The ends of an interval.
-use Rattle.std.proofs.Common.{◌≡◌, ℕ, ◌≤◌, List, Option, Some, refl, sym, subst, ap, ◌∙◌}
+use Rattle.std.proofs.Common.{◌≡◌, ℕ, ◌≤◌, ◌<◌, List, Option, Some, min, arith, inl, inr, refl, sym, subst, ap, ◌∙◌}
+use Rattle.std.proofs.lemmas.Bool.{cases_lt}
 use Rattle.std.proofs.lemmas.List.Sums.{sum-map}
 use Rattle.hdr_base.specs.Fractions.{Ratio}
 use Rattle.hdr_model.specs.Plain.{Plain}
 use Rattle.hdr_compare.specs.EndsOf.{IsFirstOfInterval, IsLastOfInterval}
-use Rattle.hdr_compare.specs.Intervals.{IsBasis, IsHighEnd, IsLowEnd, before, samples_of}
+use Rattle.hdr_compare.specs.Intervals.{CountsAs, IsBasis, IsCountOf, IsHighEnd, IsLowEnd, before, samples_of}
 use Rattle.hdr_compare.specs.Counted.{IsCounted}
 use Rattle.hdr_compare.specs.declared.ends.Basis.{Basis}
 use Rattle.hdr_compare.specs.declared.batch.Batch.{Batch}
@@ -69,3 +70,42 @@ ends_at hs q tier e high upto basis counted is end =
     let Q : Basis → Type 0 = λ b. IsLastOfInterval b end.upto.count in
     subst P (same_count tier hs (Some high) end.upto upto end.counted counted)
     (subst Q (same_basis hs q tier e end.basis basis end.is_basis is) end.last)
+
+-- the fewer of two numbers of independent samples is one of them
+pub least_count : (hs : List Plain) (tier : Tier) (v : Option ℕ) (c : Counted) (n e : ℕ) → IsCounted tier hs v c → CountsAs hs tier n e
+    → CountsAs hs tier n (min e c.independent)
+least_count hs tier v c n e counted before =
+    elim (cases_lt e c.independent) [
+      | inl lt ↦ (
+          let same : min e c.independent ≡ e = omega (arith, lt) in
+          subst (λ k. CountsAs hs tier n k) (sym same) before)
+      | inr ge ↦ (
+          let same : min e c.independent ≡ c.independent = omega (arith, ge) in
+          inr (record { value = v; upto = c; counted = counted; is = same }))
+    ]
+
+pub least_count_of : (hs : List Plain) (tier : Tier) (v w : Option ℕ) (c d : Counted) → IsCounted tier hs v c → IsCounted tier hs w d
+    → IsCountOf hs tier (min c.independent d.independent)
+least_count_of hs tier v w c d counted other =
+    elim (cases_lt c.independent d.independent) [
+      | inl lt ↦ (
+          let same : min c.independent d.independent ≡ c.independent = omega (arith, lt) in
+          record { value = v; upto = c; counted = counted; is = same })
+      | inr ge ↦ (
+          let same : min c.independent d.independent ≡ d.independent = omega (arith, ge) in
+          record { value = w; upto = d; counted = other; is = same })
+    ]
+
+pub counts_after : (hs : List Plain) (tier : Tier) (n m e : ℕ) → CountsAs hs tier n m → CountsAs hs tier m e → CountsAs hs tier n e
+counts_after hs tier n m e before counts =
+    elim counts [
+      | inl same ↦ subst (CountsAs hs tier n) (sym same) before
+      | inr own ↦ inr own
+    ]
+
+pub counts_by : (hs : List Plain) (tier : Tier) (n e : ℕ) → IsCountOf hs tier n → CountsAs hs tier n e → IsCountOf hs tier e
+counts_by hs tier n e count counts =
+    elim counts [
+      | inl same ↦ subst (IsCountOf hs tier) (sym same) count
+      | inr own ↦ own
+    ]

@@ -1,5 +1,5 @@
 -- The interval of a quantile of samples in batches, whose histograms are hs.
-use Rattle.std.specs.Prelude.{◌≡◌, ℕ, ◌-◌, ◌^◌, ◌≤◌, nat_lt, if◌then◌else◌, List, Option, Some, None, IfSome, IsSome}
+use Rattle.std.specs.Prelude.{◌≡◌, ◌⊎◌, ℕ, ◌-◌, ◌^◌, ◌≤◌, nat_lt, if◌then◌else◌, List, Option, Some, None, IfSome, IsSome}
 use Rattle.std.specs.List.{sum_by}
 use Rattle.hdr_base.specs.Fractions.{Ratio}
 use Rattle.hdr_model.specs.Plain.{Plain}
@@ -51,3 +51,19 @@ pub record AreEnds (hs : List Plain) (q : Ratio) (tier : Tier) (i : Interval) : 
 pub record HasReachedEnds (hs : List Plain) (q : Ratio) (tier : Tier) (i : Interval) : Type 0 where
   pub low : IsLowEnd hs q tier i.low.independent 0 → IsSome i.low.value
   pub high : IsHighEnd hs q tier i.high.independent (2 ^ 64 - 1) → IsSome i.high.value
+
+-- all samples count as e independent ones by those that are at most some value
+pub record IsCountOf (hs : List Plain) (tier : Tier) (e : ℕ) : Type 0 where
+  pub value : Option ℕ
+  pub upto : Counted
+  pub counted : IsCounted tier hs value upto
+  pub is : e ≡ upto.independent
+
+-- they count as many as before, or as by those that are at most some value
+abbrev pub CountsAs : List Plain → Tier → (before e : ℕ) → Type 0
+CountsAs hs tier n e = (e ≡ n) ⊎ IsCountOf hs tier e
+
+-- for each end of an interval they count as by those that are at most some value
+pub record EndsCount (hs : List Plain) (tier : Tier) (i : Interval) : Type 0 where
+  pub low : IsCountOf hs tier i.low.independent
+  pub high : IsCountOf hs tier i.high.independent

@@ -64,7 +64,7 @@ impl End {
 
 impl Run {
     ghost use Rattle.std.specs.Prelude.{ℕ, List, ◌<◌, ◌≤◌, length, IfOk, IfSome, IsSome, MatchOption};
-    ghost use Rattle.hdr_compare.specs.Intervals.{AreEnds, HasReachedEnds, IsHighEnd, IsLowEnd, samples_of};
+    ghost use Rattle.hdr_compare.specs.Intervals.{AreEnds, CountsAs, EndsCount, HasReachedEnds, IsHighEnd, IsLowEnd, samples_of};
     ghost use Rattle.hdr_model.specs.Quantiles.{IsTopNear, ranked_sample};
     ghost use Rattle.hdr_model.specs.Samples.{StandsFor};
     ghost use Rattle.hdr_compare.specs.Runs.{all_of, batches_of};
@@ -84,6 +84,7 @@ impl Run {
         ensures ends { IfOk result (λ found. MatchOption found (samples_of (batches_of self.now) ≡ 0)
             (AreEnds (batches_of self.now) quantile tier)) }
         ensures reached { IfOk result (λ found. IfSome found (HasReachedEnds (batches_of self.now) quantile tier)) }
+        ensures counts { IfOk result (λ found. IfSome found (EndsCount (batches_of self.now) tier)) }
     {
         if self.samples == 0 {
             return Ok(None);
@@ -116,6 +117,7 @@ impl Run {
         ensures reached { IfOk result (λ end. IsLowEnd (batches_of self.now) quantile tier end.independent 0
             → IsSome end.value) }
         ensures independent { IfOk result (λ end. end.independent ≤ independent) }
+        ensures counts { IfOk result (λ end. CountsAs (batches_of self.now) tier independent end.independent) }
     {
         let mut independent = independent;
         let mut low = self.all.lowest_equivalent(value);
@@ -153,6 +155,7 @@ impl Run {
         ensures reached { IfOk result (λ end. IsLowEnd (batches_of self.now) quantile tier end.independent 0
             → IsSome end.value) }
         ensures independent { IfOk result (λ end. end.independent ≤ independent) }
+        ensures counts { IfOk result (λ end. CountsAs (batches_of self.now) tier independent end.independent) }
     {
         let under = counted_upto(alloc, &self.batches, None, tier)?;
         let independent = under.independent.min(independent);
@@ -185,6 +188,7 @@ impl Run {
         ensures reached { IfOk result (λ end. IsHighEnd (batches_of self.now) quantile tier end.independent
             u64.MAX → IsSome end.value) }
         ensures independent { IfOk result (λ end. end.independent ≤ independent) }
+        ensures counts { IfOk result (λ end. CountsAs (batches_of self.now) tier independent end.independent) }
     {
         let mut independent = independent;
         let mut high = self.all.highest_equivalent(value);
@@ -222,6 +226,7 @@ impl Run {
         ensures reached { IfOk result (λ end. IsHighEnd (batches_of self.now) quantile tier end.independent
             u64.MAX → IsSome end.value) }
         ensures independent { IfOk result (λ end. end.independent ≤ independent) }
+        ensures counts { IfOk result (λ end. CountsAs (batches_of self.now) tier independent end.independent) }
     {
         let upto = counted_upto(alloc, &self.batches, Some(u64::MAX), tier)?;
         let independent = upto.independent.min(independent);

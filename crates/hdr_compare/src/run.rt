@@ -41,7 +41,8 @@ pub struct Run {
 impl Run {
     ghost use Rattle.std.specs.Prelude.{◌⊎◌, IfErr, IfOk};
     ghost use Rattle.hdr_compare.specs.Runs.{all_of, batches_of};
-    ghost use Rattle.hdr_compare.specs.Sums.{IsSumOf};
+    ghost use Rattle.hdr_compare.specs.Sums.{AreLeastClasses, IsSumOf};
+    ghost use Rattle.hdr_model.specs.Plain.{resolution};
 
     /// Returns the samples of a run: batches of one after the other.
     ///
@@ -51,6 +52,7 @@ impl Run {
     pub fn new(alloc: Global, batches: Vec<Histogram<u64>>) -> Result<Run, BatchError>
         ensures batches { IfOk result (λ run. batches_of run ≡ batches.items) }
         ensures all { IfOk result (λ run. IsSumOf batches.items (all_of run)) }
+        ensures classes { IfOk result (λ run. AreLeastClasses batches.items (resolution (all_of run))) }
         ensures errors { IfErr result (λ e. (e ≡ BatchError.OutOfMemory)
             ⊎ (2 ^ 40 ≤ sum_by (λ h. h.total) batches.items)
             ⊎ (2 ^ 20 < length batches.items)) }

@@ -5,7 +5,7 @@ ghost use Rattle.std.specs.List.{All};
 ghost use Rattle.hdr_base.specs.Classes.{IsFiner};
 ghost use Rattle.hdr_model.specs.Plain.{resolution};
 ghost use Rattle.hdr_model.specs.Samples.{StandsFor};
-ghost use Rattle.hdr_compare.specs.Sums.{IsSumOf, IsWithin};
+ghost use Rattle.hdr_compare.specs.Sums.{AreLeastClasses, IsSumOf, IsWidthOf};
 
 use crate::run::BatchError;
 use hdr_model::laws::clearing_stands;
@@ -21,7 +21,7 @@ struct Width {
 
 /// Returns the width of classes that have those of all batches in them.
 fn width_of(batches: &[Histogram<u64>]) -> Width
-    ensures { All (IsWithin result) batches.now }
+    ensures { IsWidthOf batches.now result }
 {
     let mut width = Width { low: 1, sigfig: 5 };
     for batch in batches {
@@ -39,6 +39,7 @@ pub(crate) fn sum_of(
     batches: &[Histogram<u64>],
 ) -> Result<Histogram<u64>, BatchError>
     ensures samples { IfOk result (IsSumOf batches.now) }
+    ensures classes { IfOk result (λ sum. AreLeastClasses batches.now (resolution sum)) }
     ensures errors { IfErr result (λ e. e ≡ BatchError.OutOfMemory) }
 {
     let sum = without_samples(alloc, width_of(batches))?;
@@ -65,6 +66,7 @@ fn without_samples(alloc: Global, width: Width) -> Result<Histogram<u64>, BatchE
 fn added(mut sum: Histogram<u64>, batches: &[Histogram<u64>]) -> Result<Histogram<u64>, BatchError>
     ensures samples { IfOk result (λ all. StandsFor sum [] → All (λ h. IsFiner (resolution h) (resolution sum)) batches.now
         → IsSumOf batches.now all) }
+    ensures classes { IfOk result (λ all. resolution all ≡ resolution sum) }
     ensures errors { IfErr result (λ e. e ≡ BatchError.OutOfMemory) }
 {
     sum.auto(true);

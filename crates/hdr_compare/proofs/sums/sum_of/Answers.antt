@@ -13,6 +13,6 @@ returns-clause-samples c =
     let batches = c.args.batches.now in
     let sum = c.in_ok-sum.sum in
     let finer : All (λ (h : Plain). IsFiner (resolution h) (resolution sum)) batches =
-    λ k d inside. finer-within c.width_of.result (get_or batches k d) sum c.in_ok-sum.ensures.low c.in_ok-sum.ensures.sigfig (c.width_of.ensures k d inside) in
+    λ k d inside. finer-within c.width_of.result (get_or batches k d) sum c.in_ok-sum.ensures.low c.in_ok-sum.ensures.sigfig (c.width_of.ensures.within k d inside) in
     IfOk-weaker c.added.result (λ all. StandsFor sum [] → All (λ (h : Plain). IsFiner (resolution h) (resolution sum)) batches → IsSumOf batches all) (IsSumOf batches)
     (λ all stands. stands c.in_ok-sum.ensures.stands finer) c.added.ensures.samples
