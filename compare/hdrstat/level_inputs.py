@@ -234,7 +234,9 @@ def log_levels(random):
     parts = []
     for tag, total in found.items():
         each = classes[tag]
-        batches = [[low for one in batch for low, count in one.counts.items() for _ in range(count)] for batch in runs.batches_of(each)]
+        # Intervals without samples are in no batch
+        some = [one for one in each if one.counts]
+        batches = [[low for one in batch for low, count in one.counts.items() for _ in range(count)] for batch in runs.batches_of(some)]
         known = [it for one in each for it in classes_of(one, decimals)]
         parts.append(Part(tag.decode() if tag is not None else None, known, LogTally(total, decimals), batches, True, sigfig))
     levels = random_levels(random, parts, unit)
