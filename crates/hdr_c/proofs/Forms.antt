@@ -8,21 +8,19 @@ use Rattle.hdr_convert.specs.Forms.{IsPlain}
 use Rattle.hdr_convert.specs.declared.errors.ConvertError.TheVariants as converting
 use Rattle.hdrhistogram.specs.V2.{IsV2, four}
 use Rattle.hdrhistogram.specs.V2Read.{IsReadAs}
-use Rattle.hdrhistogram.specs.declared.serialization.errors.DeserializeError.{DeserializeError}
 use Rattle.hdrhistogram.specs.declared.serialization.errors.DeserializeError.TheVariants.{OutOfMemory}
-use Rattle.hdr_c.specs.Decoding.{IsConvertStatus, IsDecoded, IsDecodeStatus, IsHistogramIn}
-use Rattle.hdr_c.specs.Status.{decode_status}
+use Rattle.hdr_c.specs.Decoding.{IsConvertStatus, IsDecoded, IsDecodeStatus, IsHistogramIn, IsV2Status}
 use Rattle.hdr_c.proofs.Bounds.{has_bounds}
 
 pub memory_status : (limit taken : ℕ) (bytes : List ℕ) (h : Plain) → IsDecoded limit bytes h taken → IsDecodeStatus limit bytes 2
-memory_status limit taken bytes h (within, inl read) = inl (OutOfMemory, refl, tt, has_bounds (2 ^ 64 - 1) bytes _ read.read)
-memory_status limit taken bytes h (within, inr other) = inr (inl (other.0, inl (converting.OutOfMemory, refl)))
+memory_status limit taken bytes h (within, inl read) = inl (OutOfMemory, refl, record { defect = tt; memory = has_bounds (2 ^ 64 - 1) bytes _ read.read; form = λ _. refl })
+memory_status limit taken bytes h (within, inr other) = inr (inl (other.0, inl (converting.OutOfMemory, refl, λ _. refl)))
 
 pub in_form : (bytes copy v2 text : List ℕ) (r : Result Plain ℕ) → copy ≡ bytes → IsV2Of copy v2 → text ≡ v2
-    → MatchResult r (λ h. (taken : ℕ) × IsReadAs (2 ^ 64 - 1) text h taken) (λ status. (e : DeserializeError) × (status ≡ decode_status e))
-    → MatchResult r (IsHistogramIn bytes) IsConvertStatus
+    → MatchResult r (λ h. (taken : ℕ) × IsReadAs (2 ^ 64 - 1) text h taken) (IsV2Status text)
+    → MatchResult r (IsHistogramIn bytes) (IsConvertStatus bytes)
 in_form bytes copy v2 text (Ok h) same of is read = (v2, subst (λ (xs : List ℕ). IsV2Of xs v2) same of, (read.0, subst (λ (xs : List ℕ). IsReadAs (2 ^ 64 - 1) xs h read.0) is read.1))
-in_form bytes copy v2 text (Err status) same of is error = inr error
+in_form bytes copy v2 text (Err status) same of is error = inr (v2, subst (λ (xs : List ℕ). IsV2Of xs v2) same of, subst (λ (xs : List ℕ). IsV2Status xs status) is error)
 
 pub v2_is_plain : (h : Plain) (bytes : List ℕ) → IsV2 h bytes → IsPlain bytes
 unfolding four

@@ -3,9 +3,7 @@
 ghost use Rattle.std.specs.Prelude.{◌≡◌, ◌-◌, ◌^◌, ◌<◌, ◌≤◌, ℕ, length, IsTrue, MatchOption, MatchResult};
 ghost use Rattle.hdrhistogram.specs.Defects.{defect_of_error, FailsBy, RunsOutOnly};
 ghost use Rattle.hdrhistogram.specs.V2Read.{HasBounds, IsReadAs, v2_at};
-ghost use Rattle.hdrhistogram.specs.declared.serialization.errors.DeserializeError.{DeserializeError};
-ghost use Rattle.hdr_c.specs.Decoding.{HeaderExceeds, IsConvertStatus, IsDecodeStatus, IsDecoded, IsFieldHistogram, IsFieldStatus, IsHistogramIn, IsNoV2};
-ghost use Rattle.hdr_c.specs.Status.{decode_status};
+ghost use Rattle.hdr_c.specs.Decoding.{HeaderExceeds, IsConvertStatus, IsDecodeStatus, IsDecoded, IsFieldHistogram, IsFieldStatus, IsHistogramIn, IsNoV2, IsV2Status};
 
 use crate::status::{NOT_BASE64, OUT_OF_MEMORY, TOO_MANY_BINS, of_convert_error, of_decode_error};
 use byteorder::{BigEndian, ByteOrder};
@@ -85,7 +83,7 @@ fn from_other_form(alloc: Global, bytes: &[u8], limit: u64) -> Result<(Histogram
 
 /// Returns the histogram of bytes in another form than V2 bytes. An error is its status.
 fn converted(alloc: Global, bytes: &[u8]) -> Result<Histogram<u64>, u32>
-    ensures { MatchResult result (IsHistogramIn bytes.now) IsConvertStatus }
+    ensures { MatchResult result (IsHistogramIn bytes.now) (IsConvertStatus bytes.now) }
 {
     let Ok(copy) = Vec::from_slice(alloc, bytes) else {
         return Err(OUT_OF_MEMORY);
@@ -99,7 +97,7 @@ fn converted(alloc: Global, bytes: &[u8]) -> Result<Histogram<u64>, u32>
 /// Returns the histogram of V2 bytes. An error is its status.
 fn decoded_v2(alloc: Global, v2: &[u8]) -> Result<Histogram<u64>, u32>
     ensures { MatchResult result (λ h. (taken : ℕ) × IsReadAs (2 ^ 64 - 1) v2.now h taken)
-        (λ status. (e : DeserializeError) × (status ≡ decode_status e)) }
+        (IsV2Status v2.now) }
 {
     match Deserializer::new(alloc).decode_slice::<u64>(v2) {
         Ok((histogram, _)) => Ok(histogram),
