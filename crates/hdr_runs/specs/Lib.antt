@@ -3,6 +3,7 @@ pub mod BatchLaws
 pub mod ReportChanges
 pub mod Limits
 pub mod Points
+pub mod PercentileEnds
 pub mod RunSamples
 pub mod Bands
 pub mod Orders
