@@ -3,6 +3,8 @@ pub mod BatchLaws
 pub mod ReportChanges
 pub mod Limits
 pub mod Points
+pub mod PercentileEnds
+pub mod RunSamples
 pub mod Bands
 pub mod Orders
 pub mod Scaled

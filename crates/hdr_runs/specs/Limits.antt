@@ -1,6 +1,7 @@
 -- Limits of changes: by how many percent a percentile may grow.
 use Rattle.std.specs.Prelude.{◌≡◌, ◌≢◌, ℕ, ◌+◌, ◌*◌, ◌^◌, ◌<◌, ◌≤◌, List, ◌∷◌, ◌++◌, codes, length, slice_index, true}
 use Rattle.std.specs.Char.{is_ascii_digit}
+use Rattle.hdr_base.specs.Fractions.{Ratio}
 use Rattle.hdr_compare.specs.Changes.{ExceedsBy, FallsBelowBy, IsOpen}
 use Rattle.hdr_compare.specs.Shifts.{AreShifted}
 use Rattle.hdr_compare.specs.declared.changes.Measured.{Measured}
@@ -11,6 +12,10 @@ use Rattle.hdr_runs.specs.declared.limit.LimitVerdict.TheVariants.{Kept, Broken,
 -- growth by p percent is that to num / den, where num = den + p parts of a hundred
 abbrev pub parts_of : ℕ → ℕ
 parts_of decimals = 100 * 10 ^ decimals
+
+-- two fractions are the same number
+abbrev pub IsSameFraction : Ratio → Ratio → Type 0
+IsSameFraction p q = p.num * q.den ≡ q.num * p.den
 
 -- a text begins with a digit
 abbrev pub BeginsWithDigit : List ℕ → Type 0

@@ -1,6 +1,6 @@
 //! The confidence intervals of percentiles along a curve.
 
-ghost use Rattle.std.specs.Prelude.{◌≡◌, MatchOption, IfOk, OnOk};
+ghost use Rattle.std.specs.Prelude.{◌≡◌, ◌≤◌, ◌*◌, ◌↔◌, IsTrue, MatchOption, IfOk, OnOk};
 ghost use Rattle.std.specs.List.{All};
 ghost use Rattle.hdr_compare.specs.Intervals.{samples_of};
 ghost use Rattle.hdr_runs.specs.Bands.{IsBandPointOf, IsBandPointAt};
@@ -41,8 +41,11 @@ impl Side {
         Ok(band)
     }
 
-    /// Whether half a sample or more is above a percentile.
-    fn has_above(&self, above: u64) -> bool {
+    /// Whether half a sample or more is above the percentile that `above` of 1,000,000 samples are
+    /// above.
+    fn has_above(&self, above: u64) -> bool
+        ensures { IsTrue result ↔ (1000000 ≤ 2 * (above * samples_of (batches_of_side self.now))) }
+    {
         let expected = u128::from(above) * u128::from(self.samples());
         expected.saturating_mul(2) >= u128::from(MOST_DENOMINATOR)
     }

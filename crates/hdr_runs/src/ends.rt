@@ -1,5 +1,11 @@
 //! The ends of the confidence intervals of percentiles.
 
+ghost use Rattle.std.specs.Prelude.{◌≡◌, IfErr, IfOk};
+ghost use Rattle.std.specs.List.{AllZip};
+ghost use Rattle.hdr_runs.specs.PercentileEnds.{AreEndsAt};
+ghost use Rattle.hdr_runs.specs.Points.{batches_of_side, greatest_of, least_of};
+ghost use Rattle.hdr_runs.specs.RunSamples.{IsSideError};
+
 use crate::report::MOST_DENOMINATOR;
 use crate::side::{Samples, Side};
 use hdr_compare::{BatchError, Tier};
@@ -9,11 +15,18 @@ use std::alloc::Global;
 
 /// Returns the ends of the intervals of 95 % of percentiles, as far as samples reach them. There is
 /// none for a percentile of more than 4 decimals.
+///
+/// # Errors
+/// As `Side::new`.
 pub fn ends_of(
     alloc: Global,
     samples: Samples,
     percentiles: &[Percentile<'_>],
-) -> Result<Vec<Ends>, BatchError> {
+) -> Result<Vec<Ends>, BatchError>
+    ensures ends { IfOk result (λ ends. AllZip (AreEndsAt samples.batches.items samples.min samples.max)
+        percentiles.now ends.items) }
+    ensures errors { IfErr result (IsSideError samples) }
+{
     let side = Side::new(alloc, None, samples)?;
     let mut ends = Vec::new(alloc);
     for percentile in percentiles {
@@ -30,7 +43,11 @@ fn ends_of_percentile(
     alloc: Global,
     side: &Side,
     percentile: &Percentile<'_>,
-) -> Result<Ends, BatchError> {
+) -> Result<Ends, BatchError>
+    ensures ends { IfOk result (AreEndsAt (batches_of_side side.now) (least_of side.now) (greatest_of side.now)
+        percentile.now) }
+    ensures errors { IfErr result (λ e. e ≡ BatchError.OutOfMemory) }
+{
     let quantile = percentile.quantile;
     let none = Ends {
         low: None,

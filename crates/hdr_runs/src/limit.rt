@@ -1,7 +1,8 @@
 //! Limits of changes, such as `p99>+5%`.
 
 ghost use Rattle.std.specs.Prelude.{◌≡◌, ◌≤◌, ◌+◌, ◌*◌, ◌^◌, ◌↔◌, ℕ, List, IfSome, IsTrue, MatchOption};
-ghost use Rattle.hdr_runs.specs.Limits.{BeginsWithDigit, IsAmount, IsLimitText, IsLimitVerdict, grown, parts_of};
+ghost use Rattle.hdr_summary.specs.Percent.{IsPercentile};
+ghost use Rattle.hdr_runs.specs.Limits.{BeginsWithDigit, IsAmount, IsLimitText, IsLimitVerdict, IsSameFraction, grown, parts_of};
 
 use crate::point::Point;
 use hdr_compare::{comparable, exceeds, falls_below};
@@ -53,7 +54,8 @@ impl LimitVerdict {
 /// Parses a limit of a change, such as `p99>+5%`. The percentage has 3 decimals at most.
 pub fn parse_limit(text: &str) -> Option<Limit<'_>>
     ensures text { IfSome result (λ limit. limit.text.now ≡ text.now) }
-    ensures parts { IfSome result (λ limit. (percentile amount : List ℕ) × IsLimitText text.now percentile amount) }
+    ensures parts { IfSome result (λ limit. (percentile amount : List ℕ) × IsLimitText text.now percentile amount
+        × IsPercentile percentile limit.percentile) }
     ensures amount { IfSome result (λ limit. IsAmount limit.amount) }
 {
     let (percentile, amount) = split_limit(text)?;
@@ -124,7 +126,9 @@ fn parts_of(decimals: u32) -> u64
 
 impl Limit<'_> {
     /// Whether a limit is of a percentile: both are the same fraction.
-    pub fn is_of(&self, percentile: &Percentile<'_>) -> bool {
+    pub fn is_of(&self, percentile: &Percentile<'_>) -> bool
+        ensures { IsTrue result ↔ IsSameFraction self.now.percentile.quantile percentile.now.quantile }
+    {
         let (one, other) = (self.percentile.quantile, percentile.quantile);
         u128::from(one.num()) * u128::from(other.den())
             == u128::from(other.num()) * u128::from(one.den())

@@ -14,8 +14,12 @@ pub enum Order {
 }
 
 impl Order {
+    ghost use Rattle.std.specs.Prelude.{◌≡◌, ◌≢◌, MatchOption};
+
     /// Returns what is printed of a run if its samples are taken as independent, or `None` otherwise.
-    pub(crate) fn note(self) -> Option<&'static str> {
+    pub(crate) fn note(self) -> Option<&'static str>
+        ensures { MatchOption result (self ≡ Order.OfTime) (λ note. self ≢ Order.OfTime) }
+    {
         match self {
             Order::OfTime => None,
             Order::Sorted => Some(

@@ -1,5 +1,9 @@
 //! The samples of a run, or of one of its tags.
 
+ghost use Rattle.std.specs.Prelude.{◌≡◌, ◌-◌, ◌^◌, min};
+ghost use Rattle.hdr_compare.specs.Intervals.{samples_of};
+ghost use Rattle.hdr_compare.specs.Runs.{batches_of};
+
 use crate::order::Order;
 use crate::point::Point;
 use hdr_compare::{BatchError, Measured, Position, Run, Tier, WithinBound};
@@ -19,13 +23,19 @@ pub struct Samples {
 }
 
 impl Samples {
-    /// Adds a run, whose samples become one batch more.
+    ghost use Rattle.std.specs.Prelude.{◌≡◌, OnErr, OnOk};
+    ghost use Rattle.hdr_runs.specs.RunSamples.{AddsRun};
+
+    /// Adds a run, whose samples become one batch more. After an error the batches are the same.
     pub fn add_run(
         &mut self,
         histogram: Histogram<u64>,
         min: u64,
         max: u64,
-    ) -> Result<(), BatchError> {
+    ) -> Result<(), BatchError>
+        ensures added { OnOk result (AddsRun histogram min max self.old self.new) }
+        ensures err { OnErr result (self.new.batches.items ≡ self.old.batches.items) }
+    {
         self.min = self.min.min(min);
         self.max = self.max.max(max);
         match self.batches.push(histogram) {
@@ -46,22 +56,42 @@ pub struct Side {
     pub(crate) min: u64,
     pub(crate) max: u64,
     decimals: u32,
+    ghost counted: { samples ≡ samples_of (batches_of run) },
+}
+
+/// Returns how many samples batches have, or `u64::MAX` if that is less.
+fn total_of(batches: &[Histogram<u64>]) -> u64
+    ensures { result ≡ min (samples_of batches.now) (2 ^ 64 - 1) }
+{
+    let mut total = 0u64;
+    for batch in batches {
+        total = total.saturating_add(batch.len());
+    }
+    total
 }
 
 impl Side {
-    ghost use Rattle.std.specs.Prelude.{◌≡◌, ◌≤◌, IfOk, MatchOption};
+    ghost use Rattle.std.specs.Prelude.{◌≡◌, ◌≤◌, IfErr, IfOk, MatchOption};
     ghost use Rattle.std.specs.Option.{option_map};
     ghost use Rattle.hdr_compare.specs.Intervals.{samples_of};
     ghost use Rattle.hdr_compare.specs.Positions.{IsPositionOf};
-    ghost use Rattle.hdr_runs.specs.Points.{IsPointOf, batches_of_side, decimals_of, greatest_of, least_of, within};
+    ghost use Rattle.hdr_compare.specs.Sums.{IsSumOf};
+    ghost use Rattle.hdr_runs.specs.Points.{IsPointOf, batches_of_side, decimals_of, greatest_of, least_of, samples_of_side, within};
+    ghost use Rattle.hdr_runs.specs.RunSamples.{IsSideError};
 
     /// Returns samples and their tag.
     ///
     /// # Errors
-    /// Returns `TooMany` if there are 2^40 samples or more, or more than 2^20 batches.
+    /// Returns `TooMany` if there are 2^40 samples or more, or more than 2^20 batches, and
+    /// `OutOfMemory` if an allocation fails.
     pub fn new(alloc: Global, tag: Option<String>, samples: Samples) -> Result<Side, BatchError>
+        ensures tag { IfOk result (λ side. side.tag ≡ tag) }
+        ensures order { IfOk result (λ side. side.order ≡ samples.order) }
         ensures batches { IfOk result (λ side. batches_of_side side ≡ samples.batches.items) }
+        ensures all { IfOk result (λ side. IsSumOf samples.batches.items (samples_of_side side)) }
         ensures extremes { IfOk result (λ side. (least_of side ≡ samples.min) × (greatest_of side ≡ samples.max)) }
+        ensures decimals { IfOk result (λ side. decimals_of side ≡ samples.decimals) }
+        ensures errors { IfErr result (IsSideError samples) }
     {
         let Samples {
             batches,
@@ -70,10 +100,7 @@ impl Side {
             decimals,
             order,
         } = samples;
-        let mut count = 0u64;
-        for batch in &batches {
-            count = count.saturating_add(batch.len());
-        }
+        let count = total_of(&batches);
         Ok(Side {
             tag,
             order,
@@ -86,7 +113,9 @@ impl Side {
     }
 
     /// Returns how many samples there are.
-    pub fn samples(&self) -> u64 {
+    pub fn samples(&self) -> u64
+        ensures { result ≡ samples_of (batches_of_side self.now) }
+    {
         self.samples
     }
 
