@@ -3,7 +3,7 @@ use Rattle.std.specs.Prelude.{◌≡◌, ◌⊎◌, ℕ, min, max, List, None}
 use Rattle.std.specs.Option.{option_map}
 use Rattle.hdr_base.specs.Fractions.{Ratio}
 use Rattle.hdr_model.specs.Plain.{Plain}
-use Rattle.hdr_compare.specs.Intervals.{AreEnds, HasReachedEnds, samples_of}
+use Rattle.hdr_compare.specs.Intervals.{AreEnds, EndsCount, HasReachedEnds, samples_of}
 use Rattle.hdr_compare.specs.declared.interval.Interval.{Interval}
 use Rattle.hdr_compare.specs.declared.tiers.Tier.TheVariants.{FivePercent}
 use Rattle.hdr_summary.specs.declared.figures.Ends.{Ends}
@@ -23,6 +23,7 @@ pub record AreEndsOf (hs : List Plain) (least greatest : ℕ) (q : Ratio) (e : E
   pub interval : Interval
   pub ends : AreEnds hs q FivePercent interval
   pub reached : HasReachedEnds hs q FivePercent interval
+  pub counts : EndsCount hs FivePercent interval
   pub low : e.low ≡ option_map (between least greatest) interval.low.value
   pub high : e.high ≡ option_map (between least greatest) interval.high.value
 

@@ -5,7 +5,7 @@ use Rattle.hdr_base.specs.Fractions.{Ratio}
 use Rattle.hdr_model.specs.Plain.{Plain}
 use Rattle.hdr_model.specs.Quantiles.{IsTopNear, ranked_sample}
 use Rattle.hdr_model.specs.Samples.{StandsFor}
-use Rattle.hdr_compare.specs.Intervals.{AreEnds, HasReachedEnds}
+use Rattle.hdr_compare.specs.Intervals.{AreEnds, EndsCount, HasReachedEnds}
 use Rattle.hdr_compare.specs.Runs.{all_of, batches_of}
 use Rattle.hdr_compare.specs.declared.changes.Measured.{Measured}
 use Rattle.hdr_compare.specs.declared.interval.Interval.{Interval}
@@ -48,6 +48,7 @@ pub record IsPointOf (side : Side) (q : Ratio) (tier : Tier) (p : Point) : Type 
   pub interval : Interval
   pub ends : AreEnds (batches_of_side side) q tier interval
   pub reached : HasReachedEnds (batches_of_side side) q tier interval
+  pub counts : EndsCount (batches_of_side side) tier interval
   pub value : (S : List ℕ) → StandsFor (samples_of_side side) S → 0 < length S → 0 < q.num
       → IsTopNear (samples_of_side side) (ranked_sample q S) interval.value
   pub measured : p.measured ≡ measured_of side interval
