@@ -40,7 +40,7 @@ some_digit : (r d : ℕ) → (nat_lt 0 r || nat_lt 0 d) ≡ nat_lt 0 (r * 10 + d
 some_digit r d = grind (arith, nat_tests)
 
 -- one more digit is cut from a number that is full
-pub with_cut : (w : Wide) (x : Number) (d : ℕ) (f : Bool) (e : ℤ) (b : Bool) → d < 10 → 2 ^ 64 ≤ w.digits → HasDigitsOf w x
+pub with_cut : (w : Wide) (x : Number) (d : ℕ) (f : Bool) (e : ℤ) (b : Bool) → d < 10 → 2 ^ 124 ≤ w.digits → HasDigitsOf w x
     → e ≡ w.exponent +ℤ pos (if not f then 1 else 0) → b ≡ (w.is_cut || nat_lt 0 d)
     → HasDigitsOf (record { digits = w.digits; exponent = e; is_full = true; is_cut = b }) (with_digit x d f)
 with_cut w x d f e b digit large h is cut =

@@ -48,7 +48,7 @@ some_times zero N some = ap (λ m. nat_lt 0 m) (let e : 0 ≡ zero * N = omega a
 some_times (suc r) N some = let lt : 0 < suc r * N = omega (arith, mul-lt-mul_of_pos_right {k = N} (let l : 0 < suc r = omega arith in l) some) in grind (arith, nat_tests)
 
 -- digits are cut only from a number that is full
-full_if_cut : (w : Wide) (x : Number) (f : Bool) → w.is_full ≡ f → HasDigitsOf w x → w.is_cut ≡ true → 2 ^ 64 ≤ w.digits
+full_if_cut : (w : Wide) (x : Number) (f : Bool) → w.is_full ≡ f → HasDigitsOf w x → w.is_cut ≡ true → 2 ^ 124 ≤ w.digits
 full_if_cut w x true is h cut = h.full is
 full_if_cut w x false is h cut =
     let none : w.is_cut ≡ nat_lt 0 0 = h.is.is_cut ∙ ap (λ p. nat_lt 0 (x.digits % 10 ^ p)) (h.all is) ∙ ap (λ m. nat_lt 0 m) (mod-one x.digits) in

@@ -1,12 +1,13 @@
 -- The numbers that decimal texts write, and what is left of numbers without their last digits.
-use Rattle.std.specs.Prelude.{◌≡◌, ℕ, ◌+◌, ◌*◌, ◌/◌, ◌%◌, ◌^◌, ◌<◌, ◌≤◌, ⊤, Bool, true, false, ◌||◌, ◌==◌, nat_lt, if◌then◌else◌, ℤ, pos, negsuc, ◌+ℤ◌, min, List, ◌++◌, length, Option, Some, None}
+use Rattle.std.specs.Prelude.{◌≡◌, ℕ, ◌+◌, ◌*◌, ◌/◌, ◌%◌, ◌^◌, ◌<◌, ◌≤◌, ◌⊎◌, ⊤, Bool, true, false, ◌||◌, ◌==◌, nat_lt, if◌then◌else◌, ℤ, pos, negsuc, ◌+ℤ◌, min, List, ◌++◌, length, Option, Some, None}
 use Rattle.std.specs.List.{before_first, after_first, list_any}
 use Rattle.std.specs.Str.Parse.{digits_value, digits_value_after, signed_digits_value, starts_with_minus, without_leading_sign}
 use Rattle.hdr_log.specs.Parts.{is_digits}
+use Rattle.hdr_input.specs.Numbers.{in_units}
 use Rattle.hdr_input.specs.declared.number.Number.{Number}
 use Rattle.hdr_input.specs.declared.wide.Wide.{Wide}
 use Rattle.hdr_input.specs.declared.cause.Cause.{Cause}
-use Rattle.hdr_input.specs.declared.cause.Cause.TheVariants.{NotANumber, Dash, Infinite, Comma, Negative}
+use Rattle.hdr_input.specs.declared.cause.Cause.TheVariants.{NotANumber, Dash, Infinite, Comma, Negative, TooLarge, TooManyDecimals}
 
 abbrev pub is_point : ℕ → Bool
 is_point b = b == 46
@@ -88,13 +89,13 @@ pub record HasDigitsOf (w : Wide) (x : Number) : Type 0 where
   pub cut : ℕ
   pub is : IsCutBy cut w x
   pub all : w.is_full ≡ false → cut ≡ 0
-  pub full : w.is_full ≡ true → 2 ^ 64 ≤ w.digits
+  pub full : w.is_full ≡ true → 2 ^ 124 ≤ w.digits
 
--- a wide number stands for a number: it is that number, or has the first digits of it, which are 2 ^ 64 or more
+-- a wide number stands for a number: it is that number, or has the first digits of it, which are 2 ^ 124 or more
 pub record StandsFor (w : Wide) (x : Number) : Type 0 where
   pub cut : ℕ
   pub is : IsCutBy cut w x
-  pub large : w.is_cut ≡ true → 2 ^ 64 ≤ w.digits
+  pub large : w.is_cut ≡ true → 2 ^ 124 ≤ w.digits
 
 -- a number with one more digit at its end, which may be a decimal
 abbrev pub with_digit : Number → ℕ → Bool → Number
@@ -103,3 +104,25 @@ with_digit x digit is_fraction = record { digits = x.digits * 10 + digit; decima
 -- a number with more digits at its end, which may be decimals
 abbrev pub with_digits : Number → List ℕ → Bool → Number
 with_digits x digits is_fraction = record { digits = digits_value_after 10 x.digits digits; decimals = x.decimals + (if is_fraction then length digits else 0) }
+
+-- the decimals of 10 to this power
+abbrev pub decimals_of : ℤ → ℕ
+decimals_of (pos n) = 0
+decimals_of (negsuc n) = n + 1
+
+-- a number as it is recorded: rounded to decimals, or exact with 18 decimals at most
+abbrev pub IsNarrowed : Option ℕ → Number → Number → Type 0
+IsNarrowed (Some decimals) x n = (n.decimals ≡ decimals) × (n.digits ≡ in_units x.digits x.decimals decimals)
+IsNarrowed None x n = (n.decimals ≤ 18) × (n.digits * 10 ^ x.decimals ≡ x.digits * 10 ^ n.decimals)
+
+-- a number is not recorded, for this cause: 64 bits do not hold it in units, or it is to be exact and has more than 18 decimals
+abbrev pub IsNarrowError : Option ℕ → Number → Cause → Type 0
+IsNarrowError (Some decimals) x TooLarge = 2 ^ 64 ≤ in_units x.digits x.decimals decimals
+IsNarrowError (Some decimals) x _ = ⊥
+IsNarrowError None x TooLarge = (decimals : ℕ) × (decimals ≤ 18) × (2 ^ 64 ≤ in_units x.digits x.decimals decimals)
+IsNarrowError None x TooManyDecimals = (18 < x.decimals) × (0 < x.digits)
+IsNarrowError None x _ = ⊥
+
+-- a text is not a number that is recorded, for this cause
+abbrev pub IsParseError : List ℕ → Option ℕ → Cause → Type 0
+IsParseError text decimals cause = IsTextError text cause ⊎ ((x : Number) × IsText text x × IsNarrowError decimals x cause)

@@ -1,6 +1,6 @@
 //! Decimal numbers with more digits than are recorded, and with exponents.
 
-ghost use Rattle.std.specs.Prelude.{◌≡◌, ◌+◌, ◌*◌, ◌^◌, ◌<◌, ◌≤◌, min, ◌||◌, ◌&&◌, not, ◌++◌, ◌==◌, true, false, pos, ◌+ℤ◌, if◌then◌else◌, nat_lt, unsigned_abs, length};
+ghost use Rattle.std.specs.Prelude.{◌≡◌, ◌+◌, ◌*◌, ◌^◌, ◌<◌, ◌≤◌, ◌-◌, ◌/◌, ◌%◌, min, ◌||◌, ◌&&◌, not, ◌++◌, ◌==◌, true, false, pos, ◌+ℤ◌, if◌then◌else◌, nat_lt, unsigned_abs, length};
 ghost use Rattle.std.specs.Prelude.{Some, None, SomeIff, OnSome, IfSome, IfNone, IfOk, IfErr, position, option_map};
 ghost use Rattle.std.specs.Str.Parse.{digits_value, starts_with_minus, without_leading_sign};
 ghost use Rattle.hdr_log.specs.Parts.{is_digits};
@@ -9,7 +9,10 @@ ghost use Rattle.std.specs.Char.{is_ascii_digit};
 ghost use Rattle.hdr_input.specs.declared.number.Number.{Number};
 ghost use Rattle.hdr_input.specs.Decimals.{is_point, decimal_of, HasDigitsOf, with_digit, with_digits};
 ghost use Rattle.hdr_input.specs.Decimals.{is_e, after_e, exponent_in, integer_of, limited, number_of, times_power, StandsFor};
-ghost use Rattle.hdr_input.specs.Decimals.{IsText, IsTextError};
+ghost use Rattle.hdr_input.specs.Decimals.{IsText, IsTextError, IsNarrowed, IsNarrowError, decimals_of};
+ghost use Rattle.hdr_input.specs.Rounding.{is_rounded};
+ghost use Rattle.hdr_input.specs.Numbers.{in_units};
+ghost use Rattle.hdr_input.specs.declared.cause.Cause.TheVariants.{TooLarge};
 
 use crate::cause::Cause;
 use crate::distribution::MOST_DECIMALS;
@@ -32,7 +35,10 @@ pub struct Wide {
 const GREATEST_EXPONENT: u64 = 1_000_000_000;
 
 /// Returns 10 to a power, or `None` on overflow.
-fn power_of_ten(exponent: i64) -> Option<u128> {
+#[tactic(auto, using(crate::proofs::Rounded::power_beyond))]
+fn power_of_ten(exponent: u128) -> Option<u128>
+    ensures { SomeIff result (10 ^ exponent < 2 ^ 128) (10 ^ exponent) }
+{
     10u128.checked_pow(u32::try_from(exponent).ok()?)
 }
 
@@ -72,7 +78,7 @@ fn is_cut_after(is_cut: bool, digit: u8) -> bool
 fn without_digit(number: Wide, digit: u8, is_fraction: bool) -> Wide
     requires { digit < 10 }
     ensures bound { unsigned_abs result.exponent ≤ unsigned_abs number.exponent + 1 }
-    ensures value { unsigned_abs number.exponent < 2 ^ 62 → 2 ^ 64 ≤ number.digits → (x : Number)
+    ensures value { unsigned_abs number.exponent < 2 ^ 62 → 2 ^ 124 ≤ number.digits → (x : Number)
         → HasDigitsOf number x → HasDigitsOf result (with_digit x digit is_fraction) }
 {
     Wide {
@@ -311,7 +317,9 @@ pub(crate) fn parse_unsigned(text: &[u8]) -> Result<Wide, Cause>
 
 impl Wide {
     /// Returns a number with as many digits as it has.
-    pub(crate) fn of(number: Number) -> Wide {
+    pub(crate) fn of(number: Number) -> Wide
+        ensures { StandsFor result number }
+    {
         Wide {
             digits: u128::from(number.digits),
             exponent: -i64::from(number.decimals),
@@ -332,9 +340,9 @@ impl Wide {
         if self.is_zero() {
             return 0;
         }
-        let power = self.exponent.saturating_add(i64::from(MOST_DECIMALS));
-        let divisor = power_of_ten(0i64.saturating_sub(power).max(0));
-        let factor = power_of_ten(power.max(0));
+        let power = self.power_in(MOST_DECIMALS);
+        let divisor = power_of_ten(power.min(0).unsigned_abs());
+        let factor = power_of_ten(power.max(0).unsigned_abs());
         match (divisor, factor) {
             (None, _) => self.digits.min(1),
             (_, None) => u128::MAX >> 1,
@@ -351,7 +359,11 @@ impl Wide {
     }
 
     /// Returns the number rounded to `decimals`, or the exact number if that is `None`.
-    pub(crate) fn narrowed(self, decimals: Option<u32>) -> Result<Number, Cause> {
+    pub(crate) fn narrowed(self, decimals: Option<u32>) -> Result<Number, Cause>
+        ensures value { IfOk result (λ n. (x : Number) → StandsFor self x → IsNarrowed decimals x n) }
+        ensures errors { IfErr result (λ cause. (x : Number) → StandsFor self x
+            → IsNarrowError decimals x cause) }
+    {
         match decimals {
             Some(decimals) => self.rounded(decimals),
             None => self.exact(),
@@ -360,10 +372,14 @@ impl Wide {
 
     /// Returns the exact number. One with a fraction has the decimals of its text, 18 at most; a 0
     /// with more has 18.
-    fn exact(self) -> Result<Number, Cause> {
-        let decimals = 0i64.saturating_sub(self.exponent).max(0);
-        if decimals <= i64::from(MOST_DECIMALS) {
-            self.rounded(decimals as u32)
+    fn exact(self) -> Result<Number, Cause>
+        ensures value { IfOk result (λ n. (x : Number) → StandsFor self x → IsNarrowed None x n) }
+        ensures errors { IfErr result (λ cause. (x : Number) → StandsFor self x
+            → IsNarrowError None x cause) }
+    {
+        let decimals = self.decimals();
+        if decimals <= MOST_DECIMALS {
+            self.rounded(decimals)
         } else if self.is_zero() {
             self.rounded(MOST_DECIMALS)
         } else {
@@ -372,7 +388,9 @@ impl Wide {
     }
 
     /// Returns how many decimals the number has.
-    pub(crate) fn decimals(self) -> u32 {
+    pub(crate) fn decimals(self) -> u32
+        ensures { result ≡ min (decimals_of self.exponent) (2 ^ 32 - 1) }
+    {
         let decimals = 0i64.saturating_sub(self.exponent).max(0);
         u32::try_from(decimals).unwrap_or(u32::MAX)
     }
@@ -387,45 +405,111 @@ impl Wide {
     }
 
     /// Whether the number changes if it is rounded to `decimals`.
-    pub fn is_rounded(self, decimals: u32) -> bool {
-        let power = self.exponent.saturating_add(i64::from(decimals));
+    pub fn is_rounded(self, decimals: u32) -> bool
+        ensures { (x : Number) → StandsFor self x → in_units x.digits x.decimals decimals < 2 ^ 64
+            → result ≡ is_rounded x decimals }
+    {
+        let power = self.power_in(decimals);
         if power >= 0 {
             return self.is_cut;
         }
-        match power_of_ten(0i64.saturating_sub(power)) {
-            Some(divisor) => self.is_cut || self.digits.checked_rem(divisor).unwrap_or(0) > 0,
+        self.is_cut || self.has_rest(power.unsigned_abs())
+    }
+
+    /// Whether 10 to a power does not divide the digits.
+    #[tactic(auto, using(crate::proofs::InUnits::positive, crate::proofs::Rounded::below_power))]
+    fn has_rest(self, power: u128) -> bool
+        ensures { result ≡ nat_lt 0 (self.digits % 10 ^ power) }
+    {
+        match power_of_ten(power) {
+            Some(divisor) => self.digits % divisor > 0,
             None => !self.is_zero(),
         }
     }
 
     /// Returns the number rounded to `decimals`, halves up.
-    pub fn rounded(self, decimals: u32) -> Result<Number, Cause> {
-        let power = self.exponent.saturating_add(i64::from(decimals));
-        let units = if power < 0 {
-            Some(self.divided(0i64.saturating_sub(power)))
-        } else if self.is_zero() {
-            Some(0)
-        } else if self.is_cut {
-            None
-        } else {
-            power_of_ten(power).and_then(|factor| self.digits.checked_mul(factor))
-        };
-        match units.and_then(|units| u64::try_from(units).ok()) {
+    pub fn rounded(self, decimals: u32) -> Result<Number, Cause>
+        ensures decimals { IfOk result (λ n. n.decimals ≡ decimals) }
+        ensures bound { IfOk result (λ n. n.digits < 2 ^ 64) }
+        ensures value { IfOk result (λ n. (x : Number) → StandsFor self x
+            → n.digits ≡ in_units x.digits x.decimals decimals) }
+        ensures errors { IfErr result (λ cause. (cause ≡ TooLarge) × ((x : Number) → StandsFor self x
+            → 2 ^ 64 ≤ in_units x.digits x.decimals decimals)) }
+    {
+        match self.units(decimals) {
             Some(digits) => Ok(Number { digits, decimals }),
             None => Err(Cause::TooLarge),
         }
     }
 
+    /// Returns the power of ten that the digits are multiplied by in units of 10^-`decimals`.
+    fn power_in(self, decimals: u32) -> i128
+        ensures { result ≡ self.exponent +ℤ pos decimals }
+    {
+        i128::from(self.exponent) + i128::from(decimals)
+    }
+
+    /// Returns the number in units of 10^-`decimals`, halves rounded up, or `None` on overflow.
+    fn units(self, decimals: u32) -> Option<u64>
+        ensures value { IfSome result (λ units. (x : Number) → StandsFor self x
+            → units ≡ in_units x.digits x.decimals decimals) }
+        ensures overflow { IfNone result ((x : Number) → StandsFor self x
+            → 2 ^ 64 ≤ in_units x.digits x.decimals decimals) }
+    {
+        let power = self.power_in(decimals);
+        if power < 0 {
+            return narrow(self.divided(power.unsigned_abs()));
+        }
+        narrow(self.multiplied(power.unsigned_abs())?)
+    }
+
+    /// Returns the digits times 10 to a power, or `None` on overflow.
+    #[tactic(auto, using(crate::proofs::Rounded::product_beyond, crate::proofs::Rounded::at_least))]
+    fn multiplied(self, power: u128) -> Option<u128>
+        ensures value { IfSome result (λ units. units ≡ self.digits * 10 ^ power) }
+        ensures exact { OnSome result (0 < self.digits → self.is_cut ≡ false) }
+        ensures overflow { IfNone result ((self.is_cut ≡ true → 2 ^ 124 ≤ self.digits)
+            → 2 ^ 64 ≤ self.digits * 10 ^ power) }
+    {
+        if self.is_zero() {
+            return Some(0);
+        }
+        if self.is_cut {
+            return None;
+        }
+        self.digits.checked_mul(power_of_ten(power)?)
+    }
+
     /// Returns the digits divided by 10 to a power, halves rounded up. Digits are below 10^39, so a
     /// greater power leaves 0.
-    fn divided(self, power: i64) -> u128 {
-        power_of_ten(power).map_or(0, |divisor| rounded_quotient(self.digits, divisor))
+    #[tactic(auto, using(crate::proofs::Rounded::none_left, crate::proofs::InUnits::positive))]
+    fn divided(self, power: u128) -> u128
+        ensures { result ≡ (self.digits + 10 ^ power / 2) / 10 ^ power }
+    {
+        match power_of_ten(power) {
+            Some(divisor) => rounded_quotient(self.digits, divisor),
+            None => 0,
+        }
     }
 }
 
-/// Returns a quotient to the nearest integer, halves rounded up. The divisor is a power of ten.
-fn rounded_quotient(dividend: u128, divisor: u128) -> u128 {
-    let whole = dividend.checked_div(divisor).unwrap_or(0);
-    let rest = dividend.checked_rem(divisor).unwrap_or(0);
-    whole.saturating_add(u128::from(rest >= divisor - divisor / 2))
+/// Returns an integer that 64 bits hold, or `None` on overflow.
+fn narrow(units: u128) -> Option<u64>
+    ensures { SomeIff result (units < 2 ^ 64) units }
+{
+    u64::try_from(units).ok()
+}
+
+/// Returns a quotient to the nearest integer, halves rounded up.
+#[tactic(auto, using(crate::proofs::Rounded::quotient_up, crate::proofs::Rounded::quotient_down))]
+fn rounded_quotient(dividend: u128, divisor: u128) -> u128
+    requires { 0 < divisor }
+    ensures { result ≡ (dividend + divisor / 2) / divisor }
+{
+    let whole = dividend / divisor;
+    if dividend % divisor >= divisor - divisor / 2 {
+        whole + 1
+    } else {
+        whole
+    }
 }
