@@ -32,7 +32,7 @@ unfolding integer_of
 nonnegative text rest m z minus is all value same = rw (← is, all, minus) (ap Some (same ∙ ap pos value))
 
 -- zeros that are appended are cut
-scaled : (q r P n N : ℕ) → n ≡ q * P + r → r < P → 0 < N → ((n * N) / (P * N) ≡ q) × ((n * N) % (P * N) ≡ r * N)
+pub scaled : (q r P n N : ℕ) → n ≡ q * P + r → r < P → 0 < N → ((n * N) / (P * N) ≡ q) × ((n * N) % (P * N) ≡ r * N)
 scaled q r P n N is lt some =
     let same : n * N ≡ q * (P * N) + r * N = omega (arith, ap (λ m. m * N) is, sym (mul_assoc q P N)) in
     let small : r * N < P * N = mul-lt-mul_of_pos_right lt some in

@@ -31,7 +31,7 @@ divided_is w x d (negsuc i) h is below =
     let places : x.decimals ≡ h.cut + d + suc i = omega (arith, ints, is, h.is.exponent) in
     ap (λ q. (q + 10 ^ suc i / 2) / 10 ^ suc i) h.is.digits ∙ sym (rounded_below x.digits h.cut x.decimals d i places)
 
-places_above : (w : Wide) (x : Number) (d : ℕ) (power : ℤ) (h : StandsFor w x) → power ≡ w.exponent +ℤ pos d → int_lt power (pos 0) ≡ false → h.cut + d ≡ x.decimals + unsigned_abs power
+pub places_above : (w : Wide) (x : Number) (d : ℕ) (power : ℤ) (h : StandsFor w x) → power ≡ w.exponent +ℤ pos d → int_lt power (pos 0) ≡ false → h.cut + d ≡ x.decimals + unsigned_abs power
 places_above w x d (pos n) h is above = omega (arith, ints, is, h.is.exponent)
 places_above w x d (negsuc n) h is above = absurd (let f : ⊥ = cc in f)
 
@@ -77,7 +77,7 @@ uncut w x d m h is small = by_cases w.is_cut h.large
         absurd (let f : ⊥ = omega (arith, great, least, more, own, small) in f)
 
 -- so that nothing is left
-none_cut : (r : ℕ) (cut : Bool) → cut ≡ nat_lt 0 r → cut ≡ false → r ≡ 0
+pub none_cut : (r : ℕ) (cut : Bool) → cut ≡ nat_lt 0 r → cut ≡ false → r ≡ 0
 none_cut r cut is none = grind (arith, nat_tests)
 
 none_rest : (n p few more : ℕ) → p ≡ few + more → n % 10 ^ p ≡ 0 → n % 10 ^ few ≡ 0
@@ -94,7 +94,7 @@ rounded_above w x d power h is above small =
     let few : h.cut ≡ (x.decimals - d) + (h.cut - (x.decimals - d)) = omega (arith, places) in
     no ∙ sym (ap (λ r. nat_lt 0 r) (none_rest x.digits h.cut (x.decimals - d) (h.cut - (x.decimals - d)) few none))
 
-some_rest : (q r P : ℕ) → 0 < P → nat_lt 0 (q * P + r) ≡ (nat_lt 0 r || nat_lt 0 q)
+pub some_rest : (q r P : ℕ) → 0 < P → nat_lt 0 (q * P + r) ≡ (nat_lt 0 r || nat_lt 0 q)
 some_rest zero r P some = let e : zero * P + r ≡ r = omega arith in rw e (by_rest (nat_lt 0 r))
   where
     by_rest : (b : Bool) → b ≡ (b || false)

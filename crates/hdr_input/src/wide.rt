@@ -11,6 +11,7 @@ ghost use Rattle.hdr_input.specs.Decimals.{is_point, decimal_of, HasDigitsOf, wi
 ghost use Rattle.hdr_input.specs.Decimals.{is_e, after_e, exponent_in, integer_of, limited, number_of, times_power, StandsFor};
 ghost use Rattle.hdr_input.specs.Decimals.{IsText, IsTextError, IsNarrowed, IsNarrowError, decimals_of};
 ghost use Rattle.hdr_input.specs.Rounding.{is_rounded};
+ghost use Rattle.hdr_input.specs.Bounds.{position_of};
 ghost use Rattle.hdr_input.specs.Numbers.{in_units};
 ghost use Rattle.hdr_input.specs.declared.cause.Cause.TheVariants.{TooLarge};
 
@@ -335,26 +336,58 @@ impl Wide {
         self.digits == 0
     }
 
-    /// Returns the position of the number, as `Number::position`.
-    pub(crate) fn position(self) -> u128 {
+    /// Returns the position of the number, as `Number::position`. One past 2^125 is past all bounds.
+    pub(crate) fn position(self) -> u128
+        ensures { (x : Number) → StandsFor self x
+            → min result (2 ^ 125) ≡ min (position_of x) (2 ^ 125) }
+    {
+        let power = self.power_in(MOST_DECIMALS);
+        if power < 0 {
+            self.position_divided(power.unsigned_abs())
+        } else {
+            self.position_multiplied(power.unsigned_abs())
+        }
+    }
+
+    /// Whether 10 to a power does not divide the number.
+    fn is_above(self, power: u128) -> bool
+        ensures { result ≡ (self.is_cut || nat_lt 0 (self.digits % 10 ^ power)) }
+    {
+        self.is_cut || self.has_rest(power)
+    }
+
+    /// Returns the position of the digits divided by 10 to a power.
+    #[tactic(auto, using(crate::proofs::InUnits::positive, crate::proofs::Rounded::below_power, crate::proofs::WidePositions::few_left, crate::proofs::WidePositions::tenth))]
+    fn position_divided(self, power: u128) -> u128
+        ensures { 0 < power → result ≡ 2 * (self.digits / 10 ^ power)
+            + (if self.is_cut || nat_lt 0 (self.digits % 10 ^ power) then 1 else 0) }
+    {
+        let is_above = self.is_above(power);
+        match power_of_ten(power) {
+            Some(divisor) => (self.digits / divisor)
+                .saturating_mul(2)
+                .saturating_add(u128::from(is_above)),
+            None => u128::from(is_above),
+        }
+    }
+
+    /// Returns the position of the digits times 10 to a power.
+    #[tactic(auto, using(crate::proofs::WidePositions::great_product))]
+    fn position_multiplied(self, power: u128) -> u128
+        ensures zero { self.digits ≡ 0 → result ≡ 0 }
+        ensures value { 0 < self.digits → min result (2 ^ 125)
+            ≡ min (2 * (self.digits * 10 ^ power) + (if self.is_cut then 1 else 0)) (2 ^ 125) }
+    {
         if self.is_zero() {
             return 0;
         }
-        let power = self.power_in(MOST_DECIMALS);
-        let divisor = power_of_ten(power.min(0).unsigned_abs());
-        let factor = power_of_ten(power.max(0).unsigned_abs());
-        match (divisor, factor) {
-            (None, _) => self.digits.min(1),
-            (_, None) => u128::MAX >> 1,
-            (Some(divisor), Some(factor)) => {
-                let units = self.digits.checked_div(divisor).unwrap_or(0);
-                let rest = self.digits.checked_rem(divisor).unwrap_or(0);
-                let is_above = rest > 0 || self.is_cut;
-                units
-                    .saturating_mul(factor)
-                    .saturating_mul(2)
-                    .saturating_add(u128::from(is_above))
-            }
+        match power_of_ten(power) {
+            Some(factor) => self
+                .digits
+                .saturating_mul(factor)
+                .saturating_mul(2)
+                .saturating_add(u128::from(self.is_cut)),
+            None => u128::MAX >> 1,
         }
     }
 
@@ -413,7 +446,7 @@ impl Wide {
         if power >= 0 {
             return self.is_cut;
         }
-        self.is_cut || self.has_rest(power.unsigned_abs())
+        self.is_above(power.unsigned_abs())
     }
 
     /// Whether 10 to a power does not divide the digits.

@@ -11,19 +11,11 @@ returns-then-power-ge0 c = λ x h small. (
     rounded_above c.args.self x c.args.decimals power h c.power_in-power.ensures (not_below power (rw same at c.if-power-ge0.true)) small
     )
 
-pub returns-then-self : goal.returns-then-self
-returns-then-self c = λ x h small. (
-    let power = c.power_in-power.result in
-    let same : to_z w128 (of_z w128 power) ≡ power = to_z-of_z w128 power (search rules) in
-    let both = rounded_divided c.args.self x c.args.decimals power h c.power_in-power.ensures (is_below power (rw same at c.if-power-ge0.false)) in
-    c.if-self.true ∙ sym (both ∙ ap (λ b. b || nat_lt 0 (c.args.self.digits % 10 ^ unsigned_abs power)) c.if-self.true)
-    )
-
-pub returns-else-self : goal.returns-else-self
-returns-else-self c = λ x h small. (
+pub returns : goal.returns
+returns c = λ x h small. (
     let power = c.power_in-power.result in
     let same : to_z w128 (of_z w128 power) ≡ power = to_z-of_z w128 power (search rules) in
     let both = rounded_divided c.args.self x c.args.decimals power h c.power_in-power.ensures (is_below power (rw same at c.if-power-ge0.false)) in
     let exponent : c.unsigned_abs.result ≡ unsigned_abs power = c.unsigned_abs.ensures.value ∙ ap unsigned_abs same in
-    c.has_rest.ensures ∙ ap (λ n. nat_lt 0 (c.args.self.digits % 10 ^ n)) exponent ∙ sym (both ∙ ap (λ b. b || nat_lt 0 (c.args.self.digits % 10 ^ unsigned_abs power)) c.if-self.false)
+    c.is_above.ensures ∙ ap (λ n. c.args.self.is_cut || nat_lt 0 (c.args.self.digits % 10 ^ n)) exponent ∙ sym both
     )
