@@ -12,7 +12,7 @@ after_push : (n : ℕ) (ds : List ℕ) (c : ℕ) → digits_value_after 10 n (ds
 after_push n [] c = refl
 after_push n (d ∷ ds) c = after_push (n * 10 + digit_value d) ds c
 
-after_more : (n : ℕ) (text : List ℕ) (i : ℕ) → i < length text → digits_value_after 10 n (take (i + 1) text) ≡ digits_value_after 10 n (take i text) * 10 + digit_value (get_or text i 0)
+pub after_more : (n : ℕ) (text : List ℕ) (i : ℕ) → i < length text → digits_value_after 10 n (take (i + 1) text) ≡ digits_value_after 10 n (take i text) * 10 + digit_value (get_or text i 0)
 after_more n text i l =
     let s : i + 1 ≡ suc i = omega arith in
     ap (λ k. digits_value_after 10 n (take k text)) s ∙ ap (digits_value_after 10 n) (take-suc text i 0 l) ∙ after_push n (take i text) (get_or text i 0)

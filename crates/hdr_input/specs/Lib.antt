@@ -1,4 +1,5 @@
 pub mod Numbers
+pub mod Decimals
 pub mod Rounding
 pub mod Surveys
 pub mod Recorded

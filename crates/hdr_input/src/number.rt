@@ -1,8 +1,9 @@
 //! Decimal numbers, and their values in units.
 
-ghost use Rattle.std.specs.Prelude.{◌≡◌, ◌+◌, ◌-◌, ◌*◌, ◌^◌, ◌<◌, ◌≤◌, ℕ, List, [], min, max, true, length, IfNone, IfSome, SomeIff};
+ghost use Rattle.std.specs.Prelude.{◌≡◌, ◌+◌, ◌-◌, ◌*◌, ◌^◌, ◌<◌, ◌≤◌, ℕ, List, [], min, max, true, length, IfNone, IfSome, IfOk, IfErr, SomeIff};
 ghost use Rattle.std.specs.Char.{is_ascii_digit, digit_value};
 ghost use Rattle.hdr_input.specs.Rounding.{whole_of, is_rounded};
+ghost use Rattle.hdr_input.specs.Decimals.{IsText, IsNarrowed, IsParseError};
 ghost use Rattle.hdr_input.specs.Numbers.{in_units, BeginsWithDigits, BeginsWithNumber, EndsLine};
 
 use crate::cause::Cause;
@@ -139,7 +140,11 @@ impl Number {
     /// # Errors
     /// Returns `NotANumber` or another cause for another text, and `Negative` for a number below 0.
     /// Returns `TooManyDecimals` if an exact number has more than 18, and `TooLarge` on overflow.
-    pub fn parse(text: &[u8], decimals: Option<u32>) -> Result<Number, Cause> {
+    pub fn parse(text: &[u8], decimals: Option<u32>) -> Result<Number, Cause>
+        ensures value { length text.now < 2 ^ 62
+            → IfOk result (λ n. (x : Number) × IsText text.now x × IsNarrowed decimals x n) }
+        ensures errors { length text.now < 2 ^ 62 → IfErr result (IsParseError text.now decimals) }
+    {
         parse_unsigned(text)?.narrowed(decimals)
     }
 

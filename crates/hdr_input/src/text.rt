@@ -1,5 +1,7 @@
 //! Texts of numbers, and why a text is none.
 
+ghost use Rattle.hdr_input.specs.Decimals.{IsNoNumber};
+
 use crate::cause::Cause;
 use crate::durations::{is_duration, parse_duration};
 use crate::number::Number;
@@ -7,7 +9,9 @@ use crate::units::Unit;
 use crate::wide::{parse_unsigned, split_sign};
 
 /// Returns why a text is not a number.
-pub(crate) fn cause_of(text: &[u8]) -> Cause {
+pub(crate) fn cause_of(text: &[u8]) -> Cause
+    ensures { IsNoNumber result }
+{
     match text {
         b"-" => Cause::Dash,
         _ if is_infinite(text) => Cause::Infinite,
