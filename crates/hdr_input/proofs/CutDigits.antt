@@ -20,7 +20,7 @@ use Rattle.hdr_input.proofs.InUnits.{positive}
 abbrev pub number : ℕ → ℕ → Number
 number digits decimals = record { digits = digits; decimals = decimals }
 
--- one digit more is cut
+-- one digit more is dropped
 more : (q r P n d : ℕ) → n ≡ q * P + r → r < P → d < 10 → ((n * 10 + d) / (P * 10) ≡ q) × ((n * 10 + d) % (P * 10) ≡ r * 10 + d)
 more q r P n d is lt digit =
     let same : n * 10 + d ≡ q * (P * 10) + (r * 10 + d) = omega (arith, is, sym (mul_assoc q P 10)) in
@@ -39,7 +39,7 @@ cut_more n p d digit =
 some_digit : (r d : ℕ) → (nat_lt 0 r || nat_lt 0 d) ≡ nat_lt 0 (r * 10 + d)
 some_digit r d = grind (arith, nat_tests)
 
--- one more digit is cut from a number that is full
+-- one more digit is dropped by a number that is full
 pub with_cut : (w : Wide) (x : Number) (d : ℕ) (f : Bool) (e : ℤ) (b : Bool) → d < 10 → 2 ^ 124 ≤ w.digits → HasDigitsOf w x
     → e ≡ w.exponent +ℤ pos (if not f then 1 else 0) → b ≡ (w.is_cut || nat_lt 0 d)
     → HasDigitsOf (record { digits = w.digits; exponent = e; is_full = true; is_cut = b }) (with_digit x d f)
@@ -128,7 +128,7 @@ and_false : (b : Bool) → (b && false) ≡ false
 and_false true = refl
 and_false false = refl
 
--- a text whose sides are not digits is no decimal
+-- a text whose sides are not digits is not a decimal
 pub no_decimal : (text whole fraction : List ℕ) → whole ≡ before_first is_point text → fraction ≡ after_first is_point text → is_digits (whole ++ fraction) ≡ false → decimal_of text ≡ None
 unfolding decimal_of
 no_decimal text whole fraction before after none = rw (← before, ← after, none) refl

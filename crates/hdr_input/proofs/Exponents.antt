@@ -31,7 +31,7 @@ pub nonnegative : (text rest : List ℕ) (m : ℕ) (z : ℤ) → starts_with_min
 unfolding integer_of
 nonnegative text rest m z minus is all value same = rw (← is, all, minus) (ap Some (same ∙ ap pos value))
 
--- zeros that are appended are cut
+-- zeros that are appended are dropped
 pub scaled : (q r P n N : ℕ) → n ≡ q * P + r → r < P → 0 < N → ((n * N) / (P * N) ≡ q) × ((n * N) % (P * N) ≡ r * N)
 scaled q r P n N is lt some =
     let same : n * N ≡ q * (P * N) + r * N = omega (arith, ap (λ m. m * N) is, sym (mul_assoc q P N)) in
@@ -47,7 +47,7 @@ some_times : (r N : ℕ) → 0 < N → nat_lt 0 r ≡ nat_lt 0 (r * N)
 some_times zero N some = ap (λ m. nat_lt 0 m) (let e : 0 ≡ zero * N = omega arith in e)
 some_times (suc r) N some = let lt : 0 < suc r * N = omega (arith, mul-lt-mul_of_pos_right {k = N} (let l : 0 < suc r = omega arith in l) some) in grind (arith, nat_tests)
 
--- digits are cut only from a number that is full
+-- digits are dropped only by a number that is full
 full_if_cut : (w : Wide) (x : Number) (f : Bool) → w.is_full ≡ f → HasDigitsOf w x → w.is_cut ≡ true → 2 ^ 124 ≤ w.digits
 full_if_cut w x true is h cut = h.full is
 full_if_cut w x false is h cut =
@@ -76,7 +76,7 @@ scaled_stands w x (negsuc n) to h is = record {
   large = λ cut. full_if_cut w x w.is_full refl h cut;
 }
 
--- a text without a decimal, and one without an exponent after its e, are no numbers
+-- a text without a decimal, and one without an exponent after its e, are not numbers
 pub no_number : (text decimal : List ℕ) → decimal ≡ before_first is_e text → decimal_of decimal ≡ None → number_of text ≡ None
 unfolding number_of
 no_number text decimal is none = rw (← is, none) refl

@@ -57,7 +57,7 @@ with_exponent (Some x) (Some exponent) = Some (times_power x (limited exponent))
 unfoldable pub number_of : List ℕ → Option Number
 number_of text = with_exponent (decimal_of (before_first is_e text)) (exponent_in (after_e text))
 
--- a text is this number of 0 or more: `+` before it changes nothing, and `-` stands only before 0
+-- a text is this number of 0 or more: `+` before it changes nothing, and `-` is only before 0
 abbrev pub IsText : List ℕ → Number → Type 0
 IsText text x = (number_of (without_leading_sign text) ≡ Some x) × (starts_with_minus text ≡ true → x.digits ≡ 0)
 

@@ -3,7 +3,7 @@ use Rattle.std.specs.Char.{is_ascii_digit}
 use Rattle.std.specs.List.{list_all}
 use Rattle.hdr_input.specs.declared.number.Number.{Number}
 use Rattle.hdr_input.specs.Decimals.{HasDigitsOf, with_digits}
-use Rattle.hdr_input.proofs.wide.with_digits.Given as goal
+use Rattle.hdr_input.proofs.wide.parsing.with_digits.Given as goal
 
 -- the digits so far were appended
 abbrev pub invariant-loop-byte : goal.invariant-loop-byte

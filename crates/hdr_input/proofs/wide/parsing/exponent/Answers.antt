@@ -2,7 +2,7 @@ use Rattle.std.proofs.Common.{◌≡◌, true, false, pos, neg_ℤ, ◌-ℤ◌, 
 use Rattle.std.proofs.lemmas.Int.{ints}
 use Rattle.hdr_log.specs.Parts.{is_digits}
 use Rattle.hdr_input.proofs.Exponents.{no_integer, negative, nonnegative}
-use Rattle.hdr_input.proofs.wide.exponent.Goals as goal
+use Rattle.hdr_input.proofs.wide.parsing.exponent.Goals as goal
 
 pub returns-then-not-is_digits-clause-value : goal.returns-then-not-is_digits-clause-value
 returns-then-not-is_digits-clause-value c =

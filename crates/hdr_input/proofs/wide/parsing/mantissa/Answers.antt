@@ -5,7 +5,7 @@ use Rattle.hdr_input.specs.declared.number.Number.{Number}
 use Rattle.hdr_input.specs.declared.wide.Wide.{Wide}
 use Rattle.hdr_input.specs.Decimals.{decimal_of, HasDigitsOf, with_digits}
 use Rattle.hdr_input.proofs.CutDigits.{number, no_digits, no_decimal, empty_sides, no_whole, fraction_none, fraction_some}
-use Rattle.hdr_input.proofs.wide.mantissa.Goals as goal
+use Rattle.hdr_input.proofs.wide.parsing.mantissa.Goals as goal
 
 pub returns-then-are_empty-clause-none : goal.returns-then-are_empty-clause-none
 returns-then-are_empty-clause-none c =

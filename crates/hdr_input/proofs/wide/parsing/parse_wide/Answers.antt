@@ -3,7 +3,7 @@ use Rattle.std.specs.Prelude.{option_map}
 use Rattle.std.proofs.lemmas.Int.{to_z-of_z, fits_signed_from_abs}
 use Rattle.hdr_input.specs.Decimals.{number_of, times_power, StandsFor}
 use Rattle.hdr_input.proofs.Exponents.{no_number, no_power, a_number}
-use Rattle.hdr_input.proofs.wide.parse_wide.Goals as goal
+use Rattle.hdr_input.proofs.wide.parsing.parse_wide.Goals as goal
 
 pub returns-in_err-number-clause-none : goal.returns-in_err-number-clause-none
 returns-in_err-number-clause-none c =

@@ -4,7 +4,7 @@ use Rattle.std.specs.List.{list_all}
 use Rattle.std.proofs.lemmas.List.Folds.{list_all_more}
 use Rattle.hdr_input.specs.Decimals.{with_digits}
 use Rattle.hdr_input.proofs.CutDigits.{digit_is, one_more}
-use Rattle.hdr_input.proofs.wide.with_digits.Goals as goal
+use Rattle.hdr_input.proofs.wide.parsing.with_digits.Goals as goal
 
 pub loop-byte-preserved : goal.loop-byte-preserved
 loop-byte-preserved c =

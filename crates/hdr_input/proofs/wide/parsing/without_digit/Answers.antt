@@ -2,7 +2,7 @@ use Rattle.std.proofs.Common.{◌≡◌, pos, ◌+ℤ◌, ◌<◌, not, unsigned
 use Rattle.std.specs.Prelude.{if◌then◌else◌}
 use Rattle.std.proofs.lemmas.Int.{ints, to_z-of_z}
 use Rattle.hdr_input.proofs.CutDigits.{with_cut}
-use Rattle.hdr_input.proofs.wide.without_digit.Goals as goal
+use Rattle.hdr_input.proofs.wide.parsing.without_digit.Goals as goal
 
 pub returns-clause-value : goal.returns-clause-value
 returns-clause-value c = λ near large x h. (

@@ -1,7 +1,7 @@
 use Rattle.std.proofs.Common.{◌≡◌, ◌+ℤ◌, to_z, of_z, w64, FitsSigned, arith, rules}
 use Rattle.std.proofs.lemmas.Int.{ints, to_z-of_z}
 use Rattle.hdr_input.proofs.Exponents.{scaled_stands}
-use Rattle.hdr_input.proofs.wide.times_power.Goals as goal
+use Rattle.hdr_input.proofs.wide.parsing.times_power.Goals as goal
 
 pub returns : goal.returns
 returns c = λ near few x h. (
