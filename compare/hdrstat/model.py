@@ -232,7 +232,7 @@ class Tally:
         if self.options.skips_bad:
             self.skipped += 1
             return
-        raise Failure((name, f"{place} {number}", text[:40], why, self.table_start))
+        raise Failure((name, f"{place} {number}", text, why, self.table_start))
 
     def refuse_open(self, name, number):
         """A quote that opens in this row is not closed, which no option ignores."""
