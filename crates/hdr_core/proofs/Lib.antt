@@ -3,3 +3,5 @@ pub mod IteratingFacts
 pub mod UsedBins
 pub mod EqualityParts
 pub mod RestatedMarks
+pub mod CorrectionAlone
+pub mod MarkValuesKept

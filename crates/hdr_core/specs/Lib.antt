@@ -1,4 +1,5 @@
 pub mod Shown
+pub mod MarkValues
 pub mod Calls
 pub mod CallsFrom
 pub mod Iterating

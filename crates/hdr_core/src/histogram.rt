@@ -97,7 +97,7 @@ impl<T: Counter> Histogram<T> {
             bounds,
             counts,
             total: 0,
-            marks: Marks::none(),
+            marks: Marks::none(scale),
         })
     }
 
@@ -279,10 +279,7 @@ impl<T: Counter> Histogram<T> {
         ensures within { result ≤ reach self.now }
         ensures covers { highest_top self.now ≤ result }
     {
-        match self.marks.top() {
-            Some(bin) => self.class_top(bin),
-            None => 0,
-        }
+        self.marks.greatest(self.scale)
     }
 
     /// Returns the lowest value of the first class other than class 0 that counts as recorded, or
@@ -290,10 +287,7 @@ impl<T: Counter> Histogram<T> {
     pub fn min_nz(&self) -> u64
         ensures { result ≡ min_nz_of self.now }
     {
-        match self.marks.lower() {
-            Some(bin) => self.class_value(bin),
-            None => u64::MAX,
-        }
+        self.marks.lowest(self.scale)
     }
 
     /// Returns 0 if `len` is 0 or the first bin is not empty. Otherwise returns `min_nz`, the

@@ -116,7 +116,7 @@ impl<T: Counter> HistogramBuilder<T> {
     pub fn into_histogram(self) -> Histogram<T>
         ensures { IsClosed self result }
     {
-        let marks = marks_of(&self.counts);
+        let marks = marks_of(self.scale, &self.counts);
         let counts = self.counts.into_counts();
         Histogram {
             scale: self.scale,
@@ -129,9 +129,9 @@ impl<T: Counter> HistogramBuilder<T> {
 }
 
 /// Returns the marks of counters that are being set.
-fn marks_of<T: Counter>(counts: &CountsBuilder<T>) -> Marks
+fn marks_of<T: Counter>(scale: Scale, counts: &CountsBuilder<T>) -> Marks
     ensures top { IsTopMark counts.now.numbers result.top }
     ensures lower { IsLowerMark counts.now.numbers result.lower }
 {
-    Marks::new(counts.last_nonzero(), counts.next_nonzero())
+    Marks::new(scale, counts.last_nonzero(), counts.next_nonzero())
 }

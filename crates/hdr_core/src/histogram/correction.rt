@@ -1,7 +1,7 @@
 //! Recording with correction for coordinated omission, class by class.
 
 ghost use Rattle.std.specs.Prelude.{◌≡◌, ℕ, List, ◌∷◌, ◌++◌, ◌+◌, ◌-◌, ◌*◌, ◌/◌, ◌%◌, ◌^◌, ◌<◌, ◌≤◌, OnOk, IfErr, true, false, [], length, min};
-ghost use Rattle.hdr_base.specs.Classes.{bucket, reach_of, most_bins};
+ghost use Rattle.hdr_base.specs.Classes.{bucket, width_of, reach_of, most_bins};
 ghost use Rattle.hdr_model.specs.Plain.{resolution, reach};
 ghost use Rattle.hdr_model.specs.Recording.{after_add_to_bin, after_records, samples_of, high_with};
 ghost use Rattle.hdr_model.specs.Samples.{GainsSamples};
@@ -112,9 +112,44 @@ impl<T: Counter> Histogram<T> {
         let scale = self.scale;
         let mut next = first;
         while next >= interval {
-            let start = scale.bucket_start(next).max(interval);
-            next = self.add_in_bucket(next, start, count, interval, ticks);
+            if scale.width(next) <= interval {
+                next = self.add_alone(next, count, interval, ticks);
+            } else {
+                let start = scale.bucket_start(next).max(interval);
+                next = self.add_in_bucket(next, start, count, interval, ticks);
+            }
         }
+    }
+
+    /// Records the first of the values `first`, `first - interval`, .. that are at least the interval.
+    /// It is the only one in its class. Returns the next one.
+    #[inline(always)]
+    fn add_alone(&mut self, first: u64, count: u64, interval: u64, ticks: &mut Ticks) -> u64
+        requires step { 0 < interval }
+        requires some { interval ≤ first }
+        requires alone { width_of (resolution self.old) first ≤ interval }
+        requires within { first ≤ reach self.old }
+        requires ticks_fit { ticks.old + bins_held self.old
+            (down_to first interval) < 2 ^ 64 }
+
+        // If the rest is recorded afterwards, all values are recorded, and all ticks counted.
+        ensures next { result ≡ first - interval }
+        ensures state { after_records T.greatest self.new
+            (each_times count (down_to result interval)) ≡ after_records T.greatest self.old
+            (each_times count (down_to first interval)) }
+        ensures ticks { ticks.new + bins_held self.old
+            (down_to result interval)
+            ≡ ticks.old + bins_held self.old
+            (down_to first interval) }
+
+        // What is unchanged.
+        ensures same_classes { resolution self.new ≡ resolution self.old }
+        ensures same_bins { length self.new.counts ≡ length self.old.counts }
+        ensures same_reach { reach self.new ≡ reach self.old }
+    {
+        let bin = self.scale.bin(first);
+        self.add_counted(bin, 1, count, ticks);
+        first - interval
     }
 
     /// Records the values `first`, `first - interval`, .. that are at least `start`, and returns
@@ -165,6 +200,7 @@ impl<T: Counter> Histogram<T> {
     }
 
     /// Adds `values * count` to `bin`, saturating, and counts one tick.
+    #[inline(always)]
     fn add_counted(&mut self, bin: usize, values: u64, count: u64, ticks: &mut Ticks)
         requires bin { bin < length self.old.counts }
         requires ticks_fit { ticks.old < 2 ^ 64 - 1 }

@@ -122,7 +122,7 @@ impl<T: Counter> Histogram<T> {
         ensures { self.new ≡ after_reset self.old }
     {
         self.clear();
-        self.marks = Marks::none();
+        self.marks = Marks::none(self.scale);
     }
 
     /// Adds `number` to a bin and to the total, each saturating, and widens the marks by the bin.

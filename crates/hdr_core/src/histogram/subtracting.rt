@@ -88,7 +88,7 @@ impl<T: Counter> Histogram<T> {
     {
         take_each(&mut self.counts, self.scale, other);
         self.total = capped_sum(&self.counts);
-        self.marks = marks_of(&self.counts);
+        self.marks = marks_of(self.scale, &self.counts);
     }
 }
 
@@ -129,9 +129,9 @@ fn take_from<T: Counter>(counts: &mut Counts<T>, target: usize, count: T)
 }
 
 /// Returns the marks of counters.
-pub(super) fn marks_of<T: Counter>(counts: &Counts<T>) -> Marks
+pub(super) fn marks_of<T: Counter>(scale: Scale, counts: &Counts<T>) -> Marks
     ensures top { IsTopMark counts.now.numbers result.top }
     ensures lower { IsLowerMark counts.now.numbers result.lower }
 {
-    Marks::new(counts.last_nonzero(), counts.next_nonzero())
+    Marks::new(scale, counts.last_nonzero(), counts.next_nonzero())
 }

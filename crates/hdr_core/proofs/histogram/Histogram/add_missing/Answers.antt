@@ -10,6 +10,12 @@ use Rattle.hdr_model.proofs.PlainBins.{few-bins}
 use Rattle.hdr_model.proofs.CorrectionByClass.{bins-few, each-within}
 use Rattle.hdr_core.proofs.histogram.Histogram.add_missing.Goals as goal
 
+pub add_alone-next-requires-clause-ticks_fit : goal.add_alone-next-requires-clause-ticks_fit
+add_alone-next-requires-clause-ticks_fit g c =
+    let h = c.args.self.now in
+    rw (c.loop-next.invariant.same_classes, c.loop-next.invariant.same_bins)
+    (omega (arith, c.requires.ticks_fit, c.loop-next.invariant.ticks, held-le (resolution h) (length h.counts) (down_to c.args.first c.args.interval), bins-few g.T.Counter.greatest h (rw c.self.view_is at c.self.invariant.plain)))
+
 pub add_in_bucket-next-requires-clause-ticks_fit : goal.add_in_bucket-next-requires-clause-ticks_fit
 add_in_bucket-next-requires-clause-ticks_fit g c =
     let h = c.args.self.now in

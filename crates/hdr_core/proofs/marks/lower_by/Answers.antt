@@ -1,9 +1,9 @@
 use Rattle.std.proofs.Common.{◌≡◌, ℕ, ◌+◌, ◌^◌, ◌<◌, ◌≤◌, Option, Some, None, ⊎_elim, sym, ap, ◌∙◌, arith}
 use Rattle.std.proofs.lemmas.Bool.{cases_lt}
 use Rattle.std.specs.Prelude.{SomeIff}
-use Rattle.hdr_model.specs.Marks.{MarkPair, lower_by}
+use Rattle.hdr_model.specs.Marks.{lower_by}
 use Rattle.hdr_model.proofs.MarksWidened.{lower-none, lower-some}
-use Rattle.hdr_core.proofs.marks.Marks.lower.Goals as goal
+use Rattle.hdr_core.proofs.marks.lower_by.Goals as goal
 
 lower-known : (o : Option ℕ) (n : ℕ) → SomeIff o (n + 1 < 2 ^ 64) (n + 1) → n < 2 ^ 64 → o ≡ lower_by n
 lower-known None n h fits =
@@ -11,4 +11,4 @@ lower-known None n h fits =
 lower-known (Some x) n h fits = ap Some h.1 ∙ sym (lower-some n (λ e. absurd (omega (arith, h.0, e))))
 
 pub returns : goal.returns
-returns c = lower-known c.checked_add.result c.self.inside.before c.checked_add.ensures c.self.invariant.1 ∙ ap (λ (m : MarkPair). m.lower) c.self.view_is
+returns c = lower-known c.checked_add.result c.args.before c.checked_add.ensures (omega arith)
