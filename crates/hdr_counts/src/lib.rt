@@ -338,16 +338,6 @@ fn quotient(place: usize, section: usize, shift: Option<u32>) -> usize
     match shift {
         Some(shift) => place >> shift,
         None if place < section => 0,
-        None => divided(place, section),
+        None => place / section,
     }
-}
-
-/// Returns `place / section` by a division, if `section` isn't a power of two.
-#[cold]
-#[inline(never)]
-fn divided(place: usize, section: usize) -> usize
-    requires { 1 ≤ section }
-    ensures { result ≡ place / section }
-{
-    place / section
 }

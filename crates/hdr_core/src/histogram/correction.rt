@@ -155,6 +155,7 @@ impl<T: Counter> Histogram<T> {
     /// Records the values `first`, `first - interval`, .. that are at least `start`, and returns
     /// the next one, which is below `start`. Those recorded lie in one bucket, whose classes have
     /// one width.
+    #[inline(never)]
     fn add_in_bucket(
         &mut self,
         first: u64,
