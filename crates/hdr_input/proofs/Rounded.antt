@@ -43,7 +43,7 @@ half_power i = pow-suc 10 i ∙ (let e : 10 ^ i * 10 ≡ 2 * (5 * 10 ^ i) = omeg
 halves : (J H : ℕ) → J ≡ 2 * H → J / 2 ≡ H
 halves J H is = omega (arith, is)
 
--- to round after digits were dropped is to round at once: of n = q * P + r only q stays, and then divided by J = 2 * H
+-- to round after digits were dropped is to round at once: of n = q * P + r only q is kept, and q is then divided by J = 2 * H
 round_twice : (q r P D J H : ℕ) → r < P → 0 < D → ((q * P + r) * D + D * P * H) / (D * P * J) ≡ (q + H) / J
 round_twice q r P D J H small some =
     let sum : (q * P + r) * D + D * P * H ≡ D * ((q + H) * P + r) = omega arith in

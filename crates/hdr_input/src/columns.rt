@@ -1,12 +1,14 @@
 //! Numbers from a column of a table.
 
+mod finding;
+
 use crate::cause::Cause;
 use crate::errors::{InputError, InputPlace, excerpt};
 use crate::joining::push_part;
 use crate::lines::split_line;
 use crate::rows::{RowSink, RowTexts};
-use crate::text::is_number;
 use csv::{ByteRecord, ErrorKind, ReaderBuilder};
+use finding::{FoundColumns, find_columns, names_of};
 use std::alloc::{AllocError, Global};
 use std::io::Read;
 
@@ -37,28 +39,6 @@ pub struct Condition<'a> {
     pub text: &'a str,
 }
 
-/// A column that was found.
-#[derive(Clone, Copy)]
-struct FoundColumn {
-    index: usize,
-    /// Whether it was found by its name.
-    is_named: bool,
-}
-
-/// The columns that were found.
-#[derive(Drop)]
-struct FoundColumns<'a> {
-    value: usize,
-    count: Option<usize>,
-    time: Option<usize>,
-    groups: Vec<usize>,
-    conditions: Vec<(usize, &'a [u8])>,
-    /// Whether the first row is a row of names.
-    is_header: bool,
-    /// Whether a column was found by its name.
-    is_named: bool,
-}
-
 /// Converts an error of the table's reader.
 fn reading_error(error: csv::Error) -> InputError {
     match error.into_kind() {
@@ -67,176 +47,49 @@ fn reading_error(error: csv::Error) -> InputError {
     }
 }
 
-/// Returns the index of the column of this name in the first row.
-///
-/// # Errors
-/// Returns an error if two columns have this name.
-fn index_of_name(
-    alloc: Global,
-    names: &ByteRecord,
-    wanted: &str,
-) -> Result<Option<usize>, InputError> {
-    let mut first = None;
-    for (index, name) in names.into_iter().enumerate() {
-        if name.trim_ascii() != wanted.as_bytes() {
-            continue;
-        }
-        if let Some(first) = first {
-            return Err(InputError::DoubleName {
-                name: String::from_str(alloc, wanted)?,
-                first: number_of(first),
-                second: number_of(index),
-            });
-        }
-        first = Some(index);
-    }
-    Ok(first)
-}
-
-/// Returns the number of a column, from 1, by its index.
-fn number_of(index: usize) -> u64 {
-    (index as u64).saturating_add(1)
-}
-
-/// Parses the number of a column, counted from 1, to its index.
-fn index_of_number(wanted: &str) -> Option<usize> {
-    wanted.parse::<usize>().ok()?.checked_sub(1)
-}
-
-/// The most names of a first row that an error shows.
-const MOST_NAMES: usize = 20;
-
-/// Returns the first names of a first row for an error, with commas between them.
-fn names_of(alloc: Global, names: &ByteRecord) -> Result<String, AllocError> {
-    let mut text = String::new(alloc);
-    for name in names.into_iter().take(MOST_NAMES) {
-        if !text.is_empty() {
-            text.push_str(", ")?;
-        }
-        text.push_str(excerpt(alloc, name)?.as_str())?;
-    }
-    if names.len() > MOST_NAMES {
-        text.push_str(", ...")?;
-    }
-    Ok(text)
-}
-
-/// Whether the field of a row is a number.
-fn has_number(row: &ByteRecord, index: usize) -> bool {
-    field(row, index).is_some_and(|field| is_number(field))
-}
-
-/// Finds a column. A number of a column of the first row, from 1, comes before a name.
-fn find_column(
-    alloc: Global,
-    names: &ByteRecord,
-    wanted: &str,
-    layout: TableLayout,
-) -> Result<FoundColumn, InputError> {
-    let number = index_of_number(wanted);
-    let named = if layout.has_header && !number.is_some_and(|index| index < names.len()) {
-        index_of_name(alloc, names, wanted)?
-    } else {
-        None
-    };
-    match named.or(number) {
-        Some(index) => Ok(FoundColumn {
-            index,
-            is_named: named.is_some(),
-        }),
-        None => Err(InputError::NoColumn {
-            wanted: String::from_str(alloc, wanted)?,
-            names: names_of(alloc, names)?,
-        }),
-    }
-}
-
-/// Finds a column that may be absent, as `find_column`.
-fn find_optional(
-    alloc: Global,
-    names: &ByteRecord,
-    wanted: Option<&str>,
-    layout: TableLayout,
-) -> Result<Option<FoundColumn>, InputError> {
-    match wanted {
-        Some(wanted) => Ok(Some(find_column(alloc, names, wanted, layout)?)),
-        None => Ok(None),
-    }
-}
-
-/// Whether a column was found by its name.
-fn is_named(column: Option<FoundColumn>) -> bool {
-    column.is_some_and(|column| column.is_named)
-}
-
-/// Finds columns. The first row is a row of names if a column is found by its name, or if the field
-/// of the numbers' column is not a number.
-fn find_columns<'a>(
-    alloc: Global,
-    names: &ByteRecord,
-    columns: Columns<'_, 'a>,
-    layout: TableLayout,
-) -> Result<FoundColumns<'a>, InputError> {
-    let value = find_column(alloc, names, columns.value, layout)?;
-    let count = find_optional(alloc, names, columns.count, layout)?;
-    let time = find_optional(alloc, names, columns.time, layout)?;
-    let mut found = FoundColumns {
-        value: value.index,
-        count: count.map(|column| column.index),
-        time: time.map(|column| column.index),
-        groups: Vec::new(alloc),
-        conditions: Vec::new(alloc),
-        is_header: false,
-        is_named: value.is_named || is_named(count) || is_named(time),
-    };
-    for wanted in columns.groups {
-        let column = find_column(alloc, names, *wanted, layout)?;
-        found.groups.push(column.index)?;
-        found.is_named = found.is_named || column.is_named;
-    }
-    for condition in columns.conditions {
-        let column = find_column(alloc, names, condition.column, layout)?;
-        found
-            .conditions
-            .push((column.index, condition.text.as_bytes()))?;
-        found.is_named = found.is_named || column.is_named;
-    }
-    found.is_header = layout.has_header && (found.is_named || !has_number(names, value.index));
-    Ok(found)
-}
-
 impl FoundColumns<'_> {
     /// Whether a row has the text of each condition.
+    #[inline(always)]
     fn chooses(&self, row: &ByteRecord) -> bool {
+        self.conditions.is_empty() || self.meets_conditions(row)
+    }
+
+    /// Whether a row has the text of each of one or more conditions.
+    #[inline(never)]
+    fn meets_conditions(&self, row: &ByteRecord) -> bool {
         self.conditions
             .iter()
             .all(|condition| field(row, condition.0) == Some(condition.1))
     }
 
-    /// Returns the texts of a row. Those of several columns that have a group are joined by a space.
+    /// Returns the text of a row that has a group. Those of several columns are joined by a space.
     #[inline(always)]
-    fn texts<'a>(
+    fn group<'a>(
         &self,
         row: &'a ByteRecord,
-        number: u64,
         joined: &'a mut Vec<u8>,
-    ) -> Result<RowTexts<'a>, AllocError> {
-        let group = match self.groups.as_slice() {
-            [] => None,
-            [index] => field(row, *index),
-            indices => join(row, indices, joined)?,
-        };
+    ) -> Result<Option<&'a [u8]>, AllocError> {
+        match self.groups.as_slice() {
+            [] => Ok(None),
+            [index] => Ok(field(row, *index)),
+            indices => join(row, indices, joined),
+        }
+    }
+
+    /// Returns the texts of a row, of which one has a group.
+    #[inline(always)]
+    fn texts<'a>(&self, row: &'a ByteRecord, number: u64, group: Option<&'a [u8]>) -> RowTexts<'a> {
         let count = self.count.and_then(|index| field(row, index));
         let has_count = count.is_some() || self.count.is_none();
         let value = field(row, self.value).filter(|_| has_count);
-        Ok(RowTexts {
+        RowTexts {
             place: InputPlace::Row(number),
             row: row.as_slice(),
             value: value.ok_or(Cause::NoField),
             count,
             time: self.time.and_then(|index| field(row, index)),
             group,
-        })
+        }
     }
 }
 
@@ -286,15 +139,19 @@ pub fn read_rows<R: Read + Drop, S: RowSink>(
         .delimiter(layout.delimiter)
         .from_reader(alloc, reader.chain(end));
     let mut row = ByteRecord::new(alloc);
-    rows.read_byte_record(&mut row).map_err(reading_error)?;
-    if is_end(&row, 1)? {
+    if let Err(error) = rows.read_byte_record(&mut row) {
+        return Err(reading_error(error));
+    }
+    if has_end(&row) {
+        check_quotes(&row, 1)?;
         return Ok(None);
     }
     let found = find_columns(alloc, &row, columns, layout)?;
     let names = names_of(alloc, &row)?;
     let mut joined = Vec::new(alloc);
     for number in 1..u64::MAX {
-        if is_end(&row, number)? {
+        if has_end(&row) {
+            check_quotes(&row, number)?;
             break;
         }
         if number > 1 || !found.is_header {
@@ -302,7 +159,9 @@ pub fn read_rows<R: Read + Drop, S: RowSink>(
                 return Err(with_columns(alloc, error, &row, number, layout, names));
             }
         }
-        rows.read_byte_record(&mut row).map_err(reading_error)?;
+        if let Err(error) = rows.read_byte_record(&mut row) {
+            return Err(reading_error(error));
+        }
     }
     Ok(if found.is_header && !found.is_named {
         Some(names)
@@ -324,24 +183,31 @@ fn take_chosen<S: RowSink>(
     if !found.chooses(row) {
         return Ok(());
     }
-    let texts = found.texts(row, number, joined)?;
-    sink.take_row(alloc, texts)
+    let group = match found.group(row, joined) {
+        Ok(group) => group,
+        Err(_) => return Err(InputError::OutOfMemory),
+    };
+    sink.take_row(alloc, found.texts(row, number, group))
 }
 
-/// Whether a row is the one after the last of the table.
+/// Whether the end of the table is in a row.
+#[inline(always)]
+fn has_end(row: &ByteRecord) -> bool {
+    let bytes = row.as_slice();
+    bytes.last() == END.last() && bytes.ends_with(END)
+}
+
+/// Checks that the row that has the end of the table has nothing else.
 ///
 /// # Errors
-/// Returns `OpenQuote` if the end of the table is in the row.
-#[inline(always)]
-fn is_end(row: &ByteRecord, number: u64) -> Result<bool, InputError> {
-    let bytes = row.as_slice();
-    if bytes.last() != END.last() || !bytes.ends_with(END) {
-        return Ok(false);
-    }
-    if bytes.len() > END.len() {
+/// Returns `OpenQuote` if it has.
+#[cold]
+#[inline(never)]
+fn check_quotes(row: &ByteRecord, number: u64) -> Result<(), InputError> {
+    if row.as_slice().len() > END.len() {
         return Err(InputError::OpenQuote(number));
     }
-    Ok(true)
+    Ok(())
 }
 
 /// Adds the columns of the first row to the error of a row that does not have a column.

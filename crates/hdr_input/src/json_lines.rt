@@ -1,5 +1,7 @@
 //! Numbers from lines of JSON.
 
+mod at_path;
+
 use crate::cause::Cause;
 use crate::columns::Columns;
 use crate::errors::{InputError, InputPlace};
@@ -7,6 +9,7 @@ use crate::joining::push_part;
 use crate::lines::{split_line, without_mark};
 use crate::pieces::{LineSink, read_lines};
 use crate::rows::{RowSink, RowTexts};
+use at_path::read_text;
 use json::{Element, Scratch, Tape};
 use std::alloc::{AllocError, Global};
 use std::io::Read;
@@ -18,8 +21,12 @@ pub fn read_json<R: Read + Drop, S: RowSink>(
     columns: Columns<'_, '_>,
     sink: &mut S,
 ) -> Result<(), InputError> {
+    let path = columns.value;
+    let names = path.strip_prefix(".").unwrap_or(path).split('.');
     let mut lines = JsonLines {
         columns,
+        names: names.collect(alloc)?,
+        has_value_alone: has_value_alone(columns),
         scratch: Scratch::new(alloc),
         joined: Vec::new(alloc),
         sink,
@@ -31,6 +38,10 @@ pub fn read_json<R: Read + Drop, S: RowSink>(
 #[derive(Drop)]
 struct JsonLines<'l, 'n, 's, S> {
     columns: Columns<'l, 'n>,
+    /// The names of the path of the numbers.
+    names: Vec<&'n str>,
+    /// Whether no text is read but that of the number.
+    has_value_alone: bool,
     scratch: Scratch,
     joined: Vec<u8>,
     sink: &'s mut S,
@@ -48,7 +59,10 @@ impl<S: RowSink> LineSink for JsonLines<'_, '_, '_, S> {
         let mut number = first;
         while !rest.is_empty() {
             let (line, after) = split_line(rest);
-            self.take_line(alloc, without_mark(line, number).trim_ascii(), number)?;
+            let line = without_mark(line, number).trim_ascii();
+            if let Err(error) = self.take_line(alloc, line, number) {
+                return Err(error);
+            }
             rest = after;
             number = number.saturating_add(1);
         }
@@ -58,14 +72,50 @@ impl<S: RowSink> LineSink for JsonLines<'_, '_, '_, S> {
 
 impl<S: RowSink> JsonLines<'_, '_, '_, S> {
     /// Takes a line. An empty one has no row.
+    #[inline(always)]
     fn take_line(&mut self, alloc: Global, line: &[u8], number: u64) -> Result<(), InputError> {
         if line.is_empty() {
             return Ok(());
         }
         let place = InputPlace::Line(number);
         let Ok(text) = str::from_utf8(line) else {
-            return self.sink.take_row(alloc, without_value(place, line));
+            return take_other(alloc, self.sink, line, place);
         };
+        if self.has_value_alone {
+            self.take_value(alloc, text, place)
+        } else {
+            self.take_texts(alloc, text, place)
+        }
+    }
+
+    /// Takes a line of which no text is read but that of the number.
+    #[inline(always)]
+    fn take_value(
+        &mut self,
+        alloc: Global,
+        text: &str,
+        place: InputPlace,
+    ) -> Result<(), InputError> {
+        let line = text.as_bytes();
+        match read_text(text, &mut self.scratch, &self.names) {
+            Ok(found) => {
+                let row = row_of_value(place, line, found.ok_or(Cause::NoPath));
+                self.sink.take_row(alloc, row)
+            }
+            Err(json::Error::OutOfMemory) => Err(InputError::OutOfMemory),
+            Err(_) => take_other(alloc, self.sink, line, place),
+        }
+    }
+
+    /// Takes a line of which several texts are read.
+    #[inline(never)]
+    fn take_texts(
+        &mut self,
+        alloc: Global,
+        text: &str,
+        place: InputPlace,
+    ) -> Result<(), InputError> {
+        let line = text.as_bytes();
         match Tape::parse(text, &mut self.scratch, Vec::new(alloc)) {
             Ok(tape) => {
                 let root = tape.root();
@@ -76,9 +126,29 @@ impl<S: RowSink> JsonLines<'_, '_, '_, S> {
                 self.sink.take_row(alloc, row)
             }
             Err(json::Error::OutOfMemory) => Err(InputError::OutOfMemory),
-            Err(_) => self.sink.take_row(alloc, without_value(place, line)),
+            Err(_) => take_other(alloc, self.sink, line, place),
         }
     }
+}
+
+/// Takes a line that is not JSON.
+#[cold]
+#[inline(never)]
+fn take_other<S: RowSink>(
+    alloc: Global,
+    sink: &mut S,
+    line: &[u8],
+    place: InputPlace,
+) -> Result<(), InputError> {
+    sink.take_row(alloc, row_of_value(place, line, Err(Cause::NotJson)))
+}
+
+/// Whether no text of a line is read but that of the number.
+fn has_value_alone(columns: Columns<'_, '_>) -> bool {
+    columns.count.is_none()
+        && columns.time.is_none()
+        && columns.groups.is_empty()
+        && columns.conditions.is_empty()
 }
 
 /// Returns the texts of a line at the paths.
@@ -103,12 +173,17 @@ fn row_of<'a>(
     })
 }
 
-/// Returns the row of a line that is not JSON.
-fn without_value(place: InputPlace, line: &[u8]) -> RowTexts<'_> {
+/// Returns the row of a line of which no text is read but that of the number, or none at all.
+#[inline(always)]
+fn row_of_value<'a>(
+    place: InputPlace,
+    line: &'a [u8],
+    value: Result<&'a [u8], Cause>,
+) -> RowTexts<'a> {
     RowTexts {
         place,
         row: line,
-        value: Err(Cause::NotJson),
+        value,
         count: None,
         time: None,
         group: None,

@@ -13,13 +13,14 @@ use crate::survey::Survey;
 use crate::tally::Tally;
 use crate::text::duration;
 use crate::wide::{Wide, parse_unsigned};
+use memchr::memchr;
 use std::alloc::Global;
 
 /// Splits a text after its first line. The line is returned without its LF.
 pub(crate) fn split_line(text: &[u8]) -> (&[u8], &[u8])
     ensures { 0 < length text.now → length result.1.now < length text.now }
 {
-    match text.iter().position(|b| *b == b'\n') {
+    match memchr(b'\n', text) {
         Some(at) => (&text[..at], &text[at + 1..]),
         None => (text, &text[text.len()..]),
     }
