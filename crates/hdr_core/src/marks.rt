@@ -132,9 +132,21 @@ impl Marks {
           lower = earlier_mark self.old.lower class;
         } }
     {
-        if self.classes <= class || class.wrapping_sub(1) < self.before {
+        if !self.enclose(class) {
             self.widen_to(class);
         }
+    }
+
+    /// Whether `widen` with `class` changes neither mark.
+    #[inline(always)]
+    pub(crate) fn enclose(&self, class: usize) -> bool
+        requires { class < 2 ^ 32 }
+        ensures { result ≡ true → record {
+          top = later_mark self.now.top class;
+          lower = earlier_mark self.now.lower class;
+        } ≡ self.now }
+    {
+        class < self.classes && self.before <= class.wrapping_sub(1)
     }
 
     /// As `widen`, without the comparisons.

@@ -1,6 +1,7 @@
 //! Recording and clearing.
 
 ghost use Rattle.std.specs.Prelude.{◌≡◌, ℕ, List, ◌+◌, ◌-◌, ◌^◌, ◌<◌, ◌≤◌, ◌++◌, true, OnOk, IfErr, min, length, replicate};
+ghost use Rattle.std.specs.Bool.{MatchBool};
 ghost use Rattle.hdr_base.specs.Classes.{reach_of};
 ghost use Rattle.hdr_model.specs.Plain.{IsPlain, resolution, reach};
 ghost use Rattle.hdr_model.specs.Recording.{after_add_to_bin, after_record, clamp_to_bins, after_clear, after_reset, high_with};
@@ -37,6 +38,26 @@ impl<T: Counter> Histogram<T> {
     /// fails; `self` is then unchanged.
     #[inline(always)]
     pub fn record_n(&mut self, value: u64, count: T) -> Result<(), RecordError>
+        ensures ok { OnOk result (self.new ≡ after_record T.greatest self.old value
+            (T.number count)) }
+        ensures samples { OnOk result (GainsSamples T.greatest self.old self.new
+            (replicate (T.number count) value)) }
+        ensures high { OnOk result (self.new.high ≡ high_with (resolution self.old) self.old.high value
+            (reach_of (resolution self.old) value)) }
+        ensures accepted { OnOk result (IsRecordable self.old value) }
+        ensures err { IfErr result (λ e. IsRecordError self.old value e
+            × (self.new ≡ self.old)) }
+    {
+        match self.bin_of(value) {
+            Some(bin) if self.try_add_to_bin(bin, count.as_u64()) => Ok(()),
+            _ => self.record_n_slow(value, count),
+        }
+    }
+
+    /// Records `value` as `record_n`, where more than a bin and the total may change, or one saturates.
+    #[cold]
+    #[inline(never)]
+    fn record_n_slow(&mut self, value: u64, count: T) -> Result<(), RecordError>
         ensures ok { OnOk result (self.new ≡ after_record T.greatest self.old value
             (T.number count)) }
         ensures samples { OnOk result (GainsSamples T.greatest self.old self.new
@@ -123,6 +144,27 @@ impl<T: Counter> Histogram<T> {
     {
         self.clear();
         self.marks = Marks::none(self.scale);
+    }
+
+    /// Adds `number` to a bin and to the total, if neither saturates and the bin widens no mark.
+    /// Returns whether it did; `self` is unchanged if not.
+    #[inline(always)]
+    fn try_add_to_bin(&mut self, bin: usize, number: u64) -> bool
+        requires { bin < length self.old.counts }
+        ensures { MatchBool result (self.new ≡ after_add_to_bin T.greatest self.old bin number)
+            (self.new ≡ self.old) }
+    {
+        if !self.marks.enclose(bin) {
+            return false;
+        }
+        let Some(total) = self.total.checked_add(number) else {
+            return false;
+        };
+        let Some(()) = self.counts.try_add(bin, number) else {
+            return false;
+        };
+        self.total = total;
+        true
     }
 
     /// Adds `number` to a bin and to the total, each saturating, and widens the marks by the bin.
