@@ -326,7 +326,8 @@ def match_lines_case(random, decimals):
         records.append(Record(found[1].encode() if found else b"", (), is_chosen=bool(found)))
     end = random.choice(["\n", "\n", "\n", "\r\n"])
     data = (end.join(lines) + random.choice(["", end])).encode()
-    return output_case(random, Form(["--match", pattern], data, records, decimals))
+    # (another number of a line may match)
+    return output_case(random, Form(["--match", pattern], data, records, MIXED))
 
 
 def match_case(random):

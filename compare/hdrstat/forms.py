@@ -194,8 +194,8 @@ class Printed:
         if not self.late:
             return b""
         if self.late == 1:
-            return b"hdrstat: 1 number came after its interval was printed; gather --unsorted merges both\n"
-        return b"hdrstat: %d numbers came after their intervals were printed; gather --unsorted merges these\n" % self.late
+            return b"hdrstat: 1 number came after its interval had ended; gather --unsorted puts it in its place\n"
+        return b"hdrstat: %d numbers came after their intervals had ended; gather --unsorted puts them in place\n" % self.late
 
 
 class Written:
