@@ -116,11 +116,11 @@ def read_records(records, decimals, skips_bad, sigfig=3, key=lambda record, grou
 
 
 def decimals_of_records(records):
-    """The most decimals of the numbers that are read. They have 15 digits or fewer."""
+    """The most decimals of the numbers that are found, also where a row has no group or time. They have 15 digits or fewer."""
     found = [0]
     for record in records:
         try:
-            found.append(number_of(record)[0][1] if record.is_chosen else 0)
+            found.append(number_of(dataclasses.replace(record, groups=(), time=0))[0][1] if record.is_chosen else 0)
         except Bad:
             pass
     return max(found)
