@@ -1,7 +1,7 @@
 /*
  * One operation, over and over, for callgrind: of dkap.h, or of HdrHistogram_c if THEIRS is defined. The histogram has 100,000
  * latencies around 1 ms, at 3 digits up to one hour in microseconds.
- * usage: cost OPERATION TIMES
+ * usage: cost OPERATION TIMES; the status is 2 if there is no such operation
  */
 #ifdef THEIRS
 #include <hdr/hdr_histogram.h>
@@ -128,6 +128,7 @@ int main(int argc, char **argv)
 {
     long times = argc > 2 ? strtol(argv[2], NULL, 10) : 1, i;
     size_t operation;
+    int status = 2;
 
     if (OURS(dkap_init(h, 1, 3600000000, 3), hdr_init(1, 3600000000, 3, &h)) != 0)
         return 1;
@@ -135,9 +136,11 @@ int main(int argc, char **argv)
     for (i = 0; i < 100000; i++)
         record(values[i % VALUES]);
     for (operation = 0; operation < sizeof OPERATIONS / sizeof OPERATIONS[0]; operation++)
-        if (argc > 1 && strcmp(OPERATIONS[operation].name, argv[1]) == 0)
+        if (argc > 1 && strcmp(OPERATIONS[operation].name, argv[1]) == 0) {
             for (i = 0; i < times; i++)
                 OPERATIONS[operation].call(values[i % VALUES]);
+            status = 0;
+        }
     OURS(dkap_close(h), hdr_close(h));
-    return 0;
+    return status;
 }
