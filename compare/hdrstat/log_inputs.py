@@ -9,7 +9,8 @@ from fractions import Fraction
 
 from inputs import FORMATS, USUAL, Case, digits, figures, percentiles, shown
 from levels import UNITS, Level, LogTally, classes_of, checked_line, is_level_in_each_unit, random_level, status_of
-from logs import CAUSES, NOTES, RATIO, Undecodable, bin_of, closed, decode, decoded, encode, inflated, read_first, side_by_side, sums, sums_by_key, with_form
+from logs import CAUSES, NOTES, RATIO, Undecodable, bin_of, closed, converted_sums, decode, decoded, encode, have_one_scale, in_one_scale
+from logs import inflated, read_first, side_by_side, sums, sums_by_key, with_form
 from model import LIMIT, Failure, Samples, Tally, class_of, decimal_text, Options
 
 TAGS = [None, b"a", b"b", b"GET", b"caf\xc3\xa9", b"=1+1", b"-2", b'say"', b"a;b", b""]
@@ -84,8 +85,8 @@ def log_text(random, step):
         lines.append(b"#[StartTime: 1700000000.000 (seconds since epoch), some date]")
     if random.random() < 0.3:
         lines.append(b"#[BaseTime: %s (seconds since epoch)]" % seconds(random, random.randint(0, 5000)))
-    if random.random() < 0.1:
-        lines.append(b"#[Values have %d decimals]" % random.choice([0, 1, 3, 3, 18, 19]))
+    if random.random() < 0.25:
+        lines.append(b"#[Values have %d decimals]" % random.choice([0, 1, 3, 3, 3, 5, 18, 19]))
     if random.random() < 0.3:
         lines.append(b'"StartTimestamp","Interval_Length","Interval_Max","Interval_Compressed_Histogram"')
     for at in range(random.choice([0, 1, 3, 8])):
@@ -115,7 +116,9 @@ def log_error(failure):
     if why == "log":
         return f"hdrstat: {name}: {line}: `{shown(text)}` is not a line of an interval log\n".encode()
     if why == "other decimals":
-        return f"hdrstat: {name}: {line}: the values have {text[0]} decimals, and others {text[1]}; write the logs by the same --decimals\n".encode()
+        return f"hdrstat: {name}: {line}: the values have {text[0]} decimals, and others {text[1]}; `hdrstat gather --unsorted` makes one log of both\n".encode()
+    if why == "large":
+        return f"hdrstat: {name}: {line}: a value does not fit 64 bits in the unit and the decimals of other intervals\n".encode()
     if why == "late":
         return f"hdrstat: {name}: {line}: the interval begins past 64 bits of milliseconds\n".encode()
     if why == "nest":
@@ -240,15 +243,48 @@ def log_case(random):
     notes = {}
     try:
         found, coarser, decimals, chosen = sums(logs, sigfig, by_tag, notes, choice)
+        told = notes_text(notes, logs)
     except Failure as failure:
-        return failed(failure, notes, before(failure, logs), arguments, logs)
-    told = notes_text(notes, logs) + coarser_text(coarser, chosen, sigfig)
+        if failure.text[3] != "other decimals" or "standard input" in logs:
+            return failed(failure, notes, before(failure, logs), arguments, logs)
+        try:
+            read, told = read_in_one_scale(logs, choice)
+            found, coarser, decimals, chosen = converted_sums(read, sigfig, by_tag)
+        except Told as bad:
+            return case_of(arguments, logs, bad.wanted)
+        except Failure as bad:
+            error = log_error(bad)
+            return case_of(arguments, logs, (b"", None if error is None else told + error, 1))
+    told += coarser_text(coarser, chosen, sigfig)
     if by_tag:
         out = TAGGED[name]([(tag, figures(tally_of(it, decimals), wanted)) for tag, it in found.items()]).encode()
         return case_of(arguments, logs, (out, told, 0))
     total = found.get(None) or Samples(sigfig)
     out = FORMATS[name](figures(tally_of(total, decimals), wanted)).encode()
     return case_of(arguments, logs, (out, told, 0))
+
+
+class Told(Exception):
+    """What a program prints that fails."""
+
+    def __init__(self, failure, told):
+        super().__init__()
+        error = log_error(failure)
+        self.wanted = (b"", None if error is None else told + error, 1)
+
+
+def read_in_one_scale(logs, choice):
+    """The intervals of logs in the scale of the finest, and what is told of them, which is their notes first."""
+    notes = {}
+    try:
+        read = read_first(logs, notes, choice)
+    except Failure as failure:
+        raise Told(failure, notes_text(notes, before(failure, logs))) from failure
+    try:
+        read, told = in_one_scale(read)
+    except Failure as failure:
+        raise Told(failure, notes_text(notes, logs)) from failure
+    return read, notes_text(notes, logs) + told
 
 
 def coarser_text(coarser, chosen, sigfig):
@@ -300,17 +336,21 @@ def gather_case(random):
     logs, notes, is_unsorted = logs_of(random), {}, random.random() < 0.5
     arguments, choice = choice_of(random)
     arguments = ["gather", *(["--unsorted"] if is_unsorted else []), *arguments]
-    if is_unsorted:
-        try:
-            read = read_first(logs, notes, choice)
-        except Failure as failure:
-            return failed(failure, notes, before(failure, logs), arguments, logs)
+    told = None
     try:
-        found = sums_by_key(read) if is_unsorted else side_by_side(logs, notes, choice)
+        if is_unsorted or "standard input" not in logs and not have_one_scale(logs, notes, choice):
+            read, told = read_in_one_scale(logs, choice)
+            found = sums_by_key(read)
+        else:
+            notes = {}
+            found = side_by_side(logs, notes, choice)
+            told = notes_text(notes, logs)
+    except Told as bad:
+        return case_of(arguments, logs, bad.wanted)
     except Failure as failure:
         error = log_error(failure)
-        return case_of(arguments, logs, (None, None if error is None else notes_text(notes, logs) + error, 1))
-    told = notes_text(notes, logs)
+        told = notes_text(notes, logs) if told is None else told
+        return case_of(arguments, logs, (None, None if error is None else told + error, 1))
     read, finer = sum(it[4] for it in found), sum(it[5] for it in found)
     if finer:
         told += f"hdrstat: {finer} of {read} intervals finer than their sum, which has the digits of the coarsest\n".encode()
@@ -359,21 +399,22 @@ def holding(line):
 
 def page_case(random):
     """A case of page --intervals."""
-    logs, notes = logs_of(random), {}
+    logs = logs_of(random)
     arguments, choice = choice_of(random)
     arguments = ["page", "--intervals", *arguments]
     try:
-        read = read_first(logs, notes, choice)
-    except Failure as failure:
-        return failed(failure, notes, before(failure, logs), arguments, logs)
+        read, told = read_in_one_scale(logs, choice)
+    except Told as bad:
+        return case_of(arguments, logs, bad.wanted)
     rows = [["start", "tag", "length", "count", "50%", "90%", "99%", "99.9%", "100%"]]
     try:
         for name, it in sorted(read, key=by_tag_and_time):
             it.samples(name)
     except Failure as failure:
-        return failed(failure, notes, logs, arguments, logs)
+        error = log_error(failure)
+        return case_of(arguments, logs, (b"", None if error is None else told + error, 1))
     rows += [row_of(it, closed(it.samples(name))) for name, it in read]
-    return case_of(arguments, logs, (csv_text(rows).encode(), notes_text(notes, logs), 0))
+    return case_of(arguments, logs, (csv_text(rows).encode(), told, 0))
 
 
 def by_tag_and_time(named):

@@ -254,6 +254,8 @@ class Interval:
     start: int
     duration: int
     field: bytes
+    # The samples in the decimals of others, if they are converted
+    converted: object = None
 
     def found(self, name, read):
         """What is read from the bytes of its histogram, or the failure that names its line."""
@@ -264,11 +266,22 @@ class Interval:
 
     def samples(self, name):
         """The samples of its histogram."""
-        return self.found(name, lambda data: decode(self.plain(data)))
+        return self.converted or self.found(name, lambda data: decode(self.plain(data)))
 
     def plain(self, data):
         """The V2 bytes of its histogram, if its field begins as one of another form."""
         return plain(data) if has_other_form(self.field) and data[:4] != COOKIE else data
+
+    def multiplied(self, name, factor):
+        """The greatest value of each class times a factor."""
+        samples = self.samples(name)
+        made = Samples(samples.sigfig)
+        for lowest, count in samples.counts.items():
+            value = class_of(lowest, samples.sigfig, samples.low)[1] * factor
+            if value >= LIMIT:
+                raise Failure((name, f"line {self.line}", b"", "large"))
+            made.add(value, count)
+        return made
 
     def key(self):
         """The time in milliseconds, and the tag."""
@@ -408,14 +421,38 @@ def stored(name, data, notes, choice):
         yield it
 
 
+def converted_sums(read, sigfig, by_tag):
+    """The same of intervals of one scale."""
+    found, coarser = {}, 0
+    for name, it in read:
+        samples, total = it.samples(name), found.setdefault(it.tag if by_tag else None, Samples(sigfig))
+        coarser += not is_finer(samples, total)
+        add(total, samples)
+    return {key: closed(total) for key, total in found.items()}, coarser, max((it.decimals for _, it in read), default=0), len(read)
+
+
 def read_first(logs, notes, choice):
     """The chosen intervals of logs, read one log after another, with the names of their logs."""
-    found = []
-    for name, data in logs.items():
-        for it in stored(name, data, notes, choice):
-            found.append((name, it))
-            check_decimals(found[-1:], found[0][1].decimals)
-    return found
+    return [(name, it) for name, data in logs.items() for it in stored(name, data, notes, choice)]
+
+
+def in_one_scale(read):
+    """Intervals in the decimals of the finest, and what standard error has of those that are converted."""
+    decimals = max((it.decimals for _, it in read), default=0)
+    out, converted = [], 0
+    for name, it in read:
+        more = decimals - it.decimals
+        made = it.multiplied(name, 10**more) if more else None
+        converted += more > 0
+        out.append((name, dataclasses.replace(it, decimals=decimals, converted=made)))
+    told = f"hdrstat: {converted} of {len(read)} intervals converted to {decimals} decimals, at the top of each class\n".encode()
+    return out, told if converted else b""
+
+
+def have_one_scale(logs, notes, choice):
+    """Whether the first intervals of logs have the same decimals."""
+    firsts = [next(stored(name, data, notes, choice), None) for name, data in logs.items()]
+    return len({it.decimals for it in firsts if it}) <= 1
 
 
 def check_decimals(intervals_of_logs, decimals):

@@ -10,7 +10,8 @@ use crate::options::matches::{reading_of, unit_of};
 use crate::summary::{percentiles_of, percentiles_option, require_intervals};
 use clap::{Arg, ArgAction, ArgMatches, Command, Error};
 use hdr_files::{
-    FEWEST_RUNS, Files, LogUnit, Reading, RunSides, StatError, print, print_error_line, read_run,
+    FEWEST_RUNS, Files, Reading, RunSides, StatError, coarser_unit, print, print_error_line,
+    read_run,
 };
 use hdr_runs::{
     Limit, LimitVerdict, NamedRun, Report, ReportFormat, ReportLayout, Side, parse_limit,
@@ -85,7 +86,7 @@ struct Runs<'n> {
     after: Vec<NamedRun<'n>>,
     /// Whether those before and those after are several runs of each side.
     has_several: bool,
-    /// The unit that logs have of their values.
+    /// The unit of the values of logs: the coarsest of theirs.
     unit: Option<Unit>,
 }
 
@@ -105,7 +106,7 @@ pub fn run(rt: &HostRuntime, matches: &ArgMatches<'_>) -> Result<ExitCode, StatE
         has_tags: matches.get_flag("by-tag") || matches.get_str("by").is_some(),
         has_runs: runs.after.len() > 1,
         conversion: match (runs.unit, unit_of(matches)) {
-            (Some(from), Some(to)) => Conversion::new(from, to),
+            (Some(from), Some(to)) if from != to => Conversion::new(from, to),
             _ => Conversion::NONE,
         },
     };
@@ -153,26 +154,55 @@ fn print_limit(rt: &HostRuntime, layout: &ReportLayout<'_>, line: &str) -> Resul
     print(rt, b"\n")
 }
 
-/// Reads runs, whose logs have one unit of their values.
+/// Reads runs.
 #[derive(Drop)]
 struct RunReader<'r, 'l, 'n> {
     rt: &'r HostRuntime,
     reading: Reading<'l, 'n>,
     is_quiet: bool,
-    unit: LogUnit,
+    /// The unit of values without one.
+    asked: Option<Unit>,
 }
 
 impl RunReader<'_, '_, '_> {
     /// Returns the samples of a run, or of several runs of one side.
-    fn read(&mut self, names: &[&str]) -> Result<Vec<Side>, StatError> {
+    fn read(&self, names: &[&str]) -> Result<RunSides, StatError> {
         let files = Files {
             rt: self.rt,
             names,
             is_quiet: self.is_quiet,
         };
         let RunSides { sides, unit } = read_run(files, self.reading)?;
-        self.unit.add(unit)?;
-        Ok(sides)
+        Ok(RunSides {
+            sides,
+            unit: unit.or(self.asked),
+        })
+    }
+
+    /// Returns the coarsest unit of runs, if they have units. If they have different ones and no
+    /// other is asked for, it is printed on standard error.
+    ///
+    /// # Errors
+    /// Returns a usage error if some runs have a unit and others have none.
+    fn unit_of(&self, before: &RunSides, others: &[RunSides]) -> Result<Option<Unit>, StatError> {
+        let mut unit = before.unit;
+        let mut is_one = true;
+        for run in others {
+            let have_samples = !run.sides.is_empty() && !before.sides.is_empty();
+            if have_samples && run.unit.is_some() != before.unit.is_some() {
+                let why = "is needed: some logs have a unit of their values, and others have none";
+                return Err(StatError::usage(self.rt.alloc(), "--unit", why));
+            }
+            is_one = is_one && run.unit == before.unit;
+            unit = coarser_unit(unit, run.unit);
+        }
+        if let (false, None, Some(unit)) = (is_one, self.asked, unit) {
+            let name = unit.name();
+            let _ = eprintln!(self.rt;
+                "hdrstat: values are in {name}, the coarsest unit of the logs"
+            );
+        }
+        Ok(unit)
     }
 }
 
@@ -182,23 +212,23 @@ fn read_runs<'n>(
     matches: &ArgMatches<'n>,
     reading: Reading<'_, 'n>,
 ) -> Result<Runs<'n>, StatError> {
-    let mut reader = RunReader {
+    let reader = RunReader {
         rt,
         reading,
         is_quiet: matches.get_flag("quiet"),
-        unit: LogUnit { unit: None },
+        asked: unit_of(matches),
     };
     let names = matches.get_strs("RUN").unwrap_or(&[]);
     match matches.get_strs("with") {
-        Some(after) => read_sides(rt.alloc(), &mut reader, names, after),
-        None => read_each(rt.alloc(), &mut reader, names),
+        Some(after) => read_sides(rt.alloc(), &reader, names, after),
+        None => read_each(rt.alloc(), &reader, names),
     }
 }
 
 /// Reads several runs of each side.
 fn read_sides<'n>(
     alloc: Global,
-    reader: &mut RunReader<'_, '_, 'n>,
+    reader: &RunReader<'_, '_, 'n>,
     before: &[&'n str],
     after: &[&'n str],
 ) -> Result<Runs<'n>, StatError> {
@@ -207,24 +237,29 @@ fn read_sides<'n>(
         return Err(StatError::usage(alloc, "--with", why));
     }
     let before = reader.read(before)?;
-    let sides = reader.read(after)?;
+    let mut runs = Vec::new(alloc);
+    runs.push(reader.read(after)?)?;
+    let unit = reader.unit_of(&before, &runs)?;
     let mut after = Vec::new(alloc);
-    after.push(NamedRun {
-        name: "after",
-        sides,
-    })?;
+    for run in runs {
+        let sides = run.in_unit(unit)?;
+        after.push(NamedRun {
+            name: "after",
+            sides,
+        })?;
+    }
     Ok(Runs {
-        before,
+        before: before.in_unit(unit)?,
         after,
         has_several: true,
-        unit: reader.unit.unit,
+        unit,
     })
 }
 
 /// Reads a run, and each of those after it.
 fn read_each<'n>(
     alloc: Global,
-    reader: &mut RunReader<'_, '_, 'n>,
+    reader: &RunReader<'_, '_, 'n>,
     names: &[&'n str],
 ) -> Result<Runs<'n>, StatError> {
     let [before, after @ ..] = names else {
@@ -234,18 +269,23 @@ fn read_each<'n>(
         return Err(StatError::usage(alloc, "compare", "needs two runs or more"));
     }
     let before = reader.read(&[*before])?;
-    let is_one = after.len() == 1;
     let mut runs = Vec::new(alloc);
     for name in after {
-        let sides = reader.read(&[*name])?;
+        runs.push(reader.read(&[*name])?)?;
+    }
+    let unit = reader.unit_of(&before, &runs)?;
+    let is_one = after.len() == 1;
+    let mut named = Vec::new(alloc);
+    for (name, run) in after.iter().zip(runs) {
         let name = if is_one { "after" } else { *name };
-        runs.push(NamedRun { name, sides })?;
+        let sides = run.in_unit(unit)?;
+        named.push(NamedRun { name, sides })?;
     }
     Ok(Runs {
-        before,
-        after: runs,
+        before: before.in_unit(unit)?,
+        after: named,
         has_several: false,
-        unit: reader.unit.unit,
+        unit,
     })
 }
 

@@ -4,7 +4,7 @@ use crate::options::arguments::{flag, logs, quiet, tag_by_file, with_choice};
 use crate::options::matches::{choice_of, file_names_of};
 use clap::{ArgMatches, Command, Error};
 use hdr_files::{FileNames, Files, Output, StatError, read_intervals};
-use hdr_gather::{Counts, PeekableLog, gather_sorted, gather_unsorted};
+use hdr_gather::{Counts, PeekableLog, gather_sorted, gather_unsorted, have_one_scale};
 use hdrhistogram::serialization::interval_log::IntervalChoice;
 use std::alloc::Global;
 use std::process::ExitCode;
@@ -13,7 +13,9 @@ const AFTER: &str = "\
 Intervals of the same tag that begin at the same time become one, with the samples of all.
 They are written in order of time and then of tag. The output can be gathered again.
 Each log has to be in order of time, as logs are written: they are read side by side, in the
-memory of the intervals of one start, which are written once all logs are past it.
+memory of the intervals of one start, which are written once all logs are past it. Logs of other
+units or decimals are all read first, and converted to the finest: each class becomes its greatest
+value, so that `hdrstat check` may decide a level within a class otherwise than of the logs.
 
 --tag-by-file keeps the intervals of each file apart. Their tags end with @ and the name of the
 file, and intervals without a tag have that name as their tag. It is the last part of the path, or
@@ -50,10 +52,7 @@ pub fn run(rt: &HostRuntime, matches: &ArgMatches<'_>) -> Result<ExitCode, StatE
     };
     let file_names = file_names_of(rt.alloc(), matches, files.names)?;
     let counts = if matches.get_flag("unsorted") {
-        let intervals = read_intervals(files, choice, &file_names, false)?;
-        gather_unsorted(rt.alloc(), &intervals, &mut Output::new(rt)).map_err(
-            |cause| files.log_error(cause),
-        )?
+        gather_all(files, choice, &file_names)?
     } else {
         gather_side_by_side(files, choice, &file_names)?
     };
@@ -61,11 +60,24 @@ pub fn run(rt: &HostRuntime, matches: &ArgMatches<'_>) -> Result<ExitCode, StatE
     Ok(ExitCode::SUCCESS)
 }
 
-/// Merges logs, which are all open at once and in order of time.
-fn gather_side_by_side(
+/// Merges logs, whose intervals are all read first, and converted to one scale.
+fn gather_all(
     files: Files<'_, '_, '_>,
     choice: IntervalChoice<'_>,
     file_names: &FileNames,
+) -> Result<Counts, StatError> {
+    let intervals = read_intervals(files, choice, file_names, false)?;
+    gather_unsorted(files.alloc(), &intervals, &mut Output::new(files.rt)).map_err(
+        |cause| files.log_error(cause),
+    )
+}
+
+/// Merges logs, which are all open at once and in order of time. Those of several scales are read
+/// first, if they can be read again.
+fn gather_side_by_side<'x>(
+    files: Files<'_, '_, '_>,
+    choice: IntervalChoice<'x>,
+    file_names: &'x FileNames,
 ) -> Result<Counts, StatError> {
     let alloc = files.alloc();
     let mut logs = Vec::new(alloc);
@@ -74,7 +86,15 @@ fn gather_side_by_side(
         logs.push(log.map_err(|cause| files.log_error(cause))?)?;
         Ok(())
     })?;
-    let gathered = gather_sorted(alloc, &mut logs, &mut Output::new(files.rt));
+    let gathered = match have_one_scale(alloc, &mut logs) {
+        Ok(have_one_scale) => {
+            if !have_one_scale && files.can_repeat_all() {
+                return gather_all(files, choice, file_names);
+            }
+            gather_sorted(alloc, &mut logs, &mut Output::new(files.rt))
+        }
+        Err(cause) => Err(cause),
+    };
     for log in &logs {
         files.print_notes(log.notes());
     }

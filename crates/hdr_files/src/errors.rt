@@ -32,8 +32,8 @@ pub enum StatError {
     /// A file is not opened, or not written.
     #[error("{file}: {cause}")]
     File { file: String, cause: io::Error },
-    /// Logs that are compared have other units or decimals.
-    #[error("the logs have values of different units or decimals")]
+    /// Logs of one run have other units or decimals.
+    #[error("the logs of a run have values of different units or decimals; write them by the same --unit and --decimals")]
     OtherScale,
     /// A run has too many samples.
     #[error("a run has 2^40 samples or more")]
@@ -61,6 +61,11 @@ impl StatError {
             StatError::Usage(_) => 2,
             _ => 1,
         }
+    }
+
+    /// Whether it is of logs that can be read if their values are converted to one scale.
+    pub(crate) fn is_of_scale(&self) -> bool {
+        matches!(self, StatError::Logs { cause, .. } if cause.is_of_scale())
     }
 
     /// Returns the error of an argument: the argument in quotes, and what follows.

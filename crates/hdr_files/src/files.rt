@@ -50,7 +50,7 @@ impl<'r, 'l, 'n> Files<'r, 'l, 'n> {
     }
 
     /// Whether all files can be read more than once.
-    pub(crate) fn can_repeat_all(self) -> bool {
+    pub fn can_repeat_all(self) -> bool {
         or_standard_input(self.names)
             .iter()
             .all(|name| self.can_repeat(*name))

@@ -31,5 +31,5 @@ pub use output::{Output, check_output, print, print_error_line, write_output};
 pub use parts::{part_of_all, read_parts};
 pub use periods::{Periods, read_numbers_by_period};
 pub use reading::Reading;
-pub use runs::{FEWEST_RUNS, LogUnit, RunSides, TagSamples, add_sums, read_run};
+pub use runs::{FEWEST_RUNS, RunSides, TagSamples, add_sums, coarser_unit, read_run};
 pub use timed::{log_of_intervals, log_of_numbers, print_log_as_read, read_intervals_of};

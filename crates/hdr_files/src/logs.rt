@@ -1,7 +1,7 @@
 //! The logs of the arguments.
 
 use crate::errors::StatError;
-use crate::files::Files;
+use crate::files::{Files, or_standard_input};
 use crate::names::FileNames;
 use crate::output::print_error_line;
 use hdr_input::{Distribution, Unit};
@@ -28,16 +28,51 @@ pub(crate) fn read_sums(
 ) -> Result<Parts, StatError> {
     let alloc = files.alloc();
     let mut sums = LogSums::new(alloc, choice, sigfig, is_by_tag);
-    let read = files.read_each(|index, input| {
-        sums.read_log(alloc, index, input)
-            .map_err(|cause| files.log_error(cause))
-    });
-    files.print_notes(sums.notes());
-    read?;
+    let added = add_logs(files, &mut sums);
+    if can_be_converted(files, &added) {
+        sums = LogSums::new(alloc, choice, sigfig, is_by_tag);
+        add_converted(files, choice, &mut sums)?;
+    } else {
+        files.print_notes(sums.notes());
+        added?;
+    }
     print_coarser(files.rt, &sums, sigfig);
     let unit = sums.unit();
     let list = parts_of(alloc, sums, sigfig, is_by_tag)?;
     Ok(Parts { list, unit })
+}
+
+/// Adds the chosen intervals of logs to sums, log by log.
+fn add_logs(files: Files<'_, '_, '_>, sums: &mut LogSums<'_>) -> Result<(), StatError> {
+    for (index, name) in or_standard_input(files.names).iter().enumerate() {
+        let input = files.open(*name)?;
+        sums.read_log(files.alloc(), index, input)
+            .map_err(|cause| files.log_error(cause))?;
+    }
+    Ok(())
+}
+
+/// Whether logs were not added since they have several scales, and can be read again.
+fn can_be_converted(files: Files<'_, '_, '_>, added: &Result<(), StatError>) -> bool {
+    match added {
+        Ok(()) => false,
+        Err(error) => error.is_of_scale() && files.can_repeat_all(),
+    }
+}
+
+/// Adds the chosen intervals of logs to sums, with their values in one scale.
+fn add_converted(
+    files: Files<'_, '_, '_>,
+    choice: IntervalChoice<'_>,
+    sums: &mut LogSums<'_>,
+) -> Result<(), StatError> {
+    let alloc = files.alloc();
+    let intervals = read_intervals(files, choice, &FileNames::none(alloc), false)?;
+    for interval in &intervals.list {
+        sums.add_stored(alloc, interval)
+            .map_err(|cause| files.log_error(cause))?;
+    }
+    Ok(())
 }
 
 /// Returns the distributions of sums: one, or one for each tag.
@@ -80,7 +115,8 @@ pub(crate) fn print_coarser(rt: &HostRuntime, sums: &LogSums<'_>, sigfig: u8) {
     }
 }
 
-/// Returns the chosen intervals of logs. If logs are aligned, each is laid over the first.
+/// Returns the chosen intervals of logs, with their values in one scale. If logs are aligned, each is
+/// laid over the first. How many intervals are converted is printed on standard error.
 pub fn read_intervals(
     files: Files<'_, '_, '_>,
     choice: IntervalChoice<'_>,
@@ -103,7 +139,34 @@ pub fn read_intervals(
     });
     files.print_notes(intervals.notes());
     read?;
+    intervals
+        .convert_to_one_scale(alloc)
+        .map_err(|cause| files.log_error(cause))?;
+    print_converted(files.rt, &intervals);
     Ok(intervals)
+}
+
+/// Prints on standard error how many intervals are converted, if any are.
+fn print_converted(rt: &HostRuntime, intervals: &LogIntervals) {
+    let converted = intervals.converted;
+    if converted == 0 {
+        return;
+    }
+    let all = intervals.list.len();
+    let decimals = intervals.decimals().unwrap_or(0);
+    let _ = match intervals.unit() {
+        Some(unit) => {
+            let unit = unit.name();
+            eprintln!(rt;
+                "hdrstat: {converted} of {all} intervals converted to {decimals} decimals of {unit}, at the top of each class"
+            )
+        }
+        None => {
+            eprintln!(rt;
+                "hdrstat: {converted} of {all} intervals converted to {decimals} decimals, at the top of each class"
+            )
+        }
+    };
 }
 
 impl Files<'_, '_, '_> {

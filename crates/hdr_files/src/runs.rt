@@ -21,6 +21,33 @@ pub struct RunSides {
     pub unit: Option<Unit>,
 }
 
+impl RunSides {
+    /// Returns the samples by tag, with their values in a unit that is as coarse as theirs or
+    /// coarser, and as many more decimals.
+    ///
+    /// # Errors
+    /// Returns an error if they would have more than 18 decimals.
+    pub fn in_unit(self, unit: Option<Unit>) -> Result<Vec<Side>, StatError> {
+        let mut sides = self.sides;
+        if let (Some(own), Some(unit)) = (self.unit, unit) {
+            let power = own.decimals().saturating_sub(unit.decimals());
+            for side in sides.iter_mut() {
+                side.coarsen_unit(power)?;
+            }
+        }
+        Ok(sides)
+    }
+}
+
+/// Returns the coarser of two units, or the one that is known.
+pub fn coarser_unit(one: Option<Unit>, other: Option<Unit>) -> Option<Unit> {
+    match (one, other) {
+        (Some(one), Some(other)) if other.decimals() < one.decimals() => Some(other),
+        (Some(one), _) => Some(one),
+        (None, other) => other,
+    }
+}
+
 /// The tallies of a tag, of each file that has it.
 #[derive(Drop)]
 struct TagTallies {
@@ -330,8 +357,8 @@ fn samples_of_tag<'a>(
 
 /// The unit that logs have of their values.
 #[derive(Clone, Copy)]
-pub struct LogUnit {
-    pub unit: Option<Unit>,
+struct LogUnit {
+    unit: Option<Unit>,
 }
 
 impl LogUnit {
@@ -339,7 +366,7 @@ impl LogUnit {
     ///
     /// # Errors
     /// Returns `OtherScale` if another one is known.
-    pub fn add(&mut self, unit: Option<Unit>) -> Result<(), StatError> {
+    fn add(&mut self, unit: Option<Unit>) -> Result<(), StatError> {
         match (self.unit, unit) {
             (Some(one), Some(other)) if one != other => Err(StatError::OtherScale),
             (None, unit) => {

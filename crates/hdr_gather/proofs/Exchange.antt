@@ -6,7 +6,7 @@ use Rattle.hdr_base.specs.Classes.{Resolution, bin_of}
 use Rattle.hdr_model.specs.Plain.{Plain, resolution, reach}
 use Rattle.hdr_model.specs.Samples.{StandsFor, Fits, in_class}
 use Rattle.hdr_model.proofs.MergingStands.{in_class-append, StandsFor-swap}
-use Rattle.hdr_gather.proofs.Parts.{all_front, all_behind}
+use Rattle.hdr_logs.proofs.Parts.{all_front, all_behind}
 
 in_class-exchange : (g : Resolution) (i : ℕ) (A B : List ℕ) → in_class g i (A ++ B) ≡ in_class g i (B ++ A)
 in_class-exchange g i A B = omega (arith, in_class-append g i A B, in_class-append g i B A)

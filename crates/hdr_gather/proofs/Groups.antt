@@ -12,7 +12,7 @@ use Rattle.std.specs.Io.KnownBytes.{Appends}
 use Rattle.hdr_logs.specs.Stored.{Stored}
 use Rattle.hdr_gather.specs.Keys.{key_of, key_cmp, IsBefore, AreSorted}
 use Rattle.hdr_gather.specs.Logs.{AreInOrder, AreLinesOf, WritesLine, Writes}
-use Rattle.hdr_gather.proofs.Parts.{all_behind}
+use Rattle.hdr_logs.proofs.Parts.{all_behind}
 use Rattle.hdr_gather.proofs.Keys.{key_total, less_past, before_earlier}
 
 abbrev pub members : List (Stored × List Stored) → List Stored

@@ -9,7 +9,8 @@ use Rattle.hdr_logs.specs.Intervals.{LogInterval}
 use Rattle.hdr_logs.specs.FileNames.{in_file}
 use Rattle.hdr_logs.specs.Intervals as logs
 use Rattle.hdr_logs.specs.Reading as reading
-use Rattle.hdr_logs.specs.Stored.{Stored, stored, view_of_stored}
+use Rattle.hdr_input.specs.declared.unit.Unit.{Unit}
+use Rattle.hdr_logs.specs.Stored.{Stored, stored, view_of_stored, decimals_of}
 use Rattle.hdr_logs.specs.declared.stored.StoredInterval.{StoredInterval}
 use Rattle.hdr_gather.specs.Counts.{CountsMore}
 use Rattle.hdr_gather.specs.Logs.{Writes, WritesLog}
@@ -63,6 +64,10 @@ next_start log = option_map (λ next. next.start) log.next
 -- it begins at this time or later
 abbrev pub IsFrom : {R : Type 0} → ℕ → PeekableLog R → Type 0
 IsFrom low log = IfSome (next_start log) (λ start. low ≤ start)
+
+-- the values of the next interval, if there is one, have these decimals and this unit
+abbrev pub IsNextIn : {R : Type 0} → ℕ → Option Unit → PeekableLog R → Type 0
+IsNextIn decimals unit log = IfSome log.next (λ s. (decimals_of s ≡ decimals) × (s.unit ≡ unit))
 
 -- these are the intervals that logs have left, each once
 abbrev pub AreLeft : {R : Type 0} → (R → Option (List ℕ)) → List (PeekableLog R) → List Stored → Type 0

@@ -1,10 +1,10 @@
 //! Logs that are gathered: side by side, or of intervals that were read before.
 
-ghost use Rattle.std.specs.Prelude.{◌≡◌, ◌≤◌, ◌+◌, ◌↔◌, ℕ, [], OnOk, IfOk, IfSome, map, vec_items};
+ghost use Rattle.std.specs.Prelude.{◌≡◌, ◌≤◌, ◌+◌, ◌↔◌, ℕ, [], true, Option, OnOk, IfOk, IfSome, map, vec_items};
 ghost use Rattle.std.specs.List.{All};
 ghost use Rattle.hdrhistogram.specs.LogWriters.{sink, divisor_of, IsSameLog};
 ghost use Rattle.hdr_logs.specs.Stored.{view_of_stored, decimals_of, intervals_of};
-ghost use Rattle.hdr_gather.specs.Left.{IsKnown, IsReady, IsFrom, Loses, Takes, WritesRest, Gathers};
+ghost use Rattle.hdr_gather.specs.Left.{IsKnown, IsNextIn, IsReady, IsFrom, Loses, Takes, WritesRest, Gathers};
 ghost use Rattle.hdr_gather.specs.Logs.{WritesLog};
 
 use crate::peekable::PeekableLog;
@@ -67,6 +67,52 @@ pub fn gather_unsorted<W: Write>(
     write_intervals(alloc, &intervals.list, &mut log, &mut sums)?;
     drop(log);
     Ok(sums.counts)
+}
+
+/// Reads up to the first interval of each log. Returns whether the values of these intervals have the
+/// same decimals and the same unit.
+///
+/// # Errors
+/// Returns the first error of reading.
+pub fn have_one_scale<R: Read + Drop>(
+    alloc: Global,
+    logs: &mut [PeekableLog<'_, R>],
+) -> Result<bool, LogError>
+    ensures left { OnOk result (Loses R.remaining logs.old logs.new []) }
+    ensures ready { OnOk result (All (IsKnown R.remaining) logs.old
+        → All (IsReady R.remaining) logs.new) }
+    ensures scale { IfOk result (λ one. one ≡ true → (decimals : ℕ) × (unit : Option Unit)
+        × All (IsNextIn decimals unit) logs.new) }
+{
+    begin_logs(alloc, logs)?;
+    let (decimals, unit) = first_scale(logs);
+    Ok(are_next_in(logs, decimals, unit))
+}
+
+/// Whether the values of the next intervals of logs have these decimals and this unit.
+fn are_next_in<R: Read + Drop>(
+    logs: &[PeekableLog<'_, R>],
+    decimals: u32,
+    unit: Option<Unit>,
+) -> bool
+    ensures { result ≡ true → All (IsNextIn decimals unit) logs.now }
+{
+    for log in logs {
+        if !log.is_next_in(decimals, unit) {
+            return false;
+        }
+    }
+    true
+}
+
+/// Returns the decimals and the unit of the values of the first log that has an interval.
+fn first_scale<R: Read + Drop>(logs: &[PeekableLog<'_, R>]) -> (u32, Option<Unit>) {
+    for log in logs {
+        if log.next_start().is_some() {
+            return (log.next_decimals().unwrap_or(0), log.next_unit());
+        }
+    }
+    (0, None)
 }
 
 /// Reads up to the first interval of each log.

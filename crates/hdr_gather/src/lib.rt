@@ -16,6 +16,6 @@ mod peekable;
 mod sum;
 mod writing;
 
-pub use gathering::{gather_sorted, gather_unsorted};
+pub use gathering::{gather_sorted, gather_unsorted, have_one_scale};
 pub use peekable::PeekableLog;
 pub use sum::Counts;

@@ -1,12 +1,12 @@
 //! A log that is read interval by interval.
 
-ghost use Rattle.std.specs.Prelude.{◌≡◌, ◌<◌, ◌++◌, ◌+◌, List, None, IfOk, IfSome, IsSome, IsSomeAnd, OnOk, OnErr};
+ghost use Rattle.std.specs.Prelude.{◌≡◌, ◌↔◌, ◌<◌, ◌++◌, ◌+◌, List, None, IfOk, IfSome, IsSome, IsSomeAnd, IsTrue, OnOk, OnErr};
 ghost use Rattle.std.specs.Option.{option_map};
 ghost use Rattle.hdr_log.specs.Tags.{tag_text};
 ghost use Rattle.hdrhistogram.specs.Chosen.{view_of_interval_choice};
 ghost use Rattle.hdr_logs.specs.Stored.{Stored};
 ghost use Rattle.hdr_gather.specs.Left.{LogHolds, next_interval, next_start, UnreadHold, HasLeft};
-ghost use Rattle.hdr_gather.specs.Left.{IsKnown, IsReady, IsReadyAt, IsFrom};
+ghost use Rattle.hdr_gather.specs.Left.{IsKnown, IsReady, IsReadyAt, IsFrom, IsNextIn};
 
 use hdr_input::Unit;
 use hdr_logs::{LineBuffer, LogError, LogLine, LogReader, Note, StoredInterval};
@@ -66,6 +66,16 @@ impl<'c, R: Read + Drop> PeekableLog<'c, R> {
     /// Returns the unit of the next interval's values, if a comment has one.
     pub(crate) fn next_unit(&self) -> Option<Unit> {
         self.next.as_ref().and_then(|next| next.unit)
+    }
+
+    /// Whether the next interval's values, if there is one, have these decimals and this unit.
+    pub(crate) fn is_next_in(&self, decimals: u32, unit: Option<Unit>) -> bool
+        ensures { IsTrue result ↔ IsNextIn decimals unit self.now }
+    {
+        match &self.next {
+            Some(next) => next.decimals.unwrap_or(0) == decimals && next.unit == unit,
+            None => true,
+        }
     }
 
     /// Reads up to the first interval, unless one is held.

@@ -4,6 +4,10 @@ pub mod NextLine
 pub mod Texts
 pub mod Conversions
 pub mod Storing
+pub mod Parts
+pub mod Changed
+pub mod Multiplied
+pub mod Greatest
 pub mod TagsByFile
 pub mod Earliest
 pub mod Moving

@@ -6,6 +6,7 @@ pub mod Intervals
 pub mod FileNames
 pub mod Times
 pub mod Stored
+pub mod Scales
 pub mod Aligned
 pub mod Reading
 pub mod Sums

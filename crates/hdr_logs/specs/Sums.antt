@@ -110,6 +110,10 @@ abbrev pub PassesStored : {S : Type 0} → (S → ℕ → Plain → ℕ → S �
 PassesStored takes decimals old s new sink after =
     (i : LogInterval) × (i.tag ≡ tag_or_none (Some s.tag)) × (i.field ≡ s.field) × Passes takes decimals old i new sink after
 
+-- a stored interval is added
+abbrev pub AddsStored : Summing → Stored → Summing → Type 0
+AddsStored old s new = (i : LogInterval) × (i.tag ≡ tag_or_none (Some s.tag)) × (i.field ≡ s.field) × Adds old i new
+
 -- the histograms of intervals are added and taken, one after the other
 abbrev pub PassesAll : {S : Type 0} → (S → ℕ → Plain → ℕ → S → Type 0) → ℕ → Summing → List LogInterval → Summing → S → S → Type 0
 PassesAll takes decimals old [] new sink after = (new ≡ old) × (after ≡ sink)

@@ -30,19 +30,29 @@ pub enum LogError {
         text: String,
     },
     /// The values have other decimals than those of other intervals.
-    #[error("{place}: the values have {decimals} decimals, and others {others}; write the logs by the same --decimals")]
+    #[error("{place}: the values have {decimals} decimals, and others {others}; `hdrstat gather --unsorted` makes one log of both")]
     OtherDecimals {
         place: Place,
         decimals: u32,
         others: u32,
     },
     /// The values have another unit than those of other intervals.
-    #[error("{place}: the values are in {unit}, and others in {others}; write the logs by the same --unit")]
+    #[error("{place}: the values are in {unit}, and others in {others}; `hdrstat gather --unsorted` makes one log of both")]
     OtherUnit {
         place: Place,
         unit: UnitName,
         others: UnitName,
     },
+    /// The values have a unit, and those of other intervals have none, or the other way round.
+    #[error("{place}: the values are in {unit}, and others in {others}; write the logs by the same --unit")]
+    MissingUnit {
+        place: Place,
+        unit: UnitName,
+        others: UnitName,
+    },
+    /// A value of the interval does not fit 64 bits in the scale of others.
+    #[error("{0}: a value does not fit 64 bits in the unit and the decimals of other intervals")]
+    TooLarge(Place),
     /// The histogram of the interval is not decoded.
     #[error("{place}: {cause}")]
     Field {
@@ -159,15 +169,25 @@ impl LogError {
             | LogError::TooLong { place, .. }
             | LogError::OtherDecimals { place, .. }
             | LogError::OtherUnit { place, .. }
+            | LogError::MissingUnit { place, .. }
             | LogError::Field { place, .. }
             | LogError::Conversion { place, .. }
             | LogError::Gzip(place)
+            | LogError::TooLarge(place)
             | LogError::TooLate(place)
             | LogError::NotSorted(place)
             | LogError::NotNested(place) => Some(place.file),
             LogError::Io { file, .. } => Some(*file),
             _ => None,
         }
+    }
+
+    /// Whether the logs can be read if their values are converted to one scale.
+    pub fn is_of_scale(&self) -> bool {
+        matches!(
+            self,
+            LogError::OtherDecimals { .. } | LogError::OtherUnit { .. }
+        )
     }
 
     /// Returns the error of a file that is not read.

@@ -107,10 +107,23 @@ pub fn check_unit(place: Place, unit: Option<Unit>, others: Option<Unit>) -> Res
     if unit == others {
         return Ok(());
     }
-    Err(LogError::OtherUnit {
-        place,
-        unit: UnitName(unit),
-        others: UnitName(others),
+    let (is_missing, unit, others) = (
+        unit.is_none() || others.is_none(),
+        UnitName(unit),
+        UnitName(others),
+    );
+    Err(if is_missing {
+        LogError::MissingUnit {
+            place,
+            unit,
+            others,
+        }
+    } else {
+        LogError::OtherUnit {
+            place,
+            unit,
+            others,
+        }
     })
 }
 

@@ -1,7 +1,7 @@
 //! The chosen intervals of logs, whose histograms are not decoded yet.
 
-ghost use Rattle.std.specs.Prelude.{◌≡◌, ◌∷◌, [], List, OnOk, IfSome, map, take, drop, unwrap_or};
-ghost use Rattle.std.specs.List.{All};
+ghost use Rattle.std.specs.Prelude.{◌≡◌, ◌∷◌, [], ℕ, List, Option, OnOk, IfSome, map, take, drop, unwrap_or};
+ghost use Rattle.std.specs.List.{All, AllZip, count_by};
 ghost use Rattle.std.specs.Option.{option_map};
 ghost use Rattle.hdr_log.specs.Tags.{tag_text};
 ghost use Rattle.hdrhistogram.specs.Chosen.{view_of_interval_choice};
@@ -9,13 +9,14 @@ ghost use Rattle.hdr_logs.specs.Intervals.{LogInterval, LogHolds, view_of_log_in
 ghost use Rattle.hdr_logs.specs.FileNames.{in_file};
 ghost use Rattle.hdr_logs.specs.Stored.{Keeps, HaveSameDecimals, HaveSameUnit, decimals_of, intervals_of};
 ghost use Rattle.hdr_logs.specs.Aligned.{LieOver};
+ghost use Rattle.hdr_logs.specs.Scales.{is_coarser, IsFinest, IsIn, IsConverted};
 
 use crate::aligning::{begin_at, first_start};
 use crate::errors::LogError;
-use crate::headers::{check_decimals, check_unit};
 use crate::interval::Interval;
 use crate::note::Note;
 use crate::reader::{LineBuffer, LogLine, LogReader};
+use crate::scales::{Converter, finest_scale};
 use crate::stored::StoredInterval;
 use hdr_input::Unit;
 use hdrhistogram::serialization::interval_log::{IntervalChoice, Tag};
@@ -26,6 +27,8 @@ use std::io::Read;
 #[derive(Drop)]
 pub struct LogIntervals {
     pub list: Vec<StoredInterval>,
+    /// How many of them have other values, since they were converted to the scale of others.
+    pub converted: u64,
     notes: Vec<Note>,
 }
 
@@ -36,6 +39,7 @@ impl LogIntervals {
     {
         LogIntervals {
             list: Vec::new(alloc),
+            converted: 0,
             notes: Vec::new(alloc),
         }
     }
@@ -44,8 +48,7 @@ impl LogIntervals {
     /// name, their tags end with that.
     ///
     /// # Errors
-    /// Returns an error if the log is not read, or if an interval has other decimals or another unit
-    /// than those before it, or begins past 64 bits of milliseconds.
+    /// Returns an error if the log is not read, or if an interval begins past 64 bits of milliseconds.
     pub fn read_log<R: Read + Drop>(
         &mut self,
         alloc: Global,
@@ -54,11 +57,9 @@ impl LogIntervals {
         choice: IntervalChoice<'_>,
         file_name: Option<Tag<'_>>,
     ) -> Result<(), LogError>
-        ensures intervals { OnOk result ((all : List LogInterval)
+        ensures { OnOk result ((all : List LogInterval)
             × IfSome (R.remaining reader) (λ text. LogHolds (view_of_interval_choice choice.entry) text all)
             × Keeps self.old (map (in_file (option_map tag_text file_name.entry)) all) self.new) }
-        ensures decimals { OnOk result (HaveSameDecimals self.old → HaveSameDecimals self.new) }
-        ensures unit { OnOk result (HaveSameUnit self.old → HaveSameUnit self.new) }
     {
         let mut buffer = LineBuffer::new(alloc);
         let mut log = LogReader::new(alloc, file, reader, choice)?;
@@ -82,19 +83,33 @@ impl LogIntervals {
         interval: &Interval<'_>,
         file_name: Option<Tag<'_>>,
     ) -> Result<(), LogError>
-        ensures interval { OnOk result (Keeps self.old
+        ensures { OnOk result (Keeps self.old
             (in_file (option_map tag_text file_name.entry) (view_of_log_interval interval.now) ∷ [])
             self.new) }
-        ensures decimals { OnOk result (HaveSameDecimals self.old → HaveSameDecimals self.new) }
-        ensures unit { OnOk result (HaveSameUnit self.old → HaveSameUnit self.new) }
     {
         let interval = StoredInterval::new(alloc, interval, file_name)?;
-        let first = self.list.first().unwrap_or(&interval);
-        let others = first.decimals.unwrap_or(0);
-        let unit = first.unit;
-        check_decimals(interval.place, interval.decimals, others)?;
-        check_unit(interval.place, interval.unit, unit)?;
         self.list.push(interval)?;
+        Ok(())
+    }
+
+    /// Converts the values of all intervals to one scale: to the finest of their units, and to as
+    /// many decimals as one of them has in that unit. Of a class, the greatest value is converted.
+    /// `converted` is then the number of intervals that have other values.
+    ///
+    /// # Errors
+    /// Returns `MissingUnit` if some intervals have a unit and others have none, `TooLarge` if a value
+    /// does not fit 64 bits, `Field` if a field holds no histogram, `Write` if a count does not fit
+    /// 63 bits, or `OutOfMemory`. Some intervals may then be converted.
+    pub fn convert_to_one_scale(&mut self, alloc: Global) -> Result<(), LogError>
+        ensures scale { OnOk result ((decimals : ℕ) × (unit : Option Unit)
+            × IsFinest self.old.list.items decimals unit × All (IsIn decimals unit) self.new.list.items
+            × (self.new.converted ≡ count_by (is_coarser decimals unit) self.old.list.items)) }
+        ensures converted { OnOk result (AllZip IsConverted self.old.list.items self.new.list.items) }
+        ensures decimals { OnOk result (HaveSameDecimals self.new) }
+        ensures unit { OnOk result (HaveSameUnit self.new) }
+    {
+        let scale = finest_scale(&self.list)?;
+        self.converted = Converter::new(alloc).convert_all(&mut self.list, scale)?;
         Ok(())
     }
 

@@ -1,5 +1,5 @@
-//! Interval logs, read line by line from any reader: their chosen intervals with the times at which they begin, copies of these, and
-//! their sums.
+//! Interval logs, read line by line from any reader: their chosen intervals with the times at which they begin, copies of these, whose
+//! values can be converted to one scale, and their sums.
 //!
 //! Histograms that are compressed, or of another version, are converted. An empty tag counts as
 //! none. A last line without a line feed counts if it is a complete interval, and is otherwise left out.
@@ -20,6 +20,7 @@ mod parser;
 mod place;
 mod plain;
 mod reader;
+mod scales;
 mod stored;
 mod sums;
 

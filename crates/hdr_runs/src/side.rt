@@ -6,7 +6,9 @@ ghost use Rattle.hdr_compare.specs.Runs.{batches_of};
 
 use crate::order::Order;
 use crate::point::Point;
+use crate::report::ReportError;
 use hdr_compare::{BatchError, Measured, Position, Run, Tier, WithinBound};
+use hdr_input::distribution::MOST_DECIMALS;
 use hdrhistogram::{Histogram, Quantile};
 use std::alloc::{AllocError, Global};
 
@@ -71,7 +73,7 @@ fn total_of(batches: &[Histogram<u64>]) -> u64
 }
 
 impl Side {
-    ghost use Rattle.std.specs.Prelude.{◌≡◌, ◌≤◌, IfErr, IfOk, MatchOption};
+    ghost use Rattle.std.specs.Prelude.{◌≡◌, ◌≤◌, ◌<◌, ◌+◌, IfErr, IfOk, OnErr, OnOk, MatchOption};
     ghost use Rattle.std.specs.Option.{option_map};
     ghost use Rattle.hdr_compare.specs.Intervals.{samples_of};
     ghost use Rattle.hdr_compare.specs.Positions.{IsPositionOf};
@@ -124,6 +126,29 @@ impl Side {
         ensures { result ≡ decimals_of self.now }
     {
         self.decimals
+    }
+
+    /// Converts the values to a unit that is coarser by a power of ten, in which they have as many
+    /// more decimals.
+    ///
+    /// # Errors
+    /// Returns `TooLarge` if they would have more than 18. Nothing changes then.
+    pub fn coarsen_unit(&mut self, power: u32) -> Result<(), ReportError>
+        ensures decimals { OnOk result (decimals_of self.new ≡ decimals_of self.old + power) }
+        ensures batches { batches_of_side self.new ≡ batches_of_side self.old }
+        ensures all { samples_of_side self.new ≡ samples_of_side self.old }
+        ensures least { least_of self.new ≡ least_of self.old }
+        ensures greatest { greatest_of self.new ≡ greatest_of self.old }
+        ensures tag { self.new.tag ≡ self.old.tag }
+        ensures order { self.new.order ≡ self.old.order }
+        ensures err { OnErr result ((18 < decimals_of self.old + power) × (self.new ≡ self.old)) }
+    {
+        let decimals = self.decimals.saturating_add(power);
+        if decimals > MOST_DECIMALS {
+            return Err(ReportError::TooLarge);
+        }
+        self.decimals = decimals;
+        Ok(())
     }
 
     /// Returns a percentile and its interval, or `None` without samples. The denominator of the

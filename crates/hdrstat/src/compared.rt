@@ -108,7 +108,7 @@ fn samples_of_log(
     let mut batches = LogBatches::new(alloc, SIGFIG);
     for interval in &intervals.list {
         if interval.place.file == file {
-            sums.add_stored(alloc, interval, &mut batches)
+            sums.add_stored_into(alloc, interval, &mut batches)
                 .map_err(|cause| files.log_error(cause))?;
         }
     }

@@ -35,7 +35,8 @@ have too few samples to be tested. With --level the sentence also says which tag
 
 --tag-by-file keeps the intervals of each file apart, as `hdrstat gather` does. With --align, two
 runs are shown over one another. The page of two logs begins with what `hdrstat compare` prints of
-them, and the curves of its percentiles have bands: intervals of 95 %.
+them, if they have one unit and the same decimals, and the curves of its percentiles have bands:
+intervals of 95 %.
 
 Values are in the unit and the decimals that comments of a log have, as `hdrstat log` writes them,
 and otherwise integers of --unit. Each is shown in the longest unit in which it is one or more.
@@ -107,6 +108,10 @@ pub(crate) fn run(rt: &HostRuntime, matches: &ArgMatches<'_>) -> Result<ExitCode
     let intervals = intervals_of(files, matches)?;
     let levels = levels_of(alloc, matches, intervals.unit(), asked)?;
     let decimals = intervals.decimals().unwrap_or(0).min(MOST_DECIMALS);
+    if !levels.is_empty() && intervals.converted > 0 {
+        let why = "needs logs of one unit and of the same decimals";
+        return Err(StatError::usage(alloc, "--level", why));
+    }
     let (levels, amounts) = page_levels(alloc, &levels, decimals, asked.or(intervals.unit()))?;
     let options = PageOptions {
         title: matches.get_str("title").unwrap_or("Interval log"),
@@ -326,7 +331,8 @@ fn comparison_of(
     let are_two_runs = files.names.len() == 2
         && matches.get_flag("align")
         && matches.get_flag("tag-by-file");
-    if !are_two_runs || matches.get_flag("intervals") {
+    // (the classes of converted values are not those of their samples, so that a difference within a class might be false)
+    if !are_two_runs || matches.get_flag("intervals") || intervals.converted > 0 {
         return Ok(None);
     }
     let alloc = files.alloc();

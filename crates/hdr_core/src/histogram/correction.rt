@@ -9,7 +9,7 @@ ghost use Rattle.hdr_model.specs.CallErrors.{IsRecordable, IsRecordError};
 ghost use Rattle.hdr_model.specs.Correction.{missing, each_times, after_correct, bins_held, down_to};
 
 use super::Histogram;
-use hdr_base::{Counter, Ticks};
+use hdr_base::{Counter, Scale, Ticks};
 use hdr_model::RecordError;
 
 impl<T: Counter> Histogram<T> {
@@ -92,6 +92,7 @@ impl<T: Counter> Histogram<T> {
     }
 
     /// Records the values from `first` down to the interval, an interval apart, class by class.
+    #[inline(always)]
     pub(super) fn add_missing(&mut self, first: u64, count: u64, interval: u64, ticks: &mut Ticks)
         requires step { 0 < interval }
         requires within { first ≤ reach self.old }
@@ -109,11 +110,58 @@ impl<T: Counter> Histogram<T> {
         ensures same_bins { length self.new.counts ≡ length self.old.counts }
         ensures at_most { length self.new.counts ≤ most_bins }
     {
+        if self.scale.width(first) <= interval {
+            self.add_each(first, count, interval, ticks);
+        } else {
+            self.add_by_class(first, count, interval, ticks);
+        }
+    }
+
+    /// As `add_missing`, for values of which each is the only one in its class.
+    #[inline(always)]
+    fn add_each(&mut self, first: u64, count: u64, interval: u64, ticks: &mut Ticks)
+        requires step { 0 < interval }
+        requires alone { width_of (resolution self.old) first ≤ interval }
+        requires within { first ≤ reach self.old }
+        requires ticks_fit { ticks.old ≤ 2 ^ 63 }
+
+        // The values are recorded, with one tick for each of their classes.
+        ensures state { self.new ≡ after_records T.greatest self.old
+            (each_times count (down_to first interval)) }
+        ensures ticks { ticks.new ≡ ticks.old + bins_held self.old (down_to first interval) }
+
+        // What is unchanged.
+        ensures same_classes { resolution self.new ≡ resolution self.old }
+        ensures same_bins { length self.new.counts ≡ length self.old.counts }
+    {
+        let scale = self.scale;
+        let mut value = first;
+        while value >= interval {
+            value = self.add_alone(scale, value, count, interval, ticks);
+        }
+    }
+
+    /// As `add_missing`, for values of which several may lie in one class.
+    #[inline(never)]
+    fn add_by_class(&mut self, first: u64, count: u64, interval: u64, ticks: &mut Ticks)
+        requires step { 0 < interval }
+        requires within { first ≤ reach self.old }
+        requires ticks_fit { ticks.old ≤ 2 ^ 63 }
+
+        // The values are recorded, with one tick for each of their classes.
+        ensures state { self.new ≡ after_records T.greatest self.old
+            (each_times count (down_to first interval)) }
+        ensures ticks { ticks.new ≡ ticks.old + bins_held self.old (down_to first interval) }
+
+        // What is unchanged.
+        ensures same_classes { resolution self.new ≡ resolution self.old }
+        ensures same_bins { length self.new.counts ≡ length self.old.counts }
+    {
         let scale = self.scale;
         let mut next = first;
         while next >= interval {
             if scale.width(next) <= interval {
-                next = self.add_alone(next, count, interval, ticks);
+                next = self.add_alone(scale, next, count, interval, ticks);
             } else {
                 let start = scale.bucket_start(next).max(interval);
                 next = self.add_in_bucket(next, start, count, interval, ticks);
@@ -122,9 +170,18 @@ impl<T: Counter> Histogram<T> {
     }
 
     /// Records the first of the values `first`, `first - interval`, .. that are at least the interval.
-    /// It is the only one in its class. Returns the next one.
+    /// It is the only one in its class. Returns the next one. `scale` is that of the histogram: a loop
+    /// reads it once.
     #[inline(always)]
-    fn add_alone(&mut self, first: u64, count: u64, interval: u64, ticks: &mut Ticks) -> u64
+    fn add_alone(
+        &mut self,
+        scale: Scale,
+        first: u64,
+        count: u64,
+        interval: u64,
+        ticks: &mut Ticks,
+    ) -> u64
+        requires scale { scale ≡ resolution self.old }
         requires step { 0 < interval }
         requires some { interval ≤ first }
         requires alone { width_of (resolution self.old) first ≤ interval }
@@ -147,7 +204,9 @@ impl<T: Counter> Histogram<T> {
         ensures same_bins { length self.new.counts ≡ length self.old.counts }
         ensures same_reach { reach self.new ≡ reach self.old }
     {
-        let bin = self.scale.bin(first);
+        let bin = scale.bin(first);
+        let len = self.counts.len();
+        prove!(bin < len);
         self.add_counted(bin, 1, count, ticks);
         first - interval
     }

@@ -48,10 +48,11 @@ impl<T: Counter> Histogram<T> {
         ensures err { IfErr result (λ e. IsRecordError self.old value e
             × (self.new ≡ self.old)) }
     {
-        match self.bin_of(value) {
-            Some(bin) if self.try_add_to_bin(bin, count.as_u64()) => Ok(()),
-            _ => self.record_n_slow(value, count),
+        let bin = self.scale.bin(value);
+        if self.try_add_to_bin(bin, count.as_u64()) {
+            return Ok(());
         }
+        self.record_n_slow(value, count)
     }
 
     /// Records `value` as `record_n`, where more than a bin and the total may change, or one saturates.
@@ -147,12 +148,13 @@ impl<T: Counter> Histogram<T> {
     }
 
     /// Adds `number` to a bin and to the total, if neither saturates and the bin widens no mark.
-    /// Returns whether it did; `self` is unchanged if not.
+    /// Returns whether it did; `self` is unchanged if not. `bin` may be past the bins: it would then
+    /// widen the top mark, which is inside them.
     #[inline(always)]
     fn try_add_to_bin(&mut self, bin: usize, number: u64) -> bool
-        requires { bin < length self.old.counts }
-        ensures { MatchBool result (self.new ≡ after_add_to_bin T.greatest self.old bin number)
-            (self.new ≡ self.old) }
+        requires { bin < 2 ^ 32 }
+        ensures { MatchBool result ((bin < length self.old.counts)
+            × (self.new ≡ after_add_to_bin T.greatest self.old bin number)) (self.new ≡ self.old) }
     {
         if !self.marks.enclose(bin) {
             return false;

@@ -4,7 +4,7 @@ ghost use Rattle.std.specs.Prelude.{◌≡◌, ℕ, List, IfSome, OnOk, Some};
 ghost use Rattle.hdr_model.specs.Plain.{Plain};
 ghost use Rattle.hdr_logs.specs.Intervals.{LogInterval, LogHolds};
 ghost use Rattle.hdr_logs.specs.Stored.{decimals_of, view_of_stored};
-ghost use Rattle.hdr_logs.specs.Sums.{view_of_sums, decimals_of_sums, AreIndexed, PassesAll, PassesStored};
+ghost use Rattle.hdr_logs.specs.Sums.{view_of_sums, decimals_of_sums, AreIndexed, PassesAll, PassesStored, AddsStored};
 
 use crate::errors::LogError;
 use crate::reader::{LineBuffer, LogLine, LogReader};
@@ -68,12 +68,25 @@ impl LogSums<'_> {
         Err(LogError::TooManyLines)
     }
 
-    /// Adds a copy of an interval, whether it is chosen or not, and passes its histogram to `sink`.
+    /// Adds a copy of an interval, whether it is chosen or not.
     ///
     /// # Errors
     /// Returns an error if its histogram is invalid, or if its values have other decimals or another
-    /// unit than those before, and the errors of `sink`.
-    pub fn add_stored<S: HistogramSink>(
+    /// unit than those before.
+    pub fn add_stored(&mut self, alloc: Global, stored: &StoredInterval) -> Result<(), LogError>
+        ensures sums { OnOk result (AreIndexed self.old → AddsStored
+            (view_of_sums self.old) (view_of_stored stored.now) (view_of_sums self.new)) }
+        ensures indices { OnOk result (AreIndexed self.old → AreIndexed self.new) }
+    {
+        self.add(alloc, &stored.interval())?;
+        Ok(())
+    }
+
+    /// As `add_stored`, and passes the histogram of the interval to `sink`.
+    ///
+    /// # Errors
+    /// As `add_stored`, and the errors of `sink`.
+    pub fn add_stored_into<S: HistogramSink>(
         &mut self,
         alloc: Global,
         stored: &StoredInterval,

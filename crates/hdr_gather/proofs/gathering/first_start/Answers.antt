@@ -1,7 +1,7 @@
 use Rattle.std.proofs.Common.{◌≡◌, ◌≤◌, ◌↔◌, IfSome, take, take_all, subst, arith}
 use Rattle.std.specs.List.{All}
 use Rattle.hdr_gather.specs.Left.{IsFrom}
-use Rattle.hdr_gather.proofs.Readers.{all_so_far}
+use Rattle.hdr_logs.proofs.Parts.{all_so_far}
 use Rattle.hdr_gather.proofs.gathering.first_start.Goals as goal
 
 pub loop-log-preserved : goal.loop-log-preserved

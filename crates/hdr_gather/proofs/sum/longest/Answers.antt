@@ -5,7 +5,7 @@ use Rattle.hdr_logs.specs.Stored.{Stored, view_of_stored}
 use Rattle.hdr_logs.specs.declared.stored.StoredInterval.{StoredInterval}
 use Rattle.hdr_gather.specs.Lines.{IsLongest}
 use Rattle.hdr_gather.proofs.Longest.{longest_of_one, longest_next}
-use Rattle.hdr_gather.proofs.Parts.{map_twice}
+use Rattle.hdr_logs.proofs.Parts.{map_twice}
 use Rattle.hdr_gather.proofs.sum.longest.Goals as goal
 
 abbrev duration_of : Stored → ℕ

@@ -6,7 +6,8 @@ use Rattle.hdr_logs.specs.Stored.{Stored, view_of_stored}
 use Rattle.hdr_logs.specs.declared.stored.StoredInterval.{StoredInterval}
 use Rattle.hdr_gather.specs.Counts.{CountsMore}
 use Rattle.hdr_gather.specs.Keys.{all_of}
-use Rattle.hdr_gather.proofs.Parts.{map_twice, on_ok}
+use Rattle.hdr_logs.proofs.Parts.{map_twice}
+use Rattle.hdr_gather.proofs.Parts.{on_ok}
 use Rattle.hdr_gather.proofs.writing.write_intervals.Goals as goal
 
 abbrev behind : Bor StoredInterval → StoredInterval

@@ -1,6 +1,6 @@
 use Rattle.std.proofs.Common.{arith}
 use Rattle.hdr_runs.specs.LogCounts.{AddsClasses}
-use Rattle.hdr_runs.proofs.Each.{changed-step, changed-all}
+use Rattle.hdr_logs.proofs.Changed.{changed-step, changed-all}
 use Rattle.hdr_runs.proofs.log_counts.add_to_each.Goals as goal
 
 pub loop-counts-preserved : goal.loop-counts-preserved

@@ -1,7 +1,7 @@
 use Rattle.std.proofs.Common.{◌≡◌, ◌∷◌, List, ℕ, map, take, take_all, refl, ap, subst, ◌∙◌, arith, Bor}
 use Rattle.hdr_logs.specs.Stored.{Stored, view_of_stored}
 use Rattle.hdr_logs.specs.declared.stored.StoredInterval.{StoredInterval}
-use Rattle.hdr_gather.proofs.Parts.{map_twice}
+use Rattle.hdr_logs.proofs.Parts.{map_twice}
 use Rattle.hdr_gather.proofs.Summing.{SumsSoFar, sum_of_one, sum_of_next, sum_of_all}
 use Rattle.hdr_gather.proofs.sum.Summing.sum_of.Goals as goal
 

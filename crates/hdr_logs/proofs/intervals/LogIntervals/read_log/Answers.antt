@@ -14,8 +14,6 @@ use Rattle.hdr_logs.proofs.intervals.LogIntervals.read_log.Goals as goal
 pub loop-init : goal.loop-init
 loop-init g c = record {
   known = λ known. known;
-  decimals = λ same. same;
-  unit = λ same. same;
   kept = ([], sym (append-nil (intervals_of c.args.self.now)), λ rest left. left);
 }
 
@@ -29,27 +27,23 @@ loop-preserved g c =
       | in-Chosen+in_ok-push-in-Chosen w ↦
           let i = view_of_log_interval w.in-Chosen.interval in
           let pushed = w.in_ok-push-in-Chosen.ensures in
-          let more = keeps_more (in_file (option_map tag_text c.args.file_name)) (intervals_of c.args.self.now) (intervals_of c.loop.self) (intervals_of w.push.new.self) before.0 i before.1 pushed.interval in
+          let more = keeps_more (in_file (option_map tag_text c.args.file_name)) (intervals_of c.args.self.now) (intervals_of c.loop.self) (intervals_of w.push.new.self) before.0 i before.1 pushed in
           let left : (rest : List LogInterval) → UnreadHold remaining c.next_line.new.self rest → UnreadHold remaining begun ((before.0 ++ i ∷ []) ++ rest) = λ rest h.
           let here = subst (λ l. UnreadHold remaining c.loop.log (intervals_of_line l ++ rest)) w.in-Chosen.is (line.intervals rest h) in
           subst (UnreadHold remaining begun) (sym (append_assoc before.0 (i ∷ []) rest)) (before.2 (i ∷ rest) here) in
           rw w.self-is (record {
             known = λ known. line.known (c.loop.invariant.known known);
-            decimals = λ same. pushed.decimals (c.loop.invariant.decimals same);
-            unit = λ same. pushed.unit (c.loop.invariant.unit same);
             kept = (before.0 ++ i ∷ [], more, left);
           })
       | in-Other w ↦
           rw w.self-is (record {
             known = λ known. line.known (c.loop.invariant.known known);
-            decimals = c.loop.invariant.decimals;
-            unit = c.loop.invariant.unit;
             kept = (before.0, before.1, λ rest h. before.2 rest (subst (λ l. UnreadHold remaining c.loop.log (intervals_of_line l ++ rest)) w.in-Other.is (line.intervals rest h)));
           })
     ]
 
-pub returns-in-End-clause-intervals : goal.returns-in-End-clause-intervals
-returns-in-End-clause-intervals g c =
+pub returns-in-End : goal.returns-in-End
+returns-in-End g c =
     let remaining = g.R.Read.remaining in
     let before = c.loop.invariant.kept in
     let line = c.in_ok-interval.ensures in

@@ -1,7 +1,7 @@
 use Rattle.std.proofs.Common.{◌≡◌, ◌++◌, length, take, drop, true, sym, subst, ◌∙◌, arith}
 use Rattle.std.specs.List.{AllZip}
 use Rattle.hdr_runs.specs.LogCounts.{AddsClasses}
-use Rattle.hdr_runs.proofs.Each.{refilled}
+use Rattle.hdr_logs.proofs.Changed.{refilled}
 use Rattle.hdr_runs.proofs.LogTags.{counted-more}
 use Rattle.hdr_runs.proofs.log_counts.TagCounts.count.Goals as goal
 

@@ -2,7 +2,7 @@ use Rattle.std.proofs.Common.{◌≡◌, ◌+◌, ◌≤◌, length}
 use Rattle.hdr_model.specs.Plain.{resolution, reach}
 use Rattle.hdr_model.specs.Recording.{after_records}
 use Rattle.hdr_model.specs.Correction.{each_times, classes_held, down_to}
-use Rattle.hdr_core.proofs.histogram.Histogram.add_missing.Given as goal
+use Rattle.hdr_core.proofs.histogram.Histogram.add_by_class.Given as goal
 
 abbrev pub invariant-loop-next : goal.invariant-loop-next
 invariant-loop-next g l = record {
