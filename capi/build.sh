@@ -10,7 +10,7 @@ if ! command -v rt >/dev/null 2>&1; then
     echo "capi/build.sh: no command 'rt': put the folder bin of the Rattle kit on the PATH" >&2
     exit 127
 fi
-kit=$(dirname "$(readlink -f "$(command -v rt)")")/..
+kit=$(dirname "$(rt doc | tail -1)")
 mkdir -p "$out"
 
 # Whether the archive is newer than all files that the crate is built from.
