@@ -65,7 +65,10 @@ impl StatError {
 
     /// Whether it is of logs that can be read if their values are converted to one scale.
     pub(crate) fn is_of_scale(&self) -> bool {
-        matches!(self, StatError::Logs { cause, .. } if cause.is_of_scale())
+        match self {
+            StatError::Logs { cause, .. } => cause.is_of_scale(),
+            _ => matches!(self, StatError::OtherScale),
+        }
     }
 
     /// Returns the error of an argument: the argument in quotes, and what follows.

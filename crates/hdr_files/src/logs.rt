@@ -53,9 +53,12 @@ fn add_logs(files: Files<'_, '_, '_>, sums: &mut LogSums<'_>) -> Result<(), Stat
 }
 
 /// Whether logs were not added since they have several scales, and can be read again.
-fn can_be_converted(files: Files<'_, '_, '_>, added: &Result<(), StatError>) -> bool {
-    match added {
-        Ok(()) => false,
+pub(crate) fn can_be_converted<T: Drop>(
+    files: Files<'_, '_, '_>,
+    read: &Result<T, StatError>,
+) -> bool {
+    match read {
+        Ok(_) => false,
         Err(error) => error.is_of_scale() && files.can_repeat_all(),
     }
 }
@@ -125,7 +128,26 @@ pub fn read_intervals(
 ) -> Result<LogIntervals, StatError> {
     let alloc = files.alloc();
     let mut intervals = LogIntervals::new(alloc);
-    let read = files.read_each(|index, input| {
+    let read = read_stored(files, choice, file_names, is_aligned, &mut intervals);
+    files.print_notes(intervals.notes());
+    read?;
+    intervals
+        .convert_to_one_scale(alloc)
+        .map_err(|cause| files.log_error(cause))?;
+    print_converted(files.rt, &intervals);
+    Ok(intervals)
+}
+
+/// Adds the chosen intervals of logs, with their values as they are.
+pub(crate) fn read_stored(
+    files: Files<'_, '_, '_>,
+    choice: IntervalChoice<'_>,
+    file_names: &FileNames,
+    is_aligned: bool,
+    intervals: &mut LogIntervals,
+) -> Result<(), StatError> {
+    let alloc = files.alloc();
+    files.read_each(|index, input| {
         let before = intervals.list.len();
         intervals
             .read_log(alloc, index, input, choice, file_names.name(index))
@@ -136,14 +158,7 @@ pub fn read_intervals(
                 .map_err(|cause| files.log_error(cause))?;
         }
         Ok(())
-    });
-    files.print_notes(intervals.notes());
-    read?;
-    intervals
-        .convert_to_one_scale(alloc)
-        .map_err(|cause| files.log_error(cause))?;
-    print_converted(files.rt, &intervals);
-    Ok(intervals)
+    })
 }
 
 /// Prints on standard error how many intervals are converted, if any are.

@@ -2,16 +2,14 @@
 
 use crate::errors::StatError;
 use crate::files::{Files, or_standard_input};
-use crate::logs::print_coarser;
+use crate::log_runs::{TagSamples, read_log_run};
 use crate::numbers::{Form, require_most_lines, tag_of_group};
 use crate::output::print_error_line;
 use crate::reading::Reading;
 use crate::surveyed::NumberFiles;
 use hdr_input::groups::{GroupMaker, GroupParts, Groups};
 use hdr_input::{Recording, Unit};
-use hdr_logs::{LogSums, TagSum};
-use hdr_runs::{BatchRecording, BatchTally, LogBatches, Order, Samples, Side};
-use hdrhistogram::serialization::interval_log::IntervalChoice;
+use hdr_runs::{BatchRecording, BatchTally, Order, Samples, Side};
 use std::alloc::Global;
 
 /// A run: its samples by tag, and the unit that logs have of their values.
@@ -110,7 +108,7 @@ pub const FEWEST_RUNS: usize = 4;
 
 /// Returns the sides of tags. Of several files, a tag that has samples in fewer than four is left
 /// out, and a line on standard error says so.
-fn sides_of(files: Files<'_, '_, '_>, tags: Vec<TagSamples>) -> Result<Vec<Side>, StatError> {
+pub(crate) fn sides_of(files: Files<'_, '_, '_>, tags: Vec<TagSamples>) -> Result<Vec<Side>, StatError> {
     let alloc = files.alloc();
     let has_one_file = files.names.len() <= 1;
     let mut sides = Vec::new(alloc);
@@ -222,7 +220,7 @@ impl NumberRun {
 }
 
 /// Whether two tags are the same.
-fn are_equal(one: &Option<String>, other: &Option<String>) -> bool {
+pub(crate) fn are_equal(one: &Option<String>, other: &Option<String>) -> bool {
     match (one, other) {
         (Some(one), Some(other)) => one.as_str() == other.as_str(),
         (None, None) => true,
@@ -258,122 +256,4 @@ fn samples_of(
         return Ok(None);
     }
     Ok(Some(samples))
-}
-
-/// The samples of a tag of logs.
-#[derive(Drop)]
-pub struct TagSamples {
-    pub tag: Option<String>,
-    pub samples: Samples,
-}
-
-/// Returns the chosen intervals of the logs of a run, by tag.
-fn read_log_run(
-    files: Files<'_, '_, '_>,
-    sigfig: u8,
-    choice: IntervalChoice<'_>,
-    is_by_tag: bool,
-) -> Result<RunSides, StatError> {
-    let alloc = files.alloc();
-    let has_one_file = files.names.len() <= 1;
-    let mut tags = Vec::new(alloc);
-    let mut log_unit = LogUnit { unit: None };
-    for (index, name) in or_standard_input(files.names).iter().enumerate() {
-        let mut sums = LogSums::new(alloc, choice, sigfig, is_by_tag);
-        let mut batches = LogBatches::new(alloc, sigfig);
-        let input = files.open(*name)?;
-        let read = sums
-            .read_log_into(alloc, index, input, &mut batches)
-            .map_err(|cause| files.log_error(cause));
-        files.print_notes(sums.notes());
-        read?;
-        print_coarser(files.rt, &sums, sigfig);
-        log_unit.add(sums.unit())?;
-        add_sums(alloc, &mut tags, sums, batches, has_one_file)?;
-    }
-    Ok(RunSides {
-        sides: sides_of(files, tags)?,
-        unit: log_unit.unit,
-    })
-}
-
-/// Adds the sums of a log to the samples of its run: its intervals in batches if the run has one log,
-/// and otherwise as one batch.
-pub fn add_sums(
-    alloc: Global,
-    tags: &mut Vec<TagSamples>,
-    sums: LogSums<'_>,
-    batches: LogBatches,
-    has_one_file: bool,
-) -> Result<(), StatError> {
-    let decimals = sums.decimals();
-    for (sum, batching) in sums.sums.into_iter().zip(batches.into_sums()) {
-        let TagSum { tag, histogram } = sum;
-        if histogram.is_empty() {
-            continue;
-        }
-        if has_one_file {
-            let samples = Samples::of_intervals(&histogram, batching, decimals)?;
-            tags.push(TagSamples { tag, samples })?;
-            continue;
-        }
-        let samples = samples_of_tag(alloc, tags, tag, decimals)?;
-        let (min, max) = (histogram.min(), histogram.max());
-        samples.add_run(histogram, min, max)?;
-    }
-    Ok(())
-}
-
-/// Returns the samples of a tag, which are added if they are new.
-///
-/// # Errors
-/// Returns `OtherScale` if they have other decimals.
-fn samples_of_tag<'a>(
-    alloc: Global,
-    tags: &'a mut Vec<TagSamples>,
-    tag: Option<String>,
-    decimals: u32,
-) -> Result<&'a mut Samples, StatError> {
-    let index = match tags.iter().position(|other| are_equal(&other.tag, &tag)) {
-        Some(index) => index,
-        None => {
-            let index = tags.len();
-            let samples = Samples {
-                batches: Vec::new(alloc),
-                min: u64::MAX,
-                max: 0,
-                decimals,
-                order: Order::OfTime,
-            };
-            tags.push(TagSamples { tag, samples })?;
-            index
-        }
-    };
-    match tags.get_mut(index) {
-        Some(part) if part.samples.decimals == decimals => Ok(&mut part.samples),
-        _ => Err(StatError::OtherScale),
-    }
-}
-
-/// The unit that logs have of their values.
-#[derive(Clone, Copy)]
-struct LogUnit {
-    unit: Option<Unit>,
-}
-
-impl LogUnit {
-    /// Adds the unit of a log, if one is known.
-    ///
-    /// # Errors
-    /// Returns `OtherScale` if another one is known.
-    fn add(&mut self, unit: Option<Unit>) -> Result<(), StatError> {
-        match (self.unit, unit) {
-            (Some(one), Some(other)) if one != other => Err(StatError::OtherScale),
-            (None, unit) => {
-                self.unit = unit;
-                Ok(())
-            }
-            _ => Ok(()),
-        }
-    }
 }

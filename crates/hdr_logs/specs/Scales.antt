@@ -44,6 +44,10 @@ IsAsFine decimals unit s = power_of s ≤ decimals + exponent_of unit
 abbrev pub is_coarser : ℕ → Option Unit → StoredInterval → Bool
 is_coarser decimals unit s = nat_lt (power_of s) (decimals + exponent_of unit)
 
+-- by which factor the values of an interval are multiplied in a scale
+abbrev pub IsFactor : ℕ → Option Unit → StoredInterval → ℕ → Type 0
+IsFactor decimals unit s factor = factor ≡ 10 ^ (decimals + exponent_of unit - power_of s)
+
 -- a class, each of its samples the greatest value of it times a factor
 abbrev pub top_times : Resolution → ℕ → Times → Times
 top_times g factor t = record { value = factor * top_of g t.value; times = t.times }

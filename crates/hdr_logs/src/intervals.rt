@@ -1,6 +1,6 @@
 //! The chosen intervals of logs, whose histograms are not decoded yet.
 
-ghost use Rattle.std.specs.Prelude.{◌≡◌, ◌∷◌, [], ℕ, List, Option, OnOk, IfSome, map, take, drop, unwrap_or};
+ghost use Rattle.std.specs.Prelude.{◌≡◌, ◌∷◌, [], ℕ, List, Option, OnOk, IfOk, IfSome, map, take, drop, unwrap_or};
 ghost use Rattle.std.specs.List.{All, AllZip, count_by};
 ghost use Rattle.std.specs.Option.{option_map};
 ghost use Rattle.hdr_log.specs.Tags.{tag_text};
@@ -9,7 +9,7 @@ ghost use Rattle.hdr_logs.specs.Intervals.{LogInterval, LogHolds, view_of_log_in
 ghost use Rattle.hdr_logs.specs.FileNames.{in_file};
 ghost use Rattle.hdr_logs.specs.Stored.{Keeps, HaveSameDecimals, HaveSameUnit, decimals_of, intervals_of};
 ghost use Rattle.hdr_logs.specs.Aligned.{LieOver};
-ghost use Rattle.hdr_logs.specs.Scales.{is_coarser, IsFinest, IsIn, IsConverted};
+ghost use Rattle.hdr_logs.specs.Scales.{is_coarser, IsFactor, IsFinest, IsIn, IsConverted};
 
 use crate::aligning::{begin_at, first_start};
 use crate::errors::LogError;
@@ -111,6 +111,21 @@ impl LogIntervals {
         let scale = finest_scale(&self.list)?;
         self.converted = Converter::new(alloc).convert_all(&mut self.list, scale)?;
         Ok(())
+    }
+
+    /// Returns by which factors `convert_to_one_scale` would multiply the values of the intervals, in
+    /// order.
+    ///
+    /// # Errors
+    /// Returns `MissingUnit` if some intervals have a unit and others have none, `TooLarge` if a factor
+    /// does not fit 64 bits, or `OutOfMemory`.
+    pub fn factors(&self, alloc: Global) -> Result<Vec<u64>, LogError>
+        ensures { IfOk result (λ factors. (decimals : ℕ) × (unit : Option Unit)
+            × IsFinest self.now.list.items decimals unit
+            × AllZip (IsFactor decimals unit) self.now.list.items factors.items) }
+    {
+        let scale = finest_scale(&self.list)?;
+        scale.factors(alloc, &self.list)
     }
 
     /// Moves the intervals from this index on by the same time, so that the first of them begins

@@ -8,7 +8,7 @@ ghost use Rattle.hdr_model.specs.Recording.{after_records};
 ghost use Rattle.hdrhistogram.specs.ClassesRead.{times_of};
 ghost use Rattle.hdrhistogram.specs.V2.{IsV2};
 ghost use Rattle.hdr_logs.specs.Stored.{view_of_stored, decimals_of};
-ghost use Rattle.hdr_logs.specs.Scales.{exponent_of, power_of, top_times, IsGreatest, IsFinest};
+ghost use Rattle.hdr_logs.specs.Scales.{exponent_of, power_of, top_times, IsFactor, IsGreatest, IsFinest};
 ghost use Rattle.hdr_logs.specs.Scales.{is_coarser, IsAsFine, IsIn, IsConverted, HoldsMultiplied};
 
 use crate::errors::LogError;
@@ -132,6 +132,40 @@ fn decimals_in(interval: &StoredInterval, exponent: u32) -> u32
 }
 
 impl ValueScale {
+    /// Returns by which factors the values of intervals are multiplied in this scale, in order.
+    ///
+    /// # Errors
+    /// As `factor`, and `OutOfMemory`.
+    pub(crate) fn factors(
+        self,
+        alloc: Global,
+        intervals: &[StoredInterval],
+    ) -> Result<Vec<u64>, LogError>
+        requires { All (IsAsFine self.decimals self.unit) intervals.now }
+        ensures { IfOk result (λ factors. AllZip (IsFactor self.decimals self.unit) intervals.now factors.items) }
+    {
+        let mut factors = Vec::new(alloc);
+        for interval in intervals {
+            let factor = self.factor(interval)?;
+            factors.push(factor)?;
+        }
+        Ok(factors)
+    }
+
+    /// Returns by which factor the values of an interval are multiplied in this scale.
+    ///
+    /// # Errors
+    /// Returns `TooLarge` if the factor does not fit 64 bits.
+    fn factor(self, interval: &StoredInterval) -> Result<u64, LogError>
+        requires { IsAsFine self.decimals self.unit interval.now }
+        ensures { IfOk result (IsFactor self.decimals self.unit interval.now) }
+    {
+        match power_of_ten(self.more_decimals(interval)) {
+            Some(factor) => Ok(factor),
+            None => Err(LogError::TooLarge(interval.place)),
+        }
+    }
+
     /// Returns how many decimals values have more in this scale, in one unit, than those of an
     /// interval.
     fn more_decimals(self, interval: &StoredInterval) -> u64

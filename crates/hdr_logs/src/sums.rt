@@ -175,8 +175,8 @@ impl<'a> LogSums<'a> {
             self.unit = interval.unit;
         }
         let others = *self.decimals.get_or_insert(decimals);
-        check_decimals(interval.place, interval.decimals, others)?;
-        check_unit(interval.place, interval.unit, self.unit)
+        check_unit(interval.place, interval.unit, self.unit)?;
+        check_decimals(interval.place, interval.decimals, others)
     }
 
     /// Returns the index of the sum of a tag, which is added if it is new.

@@ -11,7 +11,7 @@ use Rattle.hdr_logs.specs.Sums.{Summing, PassesAll}
 use Rattle.hdr_summary.specs.Classes.{Known, known_by}
 use Rattle.hdr_summary.specs.declared.levels.Level.{Level}
 use Rattle.hdr_runs.specs.declared.log_counts.LogCounts.{LogCounts}
-use Rattle.hdr_runs.specs.LogCounts.{FitsBatches, HasCountedAt, InBatchesAt, ParsesLevels, TakesHistogram, asked_of, levels_of, tags_of, with_samples, with_values}
+use Rattle.hdr_runs.specs.LogCounts.{FitsBatches, HasCountedAt, InBatchesAt, IsOfUnits, ParsesLevels, TakesHistogram, asked_of, levels_of, tags_of, with_samples, with_values}
 use Rattle.hdr_runs.specs.CountedLogs.{Taken, AreTaken, CountsEach, JoinsEach, StandForEach, samples_at, values_at}
 
 -- histograms are taken, one after the other, whose values have these decimals
@@ -56,6 +56,10 @@ grouped : {X : Type 0} (b : Bool) (L M rest : List X) → (if b then L ++ M else
 grouped true L M rest = append_assoc L M rest
 grouped false L M rest = refl
 
+-- a histogram whose values are as they were
+as-it-is : (h : Plain) (S : List ℕ) → StandsFor h S → IsOfUnits 1 h S
+as-it-is h S stands = record { some = omega arith; stands = stands; fit = λ other. absurd (other refl) }
+
 -- each tag has counted what was taken
 pub counts-each : (d : ℕ) (taken : List Taken) (old new : LogCounts) → TakesAll d old taken new → CountsEach old d taken new
 counts-each d [] old new takes k L SS few stand at =
@@ -66,28 +70,28 @@ counts-each d (t ∷ taken) old new takes k L (S ∷ SS) few stand at =
     let mid = takes.0 in
     let stay : levels_of new ≡ levels_of mid = levels-stay d taken mid new (fixed-after old mid takes.1.levels) takes.2 in
     let before : HasCountedAt (levels_of mid) d (tags_of old) k L = subst (λ l. HasCountedAt l d (tags_of old) k L) stay at in
-    let one : HasCountedAt (levels_of mid) d (tags_of mid) k (with_samples k t.index t.histogram S L) =
-    takes.1.samples k d L S few (λ fresh. refl) stand.0 before in
-    let more = counts-each d taken mid new takes.2 k (with_samples k t.index t.histogram S L) SS few stand.1 (subst (λ l. HasCountedAt l d (tags_of mid) k (with_samples k t.index t.histogram S L)) (sym stay) one) in
-    subst (HasCountedAt (levels_of new) d (tags_of new) k) (grouped (k == t.index) L (known_by (resolution t.histogram) S) (samples_at k taken SS)) more
+    let one : HasCountedAt (levels_of mid) d (tags_of mid) k (with_samples k t.index 1 t.histogram S L) =
+    takes.1.samples k d L S few (λ fresh. refl) (as-it-is t.histogram S stand.0) before in
+    let more = counts-each d taken mid new takes.2 k (with_samples k t.index 1 t.histogram S L) SS few stand.1 (subst (λ l. HasCountedAt l d (tags_of mid) k (with_samples k t.index 1 t.histogram S L)) (sym stay) one) in
+    subst (HasCountedAt (levels_of new) d (tags_of new) k) (grouped (k == t.index) L (known_by 1 (resolution t.histogram) S) (samples_at k taken SS)) more
 
-values-known : (g : Resolution) (S : List ℕ) → map (λ x. x.value) (known_by g S) ≡ S
+values-known : (g : Resolution) (S : List ℕ) → map (λ x. x.value) (known_by 1 g S) ≡ S
 values-known g [] = refl
 values-known g (s ∷ S) = ap (λ l. s ∷ l) (values-known g S)
 
 abbrev values : List Known → List ℕ
 values L = map (λ x. x.value) L
 
-values-if : (b : Bool) (g : Resolution) (S : List ℕ) → values (if b then known_by g S else []) ≡ (if b then S else [])
+values-if : (b : Bool) (g : Resolution) (S : List ℕ) → values (if b then known_by 1 g S else []) ≡ (if b then S else [])
 values-if true g S = values-known g S
 values-if false g S = refl
 
 -- values of one tag and then those of further histograms
-values-grouped : (b : Bool) (g : Resolution) (S T : List ℕ) (rest : List Known) → (if b then S ++ T else S) ++ values rest ≡ S ++ values ((if b then known_by g T else []) ++ rest)
+values-grouped : (b : Bool) (g : Resolution) (S T : List ℕ) (rest : List Known) → (if b then S ++ T else S) ++ values rest ≡ S ++ values ((if b then known_by 1 g T else []) ++ rest)
 values-grouped b g S T rest =
     grouped b S T (values rest)
     ∙ ap (λ l. S ++ (l ++ values rest)) (sym (values-if b g T))
-    ∙ ap (λ l. S ++ l) (sym (map-append (λ x. x.value) (if b then known_by g T else []) rest))
+    ∙ ap (λ l. S ++ l) (sym (map-append (λ x. x.value) (if b then known_by 1 g T else []) rest))
 
 -- the batches of each tag have what was taken
 pub joins-each : (d : ℕ) (taken : List Taken) (old new : LogCounts) → TakesAll d old taken new → JoinsEach old taken new

@@ -10,15 +10,18 @@ use Rattle.hdr_summary.specs.Means.{IsSumOf}
 use Rattle.hdr_summary.specs.declared.levels.Level.{Level}
 use Rattle.hdr_runs.specs.declared.log_counts.LogCounts.{LogCounts}
 use Rattle.hdr_runs.specs.declared.log_counts.TagCounts.{TagCounts}
-use Rattle.hdr_runs.specs.LogCounts.{HasCounted, HasCountedAt, AddsClasses, AddsTags, Asked, CountsAt, FitsBatches, JoinsAt, InBatches, InBatchesAt, ParsesLevels, TakesHistogram, has_mean, asked_of, batches_of_tag, levels_of, tags_of, with_samples, with_values}
-use Rattle.hdr_runs.proofs.Each.{zip-map}
+use Rattle.hdr_runs.specs.LogCounts.{HasCounted, HasCountedAt, IsOfUnits, AddsClasses, AddsTags, Asked, CountsAt, FitsBatches, JoinsAt, InBatches, InBatchesAt, ParsesLevels, TakesConverted, has_mean, asked_of, batches_of_tag, levels_of, tags_of, with_samples, with_values}
+use Rattle.hdr_logs.proofs.Zips.{zip-map}
 
 -- the samples of a histogram are counted in a tag
-pub counted-more : (levels : List Level) (decimals : ℕ) (L : List Known) (S : List ℕ) (h : Plain) (old new : TagCounts) → HasCounted levels decimals L old → StandsFor h S
-    → AllZip (AddsClasses h) old.counts.items new.counts.items → (has_mean levels ≡ true → IsSumOf new.sum (L ++ known_by (resolution h) S))
-    → HasCounted levels decimals (L ++ known_by (resolution h) S) new
-counted-more levels decimals L S h old new counted stands each sum = record {
-  at_levels = zip-map (λ level counts. HasClasses counts (bound_of level.side level.number) decimals L) (λ level counts. HasClasses counts (bound_of level.side level.number) decimals (L ++ known_by (resolution h) S)) (AddsClasses h) levels old.counts.items new.counts.items (λ level x y has adds. adds (bound_of level.side level.number) decimals L S has stands) counted.at_levels each;
+pub counted-more : (levels : List Level) (decimals : ℕ) (L : List Known) (S : List ℕ) (f : ℕ) (h : Plain) (old new : TagCounts) → HasCounted levels decimals L old → IsOfUnits f h S
+    → AllZip (AddsClasses f h) old.counts.items new.counts.items → (has_mean levels ≡ true → IsSumOf new.sum (L ++ known_by f (resolution h) S))
+    → HasCounted levels decimals (L ++ known_by f (resolution h) S) new
+counted-more levels decimals L S f h old new counted units each sum = record {
+  at_levels =
+      zip-map (λ level counts. HasClasses counts (bound_of level.side level.number) decimals L)
+      (λ level counts. HasClasses counts (bound_of level.side level.number) decimals (L ++ known_by f (resolution h) S)) (AddsClasses f h) levels old.counts.items new.counts.items
+      (λ level x y has adds. adds (bound_of level.side level.number) decimals L S units.some has units.stands units.fit) counted.at_levels each;
   in_sum = sum;
 }
 
@@ -91,12 +94,12 @@ batches-at asked (tag ∷ tags) added zero S all at = at
 batches-at asked (tag ∷ tags) added (suc k) S all at = batches-at asked tags added k S all at
 
 -- levels are known, tags without samples are added, and a histogram is counted in one tag
-pub takes-histogram : (old known mid new : LogCounts) (index count : ℕ) (h : Plain) (decimals : ℕ) → ParsesLevels old known → tags_of known ≡ tags_of old → AddsTags decimals known mid
+pub takes-converted : (old known mid new : LogCounts) (index count factor : ℕ) (own h : Plain) (decimals : ℕ) → ParsesLevels old known → tags_of known ≡ tags_of old → AddsTags decimals known mid
     → length (tags_of mid) ≡ max (length (tags_of known)) count → count ≡ min (index + 1) (2 ^ 64 - 1) → index < 2 ^ 64
     → levels_of new ≡ levels_of mid → asked_of new ≡ asked_of mid → length (tags_of new) ≡ length (tags_of mid) → index < length (tags_of new)
-    → CountsAt (levels_of mid) h index (tags_of mid) (tags_of new) → JoinsAt (asked_of mid) h index (tags_of mid) (tags_of new)
-    → TakesHistogram old index h decimals new
-takes-histogram old known mid new index count h decimals parses same adds many is fits levels asked long inside more join =
+    → CountsAt (levels_of mid) factor own index (tags_of mid) (tags_of new) → JoinsAt (asked_of mid) h index (tags_of mid) (tags_of new)
+    → TakesConverted old index factor own h decimals new
+takes-converted old known mid new index count factor own h decimals parses same adds many is fits levels asked long inside more join =
     let all : levels_of new ≡ levels_of known = levels ∙ adds.levels in
     let before : asked_of mid ≡ asked_of old = adds.asked ∙ parses.asked in
     record {
@@ -106,11 +109,11 @@ takes-histogram old known mid new index count h decimals parses same adds many i
         parsed = λ none. ap (map (λ level. level.text.now)) all ∙ parses.parsed none;
       };
       tags = omega (arith, many, is, fits, long, inside, ap length same);
-      samples = λ k d L S few fresh stands at.
+      samples = λ k d L S few fresh units at.
           let before : HasCountedAt (levels_of known) d (tags_of known) k L = subst (λ l. HasCountedAt l d (tags_of known) k L) all (subst (λ l. HasCountedAt (levels_of new) d l k L) (sym same) at) in
           let added : HasCountedAt (levels_of known) d (tags_of known ++ adds.added) k L = added-at (levels_of known) d decimals (tags_of known) adds.added k L adds.none few (λ past. fresh (omega (arith, past, ap length same))) before in
           let here : HasCountedAt (levels_of mid) d (tags_of mid) k L = subst (λ l. HasCountedAt l d (tags_of mid) k L) (sym adds.levels) (subst (λ l. HasCountedAt (levels_of known) d l k L) (sym adds.tags) added) in
-          subst (λ l. HasCountedAt l d (tags_of new) k (with_samples k index h S L)) (sym levels) (more k d L S stands here);
+          subst (λ l. HasCountedAt l d (tags_of new) k (with_samples k index factor own S L)) (sym levels) (more k d L S units here);
       batches = λ k S T stands fit few at.
           let known-at : InBatchesAt (asked_of old) (tags_of known) k S = subst (λ l. InBatchesAt (asked_of old) l k S) (sym same) at in
           let news : All (is-new (asked_of old)) adds.added = subst (λ a. All (is-new a) adds.added) parses.asked adds.batches in

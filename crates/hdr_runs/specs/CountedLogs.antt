@@ -29,7 +29,7 @@ StandForEach taken SS = AllZip (λ t S. StandsFor t.histogram S) taken SS
 abbrev pub samples_at : ℕ → List Taken → List (List ℕ) → List Known
 samples_at k [] SS = []
 samples_at k (t ∷ taken) [] = []
-samples_at k (t ∷ taken) (S ∷ SS) = (if k == t.index then known_by (resolution t.histogram) S else []) ++ samples_at k taken SS
+samples_at k (t ∷ taken) (S ∷ SS) = (if k == t.index then known_by 1 (resolution t.histogram) S else []) ++ samples_at k taken SS
 
 abbrev pub values_at : ℕ → List Taken → List (List ℕ) → List ℕ
 values_at k taken SS = map (λ x. x.value) (samples_at k taken SS)

@@ -8,7 +8,7 @@ use Rattle.hdr_compare.specs.declared.tiers.Tier.{Tier}
 use Rattle.hdr_input.specs.declared.bound.Bound.{Bound}
 use Rattle.hdr_model.specs.Plain.{Plain, resolution}
 use Rattle.hdr_model.specs.Samples.{StandsFor}
-use Rattle.hdr_summary.specs.Classes.{Known, known_by, HasClasses}
+use Rattle.hdr_summary.specs.Classes.{Known, known_by, FitUnits, HasClasses}
 use Rattle.hdr_summary.specs.Levels.{bound_of}
 use Rattle.hdr_summary.specs.Means.{IsSumOf}
 use Rattle.hdr_summary.specs.declared.classes.ClassCounts.{ClassCounts}
@@ -63,11 +63,17 @@ pub record ParsesLevels (old new : LogCounts) : Type 0 where
   pub known : levels_of old ≢ [] → levels_of new ≡ levels_of old
   pub parsed : levels_of old ≡ [] → map (λ level. level.text.now) (levels_of new) ≡ (asked_of old).texts
 
+-- a histogram stands for samples, and its unit is this many units, in which they fit 64 bits
+pub record IsOfUnits (factor : ℕ) (h : Plain) (S : List ℕ) : Type 0 where
+  pub some : 0 < factor
+  pub stands : StandsFor h S
+  pub fit : factor ≢ 1 → FitUnits factor (resolution h) S
+
 -- the samples of a histogram are counted at a bound, after others
-abbrev pub AddsClasses : Plain → ClassCounts → ClassCounts → Type 0
-AddsClasses h old new =
-    (b : Bound) (decimals : ℕ) (L : List Known) (S : List ℕ) → HasClasses old b decimals L → StandsFor h S
-    → HasClasses new b decimals (L ++ known_by (resolution h) S)
+abbrev pub AddsClasses : ℕ → Plain → ClassCounts → ClassCounts → Type 0
+AddsClasses factor h old new =
+    (b : Bound) (decimals : ℕ) (L : List Known) (S : List ℕ) → 0 < factor → HasClasses old b decimals L → StandsFor h S
+    → (factor ≢ 1 → FitUnits factor (resolution h) S) → HasClasses new b decimals (L ++ known_by factor (resolution h) S)
 
 -- these samples were counted at the bounds of levels, one after the other
 abbrev pub AreCountsAt : List Level → ℕ → List Known → List ClassCounts → Type 0
@@ -79,10 +85,10 @@ pub record HasCounted (levels : List Level) (decimals : ℕ) (L : List Known) (t
   pub in_sum : has_mean levels ≡ true → IsSumOf (sum_of tag) L
 
 -- the samples of a histogram are counted in a tag, after others
-abbrev pub CountsIn : (summed : Bool) → Plain → TagCounts → TagCounts → Type 0
-CountsIn summed h old new =
+abbrev pub CountsIn : (summed : Bool) → (factor : ℕ) → Plain → TagCounts → TagCounts → Type 0
+CountsIn summed factor h old new =
     (levels : List Level) (decimals : ℕ) (L : List Known) (S : List ℕ) → has_mean levels ≡ summed → HasCounted levels decimals L old
-    → StandsFor h S → HasCounted levels decimals (L ++ known_by (resolution h) S) new
+    → IsOfUnits factor h S → HasCounted levels decimals (L ++ known_by factor (resolution h) S) new
 
 -- the tag of an index has counted these samples, or it is still to come, and there are none
 abbrev pub HasCountedAt : List Level → ℕ → List TagCounts → ℕ → List Known → Type 0
@@ -118,18 +124,18 @@ JoinsBatches h old new =
     → InBatches tier digits S old → InBatches tier digits (S ++ T) new
 
 -- the samples of the tag at k, after those of a histogram were added to the tag of an index
-abbrev pub with_samples : (k index : ℕ) → Plain → List ℕ → List Known → List Known
-with_samples k index h S L = if k == index then L ++ known_by (resolution h) S else L
+abbrev pub with_samples : (k index factor : ℕ) → Plain → List ℕ → List Known → List Known
+with_samples k index factor h S L = if k == index then L ++ known_by factor (resolution h) S else L
 
 -- the samples in the batches of the tag at k, after those of a histogram were added to the tag of an index
 abbrev pub with_values : (k index : ℕ) → List ℕ → List ℕ → List ℕ
 with_values k index T S = if k == index then S ++ T else S
 
 -- the samples of a histogram are counted in the tag of an index, and in no other
-abbrev pub CountsAt : List Level → Plain → ℕ → List TagCounts → List TagCounts → Type 0
-CountsAt levels h index old new =
-    (k decimals : ℕ) (L : List Known) (S : List ℕ) → StandsFor h S → HasCountedAt levels decimals old k L
-    → HasCountedAt levels decimals new k (with_samples k index h S L)
+abbrev pub CountsAt : List Level → (factor : ℕ) → Plain → ℕ → List TagCounts → List TagCounts → Type 0
+CountsAt levels factor h index old new =
+    (k decimals : ℕ) (L : List Known) (S : List ℕ) → IsOfUnits factor h S → HasCountedAt levels decimals old k L
+    → HasCountedAt levels decimals new k (with_samples k index factor h S L)
 
 -- the samples of a histogram are added to the batches of the tag of an index, and to no others
 abbrev pub JoinsAt : Asked → Plain → ℕ → List TagCounts → List TagCounts → Type 0
@@ -137,11 +143,16 @@ JoinsAt asked h index old new =
     (k : ℕ) (S T : List ℕ) → StandsFor h T → FitsBatches asked.digits h → length (with_values k index T S) < 2 ^ 64
     → InBatchesAt asked old k S → InBatchesAt asked new k (with_values k index T S)
 
--- a histogram is taken: its samples are counted in the tag of an index, and in no other; a tag that is new has the decimals of its
--- values; and they are added to the batches of that tag
-pub record TakesHistogram (old : LogCounts) (index : ℕ) (h : Plain) (decimals : ℕ) (new : LogCounts) : Type 0 where
+-- a histogram is taken, whose values are in units of `decimals`, and were in units of which one is `factor` of these before they were
+-- converted: the samples are counted in the tag of an index, and in no other, by the classes that they had before; a tag that is new
+-- has these decimals; and the converted ones are added to the batches of that tag
+pub record TakesConverted (old : LogCounts) (index factor : ℕ) (before h : Plain) (decimals : ℕ) (new : LogCounts) : Type 0 where
   pub levels : ParsesLevels old new
   pub tags : length (tags_of new) ≡ max (length (tags_of old)) (index + 1)
-  pub samples : (k d : ℕ) (L : List Known) (S : List ℕ) → d ≤ 18 → (length (tags_of old) ≤ k → d ≡ decimals) → StandsFor h S
-      → HasCountedAt (levels_of new) d (tags_of old) k L → HasCountedAt (levels_of new) d (tags_of new) k (with_samples k index h S L)
+  pub samples : (k d : ℕ) (L : List Known) (S : List ℕ) → d ≤ 18 → (length (tags_of old) ≤ k → d ≡ decimals) → IsOfUnits factor before S
+      → HasCountedAt (levels_of new) d (tags_of old) k L → HasCountedAt (levels_of new) d (tags_of new) k (with_samples k index factor before S L)
   pub batches : JoinsAt (asked_of old) h index (tags_of old) (tags_of new)
+
+-- a histogram is taken as it is
+abbrev pub TakesHistogram : LogCounts → (index : ℕ) → Plain → (decimals : ℕ) → LogCounts → Type 0
+TakesHistogram old index h decimals new = TakesConverted old index 1 h h decimals new

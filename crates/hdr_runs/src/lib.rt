@@ -28,7 +28,7 @@ pub use level_check::LevelCheck;
 pub use level_tally::{LevelRecording, LevelTally};
 pub use limit::{Limit, LimitVerdict, parse_limit};
 pub use log_batches::LogBatches;
-pub use log_counts::{LogCounts, LogLevels, TagCounts};
+pub use log_counts::{LogCounts, LogLevels, Scaled, TagCounts};
 pub use order::Order;
 pub use point::Point;
 pub use report::{Compared, NamedRun, Pair, Report, ReportError};

@@ -15,6 +15,14 @@ use hdrhistogram::Histogram;
 use std::alloc::{AllocError, Global};
 use std::io::Read;
 
+/// Samples as they were before their values were converted.
+#[derive(Clone, Copy)]
+pub struct Scaled<'h> {
+    pub histogram: &'h Histogram<u64>,
+    /// How many units its unit is, 1 or more: 1 if the values are as they were.
+    pub factor: u64,
+}
+
 /// What is counted of the samples of a tag: those within the bound of each level, and their sum.
 #[derive(Drop)]
 pub struct TagCounts {
@@ -60,24 +68,29 @@ impl TagCounts {
         self.sum
     }
 
-    /// Adds the samples of a histogram at each level, and to the sum if `is_summed`.
-    fn count(&mut self, histogram: &Histogram<u64>, is_summed: bool)
-        ensures counted { CountsIn is_summed histogram.now self.old self.new }
+    /// Adds samples at each level, and to the sum if `is_summed`.
+    fn count(&mut self, samples: Scaled<'_>, is_summed: bool)
+        ensures counted { CountsIn is_summed samples.entry.factor samples.entry.histogram.now self.old self.new }
         ensures batches { self.new.batching ≡ self.old.batching }
     {
-        add_to_each(&mut self.counts, histogram);
+        add_to_each(&mut self.counts, samples);
         if is_summed {
-            self.sum.add(histogram);
+            self.sum.add(samples.histogram, samples.factor);
         }
     }
 
-    /// Adds the samples of a histogram at each level, to the sum if `is_summed`, and to the batches if
-    /// there are any.
-    fn add(&mut self, histogram: &Histogram<u64>, is_summed: bool) -> Result<(), BatchError>
-        ensures counted { OnOk result (CountsIn is_summed histogram.now self.old self.new) }
+    /// Adds samples at each level, to the sum if `is_summed`, and the histogram to the batches if there
+    /// are any.
+    fn add(
+        &mut self,
+        samples: Scaled<'_>,
+        histogram: &Histogram<u64>,
+        is_summed: bool,
+    ) -> Result<(), BatchError>
+        ensures counted { OnOk result (CountsIn is_summed samples.entry.factor samples.entry.histogram.now self.old self.new) }
         ensures batches { OnOk result (JoinsBatches histogram.now self.old.batching self.new.batching) }
     {
-        self.count(histogram, is_summed);
+        self.count(samples, is_summed);
         match &mut self.batching {
             Some(batching) => batching.add(histogram),
             None => Ok(()),
@@ -102,12 +115,12 @@ fn empty_counts(
     Ok(all)
 }
 
-/// Adds the samples of a histogram to each of some counts.
-fn add_to_each(all: &mut [ClassCounts], histogram: &Histogram<u64>)
-    ensures { AllZip (AddsClasses histogram.now) all.old all.new }
+/// Adds samples to each of some counts.
+fn add_to_each(all: &mut [ClassCounts], samples: Scaled<'_>)
+    ensures { AllZip (AddsClasses samples.entry.factor samples.entry.histogram.now) all.old all.new }
 {
     for counts in all.iter_mut() {
-        counts.add(histogram);
+        counts.add(samples.histogram, samples.factor);
     }
 }
 
@@ -137,7 +150,7 @@ impl<'a, 'n> LogCounts<'a, 'n> {
     ghost use Rattle.std.specs.Option.{option_map};
     ghost use Rattle.hdr_runs.specs.LogCounts.{asked_of, batches_of_tag, levels_of, tags_of};
     ghost use Rattle.hdr_runs.specs.LogCounts.{AddsTags, CountsAt, HasCounted, HasCountedAt, InBatches};
-    ghost use Rattle.hdr_runs.specs.LogCounts.{JoinsAt, ParsesLevels};
+    ghost use Rattle.hdr_runs.specs.LogCounts.{JoinsAt, ParsesLevels, TakesConverted};
 
     /// Returns the counts of no tags. Batches have these significant digits, up to 5.
     pub fn new(alloc: Global, written: LogLevels<'a, 'n>, sigfig: u8) -> LogCounts<'a, 'n>
@@ -249,14 +262,44 @@ impl<'a, 'n> LogCounts<'a, 'n> {
         }
     }
 
-    /// Adds the samples of a histogram to the tag of an index.
-    fn add_at(&mut self, index: usize, histogram: &Histogram<u64>) -> Result<(), LogError>
+    /// Takes the histogram of an interval, which is part of the sum at this index. Its values have
+    /// these decimals, and this unit if one is known. The samples are counted by the classes that they
+    /// had before their values were converted.
+    ///
+    /// # Errors
+    /// Returns `NoUnit` if a level has a unit and the log has none, and `OutOfMemory` if an allocation
+    /// fails.
+    pub fn take_converted(
+        &mut self,
+        sum: usize,
+        samples: Scaled<'_>,
+        histogram: &Histogram<u64>,
+        decimals: u32,
+        unit: Option<Unit>,
+    ) -> Result<(), LogError>
+        ensures { OnOk result (TakesConverted self.old sum samples.entry.factor samples.entry.histogram.now
+            histogram.now decimals self.new) }
+    {
+        self.parse_levels(unit)?;
+        match self.push_tags(sum.saturating_add(1), decimals) {
+            Ok(()) => self.add_at(sum, samples, histogram),
+            Err(_) => Err(LogError::OutOfMemory),
+        }
+    }
+
+    /// Adds samples to the tag of an index, and the histogram to its batches.
+    fn add_at(
+        &mut self,
+        index: usize,
+        samples: Scaled<'_>,
+        histogram: &Histogram<u64>,
+    ) -> Result<(), LogError>
         ensures levels { levels_of self.new ≡ levels_of self.old }
         ensures asked { asked_of self.new ≡ asked_of self.old }
         ensures tags { length (tags_of self.new) ≡ length (tags_of self.old) }
         ensures inside { OnOk result (index < length (tags_of self.new)) }
-        ensures samples { OnOk result (CountsAt (levels_of self.old) histogram.now index (tags_of self.old)
-            (tags_of self.new)) }
+        ensures samples { OnOk result (CountsAt (levels_of self.old) samples.entry.factor
+            samples.entry.histogram.now index (tags_of self.old) (tags_of self.new)) }
         ensures batches { OnOk result (JoinsAt (asked_of self.old) histogram.now index (tags_of self.old)
             (tags_of self.new)) }
     {
@@ -264,7 +307,7 @@ impl<'a, 'n> LogCounts<'a, 'n> {
         let Some(tag) = self.tags.get_mut(index) else {
             return Err(LogError::OutOfMemory);
         };
-        match tag.add(histogram, is_summed) {
+        match tag.add(samples, histogram, is_summed) {
             Ok(()) => Ok(()),
             Err(_) => Err(LogError::OutOfMemory),
         }
@@ -330,11 +373,11 @@ impl HistogramSink for LogCounts<'_, '_> {
         decimals: u32,
         unit: Option<Unit>,
     ) -> Result<(), LogError> {
-        self.parse_levels(unit)?;
-        match self.push_tags(sum.saturating_add(1), decimals) {
-            Ok(()) => self.add_at(sum, histogram),
-            Err(_) => Err(LogError::OutOfMemory),
-        }
+        let samples = Scaled {
+            histogram,
+            factor: 1,
+        };
+        self.take_converted(sum, samples, histogram, decimals, unit)
     }
 }
 

@@ -1,11 +1,12 @@
 -- Samples by their classes: those that are at most a value, and bounds.
-use Rattle.std.proofs.Common.{◌≡◌, ◌≢◌, ℕ, ◌+◌, ◌-◌, ◌^◌, ◌<◌, ◌≤◌, Bool, true, false, cond, leb, min, List, [], ◌∷◌, ◌++◌, length, map, refl, ap, sym, ◌∙◌, arith, inl, inr}
+use Rattle.std.proofs.Common.{◌≡◌, ◌≢◌, ℕ, ◌+◌, ◌*◌, ◌/◌, ◌-◌, ◌^◌, ◌<◌, ◌≤◌, Bool, true, false, cond, leb, min, mul_comm, mul-le-mul_left, List, [], ◌∷◌, ◌++◌, length, map, refl, ap, sym, ◌∙◌, arith, inl, inr}
 use Rattle.std.specs.Prelude.{◌&&◌}
 use Rattle.std.specs.List.{All, count_by}
 use Rattle.std.proofs.lemmas.Bool.Decides.{nat_tests}
 use Rattle.std.proofs.lemmas.Bool.{cases_lt}
 use Rattle.std.proofs.lemmas.List.{length-map, length-append}
-use Rattle.std.proofs.lemmas.List.Elements.{All-head, All-tail}
+use Rattle.std.proofs.lemmas.List.Elements.{All-head, All-tail, All-weaker}
+use Rattle.std.proofs.lemmas.Nat.{div_below, le-div}
 use Rattle.std.proofs.lemmas.List.Sums.{sum_by-cons, sum_by-append, count_by-le-length}
 use Rattle.hdr_base.specs.Classes.{Resolution, lowest_of, top_of}
 use Rattle.hdr_base.proofs.ClassesLaws.{lowest-le, top-of-value}
@@ -18,7 +19,7 @@ use Rattle.hdr_model.proofs.PlainKept.{resolution-fits}
 use Rattle.hdr_input.specs.declared.bound.Bound.{Bound}
 use Rattle.hdr_input.specs.Bounds.{is_within, of_decimals}
 use Rattle.hdr_summary.specs.declared.verdicts.LevelCounts.{LevelCounts}
-use Rattle.hdr_summary.specs.Classes.{Known, known_by, count_surely, count_perhaps, AreByClass}
+use Rattle.hdr_summary.specs.Classes.{Known, known, known_by, lowest_in_units, greatest_in_units, count_surely, count_perhaps, AreByClass, FitUnits}
 
 yes-le : (a b : ℕ) → a ≤ b → leb a b ≡ true
 yes-le a b h = grind (arith, nat_tests)
@@ -187,18 +188,44 @@ ends-fit greatest h s p le =
     let small : s < 2 ^ 64 = omega (arith, reach-fits g h.high p.high_fits fits) in
     (omega (arith, lowest-le g s), omega (arith, class-end g s small fits))
 
-module _ (b : Bound) (d : ℕ) (h : Plain) (S : List ℕ) where
+-- a product is at most a value if and only if the other factor is at most the quotient
+product-le : (f x most : ℕ) → 0 < f → leb (f * x) most ≡ leb x (most / f)
+product-le f x most some =
+    elim (cases_lt most (f * x)) [
+      | inl lt ↦ no-le (f * x) most lt ∙ sym (no-le x (most / f) (div_below most f x some (omega (arith, lt, mul_comm f x))))
+      | inr le ↦ yes-le (f * x) most le ∙ sym (yes-le x (most / f) (le-div x most f some (omega (arith, le, mul_comm f x))))
+    ]
+
+-- the lowest values of classes fit 64 bits where the greatest ones do
+lowest-fits : (f : ℕ) (g : Resolution) (s : ℕ) → f * top_of g s < 2 ^ 64 → f * lowest_of g s < 2 ^ 64
+lowest-fits f g s fits = omega (arith, fits, mul-le-mul_left f (let e : lowest_of g s ≤ top_of g s = omega (arith, lowest-le g s, top-of-value g s) in e))
+
+-- classes within the reach fit 64 bits in their own unit
+pub fit-units : (f greatest : ℕ) (h : Plain) (S : List ℕ) → 0 < f → IsPlain greatest h → StandsFor h S → (f ≢ 1 → FitUnits f (resolution h) S) → FitUnits f (resolution h) S
+fit-units f greatest h S some p stands fit =
+    elim (cases_lt 1 f) [
+      | inl lt ↦ fit (λ e. absurd (omega (arith, lt, e)))
+      | inr le ↦ (
+          let one : f ≡ 1 = omega (arith, le, some) in
+          All-weaker (λ s. s ≤ reach h) (λ s. f * top_of (resolution h) s < 2 ^ 64) (λ s within. rw one (omega (arith, (ends-fit greatest h s p within).1))) S stands.within
+          )
+    ]
+
+module _ (b : Bound) (d f : ℕ) (h : Plain) (S : List ℕ) where
   abbrev surely : ℕ → Bool
-  surely s = is_within b (of_decimals d (top_of (resolution h) s))
+  surely s = is_within b (of_decimals d (f * top_of (resolution h) s))
 
   abbrev perhaps : ℕ → Bool
-  perhaps s = is_within b (of_decimals d (lowest_of (resolution h) s))
+  perhaps s = is_within b (of_decimals d (f * lowest_of (resolution h) s))
 
-  known-surely : count_surely b d (known_by (resolution h) S) ≡ count_by surely S
-  known-surely = count-map (λ x. is_within b (of_decimals d (top_of x.resolution x.value))) (λ s. record { value = s; resolution = resolution h }) S
+  abbrev fits : ℕ → Type 0
+  fits s = f * top_of (resolution h) s < 2 ^ 64
 
-  known-perhaps : count_perhaps b d (known_by (resolution h) S) ≡ count_by perhaps S
-  known-perhaps = count-map (λ x. is_within b (of_decimals d (lowest_of x.resolution x.value))) (λ s. record { value = s; resolution = resolution h }) S
+  known-surely : count_surely b d (known_by f (resolution h) S) ≡ count_by surely S
+  known-surely = count-map (λ x. is_within b (of_decimals d (greatest_in_units x))) (known f (resolution h)) S
+
+  known-perhaps : count_perhaps b d (known_by f (resolution h) S) ≡ count_by perhaps S
+  known-perhaps = count-map (λ x. is_within b (of_decimals d (lowest_in_units x))) (known f (resolution h)) S
 
   -- what counts exactly fits in 64 bits
   fitting : (n : ℕ) → n ≤ length S → length S < 2 ^ 64 → n ≡ min n (2 ^ 64 - 1)
@@ -208,31 +235,33 @@ module _ (b : Bound) (d : ℕ) (h : Plain) (S : List ℕ) where
     few : length S < 2 ^ 64
     few = omega (arith, stands.total)
 
-    known-length : c.total ≡ min (length (known_by (resolution h) S)) (2 ^ 64 - 1)
-    known-length = omega (arith, few, stands.total, length-map {B = Known} S (λ s. record { value = s; resolution = resolution h }))
+    known-length : c.total ≡ min (length (known_by f (resolution h) S)) (2 ^ 64 - 1)
+    known-length = omega (arith, few, stands.total, length-map {B = Known} S (known f (resolution h)))
 
     -- the counts of a bound that has a greatest value
-    pub by-class : (greatest most : ℕ) → IsPlain greatest h → ((v : ℕ) → v < 2 ^ 64 → is_within b (of_decimals d v) ≡ leb v most)
-        → c.sure ≡ count_by (λ s. leb (top_of (resolution h) s) most) S → c.perhaps ≡ count_by (λ s. leb (lowest_of (resolution h) s) most) S
-        → AreByClass c b d (known_by (resolution h) S)
-    by-class greatest most p is sure perhaps_are = record {
-      total = known-length;
-      sure = (
-          let same = count-same (λ s. s ≤ reach h) surely (λ s. leb (top_of (resolution h) s) most) S stands.within (λ s le. is (top_of (resolution h) s) (ends-fit greatest h s p le).1) in
-          omega (arith, sure, known-surely, same, few, count_by-le-length surely S)
-          );
-      perhaps = (
-          let same = count-same (λ s. s ≤ reach h) perhaps (λ s. leb (lowest_of (resolution h) s) most) S stands.within (λ s le. is (lowest_of (resolution h) s) (ends-fit greatest h s p le).0) in
-          omega (arith, perhaps_are, known-perhaps, same, few, count_by-le-length perhaps S)
-          );
-    }
+    pub by-class : (most : ℕ) → 0 < f → FitUnits f (resolution h) S → ((v : ℕ) → v < 2 ^ 64 → is_within b (of_decimals d v) ≡ leb v most)
+        → c.sure ≡ count_by (λ s. leb (top_of (resolution h) s) (most / f)) S → c.perhaps ≡ count_by (λ s. leb (lowest_of (resolution h) s) (most / f)) S
+        → AreByClass c b d (known_by f (resolution h) S)
+    by-class most some fit is sure perhaps_are =
+        let g = resolution h in
+        record {
+          total = known-length;
+          sure = (
+              let same = count-same fits surely (λ s. leb (top_of g s) (most / f)) S fit (λ s le. is (f * top_of g s) le ∙ product-le f (top_of g s) most some) in
+              omega (arith, sure, known-surely, same, few, count_by-le-length surely S)
+              );
+          perhaps = (
+              let same = count-same fits perhaps (λ s. leb (lowest_of g s) (most / f)) S fit (λ s le. is (f * lowest_of g s) (lowest-fits f g s le) ∙ product-le f (lowest_of g s) most some) in
+              omega (arith, perhaps_are, known-perhaps, same, few, count_by-le-length perhaps S)
+              );
+        }
 
     -- the counts of a bound within which nothing is
-    pub by-class-none : ((v : ℕ) → is_within b (of_decimals d v) ≡ false) → c.sure ≡ 0 → c.perhaps ≡ 0 → AreByClass c b d (known_by (resolution h) S)
+    pub by-class-none : ((v : ℕ) → is_within b (of_decimals d v) ≡ false) → c.sure ≡ 0 → c.perhaps ≡ 0 → AreByClass c b d (known_by f (resolution h) S)
     by-class-none is sure perhaps_are = record {
       total = known-length;
-      sure = omega (arith, sure, known-surely, count-none surely S (λ s. is (top_of (resolution h) s)));
-      perhaps = omega (arith, perhaps_are, known-perhaps, count-none perhaps S (λ s. is (lowest_of (resolution h) s)));
+      sure = omega (arith, sure, known-surely, count-none surely S (λ s. is (f * top_of (resolution h) s)));
+      perhaps = omega (arith, perhaps_are, known-perhaps, count-none perhaps S (λ s. is (f * lowest_of (resolution h) s)));
     }
 
 -- the counts of samples and others together
@@ -241,6 +270,6 @@ pub by-class-joined : (b : Bound) (d : ℕ) (K L : List Known) (c k new : LevelC
     → AreByClass new b d (K ++ L)
 by-class-joined b d K L c k new old added total sure perhaps_are = record {
   total = omega (arith, total, old.total, added.total, length-append K L);
-  sure = omega (arith, sure, old.sure, added.sure, sum_by-append (λ x. cond (is_within b (of_decimals d (top_of x.resolution x.value))) 1 0) K L);
-  perhaps = omega (arith, perhaps_are, old.perhaps, added.perhaps, sum_by-append (λ x. cond (is_within b (of_decimals d (lowest_of x.resolution x.value))) 1 0) K L);
+  sure = omega (arith, sure, old.sure, added.sure, sum_by-append (λ x. cond (is_within b (of_decimals d (greatest_in_units x))) 1 0) K L);
+  perhaps = omega (arith, perhaps_are, old.perhaps, added.perhaps, sum_by-append (λ x. cond (is_within b (of_decimals d (lowest_in_units x))) 1 0) K L);
 }

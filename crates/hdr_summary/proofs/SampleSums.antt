@@ -1,9 +1,10 @@
 -- The sums of the samples of a histogram, each as an end of its class.
-use Rattle.std.proofs.Common.{◌≡◌, ℕ, zero, suc, ◌+◌, ◌*◌, ◌-◌, ◌^◌, ◌<◌, true, cond, min, List, [], ◌∷◌, ◌++◌, length, get_or, map, sum_by, refl, sym, ap, ◌∙◌, arith}
+use Rattle.std.proofs.Common.{◌≡◌, ℕ, zero, suc, ◌+◌, ◌*◌, ◌-◌, ◌^◌, ◌<◌, true, cond, min, List, [], ◌∷◌, ◌++◌, length, get_or, map, sum_by, mul_comm, mul-suc, mul-zero, one-mul, add-mul, refl, sym, ap, ◌∙◌, arith, inl, inr}
 use Rattle.std.specs.List.{filter, range_with_len}
 use Rattle.std.specs.Prelude.{nat_lt}
+use Rattle.std.proofs.lemmas.Bool.{cases_lt}
 use Rattle.std.proofs.lemmas.Bool.Decides.{nat_tests}
-use Rattle.std.proofs.lemmas.List.{length-append}
+use Rattle.std.proofs.lemmas.List.{length-append, length-map}
 use Rattle.std.proofs.lemmas.List.Sums.{sum_by-cons, sum_by-append}
 use Rattle.hdr_base.specs.Classes.{Resolution, bin_of, value_of, lowest_of, top_of}
 use Rattle.hdr_base.specs.Items.{Item}
@@ -19,7 +20,7 @@ use Rattle.hdr_model.specs.Samples.{StandsFor}
 use Rattle.hdr_model.proofs.PlainKept.{resolution-digits}
 use Rattle.hdr_model.proofs.MergingStands.{weigh, numbers-weigh, sum_by-same}
 use Rattle.hdr_summary.specs.declared.means.SampleSum.{SampleSum}
-use Rattle.hdr_summary.specs.Classes.{Known, known_by}
+use Rattle.hdr_summary.specs.Classes.{Known, known, known_by, lowest_in_units, greatest_in_units}
 use Rattle.hdr_summary.specs.Means.{IsSumOf, lowest_sum, greatest_sum}
 
 -- what an item weighs: its count times a function of its value
@@ -80,21 +81,51 @@ module _ (h : Plain) (S : List ℕ) (p : IsPlain (2 ^ 64 - 1) h) (stands : Stand
       rw same (all ∙ numbers-weigh (2 ^ 64 - 1) h S p stands (λ i. f (top_of g (value_of g i)))
       ∙ sum_by-same (λ x. f (top_of g (value_of g (bin_of g x)))) (λ x. f (top_of g x)) S (λ x. ap f (top-is x)))
 
-  pub greatest-items : sum_by (weight (λ v. v)) items ≡ greatest_sum (known_by g S)
-  greatest-items = items-sum (λ v. v) ∙ sym (sum-known (λ s. top_of g s) (λ x. top_of x.resolution x.value) S (λ s. refl))
-    where
-      sum-known : (a : ℕ → ℕ) (b : Known → ℕ) (L : List ℕ) → ((s : ℕ) → b (record { value = s; resolution = g }) ≡ a s) → sum_by b (known_by g L) ≡ sum_by a L
-      sum-known a b [] e = refl
-      sum-known a b (x ∷ L) e = omega (arith, sum_by-cons a x L, sum_by-cons b (record { value = x; resolution = g }) (known_by g L), e x, sum-known a b L e)
+  sum-known : (a : ℕ → ℕ) (b : Known → ℕ) (L : List ℕ) → ((s : ℕ) → b (known 1 g s) ≡ a s) → sum_by b (known_by 1 g L) ≡ sum_by a L
+  sum-known a b [] e = refl
+  sum-known a b (x ∷ L) e = omega (arith, sum_by-cons a x L, sum_by-cons b (known 1 g x) (known_by 1 g L), e x, sum-known a b L e)
 
-  pub lowest-items : sum_by (weight (lowest_of g)) items ≡ lowest_sum (known_by g S)
+  pub greatest-items : sum_by (weight (λ v. v)) items ≡ greatest_sum (known_by 1 g S)
+  greatest-items = items-sum (λ v. v) ∙ sym (sum-known (λ s. top_of g s) greatest_in_units S (λ s. one-mul (top_of g s)))
+
+  pub lowest-items : sum_by (weight (lowest_of g)) items ≡ lowest_sum (known_by 1 g S)
   lowest-items =
       items-sum (lowest_of g) ∙ sum_by-same (λ x. lowest_of g (top_of g x)) (λ x. lowest_of g x) S lowest-is
-      ∙ sym (sum-known (λ s. lowest_of g s) (λ x. lowest_of x.resolution x.value) S (λ s. refl))
-    where
-      sum-known : (a : ℕ → ℕ) (b : Known → ℕ) (L : List ℕ) → ((s : ℕ) → b (record { value = s; resolution = g }) ≡ a s) → sum_by b (known_by g L) ≡ sum_by a L
-      sum-known a b [] e = refl
-      sum-known a b (x ∷ L) e = omega (arith, sum_by-cons a x L, sum_by-cons b (record { value = x; resolution = g }) (known_by g L), e x, sum-known a b L e)
+      ∙ sym (sum-known (λ s. lowest_of g s) lowest_in_units S (λ s. one-mul (lowest_of g s)))
+
+-- the sums of samples in units
+sum-scaled : (f : ℕ) (g : Resolution) (a : Resolution → ℕ → ℕ) (S : List ℕ)
+    → sum_by (λ x. x.factor * a x.resolution x.value) (known_by f g S) ≡ sum_by (λ x. x.factor * a x.resolution x.value) (known_by 1 g S) * f
+sum-scaled f g a [] = refl
+sum-scaled f g a (s ∷ S) =
+    let of : Known → ℕ = λ x. x.factor * a x.resolution x.value in
+    let more = sum_by of (known_by 1 g S) in
+    sum_by-cons of (known f g s) (known_by f g S) ∙ ap (λ n. f * a g s + n) (sum-scaled f g a S)
+    ∙ (let e : f * a g s + more * f ≡ (1 * a g s + more) * f = omega (arith, mul_comm f (a g s), add-mul (1 * a g s) more f, one-mul (a g s)) in e)
+    ∙ ap (λ n. n * f) (sym (sum_by-cons of (known 1 g s) (known_by 1 g S)))
+
+-- what is bounded, times a factor, and bounded again
+bounded-times : (n m f : ℕ) → 0 < m → min (min n m * f) m ≡ min (n * f) m
+bounded-times n m zero some = omega (arith, mul-zero (min n m), mul-zero n)
+bounded-times n m (suc f) some =
+    elim (cases_lt m n) [
+      | inl lt ↦ (
+          let is : min n m ≡ m = omega (arith, lt) in
+          rw is (omega (arith, mul-suc m f, mul-suc n f, lt))
+          )
+      | inr le ↦ (let is : min n m ≡ n = omega (arith, le) in rw is refl)
+    ]
+
+pub sum-in-units : (f : ℕ) (g : Resolution) (S : List ℕ) (of new : SampleSum) → IsSumOf of (known_by 1 g S)
+    → new.total ≡ of.total → new.low ≡ min (of.low * f) (2 ^ 128 - 1) → new.high ≡ min (of.high * f) (2 ^ 128 - 1)
+    → IsSumOf new (known_by f g S)
+sum-in-units f g S of new is total low high = record {
+  total = omega (arith, total, is.total, length-map {B = Known} S (known 1 g), length-map {B = Known} S (known f g));
+  low = low ∙ ap (λ n. min (n * f) (2 ^ 128 - 1)) is.low ∙ bounded-times (lowest_sum (known_by 1 g S)) (2 ^ 128 - 1) f (omega arith)
+      ∙ ap (λ n. min n (2 ^ 128 - 1)) (sym (sum-scaled f g lowest_of S));
+  high = high ∙ ap (λ n. min (n * f) (2 ^ 128 - 1)) is.high ∙ bounded-times (greatest_sum (known_by 1 g S)) (2 ^ 128 - 1) f (omega arith)
+      ∙ ap (λ n. min n (2 ^ 128 - 1)) (sym (sum-scaled f g top_of S));
+}
 
 -- the sums of samples and others together
 pub sum-joined : (K L : List Known) (old of new : SampleSum) → IsSumOf old K → IsSumOf of L
@@ -102,6 +133,6 @@ pub sum-joined : (K L : List Known) (old of new : SampleSum) → IsSumOf old K �
     → IsSumOf new (K ++ L)
 sum-joined K L old of new has added total low high = record {
   total = omega (arith, total, has.total, added.total, length-append K L);
-  low = omega (arith, low, has.low, added.low, sum_by-append (λ x. lowest_of x.resolution x.value) K L);
-  high = omega (arith, high, has.high, added.high, sum_by-append (λ x. top_of x.resolution x.value) K L);
+  low = omega (arith, low, has.low, added.low, sum_by-append lowest_in_units K L);
+  high = omega (arith, high, has.high, added.high, sum_by-append greatest_in_units K L);
 }

@@ -1,5 +1,5 @@
 -- Verdicts of samples by their classes are true of the samples.
-use Rattle.std.proofs.Common.{◌≡◌, ℕ, ◌*◌, ◌^◌, ◌<◌, ◌≤◌, Bool, true, false, leb, ltb, List, length, map, ◌∙◌, arith}
+use Rattle.std.proofs.Common.{◌≡◌, ℕ, ◌*◌, ◌^◌, ◌<◌, ◌≤◌, Bool, true, false, leb, ltb, mul-le-mul_left, List, length, map, ◌∙◌, arith}
 use Rattle.std.specs.Prelude.{if◌then◌else◌}
 use Rattle.std.specs.List.{count_by}
 use Rattle.std.proofs.lemmas.Bool.Decides.{nat_tests}
@@ -20,7 +20,7 @@ use Rattle.hdr_summary.specs.declared.verdicts.Verdict.TheVariants.{Kept, Broken
 use Rattle.hdr_summary.specs.Verdicts.{IsOn, IsOff, AreLikely, IsFew, IsVerdict, rank_of}
 use Rattle.hdr_summary.specs.declared.verdicts.LevelCounts.{LevelCounts}
 use Rattle.hdr_summary.specs.Levels.{bound_of}
-use Rattle.hdr_summary.specs.Classes.{Known, numbers_of, count_surely, count_perhaps, AreByClass, IsTrueOf, IsVerdictByClass}
+use Rattle.hdr_summary.specs.Classes.{Known, in_units, lowest_in_units, greatest_in_units, numbers_of, count_surely, count_perhaps, AreByClass, IsTrueOf, IsVerdictByClass}
 use Rattle.hdr_summary.proofs.CountsByClass.{count-map, count-weaker}
 
 -- what is within a bound stays within it if it falls
@@ -43,8 +43,8 @@ within-falls b d x y le = go b.is_included
     go false is = lt-falls x y (10 ^ b.number.decimals) (b.number.digits * 10 ^ d) le is
 
 module _ (b : Bound) (d : ℕ) (L : List Known) where
-  numbers-within : count_within b (numbers_of d L) ≡ count_by (λ x. is_within b (of_decimals d x.value)) L
-  numbers-within = count-map (is_within b) (λ v. of_decimals d v) (map (λ x. x.value) L) ∙ count-map (λ v. is_within b (of_decimals d v)) (λ x. x.value) L
+  numbers-within : count_within b (numbers_of d L) ≡ count_by (λ x. is_within b (of_decimals d (in_units x))) L
+  numbers-within = count-map (is_within b) (λ v. of_decimals d v) (map in_units L) ∙ count-map (λ v. is_within b (of_decimals d v)) in_units L
 
   -- those that are within a bound are at least those that surely are, and at most those that perhaps are
   pub surely-within : count_surely b d L ≤ count_within b (numbers_of d L)
@@ -52,8 +52,8 @@ module _ (b : Bound) (d : ℕ) (L : List Known) where
       omega (
         arith,
         numbers-within,
-        count-weaker (λ x. is_within b (of_decimals d (top_of x.resolution x.value))) (λ x. is_within b (of_decimals d x.value)) L
-            (λ x. within-falls b d x.value (top_of x.resolution x.value) (top-of-value x.resolution x.value)),
+        count-weaker (λ x. is_within b (of_decimals d (greatest_in_units x))) (λ x. is_within b (of_decimals d (in_units x))) L
+            (λ x. within-falls b d (in_units x) (greatest_in_units x) (mul-le-mul_left x.factor (top-of-value x.resolution x.value))),
       )
 
   pub within-perhaps : count_within b (numbers_of d L) ≤ count_perhaps b d L
@@ -61,12 +61,12 @@ module _ (b : Bound) (d : ℕ) (L : List Known) where
       omega (
         arith,
         numbers-within,
-        count-weaker (λ x. is_within b (of_decimals d x.value)) (λ x. is_within b (of_decimals d (lowest_of x.resolution x.value))) L
-            (λ x. within-falls b d (lowest_of x.resolution x.value) x.value (lowest-le x.resolution x.value)),
+        count-weaker (λ x. is_within b (of_decimals d (in_units x))) (λ x. is_within b (of_decimals d (lowest_in_units x))) L
+            (λ x. within-falls b d (lowest_in_units x) (in_units x) (mul-le-mul_left x.factor (lowest-le x.resolution x.value))),
       )
 
   pub within-length : count_within b (numbers_of d L) ≤ length L
-  within-length = omega (arith, numbers-within, count_by-le-length (λ x. is_within b (of_decimals d x.value)) L)
+  within-length = omega (arith, numbers-within, count_by-le-length (λ x. is_within b (of_decimals d (in_units x))) L)
 
 -- what holds of a range of counts holds of each count in it
 module _ (sure within perhaps n : ℕ) (from : sure ≤ within) (to : within ≤ perhaps) (all : within ≤ n) where
@@ -108,7 +108,7 @@ verdict-by-class c measure side number d L verdict by few is =
     let b : Bound = bound_of side number in
     let n : c.total ≡ length L = omega (arith, by.total) in
     let surely : c.sure ≡ count_surely b d L = omega (arith, by.sure, surely-within b d L, within-length b d L) in
-    let perhaps : c.perhaps ≡ count_perhaps b d L = omega (arith, by.perhaps, count_by-le-length (λ x. is_within b (of_decimals d (lowest_of x.resolution x.value))) L) in
+    let perhaps : c.perhaps ≡ count_perhaps b d L = omega (arith, by.perhaps, count_by-le-length (λ x. is_within b (of_decimals d (lowest_in_units x))) L) in
     let classes : IsVerdict measure side (length L) (count_surely b d L) (count_perhaps b d L) verdict = rw (← n, ← surely, ← perhaps) is in
     record {
       classes = classes;

@@ -1,17 +1,16 @@
 -- Means of samples that are only known by their classes.
 use Rattle.std.specs.Prelude.{◌≡◌, ℕ, ◌*◌, ◌-◌, ◌^◌, ◌<◌, ◌≤◌, Bool, true, false, min, List, length}
 use Rattle.std.specs.List.{sum_by}
-use Rattle.hdr_base.specs.Classes.{lowest_of, top_of}
 use Rattle.hdr_input.specs.declared.bound.Bound.{Bound}
 use Rattle.hdr_summary.specs.declared.means.SampleSum.{SampleSum}
-use Rattle.hdr_summary.specs.Classes.{Known}
+use Rattle.hdr_summary.specs.Classes.{Known, lowest_in_units, greatest_in_units}
 
--- the sums of the lowest and of the greatest values of the classes of samples
+-- the sums of the lowest and of the greatest values of the classes of samples, in units
 abbrev pub lowest_sum : List Known → ℕ
-lowest_sum L = sum_by (λ x. lowest_of x.resolution x.value) L
+lowest_sum L = sum_by lowest_in_units L
 
 abbrev pub greatest_sum : List Known → ℕ
-greatest_sum L = sum_by (λ x. top_of x.resolution x.value) L
+greatest_sum L = sum_by greatest_in_units L
 
 -- the number of samples, and the bounds of their sum, as far as 64 and 128 bits hold them
 pub record IsSumOf (sum : SampleSum) (L : List Known) : Type 0 where

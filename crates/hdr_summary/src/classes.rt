@@ -1,12 +1,12 @@
 //! Samples that are only known by their classes, and levels.
 
-ghost use Rattle.std.specs.Prelude.{◌≡◌, ◌≢◌, ◌≤◌, ◌<◌, ◌-◌, ◌^◌, ℕ, List, [], ◌++◌, length, nat_le, count_by};
+ghost use Rattle.std.specs.Prelude.{◌≡◌, ◌≢◌, ◌≤◌, ◌<◌, ◌+◌, ◌*◌, ◌-◌, ◌^◌, ℕ, List, [], ◌++◌, length, nat_le, count_by};
 ghost use Rattle.hdr_base.specs.Classes.{lowest_of, top_of};
 ghost use Rattle.hdr_model.specs.Plain.{IsPlain, resolution};
 ghost use Rattle.hdr_model.specs.Samples.{StandsFor};
 ghost use Rattle.hdr_input.specs.declared.bound.Bound.{Bound};
 ghost use Rattle.hdr_input.specs.Bounds.{IsMost};
-ghost use Rattle.hdr_summary.specs.Classes.{Known, known_by, AreByClass, HasClasses, IsVerdictByClass};
+ghost use Rattle.hdr_summary.specs.Classes.{Known, known_by, AreByClass, FitUnits, HasClasses, IsVerdictByClass};
 ghost use Rattle.hdr_summary.specs.Levels.{bound_of};
 
 use crate::levels::{Level, Measure};
@@ -41,13 +41,15 @@ impl ClassCounts {
         }
     }
 
-    /// Adds the samples of a histogram.
-    pub fn add(&mut self, histogram: &Histogram<u64>)
-        ensures { (b : Bound) (decimals : ℕ) (L : List Known) (S : List ℕ)
+    /// Adds the samples of a histogram, whose unit is `factor` units, 1 or more.
+    pub fn add(&mut self, histogram: &Histogram<u64>, factor: u64)
+        ensures { (b : Bound) (decimals : ℕ) (L : List Known) (S : List ℕ) → 0 < factor
             → HasClasses self.old b decimals L → StandsFor histogram.now S
-            → HasClasses self.new b decimals (L ++ known_by (resolution histogram.now) S) }
+            → (factor ≢ 1 → FitUnits factor (resolution histogram.now) S)
+            → HasClasses self.new b decimals (L ++ known_by factor (resolution histogram.now) S) }
     {
-        self.counts = self.counts.joined(&counts_of(histogram, self.most));
+        let counts = counts_of(histogram, self.most, factor);
+        self.counts = self.counts.joined(&counts);
     }
 
     /// The counts of the samples so far.
@@ -72,15 +74,15 @@ impl Level<'_> {
     }
 }
 
-/// Returns the counts of the samples of a histogram, at the bound of which this is the greatest
-/// value.
-fn counts_of(histogram: &Histogram<u64>, most: Option<u64>) -> LevelCounts
-    ensures { (b : Bound) (decimals : ℕ) (S : List ℕ) → IsMost b decimals most
-        → StandsFor histogram.now S
-        → AreByClass result b decimals (known_by (resolution histogram.now) S) }
+/// Returns the counts of the samples of a histogram, whose unit is `factor` units, at the bound of
+/// which `most` is the greatest number of units.
+fn counts_of(histogram: &Histogram<u64>, most: Option<u64>, factor: u64) -> LevelCounts
+    ensures { (b : Bound) (decimals : ℕ) (S : List ℕ) → 0 < factor → IsMost b decimals most
+        → StandsFor histogram.now S → (factor ≢ 1 → FitUnits factor (resolution histogram.now) S)
+        → AreByClass result b decimals (known_by factor (resolution histogram.now) S) }
 {
-    match most {
-        Some(most) => counts_at(histogram, most),
+    match most.and_then(|most| most.checked_div(factor)) {
+        Some(most) => counts_at(histogram, most).in_units(factor),
         None => LevelCounts {
             total: histogram.len(),
             sure: 0,

@@ -32,21 +32,34 @@ impl SampleSum {
         high: 0,
     };
 
-    /// Adds the samples of a histogram.
-    pub fn add(&mut self, histogram: &Histogram<u64>)
+    /// Adds the samples of a histogram, whose unit is `factor` units.
+    pub fn add(&mut self, histogram: &Histogram<u64>, factor: u64)
         ensures { (L : List Known) (S : List ℕ) → IsSumOf self.old L → StandsFor histogram.now S
-            → IsSumOf self.new (L ++ known_by (resolution histogram.now) S) }
+            → IsSumOf self.new (L ++ known_by factor (resolution histogram.now) S) }
     {
-        let sum = SampleSum::of(histogram);
+        let sum = SampleSum::of(histogram).in_units(factor);
         self.total = self.total.saturating_add(sum.total);
         self.low = self.low.saturating_add(sum.low);
         self.high = self.high.saturating_add(sum.high);
     }
 
+    /// Returns the sum in units of which `factor` are one of its own.
+    fn in_units(self, factor: u64) -> SampleSum
+        ensures total { result.total ≡ self.total }
+        ensures low { result.low ≡ min (self.low * factor) (2 ^ 128 - 1) }
+        ensures high { result.high ≡ min (self.high * factor) (2 ^ 128 - 1) }
+    {
+        SampleSum {
+            total: self.total,
+            low: self.low.saturating_mul(u128::from(factor)),
+            high: self.high.saturating_mul(u128::from(factor)),
+        }
+    }
+
     /// Returns the sum of the samples of a histogram.
     fn of(histogram: &Histogram<u64>) -> SampleSum
         ensures { (S : List ℕ) → StandsFor histogram.now S
-            → IsSumOf result (known_by (resolution histogram.now) S) }
+            → IsSumOf result (known_by 1 (resolution histogram.now) S) }
     {
         show_plain(histogram);
         let (mut low, mut high) = (0u128, 0u128);

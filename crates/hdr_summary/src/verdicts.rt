@@ -78,6 +78,20 @@ impl Measure {
 }
 
 impl LevelCounts {
+    /// Returns the counts with their values in units of which `factor` are one of theirs.
+    pub(crate) fn in_units(self, factor: u64) -> LevelCounts
+        ensures total { result.total ≡ self.total }
+        ensures sure { result.sure ≡ self.sure }
+        ensures perhaps { result.perhaps ≡ self.perhaps }
+    {
+        LevelCounts {
+            greatest: self.greatest.saturating_mul(factor),
+            low: self.low.saturating_mul(factor),
+            high: self.high.saturating_mul(factor),
+            ..self
+        }
+    }
+
     /// Returns the counts of these samples and others, at one bound.
     pub(crate) fn joined(&self, others: &LevelCounts) -> LevelCounts
         ensures total { result.total ≡ min (self.now.total + others.now.total) (2 ^ 64 - 1) }

@@ -1,10 +1,11 @@
 //! The histograms of the chosen intervals, while they are summed.
 
-ghost use Rattle.std.specs.Prelude.{◌≡◌, ℕ, List, IfSome, OnOk, Some};
+ghost use Rattle.std.specs.Prelude.{◌≡◌, ℕ, List, IfOk, IfSome, OnOk, Some};
 ghost use Rattle.hdr_model.specs.Plain.{Plain};
-ghost use Rattle.hdr_logs.specs.Intervals.{LogInterval, LogHolds};
+ghost use Rattle.hdr_logs.specs.Intervals.{LogInterval, LogHolds, tag_or_none};
 ghost use Rattle.hdr_logs.specs.Stored.{decimals_of, view_of_stored};
-ghost use Rattle.hdr_logs.specs.Sums.{view_of_sums, decimals_of_sums, AreIndexed, PassesAll, PassesStored, AddsStored};
+ghost use Rattle.hdr_logs.specs.Sums.{view_of_sums, sums_of, sum_tag, index_of, decimals_of_sums};
+ghost use Rattle.hdr_logs.specs.Sums.{AreIndexed, PassesAll, PassesStored, AddsStored};
 
 use crate::errors::LogError;
 use crate::reader::{LineBuffer, LogLine, LogReader};
@@ -68,18 +69,24 @@ impl LogSums<'_> {
         Err(LogError::TooManyLines)
     }
 
-    /// Adds a copy of an interval, whether it is chosen or not.
+    /// Adds a copy of an interval, whether it is chosen or not, and returns the index of its sum.
     ///
     /// # Errors
     /// Returns an error if its histogram is invalid, or if its values have other decimals or another
     /// unit than those before.
-    pub fn add_stored(&mut self, alloc: Global, stored: &StoredInterval) -> Result<(), LogError>
+    pub fn add_stored(
+        &mut self,
+        alloc: Global,
+        stored: &StoredInterval,
+    ) -> Result<usize, LogError>
         ensures sums { OnOk result (AreIndexed self.old → AddsStored
             (view_of_sums self.old) (view_of_stored stored.now) (view_of_sums self.new)) }
+        ensures index { IfOk result (λ index. AreIndexed self.old → index_of (sum_tag
+            (view_of_sums self.old).is_by_tag (tag_or_none (Some (view_of_stored stored.now).tag)))
+            (sums_of self.new) ≡ Some index) }
         ensures indices { OnOk result (AreIndexed self.old → AreIndexed self.new) }
     {
-        self.add(alloc, &stored.interval())?;
-        Ok(())
+        self.add(alloc, &stored.interval())
     }
 
     /// As `add_stored`, and passes the histogram of the interval to `sink`.

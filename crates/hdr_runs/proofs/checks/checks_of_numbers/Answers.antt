@@ -3,7 +3,7 @@ use Rattle.std.specs.List.{AllZip}
 use Rattle.std.specs.Option.{option_map}
 use Rattle.hdr_runs.specs.LevelChecks.{IsOfTally}
 use Rattle.hdr_runs.specs.declared.level_check.LevelCheck.{LevelCheck}
-use Rattle.hdr_runs.proofs.Each.{zip-more}
+use Rattle.hdr_logs.proofs.Zips.{zip-more}
 use Rattle.hdr_runs.proofs.checks.checks_of_numbers.Goals as goal
 
 pub loop-level-preserved : goal.loop-level-preserved

@@ -1,6 +1,6 @@
 use Rattle.hdr_runs.specs.PercentileEnds.{AreEndsAt}
 use Rattle.hdr_runs.specs.Points.{batches_of_side, greatest_of, least_of}
-use Rattle.hdr_runs.proofs.Each.{zip-more}
+use Rattle.hdr_logs.proofs.Zips.{zip-more}
 use Rattle.hdr_runs.proofs.ends.ends_of.Goals as goal
 
 pub loop-percentile-preserved : goal.loop-percentile-preserved

@@ -4,7 +4,7 @@ use Rattle.hdr_summary.specs.Levels.{bound_of}
 use Rattle.hdr_summary.specs.declared.classes.ClassCounts.{ClassCounts}
 use Rattle.hdr_summary.specs.declared.levels.Level.{Level}
 use Rattle.hdr_runs.specs.LogCounts.{AreCountsAt}
-use Rattle.hdr_runs.proofs.Each.{zip-more}
+use Rattle.hdr_logs.proofs.Zips.{zip-more}
 use Rattle.hdr_runs.proofs.log_counts.empty_counts.Goals as goal
 
 pub loop-level-preserved : goal.loop-level-preserved

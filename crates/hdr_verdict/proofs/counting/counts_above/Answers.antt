@@ -5,7 +5,8 @@ use Rattle.hdr_verdict.specs.ClassSamples.{AreClassesOf}
 use Rattle.hdr_verdict.specs.CountsAboveFor.{AreCountsOf, PushesCell}
 use Rattle.hdr_verdict.specs.TagSamples.{width_of_tag}
 use Rattle.hdr_verdict.proofs.Keeping.{keeps-samples, keeps-both, many-cells}
-use Rattle.hdr_verdict.proofs.Each.{zip-map, refilled}
+use Rattle.hdr_logs.proofs.Zips.{zip-map}
+use Rattle.hdr_logs.proofs.Changed.{refilled}
 use Rattle.hdr_verdict.proofs.CountFacts.{counted-for}
 use Rattle.hdr_verdict.proofs.counting.counts_above.Goals as goal
 

@@ -3,7 +3,7 @@ use Rattle.std.proofs.lemmas.List.{take_more}
 use Rattle.std.specs.List.{AllZip}
 use Rattle.hdr_verdict.specs.declared.above.CountsAbove.{CountsAbove}
 use Rattle.hdr_verdict.specs.CountsAboveFor.{AreCountsOf}
-use Rattle.hdr_verdict.proofs.Each.{zip-push}
+use Rattle.hdr_logs.proofs.Zips.{zip-push}
 use Rattle.hdr_verdict.proofs.counting.empty_counts.Goals as goal
 
 pub loop-value-preserved : goal.loop-value-preserved

@@ -1,6 +1,6 @@
 use Rattle.std.proofs.Common.{arith}
 use Rattle.hdr_verdict.specs.CountsAboveFor.{PushesCell}
-use Rattle.hdr_verdict.proofs.Each.{changed-step, changed-all}
+use Rattle.hdr_logs.proofs.Changed.{changed-step, changed-all}
 use Rattle.hdr_verdict.proofs.counting.push_cell.Goals as goal
 
 pub loop-above-preserved : goal.loop-above-preserved

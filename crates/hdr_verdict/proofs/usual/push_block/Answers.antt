@@ -1,6 +1,6 @@
 use Rattle.std.proofs.Common.{arith}
 use Rattle.hdr_verdict.specs.Blocks.{AppendsBlock}
-use Rattle.hdr_verdict.proofs.Each.{changed-step, changed-all}
+use Rattle.hdr_logs.proofs.Changed.{changed-step, changed-all}
 use Rattle.hdr_verdict.proofs.usual.push_block.Goals as goal
 
 pub loop-own-preserved : goal.loop-own-preserved

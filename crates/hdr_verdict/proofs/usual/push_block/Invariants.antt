@@ -1,5 +1,5 @@
 use Rattle.hdr_verdict.specs.Blocks.{AppendsBlock}
-use Rattle.hdr_verdict.proofs.Each.{Changed}
+use Rattle.hdr_logs.proofs.Changed.{Changed}
 use Rattle.hdr_verdict.proofs.usual.push_block.Given as goal
 
 abbrev pub invariant-loop-own : goal.invariant-loop-own

@@ -1,6 +1,6 @@
 use Rattle.std.proofs.Common.{arith}
 use Rattle.hdr_verdict.specs.Blocks.{Pushes}
-use Rattle.hdr_verdict.proofs.Each.{changed-step, changed-all}
+use Rattle.hdr_logs.proofs.Changed.{changed-step, changed-all}
 use Rattle.hdr_verdict.proofs.usual_values.push_cell.Goals as goal
 
 pub loop-blocks-preserved : goal.loop-blocks-preserved

@@ -1,5 +1,5 @@
 use Rattle.hdr_verdict.specs.Blocks.{Pushes}
-use Rattle.hdr_verdict.proofs.Each.{Changed}
+use Rattle.hdr_logs.proofs.Changed.{Changed}
 use Rattle.hdr_verdict.proofs.usual_values.push_cell.Given as goal
 
 abbrev pub invariant-loop-blocks : goal.invariant-loop-blocks

@@ -1,7 +1,7 @@
 use Rattle.std.proofs.Common.{◌++◌, ◌∷◌, [], append_assoc, append-nil, sym, subst}
 use Rattle.std.specs.List.{AllZip}
 use Rattle.hdr_verdict.specs.Blocks.{IsUsualOf}
-use Rattle.hdr_verdict.proofs.Each.{zip-push}
+use Rattle.hdr_logs.proofs.Zips.{zip-push}
 use Rattle.hdr_verdict.proofs.usual_values.push_usual.Goals as goal
 
 pub loop-own-init : goal.loop-own-init

@@ -8,7 +8,7 @@ use Rattle.hdr_verdict.specs.Blocks.{IsUsualOf, Pushes, values_of}
 use Rattle.hdr_verdict.specs.Usual.{usual_of}
 use Rattle.hdr_verdict.specs.TagSamples.{HasSamples, width_of_tag, cells_of}
 use Rattle.hdr_verdict.proofs.Keeping.{keeps-samples, keeps-both, many-cells, total-is}
-use Rattle.hdr_verdict.proofs.Each.{refilled}
+use Rattle.hdr_logs.proofs.Changed.{refilled}
 use Rattle.hdr_verdict.proofs.BlockFacts.{AreBlocksFor, begun-for, pushed-for, usual-for}
 use Rattle.hdr_verdict.proofs.usual_values.usual_by_blocks.Goals as goal
 

@@ -9,7 +9,7 @@ use Rattle.hdr_summary.specs.declared.levels.Level.{Level}
 use Rattle.hdr_runs.specs.LevelChecks.{IsOfTag}
 use Rattle.hdr_runs.specs.LogCounts.{counts_of}
 use Rattle.hdr_runs.specs.declared.level_check.LevelCheck.{LevelCheck}
-use Rattle.hdr_runs.proofs.Each.{zip-at, zip-more}
+use Rattle.hdr_logs.proofs.Zips.{zip-at, zip-more}
 use Rattle.hdr_runs.proofs.log_counts.TagCounts.checks.Goals as goal
 
 pub loop-index-preserved : goal.loop-index-preserved

@@ -4,10 +4,10 @@ use Rattle.hdr_summary.proofs.CountsByClass.{by-class-joined}
 use Rattle.hdr_summary.proofs.classes.ClassCounts.add.Goals as goal
 
 pub returns : goal.returns
-returns c = λ b d L S has stands. record {
+returns c = λ b d L S some has stands fit. record {
   most = has.most;
   counts =
-      by-class-joined b d L (known_by (resolution c.args.histogram.now) S) c.args.self.now.counts c.counts_of.result c.joined-self.result
-      has.counts (c.counts_of.ensures b d S has.most stands)
+      by-class-joined b d L (known_by c.args.factor (resolution c.args.histogram.now) S) c.args.self.now.counts c.counts_of-counts.result c.joined-self.result
+      has.counts (c.counts_of-counts.ensures b d S some has.most stands fit)
       c.joined-self.ensures.total c.joined-self.ensures.sure c.joined-self.ensures.perhaps;
 }

@@ -1,7 +1,7 @@
 use Rattle.std.proofs.Common.{◌≡◌, length, drop, sym, subst, arith}
 use Rattle.std.specs.List.{AllZip}
 use Rattle.hdr_verdict.specs.Blocks.{AppendsBlock}
-use Rattle.hdr_verdict.proofs.Each.{refilled}
+use Rattle.hdr_logs.proofs.Changed.{refilled}
 use Rattle.hdr_verdict.proofs.usual.Blocks.finish.Goals as goal
 
 pub returns-clause-values : goal.returns-clause-values

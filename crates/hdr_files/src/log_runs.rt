@@ -1,0 +1,195 @@
+//! The runs of logs: their chosen intervals in batches.
+
+use crate::errors::StatError;
+use crate::files::{Files, or_standard_input};
+use crate::logs::{can_be_converted, print_coarser, read_intervals};
+use crate::names::FileNames;
+use crate::runs::{RunSides, are_equal, sides_of};
+use hdr_input::Unit;
+use hdr_logs::{LogSums, StoredInterval, TagSum};
+use hdr_runs::{LogBatches, Order, Samples};
+use hdrhistogram::serialization::interval_log::IntervalChoice;
+use std::alloc::Global;
+
+/// The samples of a tag of logs.
+#[derive(Drop)]
+pub struct TagSamples {
+    pub tag: Option<String>,
+    pub samples: Samples,
+}
+
+/// Returns the chosen intervals of the logs of a run, by tag. Their values are converted to one scale if
+/// they have several.
+pub(crate) fn read_log_run(
+    files: Files<'_, '_, '_>,
+    sigfig: u8,
+    choice: IntervalChoice<'_>,
+    is_by_tag: bool,
+) -> Result<RunSides, StatError> {
+    let run = log_run(files, sigfig, choice, is_by_tag);
+    if can_be_converted(files, &run) {
+        return converted_log_run(files, sigfig, choice, is_by_tag);
+    }
+    run
+}
+
+/// Returns the chosen intervals of the logs of a run, by tag.
+fn log_run(
+    files: Files<'_, '_, '_>,
+    sigfig: u8,
+    choice: IntervalChoice<'_>,
+    is_by_tag: bool,
+) -> Result<RunSides, StatError> {
+    let alloc = files.alloc();
+    let has_one_file = files.names.len() <= 1;
+    let mut tags = Vec::new(alloc);
+    let mut units = LogUnits::None;
+    for (index, name) in or_standard_input(files.names).iter().enumerate() {
+        let mut sums = LogSums::new(alloc, choice, sigfig, is_by_tag);
+        let mut batches = LogBatches::new(alloc, sigfig);
+        let input = files.open(*name)?;
+        let read = sums
+            .read_log_into(alloc, index, input, &mut batches)
+            .map_err(|cause| files.log_error(cause));
+        files.print_notes(sums.notes());
+        read?;
+        print_coarser(files.rt, &sums, sigfig);
+        if sums.chosen > 0 {
+            units.add(sums.unit())?;
+        }
+        add_sums(alloc, &mut tags, sums, batches, has_one_file)?;
+    }
+    Ok(RunSides {
+        sides: sides_of(files, tags)?,
+        unit: units.unit(),
+    })
+}
+
+/// Returns the chosen intervals of the logs of a run, by tag, with their values in one scale.
+fn converted_log_run(
+    files: Files<'_, '_, '_>,
+    sigfig: u8,
+    choice: IntervalChoice<'_>,
+    is_by_tag: bool,
+) -> Result<RunSides, StatError> {
+    let alloc = files.alloc();
+    let has_one_file = files.names.len() <= 1;
+    let intervals = read_intervals(files, choice, &FileNames::none(alloc), false)?;
+    let mut tags = Vec::new(alloc);
+    for file in 0..files.names.len().max(1) {
+        let mut sums = LogSums::new(alloc, choice, sigfig, is_by_tag);
+        let mut batches = LogBatches::new(alloc, sigfig);
+        for interval in &intervals.list {
+            if interval.place.file == file {
+                add_stored(files, &mut sums, interval, &mut batches)?;
+            }
+        }
+        print_coarser(files.rt, &sums, sigfig);
+        add_sums(alloc, &mut tags, sums, batches, has_one_file)?;
+    }
+    Ok(RunSides {
+        sides: sides_of(files, tags)?,
+        unit: intervals.unit(),
+    })
+}
+
+/// Adds a copy of an interval to sums and to batches.
+fn add_stored(
+    files: Files<'_, '_, '_>,
+    sums: &mut LogSums<'_>,
+    interval: &StoredInterval,
+    batches: &mut LogBatches,
+) -> Result<(), StatError> {
+    sums.add_stored_into(files.alloc(), interval, batches)
+        .map_err(|cause| files.log_error(cause))
+}
+
+/// Adds the sums of a log to the samples of its run: its intervals in batches if the run has one log,
+/// and otherwise as one batch.
+pub fn add_sums(
+    alloc: Global,
+    tags: &mut Vec<TagSamples>,
+    sums: LogSums<'_>,
+    batches: LogBatches,
+    has_one_file: bool,
+) -> Result<(), StatError> {
+    let decimals = sums.decimals();
+    for (sum, batching) in sums.sums.into_iter().zip(batches.into_sums()) {
+        let TagSum { tag, histogram } = sum;
+        if histogram.is_empty() {
+            continue;
+        }
+        if has_one_file {
+            let samples = Samples::of_intervals(&histogram, batching, decimals)?;
+            tags.push(TagSamples { tag, samples })?;
+            continue;
+        }
+        let samples = samples_of_tag(alloc, tags, tag, decimals)?;
+        let (min, max) = (histogram.min(), histogram.max());
+        samples.add_run(histogram, min, max)?;
+    }
+    Ok(())
+}
+
+/// Returns the samples of a tag, which are added if they are new.
+///
+/// # Errors
+/// Returns `OtherScale` if they have other decimals.
+fn samples_of_tag<'a>(
+    alloc: Global,
+    tags: &'a mut Vec<TagSamples>,
+    tag: Option<String>,
+    decimals: u32,
+) -> Result<&'a mut Samples, StatError> {
+    let index = match tags.iter().position(|other| are_equal(&other.tag, &tag)) {
+        Some(index) => index,
+        None => {
+            let index = tags.len();
+            let samples = Samples {
+                batches: Vec::new(alloc),
+                min: u64::MAX,
+                max: 0,
+                decimals,
+                order: Order::OfTime,
+            };
+            tags.push(TagSamples { tag, samples })?;
+            index
+        }
+    };
+    match tags.get_mut(index) {
+        Some(part) if part.samples.decimals == decimals => Ok(&mut part.samples),
+        _ => Err(StatError::OtherScale),
+    }
+}
+
+/// The units of the values of logs so far.
+#[derive(Clone, Copy)]
+enum LogUnits {
+    None,
+    /// All logs have this unit, or none of them has one.
+    Same(Option<Unit>),
+}
+
+impl LogUnits {
+    /// Adds the unit of a log.
+    ///
+    /// # Errors
+    /// Returns `OtherScale` if another log has another unit.
+    fn add(&mut self, unit: Option<Unit>) -> Result<(), StatError> {
+        match *self {
+            LogUnits::Same(other) if other != unit => Err(StatError::OtherScale),
+            _ => {
+                *self = LogUnits::Same(unit);
+                Ok(())
+            }
+        }
+    }
+
+    /// Returns the unit of all logs, if they have one.
+    fn unit(self) -> Option<Unit> {
+        match self {
+            LogUnits::None => None,
+            LogUnits::Same(unit) => unit,
+        }
+    }
+}
