@@ -38,13 +38,16 @@ class Cell:
 
 
 def groups_of(intervals):
-    """Intervals in groups: each with those that begin before its first one ends."""
-    groups = []
+    """Intervals in groups, each with those that begin before its first one ends, or one that is twice as long as the group was or longer."""
+    groups, end = [], 0
     for it in sorted(intervals, key=lambda it: (it.start, it.end)):
-        if groups and it.start < groups[-1][0].end:
+        if groups and it.start < end:
             groups[-1].append(it)
+            if it.end - it.start >= 2 * (end - groups[-1][0].start):
+                end = it.end
         else:
             groups.append([it])
+            end = it.end
     return groups
 
 

@@ -291,6 +291,14 @@ def coarser_text(coarser, chosen, sigfig):
     return f"hdrstat: {coarser} of {chosen} intervals coarser than {sigfig} digits\n".encode() if coarser else b""
 
 
+def known_as_read(logs, choice, by_tag):
+    """By tag, the samples of intervals by the classes that they have in their own decimals."""
+    known = {}
+    for name, it in read_first(logs, {}, choice):
+        known.setdefault(it.tag if by_tag else None, []).extend(classes_of(it.samples(name), it.decimals))
+    return known
+
+
 def log_check_case(random):
     """A case of check on logs."""
     logs, notes = logs_of(random), {}
@@ -299,21 +307,33 @@ def log_check_case(random):
     sigfig, by_tag = random.choice([3, 3, 3, random.randint(0, 5)]), random.random() < 0.3
     arguments = ["check", "--from", "log", *arguments, *(["--unit", unit] if unit else []), *(["-d", str(sigfig)] if sigfig != 3 else [])]
     arguments += ["--by-tag"] * by_tag
-    classes = {}
+    histograms = {}
     try:
-        found, coarser, decimals, chosen = sums(logs, sigfig, by_tag, notes, choice, classes)
+        found, coarser, decimals, chosen = sums(logs, sigfig, by_tag, notes, choice, histograms)
+        told = notes_text(notes, logs)
+        known = {tag: [it for one in own for it in classes_of(one, decimals)] for tag, own in histograms.items()}
     except Failure as failure:
-        return failed(failure, notes, before(failure, logs), [*arguments, "count>=0"], logs, ["-i"])
+        if failure.text[3] != "other decimals" or "standard input" in logs:
+            return failed(failure, notes, before(failure, logs), [*arguments, "count>=0"], logs, ["-i"])
+        try:
+            read, told = read_in_one_scale(logs, choice)
+            found, coarser, decimals, chosen = converted_sums(read, sigfig, by_tag)
+        except Told as bad:
+            return case_of([*arguments, "count>=0"], logs, bad.wanted, ["-i"])
+        except Failure as bad:
+            error = log_error(bad)
+            return case_of([*arguments, "count>=0"], logs, (b"", None if error is None else told + error, 1), ["-i"])
+        known = known_as_read(logs, choice, by_tag)
     if not found:
         found = {None: Samples(sigfig)}
-    parts = [(tag, LogTally(total, decimals), [it for one in classes.get(tag, []) for it in classes_of(one, decimals)]) for tag, total in found.items()]
+    parts = [(tag, LogTally(total, decimals), known.get(tag, [])) for tag, total in found.items()]
     levels = [it for it in (random_level(random, samples, tally, unit) for _ in range(random.randint(1, 3)) for _, tally, samples in parts[:2]) if it]
     levels = levels or [Level("count>=0", "count", ">=", Fraction(0))]
     is_empty_allowed = random.random() < 0.5
     arguments += [*(["--allow-empty"] if is_empty_allowed else []), *(it.text for it in levels)]
     if not all(is_level_in_each_unit(it, unit) for it in levels):
         return case_of(arguments, logs, (b"", None, 2), ["-i"])
-    told = notes_text(notes, logs) + coarser_text(coarser, chosen, sigfig)
+    told += coarser_text(coarser, chosen, sigfig)
     if not any(samples for _, _, samples in parts) and not is_empty_allowed:
         return case_of(arguments, logs, (b"", told + b"hdrstat: no numbers; --allow-empty accepts an empty input\n", 3), ["-i"])
     out, verdicts = "", []

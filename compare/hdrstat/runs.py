@@ -202,7 +202,8 @@ def ratios(before, after):
         least = first_of(MOST_RATIO, lambda it: not exceeds(it, 1000, before, after))
     if falls_below(MOST_RATIO, 1000, before, after):
         greatest = first_of(MOST_RATIO, lambda it: falls_below(it + 1, 1000, before, after))
-    return nearest, least, greatest
+    # The ratio is rounded, and may be past an end
+    return nearest, None if least is None else min(least, nearest), None if greatest is None else max(greatest, nearest)
 
 
 def verdict_of(before, after):

@@ -1,5 +1,5 @@
 -- Groups of a tag's intervals, which overlap.
-use Rattle.std.specs.Prelude.{ℕ, ◌+◌, ◌-◌, ◌*◌, ◌/◌, ◌≤◌, nat_lt, if◌then◌else◌, max, List, [], ◌∷◌, length, Option, Some, None, slice_index}
+use Rattle.std.specs.Prelude.{ℕ, Bool, ◌+◌, ◌-◌, ◌*◌, ◌/◌, ◌≤◌, nat_le, nat_lt, if◌then◌else◌, max, List, [], ◌∷◌, length, Option, Some, None, slice_index}
 use Rattle.std.specs.List.{All}
 use Rattle.hdr_model.specs.Quantiles.{sorted}
 use Rattle.hdr_logs.specs.Stored.{end_of}
@@ -10,12 +10,20 @@ use Rattle.hdr_verdict.specs.declared.cell.Group.{Group}
 abbrev pub group_of : StoredInterval → ℕ → Group
 group_of interval i = record { start = interval.start; end = end_of interval; last = end_of interval; first = i; next = i + 1 }
 
--- a group with the interval behind its last one
+-- an interval is at least twice as long as a group up to its end
+abbrev pub is_long_for : Group → StoredInterval → Bool
+is_long_for group interval = nat_le (2 * (group.end - group.start)) (end_of interval - interval.start)
+
+-- a group with the interval behind its last one, up to the end of that if it is long
 abbrev pub with_interval : Group → StoredInterval → ℕ → Group
-with_interval group interval i = record group { last = max group.last (end_of interval); next = i + 1 }
+with_interval group interval i = record group {
+  end = if is_long_for group interval then end_of interval else group.end;
+  last = max group.last (end_of interval);
+  next = i + 1;
+}
 
 -- the last group, if there is one, and the groups of the intervals from index i on: an interval is of the last group if it begins
--- before the first one of that ends
+-- before the end of that, which is that of its first interval, or of a long one
 abbrev pub groups_from : Option Group → ℕ → List StoredInterval → List Group
 groups_from None i [] = []
 groups_from (Some group) i [] = group ∷ []
@@ -34,7 +42,7 @@ abbrev pub ninth_decile : (other : ℕ) → List ℕ → ℕ
 ninth_decile other [] = other
 ninth_decile other (x ∷ xs) = slice_index (sorted (x ∷ xs)) (length (x ∷ xs) * 9 / 10)
 
--- the usual stride: nine of ten are no longer. Of one group it is the length of its first interval, but at least 1
+-- the usual stride: nine of ten are no longer. Of one group it is its length up to its end, but at least 1
 abbrev pub stride_of : List Group → ℕ
 stride_of [] = 1
 stride_of (group ∷ all) = ninth_decile (max 1 (group.end - group.start)) (strides_from group.start all)

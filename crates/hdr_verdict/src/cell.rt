@@ -5,7 +5,7 @@ ghost use Rattle.std.specs.List.{slice_get};
 ghost use Rattle.hdr_logs.specs.declared.stored.StoredInterval.{StoredInterval};
 ghost use Rattle.hdr_verdict.specs.Cells.{cell_of, cells_of_group, cells_of_groups, cells_of_intervals, cells_up_to, has_hole, length_of, span_before_hole, span_of};
 ghost use Rattle.hdr_verdict.specs.Cells.{span_up_to, AreCounted, AreWithin};
-ghost use Rattle.hdr_verdict.specs.Groups.{group_of, groups_from, ninth_decile, stride_of, strides_from, with_interval, AreGroupsOf, IsGroupOf};
+ghost use Rattle.hdr_verdict.specs.Groups.{group_of, groups_from, is_long_for, ninth_decile, stride_of, strides_from, with_interval, AreGroupsOf, IsGroupOf};
 
 use hdr_logs::StoredInterval;
 use std::alloc::{AllocError, Global};
@@ -25,11 +25,11 @@ pub struct Cell {
     pub next: usize,
 }
 
-/// Intervals that overlap the first of them.
+/// Intervals that overlap the first of them, or one that is much longer.
 #[derive(Clone, Copy)]
 struct Group {
     start: u64,
-    /// When the first interval ends, and when the last one does.
+    /// When the first interval or a long one ends, and when the last one does.
     end: u64,
     last: u64,
     first: usize,
@@ -51,12 +51,27 @@ impl Group {
         }
     }
 
-    /// Returns the group with the interval behind its last one.
+    /// Whether an interval is at least twice as long as the group up to its end.
+    fn is_long(self, interval: &StoredInterval) -> bool
+        ensures { result ≡ is_long_for self interval.now }
+    {
+        let span = self.end.saturating_sub(self.start);
+        let length = interval.end().saturating_sub(interval.start);
+        2 * u128::from(span) <= u128::from(length)
+    }
+
+    /// Returns the group with the interval behind its last one, up to the end of that if it is long.
     fn with(self, interval: &StoredInterval, index: usize) -> Group
         requires { index + 1 < 2 ^ 64 }
         ensures { result ≡ with_interval self interval.now index }
     {
+        let end = if self.is_long(interval) {
+            interval.end()
+        } else {
+            self.end
+        };
         Group {
+            end,
             last: self.last.max(interval.end()),
             next: index + 1,
             ..self

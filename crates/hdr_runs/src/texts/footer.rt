@@ -12,6 +12,10 @@ use std::alloc::{AllocError, Global};
 const SINGLE_RUNS: &str = "\
 What changes from run to run by itself is not seen in one run of each: --with compares 4 or more of each.\n";
 
+/// What is said of runs whose values have different numbers of decimals.
+const OTHER_DECIMALS: &str = "\
+Runs have values of different decimals: what was rounded to fewer is taken as exact.\n";
+
 /// Returns the confidence of intervals, in percent.
 pub(crate) fn confidence_of(tier: Tier) -> &'static str {
     match tier {
@@ -70,6 +74,9 @@ impl Report<'_> {
         if !has_several {
             text.push_str(SINGLE_RUNS)?;
         }
+        if self.pairs.iter().any(|pair| have_other_decimals(pair)) {
+            text.push_str(OTHER_DECIMALS)?;
+        }
         if let Some(fraction) = self.least_fraction(layout) {
             if fraction.is_below_half() {
                 push_fraction(&mut text, fraction, layout)?;
@@ -90,6 +97,14 @@ impl Report<'_> {
             least = least_of_pair(least, pair, layout);
         }
         least
+    }
+}
+
+/// Whether the values of two runs have different numbers of decimals.
+fn have_other_decimals(pair: &Pair<'_>) -> bool {
+    match (pair.before, pair.after) {
+        (Some(before), Some(after)) => before.decimals() != after.decimals(),
+        _ => false,
     }
 }
 
