@@ -2,7 +2,9 @@
 
 use crate::errors::StatError;
 use crate::files::{Files, or_standard_input};
-use crate::logs::{Parts, parts_of, print_coarser};
+use crate::log_runs::add_stored;
+use crate::logs::{Parts, can_be_converted, parts_of, print_coarser, read_intervals};
+use crate::names::FileNames;
 use crate::numbers::{Form, read_groups, read_sink, require_most_lines, tag_of_group};
 use crate::reading::Reading;
 use hdr_compare::Batching;
@@ -90,8 +92,14 @@ fn read_log_parts(
     let mut sums = LogSums::new(alloc, choice, sigfig, is_by_tag);
     let mut batches = LogBatches::new(alloc, sigfig);
     let read = read_logs_into(files, &mut sums, &mut batches);
-    files.print_notes(sums.notes());
-    read?;
+    if can_be_converted(files, &read) {
+        sums = LogSums::new(alloc, choice, sigfig, is_by_tag);
+        batches = LogBatches::new(alloc, sigfig);
+        add_converted_into(files, choice, &mut sums, &mut batches)?;
+    } else {
+        files.print_notes(sums.notes());
+        read?;
+    }
     print_coarser(files.rt, &sums, sigfig);
     let unit = sums.unit();
     let mut list = Vec::new(alloc);
@@ -143,6 +151,20 @@ fn read_logs_into(
         let input = files.open(*name)?;
         sums.read_log_into(files.alloc(), index, input, batches)
             .map_err(|cause| files.log_error(cause))?;
+    }
+    Ok(())
+}
+
+/// Adds the intervals of logs to sums and to batches, with their values in one scale.
+fn add_converted_into(
+    files: Files<'_, '_, '_>,
+    choice: IntervalChoice<'_>,
+    sums: &mut LogSums<'_>,
+    batches: &mut LogBatches,
+) -> Result<(), StatError> {
+    let intervals = read_intervals(files, choice, &FileNames::none(files.alloc()), false)?;
+    for interval in &intervals.list {
+        add_stored(files, sums, interval, batches)?;
     }
     Ok(())
 }

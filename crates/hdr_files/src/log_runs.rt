@@ -94,7 +94,7 @@ fn converted_log_run(
 }
 
 /// Adds a copy of an interval to sums and to batches.
-fn add_stored(
+pub(crate) fn add_stored(
     files: Files<'_, '_, '_>,
     sums: &mut LogSums<'_>,
     interval: &StoredInterval,
