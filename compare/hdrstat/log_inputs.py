@@ -299,6 +299,14 @@ def known_as_read(logs, choice, by_tag):
     return known
 
 
+def with_extremes(total, known, decimals):
+    """A sum of converted intervals, with the least and the greatest value of the classes that its samples had."""
+    if known:
+        total.least = int(min(it.low for it in known) * 10**decimals)
+        total.greatest = int(max(it.high for it in known) * 10**decimals)
+    return total
+
+
 def log_check_case(random):
     """A case of check on logs."""
     logs, notes = logs_of(random), {}
@@ -324,6 +332,7 @@ def log_check_case(random):
             error = log_error(bad)
             return case_of([*arguments, "count>=0"], logs, (b"", None if error is None else told + error, 1), ["-i"])
         known = known_as_read(logs, choice, by_tag)
+        found = {tag: with_extremes(total, known.get(tag, []), decimals) for tag, total in found.items()}
     if not found:
         found = {None: Samples(sigfig)}
     parts = [(tag, LogTally(total, decimals), known.get(tag, [])) for tag, total in found.items()]

@@ -1,17 +1,17 @@
 //! Numbers and logs of the arguments, compared with levels.
 
+use crate::converted::{count_converted, set_extremes};
 use crate::errors::StatError;
 use crate::files::{Files, or_standard_input};
-use crate::logs::{can_be_converted, parts_of, print_coarser, read_intervals, read_stored};
-use crate::names::FileNames;
+use crate::logs::{can_be_converted, parts_of, print_coarser};
 use crate::numbers::{Form, read_groups, read_sink, tag_of_group};
 use hdr_compare::{Batching, Tier};
 use hdr_input::groups::{GroupMaker, GroupParts};
 use hdr_input::{Distribution, Recording};
-use hdr_logs::{LogError, LogIntervals, LogSums, StoredInterval};
+use hdr_logs::LogSums;
 use hdr_runs::{
-    LevelCheck, LevelIntervals, LevelRecording, LevelTally, LogCounts, LogLevels, Samples, Scaled,
-    Side, checks_of_numbers, sum_of_numbers,
+    LevelCheck, LevelIntervals, LevelRecording, LevelTally, LogCounts, LogLevels, Samples, Side,
+    checks_of_numbers, sum_of_numbers,
 };
 use hdr_summary::checks::CheckedSamples;
 use hdr_summary::decimals::Conversion;
@@ -20,7 +20,6 @@ use hdr_summary::levels::Level;
 use hdr_summary::means::SampleSum;
 use hdr_summary::units::Unit;
 use hdr_summary::verdicts::Verdict;
-use hdrhistogram::serialization::Deserializer;
 use hdrhistogram::serialization::interval_log::IntervalChoice;
 use std::alloc::Global;
 
@@ -215,66 +214,6 @@ fn read_logs(
     Ok(())
 }
 
-/// Reads logs into sums, with their values in one scale, and counts their samples by the classes that
-/// they had before.
-fn count_converted(
-    files: Files<'_, '_, '_>,
-    choice: IntervalChoice<'_>,
-    sums: &mut LogSums<'_>,
-    counts: &mut LogCounts<'_, '_>,
-) -> Result<(), StatError> {
-    let alloc = files.alloc();
-    let names = FileNames::none(alloc);
-    let converted = read_intervals(files, choice, &names, false)?;
-    let mut before = LogIntervals::new(alloc);
-    read_stored(files, choice, &names, false, &mut before)?;
-    let factors = before
-        .factors(alloc)
-        .map_err(|cause| files.log_error(cause))?;
-    let mut deserializer = Deserializer::new(alloc);
-    let intervals = before.list.iter().zip(&converted.list);
-    for ((before, converted), factor) in intervals.zip(&factors) {
-        let scaled = ScaledInterval {
-            before,
-            converted,
-            factor: *factor,
-        };
-        scaled
-            .count(alloc, &mut deserializer, sums, counts)
-            .map_err(|cause| files.log_error(cause))?;
-    }
-    Ok(())
-}
-
-/// An interval before and after its values were multiplied by a factor.
-#[derive(Clone, Copy)]
-struct ScaledInterval<'i> {
-    before: &'i StoredInterval,
-    converted: &'i StoredInterval,
-    factor: u64,
-}
-
-impl ScaledInterval<'_> {
-    /// Adds the interval to the sum of its tag, and counts its samples.
-    fn count(
-        self,
-        alloc: Global,
-        deserializer: &mut Deserializer,
-        sums: &mut LogSums<'_>,
-        counts: &mut LogCounts<'_, '_>,
-    ) -> Result<(), LogError> {
-        let sum = sums.add_stored(alloc, self.converted)?;
-        let before = self.before.histogram(deserializer, None)?;
-        let histogram = self.converted.histogram(deserializer, None)?;
-        let samples = Scaled {
-            histogram: &before,
-            factor: self.factor,
-        };
-        let decimals = self.converted.decimals.unwrap_or(0);
-        counts.take_converted(sum, samples, &histogram, decimals, self.converted.unit)
-    }
-}
-
 /// Compares the samples of the chosen intervals of logs with levels: of all, or of each tag.
 /// Percentiles are compared by their intervals if there is a tier.
 pub fn check_logs(
@@ -288,10 +227,11 @@ pub fn check_logs(
     let mut sums = LogSums::new(alloc, choice, sigfig, is_by_tag);
     let mut counts = LogCounts::new(alloc, written, sigfig);
     let read = read_logs(files, &mut sums, &mut counts);
+    let mut extremes = Vec::new(alloc);
     if can_be_converted(files, &read) {
         sums = LogSums::new(alloc, choice, sigfig, is_by_tag);
         counts = LogCounts::new(alloc, written, sigfig);
-        count_converted(files, choice, &mut sums, &mut counts)?;
+        extremes = count_converted(files, choice, &mut sums, &mut counts)?;
     } else {
         files.print_notes(sums.notes());
         read?;
@@ -304,7 +244,8 @@ pub fn check_logs(
         .map_err(|cause| files.log_error(cause))?;
     // Without an interval the levels are compared with no samples.
     let is_by_tag = is_by_tag && !sums.sums.is_empty();
-    let parts = parts_of(alloc, sums, sigfig, is_by_tag)?;
+    let mut parts = parts_of(alloc, sums, sigfig, is_by_tag)?;
+    set_extremes(&mut parts, &extremes);
     counts.push_tags(parts.len(), 0)?;
     let mut checked = Vec::new(alloc);
     for (index, part) in parts.into_iter().enumerate() {

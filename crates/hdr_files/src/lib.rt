@@ -5,6 +5,7 @@
 
 mod begun;
 mod checks;
+mod converted;
 mod ends;
 mod errors;
 mod files;
