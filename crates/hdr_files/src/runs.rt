@@ -108,7 +108,10 @@ pub const FEWEST_RUNS: usize = 4;
 
 /// Returns the sides of tags. Of several files, a tag that has samples in fewer than four is left
 /// out, and a line on standard error says so.
-pub(crate) fn sides_of(files: Files<'_, '_, '_>, tags: Vec<TagSamples>) -> Result<Vec<Side>, StatError> {
+pub(crate) fn sides_of(
+    files: Files<'_, '_, '_>,
+    tags: Vec<TagSamples>,
+) -> Result<Vec<Side>, StatError> {
     let alloc = files.alloc();
     let has_one_file = files.names.len() <= 1;
     let mut sides = Vec::new(alloc);

@@ -6,6 +6,7 @@ pub mod Conversions
 pub mod Storing
 pub mod Parts
 pub mod Changed
+pub mod Zips
 pub mod Multiplied
 pub mod Greatest
 pub mod TagsByFile

@@ -1,4 +1,3 @@
 pub mod Reports
-pub mod Each
 pub mod LogTags
 pub mod LogRuns

@@ -96,7 +96,7 @@ module _ (h : Plain) (S : List ℕ) (p : IsPlain (2 ^ 64 - 1) h) (stands : Stand
 -- the sums of samples in units
 sum-scaled : (f : ℕ) (g : Resolution) (a : Resolution → ℕ → ℕ) (S : List ℕ)
     → sum_by (λ x. x.factor * a x.resolution x.value) (known_by f g S) ≡ sum_by (λ x. x.factor * a x.resolution x.value) (known_by 1 g S) * f
-sum-scaled f g a [] = refl
+sum-scaled f g a [] = (let e : 0 ≡ 0 * f = omega arith in e)
 sum-scaled f g a (s ∷ S) =
     let of : Known → ℕ = λ x. x.factor * a x.resolution x.value in
     let more = sum_by of (known_by 1 g S) in

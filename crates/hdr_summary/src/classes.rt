@@ -1,6 +1,7 @@
 //! Samples that are only known by their classes, and levels.
 
-ghost use Rattle.std.specs.Prelude.{◌≡◌, ◌≢◌, ◌≤◌, ◌<◌, ◌+◌, ◌*◌, ◌-◌, ◌^◌, ℕ, List, [], ◌++◌, length, nat_le, count_by};
+ghost use Rattle.std.specs.Prelude.{◌≡◌, ◌≢◌, ◌≤◌, ◌<◌, ◌+◌, ◌*◌, ◌/◌, ◌-◌, ◌^◌, ℕ, List, [], ◌++◌, length, nat_le, count_by};
+ghost use Rattle.std.specs.Option.{option_map};
 ghost use Rattle.hdr_base.specs.Classes.{lowest_of, top_of};
 ghost use Rattle.hdr_model.specs.Plain.{IsPlain, resolution};
 ghost use Rattle.hdr_model.specs.Samples.{StandsFor};
@@ -81,7 +82,7 @@ fn counts_of(histogram: &Histogram<u64>, most: Option<u64>, factor: u64) -> Leve
         → StandsFor histogram.now S → (factor ≢ 1 → FitUnits factor (resolution histogram.now) S)
         → AreByClass result b decimals (known_by factor (resolution histogram.now) S) }
 {
-    match most.and_then(|most| most.checked_div(factor)) {
+    match most_in(most, factor) {
         Some(most) => counts_at(histogram, most).in_units(factor),
         None => LevelCounts {
             total: histogram.len(),
@@ -91,6 +92,16 @@ fn counts_of(histogram: &Histogram<u64>, most: Option<u64>, factor: u64) -> Leve
             low: u64::MAX,
             high: 0,
         },
+    }
+}
+
+/// Returns the greatest number of units of which each is `factor` others, at most `most` of these.
+fn most_in(most: Option<u64>, factor: u64) -> Option<u64>
+    ensures { 0 < factor → result ≡ option_map (λ most. most / factor) most }
+{
+    match most {
+        Some(most) => most.checked_div(factor),
+        None => None,
     }
 }
 

@@ -74,11 +74,7 @@ impl LogSums<'_> {
     /// # Errors
     /// Returns an error if its histogram is invalid, or if its values have other decimals or another
     /// unit than those before.
-    pub fn add_stored(
-        &mut self,
-        alloc: Global,
-        stored: &StoredInterval,
-    ) -> Result<usize, LogError>
+    pub fn add_stored(&mut self, alloc: Global, stored: &StoredInterval) -> Result<usize, LogError>
         ensures sums { OnOk result (AreIndexed self.old → AddsStored
             (view_of_sums self.old) (view_of_stored stored.now) (view_of_sums self.new)) }
         ensures index { IfOk result (λ index. AreIndexed self.old → index_of (sum_tag

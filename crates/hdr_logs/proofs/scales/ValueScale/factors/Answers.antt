@@ -1,4 +1,4 @@
-use Rattle.std.proofs.Common.{◌≡◌, ◌+◌, ℕ, List, take, take_all, sym, subst, arith}
+use Rattle.std.proofs.Common.{◌+◌, ℕ, List, take, take_all, sym, subst, arith}
 use Rattle.std.specs.List.{AllZip}
 use Rattle.hdr_logs.specs.Scales.{IsFactor}
 use Rattle.hdr_logs.proofs.Zips.{zip-more}
