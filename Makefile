@@ -1,4 +1,4 @@
-# make: proves and builds the programs, target/hdr and target/hdrstat. make check: the gate.
+# make: proves and builds the programs, target/hdr and target/hdrstat, and the library for C. make check: the gate.
 # make install: installs them below PREFIX, with manual pages, completions and the library for C. make dist: an archive of the
 # same and of Python's wheel, in dist; of one commit it has the same bytes each time. make install-c: installs the library for C alone.
 # make install-compat: the library that programs of HdrHistogram_c take in place of theirs (capi/compat).
@@ -19,6 +19,7 @@ COMMIT_TIME = $(or $(SOURCE_DATE_EPOCH),$(shell git log -1 --format=%ct 2>/dev/n
 
 all:
 	./build.sh $(PROGRAMS)
+	capi/build.sh
 
 install: all install-c
 	for program in $(PROGRAMS); do \

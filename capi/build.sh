@@ -6,18 +6,17 @@ cd "$(dirname "$0")/.."
 proved=crates/hdr_c/out/libhdr_c.a
 out=capi/target
 version=$(sed -n 's/.*have version \(.*\)\.$/\1/p' crates.txt)
-if ! command -v rt >/dev/null 2>&1; then
-    echo "capi/build.sh: no command 'rt': put the folder bin of the Rattle kit on the PATH" >&2
-    exit 127
-fi
-kit=$(dirname "$(rt doc | tail -1)")
-mkdir -p "$out"
-
 # Whether the archive is newer than all files that the crate is built from.
 is_fresh() {
     [ -f "$proved" ] || return 1
     folders=$(tools/checksum --crates hdr_c | sed 's|[: ].*||; s|^|crates/|')
     [ -z "$(find $folders -name out -prune -o \( -name '*.rt' -o -name '*.antt' \) -newer "$proved" -print)" ]
+}
+
+# Whether the libraries are newer than all that they are made of.
+is_built() {
+    [ -z "${CC:-}${DKAP_C:-}" ] && [ -f "$out/dkap_recorder.pc" ] && is_fresh || return 1
+    [ -z "$(find capi "$proved" -maxdepth 1 -type f -newer "$out/dkap_recorder.pc" -print)" ]
 }
 
 # Prints every 30 seconds that the proof goes on, while this script runs.
@@ -29,6 +28,13 @@ show_progress() {
     done
 }
 
+! is_built || exit 0
+if ! command -v rt >/dev/null 2>&1; then
+    echo "capi/build.sh: no command 'rt': put the folder bin of the Rattle kit on the PATH" >&2
+    exit 127
+fi
+kit=$(dirname "$(rt doc | tail -1)")
+mkdir -p "$out"
 if ! is_fresh; then
     echo "capi/build.sh: proving and building hdr_c (minutes at first, seconds after an edit)" >&2
     show_progress &
