@@ -1,6 +1,6 @@
 -- Histograms that are taken one after the other.
-use Rattle.std.proofs.Common.{◌≡◌, ◌≢◌, ◌==◌, ℕ, ◌^◌, ◌<◌, ◌≤◌, Bool, true, false, if◌then◌else◌, List, [], ◌∷◌, ◌++◌, length, map, append-nil, append_assoc, refl, sym, ap, subst, ◌∙◌, arith}
-use Rattle.std.specs.List.{All, AllZip}
+use Rattle.std.proofs.Common.{◌≡◌, ◌≢◌, ◌==◌, ℕ, ◌^◌, ◌<◌, Bool, true, false, if◌then◌else◌, List, [], ◌∷◌, ◌++◌, length, map, append-nil, append_assoc, refl, sym, ap, subst, ◌∙◌, arith}
+use Rattle.std.specs.List.{All}
 use Rattle.std.proofs.lemmas.List.{map-append, length-append}
 use Rattle.std.proofs.lemmas.List.Elements.{All-head, All-tail}
 use Rattle.hdr_base.specs.Classes.{Resolution}
@@ -12,7 +12,7 @@ use Rattle.hdr_summary.specs.Classes.{Known, known_by}
 use Rattle.hdr_summary.specs.declared.levels.Level.{Level}
 use Rattle.hdr_runs.specs.declared.log_counts.LogCounts.{LogCounts}
 use Rattle.hdr_runs.specs.LogCounts.{FitsBatches, HasCountedAt, InBatchesAt, IsOfUnits, ParsesLevels, TakesHistogram, asked_of, levels_of, tags_of, with_samples, with_values}
-use Rattle.hdr_runs.specs.CountedLogs.{Taken, AreTaken, CountsEach, JoinsEach, StandForEach, samples_at, values_at}
+use Rattle.hdr_runs.specs.CountedLogs.{Taken, AreTaken, CountsEach, JoinsEach, samples_at, values_at}
 
 -- histograms are taken, one after the other, whose values have these decimals
 abbrev pub TakesAll : ℕ → LogCounts → List Taken → LogCounts → Type 0

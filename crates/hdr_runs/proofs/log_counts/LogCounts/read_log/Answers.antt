@@ -1,4 +1,3 @@
-use Rattle.std.proofs.Common.{◌≡◌, List}
 use Rattle.std.proofs.lemmas.Result.{on_ok_weaker}
 use Rattle.hdr_logs.specs.Sums.{view_of_sums, decimals_of_sums}
 use Rattle.hdr_runs.proofs.LogRuns.{are-taken, counts-each, joins-each}

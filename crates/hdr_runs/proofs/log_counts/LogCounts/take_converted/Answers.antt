@@ -1,4 +1,3 @@
-use Rattle.std.proofs.Common.{◌≡◌, ◌+◌, min}
 use Rattle.hdr_runs.proofs.LogTags.{takes-converted, all-ok}
 use Rattle.hdr_runs.proofs.log_counts.LogCounts.take_converted.Goals as goal
 

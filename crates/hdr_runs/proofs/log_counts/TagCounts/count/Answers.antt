@@ -1,4 +1,4 @@
-use Rattle.std.proofs.Common.{◌≡◌, ◌++◌, length, take, drop, true, sym, subst, ◌∙◌, arith}
+use Rattle.std.proofs.Common.{◌≡◌, length, drop, sym, subst, arith}
 use Rattle.std.specs.List.{AllZip}
 use Rattle.hdr_runs.specs.LogCounts.{AddsClasses}
 use Rattle.hdr_logs.proofs.Changed.{refilled}
