@@ -65,6 +65,10 @@ next_start log = option_map (λ next. next.start) log.next
 abbrev pub IsFrom : {R : Type 0} → ℕ → PeekableLog R → Type 0
 IsFrom low log = IfSome (next_start log) (λ start. low ≤ start)
 
+-- the decimals and the unit of the values of an interval
+abbrev pub scale_of : StoredInterval → ℕ × Option Unit
+scale_of s = (decimals_of s, s.unit)
+
 -- the values of the next interval, if there is one, have these decimals and this unit
 abbrev pub IsNextIn : {R : Type 0} → ℕ → Option Unit → PeekableLog R → Type 0
 IsNextIn decimals unit log = IfSome log.next (λ s. (decimals_of s ≡ decimals) × (s.unit ≡ unit))

@@ -1,6 +1,6 @@
 //! Logs that are gathered: side by side, or of intervals that were read before.
 
-ghost use Rattle.std.specs.Prelude.{◌≡◌, ◌≤◌, ◌+◌, ◌↔◌, ℕ, [], true, Option, OnOk, IfOk, IfSome, map, vec_items};
+ghost use Rattle.std.specs.Prelude.{◌≡◌, ◌≤◌, ◌+◌, ◌↔◌, ℕ, [], true, false, IsTrue, Option, OnOk, IfOk, IfSome, map, vec_items};
 ghost use Rattle.std.specs.List.{All};
 ghost use Rattle.hdrhistogram.specs.LogWriters.{sink, divisor_of, IsSameLog};
 ghost use Rattle.hdr_logs.specs.Stored.{view_of_stored, decimals_of, intervals_of};
@@ -81,8 +81,10 @@ pub fn have_one_scale<R: Read + Drop>(
     ensures left { OnOk result (Loses R.remaining logs.old logs.new []) }
     ensures ready { OnOk result (All (IsKnown R.remaining) logs.old
         → All (IsReady R.remaining) logs.new) }
-    ensures scale { IfOk result (λ one. one ≡ true → (decimals : ℕ) × (unit : Option Unit)
+    ensures one { IfOk result (λ one. one ≡ true → (decimals : ℕ) × (unit : Option Unit)
         × All (IsNextIn decimals unit) logs.new) }
+    ensures several { IfOk result (λ one. one ≡ false → (decimals : ℕ) (unit : Option Unit)
+        → All (IsNextIn decimals unit) logs.new → ⊥) }
 {
     begin_logs(alloc, logs)?;
     let (decimals, unit) = first_scale(logs);
@@ -95,7 +97,7 @@ fn are_next_in<R: Read + Drop>(
     decimals: u32,
     unit: Option<Unit>,
 ) -> bool
-    ensures { result ≡ true → All (IsNextIn decimals unit) logs.now }
+    ensures { IsTrue result ↔ All (IsNextIn decimals unit) logs.now }
 {
     for log in logs {
         if !log.is_next_in(decimals, unit) {
@@ -106,10 +108,13 @@ fn are_next_in<R: Read + Drop>(
 }
 
 /// Returns the decimals and the unit of the values of the first log that has an interval.
-fn first_scale<R: Read + Drop>(logs: &[PeekableLog<'_, R>]) -> (u32, Option<Unit>) {
+fn first_scale<R: Read + Drop>(logs: &[PeekableLog<'_, R>]) -> (u32, Option<Unit>)
+    ensures { (decimals : ℕ) (unit : Option Unit) → All (IsNextIn decimals unit) logs.now
+        → All (IsNextIn result.0 result.1) logs.now }
+{
     for log in logs {
-        if log.next_start().is_some() {
-            return (log.next_decimals().unwrap_or(0), log.next_unit());
+        if let Some(scale) = log.next_scale() {
+            return scale;
         }
     }
     (0, None)

@@ -6,7 +6,7 @@ ghost use Rattle.hdr_log.specs.Tags.{tag_text};
 ghost use Rattle.hdrhistogram.specs.Chosen.{view_of_interval_choice};
 ghost use Rattle.hdr_logs.specs.Stored.{Stored};
 ghost use Rattle.hdr_gather.specs.Left.{LogHolds, next_interval, next_start, UnreadHold, HasLeft};
-ghost use Rattle.hdr_gather.specs.Left.{IsKnown, IsReady, IsReadyAt, IsFrom, IsNextIn};
+ghost use Rattle.hdr_gather.specs.Left.{IsKnown, IsReady, IsReadyAt, IsFrom, IsNextIn, scale_of};
 
 use hdr_input::Unit;
 use hdr_logs::{LineBuffer, LogError, LogLine, LogReader, Note, StoredInterval};
@@ -66,6 +66,16 @@ impl<'c, R: Read + Drop> PeekableLog<'c, R> {
     /// Returns the unit of the next interval's values, if a comment has one.
     pub(crate) fn next_unit(&self) -> Option<Unit> {
         self.next.as_ref().and_then(|next| next.unit)
+    }
+
+    /// Returns the decimals and the unit of the next interval's values, or `None` at the end of the log.
+    pub(crate) fn next_scale(&self) -> Option<(u32, Option<Unit>)>
+        ensures { result ≡ option_map scale_of self.now.next }
+    {
+        match &self.next {
+            Some(next) => Some((next.decimals.unwrap_or(0), next.unit)),
+            None => None,
+        }
     }
 
     /// Whether the next interval's values, if there is one, have these decimals and this unit.
