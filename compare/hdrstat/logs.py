@@ -512,8 +512,10 @@ def sums_by_key(intervals_of_logs):
 def with_form(logs, is_compressed, notes, choice):
     """The lines of logs with the chosen histograms in a form, and the failure after them, if there is one. A line whose histogram becomes
     compressed is a pair: what is before the histogram, and its V2 bytes."""
-    out = []
+    out, has_base, has_decimals = [], False, False
     for name, data in logs.items():
+        # A log does not have the base time and the decimals of those before
+        out += [b"#[BaseTime: 0.000 (seconds since epoch)]\n"] * has_base + [b"#[Values have 0 decimals]\n"] * has_decimals
         found, failure = {}, None
         try:
             for it in intervals(name, data, notes):
@@ -526,6 +528,8 @@ def with_form(logs, is_compressed, notes, choice):
             line = line.removeprefix(MARK) if number == 1 else line
             if number not in found:
                 out += [] if line[-1:] != b"\n" and line.strip(SPACE) else [line]
+                has_base = has_base or line.startswith(b"#[BaseTime: ")
+                has_decimals = has_decimals or line.startswith(b"#[Values have ")
             elif found[number]:
                 head, (bytes_of_field, becomes_compressed) = line.rpartition(b",")[0] + b",", found[number]
                 out.append((head, bytes_of_field) if becomes_compressed else head + base64.b64encode(bytes_of_field) + b"\n")

@@ -5,7 +5,8 @@ use crate::options::matches::choice_of;
 use clap::{ArgMatches, Command, Error};
 use hdr_convert::Form;
 use hdr_files::{Files, Input, StatError, print};
-use hdr_logs::{LineBuffer, LogError, LogReader};
+use hdr_input::Unit;
+use hdr_logs::{LineBuffer, LogError, LogReader, Place, check_unit};
 use hdrhistogram::serialization::interval_log::IntervalChoice;
 use std::alloc::{AllocError, Global};
 use std::io::Read;
@@ -48,17 +49,20 @@ pub fn run(rt: &HostRuntime, matches: &ArgMatches<'_>) -> Result<ExitCode, StatE
         names: matches.get_strs("LOG").unwrap_or(&[]),
         is_quiet: matches.get_flag("quiet"),
     };
-    files.read_each(|index, input| convert_log(files, index, input, form, choice))?;
+    let mut headers = Headers::NONE;
+    files.read_each(|index, input| convert_log(files, index, input, form, choice, &mut headers))?;
     Ok(ExitCode::SUCCESS)
 }
 
-/// Prints the chosen intervals of a log with their histograms in a form, up to its first error.
+/// Prints the chosen intervals of a log with their histograms in a form, up to its first error. The headers
+/// of the logs before do not hold for it.
 fn convert_log(
     files: Files<'_, '_, '_>,
     index: usize,
     input: Input<'_>,
     form: Form,
     choice: IntervalChoice<'_>,
+    headers: &mut Headers,
 ) -> Result<(), StatError> {
     let alloc = files.alloc();
     let mut log = LogReader::new(alloc, index, input, choice).map_err(|cause| files.log_error(
@@ -66,13 +70,29 @@ fn convert_log(
     ))?;
     let mut buffer = LineBuffer::new(alloc);
     let mut converted = Vec::new(alloc);
-    let mut lacks_version = form == Form::Compressed && index == 0;
+    let mut heading = Heading {
+        before: *headers,
+        own: Headers::NONE,
+        lacks_version: form == Form::Compressed && index == 0,
+        place: Place {
+            file: index,
+            line: 0,
+        },
+    };
+    heading.before.push_resets(&mut converted)?;
     for _ in 0..u64::MAX {
-        let lacks = &mut lacks_version;
-        let goes_on = convert_lines(alloc, &mut log, form, &mut buffer, &mut converted, lacks);
+        let goes_on = convert_lines(
+            alloc,
+            &mut log,
+            form,
+            &mut buffer,
+            &mut converted,
+            &mut heading,
+        );
         print(files.rt, &converted)?;
         converted.clear();
         if !matches!(goes_on, Ok(true)) {
+            *headers = headers.and(heading.own);
             files.print_notes(log.notes());
             return goes_on.map(|_| ()).map_err(|cause| files.log_error(cause));
         }
@@ -89,29 +109,142 @@ const VERSION: &[u8] = b"#[Histogram log format version 1.3]\n";
 /// What any version's comment begins with.
 const ANY_VERSION: &[u8] = b"#[Histogram log format version ";
 
-/// Inserts the comment of the version before the line at `start`, which is the last one, if that is the
-/// first line of a log that does not begin with `#`. A comment of any version before it is enough.
-fn add_version(
-    alloc: Global,
-    converted: &mut Vec<u8>,
-    start: usize,
-    lacks_version: &mut bool,
-) -> Result<(), AllocError> {
-    let line = converted.get(start..).unwrap_or(&[]);
-    if !*lacks_version || line.is_empty() {
-        return Ok(());
+/// What the comment begins with that has a base time, and the comment that times have none.
+const BASE_TIME: &[u8] = b"#[BaseTime: ";
+
+const NO_BASE_TIME: &[u8] = b"#[BaseTime: 0.000 (seconds since epoch)]\n";
+
+/// What the comment begins with that has the decimals of values, and the comment that they have none.
+const DECIMALS: &[u8] = b"#[Values have ";
+
+const NO_DECIMALS: &[u8] = b"#[Values have 0 decimals]\n";
+
+/// What the comment begins with that has the unit of values, and how it ends.
+const UNIT: &[u8] = b"#[Values are in ";
+
+const UNIT_END: &[u8] = b"]";
+
+/// The comments of logs that hold for all lines after them.
+#[derive(Clone, Copy)]
+struct Headers {
+    has_base_time: bool,
+    has_decimals: bool,
+    unit: Option<Unit>,
+}
+
+impl Headers {
+    const NONE: Headers = Headers {
+        has_base_time: false,
+        has_decimals: false,
+        unit: None,
+    };
+
+    /// Returns these and those of a comment.
+    fn with(self, comment: &[u8]) -> Headers {
+        self.and(Headers {
+            has_base_time: comment.starts_with(BASE_TIME),
+            has_decimals: comment.starts_with(DECIMALS),
+            unit: unit_of(comment),
+        })
     }
-    if line.starts_with(b"#") {
-        *lacks_version = !line.starts_with(ANY_VERSION);
-        return Ok(());
+
+    /// Returns these and later ones.
+    fn and(self, later: Headers) -> Headers {
+        Headers {
+            has_base_time: self.has_base_time || later.has_base_time,
+            has_decimals: self.has_decimals || later.has_decimals,
+            unit: later.unit.or(self.unit),
+        }
     }
-    let mut last = Vec::new(alloc);
-    last.extend_from_slice(line)?;
-    converted.truncate(start);
-    converted.extend_from_slice(VERSION)?;
-    converted.extend_from_slice(&last)?;
-    *lacks_version = false;
-    Ok(())
+
+    /// Appends comments that end the base time and the decimals.
+    fn push_resets(self, converted: &mut Vec<u8>) -> Result<(), AllocError> {
+        if self.has_base_time {
+            converted.extend_from_slice(NO_BASE_TIME)?;
+        }
+        if self.has_decimals {
+            converted.extend_from_slice(NO_DECIMALS)?;
+        }
+        Ok(())
+    }
+}
+
+/// Returns the unit of values, if a comment has it.
+fn unit_of(comment: &[u8]) -> Option<Unit> {
+    let name = comment
+        .strip_prefix(UNIT)?
+        .trim_ascii_end()
+        .strip_suffix(UNIT_END)?;
+    Unit::from_name(str::from_utf8(name).ok()?)
+}
+
+/// What is known of a log while it is converted.
+#[derive(Clone, Copy)]
+struct Heading {
+    /// The headers of the logs before, and those of the log so far.
+    before: Headers,
+    own: Headers,
+    /// Whether the comment of the version is to come.
+    lacks_version: bool,
+    /// The last line.
+    place: Place,
+}
+
+impl Heading {
+    /// Takes the last line, which begins at `start`.
+    ///
+    /// # Errors
+    /// Returns `MissingUnit` if the line is an interval whose values have no unit, and a log before has
+    /// one. The line is then removed.
+    fn take_line(
+        &mut self,
+        alloc: Global,
+        converted: &mut Vec<u8>,
+        start: usize,
+    ) -> Result<(), LogError> {
+        self.place.line = self.place.line.saturating_add(1);
+        let line = converted.get(start..).unwrap_or(&[]);
+        if line.starts_with(b"#") {
+            self.own = self.own.with(line);
+        } else if self.own.unit.is_none() && is_interval(line) {
+            if let Err(error) = check_unit(self.place, None, self.before.unit) {
+                converted.truncate(start);
+                return Err(error);
+            }
+        }
+        self.add_version(alloc, converted, start)?;
+        Ok(())
+    }
+
+    /// Inserts the comment of the version before the line at `start`, which is the last one, if that is the
+    /// first line of a log that does not begin with `#`. A comment of any version before it is enough.
+    fn add_version(
+        &mut self,
+        alloc: Global,
+        converted: &mut Vec<u8>,
+        start: usize,
+    ) -> Result<(), AllocError> {
+        let line = converted.get(start..).unwrap_or(&[]);
+        if !self.lacks_version || line.is_empty() {
+            return Ok(());
+        }
+        if line.starts_with(b"#") {
+            self.lacks_version = !line.starts_with(ANY_VERSION);
+            return Ok(());
+        }
+        let mut last = Vec::new(alloc);
+        last.extend_from_slice(line)?;
+        converted.truncate(start);
+        converted.extend_from_slice(VERSION)?;
+        converted.extend_from_slice(&last)?;
+        self.lacks_version = false;
+        Ok(())
+    }
+}
+
+/// Whether a line of a log that is no comment is an interval: not the names of fields, and not blank.
+fn is_interval(line: &[u8]) -> bool {
+    !line.starts_with(b"\"") && !line.trim_ascii().is_empty()
 }
 
 /// Appends the next lines of a log. Returns whether there may be more.
@@ -121,17 +254,17 @@ fn convert_lines<R: Read + Drop>(
     form: Form,
     buffer: &mut LineBuffer,
     converted: &mut Vec<u8>,
-    lacks_version: &mut bool,
+    heading: &mut Heading,
 ) -> Result<bool, LogError> {
     for _ in 0..u64::MAX {
         let start = converted.len();
         if !log.convert_line(alloc, form, buffer, converted)? {
-            if *lacks_version {
+            if heading.lacks_version {
                 converted.extend_from_slice(VERSION)?;
             }
             return Ok(false);
         }
-        add_version(alloc, converted, start, lacks_version)?;
+        heading.take_line(alloc, converted, start)?;
         if converted.len() >= PIECE || log.is_drained() {
             return Ok(true);
         }
