@@ -17,7 +17,7 @@ import org.HdrHistogram.HistogramLogReader;
 
 /** The driver of Java's HdrHistogram: reads the commands that driver.h describes, and prints a line for each. */
 public class Peer {
-    private static Histogram h;
+    private static Histogram h = new Histogram(3);
     private static final StringBuilder out = new StringBuilder();
 
     private static void pair(long value, long count) {
@@ -25,7 +25,11 @@ public class Peer {
     }
 
     private static long[] numbers(String[] words) {
-        return Arrays.stream(words).skip(1).flatMap(word -> Arrays.stream(word.split(":"))).mapToLong(Long::parseLong).toArray();
+        return Arrays.stream(words)
+            .skip(1)
+            .flatMap(word -> Arrays.stream(word.split(":")))
+            .mapToLong(Long::parseLong)
+            .toArray();
     }
 
     private static void fill(long[] pairs) {
@@ -53,7 +57,8 @@ public class Peer {
     }
 
     private static void correct(long interval) {
-        Histogram sum = new Histogram(h.getLowestDiscernibleValue(), h.getHighestTrackableValue(), h.getNumberOfSignificantValueDigits());
+        int digits = h.getNumberOfSignificantValueDigits();
+        Histogram sum = new Histogram(h.getLowestDiscernibleValue(), h.getHighestTrackableValue(), digits);
         sum.addWhileCorrectingForCoordinatedOmission(h, interval);
         h = sum;
         out.append("ok");
@@ -74,7 +79,8 @@ public class Peer {
     /** Prints bytes that a call has put into a buffer, up to its length. */
     private static void hex(ByteBuffer buffer, int length) {
         for (int i = 0; i < length; i++) {
-            out.append(Character.forDigit(buffer.get(i) >> 4 & 15, 16)).append(Character.forDigit(buffer.get(i) & 15, 16));
+            out.append(Character.forDigit(buffer.get(i) >> 4 & 15, 16));
+            out.append(Character.forDigit(buffer.get(i) & 15, 16));
         }
     }
 
@@ -98,7 +104,11 @@ public class Peer {
         for (int i = 0; i < buffer.capacity(); i++) {
             buffer.put(i, (byte) Integer.parseInt(digits.substring(2 * i, 2 * i + 2), 16));
         }
-        h = isCompressed(buffer.getInt(0)) ? Histogram.decodeFromCompressedByteBuffer(buffer, 0) : Histogram.decodeFromByteBuffer(buffer, 0);
+        if (isCompressed(buffer.getInt(0))) {
+            h = Histogram.decodeFromCompressedByteBuffer(buffer, 0);
+        } else {
+            h = Histogram.decodeFromByteBuffer(buffer, 0);
+        }
         out.append("ok");
     }
 
@@ -108,7 +118,8 @@ public class Peer {
             .append(of.getEndTimeStamp() - of.getStartTimeStamp()).append(',');
         String separator = "";
         for (HistogramIterationValue step : of.recordedValues()) {
-            text.append(separator).append(step.getValueIteratedTo()).append(':').append(step.getCountAtValueIteratedTo());
+            text.append(separator).append(step.getValueIteratedTo()).append(':');
+            text.append(step.getCountAtValueIteratedTo());
             separator = " ";
         }
         return text.toString();
@@ -187,7 +198,8 @@ public class Peer {
 
     public static void main(String[] arguments) throws IOException {
         BufferedReader in = new BufferedReader(new InputStreamReader(System.in, StandardCharsets.UTF_8));
-        PrintStream printed = new PrintStream(new BufferedOutputStream(new FileOutputStream(FileDescriptor.out), 1 << 16), false, "UTF-8");
+        FileOutputStream descriptor = new FileOutputStream(FileDescriptor.out);
+        PrintStream printed = new PrintStream(new BufferedOutputStream(descriptor, 1 << 16), false, "UTF-8");
         for (String line = in.readLine(); line != null; line = in.readLine()) {
             run(line);
             printed.println(out);

@@ -4,7 +4,8 @@ from fractions import Fraction
 import versions
 from model import Model
 
-PERCENTILES = [(0, 1), (1, 10), (1, 1), (25, 1), (50, 1), (75, 1), (90, 1), (95, 1), (99, 1), (999, 10), (9999, 100), (99999, 1000), (100, 1), (101, 1)]
+PERCENTILES = [(num, 1) for num in (0, 1, 25, 50, 75, 90, 95, 99, 100, 101)]
+PERCENTILES += [(1, 10), (999, 10), (9999, 100), (99999, 1000)]
 SHAPES = ["uniform", "log-normal", "constant", "bimodal", "sparse", "dense", "edges", "corrected", "zeros", "empty"]
 # Up to here the peers' numbers of samples are exact as doubles, and their products fit 64 bits.
 EXACT = 1 << 50
@@ -31,7 +32,7 @@ def answer(model, name, of):
         "sd": lambda: Fraction(*model.deviation()),
         "at": lambda: model.counts.get(scale.lowest(of[0]), 0),
         "between": lambda: model.between(*of),
-        "class": lambda: [scale.lowest(of[0]), scale.top(of[0]), scale.middle(of[0]), scale.top(of[0]) + 1, scale.width(of[0])],
+        "class": lambda: scale.class_of(of[0]),
         "recorded": model.recorded,
         "linear": lambda: model.linear(*of),
         "log": lambda: model.logarithmic(*of),
@@ -100,11 +101,15 @@ class Case:
         model = model or self.model
         self.queries.append(Query(text, group, answer(model, name, [int(it) for it in of]), model))
 
+    def corrected_sample(self, value):
+        """A value, its count, and an expected interval that is about a part of the value."""
+        return value, self.rnd.randint(1, 3), value // self.rnd.randint(1, 50) + self.rnd.randint(0, 2)
+
     def record(self):
         samples = random_samples(self.rnd, self.shape, self.high)
         corrected = []
         if self.shape == "corrected":
-            corrected = [(value, self.rnd.randint(1, 3), value // self.rnd.randint(1, 50) + self.rnd.randint(0, 2)) for value, _ in samples[:20]]
+            corrected = [self.corrected_sample(value) for value, _ in samples[:20]]
         for value, count in samples:
             self.model.record(value, count)
         for it in corrected:
@@ -115,15 +120,17 @@ class Case:
 
     def percentiles(self):
         rnd, total = self.rnd, self.model.total
-        found = PERCENTILES + [(rnd.randint(1, 100000), 1000) for _ in range(8)] + [(rnd.randint(1, 10**7), 10**5) for _ in range(6)]
+        found = PERCENTILES + [(rnd.randint(1, 100000), 1000) for _ in range(8)]
+        found += [(rnd.randint(1, 10**7), 10**5) for _ in range(6)]
         # Just at a rank, and in the middle of two
         for _ in range(6 if 0 < total < 1 << 55 else 0):
             found.append((50 * rnd.randint(1, 2 * total), total))
         return found
 
     def some_values(self):
-        near = [value + self.rnd.randint(-1, 1) for value in self.rnd.sample(self.model.classes, min(4, len(self.model.classes)))]
-        return [min(self.high, max(0, value)) for value in near] + [self.rnd.randint(0, self.high), min(self.high, random_bits(self.rnd, 62))]
+        rnd, classes = self.rnd, self.model.classes
+        found = [max(0, value + rnd.randint(-1, 1)) for value in rnd.sample(classes, min(4, len(classes)))]
+        return [min(self.high, value) for value in [*found, rnd.randint(0, self.high), random_bits(rnd, 62)]]
 
     def read(self):
         rnd = self.rnd

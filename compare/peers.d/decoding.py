@@ -55,7 +55,7 @@ def compare(table, peer, case, queries, texts):
         if is_same(query, came):
             table.same(peer, query.group)
         else:
-            table.differ(peer, query.group, case.seed, query, text, kind_of(peer, query, came))
+            table.differ(peer, query.group, case.seed, query, came, kind_of(peer, query, came))
         if query.name == "decode" and text != "ok":
             return
 
@@ -65,7 +65,8 @@ def decode(table, built, cases, results):
     listed, offset = [], 0
     for case in cases:
         number = [query.name for query in case.queries].index("compress")
-        listed += [(case, form, queries_of(case, form)) for form in forms(case, encoded_of(case, number, results, offset))]
+        encoded = encoded_of(case, number, results, offset)
+        listed += [(case, form, queries_of(case, form)) for form in forms(case, encoded)]
         offset += len(case.queries)
     for peer, driver in built.items():
         taken = [it for it in listed if it[1].is_taken_by(peer)]

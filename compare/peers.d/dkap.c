@@ -185,8 +185,8 @@ static void ticks(char *rest)
 }
 
 /* Calls that put bytes into a buffer, first to ask for its length. */
-typedef dkap_status encoder(const struct dkap_histogram *DKAP_RESTRICT source, uint8_t *DKAP_RESTRICT buf, size_t length,
-                            size_t *DKAP_RESTRICT needed);
+typedef dkap_status encoder(const struct dkap_histogram *DKAP_RESTRICT source, uint8_t *DKAP_RESTRICT buf,
+                            size_t length, size_t *DKAP_RESTRICT needed);
 
 static void print_encoded(encoder *encode)
 {

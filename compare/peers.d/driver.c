@@ -88,6 +88,7 @@ static void run_line(char *line)
     else
         command->run(line);
     putchar('\n');
+    fflush(stdout);
 }
 
 int main(void)

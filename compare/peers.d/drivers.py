@@ -10,6 +10,7 @@ OUT = os.path.join(HERE, "..", "target", "peers")
 OURS = "dkap"
 # How long the commands of a batch may take in one library.
 SECONDS = 300
+COMPILER = os.environ.get("CC", "cc")
 SOURCES = ["hdr_histogram", "hdr_histogram_log", "hdr_encoding", "hdr_time"]
 
 
@@ -22,9 +23,15 @@ def output_of(*command):
 
 
 def compile_c(name, *arguments):
-    path = os.path.join(OUT, name)
-    call(os.environ.get("CC", "cc"), "-std=c99", "-O2", "-I", HERE, "-o", path, os.path.join(HERE, f"{name}.c"), os.path.join(HERE, "driver.c"), *arguments)
+    path, sources = os.path.join(OUT, name), [os.path.join(HERE, f"{it}.c") for it in (name, "driver")]
+    call(COMPILER, "-std=c99", "-O2", "-I", HERE, "-o", path, *sources, *arguments)
     return [path]
+
+
+def fetched():
+    """The source of HdrHistogram_c."""
+    script = os.path.join(TOP, "capi", "compat", "fetch.sh")
+    return os.environ.get("HDR_SOURCE") or output_of(script, os.path.join(OUT, "debian"), "libhdr-histogram", "sid")
 
 
 def build_ours():
@@ -33,11 +40,11 @@ def build_ours():
 
 
 def build_c():
-    source = os.environ.get("HDR_SOURCE") or output_of(os.path.join(TOP, "capi", "compat", "fetch.sh"), os.path.join(OUT, "debian"), "libhdr-histogram", "sid")
-    objects = []
+    source, objects = fetched(), []
+    folders = ["-I", f"{source}/include", "-I", f"{source}/src"]
     for name in SOURCES:
         objects.append(os.path.join(OUT, f"{name}.o"))
-        call(os.environ.get("CC", "cc"), "-std=gnu11", "-O2", "-w", "-I", f"{source}/include", "-I", f"{source}/src", "-c", "-o", objects[-1], f"{source}/src/{name}.c")
+        call(COMPILER, "-std=gnu11", "-O2", "-w", *folders, "-c", "-o", objects[-1], f"{source}/src/{name}.c")
     return compile_c("hdr", "-isystem", f"{source}/include", *objects, "-lm", "-lz")
 
 
@@ -61,17 +68,17 @@ def build(names):
 
 
 def run(driver, name, commands):
-    """The results of commands, a line each. The variable DKAP_FAULT names a command of this library's driver that is wrong."""
+    """The results of commands, a line each. DKAP_FAULT names a command of this library whose results are made wrong."""
     environment = dict(os.environ, LC_ALL="C.UTF-8")
     environment.pop("FAULT", None)
     if name == OURS and os.environ.get("DKAP_FAULT"):
         environment["FAULT"] = os.environ["DKAP_FAULT"]
-    with tempfile.TemporaryFile("w+", encoding="utf-8") as lines, tempfile.TemporaryFile("w+", encoding="utf-8") as printed:
+    with tempfile.TemporaryFile("w+", encoding="utf-8") as lines, tempfile.TemporaryFile("w+", encoding="utf-8") as out:
         lines.writelines(f"{command}\n" for command in commands)
         lines.seek(0)
-        done = subprocess.run(driver, stdin=lines, stdout=printed, env=environment, check=False, timeout=SECONDS)
-        printed.seek(0)
-        results = printed.read().split("\n")[:-1]
+        done = subprocess.run(driver, stdin=lines, stdout=out, env=environment, check=False, timeout=SECONDS)
+        out.seek(0)
+        results = out.read().split("\n")[:-1]
     if done.returncode != 0 or len(results) != len(commands):
         at = min(len(results), len(commands) - 1)
         sys.exit(f"compare/peers: the driver of {name} ended with {done.returncode} at: {commands[at][:200]}")

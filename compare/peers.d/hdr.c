@@ -20,13 +20,9 @@ static void replace(struct hdr_histogram *other)
     h = other;
 }
 
-/* Creates a histogram. On error an empty one takes its place, so that the commands after it have one. */
-static void create(char *rest)
+/* Takes a new histogram, and prints the status. On error it is an empty one, so that later commands have one. */
+static void take(struct hdr_histogram *made, int status)
 {
-    int64_t low = (int64_t)next_number(&rest), high = (int64_t)next_number(&rest);
-    struct hdr_histogram *made = NULL;
-    int status = hdr_init(low, high, (int)next_number(&rest), &made);
-
     if (status == 0)
         printf("ok");
     else if (hdr_init(1, 2, 1, &made) == 0)
@@ -34,6 +30,15 @@ static void create(char *rest)
     else
         fail("out of memory");
     replace(made);
+}
+
+static void create(char *rest)
+{
+    int64_t low = (int64_t)next_number(&rest), high = (int64_t)next_number(&rest);
+    struct hdr_histogram *made = NULL;
+    int status = hdr_init(low, high, (int)next_number(&rest), &made);
+
+    take(made, status);
 }
 
 static void fill(char *rest)
@@ -198,12 +203,7 @@ static void decode(char *rest)
     int status = hdr_decode_compressed(bytes, length, &made);
 
     free(bytes);
-    if (status != 0) {
-        printf("error %d", status);
-        return;
-    }
-    replace(made);
-    printf("ok");
+    take(made, status);
 }
 
 static int64_t millis(hdr_timespec time)

@@ -26,6 +26,15 @@ def parsed(name, text):
     return int(text)
 
 
+def text_of(value):
+    """A value as the drivers print it; bytes are hexadecimal digits."""
+    if isinstance(value, bytes):
+        return value.hex()
+    if isinstance(value, list):
+        return " ".join(":".join(map(str, it)) if isinstance(it, tuple) else str(it) for it in value)
+    return f"{value} = {float(value):.17g}" if isinstance(value, Fraction) else str(value)
+
+
 def is_same(query, came):
     if query.name == "class" and isinstance(came, list):
         return len(came) == 5 and all(it in (None, wanted) for it, wanted in zip(came, query.wanted))
@@ -70,7 +79,7 @@ def is_double_root(query, came):
         return False
     once, twice = query.model.moments()
     total = query.model.total
-    root = math.isqrt(total * twice - once * once << 64) / (total << 32)
+    root = math.isqrt(total * twice - once * once << 128) / (total << 64)
     return abs(came - root) <= 1e-12 * (root + once / total)
 
 
@@ -78,9 +87,18 @@ def is_single_zero(query, came):
     return query.name == "compress" and came == encode(query.model, 2, -1)
 
 
-def has_wrapped(query, _came):
-    """The sum of the middles exceeds 63 bits."""
-    return query.model.moments()[0] >= 1 << 63
+def has_wrapped(query, came):
+    """The sum of the middles exceeds 63 bits and wraps: the mean, and the deviation from that mean, in doubles."""
+    model = query.model
+    once = model.moments()[0]
+    if once < 1 << 63 or not isinstance(came, float):
+        return False
+    mean = float((once + (1 << 63)) % (1 << 64) - (1 << 63)) / float(model.total)
+    if query.name == "mean":
+        return came == mean
+    middles = [(float(model.scale.middle(lowest)), float(model.counts[lowest])) for lowest in model.classes]
+    root = math.sqrt(sum((middle - mean) ** 2 * count for middle, count in middles) / model.total)
+    return abs(came - root) <= 1e-9 * root
 
 
 def is_empty_nan(query, came):
@@ -102,7 +120,7 @@ def is_top_of_class_0(query, came):
 
 
 def steps_in_c(model, levels):
-    """The steps of HdrHistogram_c: a level belongs to the step that it ends, and none follows the last class recorded."""
+    """The steps of HdrHistogram_c: a level belongs to the step that it ends."""
     found, at, value, before = [], -1, 0, 0
     for level in levels:
         lowest = model.scale.lowest(level)
@@ -112,7 +130,9 @@ def steps_in_c(model, levels):
         if value < lowest:
             at = min(model.scale.index(level), model.scale.length(model.high))
             value = model.scale.lowest_at(at)
-        found.append((level if at < model.scale.length(model.high) else found[-1][0] if found else 0, model.up_to(at) - before))
+        # Past the last class the level of the step before is kept.
+        is_past = at >= model.scale.length(model.high)
+        found.append(((found[-1][0] if found else 0) if is_past else level, model.up_to(at) - before))
         before = model.up_to(at)
 
 
@@ -162,8 +182,10 @@ def is_log_step_more(query, came):
     """Further steps, up to the greatest value of the last class."""
     model, (start, base) = query.model, query.of
     levels = [start * base**i - 1 for i in range(len(came))]
-    last = model.scale.top(model.scale.lowest_at(min(model.last(), model.scale.index(levels[-1])))) if came else 0
-    return len(came) > len(query.wanted) and came == [*query.wanted, *((level, 0) for level in levels[len(query.wanted):])] and levels[-1] <= last
+    known = len(query.wanted)
+    if len(came) <= known or came != [*query.wanted, *((level, 0) for level in levels[known:])]:
+        return False
+    return levels[-1] <= model.scale.top(model.scale.lowest_at(min(model.last(), model.scale.index(levels[-1]))))
 
 
 def is_no_step(query, came):
@@ -172,6 +194,8 @@ def is_no_step(query, came):
 
 def is_from_lowest(query, came):
     """Corrected from the lowest value of each class, and not from the greatest."""
+    if query.group != "corrections":
+        return False
     source = query.model.source.corrected(query.model.interval, lambda lowest: lowest)
     return came == (source.total if query.name == "total" else source.recorded())
 
@@ -192,9 +216,10 @@ KINDS = [
     ((C,), ("q",), "rank rounded, in doubles", is_of_rank(rank_in_c)),
     ((JAVA,), ("q",), "rank of the next smaller double", is_of_rank(rank_in_java)),
     ((RUST,), ("q",), "rank in doubles", is_of_rank(rank_in_rust)),
-    ((C, JAVA), ("q",), "no samples: top of the class of 0", is_top_of_class_0),
+    ((C,), ("q",), "no samples: top of the class of 0", is_top_of_class_0),
     ((C,), ("min",), "no samples: min is 2^63 - 1", is_empty_min),
     ((C, JAVA, RUST), ("max",), "zeros alone: max is 0", is_max_of_zeros),
+    ((JAVA,), ("max",), "no samples: top of the class of 0, once decoded", is_top_of_class_0),
     ((C,), ("mean", "sd"), "no samples: NaN", is_empty_nan),
     ((C, JAVA, RUST), ("mean",), "in doubles", is_rounded_mean),
     ((C, JAVA, RUST), ("sd",), "root in doubles, not rounded down", is_double_root),
@@ -206,7 +231,7 @@ KINDS = [
     ((C, JAVA), ("ticks",), "percentiles summed in doubles", is_tick_in_doubles(next_percentile)),
     ((RUST,), ("ticks",), "quantiles summed in doubles", is_tick_in_doubles(next_quantile)),
     ((C,), ("compress",), "a single count of 0 is -1", is_single_zero),
-    ((C,), ("recorded", "total"), "corrected from the lowest value", lambda query, came: query.group == "corrections" and is_from_lowest(query, came)),
+    ((C,), ("recorded", "total"), "corrected from the lowest value", is_from_lowest),
 ]
 
 

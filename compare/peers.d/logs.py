@@ -2,18 +2,25 @@
 import versions
 from model import Model
 
+LEGEND = '"StartTimestamp","Interval_Length","Interval_Max","Interval_Compressed_Histogram"'
 YEAR = 365 * 24 * 3600
 TAGS = ["", "", "a", "read", "write.db", "p99-x", "caf\u00e9", "T", "0"]
 
 
+def random_sample(rnd, high):
+    """A value and its count."""
+    value = rnd.randint(0, high) if rnd.random() < 0.5 else rnd.getrandbits(rnd.randint(1, high.bit_length() - 1))
+    return value, rnd.choice([1, 1, 1, rnd.randint(2, 10 ** rnd.randint(1, 12))])
+
+
 class Interval:
     def __init__(self, rnd, start, version, is_compressed):
-        self.tag, self.start, self.duration = rnd.choice(TAGS), start, rnd.choice([0, 1, 999, 1000, 1000, 60000, rnd.randint(0, 10**7)])
+        self.tag, self.start = rnd.choice(TAGS), start
+        self.duration = rnd.choice([0, 1, 999, 1000, 1000, 60000, rnd.randint(0, 10**7)])
         self.version, self.is_compressed = version, is_compressed
         low, high = rnd.choice([(1, 3600000), (1, 1 << 40), (1000, 10**9), (3, 9999)])
         self.model = Model(low, high, rnd.randint(1, 3))
-        self.samples = [(rnd.randint(0, high) if rnd.random() < 0.5 else rnd.getrandbits(rnd.randint(1, high.bit_length() - 1)),
-                         rnd.choice([1, 1, 1, rnd.randint(2, 10**rnd.randint(1, 12))])) for _ in range(rnd.choice([0, 1, 3, 10, 40]))]
+        self.samples = [random_sample(rnd, high) for _ in range(rnd.choice([0, 1, 3, 10, 40]))]
         for value, count in self.samples:
             self.model.record(value, count)
         self.model.closed()
@@ -21,7 +28,8 @@ class Interval:
     def line(self):
         tag = f"Tag={self.tag}," if self.tag else ""
         greatest = self.model.tops[-1] if self.model.tops else 0
-        return f"{tag}{seconds(self.start)},{seconds(self.duration)},{greatest}.0,{versions.field(self.model, self.version, self.is_compressed)}"
+        field = versions.field(self.model, self.version, self.is_compressed)
+        return f"{tag}{seconds(self.start)},{seconds(self.duration)},{greatest}.0,{field}"
 
 
 def seconds(millis):
@@ -34,7 +42,7 @@ class Log:
     def __init__(self, rnd):
         self.parts = []
         epoch = 1400000000000 + rnd.randrange(4 * 10**11)
-        if rnd.random() < 0.9:
+        if rnd.random() < 0.95:
             self.parts.append(("comment", f"#[Histogram log format version 1.{rnd.randint(0, 3)}]"))
         if rnd.random() < 0.4:
             self.parts.append(("comment", "#[Logged by a test]"))
@@ -44,19 +52,20 @@ class Log:
         if not self.is_absolute and rnd.random() < 0.7:
             self.parts.append(("base", epoch + rnd.choice([0, 0, rnd.randint(0, 10**6)])))
         if rnd.random() < 0.7:
-            self.parts.append(("legend", '"StartTimestamp","Interval_Length","Interval_Max","Interval_Compressed_Histogram"'))
+            self.parts.append(("legend", LEGEND))
         self.add_intervals(rnd, epoch if self.is_absolute else rnd.choice([0, 0, rnd.randint(0, 10**7)]))
 
     def add_intervals(self, rnd, start):
-        form = (rnd.choice([0, 1, 2, 2]), rnd.random() < 0.7)
-        is_mixed, is_split = rnd.random() < 0.2, rnd.random() < 0.25
+        form = (rnd.choice([0, 1, 2, 2]), rnd.random() < 0.85)
+        is_mixed, is_split = rnd.random() < 0.15, rnd.random() < 0.2
         for _ in range(rnd.randint(0, 8)):
-            version, is_compressed = (rnd.choice([0, 1, 2]), rnd.random() < 0.7) if is_mixed else form
+            version, is_compressed = (rnd.choice([0, 1, 2]), rnd.random() < 0.85) if is_mixed else form
             interval = Interval(rnd, start, version, is_compressed)
             self.parts.append(("interval", interval))
             start += interval.duration
             if is_split and rnd.random() < 0.4:
-                self.parts.append(rnd.choice([("blank", ""), ("comment", "# a comment"), ("base", 1500000000000 + rnd.randrange(10**9))]))
+                base = ("base", 1500000000000 + rnd.randrange(10**9))
+                self.parts.append(rnd.choice([("blank", ""), ("comment", "# a comment"), base]))
 
     def lines(self):
         for kind, it in self.parts:
@@ -109,11 +118,9 @@ def in_rust(log):
 
 
 def in_c(log):
-    """HdrHistogram_c: its reader asks for a version, knows no base time, and takes comments only before the first line."""
+    """HdrHistogram_c: its reader asks for a version, knows no base time, and takes comments only in the header."""
     reasons, found, is_header = [], log.start_time(), True
-    first = [kind for kind, _ in log.parts]
-    header = log.parts[:next((i for i, kind in enumerate(first) if kind not in ("comment", "start", "base")), len(first))]
-    if not any("version" in it for kind, it in header if kind == "comment"):
+    if not any("version" in it for kind, it in log.parts if kind == "comment"):
         return " ;error", ["a log without a version is an error"]
     for kind, it in log.parts:
         is_header = is_header and kind not in ("interval", "blank", "legend")
@@ -149,11 +156,12 @@ def error_in_java(interval):
     """Why Java's reader ends with an error at an interval, or None."""
     if not interval.is_compressed:
         return "a line that is not compressed is an error"
-    return "version 0 of 2 or 4 bytes is an error" if interval.version == 0 and versions.word_size(interval.model) < 8 else None
+    is_short = interval.version == 0 and versions.word_size(interval.model) < 8
+    return "version 0 of 2 or 4 bytes is an error" if is_short else None
 
 
 def in_java(log):
-    """Java: a start time is the base time of earlier starts, and without one the first start is; times are rounded down."""
+    """Java: a start time may be the base time, and without one the first start is it; times are rounded down."""
     reasons, found, times, base, end = set(), "", JavaTimes(), 0, " ;end"
     for kind, it in log.parts:
         if kind == "start":

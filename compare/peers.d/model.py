@@ -30,6 +30,10 @@ class Scale:
     def middle(self, value):
         return self.lowest(value) + self.width(value) // 2
 
+    def class_of(self, value):
+        """The lowest, greatest and middle value of a class, the lowest of the next, and the width."""
+        return [self.lowest(value), self.top(value), self.middle(value), self.top(value) + 1, self.width(value)]
+
     def lowest_at(self, index):
         """The lowest value of the class with so many classes below it."""
         half = 1 << self.digits - 1

@@ -1,8 +1,24 @@
 """Counts what was compared, and what differed by kind."""
 from collections import Counter
 
-# How many differences of no kind are printed of a library and a group.
-SHOWN = 5
+from kinds import text_of
+
+# How many differences of no kind are printed of a library and a group, and how much of a text.
+SHOWN, WIDTH = 5, 60
+
+
+def part(text, at):
+    """A part of a text that begins shortly before an offset."""
+    start = max(0, at - 20) if len(text) > WIDTH else 0
+    return ("..." if start else "") + text[start:start + WIDTH] + ("..." if len(text) > start + WIDTH else "")
+
+
+class Difference:
+    def __init__(self, seed, query, came):
+        wanted, came = text_of(query.wanted), text_of(came)
+        at = next((i for i, (a, b) in enumerate(zip(wanted, came)) if a != b), min(len(wanted), len(came)))
+        name = query.text if len(query.text) < WIDTH and query.name != "read" else query.name
+        self.text = f"{seed}, {name}: exact {part(wanted, at)}, came {part(came, at)}"
 
 
 class Table:
@@ -10,9 +26,9 @@ class Table:
         self.compared, self.started, self.kinds = Counter(), Counter(), Counter()
         self.examples, self.unlisted = {}, Counter()
 
-    def start(self, peer, what):
-        """Counts a histogram or a log."""
-        self.started[peer, what] += 1
+    def start(self, peer, what, count=1):
+        """Counts histograms, logs or intervals."""
+        self.started[peer, what] += count
 
     def same(self, peer, group):
         self.compared[peer, group] += 1
@@ -22,27 +38,29 @@ class Table:
         self.compared[peer, group] += 1
         if kind:
             self.kinds[peer, group, kind] += 1
-            self.examples.setdefault((peer, group, kind), (seed, query, came))
+            if (peer, group, kind) not in self.examples:
+                self.examples[peer, group, kind] = Difference(seed, query, came)
             return
         self.unlisted[peer, group] += 1
         if self.unlisted[peer, group] <= SHOWN:
-            model = getattr(query, "model", None)
-            shape = f" of {model.low} {model.high} {model.sigfig}, {model.total} samples" if model else ""
-            print(f"{peer}, {seed}: {query.text[:100]}{shape}\n    wanted {str(query.wanted)[:300]}\n    came   {came[:300]}", flush=True)
+            print(f"{peer} differs: {Difference(seed, query, came).text}", flush=True)
+
+    def show_group(self, peer, group):
+        listed = sorted((kind, n) for (p, g, kind), n in self.kinds.items() if (p, g) == (peer, group))
+        none = self.unlisted[peer, group]
+        print(f"{peer:15}{group:13}{self.compared[peer, group]:9}{sum(n for _, n in listed) + none:9}")
+        for kind, n in listed:
+            print(f"{'':37}{n:9}  {kind}, e.g. {self.examples[peer, group, kind].text}")
+        if none:
+            print(f"{'':37}{none:9}  of no listed kind")
 
     def show(self):
-        for (peer, what), count in self.started.items():
-            print(f"{peer}: {count} {what}")
-        for (peer, group), count in sorted(self.compared.items()):
-            differ = {kind: n for (p, g, kind), n in self.kinds.items() if (p, g) == (peer, group)}
-            listed = "".join(f"; {kind}: {n}" for kind, n in sorted(differ.items()))
-            none = self.unlisted[peer, group]
-            listed += f"; OF NO KIND: {none}" if none else ""
-            print(f"{peer}: {group}: {count} compared, {sum(differ.values()) + none} differ{listed}")
-        for (peer, group, kind), (seed, query, came) in sorted(self.examples.items(), key=lambda it: it[0]):
-            print(f"e.g. {peer}, {kind}, {seed}: {query.text[:80]}: exact {short(query.wanted)}, came {came[:80]}")
-        print(f"{sum(self.compared.values())} compared, {sum(self.kinds.values())} differ by a listed kind, {sum(self.unlisted.values())} by none")
-
-
-def short(wanted):
-    return f"{float(wanted):.17g}" if hasattr(wanted, "numerator") and not isinstance(wanted, int) else str(wanted)[:80]
+        print(f"{'library':15}{'':13}{'compared':>9}{'differ':>9}{'of it':>9}  kind")
+        for peer in dict.fromkeys(peer for peer, _ in self.started):
+            for (p, what), count in self.started.items():
+                if p == peer:
+                    print(f"{peer:15}{what:13}{count:9}")
+            for group in dict.fromkeys(group for p, group in self.compared if p == peer):
+                self.show_group(peer, group)
+        listed, none = self.kinds.total(), self.unlisted.total()
+        print(f"{self.compared.total()} compared, {listed} differ by a listed kind, {none} by none")

@@ -46,7 +46,7 @@ def word_size(model):
 
 
 def encode(model, version, single=0):
-    """The bytes of a histogram: version 0 has the counts of all classes. In version 2 a single count of 0 is the number `single`."""
+    """The bytes of a histogram: version 0 has the counts of all classes. In version 2 one count of 0 is `single`."""
     size = 1 if version == 2 else word_size(model)
     cookie = PLAIN[version] | size << 4
     if version == 2:
@@ -68,7 +68,7 @@ def compress(plain, version):
 
 def decompressed(data):
     """The bytes in compressed V2 bytes, or None."""
-    if len(data) < 8 or struct.unpack(">I", data[:4])[0] != COMPRESSED[2] | 0x10 or struct.unpack(">I", data[4:8])[0] != len(data) - 8:
+    if data[:8] != struct.pack(">II", COMPRESSED[2] | 0x10, len(data) - 8):
         return None
     try:
         return zlib.decompress(data[8:])

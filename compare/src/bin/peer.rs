@@ -1,5 +1,5 @@
-//! The driver of the Rust crate for `compare/peers`: reads the commands that `peers.d/driver.h` describes, and prints a line for
-//! each.
+//! The driver of the Rust crate for `compare/peers`: reads the commands that `peers.d/driver.h` describes, and prints a
+//! line for each.
 
 use hdrhistogram::Histogram;
 use hdrhistogram::iterators::{HistogramIterator, PickyIterator};
