@@ -163,6 +163,7 @@ public class Peer {
             case "sd" -> out.append(h.getStdDeviation());
             case "at" -> out.append(h.getCountAtValue(of[0]));
             case "between" -> out.append(h.getCountBetweenValues(of[0], of[1]));
+            case "below" -> out.append(h.getPercentileAtOrBelowValue(of[0]));
             case "class" -> classOf(of[0]);
             case "recorded" -> steps(h.recordedValues());
             case "linear" -> steps(h.linearBucketValues(of[0]));

@@ -32,6 +32,7 @@ def answer(model, name, of):
         "sd": lambda: Fraction(*model.deviation()),
         "at": lambda: model.counts.get(scale.lowest(of[0]), 0),
         "between": lambda: model.between(*of),
+        "below": lambda: Fraction(100 * model.up_to(scale.index(of[0])), model.total) if model.total else Fraction(100),
         "class": lambda: scale.class_of(of[0]),
         "recorded": model.recorded,
         "linear": lambda: model.linear(*of),
@@ -143,6 +144,7 @@ class Case:
         for value in self.some_values():
             self.ask(f"at {value}", "counts")
             self.ask(f"between {rnd.randint(0, value)} {value}", "counts")
+            self.ask(f"below {value}", "statistics")
             self.ask(f"class {value}", "classes")
         for _ in range(4):
             self.ask(f"class {random_bits(rnd, 61)}", "classes")

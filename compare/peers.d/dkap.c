@@ -129,6 +129,14 @@ static void count_between(char *rest)
     print_number(dkap_count_between(&h, low, high));
 }
 
+static void percentile_below(char *rest)
+{
+    struct dkap_fraction f = {0, 0, 0};
+    dkap_status status = dkap_percentile_below(&h, next_number(&rest), &f);
+
+    print_fraction(status, &f);
+}
+
 /* The lowest, greatest and middle value of a class, the lowest of the next, and the number of values in it. */
 static void class_of(char *rest)
 {
@@ -341,8 +349,9 @@ static void write_line(char *rest)
 const struct command commands[] = {
     {"new", create}, {"fill", fill}, {"omit", fill_corrected}, {"correct", correct}, {"total", total}, {"min", least},
     {"max", greatest}, {"q", percentile}, {"mean", mean}, {"sd", deviation}, {"at", count_at},
-    {"between", count_between}, {"class", class_of}, {"recorded", recorded}, {"linear", linear}, {"log", logarithmic},
-    {"ticks", ticks}, {"encode", encode_plain}, {"compress", encode_compressed}, {"decode", decode},
-    {"read", read_log}, {"begin", begin_log}, {"comment", write_comment}, {"start", write_start_time},
-    {"base", write_base_time}, {"line", write_line}, {"end", end_log}, {NULL, NULL},
+    {"between", count_between}, {"below", percentile_below}, {"class", class_of}, {"recorded", recorded},
+    {"linear", linear}, {"log", logarithmic}, {"ticks", ticks}, {"encode", encode_plain},
+    {"compress", encode_compressed}, {"decode", decode}, {"read", read_log}, {"begin", begin_log},
+    {"comment", write_comment}, {"start", write_start_time}, {"base", write_base_time}, {"line", write_line},
+    {"end", end_log}, {NULL, NULL},
 };

@@ -64,7 +64,13 @@ BUILDS = {OURS: build_ours, "HdrHistogram_c": build_c, "Java": build_java, "Rust
 def build(names):
     """The command line of each driver."""
     os.makedirs(OUT, exist_ok=True)
-    return {name: BUILDS[name]() for name in names}
+    built = {}
+    for name in names:
+        try:
+            built[name] = BUILDS[name]()
+        except (OSError, subprocess.CalledProcessError) as error:
+            sys.exit(f"compare/peers: the driver of {name} is not built: {error}")
+    return built
 
 
 def run(driver, name, commands):

@@ -14,7 +14,7 @@ def parsed(name, text):
         return None
     if text.startswith("error") or name in ("new", "correct", "decode"):
         return text
-    if name in ("mean", "sd"):
+    if name in ("mean", "sd", "below"):
         words = text.split(" ")
         return float(text) if len(words) == 1 else Fraction((int(words[1]) << 64) + int(words[0]), int(words[2]) or 1)
     if name in ("recorded", "linear", "log", "ticks"):
@@ -69,7 +69,7 @@ def is_of_rank(rank):
     return is_kind
 
 
-def is_rounded_mean(query, came):
+def is_rounded(query, came):
     return isinstance(came, float) and abs(came - float(query.wanted)) <= 1e-12 * float(query.wanted)
 
 
@@ -221,7 +221,7 @@ KINDS = [
     ((C, JAVA, RUST), ("max",), "zeros alone: max is 0", is_max_of_zeros),
     ((JAVA,), ("max",), "no samples: top of the class of 0, once decoded", is_top_of_class_0),
     ((C,), ("mean", "sd"), "no samples: NaN", is_empty_nan),
-    ((C, JAVA, RUST), ("mean",), "in doubles", is_rounded_mean),
+    ((C, JAVA, RUST), ("mean", "below"), "in doubles", is_rounded),
     ((C, JAVA, RUST), ("sd",), "root in doubles, not rounded down", is_double_root),
     ((C,), ("mean", "sd"), "sum past 63 bits", has_wrapped),
     ((C,), ("linear", "log"), "a step ends with the level", is_step_in_c),

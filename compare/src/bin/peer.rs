@@ -108,6 +108,7 @@ fn query(h: &Histogram<u64>, name: &str, of: &[u64]) -> Printed {
         "sd" => h.stdev().to_string(),
         "at" => h.count_at(of[0]).to_string(),
         "between" => h.count_between(of[0], of[1]).to_string(),
+        "below" => h.percentile_below(of[0]).to_string(),
         "class" => [
             h.lowest_equivalent(of[0]),
             h.highest_equivalent(of[0]),
