@@ -43,7 +43,7 @@ fn log_run(
     let alloc = files.alloc();
     let has_one_file = files.names.len() <= 1;
     let mut tags = Vec::new(alloc);
-    let mut units = LogUnits::None;
+    let mut units = LogUnits::NONE;
     for (index, name) in or_standard_input(files.names).iter().enumerate() {
         let mut sums = LogSums::new(alloc, choice, sigfig, is_by_tag);
         let mut batches = LogBatches::new(alloc, sigfig);
@@ -61,7 +61,7 @@ fn log_run(
     }
     Ok(RunSides {
         sides: sides_of(files, tags)?,
-        unit: units.unit(),
+        unit: units.unit,
     })
 }
 
@@ -162,34 +162,31 @@ fn samples_of_tag<'a>(
     }
 }
 
-/// The units of the values of logs so far.
+/// The unit of the values of logs so far.
 #[derive(Clone, Copy)]
-enum LogUnits {
-    None,
-    /// All logs have this unit, or none of them has one.
-    Same(Option<Unit>),
+struct LogUnits {
+    /// Whether there was a log.
+    is_known: bool,
+    unit: Option<Unit>,
 }
 
 impl LogUnits {
+    /// No logs.
+    const NONE: LogUnits = LogUnits {
+        is_known: false,
+        unit: None,
+    };
+
     /// Adds the unit of a log.
     ///
     /// # Errors
     /// Returns `OtherScale` if another log has another unit.
     fn add(&mut self, unit: Option<Unit>) -> Result<(), StatError> {
-        match *self {
-            LogUnits::Same(other) if other != unit => Err(StatError::OtherScale),
-            _ => {
-                *self = LogUnits::Same(unit);
-                Ok(())
-            }
+        if self.is_known && self.unit != unit {
+            return Err(StatError::OtherScale);
         }
-    }
-
-    /// Returns the unit of all logs, if they have one.
-    fn unit(self) -> Option<Unit> {
-        match self {
-            LogUnits::None => None,
-            LogUnits::Same(unit) => unit,
-        }
+        self.is_known = true;
+        self.unit = unit;
+        Ok(())
     }
 }
