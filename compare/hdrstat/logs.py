@@ -527,9 +527,10 @@ def with_form(logs, is_compressed, notes, choice):
                 break
             line = line.removeprefix(MARK) if number == 1 else line
             if number not in found:
-                out += [] if line[-1:] != b"\n" and line.strip(SPACE) else [line]
-                has_base = has_base or line.startswith(b"#[BaseTime: ")
-                has_decimals = has_decimals or line.startswith(b"#[Values have ")
+                if line[-1:] == b"\n" or not line.strip(SPACE):
+                    out.append(line)
+                    has_base = has_base or line.startswith(b"#[BaseTime: ")
+                    has_decimals = has_decimals or line.startswith(b"#[Values have ")
             elif found[number]:
                 head, (bytes_of_field, becomes_compressed) = line.rpartition(b",")[0] + b",", found[number]
                 out.append((head, bytes_of_field) if becomes_compressed else head + base64.b64encode(bytes_of_field) + b"\n")
