@@ -174,6 +174,12 @@ def is_tick_in_doubles(next_tick):
     return is_kind
 
 
+def is_step_not_found(query, came):
+    """The last step looks for 100 percent of the samples, and all of them are less in doubles."""
+    total = query.model.total
+    return str(came).startswith("error ArrayIndexOutOfBounds") and total > 0 and 100.0 * total / total < 100.0
+
+
 def is_step_of_none(query, came):
     return query.model.total == 0 and came == [(0, 0)]
 
@@ -229,6 +235,7 @@ KINDS = [
     ((JAVA,), ("log",), "no samples: no step", is_no_step),
     ((C,), ("ticks",), "no samples: one step", is_step_of_none),
     ((C, JAVA), ("ticks",), "percentiles summed in doubles", is_tick_in_doubles(next_percentile)),
+    ((JAVA,), ("ticks",), "all samples are below 100 percent, in doubles: an error", is_step_not_found),
     ((RUST,), ("ticks",), "quantiles summed in doubles", is_tick_in_doubles(next_quantile)),
     ((C,), ("compress",), "a single count of 0 is -1", is_single_zero),
     ((C,), ("recorded", "total"), "corrected from the lowest value", is_from_lowest),
