@@ -509,13 +509,18 @@ def sums_by_key(intervals_of_logs):
     return out
 
 
+# The comments that end a base time and decimals
+NO_BASE, NO_DECIMALS = b"#[BaseTime: 0.000 (seconds since epoch)]", b"#[Values have 0 decimals]"
+
+
 def with_form(logs, is_compressed, notes, choice):
     """The lines of logs with the chosen histograms in a form, and the failure after them, if there is one. A line whose histogram becomes
     compressed is a pair: what is before the histogram, and its V2 bytes."""
     out, has_base, has_decimals = [], False, False
     for name, data in logs.items():
         # A log does not have the base time and the decimals of those before
-        out += [b"#[BaseTime: 0.000 (seconds since epoch)]\n"] * has_base + [b"#[Values have 0 decimals]\n"] * has_decimals
+        out += [NO_BASE + b"\n"] * has_base + [NO_DECIMALS + b"\n"] * has_decimals
+        has_base = has_decimals = False
         found, failure = {}, None
         try:
             for it in intervals(name, data, notes):
@@ -529,8 +534,9 @@ def with_form(logs, is_compressed, notes, choice):
             if number not in found:
                 if line[-1:] == b"\n" or not line.strip(SPACE):
                     out.append(line)
-                    has_base = has_base or line.startswith(b"#[BaseTime: ")
-                    has_decimals = has_decimals or line.startswith(b"#[Values have ")
+                    text = line.rstrip(SPACE)
+                    has_base = text != NO_BASE if text.startswith(b"#[BaseTime: ") else has_base
+                    has_decimals = text != NO_DECIMALS if text.startswith(b"#[Values have ") else has_decimals
             elif found[number]:
                 head, (bytes_of_field, becomes_compressed) = line.rpartition(b",")[0] + b",", found[number]
                 out.append((head, bytes_of_field) if becomes_compressed else head + base64.b64encode(bytes_of_field) + b"\n")

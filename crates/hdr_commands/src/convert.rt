@@ -92,7 +92,10 @@ fn convert_log(
         print(files.rt, &converted)?;
         converted.clear();
         if !matches!(goes_on, Ok(true)) {
-            *headers = headers.and(heading.own);
+            *headers = Headers {
+                unit: heading.own.unit.or(headers.unit),
+                ..heading.own
+            };
             files.print_notes(log.notes());
             return goes_on.map(|_| ()).map_err(|cause| files.log_error(cause));
         }
@@ -112,12 +115,12 @@ const ANY_VERSION: &[u8] = b"#[Histogram log format version ";
 /// What the comment begins with that has a base time, and the comment that times have none.
 const BASE_TIME: &[u8] = b"#[BaseTime: ";
 
-const NO_BASE_TIME: &[u8] = b"#[BaseTime: 0.000 (seconds since epoch)]\n";
+const NO_BASE_TIME: &[u8] = b"#[BaseTime: 0.000 (seconds since epoch)]";
 
 /// What the comment begins with that has the decimals of values, and the comment that they have none.
 const DECIMALS: &[u8] = b"#[Values have ";
 
-const NO_DECIMALS: &[u8] = b"#[Values have 0 decimals]\n";
+const NO_DECIMALS: &[u8] = b"#[Values have 0 decimals]";
 
 /// What the comment begins with that has the unit of values, and how it ends.
 const UNIT: &[u8] = b"#[Values are in ";
@@ -139,42 +142,45 @@ impl Headers {
         unit: None,
     };
 
-    /// Returns these and those of a comment.
+    /// Returns what holds after a comment.
     fn with(self, comment: &[u8]) -> Headers {
-        self.and(Headers {
-            has_base_time: comment.starts_with(BASE_TIME),
-            has_decimals: comment.starts_with(DECIMALS),
-            unit: unit_of(comment),
-        })
-    }
-
-    /// Returns these and later ones.
-    fn and(self, later: Headers) -> Headers {
+        let text = comment.trim_ascii_end();
         Headers {
-            has_base_time: self.has_base_time || later.has_base_time,
-            has_decimals: self.has_decimals || later.has_decimals,
-            unit: later.unit.or(self.unit),
+            has_base_time: if text.starts_with(BASE_TIME) {
+                text != NO_BASE_TIME
+            } else {
+                self.has_base_time
+            },
+            has_decimals: if text.starts_with(DECIMALS) {
+                text != NO_DECIMALS
+            } else {
+                self.has_decimals
+            },
+            unit: unit_of(text).or(self.unit),
         }
     }
 
     /// Appends comments that end the base time and the decimals.
     fn push_resets(self, converted: &mut Vec<u8>) -> Result<(), AllocError> {
         if self.has_base_time {
-            converted.extend_from_slice(NO_BASE_TIME)?;
+            push_line(converted, NO_BASE_TIME)?;
         }
         if self.has_decimals {
-            converted.extend_from_slice(NO_DECIMALS)?;
+            push_line(converted, NO_DECIMALS)?;
         }
         Ok(())
     }
 }
 
+/// Appends a line.
+fn push_line(converted: &mut Vec<u8>, line: &[u8]) -> Result<(), AllocError> {
+    converted.extend_from_slice(line)?;
+    converted.extend_from_slice(b"\n")
+}
+
 /// Returns the unit of values, if a comment has it.
 fn unit_of(comment: &[u8]) -> Option<Unit> {
-    let name = comment
-        .strip_prefix(UNIT)?
-        .trim_ascii_end()
-        .strip_suffix(UNIT_END)?;
+    let name = comment.strip_prefix(UNIT)?.strip_suffix(UNIT_END)?;
     Unit::from_name(str::from_utf8(name).ok()?)
 }
 
@@ -242,7 +248,8 @@ impl Heading {
     }
 }
 
-/// Whether a line of a log that is no comment is an interval: not the names of fields, and not blank.
+/// Whether a line of a log is an interval, unless it is a comment: it has no names of fields, and is not
+/// blank.
 fn is_interval(line: &[u8]) -> bool {
     !line.starts_with(b"\"") && !line.trim_ascii().is_empty()
 }
