@@ -72,3 +72,5 @@ ar rcsD "$out/libdkap_recorder.a" "$out/recorder.o"
     -o "$out/libdkap_recorder.so.1" "$out/recorder.o" "$out/libdkap.so.1"
 ln -sf libdkap_recorder.so.1 "$out/libdkap_recorder.so"
 sed "s|@VERSION@|$version|" capi/dkap_recorder.pc.in >"$out/dkap_recorder.pc"
+# What another compiler or source has made is not taken for the library.
+[ -z "${CC:-}${DKAP_C:-}" ] || touch -d 1970-01-02 "$out/dkap_recorder.pc"
