@@ -63,7 +63,8 @@ def page_of(logs, unit=None, level=None, amount=None):
         intervals.append([interval_of(it, samples, *width) for it, samples in tags[tag.name]])
     first, last = min(it.start for own in intervals for it in own), max(it.end for own in intervals for it in own)
     unit = None if unit is None else UNIT_NAMES.index(unit)
-    return Page(figures, verdict_of(intervals, level), Clock(min(first, last), last), unit, level, amount, coarser, len(read))
+    is_instant = len({it.start for own in intervals for it in own}) == 1
+    return Page(figures, verdict_of(intervals, level), Clock(min(first, last), last), unit, level, amount, coarser, len(read), is_instant)
 
 
 class Begins:

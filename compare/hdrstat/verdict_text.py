@@ -199,7 +199,8 @@ class TagFigures:
 
 @dataclasses.dataclass
 class Page:
-    """What the lines are of: the tags in order, the verdict, the clock, the index of the unit, a level, and intervals coarser than the sums."""
+    """What the lines are of: the tags in order, the verdict, the clock, the index of the unit, a level, intervals coarser than the sums, and whether
+    all intervals begin at one time."""
 
     tags: list
     verdict: object
@@ -209,6 +210,7 @@ class Page:
     amount: str = None
     coarser: int = 0
     intervals: int = 0
+    is_instant: bool = False
 
     def __post_init__(self):
         self.named, self.others, self.are_lighter = named_lines(self.verdict.incidents)
@@ -260,7 +262,7 @@ class Page:
         tag = self.tags[at]
         if tag.lowest_at_level <= self.level[2]:
             return f"; {self.tag(at)} may be over: the class of its value ends at {label(tag.highest_at_level, self.unit)}"
-        spans = self.verdict.tags[at].over
+        spans = [] if self.is_instant else self.verdict.tags[at].over
         times = " and ".join(f"{self.clock.text(start)} for {length_text(end - start)}" for start, end in spans[:MOST_TIMES])
         more = len(spans) - MOST_TIMES
         times += f" and {counted(more, 'more time')}" if more > 0 else ""
