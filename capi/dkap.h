@@ -27,8 +27,8 @@
  *   - No pointer is null, even if the length beside it is 0. It is aligned, and valid for its type and length.
  *   - A handle is DKAP_CLOSED to begin with, and is never copied or written by the caller. A copy of the struct would
  *     own the same histogram, and closing both would free it twice. `dkap_copy` copies a histogram.
- *   - No two pointers of one call overlap. `dkap_copy`, `dkap_add`, `dkap_add_correct`, `dkap_subtract` and
- *     `dkap_equal` may be given one handle twice, though: the status is then DKAP_E_SAME_HANDLE.
+ *   - No two pointers of one call overlap. `dkap_copy`, `dkap_add`, `dkap_add_correct` and `dkap_subtract` may be
+ *     given one handle twice, though: the status is then DKAP_E_SAME_HANDLE. So may `dkap_equal`.
  *   - A call that changes a handle is the only one that uses it. Calls that take a `const` handle write nothing in it
  *     or in its histogram: any number of threads may make them at once.
  *   - No call is made in a signal handler, nor in the forked child of a process that has threads.
@@ -172,7 +172,7 @@ struct dkap_log_header {
 /* Returns a static English text for a status, without a line break; also for a number that is not a status. */
 const char *dkap_strerror(dkap_status status);
 
-/* Returns the version of the library, such as "2.0.0". */
+/* Returns the version of the library, such as "3.0.0". */
 const char *dkap_version(void);
 
 /* Creating, copying and freeing. On DKAP_OK the histogram that `h` had before is freed. */

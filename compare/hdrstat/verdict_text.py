@@ -352,7 +352,7 @@ class Page:
         return (
             "Slow: such a percentile is 3/2 of its usual value (its lower quartile over time) over 8 intervals or more, 2 times over 4, 3 over 2, "
             f"or 4 times in one, by as much as {self.verdict.bar} samples that are all above. "
-            "Missing: below half of the samples a second of the 16 intervals before. "
+            "Missing: at most half of the usual samples a second over 8 intervals or more, or a fifth over 3. "
         )
 
     def zone_text(self):

@@ -20,7 +20,7 @@ fn arguments(rt: &HostRuntime) -> Result<Vec<String>, Fault> {
     Ok(arguments.collect(rt.alloc())?)
 }
 
-const VERSION: &str = "hdr 2.0.0\n";
+const VERSION: &str = "hdr 3.0.0\n";
 
 const HELP: &str = "\
 Exact quantiles of samples, by HDR histograms

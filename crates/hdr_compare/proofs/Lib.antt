@@ -5,3 +5,5 @@ pub mod SameBatches
 pub mod Intervals
 pub mod Parts
 pub mod Widths
+pub mod Coarser
+pub mod Nearest

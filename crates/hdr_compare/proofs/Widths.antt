@@ -1,5 +1,5 @@
 -- Classes that lie in those of a width.
-use Rattle.std.proofs.Common.{◌≡◌, ◌⊎◌, ℕ, ◌+◌, ◌^◌, ◌<◌, ◌≤◌, ltb, max, min, List, length, get_or, arith, inl, inr, sym, subst}
+use Rattle.std.proofs.Common.{◌≡◌, ◌⊎◌, ℕ, ◌+◌, ◌^◌, ◌<◌, ◌≤◌, ltb, max, min, List, length, get_or, arith, inl, inr, subst}
 use Rattle.std.specs.List.{Any}
 use Rattle.std.proofs.lemmas.Bool.{cases_lt}
 use Rattle.hdr_base.specs.Classes.{IsFiner, unit_of}

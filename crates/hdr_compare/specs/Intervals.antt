@@ -1,6 +1,7 @@
 -- The interval of a quantile of samples in batches, whose histograms are hs.
-use Rattle.std.specs.Prelude.{◌≡◌, ◌⊎◌, ℕ, ◌-◌, ◌^◌, ◌≤◌, nat_lt, if◌then◌else◌, List, Option, Some, None, IfSome, IsSome}
+use Rattle.std.specs.Prelude.{◌≡◌, ◌⊎◌, ℕ, ◌-◌, ◌^◌, ◌≤◌, min, nat_lt, if◌then◌else◌, List, Option, Some, None, IfSome, IsSome}
 use Rattle.std.specs.List.{sum_by}
+use Rattle.hdr_base.specs.Classes.{Resolution, lowest_of}
 use Rattle.hdr_base.specs.Fractions.{Ratio}
 use Rattle.hdr_model.specs.Plain.{Plain}
 use Rattle.hdr_compare.specs.EndsOf.{IsFirstOfInterval, IsLastOfInterval}
@@ -67,3 +68,12 @@ CountsAs hs tier n e = (e ≡ n) ⊎ IsCountOf hs tier e
 pub record EndsCount (hs : List Plain) (tier : Tier) (i : Interval) : Type 0 where
   pub low : IsCountOf hs tier i.low.independent
   pub high : IsCountOf hs tier i.high.independent
+
+-- for each end they count as at most as many as by those below the class of the interval's value, and by those that are at most it
+pub record CountsByValue (g : Resolution) (hs : List Plain) (tier : Tier) (i : Interval) : Type 0 where
+  pub below : Counted
+  pub counted_below : IsCounted tier hs (before (lowest_of g i.value)) below
+  pub upto : Counted
+  pub counted_upto : IsCounted tier hs (Some i.value) upto
+  pub low : i.low.independent ≤ min below.independent upto.independent
+  pub high : i.high.independent ≤ min below.independent upto.independent

@@ -13,3 +13,4 @@ pub mod Shifts
 pub mod Parts
 pub mod Batchings
 pub mod Sums
+pub mod Nearest

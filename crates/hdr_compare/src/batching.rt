@@ -1,6 +1,6 @@
 //! Samples that are recorded one after the other, in batches.
 
-ghost use Rattle.std.specs.Prelude.{◌≡◌, ◌≤◌, []};
+ghost use Rattle.std.specs.Prelude.{◌≡◌, ◌≤◌, [], IfErr};
 
 use crate::merging::{in_pairs, push};
 use crate::run::BatchError;
@@ -32,12 +32,14 @@ impl Batching {
     ghost use Rattle.std.specs.Prelude.{ℕ, List, ◌++◌, ◌<◌, ◌^◌, length, OnOk};
     ghost use Rattle.hdr_base.specs.Classes.{IsFiner};
     ghost use Rattle.hdr_compare.specs.Batchings.{HasRecorded, batches_of, digits_of, recorded};
+    ghost use Rattle.hdr_model.specs.Merging.{lowest_values};
 
     /// Returns no samples. Their classes have these significant digits, up to 5.
     pub fn new(alloc: Global, sigfig: u8) -> Result<Batching, BatchError>
         requires { sigfig ≤ 5 }
         ensures none { IfOk result (HasRecorded []) }
         ensures digits { IfOk result (λ b. digits_of b ≡ sigfig) }
+        ensures errors { IfErr result (λ e. e ≡ BatchError.OutOfMemory) }
     {
         Ok(Batching {
             alloc,
@@ -55,6 +57,7 @@ impl Batching {
         ensures digits { digits_of self.new ≡ digits_of self.old }
         ensures samples { OnOk result ((S : List ℕ) → length (S ++ recorded value interval) < 2 ^ 64
             → HasRecorded S self.old → HasRecorded (S ++ recorded value interval) self.new) }
+        ensures errors { IfErr result (λ e. e ≡ BatchError.OutOfMemory) }
     {
         if self.filled >= self.size {
             self.begin()?;
@@ -65,12 +68,17 @@ impl Batching {
     }
 
     /// Records all samples of a histogram, as those of an interval of time: batches then have the
-    /// same number of intervals with samples. After an error the samples are lost.
+    /// same number of intervals with samples. After an error the samples are lost. Of a histogram
+    /// with coarser classes, each sample counts as the lowest value of its class.
     pub fn add(&mut self, histogram: &Histogram<u64>) -> Result<(), BatchError>
         ensures digits { digits_of self.new ≡ digits_of self.old }
         ensures samples { OnOk result ((S T : List ℕ) → StandsFor histogram.now T
             → IsFiner (resolution histogram.now) (resolution_of 1 (digits_of self.old))
             → length (S ++ T) < 2 ^ 64 → HasRecorded S self.old → HasRecorded (S ++ T) self.new) }
+        ensures lowest { OnOk result ((S T : List ℕ) → StandsFor histogram.now T → length (S ++ T) < 2 ^ 64
+            → HasRecorded S self.old → (length (lowest_values histogram.now) ≡ length T)
+            × HasRecorded (S ++ lowest_values histogram.now) self.new) }
+        ensures errors { IfErr result (λ e. e ≡ BatchError.OutOfMemory) }
     {
         let intervals = u64::from(!histogram.is_empty());
         if self.filled.saturating_add(intervals) > self.size {
@@ -87,7 +95,14 @@ impl Batching {
         ensures samples { OnOk result ((S T : List ℕ) → StandsFor histogram.now T
             → IsFiner (resolution histogram.now) (resolution_of 1 (digits_of self.old))
             → length (S ++ T) < 2 ^ 64 → HasRecorded S self.old → HasRecorded (S ++ T) self.new) }
+        ensures lowest { OnOk result ((S T : List ℕ) → StandsFor histogram.now T → length (S ++ T) < 2 ^ 64
+            → HasRecorded S self.old → (length (lowest_values histogram.now) ≡ length T)
+            × HasRecorded (S ++ lowest_values histogram.now) self.new) }
+        ensures errors { IfErr result (λ e. e ≡ BatchError.OutOfMemory) }
     {
+        // Both histograms are plain
+        let _own = self.last.distinct_values();
+        let _more = histogram.distinct_values();
         match self.last.add(histogram) {
             Ok(()) => Ok(()),
             Err(_) => Err(BatchError::OutOfMemory),
@@ -99,6 +114,7 @@ impl Batching {
         ensures digits { digits_of self.new ≡ digits_of self.old }
         ensures samples { OnOk result ((S : List ℕ) → length (S ++ recorded value interval) < 2 ^ 64
             → HasRecorded S self.old → HasRecorded (S ++ recorded value interval) self.new) }
+        ensures errors { IfErr result (λ e. e ≡ BatchError.OutOfMemory) }
     {
         match self.last.record_correct(value, interval) {
             Ok(()) => Ok(()),
@@ -110,6 +126,7 @@ impl Batching {
     fn begin(&mut self) -> Result<(), BatchError>
         ensures digits { digits_of self.new ≡ digits_of self.old }
         ensures samples { OnOk result ((S : List ℕ) → length S < 2 ^ 64 → HasRecorded S self.old → HasRecorded S self.new) }
+        ensures errors { IfErr result (λ e. e ≡ BatchError.OutOfMemory) }
     {
         let last = mem::replace(&mut self.last, empty(self.alloc, self.sigfig)?);
         push(&mut self.full, last)?;
@@ -124,7 +141,8 @@ impl Batching {
 
     /// Returns the batches.
     pub fn into_batches(self) -> Result<Vec<Histogram<u64>>, BatchError>
-        ensures { IfOk result (λ batches. batches.items ≡ batches_of self) }
+        ensures batches { IfOk result (λ batches. batches.items ≡ batches_of self) }
+        ensures errors { IfErr result (λ e. e ≡ BatchError.OutOfMemory) }
     {
         let mut batches = self.full;
         push(&mut batches, self.last)?;
@@ -143,6 +161,7 @@ fn empty(alloc: Global, sigfig: u8) -> Result<Histogram<u64>, BatchError>
     requires { sigfig ≤ 5 }
     ensures stands { IfOk result (λ h. StandsFor h []) }
     ensures classes { IfOk result (λ h. resolution h ≡ resolution_of 1 sigfig) }
+    ensures errors { IfErr result (λ e. e ≡ BatchError.OutOfMemory) }
 {
     clearing_stands();
     match Histogram::new(alloc, sigfig) {

@@ -18,7 +18,7 @@ pub(crate) struct Basis {
 }
 
 impl Basis {
-    ghost use Rattle.std.specs.Prelude.{IfSome};
+    ghost use Rattle.std.specs.Prelude.{◌≡◌, IfSome, Some, false, true};
     ghost use Rattle.hdr_compare.specs.Ends.{IsFarLow, IsFarHigh, IsRankFarAbove, IsRankFarBelow, ReachesFirst, ReachesLast};
     ghost use Rattle.hdr_compare.specs.EndsOf.{IsFirstOfInterval, IsLastOfInterval};
     ghost use Rattle.hdr_compare.specs.Tiers.{edge_of, normal_of};
@@ -100,7 +100,9 @@ impl Basis {
         requires few { self.now.samples < 2 ^ 40 }
         requires den { self.now.quantile.den ≤ 1000000 }
         requires proper { self.now.quantile.num ≤ self.now.quantile.den }
-        ensures { IfSome result (λ is. IsTrue is → IsFirstOfInterval self.now under) }
+        ensures is { IfSome result (λ is. IsTrue is → IsFirstOfInterval self.now under) }
+        ensures missed { IsFirstOfInterval self.now under → result ≡ Some true }
+        ensures none_before { result ≡ Some false → under ≡ 0 }
     {
         if self.is_far_low(under) {
             return Some(true);
@@ -116,7 +118,9 @@ impl Basis {
         requires few { self.now.samples < 2 ^ 40 }
         requires den { self.now.quantile.den ≤ 1000000 }
         requires proper { self.now.quantile.num ≤ self.now.quantile.den }
-        ensures { IfSome result (λ is. IsTrue is → IsLastOfInterval self.now upto) }
+        ensures is { IfSome result (λ is. IsTrue is → IsLastOfInterval self.now upto) }
+        ensures missed { IsLastOfInterval self.now upto → result ≡ Some true }
+        ensures none_after { result ≡ Some false → self.now.samples ≤ upto }
     {
         if self.is_far_high(upto) {
             return Some(true);

@@ -63,9 +63,11 @@ impl End {
 }
 
 impl Run {
-    ghost use Rattle.std.specs.Prelude.{ℕ, List, ◌<◌, ◌≤◌, length, IfOk, IfSome, IsSome, MatchOption};
-    ghost use Rattle.hdr_compare.specs.Intervals.{AreEnds, CountsAs, EndsCount, HasReachedEnds, IsHighEnd, IsLowEnd, samples_of};
-    ghost use Rattle.hdr_model.specs.Quantiles.{IsTopNear, ranked_sample};
+    ghost use Rattle.std.specs.Prelude.{ℕ, List, ◌-◌, ◌^◌, ◌<◌, ◌≤◌, length, IfOk, IfSome, IsSome, MatchOption};
+    ghost use Rattle.hdr_compare.specs.Intervals.{AreEnds, CountsAs, CountsByValue, EndsCount, HasReachedEnds, IsHighEnd, IsLowEnd, samples_of};
+    ghost use Rattle.hdr_compare.specs.Nearest.{AreNearest, IsNearestHigh, IsNearestLow};
+    ghost use Rattle.hdr_model.specs.Plain.{resolution};
+    ghost use Rattle.hdr_model.specs.Quantiles.{IsTopNear, ranked_sample, value_at_quantile};
     ghost use Rattle.hdr_model.specs.Samples.{StandsFor};
     ghost use Rattle.hdr_compare.specs.Runs.{all_of, batches_of};
 
@@ -85,6 +87,11 @@ impl Run {
             (AreEnds (batches_of self.now) quantile tier)) }
         ensures reached { IfOk result (λ found. IfSome found (HasReachedEnds (batches_of self.now) quantile tier)) }
         ensures counts { IfOk result (λ found. IfSome found (EndsCount (batches_of self.now) tier)) }
+        ensures at_quantile { IfOk result (λ found. IfSome found (λ i. i.value ≡ value_at_quantile (all_of self.now) quantile)) }
+        ensures by_value { IfOk result (λ found. IfSome found
+            (CountsByValue (resolution (all_of self.now)) (batches_of self.now) tier)) }
+        ensures nearest { IfOk result (λ found. IfSome found
+            (AreNearest (all_of self.now) (batches_of self.now) quantile tier)) }
     {
         if self.samples == 0 {
             return Ok(None);
@@ -118,6 +125,8 @@ impl Run {
             → IsSome end.value) }
         ensures independent { IfOk result (λ end. end.independent ≤ independent) }
         ensures counts { IfOk result (λ end. CountsAs (batches_of self.now) tier independent end.independent) }
+        ensures nearest { IfOk result (λ end. IfSome end.value (IsNearestLow (all_of self.now) (batches_of self.now)
+            quantile tier end.independent value)) }
     {
         let mut independent = independent;
         let mut low = self.all.lowest_equivalent(value);
@@ -156,6 +165,7 @@ impl Run {
             → IsSome end.value) }
         ensures independent { IfOk result (λ end. end.independent ≤ independent) }
         ensures counts { IfOk result (λ end. CountsAs (batches_of self.now) tier independent end.independent) }
+        ensures zero { IfOk result (λ end. (end.independent ≤ independent) × IfSome end.value (λ low. low ≡ 0)) }
     {
         let under = counted_upto(alloc, &self.batches, None, tier)?;
         let independent = under.independent.min(independent);
@@ -189,6 +199,8 @@ impl Run {
             u64.MAX → IsSome end.value) }
         ensures independent { IfOk result (λ end. end.independent ≤ independent) }
         ensures counts { IfOk result (λ end. CountsAs (batches_of self.now) tier independent end.independent) }
+        ensures nearest { IfOk result (λ end. IfSome end.value (IsNearestHigh (all_of self.now) (batches_of self.now)
+            quantile tier end.independent value)) }
     {
         let mut independent = independent;
         let mut high = self.all.highest_equivalent(value);
@@ -227,6 +239,7 @@ impl Run {
             u64.MAX → IsSome end.value) }
         ensures independent { IfOk result (λ end. end.independent ≤ independent) }
         ensures counts { IfOk result (λ end. CountsAs (batches_of self.now) tier independent end.independent) }
+        ensures last { IfOk result (λ end. (end.independent ≤ independent) × IfSome end.value (λ high. high ≡ 2 ^ 64 - 1)) }
     {
         let upto = counted_upto(alloc, &self.batches, Some(u64::MAX), tier)?;
         let independent = upto.independent.min(independent);

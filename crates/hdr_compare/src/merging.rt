@@ -1,6 +1,6 @@
 //! Batches of which each two become one.
 
-ghost use Rattle.std.specs.Prelude.{◌≡◌, List, [], ◌∷◌, ◌++◌, IfOk, OnOk};
+ghost use Rattle.std.specs.Prelude.{◌≡◌, List, [], ◌∷◌, ◌++◌, IfErr, IfOk, OnOk};
 ghost use Rattle.hdr_model.specs.Plain.{Plain};
 ghost use Rattle.hdr_compare.specs.Parts.{KeepsParts, waiting};
 
@@ -14,7 +14,8 @@ pub(crate) fn in_pairs(
     alloc: Global,
     batches: Vec<Histogram<u64>>,
 ) -> Result<Vec<Histogram<u64>>, BatchError>
-    ensures { IfOk result (λ pairs. KeepsParts batches.items pairs.items) }
+    ensures pairs { IfOk result (λ pairs. KeepsParts batches.items pairs.items) }
+    ensures errors { IfErr result (λ e. e ≡ BatchError.OutOfMemory) }
 {
     let mut pairs = Vec::new(alloc);
     let mut earlier = None;
@@ -34,9 +35,10 @@ fn after_batch(
     earlier: Option<Histogram<u64>>,
     batch: Histogram<u64>,
 ) -> Result<Option<Histogram<u64>>, BatchError>
-    ensures { IfOk result (λ waits. (rest : List Plain)
+    ensures kept { IfOk result (λ waits. (rest : List Plain)
         → KeepsParts (pairs.old.items ++ waiting earlier ++ batch ∷ rest)
         (pairs.new.items ++ waiting waits ++ rest)) }
+    ensures errors { IfErr result (λ e. e ≡ BatchError.OutOfMemory) }
 {
     let Some(mut sum) = earlier else {
         return Ok(Some(batch));
@@ -54,7 +56,8 @@ pub(crate) fn push(
     batches: &mut Vec<Histogram<u64>>,
     batch: Histogram<u64>,
 ) -> Result<(), BatchError>
-    ensures { OnOk result (batches.new.items ≡ batches.old.items ++ batch ∷ []) }
+    ensures pushed { OnOk result (batches.new.items ≡ batches.old.items ++ batch ∷ []) }
+    ensures errors { IfErr result (λ e. e ≡ BatchError.OutOfMemory) }
 {
     match batches.push(batch) {
         Ok(()) => Ok(()),

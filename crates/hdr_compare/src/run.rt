@@ -2,6 +2,8 @@
 
 ghost use Rattle.std.specs.Prelude.{◌≡◌, ◌-◌, ◌<◌, ◌≤◌, ◌^◌, length, min};
 ghost use Rattle.std.specs.List.{sum_by};
+ghost use Rattle.hdr_compare.specs.Sums.{AreLeastClasses, IsSumOf};
+ghost use Rattle.hdr_model.specs.Plain.{resolution};
 
 use crate::sums::sum_of;
 use hdrhistogram::{Histogram, Quantile};
@@ -36,13 +38,15 @@ pub struct Run {
     ghost few: { sum_by (λ h. h.total) batches.items < 2 ^ 40 },
     ghost most: { length batches.items ≤ 2 ^ 20 },
     ghost count: { samples ≡ sum_by (λ h. h.total) batches.items },
+    ghost sum: { IsSumOf batches.items all },
+    ghost classes: { ∥ AreLeastClasses batches.items (resolution all) ∥₁ },
 }
 
 impl Run {
     ghost use Rattle.std.specs.Prelude.{◌⊎◌, IfErr, IfOk};
+    ghost use Rattle.hdr_compare.specs.Intervals.{samples_of};
+    ghost use Rattle.hdr_compare.specs.Nearest.{value_at_rank};
     ghost use Rattle.hdr_compare.specs.Runs.{all_of, batches_of};
-    ghost use Rattle.hdr_compare.specs.Sums.{AreLeastClasses, IsSumOf};
-    ghost use Rattle.hdr_model.specs.Plain.{resolution};
 
     /// Returns the samples of a run: batches of one after the other.
     ///
@@ -69,7 +73,9 @@ impl Run {
     }
 
     /// Returns the greatest value of the class of the sample of a rank.
-    pub(crate) fn value_at_rank(&self, rank: u64) -> u64 {
+    pub(crate) fn value_at_rank(&self, rank: u64) -> u64
+        ensures { result ≡ value_at_rank (all_of self.now) (samples_of (batches_of self.now)) rank }
+    {
         match Quantile::new(rank, self.samples) {
             Some(quantile) => self.all.value_at_quantile(quantile),
             None => 0,

@@ -231,7 +231,7 @@ pub fn check_logs(
     if can_be_converted(files, &read) {
         sums = LogSums::new(alloc, choice, sigfig, is_by_tag);
         counts = LogCounts::new(alloc, written, sigfig);
-        extremes = count_converted(files, choice, &mut sums, &mut counts)?;
+        extremes = count_converted(files, choice, written, &mut sums, &mut counts)?;
     } else {
         files.print_notes(sums.notes());
         read?;

@@ -6,8 +6,9 @@ use crate::files::Files;
 use crate::logs::{read_intervals, read_stored};
 use crate::names::FileNames;
 use hdr_logs::{LogError, LogIntervals, LogSums, StoredInterval};
-use hdr_runs::{LogCounts, Scaled};
+use hdr_runs::{LogCounts, LogLevels, Scaled};
 use hdr_summary::figures::Tagged;
+use hdr_summary::levels::{Measure, parse_level};
 use hdrhistogram::Histogram;
 use hdrhistogram::serialization::Deserializer;
 use hdrhistogram::serialization::interval_log::IntervalChoice;
@@ -51,9 +52,13 @@ pub(crate) fn set_extremes(parts: &mut [Tagged], extremes: &[Extremes]) {
 
 /// Reads logs into sums, with their values in one scale, and counts their samples by the classes that they
 /// had before. Returns the extremes of these classes for each sum.
+///
+/// # Errors
+/// Returns a usage error if the logs have several units, the arguments ask for none, and a level has none.
 pub(crate) fn count_converted(
     files: Files<'_, '_, '_>,
     choice: IntervalChoice<'_>,
+    levels: LogLevels<'_, '_>,
     sums: &mut LogSums<'_>,
     counts: &mut LogCounts<'_, '_>,
 ) -> Result<Vec<Extremes>, StatError> {
@@ -62,6 +67,9 @@ pub(crate) fn count_converted(
     let converted = read_intervals(files, choice, &names, false)?;
     let mut before = LogIntervals::new(alloc);
     read_stored(files, choice, &names, false, &mut before)?;
+    if levels.asked.is_none() && have_several_units(&before) {
+        require_units(alloc, levels.texts)?;
+    }
     let factors = before
         .factors(alloc)
         .map_err(|cause| files.log_error(cause))?;
@@ -77,6 +85,26 @@ pub(crate) fn count_converted(
             .map_err(|cause| files.log_error(cause))?;
     }
     Ok(counting.extremes)
+}
+
+/// Whether intervals have values in several units.
+fn have_several_units(intervals: &LogIntervals) -> bool {
+    let first = intervals.unit();
+    intervals.list.iter().any(|interval| interval.unit != first)
+}
+
+/// Returns a usage error if a level of values is written without a unit.
+fn require_units(alloc: Global, levels: &[&str]) -> Result<(), StatError> {
+    for text in levels {
+        // Without a unit of the values, only a level without one is parsed.
+        let Some(level) = parse_level(*text, None) else {
+            continue;
+        };
+        if !matches!(level.measure, Measure::Count) {
+            return Err(StatError::usage(alloc, *text, "needs a unit, since the logs have several"));
+        }
+    }
+    Ok(())
 }
 
 /// Counts the samples of intervals. Its memory is used again.

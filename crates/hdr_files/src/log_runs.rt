@@ -2,8 +2,9 @@
 
 use crate::errors::StatError;
 use crate::files::{Files, or_standard_input};
-use crate::logs::{can_be_converted, print_coarser, read_intervals};
+use crate::logs::{can_be_converted, print_coarser, push_coarser, push_notes, read_intervals};
 use crate::names::FileNames;
+use crate::output::print_error_line;
 use crate::runs::{RunSides, are_equal, sides_of};
 use hdr_input::Unit;
 use hdr_logs::{LogSums, StoredInterval, TagSum};
@@ -26,19 +27,25 @@ pub(crate) fn read_log_run(
     choice: IntervalChoice<'_>,
     is_by_tag: bool,
 ) -> Result<RunSides, StatError> {
-    let run = log_run(files, sigfig, choice, is_by_tag);
+    let mut notes = Vec::new(files.alloc());
+    let run = log_run(files, sigfig, choice, is_by_tag, &mut notes);
     if can_be_converted(files, &run) {
         return converted_log_run(files, sigfig, choice, is_by_tag);
+    }
+    for note in &notes {
+        print_error_line(files.rt, note.as_str());
     }
     run
 }
 
-/// Returns the chosen intervals of the logs of a run, by tag.
+/// Returns the chosen intervals of the logs of a run, by tag. What is to be printed of the logs is appended
+/// to `notes`, a line each.
 fn log_run(
     files: Files<'_, '_, '_>,
     sigfig: u8,
     choice: IntervalChoice<'_>,
     is_by_tag: bool,
+    notes: &mut Vec<String>,
 ) -> Result<RunSides, StatError> {
     let alloc = files.alloc();
     let has_one_file = files.names.len() <= 1;
@@ -51,9 +58,9 @@ fn log_run(
         let read = sums
             .read_log_into(alloc, index, input, &mut batches)
             .map_err(|cause| files.log_error(cause));
-        files.print_notes(sums.notes());
+        push_notes(files, notes, sums.notes())?;
         read?;
-        print_coarser(files.rt, &sums, sigfig);
+        push_coarser(alloc, notes, &sums, sigfig)?;
         if sums.chosen > 0 {
             units.add(sums.unit())?;
         }

@@ -9,7 +9,7 @@ use hdr_logs::{LogError, LogIntervals, LogSums, Note, TagSum};
 use hdr_summary::figures::Tagged;
 use hdrhistogram::Histogram;
 use hdrhistogram::serialization::interval_log::IntervalChoice;
-use std::alloc::Global;
+use std::alloc::{AllocError, Global};
 
 /// Distributions, and the unit that logs have of their values.
 #[derive(Drop)]
@@ -109,13 +109,29 @@ pub(crate) fn parts_of(
 
 /// Prints on standard error how many of the chosen intervals are coarser than their sum, if any are.
 pub(crate) fn print_coarser(rt: &HostRuntime, sums: &LogSums<'_>, sigfig: u8) {
+    let mut lines = Vec::new(rt.alloc());
+    let _ = push_coarser(rt.alloc(), &mut lines, sums, sigfig);
+    for line in &lines {
+        print_error_line(rt, line.as_str());
+    }
+}
+
+/// Appends a line with how many of the chosen intervals are coarser than their sum, if any are.
+pub(crate) fn push_coarser(
+    alloc: Global,
+    lines: &mut Vec<String>,
+    sums: &LogSums<'_>,
+    sigfig: u8,
+) -> Result<(), AllocError> {
     let coarser = sums.coarser;
     let chosen = sums.chosen;
     if coarser > 0 {
-        let _ = eprintln!(rt;
+        let line = format!(in alloc;
             "hdrstat: {coarser} of {chosen} intervals coarser than {sigfig} digits"
-        );
+        )?;
+        lines.push(line)?;
     }
+    Ok(())
 }
 
 /// Returns the chosen intervals of logs, with their values in one scale. If logs are aligned, each is
@@ -197,10 +213,27 @@ impl Files<'_, '_, '_> {
     /// Prints the lines of logs that are not read on standard error, with the names of the logs.
     pub fn print_notes(self, notes: &[Note]) {
         for note in notes {
-            let file = self.name(note.place.file);
-            if let Ok(line) = format!(in self.alloc(); "hdrstat: {file}: {note}") {
+            if let Ok(line) = note_line(self, note) {
                 print_error_line(self.rt, line.as_str());
             }
         }
     }
+}
+
+/// Appends the lines that `print_notes` prints.
+pub(crate) fn push_notes(
+    files: Files<'_, '_, '_>,
+    lines: &mut Vec<String>,
+    notes: &[Note],
+) -> Result<(), AllocError> {
+    for note in notes {
+        lines.push(note_line(files, note)?)?;
+    }
+    Ok(())
+}
+
+/// Returns a line of a log that is not read, with the name of the log.
+fn note_line(files: Files<'_, '_, '_>, note: &Note) -> Result<String, AllocError> {
+    let file = files.name(note.place.file);
+    format!(in files.alloc(); "hdrstat: {file}: {note}")
 }

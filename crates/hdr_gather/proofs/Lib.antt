@@ -8,3 +8,4 @@ pub mod Groups
 pub mod Ascending
 pub mod Readers
 pub mod Left
+pub mod Scales

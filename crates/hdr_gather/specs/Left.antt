@@ -13,7 +13,7 @@ use Rattle.hdr_input.specs.declared.unit.Unit.{Unit}
 use Rattle.hdr_logs.specs.Stored.{Stored, stored, view_of_stored, decimals_of}
 use Rattle.hdr_logs.specs.declared.stored.StoredInterval.{StoredInterval}
 use Rattle.hdr_gather.specs.Counts.{CountsMore}
-use Rattle.hdr_gather.specs.Logs.{Writes, WritesLog}
+use Rattle.hdr_gather.specs.Logs.{AreIn, Writes, WritesLog}
 use Rattle.hdr_gather.specs.declared.sum.Counts.{Counts}
 use Rattle.hdr_gather.specs.declared.peekable.PeekableLog.{PeekableLog}
 
@@ -87,11 +87,20 @@ Takes remaining old new before after =
     (taken : List StoredInterval) × (after ≡ before ++ taken)
     × ((rest : List Stored) → HasLeft remaining new rest → HasLeft remaining old (map view_of_stored taken ++ rest))
 
--- the intervals that logs have left were written in order, and counted: all of them, if the logs are ready
-abbrev pub WritesRest : {R : Type 0} → (R → Option (List ℕ)) → List (PeekableLog R) → Counts → Counts → Option (List ℕ) → Option (List ℕ) → Type 0
-WritesRest remaining logs before after old new =
-    (all : List Stored) × (finer : ℕ) × Writes all finer old new × CountsMore before (length all) finer after × (All (IsReady remaining) logs → AreLeft remaining logs all)
+-- intervals, whose values have these decimals and this unit, in some order
+abbrev pub AreIntervalsIn : Option ℕ → Option Unit → List Stored → Type 0
+AreIntervalsIn decimals unit all = (parts : List StoredInterval) × AreIn decimals unit parts × IsPermutation (map view_of_stored parts) all
 
--- a log was written of all intervals that logs have left, if the bytes that are not read yet are known
+-- the intervals that logs have left were written in order, and counted: all of them, if the logs are ready. Their values have one scale
+abbrev pub WritesRest :
+    {R : Type 0} → (R → Option (List ℕ)) → Option ℕ → Option Unit → List (PeekableLog R) → Counts → Counts → Option (List ℕ) → Option (List ℕ) → Type 0
+WritesRest remaining decimals unit logs before after old new =
+    (all : List Stored) × (finer : ℕ) × Writes all finer old new × CountsMore before (length all) finer after
+    × (All (IsReady remaining) logs → AreLeft remaining logs all) × AreIntervalsIn decimals unit all
+
+-- a log was written of all intervals that logs have left, if the bytes that are not read yet are known. Its comments have the decimals and the unit of
+-- the values
 abbrev pub Gathers : {R : Type 0} → (R → Option (List ℕ)) → List (PeekableLog R) → Counts → Option (List ℕ) → Option (List ℕ) → Type 0
-Gathers remaining logs counts old new = (all : List Stored) × WritesLog all counts old new × (All (IsKnown remaining) logs → AreLeft remaining logs all)
+Gathers remaining logs counts old new =
+    (decimals : Option ℕ) × (unit : Option Unit) × (all : List Stored) × WritesLog decimals unit all counts old new
+    × (All (IsKnown remaining) logs → AreLeft remaining logs all) × AreIntervalsIn decimals unit all

@@ -1,10 +1,15 @@
 -- Gathered logs: which lines they have, and in which order.
-use Rattle.std.specs.Prelude.{◌≡◌, ℕ, ◌+◌, List, [], ◌∷◌, ◌++◌, length, Option}
+use Rattle.std.specs.Prelude.{◌≡◌, ℕ, ◌+◌, List, [], ◌∷◌, ◌++◌, length, Option, option_to_list, unwrap_or}
+use Rattle.std.specs.Option.{option_map}
 use Rattle.std.specs.List.{All, AllPairs, flat_map}
 use Rattle.std.specs.List.Sorted.{IsPermutation}
 use Rattle.std.specs.Io.KnownBytes.{Appends}
 use Rattle.hdrhistogram.specs.LogStarts.{new_start, IsStartText}
-use Rattle.hdr_logs.specs.Stored.{Stored}
+use Rattle.hdr_input.specs.declared.unit.Unit.{Unit}
+use Rattle.hdr_logs.specs.Headers.{decimals_comment, unit_comment}
+use Rattle.hdr_logs.specs.Stored.{Stored, HaveSameDecimals, HaveSameUnit, decimals_of, intervals_of}
+use Rattle.hdr_logs.specs.declared.intervals.LogIntervals.{LogIntervals}
+use Rattle.hdr_logs.specs.declared.stored.StoredInterval.{StoredInterval}
 use Rattle.hdr_gather.specs.Keys.{key_of, IsBefore}
 use Rattle.hdr_gather.specs.Counts.{AreCounts}
 use Rattle.hdr_gather.specs.Lines.{IsLineOf}
@@ -35,12 +40,28 @@ Writes all finer old new =
 abbrev pub WritesAll : List Stored → ℕ → Option (List ℕ) → Option (List ℕ) → Type 0
 WritesAll all finer old new = (sorted : List Stored) × IsPermutation all sorted × Writes sorted finer old new
 
--- the start of a log was written: comments
-abbrev pub WritesStart : Option (List ℕ) → Option (List ℕ) → Type 0
-WritesStart old new = (comments : List (List ℕ)) × (header : List ℕ) × IsStartText (record new_start { comments = comments }) header × Appends old new header
+-- the comments that have the decimals and the unit of a log's values, where it has them
+abbrev pub scale_comments : Option ℕ → Option Unit → List (List ℕ)
+scale_comments decimals unit = option_to_list (option_map decimals_comment decimals) ++ option_to_list (option_map unit_comment unit)
 
--- comments were written, and then the lines of these intervals, in order of time and tag; the intervals are counted, and those that are finer than
--- their sum
-abbrev pub WritesLog : List Stored → Counts → Option (List ℕ) → Option (List ℕ) → Type 0
-WritesLog all counts old new =
-    (between : Option (List ℕ)) × (finer : ℕ) × WritesStart old between × WritesAll all finer between new × AreCounts counts (length all) finer
+-- the start of a log was written: these comments
+abbrev pub WritesStart : Option ℕ → Option Unit → Option (List ℕ) → Option (List ℕ) → Type 0
+WritesStart decimals unit old new =
+    (header : List ℕ) × IsStartText (record new_start { comments = scale_comments decimals unit }) header × Appends old new header
+
+-- these comments were written, and then the lines of these intervals, in order of time and tag; the intervals are counted, and those that are finer
+-- than their sum
+abbrev pub WritesLog : Option ℕ → Option Unit → List Stored → Counts → Option (List ℕ) → Option (List ℕ) → Type 0
+WritesLog decimals unit all counts old new =
+    (between : Option (List ℕ)) × (finer : ℕ) × WritesStart decimals unit old between × WritesAll all finer between new
+    × AreCounts counts (length all) finer
+
+-- the values of intervals have these decimals, 0 if no comment has them, and this unit
+abbrev pub AreIn : Option ℕ → Option Unit → List StoredInterval → Type 0
+AreIn decimals unit all = All (λ s. (decimals_of s ≡ unwrap_or decimals 0) × (s.unit ≡ unit)) all
+
+-- the log was written with the decimals and the unit of the intervals, if they have the same
+abbrev pub WritesConverted : LogIntervals → Counts → Option (List ℕ) → Option (List ℕ) → Type 0
+WritesConverted intervals counts old new =
+    (decimals : Option ℕ) × (unit : Option Unit) × WritesLog decimals unit (intervals_of intervals) counts old new
+    × (HaveSameDecimals intervals → HaveSameUnit intervals → AreIn decimals unit intervals.list.items)

@@ -3,9 +3,9 @@
 ghost use Rattle.std.specs.Prelude.{◌≡◌, ◌≤◌, ◌+◌, ◌↔◌, ℕ, [], true, false, IsTrue, Option, OnOk, IfOk, IfSome, map, vec_items};
 ghost use Rattle.std.specs.List.{All};
 ghost use Rattle.hdrhistogram.specs.LogWriters.{sink, divisor_of, IsSameLog};
-ghost use Rattle.hdr_logs.specs.Stored.{view_of_stored, decimals_of, intervals_of};
+ghost use Rattle.hdr_logs.specs.Stored.{view_of_stored, decimals_of};
 ghost use Rattle.hdr_gather.specs.Left.{IsKnown, IsNextIn, IsReady, IsFrom, Loses, Takes, WritesRest, Gathers};
-ghost use Rattle.hdr_gather.specs.Logs.{WritesLog};
+ghost use Rattle.hdr_gather.specs.Logs.{WritesConverted};
 
 use crate::peekable::PeekableLog;
 use crate::sum::{Counts, Summing};
@@ -41,7 +41,6 @@ pub fn gather_sorted<R: Read + Drop, W: Write>(
     let mut serializer = V2Serializer::new(alloc);
     let mut log = IntervalLogWriter::new(alloc, output, &mut serializer, 1);
     let mut sums = Summing::new(alloc);
-    let decimals = decimals.unwrap_or(0);
     write_in_order(alloc, logs, decimals, unit, &mut log, &mut sums)?;
     drop(log);
     Ok(sums.counts)
@@ -57,8 +56,8 @@ pub fn gather_unsorted<W: Write>(
     intervals: &LogIntervals,
     output: &mut W,
 ) -> Result<Counts, LogError>
-    ensures { IfOk result (λ counts. WritesLog (intervals_of intervals.now) counts
-        (W.contents output.old) (W.contents output.new)) }
+    ensures { IfOk result (λ counts. WritesConverted intervals.now counts (W.contents output.old)
+        (W.contents output.new)) }
 {
     write_start(alloc, intervals.decimals(), intervals.unit(), output)?;
     let mut serializer = V2Serializer::new(alloc);
@@ -140,22 +139,22 @@ fn begin_logs<R: Read + Drop>(
 fn write_in_order<R: Read + Drop, W: Write>(
     alloc: Global,
     logs: &mut [PeekableLog<'_, R>],
-    decimals: u32,
+    decimals: Option<u32>,
     unit: Option<Unit>,
     log: &mut IntervalLogWriter<'_, '_, W, V2Serializer>,
     sums: &mut Summing,
 ) -> Result<(), LogError>
     requires { divisor_of log.old ≡ 1 }
     ensures same_log { IsSameLog log.old log.new }
-    ensures written { OnOk result (WritesRest R.remaining logs.old sums.old.counts sums.new.counts
-        (W.contents (sink log.old).now) (W.contents (sink log.new).now)) }
+    ensures written { OnOk result (WritesRest R.remaining decimals unit logs.old sums.old.counts
+        sums.new.counts (W.contents (sink log.old).now) (W.contents (sink log.new).now)) }
 {
     for _ in 0..u64::MAX {
         let Some(start) = first_start(logs) else {
             return Ok(());
         };
         let intervals = take_at(alloc, logs, start)?;
-        check_values(&intervals, decimals, unit)?;
+        check_values(&intervals, decimals.unwrap_or(0), unit)?;
         write_intervals(alloc, &intervals, log, sums)?;
     }
     Err(LogError::TooManyLines)

@@ -1,9 +1,10 @@
 //! A log that is read interval by interval.
 
-ghost use Rattle.std.specs.Prelude.{◌≡◌, ◌↔◌, ◌<◌, ◌++◌, ◌+◌, List, None, IfOk, IfSome, IsSome, IsSomeAnd, IsTrue, OnOk, OnErr};
+ghost use Rattle.std.specs.Prelude.{◌≡◌, ◌↔◌, ◌<◌, ◌++◌, ◌+◌, List, None, IfOk, IfSome, IsSome, IsSomeAnd, IsTrue, OnOk, OnErr, option_and_then};
 ghost use Rattle.std.specs.Option.{option_map};
 ghost use Rattle.hdr_log.specs.Tags.{tag_text};
 ghost use Rattle.hdrhistogram.specs.Chosen.{view_of_interval_choice};
+ghost use Rattle.hdr_logs.specs.Reading.{decimals_at, unit_at};
 ghost use Rattle.hdr_logs.specs.Stored.{Stored};
 ghost use Rattle.hdr_gather.specs.Left.{LogHolds, next_interval, next_start, UnreadHold, HasLeft};
 ghost use Rattle.hdr_gather.specs.Left.{IsKnown, IsReady, IsReadyAt, IsFrom, IsNextIn, scale_of};
@@ -59,12 +60,16 @@ impl<'c, R: Read + Drop> PeekableLog<'c, R> {
     }
 
     /// Returns the decimals of the next interval's values, if a comment has them.
-    pub(crate) fn next_decimals(&self) -> Option<u32> {
+    pub(crate) fn next_decimals(&self) -> Option<u32>
+        ensures { result ≡ option_and_then (λ s. s.decimals) self.now.next }
+    {
         self.next.as_ref().and_then(|next| next.decimals)
     }
 
     /// Returns the unit of the next interval's values, if a comment has one.
-    pub(crate) fn next_unit(&self) -> Option<Unit> {
+    pub(crate) fn next_unit(&self) -> Option<Unit>
+        ensures { result ≡ option_and_then (λ s. s.unit) self.now.next }
+    {
         self.next.as_ref().and_then(|next| next.unit)
     }
 
@@ -145,6 +150,8 @@ impl<'c, R: Read + Drop> PeekableLog<'c, R> {
             → UnreadHold R.remaining self.old (next_interval next ++ rest)) }
         ensures ready { IfOk result (λ next. IsKnown R.remaining self.old
             → IsReadyAt R.remaining self.new next) }
+        ensures scale { IfOk result (λ next. IfSome next (λ s. (s.decimals ≡ decimals_at self.new.log)
+            × (s.unit ≡ unit_at self.new.log))) }
     {
         for _ in 0..u64::MAX {
             match self.log.next_line(alloc, &mut self.buffer)? {

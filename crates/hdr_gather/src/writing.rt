@@ -1,7 +1,9 @@
 //! Logs that are written of intervals.
 
-ghost use Rattle.std.specs.Prelude.{◌≡◌, ◌+◌, ◌++◌, ℕ, List, OnOk, length, map};
+ghost use Rattle.std.specs.Prelude.{◌≡◌, ◌+◌, ◌++◌, ℕ, OnOk, length, map, option_to_list};
+ghost use Rattle.std.specs.Option.{option_map};
 ghost use Rattle.hdrhistogram.specs.LogWriters.{sink, divisor_of, IsSameLog};
+ghost use Rattle.hdr_logs.specs.Headers.{decimals_comment, unit_comment};
 ghost use Rattle.hdr_logs.specs.Stored.{view_of_stored};
 ghost use Rattle.hdr_gather.specs.Counts.{CountsMore};
 ghost use Rattle.hdr_gather.specs.Keys.{all_of, AreSorted};
@@ -24,7 +26,7 @@ pub(crate) fn write_start<W: Write>(
     unit: Option<Unit>,
     output: &mut W,
 ) -> Result<(), LogError>
-    ensures { OnOk result (WritesStart (W.contents output.old) (W.contents output.new)) }
+    ensures { OnOk result (WritesStart decimals unit (W.contents output.old) (W.contents output.new)) }
 {
     let mut start = IntervalLogWriterBuilder::new(alloc);
     add_decimals(alloc, decimals, &mut start)?;
@@ -39,8 +41,8 @@ fn add_decimals(
     decimals: Option<u32>,
     start: &mut IntervalLogWriterBuilder,
 ) -> Result<(), LogError>
-    ensures { OnOk result ((added : List (List ℕ))
-        × (start.new ≡ record start.old { comments = start.old.comments ++ added })) }
+    ensures { OnOk result (start.new ≡ record start.old { comments
+        = start.old.comments ++ option_to_list (option_map decimals_comment decimals) }) }
 {
     match decimals {
         Some(decimals) => {
@@ -57,8 +59,8 @@ fn add_unit(
     unit: Option<Unit>,
     start: &mut IntervalLogWriterBuilder,
 ) -> Result<(), LogError>
-    ensures { OnOk result ((added : List (List ℕ))
-        × (start.new ≡ record start.old { comments = start.old.comments ++ added })) }
+    ensures { OnOk result (start.new ≡ record start.old { comments
+        = start.old.comments ++ option_to_list (option_map unit_comment unit) }) }
 {
     match unit {
         Some(unit) => {

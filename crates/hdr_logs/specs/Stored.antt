@@ -1,11 +1,12 @@
 -- Intervals of logs that are stored.
-use Rattle.std.specs.Prelude.{◌≡◌, ℕ, ◌+◌, ◌-◌, ◌^◌, List, [], ◌++◌, map, min, Option, unwrap_or}
+use Rattle.std.specs.Prelude.{◌≡◌, ℕ, ◌+◌, ◌-◌, ◌^◌, List, [], ◌∷◌, ◌++◌, map, min, Option, unwrap_or}
 use Rattle.std.specs.List.{All}
 use Rattle.std.specs.Duration.{as_nanos}
 use Rattle.std.specs.String.{string_bytes}
 use Rattle.hdr_input.specs.declared.unit.Unit.{Unit}
 use Rattle.hdr_logs.specs.Times.{nearest_millisecond}
 use Rattle.hdr_logs.specs.Intervals.{LogInterval}
+use Rattle.hdr_logs.specs.declared.place.Place.{Place}
 use Rattle.hdr_logs.specs.declared.stored.StoredInterval.{StoredInterval}
 use Rattle.hdr_logs.specs.declared.intervals.LogIntervals.{LogIntervals}
 
@@ -42,6 +43,15 @@ intervals_of intervals = map view_of_stored intervals.list.items
 -- these intervals are added, in order
 abbrev pub Keeps : LogIntervals → List LogInterval → LogIntervals → Type 0
 Keeps old all new = intervals_of new ≡ intervals_of old ++ map stored all
+
+-- an interval is added, with these decimals and this unit, of this file and line
+abbrev pub Pushes : Option ℕ → Option Unit → Place → LogIntervals → LogIntervals → Type 0
+Pushes decimals unit place old new =
+    (s : StoredInterval) × (new.list.items ≡ old.list.items ++ s ∷ []) × (s.decimals ≡ decimals) × (s.unit ≡ unit) × (s.place ≡ place)
+
+-- intervals of one file are added
+abbrev pub AddsOfFile : ℕ → LogIntervals → LogIntervals → Type 0
+AddsOfFile file old new = (more : List StoredInterval) × (new.list.items ≡ old.list.items ++ more) × All (λ s. s.place.file ≡ file) more
 
 -- the values of all intervals have the same decimals
 abbrev pub HaveSameDecimals : LogIntervals → Type 0

@@ -5,6 +5,7 @@ use Rattle.std.specs.HashMap.{get_by_text}
 use Rattle.std.specs.Str.{bytes_eq}
 use Rattle.std.specs.String.{string_bytes}
 use Rattle.hdr_base.specs.Classes.{IsFiner}
+use Rattle.hdr_input.specs.declared.unit.Unit.{Unit}
 use Rattle.hdr_model.specs.Plain.{Plain, empty_plain, resolution}
 use Rattle.hdr_model.specs.Merging.{after_add}
 use Rattle.hdrhistogram.specs.Chosen.{Filter, view_of_interval_choice}
@@ -139,3 +140,11 @@ IsSumAt sigfig old new tag i = (i < length new) × ((h : Plain) → after_interv
 -- only the sums and their indices may differ
 abbrev pub KeepsOptions : LogSums → LogSums → Type 0
 KeepsOptions old new = (new.choice ≡ old.choice) × (new.sigfig ≡ old.sigfig) × (new.is_by_tag ≡ old.is_by_tag)
+
+-- the unit of the values of sums, if they have one
+abbrev pub unit_of_sums : LogSums → Option Unit
+unit_of_sums s = s.unit
+
+-- once there was an interval, all values have its decimals and its unit
+abbrev pub KeepScale : LogSums → LogSums → Type 0
+KeepScale old new = (d : ℕ) → old.decimals ≡ Some d → (new.decimals ≡ Some d) × (new.unit ≡ old.unit)

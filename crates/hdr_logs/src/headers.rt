@@ -1,8 +1,9 @@
 //! Headers of logs, and the decimals and the unit of values.
 
-ghost use Rattle.std.specs.Prelude.{◌≡◌, ◌≢◌, OnOk, OnErr, IfOk, IfNone, IfSome, unwrap_or, string_bytes};
+ghost use Rattle.std.specs.Prelude.{◌≡◌, ◌≢◌, OnOk, OnErr, IfErr, IfOk, IfNone, IfSome, unwrap_or, string_bytes};
 ghost use Rattle.std.specs.Str.{IsTrimAsciiEnd};
-ghost use Rattle.hdr_logs.specs.Headers.{unit_comment, unit_line};
+ghost use Rattle.hdr_logs.specs.Errors.{unit_error};
+ghost use Rattle.hdr_logs.specs.Headers.{decimals_comment, unit_comment, unit_line};
 
 use crate::errors::LogError;
 use crate::note::NoteKind;
@@ -87,6 +88,7 @@ pub(crate) fn invalid_header(line: &[u8]) -> Option<NoteKind> {
 pub fn check_decimals(place: Place, decimals: Option<u32>, others: u32) -> Result<(), LogError>
     ensures ok { OnOk result (unwrap_or decimals 0 ≡ others) }
     ensures err { OnErr result (unwrap_or decimals 0 ≢ others) }
+    ensures errors { IfErr result (λ error. error ≡ LogError.OtherDecimals place (unwrap_or decimals 0) others) }
 {
     let decimals = decimals.unwrap_or(0);
     if decimals == others {
@@ -103,6 +105,7 @@ pub fn check_decimals(place: Place, decimals: Option<u32>, others: u32) -> Resul
 pub fn check_unit(place: Place, unit: Option<Unit>, others: Option<Unit>) -> Result<(), LogError>
     ensures ok { OnOk result (unit ≡ others) }
     ensures err { OnErr result (unit ≢ others) }
+    ensures errors { IfErr result (λ error. error ≡ unit_error place unit others) }
 {
     if unit == others {
         return Ok(());
@@ -139,7 +142,9 @@ impl fmt::Display for UnitName {
 }
 
 /// Returns the comment that has the decimals of a log's values, as logs are read.
-pub fn decimals_comment(alloc: Global, decimals: u32) -> Result<String, AllocError> {
+pub fn decimals_comment(alloc: Global, decimals: u32) -> Result<String, AllocError>
+    ensures { IfOk result (λ text. string_bytes text ≡ decimals_comment decimals) }
+{
     format!(in alloc; "[Values have {decimals} decimals]")
 }
 

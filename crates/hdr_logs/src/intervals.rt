@@ -7,7 +7,7 @@ ghost use Rattle.hdr_log.specs.Tags.{tag_text};
 ghost use Rattle.hdrhistogram.specs.Chosen.{view_of_interval_choice};
 ghost use Rattle.hdr_logs.specs.Intervals.{LogInterval, LogHolds, view_of_log_interval};
 ghost use Rattle.hdr_logs.specs.FileNames.{in_file};
-ghost use Rattle.hdr_logs.specs.Stored.{Keeps, HaveSameDecimals, HaveSameUnit, decimals_of, intervals_of};
+ghost use Rattle.hdr_logs.specs.Stored.{AddsOfFile, Keeps, Pushes, HaveSameDecimals, HaveSameUnit, decimals_of, intervals_of};
 ghost use Rattle.hdr_logs.specs.Aligned.{LieOver};
 ghost use Rattle.hdr_logs.specs.Scales.{is_coarser, IsFactor, IsFinest, IsIn, IsConverted};
 
@@ -57,9 +57,10 @@ impl LogIntervals {
         choice: IntervalChoice<'_>,
         file_name: Option<Tag<'_>>,
     ) -> Result<(), LogError>
-        ensures { OnOk result ((all : List LogInterval)
+        ensures kept { OnOk result ((all : List LogInterval)
             × IfSome (R.remaining reader) (λ text. LogHolds (view_of_interval_choice choice.entry) text all)
             × Keeps self.old (map (in_file (option_map tag_text file_name.entry)) all) self.new) }
+        ensures files { OnOk result (AddsOfFile file self.old self.new) }
     {
         let mut buffer = LineBuffer::new(alloc);
         let mut log = LogReader::new(alloc, file, reader, choice)?;
@@ -83,9 +84,11 @@ impl LogIntervals {
         interval: &Interval<'_>,
         file_name: Option<Tag<'_>>,
     ) -> Result<(), LogError>
-        ensures { OnOk result (Keeps self.old
+        ensures kept { OnOk result (Keeps self.old
             (in_file (option_map tag_text file_name.entry) (view_of_log_interval interval.now) ∷ [])
             self.new) }
+        ensures scale { OnOk result (Pushes interval.now.decimals interval.now.unit interval.now.place
+            self.old self.new) }
     {
         let interval = StoredInterval::new(alloc, interval, file_name)?;
         self.list.push(interval)?;

@@ -164,6 +164,7 @@ impl LogParser {
     /// epoch until a line has a base time.
     pub fn new(alloc: Global, file: usize) -> LogParser
         ensures base { result.base ≡ None }
+        ensures file { result.place.file ≡ file }
         ensures line { result.place.line ≡ 0 }
     {
         LogParser {
@@ -185,6 +186,7 @@ impl LogParser {
         alloc: Global,
         line: &'a [u8],
     ) -> Result<Option<TimedInterval<'a>>, LogError>
+        ensures file { self.new.place.file ≡ self.old.place.file }
         ensures line { self.new.place.line ≡ min (self.old.place.line + 1) (2 ^ 64 - 1) }
         ensures interval { IfOk result (λ timed. (entry : Option Entry)
             × IsEntry (without_mark (self.old.place.line == 0) line.now) entry

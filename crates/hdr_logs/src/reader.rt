@@ -6,7 +6,7 @@ ghost use Rattle.hdrhistogram.specs.Chosen.{view_of_interval_choice};
 ghost use Rattle.hdr_convert.specs.declared.bytes.Form.{Form};
 ghost use Rattle.hdr_logs.specs.Conversion.{LogBecomes, UnreadBecomes, ConvertsLine};
 ghost use Rattle.hdr_logs.specs.Intervals.{LogInterval, LogHolds};
-ghost use Rattle.hdr_logs.specs.Reading.{intervals_of_line, unread, IsEnd, UnreadHold, IsKnown};
+ghost use Rattle.hdr_logs.specs.Reading.{intervals_of_line, place_of, unread, HasScale, IsEnd, UnreadHold, IsKnown};
 
 use crate::conversion::push_line;
 use crate::errors::LogError;
@@ -76,6 +76,7 @@ impl<'c, R: Read + Drop> LogReader<'c, R> {
         ensures conversion { IfOk result (λ log. (form : Form) (text : List ℕ) → UnreadBecomes R.remaining form log text
             → IfSome (R.remaining reader) (λ old. LogBecomes form (view_of_interval_choice choice.entry) old text)) }
         ensures known { IfOk result (λ log. IsSome (R.remaining reader) → IsKnown R.remaining log) }
+        ensures file { IfOk result (λ log. (place_of log).file ≡ file) }
     {
         match BufReader::new(alloc, reader) {
             Ok(reader) => Ok(LogReader {
@@ -103,6 +104,8 @@ impl<'c, R: Read + Drop> LogReader<'c, R> {
         ensures end { IfOk result (λ line. IsEnd line → IsKnown R.remaining self.old
             → UnreadHold R.remaining self.new []) }
         ensures known { OnOk result (IsKnown R.remaining self.old → IsKnown R.remaining self.new) }
+        ensures file { (place_of self.new).file ≡ (place_of self.old).file }
+        ensures scale { IfOk result (HasScale self.new) }
     {
         let next = self.next_place();
         if !read_line(alloc, &mut self.reader, &mut buffer.line, next)? {
@@ -165,7 +168,8 @@ impl<'c, R: Read + Drop> LogReader<'c, R> {
 
     /// The number of the next line, and its file.
     fn next_place(&self) -> Place
-        ensures { result.line ≡ min (self.now.parser.place.line + 1) (2 ^ 64 - 1) }
+        ensures line { result.line ≡ min (self.now.parser.place.line + 1) (2 ^ 64 - 1) }
+        ensures file { result.file ≡ self.now.parser.place.file }
     {
         Place {
             line: self.parser.place.line.saturating_add(1),
@@ -179,7 +183,9 @@ impl<'c, R: Read + Drop> LogReader<'c, R> {
     }
 
     /// The line that was read last.
-    pub fn place(&self) -> Place {
+    pub fn place(&self) -> Place
+        ensures { result ≡ place_of self.now }
+    {
         self.parser.place
     }
 

@@ -65,6 +65,7 @@ impl StoredInterval {
             (view_of_log_interval interval.now))) }
         ensures decimals { IfOk result (λ copy. copy.decimals ≡ interval.now.decimals) }
         ensures unit { IfOk result (λ copy. copy.unit ≡ interval.now.unit) }
+        ensures place { IfOk result (λ copy. copy.place ≡ interval.now.place) }
         ensures errors { IfErr result (λ error. (error ≡ LogError.OutOfMemory)
             ⊎ ((error ≡ LogError.TooLate interval.now.place) × IsTooLate interval.now.time)) }
     {
@@ -99,6 +100,7 @@ impl StoredInterval {
             ≡ tag_or_none (Some (view_of_stored self.now).tag) }
         ensures field { (view_of_log_interval result).field ≡ (view_of_stored self.now).field }
         ensures decimals { result.decimals ≡ self.now.decimals }
+        ensures unit { result.unit ≡ self.now.unit }
     {
         Interval {
             time: u128::from(self.start) * MILLISECOND,

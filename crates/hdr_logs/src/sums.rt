@@ -2,14 +2,16 @@
 
 pub mod sink;
 
-ghost use Rattle.std.specs.Prelude.{◌≡◌, ◌-◌, ◌^◌, ◌<◌, ◌++◌, ℕ, [], ◌∷◌, List, IfOk, IfSome, OnOk, Some, length, unwrap_or};
+ghost use Rattle.std.specs.Prelude.{◌≡◌, ◌-◌, ◌^◌, ◌<◌, ◌++◌, ℕ, [], ◌∷◌, List, IfOk, IfSome, OnOk, None, Some, length, unwrap_or};
 ghost use Rattle.std.specs.Option.{option_map};
 ghost use Rattle.std.specs.String.{string_bytes};
 ghost use Rattle.hdr_model.specs.Plain.{Plain};
 ghost use Rattle.hdr_log.specs.Tags.{tag_text};
+ghost use Rattle.hdrhistogram.specs.Chosen.{view_of_interval_choice};
 ghost use Rattle.hdrhistogram.specs.FieldRead.{IsHeldIn};
 ghost use Rattle.hdr_logs.specs.Intervals.{LogInterval, LogHolds, view_of_log_interval};
-ghost use Rattle.hdr_logs.specs.Sums.{sums_of, view_of_sums, empty_sum, sum_tag, AddsHeld, AddsAll, AddsField};
+ghost use Rattle.hdr_logs.specs.Sums.{sums_of, view_of_sums, empty_sum, sum_tag, unit_of_sums};
+ghost use Rattle.hdr_logs.specs.Sums.{AddsHeld, AddsAll, AddsField, KeepScale};
 ghost use Rattle.hdr_logs.specs.Sums.{index_of, AreIndexed, IsSumAt, KeepsOptions, added_at, decimals_of_sums};
 
 use crate::adding::add;
@@ -91,8 +93,17 @@ impl<'a> LogSums<'a> {
         sigfig: u8,
         is_by_tag: bool,
     ) -> LogSums<'a>
+        ensures options { view_of_sums result ≡ record {
+          filter = view_of_interval_choice choice.entry;
+          sigfig = sigfig;
+          is_by_tag = is_by_tag;
+          sums = [];
+        } }
         ensures sums { result.sums.items ≡ [] }
         ensures indices { AreIndexed result }
+        ensures counts { (result.chosen ≡ 0) × (result.coarser ≡ 0) }
+        ensures scale { decimals_of_sums result ≡ 0 }
+        ensures unit { unit_of_sums result ≡ None }
     {
         LogSums {
             sums: Vec::new(alloc),
@@ -126,6 +137,7 @@ impl<'a> LogSums<'a> {
             × IfSome (R.remaining reader) (λ text. LogHolds (view_of_sums self.old).filter text all)
             × AddsAll (view_of_sums self.old) all (view_of_sums self.new)) }
         ensures indices { OnOk result (AreIndexed self.old → AreIndexed self.new) }
+        ensures scale { OnOk result (KeepScale self.old self.new) }
     {
         let mut buffer = LineBuffer::new(alloc);
         let mut log = LogReader::new(alloc, file, reader, self.choice)?;
@@ -157,7 +169,9 @@ impl<'a> LogSums<'a> {
     }
 
     /// Returns the unit of the values, if a comment has one.
-    pub fn unit(&self) -> Option<Unit> {
+    pub fn unit(&self) -> Option<Unit>
+        ensures { result ≡ unit_of_sums self.now }
+    {
         self.unit
     }
 
@@ -168,7 +182,9 @@ impl<'a> LogSums<'a> {
         ensures sums { self.new.sums ≡ self.old.sums }
         ensures indices { AreIndexed self.old → AreIndexed self.new }
         ensures decimals { OnOk result (self.new.decimals ≡ Some (unwrap_or interval.now.decimals 0)) }
+        ensures unit { OnOk result (self.new.unit ≡ interval.now.unit) }
         ensures known { (d : ℕ) → self.old.decimals ≡ Some d → self.new.decimals ≡ Some d }
+        ensures known_unit { (d : ℕ) → self.old.decimals ≡ Some d → self.new.unit ≡ self.old.unit }
     {
         let decimals = interval.decimals.unwrap_or(0);
         if self.decimals.is_none() {
@@ -190,6 +206,7 @@ impl<'a> LogSums<'a> {
             ≡ Some index) }
         ensures indices { OnOk result (AreIndexed self.old → AreIndexed self.new) }
         ensures decimals { self.new.decimals ≡ self.old.decimals }
+        ensures unit { self.new.unit ≡ self.old.unit }
     {
         let tag = if self.is_by_tag { tag } else { None };
         match tag {
@@ -214,6 +231,7 @@ impl<'a> LogSums<'a> {
             → index_of (Some tag.now) (sums_of self.new) ≡ Some index) }
         ensures indices { OnOk result (AreIndexed self.old → AreIndexed self.new) }
         ensures decimals { self.new.decimals ≡ self.old.decimals }
+        ensures unit { self.new.unit ≡ self.old.unit }
     {
         if let Some(index) = self.indices.get(tag) {
             return Ok(*index);
@@ -234,6 +252,7 @@ impl<'a> LogSums<'a> {
         ensures indices { self.new.indices ≡ self.old.indices }
         ensures untagged { self.new.untagged ≡ self.old.untagged }
         ensures decimals { self.new.decimals ≡ self.old.decimals }
+        ensures unit { self.new.unit ≡ self.old.unit }
     {
         let index = self.sums.len();
         let histogram = Histogram::new(alloc, self.sigfig)?;
@@ -250,6 +269,7 @@ impl<'a> LogSums<'a> {
         ensures indices { self.new.indices ≡ self.old.indices }
         ensures untagged { self.new.untagged ≡ self.old.untagged }
         ensures decimals { self.new.decimals ≡ self.old.decimals }
+        ensures unit { self.new.unit ≡ self.old.unit }
     {
         let Some(sum) = self.sums.get_mut(index) else {
             return Ok(());
@@ -275,7 +295,9 @@ impl<'a> LogSums<'a> {
         ensures choice { self.new.choice ≡ self.old.choice }
         ensures indices { OnOk result (AreIndexed self.old → AreIndexed self.new) }
         ensures decimals { OnOk result (self.new.decimals ≡ Some (unwrap_or interval.now.decimals 0)) }
+        ensures unit { OnOk result (self.new.unit ≡ interval.now.unit) }
         ensures known { (d : ℕ) → self.old.decimals ≡ Some d → self.new.decimals ≡ Some d }
+        ensures known_unit { (d : ℕ) → self.old.decimals ≡ Some d → self.new.unit ≡ self.old.unit }
     {
         self.check_scale(interval)?;
         let index = self.index_of(alloc, interval.tag)?;

@@ -3,9 +3,10 @@ use Rattle.std.specs.Prelude.{◌≡◌, ℕ, ◌<◌, min, max, List, length}
 use Rattle.std.specs.Option.{option_map}
 use Rattle.hdr_base.specs.Fractions.{Ratio}
 use Rattle.hdr_model.specs.Plain.{Plain}
-use Rattle.hdr_model.specs.Quantiles.{IsTopNear, ranked_sample}
+use Rattle.hdr_model.specs.Quantiles.{IsTopNear, ranked_sample, value_at_quantile}
 use Rattle.hdr_model.specs.Samples.{StandsFor}
 use Rattle.hdr_compare.specs.Intervals.{AreEnds, EndsCount, HasReachedEnds}
+use Rattle.hdr_compare.specs.Nearest.{AreNearest}
 use Rattle.hdr_compare.specs.Runs.{all_of, batches_of}
 use Rattle.hdr_compare.specs.declared.changes.Measured.{Measured}
 use Rattle.hdr_compare.specs.declared.interval.Interval.{Interval}
@@ -51,5 +52,7 @@ pub record IsPointOf (side : Side) (q : Ratio) (tier : Tier) (p : Point) : Type 
   pub counts : EndsCount (batches_of_side side) tier interval
   pub value : (S : List ℕ) → StandsFor (samples_of_side side) S → 0 < length S → 0 < q.num
       → IsTopNear (samples_of_side side) (ranked_sample q S) interval.value
+  pub at_quantile : interval.value ≡ value_at_quantile (samples_of_side side) q
+  pub nearest : AreNearest (samples_of_side side) (batches_of_side side) q tier interval
   pub measured : p.measured ≡ measured_of side interval
   pub independent : p.independent ≡ min interval.low.independent interval.high.independent

@@ -4,6 +4,7 @@ use Rattle.std.specs.List.{All}
 use Rattle.hdr_base.specs.Classes.{IsFiner, resolution_of}
 use Rattle.hdr_compare.specs.Batchings.{HasRecorded, digits_of}
 use Rattle.hdr_compare.specs.declared.batching.Batching.{Batching}
+use Rattle.hdr_model.specs.Merging.{lowest_values}
 use Rattle.hdr_model.specs.Plain.{Plain, resolution}
 use Rattle.hdr_model.specs.Samples.{StandsFor}
 use Rattle.hdr_runs.specs.declared.log_batches.LogBatches.{LogBatches}
@@ -25,6 +26,8 @@ pub record AddsTo (h : Plain) (old new : Batching) : Type 0 where
   pub digits_stay : digits_of new ≡ digits_of old
   pub samples : (S T : List ℕ) → StandsFor h T → IsFiner (resolution h) (resolution_of 1 (digits_of old))
       → length (S ++ T) < 2 ^ 64 → HasRecorded S old → HasRecorded (S ++ T) new
+  pub lowest : (S T : List ℕ) → StandsFor h T → length (S ++ T) < 2 ^ 64 → HasRecorded S old
+      → (length (lowest_values h) ≡ length T) × HasRecorded (S ++ lowest_values h) new
 
 -- the batches of each sum
 abbrev pub sums_of : LogBatches → List Batching

@@ -76,7 +76,7 @@ impl Side {
     ghost use Rattle.std.specs.Prelude.{◌≡◌, ◌≤◌, ◌<◌, ◌+◌, IfErr, IfOk, OnErr, OnOk, MatchOption};
     ghost use Rattle.std.specs.Option.{option_map};
     ghost use Rattle.hdr_compare.specs.Intervals.{samples_of};
-    ghost use Rattle.hdr_compare.specs.Positions.{IsPositionOf};
+    ghost use Rattle.hdr_runs.specs.LevelVerdicts.{IsPositionAmong};
     ghost use Rattle.hdr_compare.specs.Sums.{IsSumOf};
     ghost use Rattle.hdr_runs.specs.Points.{IsPointOf, batches_of_side, decimals_of, greatest_of, least_of, samples_of_side, within};
     ghost use Rattle.hdr_runs.specs.RunSamples.{IsSideError};
@@ -180,6 +180,7 @@ impl Side {
 
     /// Returns on which side of a bound a quantile is, or `None` without samples. The denominator
     /// of the quantile is at most 1,000,000.
+    #[tactic(auto, unfolding(crate::specs::LevelVerdicts::IsPositionAmong))]
     pub(crate) fn position(
         &self,
         alloc: Global,
@@ -190,7 +191,7 @@ impl Side {
         requires den { quantile.den ≤ 1000000 }
         requires proper { quantile.num ≤ quantile.den }
         ensures { IfOk result (λ found. MatchOption found (samples_of (batches_of_side self.now) ≡ 0)
-            (IsPositionOf (batches_of_side self.now) quantile tier within)) }
+            (IsPositionAmong (batches_of_side self.now) quantile tier within)) }
     {
         self.run.position(alloc, quantile, tier, within)
     }

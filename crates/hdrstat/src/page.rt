@@ -30,7 +30,7 @@ over time, all percentiles, and a heat map of each of ten tags: those of inciden
 those with the most samples. The page has no script, and needs no other file.
 
 A time is slow if p50, p90, p99 or p99.9 of a tag is far above its usual value, and samples are
-missing below half of the usual rate. The page says what far is, and which tags and percentiles
+missing at half of the usual rate or less. The page says what far is, and which tags and percentiles
 have too few samples to be tested. With --level the sentence also says which tags keep it.
 
 --tag-by-file keeps the intervals of each file apart, as `hdrstat gather` does. With --align, two
@@ -109,7 +109,8 @@ pub(crate) fn run(rt: &HostRuntime, matches: &ArgMatches<'_>) -> Result<ExitCode
     let levels = levels_of(alloc, matches, intervals.unit(), asked)?;
     let decimals = intervals.decimals().unwrap_or(0).min(MOST_DECIMALS);
     if !levels.is_empty() && intervals.converted > 0 {
-        let why = "needs logs of one unit and of the same decimals";
+        let why = "needs logs of one unit and of the same decimals; \
+                   `hdrstat gather` makes one log of others";
         return Err(StatError::usage(alloc, "--level", why));
     }
     let (levels, amounts) = page_levels(alloc, &levels, decimals, asked.or(intervals.unit()))?;

@@ -20,7 +20,7 @@ Examples:
 pub(crate) fn command<'a>(alloc: Global) -> Result<Command<'a>, Error> {
     let command = Command::new(alloc, "hdrstat")
         .bin_name("hdrstat")?
-        .version("2.0.0")
+        .version("3.0.0")
         .about(ABOUT)
         .after_help(AFTER)
         .subcommand_required(true)

@@ -18,7 +18,7 @@ pub(crate) fn check_rows(alloc: Global, matches: &ArgMatches<'_>) -> Result<(), 
         return Ok(());
     }
     if matches.get_str("by").is_some() {
-        let why = "needs --column or --json; interval logs have --by-tag";
+        let why = "needs --column or --json; for logs, summary, check and compare have --by-tag";
         return Err(StatError::usage(alloc, "--by", why));
     }
     for option in ["--where", "--count", "--time"] {

@@ -5,7 +5,7 @@ ghost use Rattle.hdr_model.specs.Plain.{Plain};
 ghost use Rattle.hdr_logs.specs.Intervals.{LogInterval, LogHolds, tag_or_none};
 ghost use Rattle.hdr_logs.specs.Stored.{decimals_of, view_of_stored};
 ghost use Rattle.hdr_logs.specs.Sums.{view_of_sums, sums_of, sum_tag, index_of, decimals_of_sums};
-ghost use Rattle.hdr_logs.specs.Sums.{AreIndexed, PassesAll, PassesStored, AddsStored};
+ghost use Rattle.hdr_logs.specs.Sums.{AreIndexed, KeepScale, PassesAll, PassesStored, AddsStored, unit_of_sums};
 
 use crate::errors::LogError;
 use crate::reader::{LineBuffer, LogLine, LogReader};
@@ -50,6 +50,7 @@ impl LogSums<'_> {
             × PassesAll S.takes (decimals_of_sums self.new) (view_of_sums self.old) all (view_of_sums self.new)
             sink.old sink.new) }
         ensures indices { OnOk result (AreIndexed self.old → AreIndexed self.new) }
+        ensures scale { OnOk result (KeepScale self.old self.new) }
     {
         let mut buffer = LineBuffer::new(alloc);
         let mut log = LogReader::new(alloc, file, reader, self.choice)?;
@@ -81,6 +82,8 @@ impl LogSums<'_> {
             (view_of_sums self.old).is_by_tag (tag_or_none (Some (view_of_stored stored.now).tag)))
             (sums_of self.new) ≡ Some index) }
         ensures indices { OnOk result (AreIndexed self.old → AreIndexed self.new) }
+        ensures unit { OnOk result (unit_of_sums self.new ≡ stored.now.unit) }
+        ensures scale { KeepScale self.old self.new }
     {
         self.add(alloc, &stored.interval())
     }
@@ -98,6 +101,8 @@ impl LogSums<'_> {
         ensures sums { OnOk result (AreIndexed self.old → PassesStored S.takes (decimals_of stored.now)
             (view_of_sums self.old) (view_of_stored stored.now) (view_of_sums self.new) sink.old sink.new) }
         ensures indices { OnOk result (AreIndexed self.old → AreIndexed self.new) }
+        ensures unit { OnOk result (unit_of_sums self.new ≡ stored.now.unit) }
+        ensures scale { KeepScale self.old self.new }
     {
         let sum = self.add(alloc, &stored.interval())?;
         self.pass(sum, sink)?;

@@ -10,4 +10,4 @@ loop-batch-preserved c =
     let front = c.loop-batch.pairs.items ++ waiting c.loop-batch.earlier in
     let rest = c.next.new.self.rest.items in
     let before = subst (λ (l : List Plain). KeepsParts batches (front ++ l)) c.in-Some.ensures.steps.0 c.loop-batch.invariant in
-    keeps-both batches _ (c.after_batch.new.pairs.items ++ waiting c.in_ok-earlier.earlier ++ rest) before (c.in_ok-earlier.ensures rest)
+    keeps-both batches _ (c.after_batch.new.pairs.items ++ waiting c.in_ok-earlier.earlier ++ rest) before (c.in_ok-earlier.ensures.kept rest)

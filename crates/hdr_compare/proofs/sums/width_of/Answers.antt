@@ -1,4 +1,4 @@
-use Rattle.std.proofs.Common.{◌≡◌, ◌<◌, arith, length, get_or, sym, subst, inl, inr}
+use Rattle.std.proofs.Common.{◌≡◌, arith, get_or, sym, subst, inl, inr}
 use Rattle.std.proofs.lemmas.Bool.{cases_lt}
 use Rattle.std.proofs.lemmas.List.{get_or_default}
 use Rattle.hdr_compare.specs.Sums.{IsWithin}

@@ -11,7 +11,7 @@ use Rattle.hdr_gather.proofs.gathering.gather_unsorted.Goals as goal
 pub returns : goal.returns
 returns g c =
     let contents = g.W.Write.contents in
-    let start = subst (λ o. WritesStart (contents c.args.output.now) (contents o)) (sym c.new-log.ensures.holds) c.in_ok-write_start.ensures in
+    let start = subst (λ o. WritesStart c.decimals.result c.unit.result (contents c.args.output.now) (contents o)) (sym c.new-log.ensures.holds) c.in_ok-write_start.ensures in
     let written = c.in_ok-write_intervals.ensures.written in
     let all = written.1 in
     let moved = subst (λ l. IsPermutation (map view_of_stored l) all.0) c.deref.ensures.value all.1 in
@@ -19,4 +19,4 @@ returns g c =
     let items = c.args.intervals.now.list.items in
     let many : length c.deref.result.now ≡ length (map view_of_stored items) = ap length c.deref.ensures.value ∙ sym (length-map items view_of_stored) in
     let counts = counts_all _ _ _ written.0 c.new-sums.ensures (subst (λ n. CountsMore c.new-sums.result.counts n written.0 c.write_intervals.new.sums.counts) many written.2) in
-    (contents (sink c.new-log.result).now, written.0, start, (all.0, moved, (lines.0, lines.1, lines.2, lines.3, lines.4, search rules)), counts)
+    (c.decimals.result, c.unit.result, (contents (sink c.new-log.result).now, written.0, start, (all.0, moved, (lines.0, lines.1, lines.2, lines.3, lines.4, search rules)), counts), λ decimals unit k d inside. (c.decimals.ensures decimals k d inside, c.unit.ensures unit k d inside))

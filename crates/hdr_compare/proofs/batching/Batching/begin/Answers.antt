@@ -13,7 +13,7 @@ returns-else-len-ge-MOST-clause-samples c S few has =
     let g = resolution_of 1 old.sigfig in
     let all = c.push.new.batches.items in
     let more = c.replace-last.new.dest in
-    let same : all ≡ batches_of old = c.in_ok-push.ensures ∙ ap (λ (h : Plain). old.full.items ++ h ∷ []) c.replace-last.ensures.value in
+    let same : all ≡ batches_of old = c.in_ok-push.ensures.pushed ∙ ap (λ (h : Plain). old.full.items ++ h ∷ []) c.replace-last.ensures.value in
     let stands = subst (λ (h : Plain). StandsFor h []) (sym c.replace-last.ensures.after) c.in_ok-empty.ensures.stands in
     let classes = subst (λ (h : Plain). resolution h ≡ g) (sym c.replace-last.ensures.after) c.in_ok-empty.ensures.classes in
     record {
@@ -28,12 +28,12 @@ returns-in_ok-self-clause-samples c S few has =
     let all = c.replace-full.result.items in
     let more = c.replace-last.new.dest in
     let same : all ≡ batches_of old =
-    ap (λ full. full.items) c.replace-full.ensures.value ∙ c.in_ok-push.ensures ∙ ap (λ (h : Plain). old.full.items ++ h ∷ []) c.replace-last.ensures.value in
+    ap (λ full. full.items) c.replace-full.ensures.value ∙ c.in_ok-push.ensures.pushed ∙ ap (λ (h : Plain). old.full.items ++ h ∷ []) c.replace-last.ensures.value in
     let stands = subst (λ (h : Plain). StandsFor h []) (sym c.replace-last.ensures.after) c.in_ok-empty.ensures.stands in
     let classes = subst (λ (h : Plain). resolution h ≡ g) (sym c.replace-last.ensures.after) c.in_ok-empty.ensures.classes in
     let pairs = c.in_ok-self.field-0.items in
     let before = subst (HaveClasses g) (sym same) has.classes in
     record {
-      parts = parts-end pairs more S stands (c.in_ok-self.ensures.parts g S before few (subst (AreParts S) (sym same) has.parts));
-      classes = classes-end g pairs more classes (c.in_ok-self.ensures.classes g before);
+      parts = parts-end pairs more S stands (c.in_ok-self.ensures.pairs.parts g S before few (subst (AreParts S) (sym same) has.parts));
+      classes = classes-end g pairs more classes (c.in_ok-self.ensures.pairs.classes g before);
     }

@@ -1,6 +1,6 @@
-use Rattle.std.proofs.Common.{◌≡◌, ℕ, ◌≤◌, ◌-◌, ◌^◌, rules, arith, Some, refl, sym, subst}
+use Rattle.std.proofs.Common.{◌≤◌, ◌-◌, ◌^◌, rules, arith, Some, refl, sym}
 use Rattle.hdr_compare.specs.Counted.{IsCounted}
-use Rattle.hdr_compare.specs.Intervals.{IsBasis, IsHighEnd}
+use Rattle.hdr_compare.specs.Intervals.{IsBasis}
 use Rattle.hdr_compare.specs.declared.ends.Basis.{Basis}
 use Rattle.hdr_compare.proofs.Intervals.{ends_at, high_end_is}
 use Rattle.hdr_compare.proofs.run.Run.greatest_end.Goals as goal

@@ -1,6 +1,8 @@
 use Rattle.std.proofs.Common.{◌≤◌}
 use Rattle.hdr_compare.specs.Intervals.{CountsAs}
+use Rattle.hdr_compare.specs.Nearest.{IsReachedUp}
 use Rattle.hdr_compare.proofs.run.Run.high_end.Given as goal
 
 abbrev pub invariant-loop : goal.invariant-loop
 invariant-loop l = (l.independent ≤ l.fn.independent) × CountsAs l.fn.self.batches.items l.fn.tier l.fn.independent l.independent
+    × IsReachedUp l.fn.self.all l.fn.self.batches.items l.fn.quantile l.fn.tier l.independent l.counter l.fn.value l.high

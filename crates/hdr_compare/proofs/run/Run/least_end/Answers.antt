@@ -1,6 +1,6 @@
-use Rattle.std.proofs.Common.{◌≡◌, ℕ, ◌≤◌, rules, arith, None, refl, sym, subst}
+use Rattle.std.proofs.Common.{◌≤◌, rules, arith, None, refl, sym}
 use Rattle.hdr_compare.specs.Counted.{IsCounted}
-use Rattle.hdr_compare.specs.Intervals.{IsBasis, IsLowEnd}
+use Rattle.hdr_compare.specs.Intervals.{IsBasis}
 use Rattle.hdr_compare.specs.declared.ends.Basis.{Basis}
 use Rattle.hdr_compare.proofs.Intervals.{begins_at, low_end_is}
 use Rattle.hdr_compare.proofs.run.Run.least_end.Goals as goal

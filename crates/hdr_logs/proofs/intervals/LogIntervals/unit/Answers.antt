@@ -1,6 +1,5 @@
-use Rattle.std.proofs.Common.{◌≡◌, ◌∙◌, Some, None, Option, slice_get, option_and_then, sym, ap}
+use Rattle.std.proofs.Common.{◌≡◌, ◌∙◌, Some, None, slice_get, option_and_then, sym, ap}
 use Rattle.std.specs.Option.{option_copied}
-use Rattle.hdr_logs.specs.declared.stored.StoredInterval.{StoredInterval}
 use Rattle.hdr_logs.proofs.Storing.{unit_of_first}
 use Rattle.hdr_logs.proofs.intervals.LogIntervals.unit.Goals as goal
 

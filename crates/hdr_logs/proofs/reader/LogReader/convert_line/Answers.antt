@@ -25,6 +25,6 @@ returns-in-Ok-clause-line g c =
     let pushed = c.in-Ok.ensures.line in
     let text = pushed.0 in
     let timed = interval_then old.parser.base entry in
-    let marked : c.without_mark-line.result.now ≡ without_mark (number == 0) line = c.without_mark-line.ensures ∙ ap (λ b. without_mark b c.deref-2.result.now) (first_number number c.next_place-next.result.line c.next_place-next.ensures) ∙ ap (without_mark (number == 0)) c.deref-2.ensures.value in
+    let marked : c.without_mark-line.result.now ≡ without_mark (number == 0) line = c.without_mark-line.ensures ∙ ap (λ b. without_mark b c.deref-2.result.now) (first_number number c.next_place-next.result.line c.next_place-next.ensures.line) ∙ ap (without_mark (number == 0)) c.deref-2.ensures.value in
     let becomes : LineBecomes form filter timed (without_mark (number == 0) line) text = subst (λ l. LineBecomes form filter timed l text) marked (subst (λ o. LineBecomes form filter o c.without_mark-line.result.now text) parsed.3 pushed.1) in
     (text, pushed.2, λ rest left. line_becomes form filter before after number c.parse_line.new.self.place.line old.parser.base c.parse_line.new.self.base line entry text rest c.parse_line.ensures.line reads says parsed.2 becomes left)

@@ -12,6 +12,7 @@ pub loop-init : goal.loop-init
 loop-init g c = record {
   indices = λ indexed. indexed;
   choice = refl;
+  scale = λ d is. (is, refl);
   known = λ known. known;
   passed = λ indexed. ([], (refl, refl), (λ rest left. left), tt);
 }
@@ -30,6 +31,7 @@ loop-preserved g c =
           rw (w.self-is, w.sink-is) (record {
             indices = λ indexed. one.indices (so_far.indices indexed);
             choice = one.choice ∙ so_far.choice;
+            scale = λ d is. let before = so_far.scale d is in (one.known d before.0, one.known_unit d before.0 ∙ before.1);
             known = λ known. line.known (so_far.known known);
             passed = λ indexed.
                 let before = so_far.passed indexed in
@@ -52,6 +54,7 @@ loop-preserved g c =
           rw (w.self-is, w.sink-is) (record {
             indices = so_far.indices;
             choice = so_far.choice;
+            scale = so_far.scale;
             known = λ known. line.known (so_far.known known);
             passed = λ indexed.
                 let before = so_far.passed indexed in
