@@ -41,8 +41,10 @@ fn add_decimals(
     decimals: Option<u32>,
     start: &mut IntervalLogWriterBuilder,
 ) -> Result<(), LogError>
-    ensures { OnOk result (start.new ≡ record start.old { comments
-        = start.old.comments ++ option_to_list (option_map decimals_comment decimals) }) }
+    ensures { OnOk result (start.new ≡ record start.old {
+      comments
+          = start.old.comments ++ option_to_list (option_map decimals_comment decimals);
+    }) }
 {
     match decimals {
         Some(decimals) => {
@@ -59,8 +61,10 @@ fn add_unit(
     unit: Option<Unit>,
     start: &mut IntervalLogWriterBuilder,
 ) -> Result<(), LogError>
-    ensures { OnOk result (start.new ≡ record start.old { comments
-        = start.old.comments ++ option_to_list (option_map unit_comment unit) }) }
+    ensures { OnOk result (start.new ≡ record start.old {
+      comments
+          = start.old.comments ++ option_to_list (option_map unit_comment unit);
+    }) }
 {
     match unit {
         Some(unit) => {
