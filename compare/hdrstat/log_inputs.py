@@ -114,7 +114,8 @@ def log_error(failure):
     """What standard error has, or None where the model does not say it."""
     name, line, text, why = failure.text
     if why == "log":
-        return f"hdrstat: {name}: {line}: `{shown(text)}` is not a line of an interval log\n".encode()
+        hint = "; `hdrstat log` makes a log of numbers" if line == "line 1" else ""
+        return f"hdrstat: {name}: {line}: `{shown(text)}` is not a line of an interval log{hint}\n".encode()
     if why == "other decimals":
         return f"hdrstat: {name}: {line}: the values have {text[0]} decimals, and others {text[1]}; `hdrstat gather --unsorted` makes one log of both\n".encode()
     if why == "large":

@@ -11,6 +11,9 @@ use Rattle.hdr_logs.specs.Intervals as logs
 use Rattle.hdr_logs.specs.Reading as reading
 use Rattle.hdr_input.specs.declared.unit.Unit.{Unit}
 use Rattle.hdr_logs.specs.Stored.{Stored, stored, view_of_stored, decimals_of}
+use Rattle.hdr_logs.specs.declared.errors.LogError.{LogError}
+use Rattle.hdr_logs.specs.declared.errors.LogError.TheVariants.{NotSorted}
+use Rattle.hdr_logs.specs.declared.place.Place.{Place}
 use Rattle.hdr_logs.specs.declared.stored.StoredInterval.{StoredInterval}
 use Rattle.hdr_gather.specs.Counts.{CountsMore}
 use Rattle.hdr_gather.specs.Logs.{AreIn, Writes, WritesLog}
@@ -64,6 +67,10 @@ next_start log = option_map (λ next. next.start) log.next
 -- it begins at this time or later
 abbrev pub IsFrom : {R : Type 0} → ℕ → PeekableLog R → Type 0
 IsFrom low log = IfSome (next_start log) (λ start. low ≤ start)
+
+-- the error of an interval that begins before the one above it
+abbrev pub IsNotSorted : LogError → Type 0
+IsNotSorted error = (place : Place) × (error ≡ NotSorted place)
 
 -- the decimals and the unit of the values of an interval
 abbrev pub scale_of : StoredInterval → ℕ × Option Unit

@@ -1,13 +1,13 @@
 //! A log that is read interval by interval.
 
-ghost use Rattle.std.specs.Prelude.{◌≡◌, ◌↔◌, ◌<◌, ◌++◌, ◌+◌, List, None, IfOk, IfSome, IsSome, IsSomeAnd, IsTrue, OnOk, OnErr, option_and_then};
+ghost use Rattle.std.specs.Prelude.{◌≡◌, ◌↔◌, ◌<◌, ◌++◌, ◌+◌, List, None, IfOk, IfErr, IfSome, IsSome, IsSomeAnd, IsTrue, OnOk, OnErr, option_and_then};
 ghost use Rattle.std.specs.Option.{option_map};
 ghost use Rattle.hdr_log.specs.Tags.{tag_text};
 ghost use Rattle.hdrhistogram.specs.Chosen.{view_of_interval_choice};
 ghost use Rattle.hdr_logs.specs.Reading.{decimals_at, unit_at};
 ghost use Rattle.hdr_logs.specs.Stored.{Stored};
 ghost use Rattle.hdr_gather.specs.Left.{LogHolds, next_interval, next_start, UnreadHold, HasLeft};
-ghost use Rattle.hdr_gather.specs.Left.{IsKnown, IsReady, IsReadyAt, IsFrom, IsNextIn, scale_of};
+ghost use Rattle.hdr_gather.specs.Left.{IsKnown, IsNotSorted, IsReady, IsReadyAt, IsFrom, IsNextIn, scale_of};
 
 use hdr_input::Unit;
 use hdr_logs::{LineBuffer, LogError, LogLine, LogReader, Note, StoredInterval};
@@ -122,6 +122,8 @@ impl<'c, R: Read + Drop> PeekableLog<'c, R> {
         ensures from { OnOk result (IsFrom start self.old → IsFrom start self.new) }
         ensures end { IfOk result (λ taken. taken ≡ None → IsFrom start self.old
             → IsFrom (start + 1) self.new) }
+        ensures errors { IfErr result (λ e. IsNotSorted e
+            → IsSomeAnd (next_start self.new) (λ next. next < start)) }
     {
         if self.next_start() != Some(start) {
             return Ok(None);
@@ -150,6 +152,7 @@ impl<'c, R: Read + Drop> PeekableLog<'c, R> {
             → UnreadHold R.remaining self.old (next_interval next ++ rest)) }
         ensures ready { IfOk result (λ next. IsKnown R.remaining self.old
             → IsReadyAt R.remaining self.new next) }
+        ensures errors { IfErr result (λ e. IsNotSorted e → ⊥) }
         ensures scale { IfOk result (λ next. IfSome next (λ s. (s.decimals ≡ decimals_at self.new.log)
             × (s.unit ≡ unit_at self.new.log))) }
     {

@@ -1,5 +1,6 @@
 -- Histograms after numbers.
-use Rattle.std.specs.Prelude.{◌≡◌, ℕ, ◌+◌, ◌-◌, ◌*◌, ◌%◌, ◌^◌, ◌<◌, ◌≤◌, min, max, Bool, true, if◌then◌else◌, Result, Ok, Err}
+use Rattle.std.specs.Prelude.{◌≡◌, ℕ, ◌+◌, ◌-◌, ◌*◌, ◌%◌, ◌^◌, ◌<◌, ◌≤◌, min, max, Bool, true, if◌then◌else◌, Result, Ok, Err, refl}
+use Rattle.std.proofs.Common.{◌∙◌}
 use Rattle.hdr_model.specs.Plain.{Plain, reach}
 use Rattle.hdr_model.specs.Correction.{after_correct}
 use Rattle.hdr_input.specs.Numbers.{in_units}
@@ -51,9 +52,19 @@ TakesTimes old new number times is_rounded =
 abbrev pub KeepsUnit : Tally → Tally → Type 0
 KeepsUnit old new = (new.decimals ≡ old.decimals) × (new.interval ≡ old.interval)
 
+pub keeps_unit_of_none : (t : Tally) → KeepsUnit t t
+keeps_unit_of_none t = (refl, refl)
+
+pub keeps_unit_after : (a b c : Tally) → KeepsUnit a b → KeepsUnit b c → KeepsUnit a c
+keeps_unit_after a b c first more = (more.0 ∙ first.0, more.1 ∙ first.1)
+
 -- a tally after a number that was recorded, and rounded or not
 abbrev pub after_rounding : Tally → Bool → Tally
 after_rounding t is_rounded = record t { rounded = with_rounding t.rounded is_rounded }
+
+-- a tally has taken a number that stands for a longer one, which was rounded or not
+abbrev pub TakesRounded : Tally → Tally → Number → Bool → Type 0
+TakesRounded old new number is_rounded = (between : Tally) × Takes old between number × (new ≡ after_rounding between is_rounded)
 
 -- a tally whose sum has as many units more as `times` numbers have
 abbrev pub after_copies : Tally → ℕ → ℕ → Tally

@@ -140,7 +140,7 @@ fn record_line<S: NumberSink>(
     }
     match record_text(sink, text) {
         Ok(()) => Ok(()),
-        Err(Cause::NotANumber) if has_delimiter(text) => {
+        Err(Cause::NotANumber | Cause::Words) if has_delimiter(text) => {
             skip_or_err(alloc, sink, InputPlace::Line(number), text, Cause::Table)
         }
         Err(cause) => skip_or_err(alloc, sink, InputPlace::Line(number), text, cause),
@@ -186,11 +186,13 @@ pub fn record_lines<S: NumberSink>(
 }
 
 impl LineSink for Tally {
-    ghost takes = { λ _ _ _ _ _. Unit {0} };
+    ghost use Rattle.hdr_input.specs.Recorded.{KeepsUnit, keeps_unit_of_none, keeps_unit_after};
 
-    ghost takes_none = { λ _ _. tt };
+    ghost takes = { λ _ _ _ old new. KeepsUnit old new };
 
-    ghost takes_more = { λ _ _ _ _ _ _ _ _ _ _ _. tt };
+    ghost takes_none = { λ _ sink. keeps_unit_of_none sink };
+
+    ghost takes_more = { λ _ _ _ _ _ a b c _ first more. keeps_unit_after a b c first more };
 
     fn take_lines(&mut self, alloc: Global, lines: &[u8], first: u64) -> Result<u64, InputError> {
         record_lines(alloc, self, lines, first)

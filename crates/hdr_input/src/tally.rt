@@ -5,7 +5,7 @@ ghost use Rattle.std.specs.Prelude.{Some, None, Ok, OnOk, IfOk, IfErr};
 ghost use Rattle.hdr_model.specs.CallErrors.{IsCreationError};
 ghost use Rattle.hdr_model.specs.Plain.{empty_plain};
 ghost use Rattle.hdr_input.specs.Numbers.{in_units};
-ghost use Rattle.hdr_input.specs.Recorded.{IsInterval, IsLeast, Takes, TakesTimes, KeepsUnit};
+ghost use Rattle.hdr_input.specs.Recorded.{IsInterval, IsLeast, Takes, TakesRounded, TakesTimes, KeepsUnit};
 ghost use Rattle.hdr_input.specs.Recorded.{IsTallyError, IsCauseOf, after_rounding, after_copies};
 ghost use Rattle.hdr_input.specs.declared.number.Number.{Number};
 
@@ -279,25 +279,38 @@ impl Tally {
 }
 
 impl NumberSink for Tally {
-    ghost takes = { λ _ _. Unit {0} };
+    ghost use Rattle.hdr_input.specs.Recorded.{keeps_unit_of_none, keeps_unit_after};
 
-    ghost takes_none = { λ _. tt };
+    ghost takes = { KeepsUnit };
 
-    ghost takes_more = { λ _ _ _ _ _. tt };
+    ghost takes_none = { keeps_unit_of_none };
+
+    ghost takes_more = { keeps_unit_after };
 
     #[inline(always)]
-    fn record(&mut self, number: Number) -> Result<(), Cause> {
+    fn record(&mut self, number: Number) -> Result<(), Cause>
+        ensures taken { KeepsUnit self.old self.new }
+        ensures number { OnOk result (Takes self.old self.new number) }
+        ensures errors { IfErr result (IsTallyError self.old number) }
+    {
         self.record(number)
     }
 
-    fn record_wide(&mut self, number: Wide) -> Result<(), Cause> {
+    fn record_wide(&mut self, number: Wide) -> Result<(), Cause>
+        ensures taken { KeepsUnit self.old self.new }
+        ensures number { OnOk result ((x : Number) × (is_rounded : Bool) × TakesRounded self.old self.new x is_rounded) }
+    {
         let decimals = self.decimals;
         self.record(number.rounded(decimals)?)?;
         self.count_rounded(number.is_rounded(decimals));
         Ok(())
     }
 
-    fn record_times(&mut self, number: Wide, times: u64) -> Result<(), Cause> {
+    fn record_times(&mut self, number: Wide, times: u64) -> Result<(), Cause>
+        ensures taken { KeepsUnit self.old self.new }
+        ensures number { OnOk result (0 < times → (x : Number) × (is_rounded : Bool)
+            × TakesTimes self.old self.new x times is_rounded) }
+    {
         self.record_times(number, times)
     }
 

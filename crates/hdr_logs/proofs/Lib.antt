@@ -9,6 +9,7 @@ pub mod Changed
 pub mod Zips
 pub mod Multiplied
 pub mod Greatest
+pub mod SomeOf
 pub mod TagsByFile
 pub mod Earliest
 pub mod Moving

@@ -1,5 +1,5 @@
 -- What is left of a log that is read line by line.
-use Rattle.std.specs.Prelude.{◌≡◌, ⊤, ℕ, ◌==◌, List, [], ◌∷◌, Option, IfSome, IsSome}
+use Rattle.std.specs.Prelude.{◌≡◌, ⊤, ℕ, ◌+◌, ◌-◌, ◌^◌, ◌==◌, min, List, [], ◌∷◌, Option, IfSome, IsSome}
 use Rattle.std.specs.Io.Buffered.{reader_remaining}
 use Rattle.hdrhistogram.specs.Chosen.{view_of_interval_choice}
 use Rattle.hdr_logs.specs.Intervals.{LogInterval, view_of_log_interval, TextHolds}
@@ -36,6 +36,10 @@ IsKnown remaining log = IsSome (unread remaining log)
 -- the file, and the line that was read last
 abbrev pub place_of : {R : Type 0} → LogReader R → Place
 place_of log = log.parser.place
+
+-- the file, and the line that is read next
+abbrev pub next_place_of : {R : Type 0} → LogReader R → Place
+next_place_of log = record (place_of log) { line = min ((place_of log).line + 1) (2 ^ 64 - 1) }
 
 -- the decimals and the unit of the last comments so far that have them
 abbrev pub decimals_at : {R : Type 0} → LogReader R → Option ℕ

@@ -1,7 +1,7 @@
 -- The scales of values of intervals, and their conversion.
-use Rattle.std.specs.Prelude.{◌≡◌, ◌↔◌, ◌≤◌, ℕ, zero, suc, ◌+◌, ◌-◌, ◌*◌, ◌^◌, List, map, Bool, true, nat_lt, Option, IsSome, unwrap_or}
+use Rattle.std.specs.Prelude.{◌≡◌, ◌↔◌, ◌⊎◌, ◌≤◌, ℕ, zero, suc, ◌+◌, ◌-◌, ◌*◌, ◌^◌, List, map, Bool, true, nat_lt, Option, Some, None, IsSome, unwrap_or, ⊤}
 use Rattle.std.specs.Option.{option_map}
-use Rattle.std.specs.List.{All}
+use Rattle.std.specs.List.{All, Any}
 use Rattle.hdr_base.specs.Classes.{Resolution, top_of}
 use Rattle.hdr_input.specs.declared.unit.Unit.{Unit}
 use Rattle.hdr_input.specs.Units.{exponent}
@@ -11,7 +11,10 @@ use Rattle.hdr_model.specs.Recording.{Times, after_records}
 use Rattle.hdr_model.specs.Merging.{classes_from}
 use Rattle.hdrhistogram.specs.FieldRead.{IsHeldIn}
 use Rattle.hdrhistogram.specs.V2.{IsV2}
+use Rattle.hdr_logs.specs.Errors.{IsMissingUnit}
 use Rattle.hdr_logs.specs.Stored.{view_of_stored, decimals_of}
+use Rattle.hdr_logs.specs.declared.errors.LogError.{LogError}
+use Rattle.hdr_logs.specs.declared.errors.LogError.TheVariants.{Conversion, Field, TooLarge, Write, OutOfMemory}
 use Rattle.hdr_logs.specs.declared.stored.StoredInterval.{StoredInterval}
 
 -- a second is 10 to this power in a unit; without a unit it is 0
@@ -32,6 +35,45 @@ pub record IsFinest (all : List StoredInterval) (decimals : ℕ) (unit : Option 
   pub most : IsGreatest (λ s. power_of s - exponent_of unit) all decimals
   pub known : All (λ s. IsSome s.unit ↔ IsSome unit) all
 
+-- one has a unit, and the other none
+abbrev pub IsOtherKind : Option Unit → Option Unit → Type 0
+IsOtherKind (Some one) None = ⊤
+IsOtherKind None (Some other) = ⊤
+IsOtherKind one other = ⊥
+
+-- some intervals have a unit, and others have none
+pub record HaveMixedUnits (all : List StoredInterval) : Type 0 where
+  pub some : Any (λ s. IsSome s.unit) all
+  pub none : Any (λ s. s.unit ≡ None) all
+
+-- by which factor the values of an interval are multiplied in a scale
+abbrev pub factor_of : ℕ → Option Unit → StoredInterval → ℕ
+factor_of decimals unit s = 10 ^ (decimals + exponent_of unit - power_of s)
+
+-- factors are not made, for this error: one does not fit 64 bits, or memory runs out
+abbrev pub IsFactorError : ℕ → Option Unit → List StoredInterval → LogError → Type 0
+IsFactorError decimals unit all (TooLarge place) = Any (λ s. 2 ^ 64 ≤ factor_of decimals unit s) all
+IsFactorError decimals unit all OutOfMemory = ⊤
+IsFactorError decimals unit all error = ⊥
+
+-- intervals have no factors, for this error: some have no unit beside others that have one, or it is one of the factors in the finest scale
+abbrev pub IsScaleError : List StoredInterval → LogError → Type 0
+IsScaleError all error =
+    (IsMissingUnit error × HaveMixedUnits all) ⊎ ((decimals : ℕ) × (unit : Option Unit) × IsFinest all decimals unit × IsFactorError decimals unit all error)
+
+-- an interval is not converted, for this error: a value or a count is too great, its field holds no histogram, or memory runs out
+abbrev pub IsConversionError : LogError → Type 0
+IsConversionError (TooLarge place) = ⊤
+IsConversionError (Field place cause) = ⊤
+IsConversionError (Conversion place cause) = ⊤
+IsConversionError (Write cause) = ⊤
+IsConversionError OutOfMemory = ⊤
+IsConversionError error = ⊥
+
+-- intervals are not converted to one scale, for this error
+abbrev pub IsOneScaleError : List StoredInterval → LogError → Type 0
+IsOneScaleError all error = (IsMissingUnit error × HaveMixedUnits all) ⊎ IsConversionError error
+
 -- the values of an interval have these decimals and this unit
 abbrev pub IsIn : ℕ → Option Unit → StoredInterval → Type 0
 IsIn decimals unit s = (decimals_of s ≡ decimals) × (s.unit ≡ unit)
@@ -44,9 +86,8 @@ IsAsFine decimals unit s = power_of s ≤ decimals + exponent_of unit
 abbrev pub is_coarser : ℕ → Option Unit → StoredInterval → Bool
 is_coarser decimals unit s = nat_lt (power_of s) (decimals + exponent_of unit)
 
--- by which factor the values of an interval are multiplied in a scale
 abbrev pub IsFactor : ℕ → Option Unit → StoredInterval → ℕ → Type 0
-IsFactor decimals unit s factor = factor ≡ 10 ^ (decimals + exponent_of unit - power_of s)
+IsFactor decimals unit s factor = factor ≡ factor_of decimals unit s
 
 -- a class, each of its samples the greatest value of it times a factor
 abbrev pub top_times : Resolution → ℕ → Times → Times

@@ -1,5 +1,7 @@
 //! Why a log is not read.
 
+ghost use Rattle.hdr_logs.specs.Errors.{IsFieldError, IsReadError};
+
 use crate::headers::UnitName;
 use crate::lines::LONGEST;
 use crate::place::Place;
@@ -17,6 +19,12 @@ pub enum LogError {
     /// The line is neither an interval nor a line that is skipped.
     #[error("{place}: `{text}` is not a line of an interval log")]
     NotALine {
+        place: Place,
+        text: String,
+    },
+    /// The same of the first line.
+    #[error("{place}: `{text}` is not a line of an interval log; `hdrstat log` makes a log of numbers")]
+    NotALog {
         place: Place,
         text: String,
     },
@@ -166,6 +174,7 @@ impl LogError {
     pub fn file(&self) -> Option<usize> {
         match self {
             LogError::NotALine { place, .. }
+            | LogError::NotALog { place, .. }
             | LogError::TooLong { place, .. }
             | LogError::OtherDecimals { place, .. }
             | LogError::OtherUnit { place, .. }
@@ -190,16 +199,23 @@ impl LogError {
         )
     }
 
-    /// Returns the error of a file that is not read.
-    pub(crate) fn of_reading(file: usize, cause: io::Error) -> LogError {
+    /// Returns the error of a reader that fails in a line.
+    pub(crate) fn of_reading(place: Place, cause: io::Error) -> LogError
+        ensures { IsReadError place result }
+    {
         match cause.kind() {
             io::ErrorKind::OutOfMemory => LogError::OutOfMemory,
-            _ => LogError::Io { file, cause },
+            _ => LogError::Io {
+                file: place.file,
+                cause,
+            },
         }
     }
 
     /// Returns the error of an interval whose histogram is not decoded.
-    pub fn of_field(place: Place, cause: FieldDecodeError) -> LogError {
+    pub fn of_field(place: Place, cause: FieldDecodeError) -> LogError
+        ensures { IsFieldError place result }
+    {
         match cause {
             FieldDecodeError::OutOfMemory => LogError::OutOfMemory,
             FieldDecodeError::Decode(DeserializeError::IoError(_)) => LogError::Conversion {
@@ -211,7 +227,9 @@ impl LogError {
     }
 
     /// Returns the error of an interval whose histogram is not converted.
-    pub(crate) fn of_conversion(place: Place, cause: ConvertError) -> LogError {
+    pub(crate) fn of_conversion(place: Place, cause: ConvertError) -> LogError
+        ensures { IsFieldError place result }
+    {
         match cause {
             ConvertError::OutOfMemory => LogError::OutOfMemory,
             cause => LogError::Conversion { place, cause },

@@ -1,6 +1,6 @@
 //! The chosen intervals of logs, whose histograms are not decoded yet.
 
-ghost use Rattle.std.specs.Prelude.{◌≡◌, ◌∷◌, [], ℕ, List, Option, OnOk, IfOk, IfSome, map, take, drop, unwrap_or};
+ghost use Rattle.std.specs.Prelude.{◌≡◌, ◌∷◌, [], ℕ, List, Option, OnOk, IfOk, IfErr, IfSome, map, take, drop, unwrap_or};
 ghost use Rattle.std.specs.List.{All, AllZip, count_by};
 ghost use Rattle.std.specs.Option.{option_map};
 ghost use Rattle.hdr_log.specs.Tags.{tag_text};
@@ -9,7 +9,7 @@ ghost use Rattle.hdr_logs.specs.Intervals.{LogInterval, LogHolds, view_of_log_in
 ghost use Rattle.hdr_logs.specs.FileNames.{in_file};
 ghost use Rattle.hdr_logs.specs.Stored.{AddsOfFile, Keeps, Pushes, HaveSameDecimals, HaveSameUnit, decimals_of, intervals_of};
 ghost use Rattle.hdr_logs.specs.Aligned.{LieOver};
-ghost use Rattle.hdr_logs.specs.Scales.{is_coarser, IsFactor, IsFinest, IsIn, IsConverted};
+ghost use Rattle.hdr_logs.specs.Scales.{is_coarser, IsFactor, IsFinest, IsIn, IsConverted, IsOneScaleError, IsScaleError};
 
 use crate::aligning::{begin_at, first_start};
 use crate::errors::LogError;
@@ -104,6 +104,7 @@ impl LogIntervals {
     /// does not fit 64 bits, `Field` if a field holds no histogram, `Write` if a count does not fit
     /// 63 bits, or `OutOfMemory`. Some intervals may then be converted.
     pub fn convert_to_one_scale(&mut self, alloc: Global) -> Result<(), LogError>
+        ensures errors { IfErr result (IsOneScaleError self.old.list.items) }
         ensures scale { OnOk result ((decimals : ℕ) × (unit : Option Unit)
             × IsFinest self.old.list.items decimals unit × All (IsIn decimals unit) self.new.list.items
             × (self.new.converted ≡ count_by (is_coarser decimals unit) self.old.list.items)) }
@@ -123,9 +124,10 @@ impl LogIntervals {
     /// Returns `MissingUnit` if some intervals have a unit and others have none, `TooLarge` if a factor
     /// does not fit 64 bits, or `OutOfMemory`.
     pub fn factors(&self, alloc: Global) -> Result<Vec<u64>, LogError>
-        ensures { IfOk result (λ factors. (decimals : ℕ) × (unit : Option Unit)
+        ensures factors { IfOk result (λ factors. (decimals : ℕ) × (unit : Option Unit)
             × IsFinest self.now.list.items decimals unit
             × AllZip (IsFactor decimals unit) self.now.list.items factors.items) }
+        ensures errors { IfErr result (IsScaleError self.now.list.items) }
     {
         let scale = finest_scale(&self.list)?;
         scale.factors(alloc, &self.list)

@@ -1,9 +1,10 @@
 //! The lines of a reader.
 
-ghost use Rattle.std.specs.Prelude.{◌≡◌, ◌≢◌, ◌-◌, ◌<◌, ◌≤◌, true, All, Ok, IfOk, OnSome};
+ghost use Rattle.std.specs.Prelude.{◌≡◌, ◌≢◌, ◌-◌, ◌<◌, ◌≤◌, true, All, Ok, IfOk, IfErr, OnSome};
 ghost use Rattle.std.specs.Prelude.{length, take};
 ghost use Rattle.std.specs.Io.{StopsAt, StartsWith, IsEmptyOrEndsWith, appended_bytes};
 ghost use Rattle.std.specs.Io.KnownBytes.{Consumes, IsAtEnd};
+ghost use Rattle.hdr_logs.specs.Errors.{IsReadError};
 ghost use Rattle.hdr_logs.specs.Lines.{ReadsLine};
 
 use crate::errors::LogError;
@@ -66,13 +67,14 @@ pub(crate) fn read_line<R: BufRead>(
     line: &mut Vec<u8>,
     place: Place,
 ) -> Result<bool, LogError>
-    ensures { IfOk result (λ is_some. ReadsLine (R.remaining reader.old) (R.remaining reader.new)
+    ensures line { IfOk result (λ is_some. ReadsLine (R.remaining reader.old) (R.remaining reader.new)
         is_some line.new.items) }
+    ensures errors { IfErr result (IsReadError place) }
 {
     line.clear();
     for _ in 0..u64::MAX {
         let is_complete = push_buffered(reader, line).map_err(|error| LogError::of_reading(
-            place.file, error,
+            place, error,
         ))?;
         if line.len() > LONGEST {
             break;

@@ -1,6 +1,6 @@
 //! The lines of a log, parsed after those before them.
 
-ghost use Rattle.std.specs.Prelude.{◌≡◌, ◌==◌, ◌+◌, ◌-◌, ◌^◌, None, min, true, IfOk, Option};
+ghost use Rattle.std.specs.Prelude.{◌≡◌, ◌==◌, ◌+◌, ◌-◌, ◌^◌, None, min, true, IfOk, IfErr, Option};
 ghost use Rattle.std.specs.Option.{option_map, option_or};
 ghost use Rattle.std.specs.List.{list_all};
 ghost use Rattle.std.specs.Char.{is_ascii_whitespace};
@@ -8,6 +8,7 @@ ghost use Rattle.hdr_log.specs.Grammar.{Entry, Span, entry_of};
 ghost use Rattle.hdr_log.specs.Reading.{view_of_entry, view_of_interval, view_of_timed};
 ghost use Rattle.hdr_input.specs.Lines.{without_mark};
 ghost use Rattle.hdr_logs.specs.Comments.{decimals_in, unit_in};
+ghost use Rattle.hdr_logs.specs.Errors.{IsReadError};
 ghost use Rattle.hdr_logs.specs.Entries.{IsEntry, IsUnended, HoldsHistogram, is_ended, is_left_out, base_then, interval_then};
 
 use crate::errors::LogError;
@@ -121,7 +122,8 @@ const GZIP: [u8; 2] = [0x1f, 0x8b];
 /// have none.
 #[tactic(auto, unfolding(crate::specs::Entries::entry_of_line))]
 fn entry_of(alloc: Global, line: &[u8], place: Place) -> Result<Option<LogEntry<'_>>, LogError>
-    ensures { IfOk result (λ entry. IsEntry line.now (option_map view_of_entry entry)) }
+    ensures entry { IfOk result (λ entry. IsEntry line.now (option_map view_of_entry entry)) }
+    ensures errors { IfErr result (IsReadError place) }
 {
     if is_blank(line) {
         return Ok(None);
@@ -152,8 +154,11 @@ fn may_begin_line(line: &[u8]) -> bool {
 }
 
 /// Returns the error of a line that is not one of a log.
-fn not_a_line(alloc: Global, line: &[u8], place: Place) -> LogError {
+fn not_a_line(alloc: Global, line: &[u8], place: Place) -> LogError
+    ensures { IsReadError place result }
+{
     match excerpt(alloc, line.trim_ascii()) {
+        Ok(text) if place.line == 1 => LogError::NotALog { place, text },
         Ok(text) => LogError::NotALine { place, text },
         Err(_) => LogError::OutOfMemory,
     }
@@ -188,6 +193,7 @@ impl LogParser {
     ) -> Result<Option<TimedInterval<'a>>, LogError>
         ensures file { self.new.place.file ≡ self.old.place.file }
         ensures line { self.new.place.line ≡ min (self.old.place.line + 1) (2 ^ 64 - 1) }
+        ensures errors { IfErr result (IsReadError self.new.place) }
         ensures interval { IfOk result (λ timed. (entry : Option Entry)
             × IsEntry (without_mark (self.old.place.line == 0) line.now) entry
             × (self.new.base ≡ base_then self.old.base entry)

@@ -1,12 +1,13 @@
 //! A log that is read line by line.
 
-ghost use Rattle.std.specs.Prelude.{◌≡◌, ◌+◌, ◌-◌, ◌^◌, ◌++◌, ℕ, min, false, List, [], Ok, IfOk, OnOk, OnErr, IfSome, IsSome};
+ghost use Rattle.std.specs.Prelude.{◌≡◌, ◌+◌, ◌-◌, ◌^◌, ◌++◌, ℕ, min, false, List, [], Ok, IfOk, IfErr, OnOk, OnErr, IfSome, IsSome};
 ghost use Rattle.std.specs.Io.KnownBytes.{IsAtEnd};
 ghost use Rattle.hdrhistogram.specs.Chosen.{view_of_interval_choice};
 ghost use Rattle.hdr_convert.specs.declared.bytes.Form.{Form};
 ghost use Rattle.hdr_logs.specs.Conversion.{LogBecomes, UnreadBecomes, ConvertsLine};
+ghost use Rattle.hdr_logs.specs.Errors.{IsIntervalError};
 ghost use Rattle.hdr_logs.specs.Intervals.{LogInterval, LogHolds};
-ghost use Rattle.hdr_logs.specs.Reading.{intervals_of_line, place_of, unread, HasScale, IsEnd, UnreadHold, IsKnown};
+ghost use Rattle.hdr_logs.specs.Reading.{intervals_of_line, place_of, next_place_of, unread, HasScale, IsEnd, UnreadHold, IsKnown};
 
 use crate::conversion::push_line;
 use crate::errors::LogError;
@@ -98,6 +99,7 @@ impl<'c, R: Read + Drop> LogReader<'c, R> {
         alloc: Global,
         buffer: &'a mut LineBuffer,
     ) -> Result<LogLine<'a>, LogError>
+        ensures errors { IfErr result (IsIntervalError (next_place_of self.old)) }
         ensures intervals { IfOk result (λ line. (rest : List LogInterval)
             → UnreadHold R.remaining self.new rest
             → UnreadHold R.remaining self.old (intervals_of_line line ++ rest)) }
@@ -145,6 +147,7 @@ impl<'c, R: Read + Drop> LogReader<'c, R> {
         buffer: &mut LineBuffer,
         output: &mut Vec<u8>,
     ) -> Result<bool, LogError>
+        ensures errors { IfErr result (IsIntervalError (next_place_of self.old)) }
         ensures line { OnOk result (ConvertsLine R.remaining form self.old self.new output.old.items
             output.new.items) }
         ensures end { result ≡ Ok false → IsAtEnd (unread R.remaining self.old)

@@ -1,15 +1,17 @@
 //! The scales of values of intervals, and their conversion.
 
-ghost use Rattle.std.specs.Prelude.{◌≡◌, ◌↔◌, ◌≤◌, ◌+◌, ◌-◌, ◌^◌, ℕ, List, IfOk, IfSome, IsSome, OnOk, map};
-ghost use Rattle.std.specs.List.{All, AllZip, count_by};
+ghost use Rattle.std.specs.Prelude.{◌≡◌, ◌↔◌, ◌⊎◌, ◌≤◌, ◌<◌, ◌+◌, ◌-◌, ◌^◌, ℕ, List, None, IfOk, IfErr, IsSome, OnOk, SomeIff, map};
+ghost use Rattle.std.specs.List.{All, Any, AllZip, count_by};
 ghost use Rattle.std.specs.String.{string_bytes};
 ghost use Rattle.hdr_log.specs.Texts.{base64_of};
 ghost use Rattle.hdr_model.specs.Recording.{after_records};
 ghost use Rattle.hdrhistogram.specs.ClassesRead.{times_of};
 ghost use Rattle.hdrhistogram.specs.V2.{IsV2};
-ghost use Rattle.hdr_logs.specs.Stored.{view_of_stored, decimals_of};
+ghost use Rattle.hdr_logs.specs.Errors.{IsMissingUnit};
+ghost use Rattle.hdr_logs.specs.Stored.{view_of_stored};
 ghost use Rattle.hdr_logs.specs.Scales.{exponent_of, power_of, top_times, IsFactor, IsGreatest, IsFinest};
-ghost use Rattle.hdr_logs.specs.Scales.{is_coarser, IsAsFine, IsIn, IsConverted, HoldsMultiplied};
+ghost use Rattle.hdr_logs.specs.Scales.{is_coarser, factor_of, IsAsFine, IsIn, IsConverted, HoldsMultiplied};
+ghost use Rattle.hdr_logs.specs.Scales.{HaveMixedUnits, IsConversionError, IsFactorError, IsOtherKind};
 
 use crate::errors::LogError;
 use crate::headers::UnitName;
@@ -38,7 +40,8 @@ pub(crate) struct ValueScale {
 /// # Errors
 /// Returns `MissingUnit` if some of them have a unit and others have none.
 pub(crate) fn finest_scale(intervals: &[StoredInterval]) -> Result<ValueScale, LogError>
-    ensures { IfOk result (λ scale. IsFinest intervals.now scale.decimals scale.unit) }
+    ensures scale { IfOk result (λ scale. IsFinest intervals.now scale.decimals scale.unit) }
+    ensures errors { IfErr result (λ e. IsMissingUnit e × HaveMixedUnits intervals.now) }
 {
     let unit = finest_unit(intervals);
     check_known(intervals, unit)?;
@@ -50,7 +53,9 @@ pub(crate) fn finest_scale(intervals: &[StoredInterval]) -> Result<ValueScale, L
 
 /// Returns the finest unit of intervals, if one of them has a unit.
 fn finest_unit(intervals: &[StoredInterval]) -> Option<Unit>
-    ensures { IsGreatest (λ s. exponent_of s.unit) intervals.now (exponent_of result) }
+    ensures exponent { IsGreatest (λ s. exponent_of s.unit) intervals.now (exponent_of result) }
+    ensures some { IsSome result → Any (λ s. IsSome s.unit) intervals.now }
+    ensures none { result ≡ None → All (λ s. s.unit ≡ None) intervals.now }
 {
     let mut finest = None;
     for interval in intervals {
@@ -61,8 +66,10 @@ fn finest_unit(intervals: &[StoredInterval]) -> Option<Unit>
 
 /// Returns the finer of two units, or the one that is known.
 fn finer(one: Option<Unit>, other: Option<Unit>) -> Option<Unit>
-    ensures { (high : ℕ) → (exponent_of result ≤ high)
+    ensures exponent { (high : ℕ) → (exponent_of result ≤ high)
         ↔ ((exponent_of one ≤ high) × (exponent_of other ≤ high)) }
+    ensures some { IsSome result → IsSome one ⊎ IsSome other }
+    ensures none { result ≡ None → (one ≡ None) × (other ≡ None) }
 {
     match (one, other) {
         (Some(one), Some(other)) if one.decimals() < other.decimals() => Some(other),
@@ -81,7 +88,8 @@ fn exponent_of(unit: Option<Unit>) -> u32
 
 /// Returns an error unless each interval has a unit if and only if `unit` is `Some`.
 fn check_known(intervals: &[StoredInterval], unit: Option<Unit>) -> Result<(), LogError>
-    ensures { OnOk result (All (λ s. IsSome s.unit ↔ IsSome unit) intervals.now) }
+    ensures known { OnOk result (All (λ s. IsSome s.unit ↔ IsSome unit) intervals.now) }
+    ensures errors { IfErr result (λ e. IsMissingUnit e × Any (λ s. IsOtherKind s.unit unit) intervals.now) }
 {
     for interval in intervals {
         check_one(interval, unit)?;
@@ -91,7 +99,8 @@ fn check_known(intervals: &[StoredInterval], unit: Option<Unit>) -> Result<(), L
 
 /// Returns an error unless an interval has a unit if and only if `unit` is `Some`.
 fn check_one(interval: &StoredInterval, unit: Option<Unit>) -> Result<(), LogError>
-    ensures { OnOk result (IsSome interval.now.unit ↔ IsSome unit) }
+    ensures known { OnOk result (IsSome interval.now.unit ↔ IsSome unit) }
+    ensures errors { IfErr result (λ e. IsMissingUnit e × IsOtherKind interval.now.unit unit) }
 {
     match (interval.unit, unit) {
         (Some(_), Some(_)) | (None, None) => Ok(()),
@@ -142,7 +151,9 @@ impl ValueScale {
         intervals: &[StoredInterval],
     ) -> Result<Vec<u64>, LogError>
         requires { All (IsAsFine self.decimals self.unit) intervals.now }
-        ensures { IfOk result (λ factors. AllZip (IsFactor self.decimals self.unit) intervals.now factors.items) }
+        ensures factors { IfOk result
+            (λ factors. AllZip (IsFactor self.decimals self.unit) intervals.now factors.items) }
+        ensures errors { IfErr result (IsFactorError self.decimals self.unit intervals.now) }
     {
         let mut factors = Vec::new(alloc);
         for interval in intervals {
@@ -158,7 +169,9 @@ impl ValueScale {
     /// Returns `TooLarge` if the factor does not fit 64 bits.
     fn factor(self, interval: &StoredInterval) -> Result<u64, LogError>
         requires { IsAsFine self.decimals self.unit interval.now }
-        ensures { IfOk result (IsFactor self.decimals self.unit interval.now) }
+        ensures factor { IfOk result (IsFactor self.decimals self.unit interval.now) }
+        ensures errors { IfErr result (λ e. (e ≡ LogError.TooLarge interval.now.place)
+            × (2 ^ 64 ≤ factor_of self.decimals self.unit interval.now)) }
     {
         match power_of_ten(self.more_decimals(interval)) {
             Some(factor) => Ok(factor),
@@ -179,8 +192,9 @@ impl ValueScale {
 }
 
 /// Returns a power of ten, or `None` if it does not fit 64 bits.
+#[tactic(auto, using(crate::proofs::SomeOf::power_beyond))]
 fn power_of_ten(power: u64) -> Option<u64>
-    ensures { IfSome result (λ factor. factor ≡ 10 ^ power) }
+    ensures { SomeIff result (10 ^ power < 2 ^ 64) (10 ^ power) }
 {
     10u64.checked_pow(u32::try_from(power).ok()?)
 }
@@ -216,6 +230,7 @@ impl Converter {
         scale: ValueScale,
     ) -> Result<u64, LogError>
         requires { All (IsAsFine scale.decimals scale.unit) intervals.old }
+        ensures errors { IfErr result IsConversionError }
         ensures count { IfOk result (λ count. count
             ≡ count_by (is_coarser scale.decimals scale.unit) intervals.old) }
         ensures converted { OnOk result (AllZip IsConverted intervals.old intervals.new) }
@@ -241,6 +256,7 @@ impl Converter {
         scale: ValueScale,
     ) -> Result<bool, LogError>
         requires { IsAsFine scale.decimals scale.unit interval.old }
+        ensures errors { IfErr result IsConversionError }
         ensures other_values { IfOk result (λ other_values. other_values
             ≡ is_coarser scale.decimals scale.unit interval.old) }
         ensures converted { OnOk result (IsConverted interval.old interval.new) }
@@ -259,8 +275,9 @@ impl Converter {
 
     /// Returns the field of an interval, with its values in units that are finer by a power of ten.
     fn finer_field(&mut self, interval: &StoredInterval, more: u64) -> Result<String, LogError>
-        ensures { IfOk result (λ text. HoldsMultiplied (10 ^ more)
+        ensures text { IfOk result (λ text. HoldsMultiplied (10 ^ more)
             (view_of_stored interval.now).field (string_bytes text)) }
+        ensures errors { IfErr result IsConversionError }
     {
         let Some(factor) = power_of_ten(more) else {
             return Err(LogError::TooLarge(interval.place));
@@ -278,8 +295,9 @@ impl Converter {
     /// Returns the Base64 of the V2 bytes of a histogram.
     #[tactic(auto, unfolding(hdr_log::specs::Texts::base64_of))]
     fn encoded(&mut self, histogram: &Histogram<u64>) -> Result<String, LogError>
-        ensures { IfOk result (λ text. (bytes : List ℕ) × IsV2 histogram.now bytes
+        ensures text { IfOk result (λ text. (bytes : List ℕ) × IsV2 histogram.now bytes
             × (string_bytes text ≡ base64_of bytes)) }
+        ensures errors { IfErr result IsConversionError }
     {
         match self.serializer.to_bytes(histogram) {
             Ok(bytes) => Ok(STANDARD.encode(self.alloc, bytes)?),
@@ -299,7 +317,8 @@ fn record_tops(
     factor: u64,
     place: Place,
 ) -> Result<(), LogError>
-    ensures { OnOk result (sum.new ≡ after_records (2 ^ 64 - 1) sum.old
+    ensures errors { IfErr result IsConversionError }
+    ensures sum { OnOk result (sum.new ≡ after_records (2 ^ 64 - 1) sum.old
         (map (λ class. top_times scale factor (times_of class)) classes.now)) }
 {
     for class in classes {

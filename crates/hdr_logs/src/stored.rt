@@ -8,6 +8,7 @@ ghost use Rattle.hdr_log.specs.Grammar.{is_tag};
 ghost use Rattle.hdr_log.specs.Tags.{tag_text};
 ghost use Rattle.hdrhistogram.specs.ClassesRead.{AppendsField};
 ghost use Rattle.hdrhistogram.specs.FieldRead.{IsHeldIn};
+ghost use Rattle.hdr_logs.specs.Errors.{IsFieldError};
 ghost use Rattle.hdr_logs.specs.FileNames.{text_in_file};
 ghost use Rattle.hdr_logs.specs.Times.{nearest_millisecond, IsTooLate};
 
@@ -143,7 +144,8 @@ impl StoredInterval {
         deserializer: &mut Deserializer,
         spare: Option<Histogram<u64>>,
     ) -> Result<Histogram<u64>, LogError>
-        ensures { IfOk result (IsHeldIn (2 ^ 64 - 1) (view_of_stored self.now).field) }
+        ensures histogram { IfOk result (IsHeldIn (2 ^ 64 - 1) (view_of_stored self.now).field) }
+        ensures errors { IfErr result (IsFieldError self.now.place) }
     {
         decoded(deserializer, spare, self.field.as_str(), self.place)
     }
@@ -157,8 +159,9 @@ impl StoredInterval {
         deserializer: &mut Deserializer,
         classes: &mut Vec<RecordedClass>,
     ) -> Result<RecordedBounds, LogError>
-        ensures { IfOk result (λ bounds. AppendsField (2 ^ 64 - 1) (view_of_stored self.now).field bounds
+        ensures classes { IfOk result (λ bounds. AppendsField (2 ^ 64 - 1) (view_of_stored self.now).field bounds
             classes.old.items classes.new.items) }
+        ensures errors { IfErr result (IsFieldError self.now.place) }
     {
         deserializer
             .decode_classes(self.field.as_str(), classes)
@@ -213,7 +216,8 @@ pub(crate) fn decoded(
     field: &str,
     place: Place,
 ) -> Result<Histogram<u64>, LogError>
-    ensures { IfOk result (IsHeldIn (2 ^ 64 - 1) field.now) }
+    ensures histogram { IfOk result (IsHeldIn (2 ^ 64 - 1) field.now) }
+    ensures errors { IfErr result (IsFieldError place) }
 {
     deserializer
         .decode_field_into(field, spare)

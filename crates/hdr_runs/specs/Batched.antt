@@ -1,5 +1,7 @@
 -- Numbers that are recorded, and in batches.
-use Rattle.std.specs.Prelude.{◌≡◌, ℕ, ◌^◌, ◌<◌, List, [], ◌∷◌, ◌++◌, length, false, true}
+use Rattle.std.specs.Prelude.{◌≡◌, ℕ, ◌^◌, ◌<◌, List, [], ◌∷◌, ◌++◌, length, Bool, false, true}
+use Rattle.hdr_input.specs.Recorded.{Takes, TakesRounded, TakesTimes}
+use Rattle.hdr_input.specs.declared.number.Number.{Number}
 use Rattle.hdr_model.specs.Plain.{Plain}
 use Rattle.hdr_model.specs.Samples.{StandsFor}
 use Rattle.hdr_compare.specs.Batchings.{HasRecorded, batches_of}
@@ -17,6 +19,18 @@ pub record HasSamples (S : List ℕ) (t : BatchTally) : Type 0 where
 abbrev pub TakesSame : BatchTally → BatchTally → Type 0
 TakesSame old new = new.has_batches ≡ true → (old.has_batches ≡ true)
     × ((S : List ℕ) → HasSamples S old → (T : List ℕ) × (length (S ++ T) < 2 ^ 64 → HasSamples (S ++ T) new))
+
+-- a number is recorded, whatever batches do
+unfoldable pub RecordsNumber : BatchTally → BatchTally → Number → Type 0
+RecordsNumber old new number = Takes old.tally new.tally number
+
+-- a number is recorded, which was rounded or not
+unfoldable pub RecordsWide : BatchTally → BatchTally → Type 0
+RecordsWide old new = (x : Number) × (is_rounded : Bool) × TakesRounded old.tally new.tally x is_rounded
+
+-- a number is recorded some times, which was rounded or not
+unfoldable pub RecordsTimes : BatchTally → BatchTally → ℕ → Type 0
+RecordsTimes old new times = 0 < times → (x : Number) × (is_rounded : Bool) × TakesTimes old.tally new.tally x times is_rounded
 
 -- the batches have all numbers
 abbrev pub HasBatches : BatchTally → Type 0

@@ -1,8 +1,10 @@
 -- Numbers that are counted within bounds, and recorded in batches.
-use Rattle.std.specs.Prelude.{⊤, Option, Some, None}
-use Rattle.hdr_input.specs.BoundLaws.{CountsSome, counts_nothing, counts_after}
+use Rattle.std.specs.Prelude.{⊤, ℕ, Option, Some, None, List, ◌∷◌}
+use Rattle.hdr_input.specs.BoundLaws.{CountsMany, CountsOne, CountsSome, counts_nothing, counts_after}
+use Rattle.hdr_input.specs.Bounds.{Counts}
+use Rattle.hdr_input.specs.declared.number.Number.{Number}
 use Rattle.hdr_runs.specs.BatchLaws.{takes_nothing, takes_after}
-use Rattle.hdr_runs.specs.Batched.{TakesSame}
+use Rattle.hdr_runs.specs.Batched.{RecordsNumber, RecordsTimes, RecordsWide, TakesSame}
 use Rattle.hdr_runs.specs.declared.batch_tally.BatchTally.{BatchTally}
 use Rattle.hdr_runs.specs.declared.level_tally.LevelTally.{LevelTally}
 
@@ -11,6 +13,28 @@ abbrev pub TakesInBatches : Option BatchTally → Option BatchTally → Type 0
 TakesInBatches None None = ⊤
 TakesInBatches (Some old) (Some new) = TakesSame old new
 TakesInBatches old new = ⊥
+
+-- batches take something, if there are batches
+abbrev pub InBatches : (BatchTally → BatchTally → Type 0) → Option BatchTally → Option BatchTally → Type 0
+InBatches Takes None None = ⊤
+InBatches Takes (Some old) (Some new) = Takes old new
+InBatches Takes old new = ⊥
+
+-- a number is counted, with the missing samples before it, and recorded in batches
+pub record RecordsInBoth (number : Number) (old new : LevelTally) : Type 0 where
+  pub missing : List Number
+  pub counted : Counts old.counted (number ∷ missing) new.counted
+  pub batches : InBatches (λ a b. RecordsNumber a b number) old.batches new.batches
+
+-- a number that may be rounded is counted and recorded in batches
+pub record RecordsWideInBoth (old new : LevelTally) : Type 0 where
+  pub counted : CountsOne old.counted new.counted
+  pub batches : InBatches RecordsWide old.batches new.batches
+
+-- a number is counted and recorded some times
+pub record RecordsTimesInBoth (times : ℕ) (old new : LevelTally) : Type 0 where
+  pub counted : CountsMany times old.counted new.counted
+  pub batches : InBatches (λ a b. RecordsTimes a b times) old.batches new.batches
 
 -- some numbers are counted, and batches take what all of them take
 pub record TakesInBoth (old new : LevelTally) : Type 0 where

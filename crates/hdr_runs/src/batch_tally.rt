@@ -68,13 +68,14 @@ impl BatchTally {
     ghost use Rattle.std.specs.Prelude.{◌≡◌, IfOk, OnOk};
     ghost use Rattle.hdr_input.specs.Numbers.{in_units};
     ghost use Rattle.hdr_input.specs.Recorded.{KeepsUnit};
-    ghost use Rattle.hdr_runs.specs.Batched.{AreSamplesOf, HasBatches, IsOrderOf, TakesSame};
+    ghost use Rattle.hdr_runs.specs.Batched.{AreSamplesOf, HasBatches, IsOrderOf, RecordsNumber, TakesSame};
 
     /// Records a number, which has these units. After an error the batches do not have all numbers.
     fn take(&mut self, number: Number, units: u64) -> Result<(), Cause>
         requires { units ≡ in_units number.digits number.decimals self.old.tally.decimals }
         ensures same { TakesSame self.old self.new }
         ensures unit { KeepsUnit self.old.tally self.new.tally }
+        ensures number { OnOk result (RecordsNumber self.old self.new number) }
         ensures keeps { OnOk result (HasBatches self.old → HasBatches self.new) }
     {
         recording_stands();
@@ -169,7 +170,7 @@ impl GroupSink for BatchTally {
 impl NumberSink for BatchTally {
     ghost use Rattle.std.specs.Prelude.{OnOk};
     ghost use Rattle.hdr_runs.specs.BatchLaws.{takes_nothing, takes_after};
-    ghost use Rattle.hdr_runs.specs.Batched.{HasBatches, TakesSame};
+    ghost use Rattle.hdr_runs.specs.Batched.{HasBatches, RecordsNumber, RecordsTimes, RecordsWide, TakesSame};
 
     ghost takes = { TakesSame };
 
@@ -181,6 +182,7 @@ impl NumberSink for BatchTally {
     #[tactic(auto, using(hdr_input::proofs::InUnits::units_same))]
     fn record(&mut self, number: Number) -> Result<(), Cause>
         ensures taken { TakesSame self.old self.new }
+        ensures number { OnOk result (RecordsNumber self.old self.new number) }
         ensures keeps { OnOk result (HasBatches self.old → HasBatches self.new) }
     {
         if number.decimals == self.tally.decimals {
@@ -192,6 +194,7 @@ impl NumberSink for BatchTally {
 
     fn record_wide(&mut self, number: Wide) -> Result<(), Cause>
         ensures taken { TakesSame self.old self.new }
+        ensures number { OnOk result (RecordsWide self.old self.new) }
         ensures keeps { OnOk result (HasBatches self.old → HasBatches self.new) }
     {
         let decimals = self.tally.decimals;
@@ -201,7 +204,10 @@ impl NumberSink for BatchTally {
         Ok(())
     }
 
-    fn record_times(&mut self, number: Wide, times: u64) -> Result<(), Cause> {
+    fn record_times(&mut self, number: Wide, times: u64) -> Result<(), Cause>
+        ensures taken { TakesSame self.old self.new }
+        ensures number { OnOk result (RecordsTimes self.old self.new times) }
+    {
         self.has_batches = false;
         self.tally.record_times(number, times)
     }

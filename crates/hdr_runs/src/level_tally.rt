@@ -68,6 +68,8 @@ impl GroupSink for LevelTally {
 }
 
 impl NumberSink for LevelTally {
+    ghost use Rattle.std.specs.Prelude.{OnOk};
+    ghost use Rattle.hdr_runs.specs.LevelTallies.{RecordsInBoth, RecordsTimesInBoth, RecordsWideInBoth};
     ghost use Rattle.hdr_runs.specs.LevelTallies.{TakesInBoth, takes_in_none, takes_in_more};
 
     ghost takes = { TakesInBoth };
@@ -77,7 +79,10 @@ impl NumberSink for LevelTally {
     ghost takes_more = { takes_in_more };
 
     #[inline(always)]
-    fn record(&mut self, number: Number) -> Result<(), Cause> {
+    fn record(&mut self, number: Number) -> Result<(), Cause>
+        ensures taken { TakesInBoth self.old self.new }
+        ensures number { OnOk result (RecordsInBoth number self.old self.new) }
+    {
         self.counted.record(number)?;
         match &mut self.batches {
             Some(batches) => batches.record(number),
@@ -85,7 +90,10 @@ impl NumberSink for LevelTally {
         }
     }
 
-    fn record_wide(&mut self, number: Wide) -> Result<(), Cause> {
+    fn record_wide(&mut self, number: Wide) -> Result<(), Cause>
+        ensures taken { TakesInBoth self.old self.new }
+        ensures number { OnOk result (RecordsWideInBoth self.old self.new) }
+    {
         self.counted.record_wide(number)?;
         match &mut self.batches {
             Some(batches) => batches.record_wide(number),
@@ -93,7 +101,10 @@ impl NumberSink for LevelTally {
         }
     }
 
-    fn record_times(&mut self, number: Wide, times: u64) -> Result<(), Cause> {
+    fn record_times(&mut self, number: Wide, times: u64) -> Result<(), Cause>
+        ensures taken { TakesInBoth self.old self.new }
+        ensures number { OnOk result (RecordsTimesInBoth times self.old self.new) }
+    {
         self.counted.record_times(number, times)?;
         match &mut self.batches {
             Some(batches) => batches.record_times(number, times),

@@ -2,8 +2,8 @@ use Rattle.std.proofs.Common.{◌≡◌, Ok, true, rules, arith}
 use Rattle.hdr_logs.proofs.LinesRead.{line_read, some_read, part_open, part_taken}
 use Rattle.hdr_logs.proofs.lines.read_line.Goals as goal
 
-pub returns-then-is_complete : goal.returns-then-is_complete
-returns-then-is_complete g c =
+pub returns-then-is_complete-clause-line : goal.returns-then-is_complete-clause-line
+returns-then-is_complete-clause-line g c =
     let step = c.push_buffered.ensures in
     let complete : c.push_buffered.result ≡ Ok true = search rules in
     let new = c.push_buffered.new.line.items in

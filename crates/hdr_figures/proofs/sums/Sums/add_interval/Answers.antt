@@ -11,7 +11,7 @@ use Rattle.hdr_figures.proofs.sums.Sums.add_interval.Goals as goal
 pub returns : goal.returns
 returns c =
     let field = (view_of_stored c.args.interval.now).field in
-    let (h, held, listed) = held_classes field c.in_ok-bounds.bounds c.clear.new.self.items c.classes.new.classes.items c.clear.ensures.items c.in_ok-bounds.ensures in
+    let (h, held, listed) = held_classes field c.in_ok-bounds.bounds c.clear.new.self.items c.classes.new.classes.items c.clear.ensures.items c.in_ok-bounds.ensures.classes in
     let are = c.new-classes.ensures h (subst (λ (l : List RecordedClass). ListsClasses c.in_ok-bounds.bounds l h) (sym c.deref.ensures.value) listed) in
     let start = c.in_ok-add_start.ensures in
     let old = c.args.self.now.point.histogram in

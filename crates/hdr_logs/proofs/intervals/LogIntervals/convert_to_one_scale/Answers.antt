@@ -1,6 +1,7 @@
-use Rattle.std.proofs.Common.{◌≡◌, ◌∙◌, ◌++◌, take, drop, length, sym, subst, arith}
+use Rattle.std.proofs.Common.{◌≡◌, ◌∙◌, ◌++◌, take, drop, length, inl, sym, subst, arith}
 use Rattle.std.specs.List.{All}
-use Rattle.hdr_logs.specs.Scales.{IsAsFine}
+use Rattle.std.proofs.lemmas.Result.{err_from_is_err_and}
+use Rattle.hdr_logs.specs.Scales.{HaveMixedUnits, IsAsFine}
 use Rattle.hdr_logs.specs.Stored.{decimals_of}
 use Rattle.hdr_logs.proofs.Changed.{refilled}
 use Rattle.hdr_logs.proofs.intervals.LogIntervals.convert_to_one_scale.Goals as goal
@@ -9,7 +10,7 @@ use Rattle.hdr_logs.proofs.intervals.LogIntervals.convert_to_one_scale.Goals.{Af
 pub convert_all-requires : goal.convert_all-requires
 convert_all-requires c =
     let scale = c.in_ok-scale.scale in
-    let most = (c.in_ok-scale.ensures.most scale.decimals).0 (omega arith) in
+    let most = (c.in_ok-scale.ensures.scale.most scale.decimals).0 (omega arith) in
     subst (All (IsAsFine scale.decimals scale.unit)) (c.deref.ensures.value ∙ sym c.deref_mut.ensures.value) (λ k d inside. omega (arith, most k d inside))
 
 -- the list is that of the converted intervals
@@ -25,3 +26,9 @@ pub returns-clause-unit : goal.returns-clause-unit
 returns-clause-unit c =
     let scale = c.in_ok-scale.scale in
     (scale.unit, subst (All (λ s. s.unit ≡ scale.unit)) (sym (refill c)) (λ k d inside. (c.in_ok-self.ensures.scale k d inside).1))
+
+pub returns-in_err-scale-clause-errors : goal.returns-in_err-scale-clause-errors
+returns-in_err-scale-clause-errors c =
+    let same = err_from_is_err_and c.from_residual.result c.from_residual.ensures.1 in
+    let error = c.in_err-scale.ensures.errors in
+    rw (same.1, same.2) (inl (error.0, subst HaveMixedUnits c.deref.ensures.value error.1))

@@ -13,10 +13,10 @@ if_ok : {A E : Type 0} {P Q : A → Type 0} (r : Result A E) → ((a : A) → P 
 if_ok (Ok a) then p = then a p
 if_ok (Err e) then p = tt
 
-pub returns : goal.returns
-returns c =
+pub returns-clause-text : goal.returns-clause-text
+returns-clause-text c =
     let bounds = c.in_ok-bounds.bounds in
-    let read = c.in_ok-bounds.ensures in
+    let read = c.in_ok-bounds.ensures.classes in
     let held = read.2 in
     let h = held.histogram in
     let classes = c.deref.result.now in
@@ -27,6 +27,6 @@ returns c =
     let new : c.in_ok-histogram.histogram ≡ empty_plain 1 2 h.sigfig true =
     c.in_ok-histogram.ensures.made.0 ∙ ap (λ sigfig. empty_plain 1 2 sigfig true) (sym held.sigfig) in
     let is : c.record_tops.new.sum ≡ multiplied (10 ^ c.args.more) h =
-    multiplied-is c.in-Some.factor h c.in_ok-histogram.histogram c.record_tops.new.sum c.in-Some-new.scale classes listed same new c.in_ok-record_tops.ensures
-    ∙ ap (λ factor. multiplied factor h) c.in-Some.ensures in
-    if_ok c.encoded.result (λ text e. (h, e.0, (read.0, read.1, held.taken, held.read), e.2, subst (λ (p : Plain). IsV2 p e.0) is e.1)) c.encoded.ensures
+    multiplied-is c.in-Some.factor h c.in_ok-histogram.histogram c.record_tops.new.sum c.in-Some-new.scale classes listed same new c.in_ok-record_tops.ensures.sum
+    ∙ ap (λ factor. multiplied factor h) c.in-Some.ensures.1 in
+    if_ok c.encoded.result (λ text e. (h, e.0, (read.0, read.1, held.taken, held.read), e.2, subst (λ (p : Plain). IsV2 p e.0) is e.1)) c.encoded.ensures.text

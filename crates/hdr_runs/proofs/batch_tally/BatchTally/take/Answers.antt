@@ -4,6 +4,7 @@ use Rattle.hdr_model.specs.Plain.{Plain, resolution}
 use Rattle.hdr_model.specs.Samples.{StandsFor}
 use Rattle.hdr_compare.specs.Batchings.{recorded}
 use Rattle.hdr_compare.proofs.Parts.{fits-of}
+use Rattle.hdr_runs.specs.Batched.{RecordsNumber}
 use Rattle.hdr_runs.proofs.batch_tally.BatchTally.take.Goals as goal
 
 pub returns-in-Ok-clause-same : goal.returns-in-Ok-clause-same
@@ -27,3 +28,7 @@ returns-in-Ok-clause-same c = λ has. (
         },
       ),
 )
+
+pub returns-in-Ok-clause-number : goal.returns-in-Ok-clause-number
+unfolding RecordsNumber
+returns-in-Ok-clause-number c = c.in_default.ensures.number

@@ -13,7 +13,7 @@ pub returns-clause-scale : goal.returns-clause-scale
 returns-clause-scale c =
     let r = c.index-interval.result.now in
     IfOk-weaker c.classes.result (λ bounds. AppendsField (2 ^ 64 - 1) (view_of_stored r.now).field bounds c.args.classes.now.items c.classes.new.classes.items) (λ bounds. HasScale bounds.low bounds.sigfig)
-    (λ bounds is. (let (bytes, e, a) = is in subst (λ s. HasScale bounds.low s) a.sigfig (subst (λ l. HasScale l a.histogram.sigfig) a.low a.plain.scale))) c.classes.ensures
+    (λ bounds is. (let (bytes, e, a) = is in subst (λ s. HasScale bounds.low s) a.sigfig (subst (λ l. HasScale l a.histogram.sigfig) a.low a.plain.scale))) c.classes.ensures.classes
 
 pub returns-clause-held : goal.returns-clause-held
 returns-clause-held c =
@@ -25,4 +25,4 @@ returns-clause-held c =
     (λ bounds is all held. (
     let (bytes, e, a) = is in
     let one = held-by c.args.self.now.intervals.items all c.args.index r c.index-interval.ensures held c.requires a.histogram (bytes, e, a.taken, a.read) in
-    record { histogram = a.histogram; is = one; plain = a.plain; low = sym a.low ∙ one.low; sigfig = sym a.sigfig ∙ one.sigfig; appended = a.appended })) c.classes.ensures
+    record { histogram = a.histogram; is = one; plain = a.plain; low = sym a.low ∙ one.low; sigfig = sym a.sigfig ∙ one.sigfig; appended = a.appended })) c.classes.ensures.classes
