@@ -8,7 +8,7 @@ from model import UNITS, Failure, Options, Tally, decimal_text, surveyed
 
 REASONS = {
     "no number": "is not a number; --skip-bad ignores such lines",
-    "words": "is not a number; --skip-bad ignores such lines. --column reads a word with --delimiter space, --match a number in a text",
+    "blank": "is not a number; --skip-bad ignores such lines. --column reads a field with --delimiter space, --match a number in a text",
     "table": "is not a number; --column reads a column of a table, --from log an interval log",
     "negative": "is negative, and a histogram counts numbers from 0; --skip-bad ignores such lines",
     "dash": "is not a number but a mark for none; --skip-bad ignores such lines",

@@ -88,7 +88,7 @@ def cause_of(text):
         return "infinite"
     if b"," in text and re.fullmatch(rb"\d([\d,.]*\d)?", text):
         return "comma"
-    return "words" if b" " in text else "no number"
+    return "blank" if b" " in text else "no number"
 
 
 def decimals_of(numbers):
@@ -249,7 +249,7 @@ class Tally:
             try:
                 self.record(*parse(text, self.options.unit))
             except Bad as bad:
-                is_table = str(bad) in ("no number", "words") and any(it in text for it in b",\t;")
+                is_table = str(bad) in ("no number", "blank") and any(it in text for it in b",\t;")
                 self.refuse(name, number, text, "table" if is_table else str(bad))
 
     def table(self, name, data):
@@ -313,7 +313,7 @@ def has_number(fields, index):
     try:
         return index < len(fields) and bool(parse(fields[index].strip(SPACE), None))
     except Bad as bad:
-        return str(bad) not in ("no number", "words", "dash", "infinite", "comma")
+        return str(bad) not in ("no number", "blank", "dash", "infinite", "comma")
 
 
 def guess_delimiter(data):

@@ -7,7 +7,7 @@ use Rattle.hdr_input.specs.Numbers.{in_units}
 use Rattle.hdr_input.specs.declared.number.Number.{Number}
 use Rattle.hdr_input.specs.declared.wide.Wide.{Wide}
 use Rattle.hdr_input.specs.declared.cause.Cause.{Cause}
-use Rattle.hdr_input.specs.declared.cause.Cause.TheVariants.{NotANumber, Dash, Infinite, Comma, Words, Negative, TooLarge, TooManyDecimals}
+use Rattle.hdr_input.specs.declared.cause.Cause.TheVariants.{NotANumber, Dash, Infinite, Comma, Blank, Negative, TooLarge, TooManyDecimals}
 
 abbrev pub is_point : ℕ → Bool
 is_point b = b == 46
@@ -68,7 +68,7 @@ IsTextError text NotANumber = number_of (without_leading_sign text) ≡ None
 IsTextError text Dash = number_of (without_leading_sign text) ≡ None
 IsTextError text Infinite = number_of (without_leading_sign text) ≡ None
 IsTextError text Comma = number_of (without_leading_sign text) ≡ None
-IsTextError text Words = number_of (without_leading_sign text) ≡ None
+IsTextError text Blank = number_of (without_leading_sign text) ≡ None
 IsTextError text _ = ⊥
 
 -- a cause that a text is not a number at all
@@ -77,7 +77,7 @@ IsNoNumber NotANumber = ⊤
 IsNoNumber Dash = ⊤
 IsNoNumber Infinite = ⊤
 IsNoNumber Comma = ⊤
-IsNoNumber Words = ⊤
+IsNoNumber Blank = ⊤
 IsNoNumber _ = ⊥
 
 -- a wide number is a number without its last digits, as many as these, and `is_cut` is whether one of them is not 0

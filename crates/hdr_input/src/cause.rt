@@ -19,8 +19,8 @@ pub enum Cause {
     #[error("is not a number; --skip-bad ignores such lines. --unit, as --unit ms, reads numbers with units of time")]
     Duration,
     /// It has a blank between other characters.
-    #[error("is not a number; --skip-bad ignores such lines. --column reads a word with --delimiter space, --match a number in a text")]
-    Words,
+    #[error("is not a number; --skip-bad ignores such lines. --column reads a field with --delimiter space, --match a number in a text")]
+    Blank,
     /// It is not a number, and looks like the line of a table.
     #[error("is not a number; --column reads a column of a table, --from log an interval log")]
     Table,

@@ -140,7 +140,7 @@ fn record_line<S: NumberSink>(
     }
     match record_text(sink, text) {
         Ok(()) => Ok(()),
-        Err(Cause::NotANumber | Cause::Words) if has_delimiter(text) => {
+        Err(Cause::NotANumber | Cause::Blank) if has_delimiter(text) => {
             skip_or_err(alloc, sink, InputPlace::Line(number), text, Cause::Table)
         }
         Err(cause) => skip_or_err(alloc, sink, InputPlace::Line(number), text, cause),

@@ -16,7 +16,7 @@ pub(crate) fn cause_of(text: &[u8]) -> Cause
         b"-" => Cause::Dash,
         _ if is_infinite(text) => Cause::Infinite,
         _ if has_comma(text) => Cause::Comma,
-        _ if text.contains(&b' ') => Cause::Words,
+        _ if text.contains(&b' ') => Cause::Blank,
         _ => Cause::NotANumber,
     }
 }

@@ -118,7 +118,7 @@ fn cause_of_time(cause: Cause) -> Cause {
     match cause {
         Cause::Negative => Cause::NegativeTime,
         Cause::TooLarge => Cause::TimeTooLarge,
-        Cause::NotANumber | Cause::Words => Cause::NotATime,
+        Cause::NotANumber | Cause::Blank => Cause::NotATime,
         cause => cause,
     }
 }
