@@ -83,10 +83,7 @@ for name in "$@"; do
     is_fresh "$name" || stale="$stale $name"
 done
 [ -n "$stale" ] || exit 0
-if ! command -v rt >/dev/null 2>&1; then
-    echo "build.sh: no command 'rt': put the folder bin of the Rattle kit on the PATH" >&2
-    exit 127
-fi
+tools/need-rt build.sh
 mkdir -p target
 # One build at a time; whoever waited finds the work done.
 exec 9>target/lock

@@ -29,10 +29,7 @@ show_progress() {
 }
 
 ! is_built || exit 0
-if ! command -v rt >/dev/null 2>&1; then
-    echo "capi/build.sh: no command 'rt': put the folder bin of the Rattle kit on the PATH" >&2
-    exit 127
-fi
+tools/need-rt capi/build.sh
 kit=$(dirname "$(rt doc | tail -1)")
 mkdir -p "$out"
 if ! is_fresh; then
