@@ -20,7 +20,7 @@ fn times(alloc: Global, digits: &[u64], factor: u64) -> Result<Vec<u64>, AllocEr
     ensures value { IfOk result (λ v. number v.items ≡ number digits.now * factor) }
     ensures len { IfOk result (λ v. length v.items ≡ length digits.now + 1) }
 {
-    let mut product = Vec::new(alloc);
+    let mut product = Vec::with_capacity(alloc, digits.len() + 1)?;
     let mut carry = 0;
     for digit in digits {
         let (low, high) = times_digit(*digit, factor, carry);

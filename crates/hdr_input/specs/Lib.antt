@@ -14,6 +14,7 @@ pub mod Bounds
 pub mod BoundLaws
 pub mod Visible
 pub mod Blanks
+pub mod Amounts
 pub mod BlankReaders
 pub mod TimeSlices
 pub mod Intervals

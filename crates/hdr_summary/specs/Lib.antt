@@ -2,6 +2,7 @@ pub mod Bars
 pub mod Classes
 pub mod Decimals
 pub mod Levels
+pub mod LevelTexts
 pub mod Means
 pub mod Percent
 pub mod Units

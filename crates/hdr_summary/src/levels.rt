@@ -1,6 +1,7 @@
 //! Levels that figures have to keep, such as `p99<=200ms`.
 
-ghost use Rattle.std.specs.Prelude.{◌≡◌, ◌≤◌, ◌*◌, ◌%◌, ◌^◌, ◌↔◌, IfSome, IsTrue};
+ghost use Rattle.std.specs.Prelude.{◌≡◌, ◌<◌, ◌≤◌, ◌*◌, ◌%◌, ◌^◌, ◌↔◌, ◌++◌, length, IfSome, IsTrue};
+ghost use Rattle.hdr_summary.specs.LevelTexts.{IsLevelAmount, IsLevelText, IsMeasureName, sign_of};
 ghost use Rattle.hdr_summary.specs.Levels.{IsOnSide, is_upper, bound_of};
 
 use crate::percentile::parse_percentile;
@@ -38,7 +39,9 @@ pub struct Level<'a> {
 }
 
 /// Parses the name of a figure.
-fn parse_measure(name: &str) -> Option<Measure> {
+fn parse_measure(name: &str) -> Option<Measure>
+    ensures { IfSome result (IsMeasureName name.now) }
+{
     match name {
         "count" => Some(Measure::Count),
         "min" => Some(Measure::Min),
@@ -52,38 +55,55 @@ fn parse_measure(name: &str) -> Option<Measure> {
 }
 
 /// Splits a level at its sign.
-fn split_side(text: &str) -> Option<(&str, Side, &str)> {
-    for (sign, side) in [
-        ("<=", Side::AtMost),
-        (">=", Side::AtLeast),
-        ("<", Side::Below),
-        (">", Side::Above),
-    ] {
-        if let Some((name, number)) = text.split_once(sign) {
+fn split_side(text: &str) -> Option<(&str, Side, &str)>
+    ensures text { IfSome result (λ p. text.now ≡ p.0.now ++ (sign_of p.1 ++ p.2.now)) }
+    ensures shorter { IfSome result (λ p. length p.2.now ≤ length text.now) }
+{
+    for side in [Side::AtMost, Side::AtLeast, Side::Below, Side::Above] {
+        if let Some((name, number)) = text.split_once(side.sign()) {
             return Some((name, side, number));
         }
     }
     None
 }
 
+/// Parses the amount of a level, which has no unit if it is of a count.
+fn level_amount(
+    is_count: bool,
+    text: &str,
+    usual: Option<Unit>,
+    unit: Option<Unit>,
+) -> Option<Number>
+    ensures amount { length text.now < 2 ^ 62 → IfSome result (IsLevelAmount is_count text.now usual unit) }
+    ensures few { IfSome result (λ n. n.decimals ≤ 18) }
+{
+    if is_count {
+        parse_amount(text, None)
+    } else {
+        parse_amount_in(text, usual, unit)
+    }
+}
+
 /// Parses a level such as `p99<=200ms`. A unit of time is only valid if the input has one. A count
 /// has none.
 pub fn parse_level(text: &str, unit: Option<Unit>) -> Option<Level<'_>>
-    ensures { IfSome result (λ level. level.text.now ≡ text.now) }
+    ensures text { IfSome result (λ level. level.text.now ≡ text.now) }
+    ensures level { length text.now < 2 ^ 62
+        → IfSome result (λ level. IsLevelText text.now unit unit level.measure level.side level.number) }
 {
     parse_level_in(text, unit, unit)
 }
 
 /// As `parse_level`. A level without a unit is in `usual`, if there is one.
 pub fn parse_level_in(text: &str, usual: Option<Unit>, unit: Option<Unit>) -> Option<Level<'_>>
-    ensures { IfSome result (λ level. level.text.now ≡ text.now) }
+    ensures text { IfSome result (λ level. level.text.now ≡ text.now) }
+    ensures level { length text.now < 2 ^ 62
+        → IfSome result (λ level. IsLevelText text.now usual unit level.measure level.side level.number) }
 {
     let (name, side, amount) = split_side(text)?;
     let measure = parse_measure(name)?;
-    let number = match measure {
-        Measure::Count => parse_amount(amount, None)?,
-        _ => parse_amount_in(amount, usual, unit)?,
-    };
+    let is_count = matches!(measure, Measure::Count);
+    let number = level_amount(is_count, amount, usual, unit)?;
     Some(Level {
         text,
         measure,
@@ -109,6 +129,18 @@ pub(crate) fn is_on_side(units: u64, decimals: u32, side: Side, number: Number) 
 }
 
 impl Side {
+    /// Returns the sign of this side.
+    fn sign(self) -> &'static str
+        ensures { result.now ≡ sign_of self }
+    {
+        match self {
+            Side::Below => "<",
+            Side::AtMost => "<=",
+            Side::Above => ">",
+            Side::AtLeast => ">=",
+        }
+    }
+
     /// Whether a level of this side bounds figures from above.
     pub fn is_upper(self) -> bool
         ensures { result ≡ is_upper self }
