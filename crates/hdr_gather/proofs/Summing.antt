@@ -1,15 +1,16 @@
 -- Sums of one field more.
 use Rattle.std.proofs.Common.{◌≡◌, ℕ, suc, ◌-◌, ◌^◌, ◌<◌, List, [], ◌∷◌, ◌++◌, length, length-append, refl, sym, ap, subst, ◌∙◌, arith, map, take, get_or, ◌+◌}
-use Rattle.std.specs.List.{All, AllZip}
-use Rattle.std.proofs.lemmas.List.{append_assoc, append-nil, map_more, map-append}
-use Rattle.std.proofs.lemmas.List.Elements.{All-nil, All-cons, All-append, All-weaker}
-use Rattle.hdr_base.specs.Classes.{IsFiner}
+use Rattle.std.specs.List.{All, AllZip, Any}
+use Rattle.std.proofs.lemmas.List.{append_assoc, append-nil, get_or-map, get_or_append_left, get_or_default, length-map, map_more, map-append}
+use Rattle.std.proofs.lemmas.List.Elements.{All-nil, All-cons, All-append, All-head, All-tail, All-weaker}
+use Rattle.std.proofs.lemmas.List.Quantifiers.{Any-push}
+use Rattle.hdr_base.specs.Classes.{IsFiner, Resolution}
 use Rattle.hdr_model.specs.Plain.{Plain, resolution, reach}
 use Rattle.hdr_model.specs.Samples.{StandsFor}
 use Rattle.hdr_model.specs.Joining.{joined_samples}
 use Rattle.hdrhistogram.specs.FieldRead.{IsHeldIn}
 use Rattle.hdr_gather.specs.Counts.{one_if_finer, finer_of, AreCounts}
-use Rattle.hdr_gather.specs.Sums.{IsJoined, IsGrowing, IsSum, StandsForAll, SumsFields}
+use Rattle.hdr_gather.specs.Sums.{AreCoarsest, IsJoined, IsGrowing, IsSum, StandsForAll, SumsFields}
 use Rattle.hdr_gather.specs.declared.sum.IntervalSum.{IntervalSum}
 use Rattle.hdr_gather.proofs.Counting.{finer_push, none_finer, all_finer, growing, finer_growing}
 
@@ -60,17 +61,22 @@ samples_push hs sum h new so_far join Ls z few =
     let before : length (joined_samples one.front) < 2 ^ 64 = omega (arith, all, length-append (joined_samples one.front) one.last) in
     subst (StandsFor new) (sym one.joined) (join (joined_samples one.front) one.last (so_far one.front one.fronts before) one.lasts all)
 
+-- what is so of one of the first is so of one of all
+any_front : (P : Plain → Type 0) (hs : List Plain) (h : Plain) → Any P hs → Any P (hs ++ h ∷ [])
+any_front P hs h one =
+    (one.0, one.1, omega (arith, one.2, length-append hs (h ∷ [])), get_or_append_left hs (h ∷ []) one.1 one.0 one.2 ∙ one.3, one.4)
+
 -- one histogram more, whose classes lie in those of the sum
 pub sum_finer : (hs : List Plain) (h : Plain) (s t : IntervalSum) → IsSum hs s → resolution t.histogram ≡ resolution s.histogram → IsFiner (resolution h) (resolution s.histogram) → IsJoined s.histogram h t.histogram
     → AreCounts t.counts (s.counts.intervals + 1) (s.counts.finer + one_if_finer (resolution s.histogram) h) → IsSum (hs ++ h ∷ []) t
 sum_finer hs h s t sum same fine join counts =
     let g = resolution s.histogram in
-    let all : All (λ k. IsFiner (resolution k) g) (hs ++ h ∷ []) = All-append (λ k. IsFiner (resolution k) g) hs (h ∷ []) sum.nested (All-cons (λ k. IsFiner (resolution k) g) h [] fine (All-nil (λ k. IsFiner (resolution k) g))) in
+    let all : All (λ k. IsFiner (resolution k) g) (hs ++ h ∷ []) = All-append (λ k. IsFiner (resolution k) g) hs (h ∷ []) sum.classes.nested (All-cons (λ k. IsFiner (resolution k) g) h [] fine (All-nil (λ k. IsFiner (resolution k) g))) in
     let many : length (hs ++ h ∷ []) ≡ length hs + 1 = length-append hs (h ∷ []) in
     let finer : finer_of g (hs ++ h ∷ []) ≡ finer_of g hs + one_if_finer g h = finer_push g hs h in
     let counted : AreCounts t.counts (length (hs ++ h ∷ [])) (finer_of g (hs ++ h ∷ [])) = (omega (arith, many, counts.0, sum.counts.0), omega (arith, finer, counts.1, sum.counts.1)) in
     record {
-      nested = subst (λ r. All (λ k. IsFiner (resolution k) r) (hs ++ h ∷ [])) (sym same) all;
+      classes = subst (AreCoarsest (hs ++ h ∷ [])) (sym same) (record { nested = all; one = any_front (λ k. resolution k ≡ g) hs h sum.classes.one });
       counts = subst (λ r. AreCounts t.counts (length (hs ++ h ∷ [])) (finer_of r (hs ++ h ∷ []))) (sym same) counted;
       samples = samples_push hs s.histogram h t.histogram sum.samples join;
     }
@@ -83,13 +89,13 @@ sum_coarser hs h s t sum same coarser fine join counts =
     let g = resolution h in
     let reflexive : IsFiner g g = record { unit = omega arith; digits = omega arith } in
     let step : (k : Plain) → IsFiner (resolution k) (resolution s.histogram) → IsFiner (resolution k) g = λ k f. record { unit = omega (arith, f.unit, fine.unit); digits = omega (arith, f.digits, fine.digits) } in
-    let before : All (λ k. IsFiner (resolution k) g) hs = All-weaker (λ k. IsFiner (resolution k) (resolution s.histogram)) (λ k. IsFiner (resolution k) g) step hs sum.nested in
+    let before : All (λ k. IsFiner (resolution k) g) hs = All-weaker (λ k. IsFiner (resolution k) (resolution s.histogram)) (λ k. IsFiner (resolution k) g) step hs sum.classes.nested in
     let all : All (λ k. IsFiner (resolution k) g) (hs ++ h ∷ []) = All-append (λ k. IsFiner (resolution k) g) hs (h ∷ []) before (All-cons (λ k. IsFiner (resolution k) g) h [] reflexive (All-nil (λ k. IsFiner (resolution k) g))) in
     let many : length (hs ++ h ∷ []) ≡ length hs + 1 = length-append hs (h ∷ []) in
-    let count : finer_of g (hs ++ h ∷ []) ≡ length hs = omega (arith, finer_push g hs h, none_finer g h reflexive, all_finer (resolution s.histogram) g hs sum.nested coarser) in
+    let count : finer_of g (hs ++ h ∷ []) ≡ length hs = omega (arith, finer_push g hs h, none_finer g h reflexive, all_finer (resolution s.histogram) g hs sum.classes.nested coarser) in
     let counted : AreCounts t.counts (length (hs ++ h ∷ [])) (finer_of g (hs ++ h ∷ [])) = (omega (arith, many, counts.0, sum.counts.0), omega (arith, count, counts.1, sum.counts.0)) in
     record {
-      nested = subst (λ r. All (λ k. IsFiner (resolution k) r) (hs ++ h ∷ [])) (sym same) all;
+      classes = subst (AreCoarsest (hs ++ h ∷ [])) (sym same) (record { nested = all; one = Any-push (λ k. resolution k ≡ g) hs h refl });
       counts = subst (λ r. AreCounts t.counts (length (hs ++ h ∷ [])) (finer_of r (hs ++ h ∷ []))) (sym same) counted;
       samples = samples_push hs s.histogram h t.histogram sum.samples join;
     }
@@ -139,6 +145,19 @@ as_many [] (h ∷ hs) z = absurd z
 as_many (f ∷ fields) [] z = absurd z
 as_many (f ∷ fields) (h ∷ hs) z = ap (λ n. suc n) (as_many fields hs z.1)
 
+-- the classes of histograms that grow are theirs
+nested_growing : (g : Resolution) (hs : List Plain) → All (λ k. IsFiner (resolution k) g) (map growing hs) → All (λ k. IsFiner (resolution k) g) hs
+nested_growing g [] all = All-nil (λ k. IsFiner (resolution k) g)
+nested_growing g (h ∷ hs) all =
+    let P : Plain → Type 0 = λ k. IsFiner (resolution k) g in
+    All-cons P h hs (All-head P (growing h) (map growing hs) all) (nested_growing g hs (All-tail P (growing h) (map growing hs) all))
+
+one_growing : (g : Resolution) (hs : List Plain) → Any (λ k. resolution k ≡ g) (map growing hs) → Any (λ k. resolution k ≡ g) hs
+one_growing g hs one =
+    let inside : one.0 < length hs = omega (arith, one.2, length-map hs growing) in
+    let at : growing (get_or hs one.0 one.1) ≡ one.1 = sym (get_or-map growing hs one.0 one.1 one.1 inside) ∙ one.3 in
+    (one.0, get_or hs one.0 one.1, inside, get_or_default hs one.0 (get_or hs one.0 one.1) one.1 inside, ap resolution at ∙ one.4)
+
 -- all fields
 pub sum_of_all : (fields : List (List ℕ)) (sum : IntervalSum) → SumsSoFar fields sum → SumsFields fields sum
 sum_of_all fields sum s =
@@ -146,4 +165,5 @@ sum_of_all fields sum s =
     let samples : StandsForAll s.held sum.histogram = λ Ls z few. s.is_sum.samples Ls (zip_growing s.held Ls z) few in
     let counts : AreCounts sum.counts (length fields) (finer_of g s.held) =
     subst (AreCounts sum.counts (length fields)) (finer_growing g s.held) (subst (λ n. AreCounts sum.counts n (finer_of g (map growing s.held))) (as_many fields s.held s.fields_hold) s.is_sum.counts) in
-    (finer_of g s.held, (s.held, s.fields_hold, refl, samples), counts)
+    let classes : AreCoarsest s.held g = record { nested = nested_growing g s.held s.is_sum.classes.nested; one = one_growing g s.held s.is_sum.classes.one } in
+    (finer_of g s.held, (s.held, s.fields_hold, refl, classes, samples), counts)

@@ -1,7 +1,7 @@
 -- What sums of intervals hold. A field is the Base64 of a histogram's bytes.
 use Rattle.std.specs.Prelude.{◌≡◌, ℕ, ◌-◌, ◌^◌, ◌<◌, List, ◌++◌, length, true}
-use Rattle.std.specs.List.{All, AllZip}
-use Rattle.hdr_base.specs.Classes.{IsFiner}
+use Rattle.std.specs.List.{All, AllZip, Any}
+use Rattle.hdr_base.specs.Classes.{IsFiner, Resolution}
 use Rattle.hdr_model.specs.Plain.{Plain, resolution}
 use Rattle.hdr_model.specs.Samples.{StandsFor}
 use Rattle.hdr_model.specs.Joining.{joined_samples}
@@ -22,16 +22,23 @@ IsGrowing field h = (held : Plain) × IsHeldIn (2 ^ 64 - 1) field held × (h ≡
 abbrev pub StandsForAll : List Plain → Plain → Type 0
 StandsForAll hs sum = (Ls : List (List ℕ)) → AllZip StandsFor hs Ls → length (joined_samples Ls) < 2 ^ 64 → StandsFor sum (joined_samples Ls)
 
--- the sum of histograms, whose classes each lie in those of the sum; they are counted, and those that are finer
+-- the coarsest classes of histograms: those of one of them, in which the classes of all lie
+pub record AreCoarsest (hs : List Plain) (g : Resolution) : Type 0 where
+  pub nested : All (λ h. IsFiner (resolution h) g) hs
+  pub one : Any (λ h. resolution h ≡ g) hs
+
+-- the sum of histograms, by the coarsest of their classes; they are counted, and those that are finer
 pub record IsSum (hs : List Plain) (sum : IntervalSum) : Type 0 where
-  pub nested : All (λ h. IsFiner (resolution h) (resolution sum.histogram)) hs
+  pub classes : AreCoarsest hs (resolution sum.histogram)
   pub counts : AreCounts sum.counts (length hs) (finer_of (resolution sum.histogram) hs)
   pub samples : StandsForAll hs sum.histogram
 
--- the fields hold histograms, of which some are finer than their sum; the sum stands for all samples that they stand for
+-- the fields hold histograms, of which some are finer than their sum; the sum, by the coarsest classes, stands for all samples that they
+-- stand for
 abbrev pub IsSumOf : List (List ℕ) → Plain → ℕ → Type 0
 IsSumOf fields sum finer =
-    (hs : List Plain) × AllZip (IsHeldIn (2 ^ 64 - 1)) fields hs × (finer ≡ finer_of (resolution sum) hs) × StandsForAll hs sum
+    (hs : List Plain) × AllZip (IsHeldIn (2 ^ 64 - 1)) fields hs × (finer ≡ finer_of (resolution sum) hs)
+    × AreCoarsest hs (resolution sum) × StandsForAll hs sum
 
 -- the sum of what fields hold, which is counted
 abbrev pub SumsFields : List (List ℕ) → IntervalSum → Type 0

@@ -1,16 +1,16 @@
 -- Exponents, and numbers times powers of ten.
-use Rattle.std.proofs.Common.{◌≡◌, ℕ, suc, zero, ◌+◌, ◌-◌, ◌*◌, ◌/◌, ◌%◌, ◌^◌, ◌<◌, ◌≤◌, Bool, true, false, nat_lt, cond, min, List, Option, Some, None, IfSome, ℤ, pos, negsuc, neg_ℤ, ◌+ℤ◌, ◌-ℤ◌, refl, sym, ap, ◌∙◌, subst, arith, add-one, to_z, of_z, w64}
-use Rattle.std.specs.Prelude.{if◌then◌else◌, option_map}
-use Rattle.std.specs.Str.Parse.{digits_value, signed_digits_value, starts_with_minus, without_leading_sign}
+use Rattle.std.proofs.Common.{◌≡◌, ℕ, suc, zero, ◌+◌, ◌*◌, ◌/◌, ◌%◌, ◌^◌, ◌<◌, ◌≤◌, Bool, true, false, nat_lt, min, List, Option, Some, None, ℤ, pos, negsuc, neg_ℤ, ◌+ℤ◌, refl, sym, ap, ◌∙◌, arith}
+use Rattle.std.specs.Prelude.{option_map}
+use Rattle.std.specs.Str.Parse.{digits_value, starts_with_minus, without_leading_sign}
 use Rattle.std.proofs.lemmas.Int.{ints}
 use Rattle.std.proofs.lemmas.Bool.Decides.{nat_tests}
 use Rattle.std.proofs.lemmas.Nat.{pow-add, div-mul-add, mod-mul-add, div-add-mod'}
-use Rattle.std.proofs.Math.Nat.{mod-lt, mul_assoc, mul_comm, mod-one, mul-lt-mul_of_pos_right}
+use Rattle.std.proofs.Math.Nat.{mod-lt, mul_assoc, mod-one, mul-lt-mul_of_pos_right}
 use Rattle.std.specs.List.{before_first}
 use Rattle.hdr_log.specs.Parts.{is_digits}
 use Rattle.hdr_input.specs.declared.number.Number.{Number}
 use Rattle.hdr_input.specs.declared.wide.Wide.{Wide}
-use Rattle.hdr_input.specs.Decimals.{is_e, after_e, exponent_in, with_exponent, number_of, decimal_of, integer_of, limited, times_power, IsCutBy, HasDigitsOf, StandsFor}
+use Rattle.hdr_input.specs.Decimals.{is_e, after_e, exponent_in, with_exponent, number_of, decimal_of, integer_of, limited, times_power, HasDigitsOf, StandsFor}
 use Rattle.hdr_input.proofs.InUnits.{positive}
 
 pub no_integer : (text rest : List ℕ) → rest ≡ without_leading_sign text → is_digits rest ≡ false → None ≡ option_map limited (integer_of text)

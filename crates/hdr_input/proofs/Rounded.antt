@@ -1,9 +1,8 @@
 -- Numbers without their last digits, rounded to decimals.
-use Rattle.std.proofs.Common.{◌≡◌, ℕ, suc, zero, ◌+◌, ◌-◌, ◌*◌, ◌/◌, ◌%◌, ◌^◌, ◌<◌, ◌≤◌, Bool, true, false, nat_lt, refl, sym, ap, ◌∙◌, arith, lit<, inl, inr}
+use Rattle.std.proofs.Common.{◌≡◌, ℕ, suc, ◌+◌, ◌-◌, ◌*◌, ◌/◌, ◌%◌, ◌^◌, ◌<◌, ◌≤◌, sym, ap, ◌∙◌, arith, lit<, inl, inr}
 use Rattle.std.proofs.lemmas.Bool.{cases_lt}
-use Rattle.std.proofs.lemmas.Bool.Decides.{nat_tests}
 use Rattle.std.proofs.lemmas.Nat.{pow-add, div-mul-add, div-add-mod', le-div, mod-mul-add}
-use Rattle.std.proofs.Math.Nat.{mod-lt, mod-eq_of_lt, mul_assoc, mul_comm, pow-suc, pow-le-pow_right, div-eq_of_lt, div-eq_of_lt-le, div-div-eq-div-mul, mul-div-mul_left, mul-le-mul_left, mul-le-mul_right, le-mul_of_pos_right}
+use Rattle.std.proofs.Math.Nat.{mod-lt, mod-eq_of_lt, mul_comm, pow-suc, pow-le-pow_right, div-eq_of_lt, div-div-eq-div-mul, mul-div-mul_left, mul-le-mul_right, le-mul_of_pos_right}
 use Rattle.hdr_input.specs.Numbers.{in_units}
 use Rattle.hdr_input.proofs.InUnits.{positive}
 

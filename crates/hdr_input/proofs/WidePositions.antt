@@ -1,12 +1,11 @@
 -- Positions of wide numbers.
-use Rattle.std.proofs.Common.{◌≡◌, ℕ, suc, zero, ◌+◌, ◌-◌, ◌*◌, ◌/◌, ◌%◌, ◌^◌, ◌<◌, ◌≤◌, Bool, true, false, ◌||◌, nat_lt, min, ℤ, pos, negsuc, ◌+ℤ◌, unsigned_abs, refl, sym, ap, ◌∙◌, arith, lit<, inl, inr}
+use Rattle.std.proofs.Common.{◌≡◌, ℕ, suc, zero, ◌+◌, ◌*◌, ◌/◌, ◌%◌, ◌^◌, ◌<◌, ◌≤◌, Bool, true, false, ◌||◌, nat_lt, min, ℤ, pos, negsuc, ◌+ℤ◌, unsigned_abs, refl, sym, ap, ◌∙◌, arith, lit<}
 use Rattle.std.specs.Prelude.{if◌then◌else◌}
 use Rattle.std.specs.Int.RustNames.{int_lt}
 use Rattle.std.proofs.lemmas.Int.{ints}
-use Rattle.std.proofs.lemmas.Bool.{cases_lt}
 use Rattle.std.proofs.lemmas.Bool.Decides.{nat_tests}
 use Rattle.std.proofs.lemmas.Nat.{pow-add, div-mul-add, mod-mul-add, le-div, div-add-mod'}
-use Rattle.std.proofs.Math.Nat.{mod-lt, le-mul_of_pos_right, div-mul-le_self, mul-le-mul_left, mul_comm, div-eq_of_lt, mul-div-mul_left, div-div-eq-div-mul, mul-le-mul_right, pow-le-pow_right, pow-suc}
+use Rattle.std.proofs.Math.Nat.{mod-lt, le-mul_of_pos_right, div-mul-le_self, mul-le-mul_left, mul_comm, div-eq_of_lt, mul-div-mul_left, div-div-eq-div-mul, mul-le-mul_right, pow-le-pow_right}
 use Rattle.hdr_input.specs.Bounds.{position_of}
 use Rattle.hdr_input.specs.declared.number.Number.{Number}
 use Rattle.hdr_input.specs.declared.wide.Wide.{Wide}
@@ -14,7 +13,7 @@ use Rattle.hdr_input.specs.Decimals.{StandsFor}
 use Rattle.hdr_input.proofs.InUnits.{positive}
 use Rattle.hdr_input.proofs.Exponents.{scaled}
 use Rattle.hdr_input.proofs.RoundedWide.{places_above, none_cut, some_rest}
-use Rattle.hdr_input.proofs.Rounded.{in_parts, least_above, at_least, rest_twice, great_power}
+use Rattle.hdr_input.proofs.Rounded.{in_parts, at_least, rest_twice}
 
 -- what is below a power of ten has no quotient
 pub few_left : (n k : ℕ) → n < 2 ^ 128 → 2 ^ 128 ≤ 10 ^ k → n / 10 ^ k ≡ 0

@@ -1,5 +1,5 @@
 -- Laws of what tallies with bounds count.
-use Rattle.std.specs.Prelude.{ℕ, ◌≤◌, List, [], ◌∷◌, ◌++◌, length, refl}
+use Rattle.std.specs.Prelude.{◌≡◌, ℕ, ◌≤◌, List, [], ◌∷◌, ◌++◌, length, refl}
 use Rattle.std.proofs.Common.{sym, ◌∙◌, subst, append_assoc}
 use Rattle.std.proofs.lemmas.List.{append-nil}
 use Rattle.hdr_input.specs.declared.number.Number.{Number}
@@ -10,13 +10,22 @@ use Rattle.hdr_input.specs.Bounds.{Counts, HasCounted}
 abbrev pub CountsSome : BoundTally → BoundTally → Type 0
 CountsSome old new = (numbers : List Number) × Counts old numbers new
 
+-- missing samples, of which there are none if no interval is expected
+abbrev pub AreMissing : BoundTally → List Number → Type 0
+AreMissing t missing = t.tally.interval ≡ 0 → missing ≡ []
+
 -- a number is counted, with the missing samples before it
 abbrev pub CountsOne : BoundTally → BoundTally → Type 0
-CountsOne old new = (x : Number) × (missing : List Number) × Counts old (x ∷ missing) new
+CountsOne old new = (x : Number) × (missing : List Number) × AreMissing old missing × Counts old (x ∷ missing) new
 
 -- at least this many numbers are counted
 abbrev pub CountsMany : ℕ → BoundTally → BoundTally → Type 0
 CountsMany count old new = (numbers : List Number) × (count ≤ length numbers) × Counts old numbers new
+
+-- a number is counted this many times, with the missing samples before it
+abbrev pub CountsTimes : ℕ → BoundTally → BoundTally → Type 0
+CountsTimes count old new =
+    (numbers : List Number) × (count ≤ length numbers) × (old.tally.interval ≡ 0 → length numbers ≡ count) × Counts old numbers new
 
 -- nothing is counted where nothing changes
 pub counts_nothing : (t : BoundTally) → CountsSome t t

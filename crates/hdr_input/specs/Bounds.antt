@@ -58,10 +58,10 @@ abbrev pub missing_to : ℕ → List BoundCount → ℕ
 missing_to end [] = 0
 missing_to end (c ∷ counts) = if c.end == end then c.missing else missing_to end counts
 
--- these numbers were counted, unless they are 2 ^ 64 or more: all of them, and those before the end of each bound
+-- these numbers were counted: all of them, as far as 64 bits hold their number, and if it fits those before the end of each bound
 pub record IsCounted (counts : List BoundCount) (total : ℕ) (S : List Number) : Type 0 where
   pub ascending : AreAscending (ends_of counts)
-  pub all : length S < 2 ^ 64 → total ≡ length S
+  pub all : total ≡ min (length S) (2 ^ 64 - 1)
   pub before : length S < 2 ^ 64 → (end : ℕ) → Has end (ends_of counts)
       → counted_to end counts + missing_to end counts ≡ count_by (is_before end) S
 

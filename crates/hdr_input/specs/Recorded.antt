@@ -1,7 +1,7 @@
 -- Histograms after numbers.
 use Rattle.std.specs.Prelude.{◌≡◌, ℕ, ◌+◌, ◌-◌, ◌*◌, ◌%◌, ◌^◌, ◌<◌, ◌≤◌, min, max, Bool, true, if◌then◌else◌, Result, Ok, Err, refl}
 use Rattle.std.proofs.Common.{◌∙◌}
-use Rattle.hdr_model.specs.Plain.{Plain, reach}
+use Rattle.hdr_model.specs.Plain.{Plain, empty_plain, reach}
 use Rattle.hdr_model.specs.Correction.{after_correct}
 use Rattle.hdr_input.specs.Numbers.{in_units}
 use Rattle.hdr_input.specs.Rounding.{is_rounded}
@@ -10,6 +10,7 @@ use Rattle.hdr_model.specs.declared.errors.RecordError.TheVariants as record_err
 use Rattle.hdr_input.specs.declared.cause.Cause.{Cause}
 use Rattle.hdr_input.specs.declared.cause.Cause.TheVariants.{TooLarge, OutOfMemory}
 use Rattle.hdr_input.specs.declared.number.Number.{Number}
+use Rattle.hdr_input.specs.declared.tally.Recording.{Recording}
 use Rattle.hdr_input.specs.declared.tally.Tally.{Tally}
 
 -- the histogram after a number, in units of these decimals, and the missing samples before it at an expected interval
@@ -19,6 +20,16 @@ after_number h number decimals interval = after_correct (2 ^ 64 - 1) h (in_units
 -- the expected interval in units of these decimals, or the greatest value if that is less
 abbrev pub IsInterval : Number → ℕ → ℕ → Type 0
 IsInterval interval decimals units = interval.decimals ≤ 18 → decimals ≤ 18 → units ≡ min (in_units interval.digits interval.decimals decimals) (2 ^ 64 - 1)
+
+-- a tally without numbers, which records them so
+pub record IsEmptyTally (r : Recording) (t : Tally) : Type 0 where
+  pub histogram : t.histogram ≡ empty_plain 1 2 r.sigfig true
+  pub decimals : t.decimals ≡ r.decimals
+  pub interval : IsInterval r.interval r.decimals t.interval
+  pub least : t.min ≡ 2 ^ 64 - 1
+  pub greatest : t.max ≡ 0
+  pub sum : t.sum ≡ 0
+  pub rounded : t.rounded ≡ 0
 
 -- the least of a value and of the missing samples before it at an expected interval, 0 for none
 abbrev pub IsLeast : ℕ → ℕ → ℕ → Type 0

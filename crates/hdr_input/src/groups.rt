@@ -55,6 +55,9 @@ pub trait GroupMaker {
 }
 
 impl GroupMaker for Recording {
+    ghost use Rattle.std.specs.Prelude.{IfOk};
+    ghost use Rattle.hdr_input.specs.Recorded.{IsEmptyTally};
+
     type Sink = Tally;
 
     fn recording(&self) -> Recording {
@@ -65,8 +68,13 @@ impl GroupMaker for Recording {
         recording
     }
 
-    fn make(&self, alloc: Global) -> Result<Tally, InputError> {
-        Tally::new(alloc, *self).map_err(|_| InputError::OutOfMemory)
+    fn make(&self, alloc: Global) -> Result<Tally, InputError>
+        ensures { IfOk result (IsEmptyTally self.now) }
+    {
+        match Tally::new(alloc, *self) {
+            Ok(tally) => Ok(tally),
+            Err(_) => Err(InputError::OutOfMemory),
+        }
     }
 }
 
@@ -78,6 +86,11 @@ pub struct BoundRecording<'a> {
 }
 
 impl GroupMaker for BoundRecording<'_> {
+    ghost use Rattle.std.specs.Prelude.{IfOk, []};
+    ghost use Rattle.std.specs.List.{All};
+    ghost use Rattle.hdr_input.specs.Bounds.{HasBound, HasCounted};
+    ghost use Rattle.hdr_input.specs.Recorded.{IsEmptyTally};
+
     type Sink = BoundTally;
 
     fn recording(&self) -> Recording {
@@ -88,7 +101,11 @@ impl GroupMaker for BoundRecording<'_> {
         BoundRecording { recording, ..self }
     }
 
-    fn make(&self, alloc: Global) -> Result<BoundTally, InputError> {
+    fn make(&self, alloc: Global) -> Result<BoundTally, InputError>
+        ensures counted { IfOk result (λ t. HasCounted t []) }
+        ensures bounds { IfOk result (λ t. All (HasBound t) self.now.bounds.now) }
+        ensures tally { IfOk result (λ t. IsEmptyTally self.now.recording t.tally) }
+    {
         let tally = self.recording.make(alloc)?;
         Ok(BoundTally::new(alloc, tally, self.bounds)?)
     }

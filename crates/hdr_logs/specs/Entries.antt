@@ -1,5 +1,5 @@
 -- The entries of an interval log that is read line by line.
-use Rattle.std.specs.Prelude.{◌≡◌, ⊤, ◌⊎◌, ◌^◌, ◌-◌, ◌<◌, ℕ, Bool, false, if◌then◌else◌, List, [], ◌∷◌, length, nat_eq, not, ◌&&◌, Option, Some, None, Result, Ok}
+use Rattle.std.specs.Prelude.{◌≡◌, ◌⊎◌, ◌^◌, ◌-◌, ◌<◌, ℕ, Bool, false, if◌then◌else◌, List, [], ◌∷◌, length, nat_eq, not, ◌&&◌, Option, Some, None, Result, Ok}
 use Rattle.std.specs.List.{list_all, ends_with}
 use Rattle.std.specs.Option.{option_map}
 use Rattle.std.specs.Char.{is_ascii_whitespace}
@@ -8,7 +8,7 @@ use Rattle.hdr_log.specs.Grammar.{Entry, Interval, Span, entry_of, reading}
 use Rattle.hdr_log.specs.Timed.{TimedInterval, base_after, interval_after}
 use Rattle.hdrhistogram.specs.FieldRead.{IsHeldIn}
 use Rattle.hdr_input.specs.Lines.{without_mark}
-use Rattle.hdr_logs.specs.Fields.{IsPlainField}
+use Rattle.hdr_logs.specs.Fields.{IsPlainField, is_other_form}
 
 abbrev pub first_of : List (Result Entry ℕ) → Option (Result Entry ℕ)
 first_of [] = None
@@ -30,9 +30,13 @@ is_ended line = ends_with nat_eq line (10 ∷ [])
 abbrev pub is_left_out : List ℕ → Bool
 is_left_out line = not (is_ended line) && not (list_all is_ascii_whitespace line)
 
--- the entry of a last line without an LF: none, or an interval whose histogram is complete
+-- a field is a complete histogram, plain V2
+abbrev pub IsCompleteV2 : List ℕ → Type 0
+IsCompleteV2 field = (h : Plain) × (is_other_form field ≡ false) × IsHeldIn (2 ^ 64 - 1) field h
+
+-- the entry of a last line without an LF: an interval whose histogram is complete; none if there is no interval with such a plain V2 histogram
 abbrev pub IsUnended : List ℕ → Option Entry → Type 0
-IsUnended line None = ⊤
+IsUnended line None = (i : Interval) → entry_of line ≡ Some (Span i) → IsCompleteV2 i.field → ⊥
 IsUnended line (Some entry) = (i : Interval) × (entry ≡ Span i) × (entry_of line ≡ Some entry) × HoldsHistogram i.field
 
 -- the entry of a line: a comment, a blank line, and the start of a line at the end of a log have none

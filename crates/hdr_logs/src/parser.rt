@@ -1,6 +1,6 @@
 //! The lines of a log, parsed after those before them.
 
-ghost use Rattle.std.specs.Prelude.{◌≡◌, ◌==◌, ◌+◌, ◌-◌, ◌^◌, None, min, true, IfOk, IfErr, Option};
+ghost use Rattle.std.specs.Prelude.{◌≡◌, ◌==◌, ◌+◌, ◌-◌, ◌^◌, None, min, true, false, IfOk, IfErr, Option};
 ghost use Rattle.std.specs.Option.{option_map, option_or};
 ghost use Rattle.std.specs.List.{list_all};
 ghost use Rattle.std.specs.Char.{is_ascii_whitespace};
@@ -9,7 +9,7 @@ ghost use Rattle.hdr_log.specs.Reading.{view_of_entry, view_of_interval, view_of
 ghost use Rattle.hdr_input.specs.Lines.{without_mark};
 ghost use Rattle.hdr_logs.specs.Comments.{decimals_in, unit_in};
 ghost use Rattle.hdr_logs.specs.Errors.{IsReadError};
-ghost use Rattle.hdr_logs.specs.Entries.{IsEntry, IsUnended, HoldsHistogram, is_ended, is_left_out, base_then, interval_then};
+ghost use Rattle.hdr_logs.specs.Entries.{IsEntry, IsUnended, HoldsHistogram, IsCompleteV2, is_ended, is_left_out, base_then, interval_then};
 
 use crate::errors::LogError;
 use crate::headers::{Header, header_of, invalid_header};
@@ -81,7 +81,8 @@ fn note_of(line: &[u8], header: Option<Header>) -> Option<NoteKind> {
 
 /// Whether a field holds a complete histogram.
 fn is_whole(alloc: Global, field: &str) -> Result<bool, AllocError>
-    ensures { IfOk result (λ is_whole. is_whole ≡ true → HoldsHistogram field.now) }
+    ensures whole { IfOk result (λ is_whole. is_whole ≡ true → HoldsHistogram field.now) }
+    ensures incomplete { IfOk result (λ is_whole. is_whole ≡ false → IsCompleteV2 field.now → ⊥) }
 {
     let mut buffer = Vec::new(alloc);
     let plain = match plain_field(alloc, field, &mut buffer) {
@@ -107,11 +108,13 @@ fn unended_interval(
     ensures { IfOk result (λ interval. IsUnended line.now
         (option_map (λ i. Span (view_of_interval i)) interval)) }
 {
-    match entry(line) {
-        Some(LogEntry::Interval(interval)) if is_whole(alloc, interval.encoded_histogram())? => {
-            Ok(Some(interval))
-        }
-        _ => Ok(None),
+    let Some(LogEntry::Interval(interval)) = entry(line) else {
+        return Ok(None);
+    };
+    if is_whole(alloc, interval.encoded_histogram())? {
+        Ok(Some(interval))
+    } else {
+        Ok(None)
     }
 }
 

@@ -1,3 +1,5 @@
 pub mod Reports
 pub mod LogTags
 pub mod LogRuns
+pub mod LimitTexts
+pub mod RecordedTotals

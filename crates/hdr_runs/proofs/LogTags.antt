@@ -9,7 +9,7 @@ use Rattle.hdr_summary.specs.Means.{IsSumOf}
 use Rattle.hdr_summary.specs.declared.levels.Level.{Level}
 use Rattle.hdr_runs.specs.declared.log_counts.LogCounts.{LogCounts}
 use Rattle.hdr_runs.specs.declared.log_counts.TagCounts.{TagCounts}
-use Rattle.hdr_runs.specs.LogCounts.{HasCounted, HasCountedAt, IsOfUnits, AddsClasses, AddsTags, Asked, CountsAt, FitsBatches, JoinsAt, InBatches, InBatchesAt, ParsesLevels, TakesConverted, has_mean, asked_of, batches_of_tag, levels_of, tags_of, with_samples, with_values}
+use Rattle.hdr_runs.specs.LogCounts.{HasCounted, HasCountedAt, IsOfUnits, AddsClasses, AddsTags, Asked, CountsAt, FitsBatches, JoinsAt, InBatches, InBatchesAt, IsLevelOf, ParsesLevels, TakesConverted, has_mean, asked_of, batches_of_tag, levels_of, tags_of, with_samples, with_values}
 use Rattle.hdr_logs.proofs.Zips.{zip-map}
 
 -- the samples of a histogram are counted in a tag
@@ -106,6 +106,8 @@ takes-converted old known mid new index count factor own h decimals parses same 
         asked = asked ∙ before;
         known = λ some. all ∙ parses.known some;
         parsed = λ none. ap (map (λ level. level.text.now)) all ∙ parses.parsed none;
+        amounts = λ none. let amounts = parses.amounts none in
+            (amounts.0, subst (AllZip (λ text level. IsLevelOf old.written.asked amounts.0 text.now level) old.written.texts.now) (sym all) amounts.1);
       };
       tags = omega (arith, many, is, fits, long, inside, ap length same);
       samples = λ k d L S few fresh units at.

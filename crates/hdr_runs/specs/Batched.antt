@@ -1,5 +1,5 @@
 -- Numbers that are recorded, and in batches.
-use Rattle.std.specs.Prelude.{◌≡◌, ℕ, ◌^◌, ◌<◌, List, [], ◌∷◌, ◌++◌, length, Bool, false, true}
+use Rattle.std.specs.Prelude.{◌≡◌, ℕ, ◌-◌, ◌^◌, ◌<◌, ◌≤◌, List, [], ◌∷◌, ◌++◌, length, Bool, false, true}
 use Rattle.hdr_input.specs.Recorded.{Takes, TakesRounded, TakesTimes}
 use Rattle.hdr_input.specs.declared.number.Number.{Number}
 use Rattle.hdr_model.specs.Plain.{Plain}
@@ -15,10 +15,20 @@ pub record HasSamples (S : List ℕ) (t : BatchTally) : Type 0 where
   pub all : StandsFor t.tally.histogram S
   pub batches : HasRecorded S t.batching
 
+-- how many samples the tally counts
+abbrev pub total_of : BatchTally → ℕ
+total_of t = t.tally.histogram.total
+
+-- some samples more are as many as the tally counts more, unless its total is the greatest
+abbrev pub AreAll : List ℕ → BatchTally → Type 0
+AreAll S t = total_of t < 2 ^ 64 - 1 → length S ≡ total_of t
+
 -- both take the same samples, as long as these can be counted, if the batches have all numbers
-abbrev pub TakesSame : BatchTally → BatchTally → Type 0
-TakesSame old new = new.has_batches ≡ true → (old.has_batches ≡ true)
-    × ((S : List ℕ) → HasSamples S old → (T : List ℕ) × (length (S ++ T) < 2 ^ 64 → HasSamples (S ++ T) new))
+pub record TakesSame (old new : BatchTally) : Type 0 where
+  pub has : new.has_batches ≡ true → old.has_batches ≡ true
+  pub grows : new.has_batches ≡ true → total_of old ≤ total_of new
+  pub samples : new.has_batches ≡ true → (S : List ℕ) → HasSamples S old
+      → (T : List ℕ) × AreAll (S ++ T) new × (length (S ++ T) < 2 ^ 64 → HasSamples (S ++ T) new)
 
 -- a number is recorded, whatever batches do
 unfoldable pub RecordsNumber : BatchTally → BatchTally → Number → Type 0

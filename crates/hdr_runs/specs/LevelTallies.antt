@@ -1,10 +1,11 @@
 -- Numbers that are counted within bounds, and recorded in batches.
-use Rattle.std.specs.Prelude.{⊤, ℕ, Option, Some, None, List, ◌∷◌}
-use Rattle.hdr_input.specs.BoundLaws.{CountsMany, CountsOne, CountsSome, counts_nothing, counts_after}
+use Rattle.std.specs.Prelude.{⊤, ℕ, Bool, true, false, Option, Some, None, List, [], ◌∷◌}
+use Rattle.hdr_input.specs.BoundLaws.{AreMissing, CountsOne, CountsSome, CountsTimes, counts_nothing, counts_after}
 use Rattle.hdr_input.specs.Bounds.{Counts}
+use Rattle.hdr_input.specs.Recorded.{Takes}
 use Rattle.hdr_input.specs.declared.number.Number.{Number}
 use Rattle.hdr_runs.specs.BatchLaws.{takes_nothing, takes_after}
-use Rattle.hdr_runs.specs.Batched.{RecordsNumber, RecordsTimes, RecordsWide, TakesSame}
+use Rattle.hdr_runs.specs.Batched.{HasBatches, HasSamples, RecordsNumber, RecordsTimes, RecordsWide, TakesSame}
 use Rattle.hdr_runs.specs.declared.batch_tally.BatchTally.{BatchTally}
 use Rattle.hdr_runs.specs.declared.level_tally.LevelTally.{LevelTally}
 
@@ -20,9 +21,17 @@ InBatches Takes None None = ⊤
 InBatches Takes (Some old) (Some new) = Takes old new
 InBatches Takes old new = ⊥
 
+-- there are batches if they are asked for, and no samples in them
+abbrev pub HasEmptyBatches : Bool → Option BatchTally → Type 0
+HasEmptyBatches true (Some t) = HasBatches t × HasSamples [] t
+HasEmptyBatches false None = ⊤
+HasEmptyBatches is_asked batches = ⊥
+
 -- a number is counted, with the missing samples before it, and recorded in batches
 pub record RecordsInBoth (number : Number) (old new : LevelTally) : Type 0 where
   pub missing : List Number
+  pub are_missing : AreMissing old.counted missing
+  pub tally : Takes old.counted.tally new.counted.tally number
   pub counted : Counts old.counted (number ∷ missing) new.counted
   pub batches : InBatches (λ a b. RecordsNumber a b number) old.batches new.batches
 
@@ -33,7 +42,7 @@ pub record RecordsWideInBoth (old new : LevelTally) : Type 0 where
 
 -- a number is counted and recorded some times
 pub record RecordsTimesInBoth (times : ℕ) (old new : LevelTally) : Type 0 where
-  pub counted : CountsMany times old.counted new.counted
+  pub counted : CountsTimes times old.counted new.counted
   pub batches : InBatches (λ a b. RecordsTimes a b times) old.batches new.batches
 
 -- some numbers are counted, and batches take what all of them take

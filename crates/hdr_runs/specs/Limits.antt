@@ -1,5 +1,5 @@
 -- Limits of changes: by how many percent a percentile may grow.
-use Rattle.std.specs.Prelude.{◌≡◌, ◌≢◌, ℕ, ◌+◌, ◌*◌, ◌^◌, ◌<◌, ◌≤◌, List, ◌∷◌, ◌++◌, codes, length, slice_index, true}
+use Rattle.std.specs.Prelude.{◌≡◌, ◌≢◌, ℕ, ◌+◌, ◌*◌, ◌^◌, ◌<◌, ◌≤◌, List, ◌∷◌, ◌++◌, codes, length, slice_index, true, Option, Some}
 use Rattle.std.specs.Char.{is_ascii_digit}
 use Rattle.hdr_base.specs.Fractions.{Ratio}
 use Rattle.hdr_compare.specs.Changes.{ExceedsBy, FallsBelowBy, IsOpen}
@@ -7,6 +7,7 @@ use Rattle.hdr_compare.specs.Shifts.{AreShifted}
 use Rattle.hdr_compare.specs.declared.changes.Measured.{Measured}
 use Rattle.hdr_input.specs.declared.number.Number.{Number}
 use Rattle.hdr_runs.specs.declared.limit.LimitVerdict.{LimitVerdict}
+use Rattle.hdr_runs.specs.declared.point.Point.{Point}
 use Rattle.hdr_runs.specs.declared.limit.LimitVerdict.TheVariants.{Kept, Broken, Undecided, Few}
 
 -- growth by p percent is that to num / den, where num = den + p parts of a hundred
@@ -48,3 +49,8 @@ pub record IsLimitVerdict (percent : Number) (x y : Measured) (verdict : LimitVe
   pub after : Measured
   pub are_shifted : AreShifted x y before after
   pub is_verdict : IsVerdictAt (grown percent) (parts_of percent.decimals) before after verdict
+
+-- whether a percentile of a run grew from that of another: without one of them it is not known
+abbrev pub IsVerdictOfRuns : Number → Option Point → Option Point → LimitVerdict → Type 0
+IsVerdictOfRuns percent (Some x) (Some y) verdict = IsLimitVerdict percent x.measured y.measured verdict
+IsVerdictOfRuns percent before after verdict = verdict ≡ Few

@@ -1,15 +1,18 @@
 -- The samples of logs, counted at levels for each tag.
 use Rattle.std.specs.Prelude.{⊤, ◌≡◌, ◌≢◌, ◌==◌, ℕ, ◌+◌, ◌^◌, ◌<◌, ◌≤◌, min, max, Option, Some, None, Bool, true, false, if◌then◌else◌, List, [], ◌++◌, length, map, slice_get, MatchOption}
 use Rattle.std.specs.List.{All, AllZip, list_any}
+use Rattle.std.specs.Option.{option_or}
 use Rattle.hdr_base.specs.Classes.{IsFiner, resolution_of}
 use Rattle.hdr_compare.specs.Batchings.{HasRecorded, digits_of}
 use Rattle.hdr_compare.specs.declared.batching.Batching.{Batching}
 use Rattle.hdr_compare.specs.declared.tiers.Tier.{Tier}
 use Rattle.hdr_input.specs.declared.bound.Bound.{Bound}
+use Rattle.hdr_input.specs.declared.unit.Unit.{Unit}
 use Rattle.hdr_model.specs.Plain.{Plain, resolution}
 use Rattle.hdr_model.specs.Samples.{StandsFor}
 use Rattle.hdr_summary.specs.Classes.{Known, known_by, FitUnits, HasClasses}
 use Rattle.hdr_summary.specs.Levels.{bound_of}
+use Rattle.hdr_summary.specs.LevelTexts.{IsLevelText}
 use Rattle.hdr_summary.specs.Means.{IsSumOf}
 use Rattle.hdr_summary.specs.declared.classes.ClassCounts.{ClassCounts}
 use Rattle.hdr_summary.specs.declared.means.SampleSum.{SampleSum}
@@ -57,11 +60,18 @@ sum_of tag = tag.sum
 abbrev pub batches_of_tag : TagCounts → Option Batching
 batches_of_tag tag = tag.batching
 
--- levels stay once they are known, and are then those of their texts
+-- a level is that of its text: one without a unit is in the unit that is asked for, or else in that of the values
+abbrev pub IsLevelOf : (asked unit : Option Unit) → List ℕ → Level → Type 0
+IsLevelOf asked unit text level =
+    length text < 2 ^ 62 → IsLevelText text (option_or asked unit) (option_or unit asked) level.measure level.side level.number
+
+-- levels stay once they are known, and are then those of their texts, for values of some unit
 pub record ParsesLevels (old new : LogCounts) : Type 0 where
   pub asked : asked_of new ≡ asked_of old
   pub known : levels_of old ≢ [] → levels_of new ≡ levels_of old
   pub parsed : levels_of old ≡ [] → map (λ level. level.text.now) (levels_of new) ≡ (asked_of old).texts
+  pub amounts : levels_of old ≡ [] → (unit : Option Unit)
+      × AllZip (λ text level. IsLevelOf old.written.asked unit text.now level) old.written.texts.now (levels_of new)
 
 -- a histogram stands for samples, and its unit is this many units, in which they fit 64 bits
 pub record IsOfUnits (factor : ℕ) (h : Plain) (S : List ℕ) : Type 0 where

@@ -2,10 +2,10 @@
 use Rattle.std.specs.Prelude.{◌≡◌, ℕ, ◌<◌, min, max, List, length}
 use Rattle.std.specs.Option.{option_map}
 use Rattle.hdr_base.specs.Fractions.{Ratio}
-use Rattle.hdr_model.specs.Plain.{Plain}
+use Rattle.hdr_model.specs.Plain.{Plain, resolution}
 use Rattle.hdr_model.specs.Quantiles.{IsTopNear, ranked_sample, value_at_quantile}
 use Rattle.hdr_model.specs.Samples.{StandsFor}
-use Rattle.hdr_compare.specs.Intervals.{AreEnds, EndsCount, HasReachedEnds}
+use Rattle.hdr_compare.specs.Intervals.{AreEnds, CountsByValue, EndsCount, HasReachedEnds}
 use Rattle.hdr_compare.specs.Nearest.{AreNearest}
 use Rattle.hdr_compare.specs.Runs.{all_of, batches_of}
 use Rattle.hdr_compare.specs.declared.changes.Measured.{Measured}
@@ -54,5 +54,6 @@ pub record IsPointOf (side : Side) (q : Ratio) (tier : Tier) (p : Point) : Type 
       → IsTopNear (samples_of_side side) (ranked_sample q S) interval.value
   pub at_quantile : interval.value ≡ value_at_quantile (samples_of_side side) q
   pub nearest : AreNearest (samples_of_side side) (batches_of_side side) q tier interval
+  pub by_value : CountsByValue (resolution (samples_of_side side)) (batches_of_side side) tier interval
   pub measured : p.measured ≡ measured_of side interval
   pub independent : p.independent ≡ min interval.low.independent interval.high.independent

@@ -14,7 +14,7 @@ use hdr_input::rows::{RowSink, RowTexts, record_row};
 use hdr_input::units::Unit;
 use hdr_input::wide::Wide;
 use hdr_input::{Distribution, InputError, Number, NumberSink, Recording, Tally};
-use hdr_model::laws::recording_stands;
+use hdr_model::laws::{clearing_stands, recording_stands};
 use hdrhistogram::Histogram;
 use std::alloc::Global;
 
@@ -35,8 +35,10 @@ pub struct BatchRecording {
 }
 
 impl GroupMaker for BatchRecording {
-    ghost use Rattle.std.specs.Prelude.{IfOk};
-    ghost use Rattle.hdr_runs.specs.Batched.{HasBatches};
+    ghost use Rattle.std.specs.Prelude.{IfOk, [], min};
+    ghost use Rattle.hdr_compare.specs.Batchings.{digits_of};
+    ghost use Rattle.hdr_input.specs.Recorded.{IsEmptyTally};
+    ghost use Rattle.hdr_runs.specs.Batched.{HasBatches, HasSamples};
 
     type Sink = BatchTally;
 
@@ -49,8 +51,12 @@ impl GroupMaker for BatchRecording {
     }
 
     fn make(&self, alloc: Global) -> Result<BatchTally, InputError>
-        ensures { IfOk result HasBatches }
+        ensures batches { IfOk result HasBatches }
+        ensures none { IfOk result (HasSamples []) }
+        ensures digits { IfOk result (λ t. digits_of t.batching ≡ min self.now.recording.sigfig 5) }
+        ensures tally { IfOk result (λ t. IsEmptyTally self.now.recording t.tally) }
     {
+        clearing_stands();
         let tally = self.recording.make(alloc)?;
         match Batching::new(alloc, self.recording.sigfig.min(5)) {
             Ok(batching) => Ok(BatchTally {
@@ -65,7 +71,7 @@ impl GroupMaker for BatchRecording {
 }
 
 impl BatchTally {
-    ghost use Rattle.std.specs.Prelude.{◌≡◌, IfOk, OnOk};
+    ghost use Rattle.std.specs.Prelude.{◌≡◌, ◌<◌, ◌≤◌, Some, None, IfOk, OnOk};
     ghost use Rattle.hdr_input.specs.Numbers.{in_units};
     ghost use Rattle.hdr_input.specs.Recorded.{KeepsUnit};
     ghost use Rattle.hdr_runs.specs.Batched.{AreSamplesOf, HasBatches, IsOrderOf, RecordsNumber, TakesSame};
@@ -119,7 +125,11 @@ impl BatchTally {
 
     /// Returns the distribution of the numbers, and their samples in batches.
     pub fn into_parts(self, alloc: Global) -> Result<(Distribution, Samples), BatchError>
-        ensures distribution { IfOk result (λ parts. parts.0.histogram ≡ self.tally.histogram) }
+        ensures histogram { IfOk result (λ parts. parts.0.histogram ≡ self.tally.histogram) }
+        ensures extremes { IfOk result (λ parts. (parts.0.min ≡ self.tally.min) × (parts.0.max ≡ self.tally.max)) }
+        ensures sum { IfOk result (λ parts. self.tally.interval ≡ 0 → parts.0.sum ≡ Some self.tally.sum) }
+        ensures unknown { IfOk result (λ parts. 0 < self.tally.interval → parts.0.sum ≡ None) }
+        ensures decimals { IfOk result (λ parts. self.tally.decimals ≤ 18 → parts.0.decimals ≡ self.tally.decimals) }
         ensures samples { IfOk result (λ parts. AreSamplesOf self parts.1) }
     {
         let order = self.order();

@@ -3,7 +3,9 @@
 ghost use Rattle.std.specs.Prelude.{◌≡◌, IfErr, IfOk};
 ghost use Rattle.std.specs.List.{AllZip};
 ghost use Rattle.hdr_runs.specs.PercentileEnds.{AreEndsAt};
-ghost use Rattle.hdr_runs.specs.Points.{batches_of_side, greatest_of, least_of};
+ghost use Rattle.hdr_runs.specs.Points.{batches_of_side, greatest_of, least_of, samples_of_side};
+ghost use Rattle.hdr_compare.specs.Sums.{IsSumOf};
+ghost use Rattle.hdr_model.specs.Plain.{Plain};
 ghost use Rattle.hdr_runs.specs.RunSamples.{IsSideError};
 
 use crate::report::MOST_DENOMINATOR;
@@ -23,8 +25,8 @@ pub fn ends_of(
     samples: Samples,
     percentiles: &[Percentile<'_>],
 ) -> Result<Vec<Ends>, BatchError>
-    ensures ends { IfOk result (λ ends. AllZip (AreEndsAt samples.batches.items samples.min samples.max)
-        percentiles.now ends.items) }
+    ensures ends { IfOk result (λ ends. (all : Plain) × IsSumOf samples.batches.items all
+        × AllZip (AreEndsAt all samples.batches.items samples.min samples.max) percentiles.now ends.items) }
     ensures errors { IfErr result (IsSideError samples) }
 {
     let side = Side::new(alloc, None, samples)?;
@@ -44,8 +46,8 @@ fn ends_of_percentile(
     side: &Side,
     percentile: &Percentile<'_>,
 ) -> Result<Ends, BatchError>
-    ensures ends { IfOk result (AreEndsAt (batches_of_side side.now) (least_of side.now) (greatest_of side.now)
-        percentile.now) }
+    ensures ends { IfOk result (AreEndsAt (samples_of_side side.now) (batches_of_side side.now) (least_of side.now)
+        (greatest_of side.now) percentile.now) }
     ensures errors { IfErr result (λ e. e ≡ BatchError.OutOfMemory) }
 {
     let quantile = percentile.quantile;

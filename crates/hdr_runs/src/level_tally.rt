@@ -29,6 +29,12 @@ pub struct LevelRecording<'a> {
 }
 
 impl GroupMaker for LevelRecording<'_> {
+    ghost use Rattle.std.specs.Prelude.{IfOk, []};
+    ghost use Rattle.std.specs.List.{All};
+    ghost use Rattle.hdr_input.specs.Bounds.{HasBound, HasCounted};
+    ghost use Rattle.hdr_input.specs.Recorded.{IsEmptyTally};
+    ghost use Rattle.hdr_runs.specs.LevelTallies.{HasEmptyBatches};
+
     type Sink = LevelTally;
 
     fn recording(&self) -> Recording {
@@ -39,7 +45,12 @@ impl GroupMaker for LevelRecording<'_> {
         LevelRecording { recording, ..self }
     }
 
-    fn make(&self, alloc: Global) -> Result<LevelTally, InputError> {
+    fn make(&self, alloc: Global) -> Result<LevelTally, InputError>
+        ensures counted { IfOk result (λ t. HasCounted t.counted []) }
+        ensures bounds { IfOk result (λ t. All (HasBound t.counted) self.now.bounds.now) }
+        ensures tally { IfOk result (λ t. IsEmptyTally self.now.recording t.counted.tally) }
+        ensures batches { IfOk result (λ t. HasEmptyBatches self.now.has_batches t.batches) }
+    {
         let recording = self.recording;
         let counts = BoundRecording {
             recording,

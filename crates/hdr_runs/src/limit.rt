@@ -1,6 +1,7 @@
 //! Limits of changes, such as `p99>+5%`.
 
-ghost use Rattle.std.specs.Prelude.{◌≡◌, ◌≤◌, ◌+◌, ◌*◌, ◌^◌, ◌↔◌, ℕ, List, IfSome, IsTrue, MatchOption};
+ghost use Rattle.std.specs.Prelude.{◌≡◌, ◌<◌, ◌≤◌, ◌+◌, ◌*◌, ◌^◌, ◌↔◌, ℕ, List, length, IfSome, IsTrue, MatchOption};
+ghost use Rattle.hdr_input.specs.Amounts.{IsExact};
 ghost use Rattle.hdr_summary.specs.Percent.{IsPercentile};
 ghost use Rattle.hdr_runs.specs.Limits.{BeginsWithDigit, IsAmount, IsLimitText, IsLimitVerdict, IsSameFraction, grown, parts_of};
 
@@ -52,10 +53,11 @@ impl LimitVerdict {
 }
 
 /// Parses a limit of a change, such as `p99>+5%`. The percentage has 3 decimals at most.
+#[tactic(auto, using(crate::proofs::LimitTexts::amount_is_short))]
 pub fn parse_limit(text: &str) -> Option<Limit<'_>>
     ensures text { IfSome result (λ limit. limit.text.now ≡ text.now) }
     ensures parts { IfSome result (λ limit. (percentile amount : List ℕ) × IsLimitText text.now percentile amount
-        × IsPercentile percentile limit.percentile) }
+        × IsPercentile percentile limit.percentile × (length text.now < 2 ^ 62 → IsExact amount limit.amount)) }
     ensures amount { IfSome result (λ limit. IsAmount limit.amount) }
 {
     let (percentile, amount) = split_limit(text)?;

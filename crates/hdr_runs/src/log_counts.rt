@@ -150,7 +150,7 @@ impl<'a, 'n> LogCounts<'a, 'n> {
     ghost use Rattle.std.specs.Option.{option_map};
     ghost use Rattle.hdr_runs.specs.LogCounts.{asked_of, batches_of_tag, levels_of, tags_of};
     ghost use Rattle.hdr_runs.specs.LogCounts.{AddsTags, CountsAt, HasCounted, HasCountedAt, InBatches};
-    ghost use Rattle.hdr_runs.specs.LogCounts.{JoinsAt, ParsesLevels, TakesConverted};
+    ghost use Rattle.hdr_runs.specs.LogCounts.{IsLevelOf, JoinsAt, ParsesLevels, TakesConverted};
 
     /// Returns the counts of no tags. Batches have these significant digits, up to 5.
     pub fn new(alloc: Global, written: LogLevels<'a, 'n>, sigfig: u8) -> LogCounts<'a, 'n>
@@ -189,18 +189,23 @@ impl<'a, 'n> LogCounts<'a, 'n> {
     /// values. After an error nothing has changed.
     pub fn parse_levels(&mut self, unit: Option<Unit>) -> Result<(), LogError>
         ensures levels { OnOk result (ParsesLevels self.old self.new) }
+        ensures units { OnOk result (levels_of self.old ≡ [] → AllZip (λ text level. IsLevelOf self.old.written.asked
+            unit text.now level) self.old.written.texts.now (levels_of self.new)) }
         ensures tags { tags_of self.new ≡ tags_of self.old }
         ensures unchanged { OnErr result (self.new ≡ self.old) }
     {
-        if self.levels.is_empty() {
-            self.levels = self.parsed(unit)?;
+        if !self.levels.is_empty() {
+            return Ok(());
         }
+        self.levels = self.parsed(unit)?;
         Ok(())
     }
 
     /// Returns the levels for values in `unit`.
     fn parsed(&self, unit: Option<Unit>) -> Result<Vec<Level<'n>>, LogError>
-        ensures { IfOk result (λ levels. map (λ level. level.text.now) levels.items ≡ (asked_of self.now).texts) }
+        ensures texts { IfOk result (λ levels. map (λ level. level.text.now) levels.items ≡ (asked_of self.now).texts) }
+        ensures levels { IfOk result (λ levels. AllZip (λ text level. IsLevelOf self.now.written.asked
+            unit text.now level) self.now.written.texts.now levels.items) }
     {
         let LogLevels { texts, asked, .. } = self.written;
         let mut levels = Vec::new(self.alloc);
@@ -208,8 +213,9 @@ impl<'a, 'n> LogCounts<'a, 'n> {
             let Some(level) = parse_level_in(*text, asked.or(unit), unit.or(asked)) else {
                 return Err(LogError::NoUnit);
             };
-            if levels.push(level).is_err() {
-                return Err(LogError::OutOfMemory);
+            match levels.push(level) {
+                Ok(()) => {}
+                Err(_) => return Err(LogError::OutOfMemory),
             }
         }
         Ok(levels)

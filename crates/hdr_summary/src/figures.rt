@@ -1,7 +1,7 @@
 //! The figures of a distribution.
 
-ghost use Rattle.std.specs.Prelude.{◌≡◌, ◌-◌, ◌*◌, ◌^◌, ℕ, Some, IfSome};
-ghost use Rattle.hdr_summary.specs.Decimals.{nearest};
+ghost use Rattle.std.specs.Prelude.{◌≡◌, ◌⊎◌, ◌+◌, ◌*◌, ◌/◌, ◌<◌, ℕ, Some, IfNone, IfSome};
+ghost use Rattle.hdr_summary.specs.Decimals.{IsPast128, hundredths, nearest};
 
 use crate::decimals::{Conversion, decimal, in_parts};
 use crate::percentile::Percentile;
@@ -43,8 +43,10 @@ pub struct Tagged {
 /// Returns the mean in parts of a unit, halves rounded up, or `None` without numbers or on
 /// overflow. It is that of the numbers, or that of their classes if only these are known.
 pub fn mean_in_parts(distribution: &Distribution, parts: u128) -> Option<u128>
-    ensures { (sum : ℕ) → distribution.now.sum ≡ Some sum → IfSome result
+    ensures nearest { (sum : ℕ) → distribution.now.sum ≡ Some sum → IfSome result
         (λ n. n ≡ nearest sum distribution.now.histogram.total parts) }
+    ensures fits { (sum : ℕ) → distribution.now.sum ≡ Some sum → IfNone result (0 < distribution.now.histogram.total
+        → IsPast128 (sum * parts + distribution.now.histogram.total / 2)) }
 {
     if distribution.histogram.is_empty() {
         return None;
@@ -61,9 +63,11 @@ pub fn mean_in_parts(distribution: &Distribution, parts: u128) -> Option<u128>
 /// Returns the mean in hundredths of a unit of converted values, halves rounded up, or `None`
 /// without numbers or on overflow.
 pub fn converted_mean(distribution: &Distribution, conversion: Conversion) -> Option<u128>
-    ensures { (sum : ℕ) → distribution.now.sum ≡ Some sum → IfSome result (λ n. n
-        ≡ nearest sum distribution.now.histogram.total
-        (10 ^ (conversion.times - distribution.now.decimals) * 100)) }
+    ensures nearest { (sum : ℕ) → distribution.now.sum ≡ Some sum → IfSome result (λ n. n
+        ≡ nearest sum distribution.now.histogram.total (hundredths conversion distribution.now.decimals)) }
+    ensures fits { (sum : ℕ) → distribution.now.sum ≡ Some sum → IfNone result (0 < distribution.now.histogram.total
+        → IsPast128 (hundredths conversion distribution.now.decimals)
+        ⊎ IsPast128 (sum * hundredths conversion distribution.now.decimals + distribution.now.histogram.total / 2)) }
 {
     let parts = conversion.factor(distribution.decimals)?.checked_mul(100)?;
     mean_in_parts(distribution, parts)

@@ -82,6 +82,7 @@ impl LogSums<'_> {
             (view_of_sums self.old).is_by_tag (tag_or_none (Some (view_of_stored stored.now).tag)))
             (sums_of self.new) ≡ Some index) }
         ensures indices { OnOk result (AreIndexed self.old → AreIndexed self.new) }
+        ensures decimals { OnOk result (decimals_of_sums self.new ≡ decimals_of stored.now) }
         ensures unit { OnOk result (unit_of_sums self.new ≡ stored.now.unit) }
         ensures scale { KeepScale self.old self.new }
     {
@@ -101,6 +102,7 @@ impl LogSums<'_> {
         ensures sums { OnOk result (AreIndexed self.old → PassesStored S.takes (decimals_of stored.now)
             (view_of_sums self.old) (view_of_stored stored.now) (view_of_sums self.new) sink.old sink.new) }
         ensures indices { OnOk result (AreIndexed self.old → AreIndexed self.new) }
+        ensures decimals { OnOk result (decimals_of_sums self.new ≡ decimals_of stored.now) }
         ensures unit { OnOk result (unit_of_sums self.new ≡ stored.now.unit) }
         ensures scale { KeepScale self.old self.new }
     {

@@ -1,5 +1,7 @@
 //! The lines of limits of changes.
 
+ghost use Rattle.hdr_runs.specs.Limits.{IsVerdictOfRuns};
+
 use crate::limit::{Limit, LimitVerdict};
 use crate::report::{Compared, Pair, Report};
 use crate::texts::ReportLayout;
@@ -39,7 +41,9 @@ impl Report<'_> {
 }
 
 /// Returns whether a percentile grew by more than a limit. Without one of the runs it is not known.
-fn verdict_of(limit: &Limit<'_>, compared: &Compared) -> LimitVerdict {
+fn verdict_of(limit: &Limit<'_>, compared: &Compared) -> LimitVerdict
+    ensures { IsVerdictOfRuns limit.now.amount compared.now.before compared.now.after result }
+{
     match (&compared.before, &compared.after) {
         (Some(before), Some(after)) => limit.verdict(before, after),
         _ => LimitVerdict::Few,

@@ -1,4 +1,4 @@
-use Rattle.std.proofs.Common.{◌≡◌, ◌||◌, ◌%◌, ◌^◌, nat_lt, unsigned_abs, true, false, to_z, of_z, sym, ap, ◌∙◌, arith, rules}
+use Rattle.std.proofs.Common.{◌≡◌, ◌||◌, ◌%◌, ◌^◌, nat_lt, unsigned_abs, to_z, of_z, sym, ap, ◌∙◌, rules}
 use Rattle.std.specs.Int.{w128}
 use Rattle.std.proofs.lemmas.Int.{to_z-of_z}
 use Rattle.hdr_input.proofs.RoundedWide.{rounded_above, rounded_divided, not_below, is_below}

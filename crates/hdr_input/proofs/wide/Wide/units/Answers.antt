@@ -1,6 +1,5 @@
-use Rattle.std.proofs.Common.{◌≤◌, ◌<◌, ◌*◌, ◌^◌, ◌≡◌, true, false, pos, unsigned_abs, to_z, of_z, sym, ap, ◌∙◌, arith, rules}
+use Rattle.std.proofs.Common.{◌*◌, ◌^◌, ◌≡◌, unsigned_abs, to_z, of_z, ap, ◌∙◌, arith, rules}
 use Rattle.std.specs.Int.{w128}
-use Rattle.std.specs.Int.RustNames.{int_lt}
 use Rattle.std.proofs.lemmas.Int.{to_z-of_z}
 use Rattle.hdr_input.proofs.RoundedWide.{divided_is, multiplied_is, multiplied_least, narrow_some, narrow_none}
 use Rattle.hdr_input.proofs.wide.Wide.units.Goals as goal
