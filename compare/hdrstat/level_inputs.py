@@ -7,7 +7,7 @@ from fractions import Fraction
 import runs
 from inputs import Case
 from levels import Known, Level, LogTally, at_rank, checked_line, classes_of, is_level_in_each_unit, level_near, rank_of, status_of, value_of
-from log_inputs import case_of, coarser_text, field_of, notes_text
+from log_inputs import case_of, coarser_text, field_of, no_tag, notes_text
 from logs import sums
 from model import UNITS, Options, Samples, Tally, decimal_text, rounded
 from run_inputs import interval_of, numbers_of, text_of, with_missing
@@ -76,7 +76,7 @@ def printed(levels, parts):
     for part in parts:
         for level, (verdict, rest) in zip(levels, checked_part(levels, part, tier)):
             verdicts.append(verdict)
-            text += f"{verdict} {level.text} {rest}{'' if part.tag is None else ' ' + part.tag}\n"
+            text += f"{verdict} {level.text} {rest}{no_tag([it.tag for it in parts]) if part.tag is None else ' ' + part.tag}\n"
     return text.encode(), status_of(verdicts)
 
 

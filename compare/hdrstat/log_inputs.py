@@ -353,8 +353,13 @@ def log_check_case(random):
         for level in levels:
             verdict, rest = checked_line(level, samples, tally, mean)
             verdicts.append(verdict)
-            out += f"{verdict} {level.text} {rest}" + ("" if tag is None else " " + shown_control(tag)) + "\n"
+            out += f"{verdict} {level.text} {rest}{no_tag([it for it, _, _ in parts]) if tag is None else ' ' + shown_control(tag)}\n"
     return case_of(arguments, logs, (out.encode(), told, status_of(verdicts)), ["-i"])
+
+
+def no_tag(tags):
+    """What follows the value of a level of samples without a tag: a name, if others have one."""
+    return " (no tag)" if any(it is not None for it in tags) else ""
 
 
 def shown_control(tag):

@@ -10,6 +10,7 @@ NAMED, FEWEST_ALIKE, SHORT, OUTLIER = 8, 4, 3, 8
 MOST_TAGS, MOST_OVER, MOST_TIMES = 3, 5, 3
 SPACE, LINE = "\N{NO-BREAK SPACE}", 80
 UNITS = ("ns", "µs", "ms", "s")
+UNIT_MS = tuple(Fraction(1000**it, 10**6) for it in range(4))
 LONG, LONG_AT_AXIS = 10_000_000, 100_000
 LENGTHS = ((86_400, "d"), (3_600, "h"), (60, "min"), (1, "s"))
 MONTHS = "Jan Feb Mar Apr May Jun Jul Aug Sep Oct Nov Dec".split()
@@ -242,15 +243,15 @@ class Page:
             return "no slow time found"
         text = "slow" + times_text(len(slow))
         if len(slow) > 1:
-            text += self.where("stalled in", self.indices(lambda it: it.has_stall())) or self.where("heaviest", slow)
-        lasting = [tag for at in slow if self.verdict.incidents[at].lasts() for tag in self.verdict.incidents[at].tags()]
+            text += self.where("stalled in", self.indices(self.is_stalled)) or self.where("heaviest", slow)
+        lasting = [it.tag for at in slow for it in self.verdict.incidents[at].episodes if it.lasts]
         return text + (f", still at the end: {self.tag_names(list(dict.fromkeys(lasting)))}" if lasting else "")
 
     def missing_text(self):
         missing, gaps = self.indices(lambda it: not it.heaviest.is_slow()), self.indices(lambda it: it.heaviest.kind == "gap")
         if not missing:
             return ""
-        where = (self.where("none in", gaps) or self.where("heaviest", missing)) if len(missing) > 1 else ""
+        where = (self.where("no samples in", gaps) or self.where("heaviest", missing)) if len(missing) > 1 else ""
         return "; samples missing" + times_text(len(missing)) + where
 
     def greatest_text(self):
@@ -306,29 +307,55 @@ class Page:
         text = "".join(f", {self.rise_text(it)}" for it in shown) + (f" in {self.tag(first.tag)}" if len(incident.episodes) > 1 else "")
         return text + (f"; samples/s {rate_text(first.rates[1])} -> {rate_text(first.rates[0])}" if first.rates else "")
 
+    def is_stalled(self, incident):
+        """Whether a tag had no samples and then slow ones, of which one took half of this time, as far as the unit is known."""
+        stalls = [it for it in incident.episodes if it.kind == "stall"]
+        if self.unit is None:
+            return bool(stalls)
+        return any(self.tags[it.tag].greatest * UNIT_MS[self.unit] >= (it.end - it.start) // 2 for it in stalls)
+
+    def span(self, one):
+        until = ", until the end" if one.lasts else ""
+        return f"from {self.clock.text(one.start)} for {length_text(one.end - one.start)}{until}"
+
+    def times(self, incident):
+        """When the heaviest episode was, and where the others are at other times, when these were."""
+        first, *others = incident.episodes
+        if all((it.start, it.end, it.lasts) == (first.start, first.end, first.lasts) for it in others):
+            return self.span(first)
+        text = f"{self.span(first)} in {self.tag(first.tag)}; in "
+        if len(others) == 1:
+            return f"{text}{self.tag(others[0].tag)} {self.span(others[0])}"
+        until = ", until the end" if any(it.lasts for it in others) else ""
+        start, end = min(it.start for it in others), max(it.end for it in others)
+        return f"{text}others between {self.clock.text(start)} and {self.clock.text(end)}{until}"
+
     def incident(self, incident):
         """What an incident is, when, for how long, of which tags, and how bad."""
         first = incident.heaviest
-        kind = {"gap": "No samples", "fall": "Fewer samples"}.get(first.kind, "Stalled" if incident.has_stall() else "Slow")
-        until = ", until the end" if incident.lasts() else ""
-        text = f"{kind} from {self.clock.text(first.start)} for {length_text(first.end - first.start)}{until}: {self.tag_names(incident.tags())}"
+        slow = "Stalled" if self.is_stalled(incident) else "No samples and then slow" if incident.has_stall() else "Slow"
+        kind = {"gap": "No samples", "fall": "Fewer samples"}.get(first.kind, slow)
+        text = f"{kind} {self.times(incident)}: {self.tag_names(incident.tags())}"
         if first.is_slow():
             return text + self.slowness(incident)
         rate = f", {rate_text(first.rates[0])}/s" if first.kind == "fall" else ""
-        return f"{text}{rate} (usually {rate_text(first.rates[1])}/s)"
+        where = f" in {self.tag(first.tag)}" if len(incident.episodes) > 1 else ""
+        return f"{text}{rate} (usually {rate_text(first.rates[1])}/s{where})"
 
     def group(self, line):
         """How many incidents are alike, how long they are and how often they come."""
         times = [(it.start, it.end) for it in (self.verdict.incidents[at].heaviest for at in line.all)]
         strides = sorted(after[0] - it[0] for it, after in zip(times, times[1:]))
         longest = length_text(max(end - start for start, end in times))
-        return f"{len(times):,} times, each {longest} at most, about every {length_text(strides[len(strides) // 2])}; worst: "
+        median = strides[len(strides) // 2]
+        every = f", about every {length_text(median)}" if 2 * strides[0] >= median and strides[-1] <= 2 * median else ""
+        return f"{len(times):,} times, each {longest} at most{every}; heaviest: "
 
     def incident_lines(self):
         for at, line in enumerate(self.named):
             yield f"{chr(65 + at)} {self.group(line) if len(line.all) > 1 else ''}{self.incident(self.verdict.incidents[line.heaviest])}"
         if self.others:
-            yield f"and {self.others} more" + (", each lighter than these" if self.are_lighter else "")
+            yield f"and {self.others} more" + (", none heavier than these" if self.are_lighter else "")
 
     # What was tested
 
@@ -352,7 +379,7 @@ class Page:
         return (
             "Slow: such a percentile is 3/2 of its usual value (its lower quartile over time) over 8 intervals or more, 2 times over 4, 3 over 2, "
             f"or 4 times in one, by as much as {self.verdict.bar} samples that are all above. "
-            "Missing: at most half of the usual samples a second over 8 intervals or more, or a fifth over 3. "
+            "Missing: none, or at most half of the usual samples a second over 8 intervals or more, or a fifth over 3, beyond chance. "
         )
 
     def zone_text(self):
@@ -368,6 +395,8 @@ class Page:
         if self.coarser:
             yield self.coarser_text()
         yield from self.incident_lines()
+        if not self.intervals:
+            return
         has_samples = any(it.samples for it in self.tags)
         yield (self.tested_text() + self.rule_text() if has_samples else "") + self.zone_text()
 

@@ -16,6 +16,7 @@ use hdr_runs::{
 use hdr_summary::checks::CheckedSamples;
 use hdr_summary::decimals::Conversion;
 use hdr_summary::figures::Tagged;
+use hdr_summary::formats::NO_TAG;
 use hdr_summary::levels::Level;
 use hdr_summary::means::SampleSum;
 use hdr_summary::units::Unit;
@@ -67,6 +68,7 @@ impl Checked {
             (Some(from), Some(to)) => Conversion::new(from, to),
             _ => Conversion::NONE,
         };
+        let has_tags = self.parts.iter().any(|part| part.tag.is_some());
         let mut text = String::new(alloc);
         for part in &self.parts {
             let samples = CheckedSamples {
@@ -74,6 +76,7 @@ impl Checked {
                 sum: part.sum,
                 tag: match &part.tag {
                     Some(tag) => Some(tag.as_str()),
+                    None if has_tags => Some(NO_TAG),
                     None => None,
                 },
                 conversion,

@@ -34,7 +34,7 @@ is_left_out line = not (is_ended line) && not (list_all is_ascii_whitespace line
 abbrev pub IsCompleteV2 : List ℕ → Type 0
 IsCompleteV2 field = (h : Plain) × (is_other_form field ≡ false) × IsHeldIn (2 ^ 64 - 1) field h
 
--- the entry of a last line without an LF: an interval whose histogram is complete; none if there is no interval with such a plain V2 histogram
+-- the entry of a last line without an LF: an interval whose histogram is complete; none unless it has an interval with such a histogram, plain V2
 abbrev pub IsUnended : List ℕ → Option Entry → Type 0
 IsUnended line None = (i : Interval) → entry_of line ≡ Some (Span i) → IsCompleteV2 i.field → ⊥
 IsUnended line (Some entry) = (i : Interval) × (entry ≡ Span i) × (entry_of line ≡ Some entry) × HoldsHistogram i.field

@@ -4,7 +4,7 @@ use Rattle.hdr_input.specs.Recorded.{Takes, TakesRounded, TakesTimes}
 use Rattle.hdr_input.specs.declared.number.Number.{Number}
 use Rattle.hdr_model.specs.Plain.{Plain}
 use Rattle.hdr_model.specs.Samples.{StandsFor}
-use Rattle.hdr_compare.specs.Batchings.{HasRecorded, batches_of}
+use Rattle.hdr_compare.specs.Batchings.{HasRecorded, batches_of, digits_of}
 use Rattle.hdr_runs.specs.declared.batch_tally.BatchTally.{BatchTally}
 use Rattle.hdr_runs.specs.declared.order.Order.{Order}
 use Rattle.hdr_runs.specs.declared.order.Order.TheVariants.{OfTime, Sorted, Counted, FewIntervals}
@@ -14,6 +14,10 @@ use Rattle.hdr_runs.specs.declared.side.Samples.{Samples}
 pub record HasSamples (S : List ℕ) (t : BatchTally) : Type 0 where
   pub all : StandsFor t.tally.histogram S
   pub batches : HasRecorded S t.batching
+
+-- the digits of the classes of batches
+abbrev pub digits_of_tally : BatchTally → ℕ
+digits_of_tally t = digits_of t.batching
 
 -- how many samples the tally counts
 abbrev pub total_of : BatchTally → ℕ

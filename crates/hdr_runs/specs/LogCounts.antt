@@ -65,13 +65,16 @@ abbrev pub IsLevelOf : (asked unit : Option Unit) → List ℕ → Level → Typ
 IsLevelOf asked unit text level =
     length text < 2 ^ 62 → IsLevelText text (option_or asked unit) (option_or unit asked) level.measure level.side level.number
 
+-- levels are those of the texts that are asked for, one after the other, if the values are in a unit
+abbrev pub AreLevelsOf : LogCounts → Option Unit → List Level → Type 0
+AreLevelsOf c unit levels = AllZip (λ text level. IsLevelOf c.written.asked unit text.now level) c.written.texts.now levels
+
 -- levels stay once they are known, and are then those of their texts, for values of some unit
 pub record ParsesLevels (old new : LogCounts) : Type 0 where
   pub asked : asked_of new ≡ asked_of old
   pub known : levels_of old ≢ [] → levels_of new ≡ levels_of old
   pub parsed : levels_of old ≡ [] → map (λ level. level.text.now) (levels_of new) ≡ (asked_of old).texts
-  pub amounts : levels_of old ≡ [] → (unit : Option Unit)
-      × AllZip (λ text level. IsLevelOf old.written.asked unit text.now level) old.written.texts.now (levels_of new)
+  pub amounts : levels_of old ≡ [] → (unit : Option Unit) × AreLevelsOf old unit (levels_of new)
 
 -- a histogram stands for samples, and its unit is this many units, in which they fit 64 bits
 pub record IsOfUnits (factor : ℕ) (h : Plain) (S : List ℕ) : Type 0 where

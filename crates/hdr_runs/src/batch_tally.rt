@@ -36,9 +36,8 @@ pub struct BatchRecording {
 
 impl GroupMaker for BatchRecording {
     ghost use Rattle.std.specs.Prelude.{IfOk, [], min};
-    ghost use Rattle.hdr_compare.specs.Batchings.{digits_of};
     ghost use Rattle.hdr_input.specs.Recorded.{IsEmptyTally};
-    ghost use Rattle.hdr_runs.specs.Batched.{HasBatches, HasSamples};
+    ghost use Rattle.hdr_runs.specs.Batched.{HasBatches, HasSamples, digits_of_tally};
 
     type Sink = BatchTally;
 
@@ -53,7 +52,7 @@ impl GroupMaker for BatchRecording {
     fn make(&self, alloc: Global) -> Result<BatchTally, InputError>
         ensures batches { IfOk result HasBatches }
         ensures none { IfOk result (HasSamples []) }
-        ensures digits { IfOk result (λ t. digits_of t.batching ≡ min self.now.recording.sigfig 5) }
+        ensures digits { IfOk result (λ t. digits_of_tally t ≡ min self.now.recording.sigfig 5) }
         ensures tally { IfOk result (λ t. IsEmptyTally self.now.recording t.tally) }
     {
         clearing_stands();

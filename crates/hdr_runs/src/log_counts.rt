@@ -150,7 +150,7 @@ impl<'a, 'n> LogCounts<'a, 'n> {
     ghost use Rattle.std.specs.Option.{option_map};
     ghost use Rattle.hdr_runs.specs.LogCounts.{asked_of, batches_of_tag, levels_of, tags_of};
     ghost use Rattle.hdr_runs.specs.LogCounts.{AddsTags, CountsAt, HasCounted, HasCountedAt, InBatches};
-    ghost use Rattle.hdr_runs.specs.LogCounts.{IsLevelOf, JoinsAt, ParsesLevels, TakesConverted};
+    ghost use Rattle.hdr_runs.specs.LogCounts.{AreLevelsOf, JoinsAt, ParsesLevels, TakesConverted};
 
     /// Returns the counts of no tags. Batches have these significant digits, up to 5.
     pub fn new(alloc: Global, written: LogLevels<'a, 'n>, sigfig: u8) -> LogCounts<'a, 'n>
@@ -189,8 +189,7 @@ impl<'a, 'n> LogCounts<'a, 'n> {
     /// values. After an error nothing has changed.
     pub fn parse_levels(&mut self, unit: Option<Unit>) -> Result<(), LogError>
         ensures levels { OnOk result (ParsesLevels self.old self.new) }
-        ensures units { OnOk result (levels_of self.old ≡ [] → AllZip (λ text level. IsLevelOf self.old.written.asked
-            unit text.now level) self.old.written.texts.now (levels_of self.new)) }
+        ensures amounts { OnOk result (levels_of self.old ≡ [] → AreLevelsOf self.old unit (levels_of self.new)) }
         ensures tags { tags_of self.new ≡ tags_of self.old }
         ensures unchanged { OnErr result (self.new ≡ self.old) }
     {
@@ -204,8 +203,7 @@ impl<'a, 'n> LogCounts<'a, 'n> {
     /// Returns the levels for values in `unit`.
     fn parsed(&self, unit: Option<Unit>) -> Result<Vec<Level<'n>>, LogError>
         ensures texts { IfOk result (λ levels. map (λ level. level.text.now) levels.items ≡ (asked_of self.now).texts) }
-        ensures levels { IfOk result (λ levels. AllZip (λ text level. IsLevelOf self.now.written.asked
-            unit text.now level) self.now.written.texts.now levels.items) }
+        ensures levels { IfOk result (λ levels. AreLevelsOf self.now unit levels.items) }
     {
         let LogLevels { texts, asked, .. } = self.written;
         let mut levels = Vec::new(self.alloc);

@@ -103,6 +103,18 @@ impl Units {
         10u128.pow(self.decimals)
     }
 
+    /// Returns a value in milliseconds, rounded down, if the unit is known.
+    pub(crate) fn milliseconds(self, value: u64) -> Option<u128> {
+        let factor = match self.unit? {
+            0 => 1u128,
+            1 => 1_000,
+            2 => 1_000_000,
+            _ => 1_000_000_000,
+        };
+        let parts = self.in_parts(value).saturating_mul(factor);
+        parts.checked_div(self.parts().saturating_mul(1_000_000))
+    }
+
     /// Returns a value in the longest unit of which it is one or more, after rounding.
     pub fn amount_of(self, value: u64) -> Amount
         ensures { IsInUnit self.unit (value * self.times) (10 ^ self.decimals)

@@ -39,7 +39,7 @@ impl View<'_> {
         self.push_markup(text, "<p class=\"soft\">")?;
         write!(text, "and {others} more")?;
         if self.naming.are_lighter {
-            text.push_str(", each lighter than these")?;
+            text.push_str(", none heavier than these")?;
         }
         self.push_markup(text, "</p>")?;
         text.push_str("\n")
@@ -77,61 +77,110 @@ impl View<'_> {
         push_grouped(text, all.len() as u64)?;
         text.push_str(" times, each ")?;
         push_length(text, longest)?;
-        text.push_str(" at most, about every ")?;
-        push_length(text, strides.get(strides.len() / 2).copied().unwrap_or(0))?;
-        text.push_str("; worst: ")
+        text.push_str(" at most")?;
+        push_stride(text, &strides)?;
+        text.push_str("; heaviest: ")
     }
 
     /// Appends what an incident is, when, for how long, of which tags, and how bad.
     fn push_incident(&self, text: &mut String, incident: &Incident) -> Result<(), AllocError> {
-        let Episode {
-            kind,
-            start,
-            end,
-            ..
-        } = incident.heaviest;
+        let kind = incident.heaviest.kind;
         text.push_str(match kind {
-            EpisodeKind::Gap => "No samples from ",
-            EpisodeKind::Fall => "Fewer samples from ",
-            _ if incident.has_stall() => "Stalled from ",
-            _ => "Slow from ",
+            EpisodeKind::Gap => "No samples",
+            EpisodeKind::Fall => "Fewer samples",
+            _ if self.is_stalled(incident) => "Stalled",
+            _ if incident.has_stall() => "No samples and then slow",
+            _ => "Slow",
         })?;
-        self.clock.push(text, start, TimeStyle::Full)?;
-        text.push_str(" for ")?;
-        push_length(text, end.saturating_sub(start))?;
-        if incident.has_lasting() {
-            text.push_str(", until the end")?;
-        }
+        self.push_span(text, &incident.heaviest)?;
+        self.push_other_times(text, incident)?;
         text.push_str(": ")?;
         self.push_tags(text, &tags_of(self.alloc, incident)?)?;
         match kind {
-            EpisodeKind::Gap => self.push_usually(text, incident.heaviest.rates),
-            EpisodeKind::Fall => self.push_fall(text, incident.heaviest.rates),
+            EpisodeKind::Gap => self.push_usually(text, incident),
+            EpisodeKind::Fall => self.push_fall(text, incident),
             _ => self.push_slowness(text, incident),
         }
     }
 
-    /// Appends the usual rate.
-    fn push_usually(&self, text: &mut String, rates: Option<RateChange>) -> Result<(), AllocError> {
-        let Some(rates) = rates else {
+    /// Appends when an episode was, and whether it was not over at the end of the log.
+    fn push_span(&self, text: &mut String, episode: &Episode) -> Result<(), AllocError> {
+        text.push_str(" from ")?;
+        self.clock.push(text, episode.start, TimeStyle::Full)?;
+        text.push_str(" for ")?;
+        push_length(text, episode.end.saturating_sub(episode.start))?;
+        if episode.lasts {
+            text.push_str(", until the end")?;
+        }
+        Ok(())
+    }
+
+    /// Appends the tag of the heaviest episode, and when the others were, if their times are not the
+    /// same.
+    fn push_other_times(&self, text: &mut String, incident: &Incident) -> Result<(), AllocError> {
+        let heaviest = &incident.heaviest;
+        if incident
+            .joined
+            .iter()
+            .all(|episode| are_at_one_time(episode, heaviest))
+        {
+            return Ok(());
+        }
+        self.push_heaviest_tag(text, incident)?;
+        if let [other] = incident.joined.as_slice() {
+            text.push_str("; in ")?;
+            self.push_tag_at(text, other.tag)?;
+            return self.push_span(text, other);
+        }
+        self.push_common_span(text, &incident.joined)
+    }
+
+    /// Appends from when to when episodes were, and whether one was not over at the end of the log.
+    fn push_common_span(&self, text: &mut String, all: &[Episode]) -> Result<(), AllocError> {
+        let start = all.iter().map(|episode| episode.start).min().unwrap_or(0);
+        let end = all.iter().map(|episode| episode.end).max().unwrap_or(0);
+        text.push_str("; in others between ")?;
+        self.clock.push(text, start, TimeStyle::Full)?;
+        text.push_str(" and ")?;
+        self.clock.push(text, end, TimeStyle::Full)?;
+        if all.iter().any(|episode| episode.lasts) {
+            text.push_str(", until the end")?;
+        }
+        Ok(())
+    }
+
+    /// Appends the usual rate of the heaviest episode.
+    fn push_usually(&self, text: &mut String, incident: &Incident) -> Result<(), AllocError> {
+        let Some(RateChange { usual, .. }) = incident.heaviest.rates else {
             return Ok(());
         };
         text.push_str(" ")?;
         self.push_markup(text, "<span class=\"soft\">")?;
         text.push_str("(usually ")?;
-        push_rate(text, rates.usual)?;
-        text.push_str("/s)")?;
+        push_rate(text, usual)?;
+        text.push_str("/s")?;
+        self.push_heaviest_tag(text, incident)?;
+        text.push_str(")")?;
         self.push_markup(text, "</span>")
     }
 
-    /// Appends a rate and the usual one.
-    fn push_fall(&self, text: &mut String, rates: Option<RateChange>) -> Result<(), AllocError> {
-        if let Some(rates) = rates {
+    /// Appends the rate of the heaviest episode, and the usual one.
+    fn push_fall(&self, text: &mut String, incident: &Incident) -> Result<(), AllocError> {
+        if let Some(RateChange { rate, .. }) = incident.heaviest.rates {
             text.push_str(", ")?;
-            push_rate(text, rates.rate)?;
+            push_rate(text, rate)?;
             text.push_str("/s")?;
         }
-        self.push_usually(text, rates)
+        self.push_usually(text, incident)
+    }
+
+    /// Appends the tag of the heaviest episode, if there are others.
+    fn push_heaviest_tag(&self, text: &mut String, incident: &Incident) -> Result<(), AllocError> {
+        if incident.joined.is_empty() {
+            return Ok(());
+        }
+        text.push_str(" in ")?;
+        self.push_tag_at(text, incident.heaviest.tag)
     }
 
     /// Appends which percentiles rose: the shortest one, and the one that rose most.
@@ -144,10 +193,7 @@ impl View<'_> {
                 self.push_rise(text, rise)?;
             }
         }
-        if !incident.joined.is_empty() {
-            text.push_str(" in ")?;
-            self.push_tag_at(text, incident.heaviest.tag)?;
-        }
+        self.push_heaviest_tag(text, incident)?;
         let Some(rates) = incident.heaviest.rates else {
             return Ok(());
         };
@@ -182,6 +228,27 @@ impl View<'_> {
             PageForm::Plain => " -> ",
         })
     }
+}
+
+/// Whether two episodes begin at one time, and end at one time.
+fn are_at_one_time(one: &Episode, other: &Episode) -> bool {
+    one.start == other.start && one.end == other.end && one.lasts == other.lasts
+}
+
+/// Appends the median of strides, which ascend, if none is below half of it or above twice as long.
+fn push_stride(text: &mut String, strides: &[u64]) -> Result<(), AllocError> {
+    let (Some(median), Some(least), Some(greatest)) = (
+        strides.get(strides.len() / 2),
+        strides.first(),
+        strides.last(),
+    ) else {
+        return Ok(());
+    };
+    if *least < median.div_ceil(2) || *greatest > median.saturating_mul(2) {
+        return Ok(());
+    }
+    text.push_str(", about every ")?;
+    push_length(text, *median)
 }
 
 /// Returns the index of the first of the values that are the most times their usual ones.

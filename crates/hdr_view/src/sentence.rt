@@ -2,10 +2,10 @@
 
 use crate::clock::push_length;
 use crate::name::{IN_SLOW_TIME, IN_TITLE};
-use crate::naming::{is_slow, push, tags_of};
+use crate::naming::{is_slow, push};
 use crate::view::View;
 use hdr_draw::number::push_grouped;
-use hdr_verdict::{EpisodeKind, Incident};
+use hdr_verdict::{Episode, EpisodeKind, Incident};
 use std::alloc::AllocError;
 
 /// The most tags that are named in a line.
@@ -24,11 +24,11 @@ enum Sort {
 }
 
 impl Sort {
-    /// Whether an incident is of the sort.
-    fn has(self, incident: &Incident) -> bool {
+    /// Whether an incident of a page is of the sort.
+    fn has(self, view: &View<'_>, incident: &Incident) -> bool {
         match self {
             Sort::Slow => is_slow(incident),
-            Sort::Stalled => incident.has_stall(),
+            Sort::Stalled => view.is_stalled(incident),
             Sort::Missing => !is_slow(incident),
             Sort::Empty => incident.heaviest.kind == EpisodeKind::Gap,
         }
@@ -49,6 +49,9 @@ impl View<'_> {
         self.push_sentence(text)?;
         self.push_coarser(text)?;
         self.push_incidents(text)?;
+        if self.intervals == 0 {
+            return Ok(());
+        }
         self.push_markup(text, "<p class=\"soft\">")?;
         if self.log.all.count > 0 {
             self.push_tested(text)?;
@@ -104,19 +107,40 @@ impl View<'_> {
         self.push_tags(text, &lasting)
     }
 
-    /// Returns the tags of the incidents that were slow up to the end, those of the heaviest first.
+    /// Returns the tags that were slow up to the end, those of the heaviest incident first.
     fn lasting_tags(&self) -> Result<Vec<usize>, AllocError> {
         let mut tags = Vec::new(self.alloc);
         for incident in &self.verdict.incidents {
-            if is_slow(incident) && incident.has_lasting() {
-                for tag in tags_of(self.alloc, incident)? {
-                    if !tags.contains(&tag) {
-                        push(&mut tags, tag)?;
-                    }
+            if is_slow(incident) {
+                push_lasting(&mut tags, &incident.heaviest)?;
+                for episode in &incident.joined {
+                    push_lasting(&mut tags, episode)?;
                 }
             }
         }
         Ok(tags)
+    }
+
+    /// Whether a tag of an incident was stalled: it had no samples and then slow ones, of which one
+    /// took half of this time or more, if the unit of values is known.
+    pub(crate) fn is_stalled(&self, incident: &Incident) -> bool {
+        self.was_stalled(&incident.heaviest)
+            || incident
+                .joined
+                .iter()
+                .any(|episode| self.was_stalled(episode))
+    }
+
+    /// Whether a tag was stalled.
+    fn was_stalled(&self, episode: &Episode) -> bool {
+        let length = episode.end.saturating_sub(episode.start);
+        let greatest = self
+            .log
+            .tags
+            .get(episode.tag)
+            .and_then(|tag| self.units.milliseconds(tag.figures.max));
+        episode.kind == EpisodeKind::Stall
+            && greatest.map_or(true, |greatest| greatest >= u128::from(length / 2))
     }
 
     /// Appends how often samples were missing, and when most.
@@ -131,7 +155,7 @@ impl View<'_> {
             return Ok(());
         }
         match self.first_letter(Sort::Empty) {
-            Some(letter) => write!(text, ", none in {letter}"),
+            Some(letter) => write!(text, ", no samples in {letter}"),
             None => self.push_heaviest(text, Sort::Missing),
         }
     }
@@ -140,7 +164,7 @@ impl View<'_> {
     fn count(&self, sort: Sort) -> u64 {
         let mut count = 0u64;
         for incident in &self.verdict.incidents {
-            if sort.has(incident) {
+            if sort.has(self, incident) {
                 count = count.saturating_add(1);
             }
         }
@@ -150,7 +174,7 @@ impl View<'_> {
     /// Returns the letter of the heaviest incident of a sort, if it has one.
     fn first_letter(&self, sort: Sort) -> Option<&'static str> {
         for (index, incident) in self.verdict.incidents.iter().enumerate() {
-            if sort.has(incident) {
+            if sort.has(self, incident) {
                 return self.naming.letter(index);
             }
         }
@@ -242,6 +266,14 @@ impl View<'_> {
         self.push_markup(text, "</p>")?;
         text.push_str("\n")
     }
+}
+
+/// Appends the tag of an episode that was not over at the end of the log, unless it is there.
+fn push_lasting(tags: &mut Vec<usize>, episode: &Episode) -> Result<(), AllocError> {
+    if episode.lasts && !tags.contains(&episode.tag) {
+        push(tags, episode.tag)?;
+    }
+    Ok(())
 }
 
 /// Appends a number and what is counted, in the plural unless it is 1.

@@ -89,8 +89,8 @@ impl View<'_> {
             text,
             "Slow: such a percentile is 3/2 of its usual value (its lower quartile over time) over 8 \
              intervals or more, 2 times over 4, 3 over 2, or 4 times in one, by as much as {bar} \
-             samples that are all above. Missing: at most half of the usual samples a second over 8 \
-             intervals or more, or a fifth over 3. "
+             samples that are all above. Missing: none, or at most half of the usual samples a second \
+             over 8 intervals or more, or a fifth over 3, beyond chance. "
         )
     }
 

@@ -2,7 +2,7 @@ use Rattle.std.proofs.Common.{◌≡◌, ◌+◌, ◌*◌, ◌/◌, Option, Some
 use Rattle.hdr_summary.specs.Decimals.{IsPast128, hundredths}
 use Rattle.hdr_summary.proofs.figures.converted_mean.Goals as goal
 
--- what follows if there is no value
+-- what follows without a value
 weaker : {V P Q : Type 0} (value : Option V) → IfNone value P → (P → Q) → IfNone value Q
 weaker None p f = f p
 weaker (Some value) p f = tt
