@@ -155,7 +155,7 @@ def footer_of(report, tier, has_several):
     text = f"Intervals of {tier[1]} %: of 20 such reports on equal runs, at most 1 has a false verdict.\n"
     text += "" if has_several else SINGLE
     if any(one.decimals != other.decimals for _, one, other, _ in report):
-        text += "Runs have values of different decimals: what was rounded to fewer is taken as exact.\n"
+        text += "Runs have values of different decimals or units: what was rounded is taken as exact.\n"
     least = None
     for run, one, other, lines in report:
         for digits, _, _, _, points, _ in lines:

@@ -12,9 +12,9 @@ use std::alloc::{AllocError, Global};
 const SINGLE_RUNS: &str = "\
 What changes from run to run by itself is not seen in one run of each: --with compares 4 or more of each.\n";
 
-/// What is said of runs whose values have different numbers of decimals.
+/// What is said of runs whose values have different numbers of decimals in one unit.
 const OTHER_DECIMALS: &str = "\
-Runs have values of different decimals: what was rounded to fewer is taken as exact.\n";
+Runs have values of different decimals or units: what was rounded is taken as exact.\n";
 
 /// Returns the confidence of intervals, in percent.
 pub(crate) fn confidence_of(tier: Tier) -> &'static str {
