@@ -318,29 +318,28 @@ class Page:
         until = ", until the end" if one.lasts else ""
         return f"from {self.clock.text(one.start)} for {length_text(one.end - one.start)}{until}"
 
-    def times(self, incident):
-        """When the heaviest episode was, and where the others are at other times, when these were."""
+    def other_times(self, incident):
+        """When the episodes other than the heaviest were, if they were at other times."""
         first, *others = incident.episodes
         if all((it.start, it.end, it.lasts) == (first.start, first.end, first.lasts) for it in others):
-            return self.span(first)
-        text = f"{self.span(first)} in {self.tag(first.tag)}; in "
+            return ""
         if len(others) == 1:
-            return f"{text}{self.tag(others[0].tag)} {self.span(others[0])}"
+            return f"; in {self.tag(others[0].tag)} {self.span(others[0])}"
         until = ", until the end" if any(it.lasts for it in others) else ""
         start, end = min(it.start for it in others), max(it.end for it in others)
-        return f"{text}others between {self.clock.text(start)} and {self.clock.text(end)}{until}"
+        return f"; in others between {self.clock.text(start)} and {self.clock.text(end)}{until}"
 
     def incident(self, incident):
-        """What an incident is, when, for how long, of which tags, and how bad."""
+        """What an incident is, when, for how long, of which tags, how bad, and when others were."""
         first = incident.heaviest
         slow = "Stalled" if self.is_stalled(incident) else "No samples and then slow" if incident.has_stall() else "Slow"
         kind = {"gap": "No samples", "fall": "Fewer samples"}.get(first.kind, slow)
-        text = f"{kind} {self.times(incident)}: {self.tag_names(incident.tags())}"
+        text = f"{kind} {self.span(first)}: {self.tag_names(incident.tags())}"
         if first.is_slow():
-            return text + self.slowness(incident)
+            return text + self.slowness(incident) + self.other_times(incident)
         rate = f", {rate_text(first.rates[0])}/s" if first.kind == "fall" else ""
         where = f" in {self.tag(first.tag)}" if len(incident.episodes) > 1 else ""
-        return f"{text}{rate} (usually {rate_text(first.rates[1])}/s{where})"
+        return f"{text}{rate} (usually {rate_text(first.rates[1])}/s{where}){self.other_times(incident)}"
 
     def group(self, line):
         """How many incidents are alike, how long they are and how often they come."""

@@ -93,14 +93,14 @@ impl View<'_> {
             _ => "Slow",
         })?;
         self.push_span(text, &incident.heaviest)?;
-        self.push_other_times(text, incident)?;
         text.push_str(": ")?;
         self.push_tags(text, &tags_of(self.alloc, incident)?)?;
         match kind {
-            EpisodeKind::Gap => self.push_usually(text, incident),
-            EpisodeKind::Fall => self.push_fall(text, incident),
-            _ => self.push_slowness(text, incident),
+            EpisodeKind::Gap => self.push_usually(text, incident)?,
+            EpisodeKind::Fall => self.push_fall(text, incident)?,
+            _ => self.push_slowness(text, incident)?,
         }
+        self.push_other_times(text, incident)
     }
 
     /// Appends when an episode was, and whether it was not over at the end of the log.
@@ -115,8 +115,7 @@ impl View<'_> {
         Ok(())
     }
 
-    /// Appends the tag of the heaviest episode, and when the others were, if their times are not the
-    /// same.
+    /// Appends when episodes other than the heaviest were, if their times are not the same.
     fn push_other_times(&self, text: &mut String, incident: &Incident) -> Result<(), AllocError> {
         let heaviest = &incident.heaviest;
         if incident
@@ -126,7 +125,6 @@ impl View<'_> {
         {
             return Ok(());
         }
-        self.push_heaviest_tag(text, incident)?;
         if let [other] = incident.joined.as_slice() {
             text.push_str("; in ")?;
             self.push_tag_at(text, other.tag)?;
