@@ -1,31 +1,46 @@
 -- Laws of what tallies with bounds count.
-use Rattle.std.specs.Prelude.{◌≡◌, ℕ, ◌≤◌, List, [], ◌∷◌, ◌++◌, length, refl}
+use Rattle.std.specs.Prelude.{◌≡◌, ℕ, zero, suc, ◌≤◌, List, [], ◌∷◌, ◌++◌, replicate, refl}
 use Rattle.std.proofs.Common.{sym, ◌∙◌, subst, append_assoc}
 use Rattle.std.proofs.lemmas.List.{append-nil}
 use Rattle.hdr_input.specs.declared.number.Number.{Number}
 use Rattle.hdr_input.specs.declared.bound_tally.BoundTally.{BoundTally}
-use Rattle.hdr_input.specs.Bounds.{Counts, HasCounted}
+use Rattle.hdr_input.specs.declared.wide.Wide.{Wide}
+use Rattle.hdr_model.specs.Correction.{missing}
+use Rattle.hdr_input.specs.Bounds.{Counts, HasCounted, of_units}
+use Rattle.hdr_input.specs.Decimals.{StandsFor}
+use Rattle.hdr_input.specs.Numbers.{in_units}
 
 -- some numbers are counted
 abbrev pub CountsSome : BoundTally → BoundTally → Type 0
 CountsSome old new = (numbers : List Number) × Counts old numbers new
 
--- missing samples, of which there are none if no interval is expected
-abbrev pub AreMissing : BoundTally → List Number → Type 0
-AreMissing t missing = t.tally.interval ≡ 0 → missing ≡ []
+-- the missing samples before a number, in units of a tally
+abbrev pub missing_of : BoundTally → Number → List Number
+missing_of t x = of_units t.tally.decimals (missing (in_units x.digits x.decimals t.tally.decimals) t.tally.interval)
 
--- a number is counted, with the missing samples before it
-abbrev pub CountsOne : BoundTally → BoundTally → Type 0
-CountsOne old new = (x : Number) × (missing : List Number) × AreMissing old missing × Counts old (x ∷ missing) new
+-- samples are the missing ones before a number; there are none if no interval is expected
+pub record AreMissing (t : BoundTally) (x : Number) (samples : List Number) : Type 0 where
+  pub none : t.tally.interval ≡ 0 → samples ≡ []
+  pub all : t.tally.decimals ≤ 18 → samples ≡ missing_of t x
 
--- at least this many numbers are counted
-abbrev pub CountsMany : ℕ → BoundTally → BoundTally → Type 0
-CountsMany count old new = (numbers : List Number) × (count ≤ length numbers) × Counts old numbers new
+-- the number that a wide one stands for is counted, with the missing samples before it
+abbrev pub CountsOne : Wide → BoundTally → BoundTally → Type 0
+CountsOne wide old new = (x : Number) → StandsFor wide x
+    → (samples : List Number) × AreMissing old x samples × Counts old (x ∷ samples) new
 
--- a number is counted this many times, with the missing samples before it
-abbrev pub CountsTimes : ℕ → BoundTally → BoundTally → Type 0
-CountsTimes count old new =
-    (numbers : List Number) × (count ≤ length numbers) × (old.tally.interval ≡ 0 → length numbers ≡ count) × Counts old numbers new
+-- a list, some times
+abbrev pub repeated : ℕ → List Number → List Number
+repeated zero numbers = []
+repeated (suc count) numbers = repeated count numbers ++ numbers
+
+-- the number that a wide one stands for is counted some times, each with the missing samples before it
+abbrev pub CountsEach : Wide → ℕ → BoundTally → BoundTally → Type 0
+CountsEach wide count old new = (x : Number) → StandsFor wide x → old.tally.decimals ≤ 18 → Counts old (repeated count (x ∷ missing_of old x)) new
+
+-- it is counted some times, alone if no interval is expected
+pub record CountsTimes (wide : Wide) (count : ℕ) (old new : BoundTally) : Type 0 where
+  pub copies : old.tally.interval ≡ 0 → (x : Number) → StandsFor wide x → Counts old (replicate count x) new
+  pub each : CountsEach wide count old new
 
 -- nothing is counted where nothing changes
 pub counts_nothing : (t : BoundTally) → CountsSome t t

@@ -1,5 +1,5 @@
 -- Histograms after numbers.
-use Rattle.std.specs.Prelude.{◌≡◌, ℕ, ◌+◌, ◌-◌, ◌*◌, ◌%◌, ◌^◌, ◌<◌, ◌≤◌, min, max, Bool, true, if◌then◌else◌, Result, Ok, Err, refl}
+use Rattle.std.specs.Prelude.{◌≡◌, ℕ, ◌+◌, ◌-◌, ◌*◌, ◌%◌, ◌^◌, ◌<◌, ◌≤◌, min, max, Bool, true, false, if◌then◌else◌, Result, Ok, Err, refl}
 use Rattle.std.proofs.Common.{◌∙◌}
 use Rattle.hdr_model.specs.Plain.{Plain, empty_plain, reach}
 use Rattle.hdr_model.specs.Correction.{after_correct}
@@ -8,10 +8,12 @@ use Rattle.hdr_input.specs.Rounding.{is_rounded}
 use Rattle.hdr_model.specs.declared.errors.RecordError.{RecordError}
 use Rattle.hdr_model.specs.declared.errors.RecordError.TheVariants as record_error
 use Rattle.hdr_input.specs.declared.cause.Cause.{Cause}
-use Rattle.hdr_input.specs.declared.cause.Cause.TheVariants.{TooLarge, OutOfMemory}
+use Rattle.hdr_input.specs.declared.cause.Cause.TheVariants.{TooLarge, TooLong, OutOfMemory}
 use Rattle.hdr_input.specs.declared.number.Number.{Number}
 use Rattle.hdr_input.specs.declared.tally.Recording.{Recording}
 use Rattle.hdr_input.specs.declared.tally.Tally.{Tally}
+use Rattle.hdr_input.specs.declared.wide.Wide.{Wide}
+use Rattle.hdr_input.specs.Decimals.{StandsFor}
 
 -- the histogram after a number, in units of these decimals, and the missing samples before it at an expected interval
 abbrev pub after_number : Plain → Number → ℕ → ℕ → Plain
@@ -77,6 +79,18 @@ after_rounding t is_rounded = record t { rounded = with_rounding t.rounded is_ro
 abbrev pub TakesRounded : Tally → Tally → Number → Bool → Type 0
 TakesRounded old new number is_rounded = (between : Tally) × Takes old between number × (new ≡ after_rounding between is_rounded)
 
+-- a number, rounded to decimals
+abbrev pub rounded_to : ℕ → Number → Number
+rounded_to decimals x = record { digits = in_units x.digits x.decimals decimals; decimals = decimals }
+
+-- a tally has taken the number that a wide one stands for, in its unit, and counted whether it was rounded
+abbrev pub TakesWide : Tally → Tally → Wide → Type 0
+TakesWide old new wide = (x : Number) → StandsFor wide x → TakesRounded old new (rounded_to old.decimals x) (is_rounded x old.decimals)
+
+-- it has taken it some times
+abbrev pub TakesWideTimes : Tally → Tally → Wide → ℕ → Type 0
+TakesWideTimes old new wide times = (x : Number) → StandsFor wide x → TakesTimes old new (rounded_to old.decimals x) times (is_rounded x old.decimals)
+
 -- a tally whose sum has as many units more as `times` numbers have
 abbrev pub after_copies : Tally → ℕ → ℕ → Tally
 after_copies t units times = record t { sum = (t.sum + units * times) % 2 ^ 128 }
@@ -93,3 +107,13 @@ abbrev pub IsCauseOf : Result Unit RecordError → Cause → Type 0
 IsCauseOf (Ok _) cause = ⊥
 IsCauseOf (Err record_error.OutOfMemory) cause = cause ≡ OutOfMemory
 IsCauseOf (Err _) cause = cause ≡ TooLarge
+
+-- a line may be skipped for any cause but these
+abbrev pub may_be_skipped : Cause → Bool
+may_be_skipped (TooLong length) = false
+may_be_skipped OutOfMemory = false
+may_be_skipped _ = true
+
+-- how many lines were skipped after one that was skipped or not
+abbrev pub with_skipped : ℕ → Bool → ℕ
+with_skipped n is_skipped = if is_skipped then min (n + 1) (2 ^ 64 - 1) else n

@@ -1,5 +1,8 @@
 //! Why a line or a field has no number that is recorded.
 
+ghost use Rattle.std.specs.Prelude.{◌≡◌};
+ghost use Rattle.hdr_input.specs.Recorded.{may_be_skipped};
+
 use thiserror::Error;
 
 /// Why a line or a field has no number that is recorded.
@@ -64,7 +67,9 @@ pub enum Cause {
 
 impl Cause {
     /// Whether `--skip-bad` ignores a line for this cause.
-    pub fn may_be_skipped(self) -> bool {
+    pub fn may_be_skipped(self) -> bool
+        ensures { result ≡ may_be_skipped self }
+    {
         !matches!(self, Cause::TooLong(_) | Cause::OutOfMemory)
     }
 }

@@ -1,12 +1,13 @@
 //! Numbers, recorded as they come.
 
-ghost use Rattle.std.specs.Prelude.{◌≡◌, ◌+◌, ◌-◌, ◌%◌, ◌^◌, ◌<◌, ◌≤◌, min, max, Bool, true};
+ghost use Rattle.std.specs.Prelude.{◌≡◌, ◌+◌, ◌-◌, ◌%◌, ◌^◌, ◌<◌, ◌≤◌, min, max, Bool, true, ◌&&◌};
 ghost use Rattle.std.specs.Prelude.{Some, None, Ok, OnOk, IfOk, IfErr};
 ghost use Rattle.hdr_model.specs.CallErrors.{IsCreationError};
 ghost use Rattle.hdr_model.specs.Plain.{empty_plain};
 ghost use Rattle.hdr_input.specs.Numbers.{in_units};
-ghost use Rattle.hdr_input.specs.Recorded.{IsInterval, IsLeast, Takes, TakesRounded, TakesTimes, KeepsUnit};
+ghost use Rattle.hdr_input.specs.Recorded.{IsInterval, IsLeast, Takes, TakesTimes, TakesWide, TakesWideTimes, KeepsUnit};
 ghost use Rattle.hdr_input.specs.Recorded.{IsTallyError, IsCauseOf, after_rounding, after_copies};
+ghost use Rattle.hdr_input.specs.Recorded.{may_be_skipped, with_skipped};
 ghost use Rattle.hdr_input.specs.declared.number.Number.{Number};
 
 use crate::cause::Cause;
@@ -91,6 +92,8 @@ impl Tally {
     pub fn count_skipped(&mut self, cause: Cause) -> bool
         ensures unit { KeepsUnit self.old self.new }
         ensures histogram { self.new.histogram ≡ self.old.histogram }
+        ensures result { result ≡ (self.old.skips_bad && may_be_skipped cause) }
+        ensures skipped { self.new.skipped ≡ with_skipped self.old.skipped result }
     {
         let is_skipped = self.skips_bad && cause.may_be_skipped();
         if is_skipped {
@@ -222,8 +225,7 @@ impl Tally {
     /// # Errors
     /// As `record`.
     pub fn record_times(&mut self, number: Wide, times: u64) -> Result<(), Cause>
-        ensures taken { OnOk result (0 < times → (x : Number) × (is_rounded : Bool)
-            × TakesTimes self.old self.new x times is_rounded) }
+        ensures taken { OnOk result (0 < times → TakesWideTimes self.old self.new number times) }
         ensures unit { KeepsUnit self.old self.new }
     {
         let is_rounded = number.is_rounded(self.decimals);
@@ -298,7 +300,7 @@ impl NumberSink for Tally {
 
     fn record_wide(&mut self, number: Wide) -> Result<(), Cause>
         ensures taken { KeepsUnit self.old self.new }
-        ensures number { OnOk result ((x : Number) × (is_rounded : Bool) × TakesRounded self.old self.new x is_rounded) }
+        ensures number { OnOk result (TakesWide self.old self.new number) }
     {
         let decimals = self.decimals;
         self.record(number.rounded(decimals)?)?;
@@ -308,13 +310,16 @@ impl NumberSink for Tally {
 
     fn record_times(&mut self, number: Wide, times: u64) -> Result<(), Cause>
         ensures taken { KeepsUnit self.old self.new }
-        ensures number { OnOk result (0 < times → (x : Number) × (is_rounded : Bool)
-            × TakesTimes self.old self.new x times is_rounded) }
+        ensures number { OnOk result (0 < times → TakesWideTimes self.old self.new number times) }
     {
         self.record_times(number, times)
     }
 
-    fn count_if_skipped(&mut self, cause: Cause) -> bool {
+    fn count_if_skipped(&mut self, cause: Cause) -> bool
+        ensures taken { KeepsUnit self.old self.new }
+        ensures result { result ≡ (self.old.skips_bad && may_be_skipped cause) }
+        ensures skipped { self.new.skipped ≡ with_skipped self.old.skipped result }
+    {
         self.count_skipped(cause)
     }
 

@@ -1,11 +1,13 @@
 -- Numbers that are recorded, and in batches.
 use Rattle.std.specs.Prelude.{◌≡◌, ℕ, ◌-◌, ◌^◌, ◌<◌, ◌≤◌, List, [], ◌∷◌, ◌++◌, length, Bool, false, true}
-use Rattle.hdr_input.specs.Recorded.{Takes, TakesRounded, TakesTimes}
+use Rattle.hdr_input.specs.Recorded.{Takes, TakesWide, TakesWideTimes}
 use Rattle.hdr_input.specs.declared.number.Number.{Number}
 use Rattle.hdr_model.specs.Plain.{Plain}
 use Rattle.hdr_model.specs.Samples.{StandsFor}
 use Rattle.hdr_compare.specs.Batchings.{HasRecorded, batches_of, digits_of}
 use Rattle.hdr_runs.specs.declared.batch_tally.BatchTally.{BatchTally}
+use Rattle.hdr_runs.specs.declared.steps.Steps.{Steps}
+use Rattle.hdr_input.specs.declared.wide.Wide.{Wide}
 use Rattle.hdr_runs.specs.declared.order.Order.{Order}
 use Rattle.hdr_runs.specs.declared.order.Order.TheVariants.{OfTime, Sorted, Counted, FewIntervals}
 use Rattle.hdr_runs.specs.declared.side.Samples.{Samples}
@@ -38,13 +40,17 @@ pub record TakesSame (old new : BatchTally) : Type 0 where
 unfoldable pub RecordsNumber : BatchTally → BatchTally → Number → Type 0
 RecordsNumber old new number = Takes old.tally new.tally number
 
--- a number is recorded, which was rounded or not
-unfoldable pub RecordsWide : BatchTally → BatchTally → Type 0
-RecordsWide old new = (x : Number) × (is_rounded : Bool) × TakesRounded old.tally new.tally x is_rounded
+-- the number that a wide one stands for is recorded, in units of the tally
+unfoldable pub RecordsWide : BatchTally → BatchTally → Wide → Type 0
+RecordsWide old new wide = TakesWide old.tally new.tally wide
 
--- a number is recorded some times, which was rounded or not
-unfoldable pub RecordsTimes : BatchTally → BatchTally → ℕ → Type 0
-RecordsTimes old new times = 0 < times → (x : Number) × (is_rounded : Bool) × TakesTimes old.tally new.tally x times is_rounded
+-- it is recorded some times
+unfoldable pub RecordsTimes : BatchTally → BatchTally → Wide → ℕ → Type 0
+RecordsTimes old new wide times = 0 < times → TakesWideTimes old.tally new.tally wide times
+
+-- whether the numbers so far ascend and whether they descend
+abbrev pub steps_of : BatchTally → Steps
+steps_of t = t.steps
 
 -- the batches have all numbers
 abbrev pub HasBatches : BatchTally → Type 0

@@ -1,11 +1,13 @@
 -- Numbers that are counted within bounds, and recorded in batches.
-use Rattle.std.specs.Prelude.{⊤, ℕ, Bool, true, false, Option, Some, None, List, [], ◌∷◌}
+use Rattle.std.specs.Prelude.{⊤, ◌≡◌, ℕ, min, Bool, true, false, Option, Some, None, List, [], ◌∷◌}
 use Rattle.hdr_input.specs.BoundLaws.{AreMissing, CountsOne, CountsSome, CountsTimes, counts_nothing, counts_after}
 use Rattle.hdr_input.specs.Bounds.{Counts}
-use Rattle.hdr_input.specs.Recorded.{Takes}
+use Rattle.hdr_input.specs.Recorded.{IsEmptyTally, Takes, TakesWide}
+use Rattle.hdr_input.specs.declared.tally.Recording.{Recording}
+use Rattle.hdr_input.specs.declared.wide.Wide.{Wide}
 use Rattle.hdr_input.specs.declared.number.Number.{Number}
 use Rattle.hdr_runs.specs.BatchLaws.{takes_nothing, takes_after}
-use Rattle.hdr_runs.specs.Batched.{HasBatches, HasSamples, RecordsNumber, RecordsTimes, RecordsWide, TakesSame}
+use Rattle.hdr_runs.specs.Batched.{HasBatches, HasSamples, digits_of_tally, RecordsNumber, RecordsTimes, RecordsWide, TakesSame}
 use Rattle.hdr_runs.specs.declared.batch_tally.BatchTally.{BatchTally}
 use Rattle.hdr_runs.specs.declared.level_tally.LevelTally.{LevelTally}
 
@@ -21,29 +23,30 @@ InBatches Takes None None = ⊤
 InBatches Takes (Some old) (Some new) = Takes old new
 InBatches Takes old new = ⊥
 
--- there are batches if they are asked for, and no samples in them
-abbrev pub HasEmptyBatches : Bool → Option BatchTally → Type 0
-HasEmptyBatches true (Some t) = HasBatches t × HasSamples [] t
-HasEmptyBatches false None = ⊤
-HasEmptyBatches is_asked batches = ⊥
+-- there are batches if they are asked for, with no samples in them, which record as the counts do
+abbrev pub HasEmptyBatches : Recording → Bool → Option BatchTally → Type 0
+HasEmptyBatches r true (Some t) = HasBatches t × HasSamples [] t × IsEmptyTally r t.tally × (digits_of_tally t ≡ min r.sigfig 5)
+HasEmptyBatches r false None = ⊤
+HasEmptyBatches r is_asked batches = ⊥
 
 -- a number is counted, with the missing samples before it, and recorded in batches
 pub record RecordsInBoth (number : Number) (old new : LevelTally) : Type 0 where
   pub missing : List Number
-  pub are_missing : AreMissing old.counted missing
+  pub are_missing : AreMissing old.counted number missing
   pub tally : Takes old.counted.tally new.counted.tally number
   pub counted : Counts old.counted (number ∷ missing) new.counted
   pub batches : InBatches (λ a b. RecordsNumber a b number) old.batches new.batches
 
 -- a number that may be rounded is counted and recorded in batches
-pub record RecordsWideInBoth (old new : LevelTally) : Type 0 where
-  pub counted : CountsOne old.counted new.counted
-  pub batches : InBatches RecordsWide old.batches new.batches
+pub record RecordsWideInBoth (number : Wide) (old new : LevelTally) : Type 0 where
+  pub tally : TakesWide old.counted.tally new.counted.tally number
+  pub counted : CountsOne number old.counted new.counted
+  pub batches : InBatches (λ a b. RecordsWide a b number) old.batches new.batches
 
 -- a number is counted and recorded some times
-pub record RecordsTimesInBoth (times : ℕ) (old new : LevelTally) : Type 0 where
-  pub counted : CountsTimes times old.counted new.counted
-  pub batches : InBatches (λ a b. RecordsTimes a b times) old.batches new.batches
+pub record RecordsTimesInBoth (number : Wide) (times : ℕ) (old new : LevelTally) : Type 0 where
+  pub counted : CountsTimes number times old.counted new.counted
+  pub batches : InBatches (λ a b. RecordsTimes a b number times) old.batches new.batches
 
 -- some numbers are counted, and batches take what all of them take
 pub record TakesInBoth (old new : LevelTally) : Type 0 where

@@ -34,15 +34,17 @@ is_of_mean level = is_mean level.measure
 abbrev pub has_mean : List Level → Bool
 has_mean levels = list_any is_of_mean levels
 
--- what is asked: the levels as they are written, the tier of confidence intervals if there are any, and the digits of batches
+-- what is asked: the levels as they are written, the unit of those without one, the tier of confidence intervals if there are any, and
+-- the digits of batches
 pub record Asked : Type 0 where
   pub texts : List (List ℕ)
+  pub unit : Option Unit
   pub tier : Option Tier
   pub digits : ℕ
 
 -- what is asked of logs; the levels, once the unit of the values is known; and the tags so far
 abbrev pub asked_of : LogCounts → Asked
-asked_of c = record { texts = map (λ text. text.now) c.written.texts.now; tier = c.written.tier; digits = min c.sigfig 5 }
+asked_of c = record { texts = map (λ text. text.now) c.written.texts.now; unit = c.written.asked; tier = c.written.tier; digits = min c.sigfig 5 }
 
 abbrev pub levels_of : LogCounts → List Level
 levels_of c = c.levels.items

@@ -2,6 +2,14 @@
 use Rattle.std.specs.Prelude.{ℕ, Bool, false, ◌||◌, nat_lt, Option, Some, None}
 use Rattle.hdr_runs.specs.declared.steps.Steps.{Steps}
 
+-- before the first number
+abbrev pub no_steps : Steps
+no_steps = record { last = None; ascends = false; descends = false }
+
+-- before the first number of a file, which does not follow another
+abbrev pub without_last : Steps → Steps
+without_last s = record s { last = None }
+
 -- whether a number is above the one before it, if there is one, and whether it is below it
 abbrev pub is_above : Option ℕ → ℕ → Bool
 is_above None number = false

@@ -37,7 +37,8 @@ pub struct BatchRecording {
 impl GroupMaker for BatchRecording {
     ghost use Rattle.std.specs.Prelude.{IfOk, [], min};
     ghost use Rattle.hdr_input.specs.Recorded.{IsEmptyTally};
-    ghost use Rattle.hdr_runs.specs.Batched.{HasBatches, HasSamples, digits_of_tally};
+    ghost use Rattle.hdr_runs.specs.Batched.{HasBatches, HasSamples, digits_of_tally, steps_of};
+    ghost use Rattle.hdr_runs.specs.Sorted.{no_steps};
 
     type Sink = BatchTally;
 
@@ -54,6 +55,7 @@ impl GroupMaker for BatchRecording {
         ensures none { IfOk result (HasSamples []) }
         ensures digits { IfOk result (λ t. digits_of_tally t ≡ min self.now.recording.sigfig 5) }
         ensures tally { IfOk result (λ t. IsEmptyTally self.now.recording t.tally) }
+        ensures steps { IfOk result (λ t. steps_of t ≡ no_steps) }
     {
         clearing_stands();
         let tally = self.recording.make(alloc)?;
@@ -73,7 +75,8 @@ impl BatchTally {
     ghost use Rattle.std.specs.Prelude.{◌≡◌, ◌<◌, ◌≤◌, Some, None, IfOk, OnOk};
     ghost use Rattle.hdr_input.specs.Numbers.{in_units};
     ghost use Rattle.hdr_input.specs.Recorded.{KeepsUnit};
-    ghost use Rattle.hdr_runs.specs.Batched.{AreSamplesOf, HasBatches, IsOrderOf, RecordsNumber, TakesSame};
+    ghost use Rattle.hdr_runs.specs.Batched.{AreSamplesOf, HasBatches, IsOrderOf, RecordsNumber, TakesSame, steps_of};
+    ghost use Rattle.hdr_runs.specs.Sorted.{after_number};
 
     /// Records a number, which has these units. After an error the batches do not have all numbers.
     fn take(&mut self, number: Number, units: u64) -> Result<(), Cause>
@@ -82,6 +85,7 @@ impl BatchTally {
         ensures unit { KeepsUnit self.old.tally self.new.tally }
         ensures number { OnOk result (RecordsNumber self.old self.new number) }
         ensures keeps { OnOk result (HasBatches self.old → HasBatches self.new) }
+        ensures steps { OnOk result (steps_of self.new ≡ after_number (steps_of self.old) units) }
     {
         recording_stands();
         // The histogram is plain
@@ -177,9 +181,11 @@ impl GroupSink for BatchTally {
 }
 
 impl NumberSink for BatchTally {
-    ghost use Rattle.std.specs.Prelude.{OnOk};
+    ghost use Rattle.std.specs.Prelude.{◌≡◌, OnOk};
     ghost use Rattle.hdr_runs.specs.BatchLaws.{takes_nothing, takes_after};
-    ghost use Rattle.hdr_runs.specs.Batched.{HasBatches, RecordsNumber, RecordsTimes, RecordsWide, TakesSame};
+    ghost use Rattle.hdr_input.specs.Numbers.{in_units};
+    ghost use Rattle.hdr_runs.specs.Batched.{HasBatches, RecordsNumber, RecordsTimes, RecordsWide, TakesSame, steps_of};
+    ghost use Rattle.hdr_runs.specs.Sorted.{after_number};
 
     ghost takes = { TakesSame };
 
@@ -193,6 +199,8 @@ impl NumberSink for BatchTally {
         ensures taken { TakesSame self.old self.new }
         ensures number { OnOk result (RecordsNumber self.old self.new number) }
         ensures keeps { OnOk result (HasBatches self.old → HasBatches self.new) }
+        ensures steps { OnOk result (steps_of self.new ≡ after_number (steps_of self.old)
+            (in_units number.digits number.decimals self.old.tally.decimals)) }
     {
         if number.decimals == self.tally.decimals {
             return self.take(number, number.digits);
@@ -203,7 +211,7 @@ impl NumberSink for BatchTally {
 
     fn record_wide(&mut self, number: Wide) -> Result<(), Cause>
         ensures taken { TakesSame self.old self.new }
-        ensures number { OnOk result (RecordsWide self.old self.new) }
+        ensures number { OnOk result (RecordsWide self.old self.new number) }
         ensures keeps { OnOk result (HasBatches self.old → HasBatches self.new) }
     {
         let decimals = self.tally.decimals;
@@ -215,7 +223,7 @@ impl NumberSink for BatchTally {
 
     fn record_times(&mut self, number: Wide, times: u64) -> Result<(), Cause>
         ensures taken { TakesSame self.old self.new }
-        ensures number { OnOk result (RecordsTimes self.old self.new times) }
+        ensures number { OnOk result (RecordsTimes self.old self.new number times) }
     {
         self.has_batches = false;
         self.tally.record_times(number, times)
@@ -246,12 +254,18 @@ impl LineSink for BatchTally {
 }
 
 impl RowSink for BatchTally {
+    ghost use Rattle.std.specs.Prelude.{◌≡◌};
+    ghost use Rattle.hdr_runs.specs.Batched.{steps_of};
+    ghost use Rattle.hdr_runs.specs.Sorted.{without_last};
+
     #[inline(always)]
     fn take_row(&mut self, alloc: Global, row: RowTexts<'_>) -> Result<(), InputError> {
         record_row(alloc, self, row)
     }
 
-    fn begin_file(&mut self) {
+    fn begin_file(&mut self)
+        ensures { steps_of self.new ≡ without_last (steps_of self.old) }
+    {
         self.steps.begin_file();
     }
 }

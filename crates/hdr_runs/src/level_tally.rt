@@ -49,7 +49,7 @@ impl GroupMaker for LevelRecording<'_> {
         ensures counted { IfOk result (λ t. HasCounted t.counted []) }
         ensures bounds { IfOk result (λ t. All (HasBound t.counted) self.now.bounds.now) }
         ensures tally { IfOk result (λ t. IsEmptyTally self.now.recording t.counted.tally) }
-        ensures batches { IfOk result (λ t. HasEmptyBatches self.now.has_batches t.batches) }
+        ensures batches { IfOk result (λ t. HasEmptyBatches self.now.recording self.now.has_batches t.batches) }
     {
         let recording = self.recording;
         let counts = BoundRecording {
@@ -103,7 +103,7 @@ impl NumberSink for LevelTally {
 
     fn record_wide(&mut self, number: Wide) -> Result<(), Cause>
         ensures taken { TakesInBoth self.old self.new }
-        ensures number { OnOk result (RecordsWideInBoth self.old self.new) }
+        ensures number { OnOk result (RecordsWideInBoth number self.old self.new) }
     {
         self.counted.record_wide(number)?;
         match &mut self.batches {
@@ -114,7 +114,7 @@ impl NumberSink for LevelTally {
 
     fn record_times(&mut self, number: Wide, times: u64) -> Result<(), Cause>
         ensures taken { TakesInBoth self.old self.new }
-        ensures number { OnOk result (RecordsTimesInBoth times self.old self.new) }
+        ensures number { OnOk result (RecordsTimesInBoth number times self.old self.new) }
     {
         self.counted.record_times(number, times)?;
         match &mut self.batches {

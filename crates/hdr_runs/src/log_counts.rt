@@ -156,6 +156,7 @@ impl<'a, 'n> LogCounts<'a, 'n> {
     pub fn new(alloc: Global, written: LogLevels<'a, 'n>, sigfig: u8) -> LogCounts<'a, 'n>
         ensures asked { asked_of result ≡ record {
           texts = map (λ text. text.now) written.entry.texts.now;
+          unit = written.entry.asked;
           tier = written.entry.tier;
           digits = min sigfig 5;
         } }
@@ -281,8 +282,9 @@ impl<'a, 'n> LogCounts<'a, 'n> {
         decimals: u32,
         unit: Option<Unit>,
     ) -> Result<(), LogError>
-        ensures { OnOk result (TakesConverted self.old sum samples.entry.factor samples.entry.histogram.now
+        ensures taken { OnOk result (TakesConverted self.old sum samples.entry.factor samples.entry.histogram.now
             histogram.now decimals self.new) }
+        ensures levels { OnOk result (levels_of self.old ≡ [] → AreLevelsOf self.old unit (levels_of self.new)) }
     {
         self.parse_levels(unit)?;
         match self.push_tags(sum.saturating_add(1), decimals) {

@@ -1,7 +1,7 @@
 //! Whether numbers are sorted.
 
-ghost use Rattle.std.specs.Prelude.{◌≡◌, ◌↔◌, IsTrue, None};
-ghost use Rattle.hdr_runs.specs.Sorted.{after_number};
+ghost use Rattle.std.specs.Prelude.{◌≡◌, ◌↔◌, IsTrue};
+ghost use Rattle.hdr_runs.specs.Sorted.{after_number, without_last};
 
 /// Whether numbers that follow one another ascend, and whether they descend.
 #[derive(Clone, Copy)]
@@ -36,8 +36,7 @@ impl Steps {
 
     /// Begins a file, whose first number does not follow another.
     pub(crate) fn begin_file(&mut self)
-        ensures last { self.new.last ≡ None }
-        ensures steps { (self.new.ascends ≡ self.old.ascends) × (self.new.descends ≡ self.old.descends) }
+        ensures { self.new ≡ without_last self.old }
     {
         self.last = None;
     }

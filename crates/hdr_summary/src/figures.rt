@@ -1,6 +1,8 @@
 //! The figures of a distribution.
 
-ghost use Rattle.std.specs.Prelude.{◌≡◌, ◌⊎◌, ◌+◌, ◌*◌, ◌/◌, ◌<◌, ℕ, Some, IfNone, IfSome};
+ghost use Rattle.std.specs.Prelude.{◌≡◌, ◌⊎◌, ◌+◌, ◌*◌, ◌/◌, ◌<◌, ℕ, Some, None, IfNone, IfSome};
+ghost use Rattle.hdr_base.specs.Fractions.{Ratio};
+ghost use Rattle.hdr_model.specs.Statistics.{mean};
 ghost use Rattle.hdr_summary.specs.Decimals.{IsPast128, hundredths, nearest};
 
 use crate::decimals::{Conversion, decimal, in_parts};
@@ -47,6 +49,8 @@ pub fn mean_in_parts(distribution: &Distribution, parts: u128) -> Option<u128>
         (λ n. n ≡ nearest sum distribution.now.histogram.total parts) }
     ensures fits { (sum : ℕ) → distribution.now.sum ≡ Some sum → IfNone result (0 < distribution.now.histogram.total
         → IsPast128 (sum * parts + distribution.now.histogram.total / 2)) }
+    ensures classes { (m : Ratio) → distribution.now.sum ≡ None → mean distribution.now.histogram ≡ Some m
+        → IfSome result (λ n. n ≡ nearest m.num m.den parts) }
 {
     if distribution.histogram.is_empty() {
         return None;
@@ -68,6 +72,8 @@ pub fn converted_mean(distribution: &Distribution, conversion: Conversion) -> Op
     ensures fits { (sum : ℕ) → distribution.now.sum ≡ Some sum → IfNone result (0 < distribution.now.histogram.total
         → IsPast128 (hundredths conversion distribution.now.decimals)
         ⊎ IsPast128 (sum * hundredths conversion distribution.now.decimals + distribution.now.histogram.total / 2)) }
+    ensures classes { (m : Ratio) → distribution.now.sum ≡ None → mean distribution.now.histogram ≡ Some m
+        → IfSome result (λ n. n ≡ nearest m.num m.den (hundredths conversion distribution.now.decimals)) }
 {
     let parts = conversion.factor(distribution.decimals)?.checked_mul(100)?;
     mean_in_parts(distribution, parts)

@@ -1,8 +1,8 @@
 use Rattle.hdr_runs.proofs.LogTags.{takes-converted, all-ok}
 use Rattle.hdr_runs.proofs.log_counts.LogCounts.take_converted.Goals as goal
 
-pub returns-in-Ok : goal.returns-in-Ok
-returns-in-Ok c =
+pub returns-in-Ok-clause-taken : goal.returns-in-Ok-clause-taken
+returns-in-Ok-clause-taken c =
     all-ok c.add_at.result (λ inside samples batches.
     takes-converted c.args.self.now c.parse_levels.new.self c.push_tags.new.self c.add_at.new.self c.args.sum c.saturating_add.result
     c.args.samples.factor c.args.samples.histogram.now c.args.histogram.now c.args.decimals
